@@ -1,0 +1,94 @@
+-- The codes of a run, and when they can't come.
+use Rattle.std.proofs.Common.{◌≡◌, ℕ, ℤ, zero, suc, ◌+◌, ◌^◌, ◌<◌, ◌≤◌, ◌⊎◌, List, [], ◌∷◌, ◌++◌, length, map, Option, Some, None, refl, ap, subst, inl, inr, sym, ◌∙◌, arith, length-append}
+use Rattle.std.specs.Prelude.{Contains, All, Bool, true, IfSome, if◌then◌else◌}
+use Rattle.std.specs.List.{filter}
+use Rattle.std.proofs.lemmas.List.{length-map}
+use Rattle.std.proofs.lemmas.List.Elements.{filter-append, All-head, All-tail}
+use Rattle.chart_world.specs.Lines.{lines}
+use Rattle.chart_world.proofs.LineLaws.{lines_none}
+use Rattle.plain_chart.specs.Samples.{IsSlot}
+use Rattle.chart_program.specs.Slots.{says, spelling, SpellsSlot, SpellsAll, IsBad, IsWhole, Behind, FirstBad, HasTooMany, IsTooLong, most_slots}
+use Rattle.chart_program.specs.Ran.{IsTooMuch, IsInput}
+use Rattle.chart_program.proofs.Joined.{lines_joined}
+use Rattle.chart_program.proofs.Ending.{says_true}
+
+-- the codes of a plot are codes of a run
+pub plot_codes : (code : ℕ) → Contains (0 ∷ 3 ∷ 4 ∷ 5 ∷ 8 ∷ 9 ∷ []) code → Contains (0 ∷ 2 ∷ 3 ∷ 4 ∷ 5 ∷ 8 ∷ 9 ∷ []) code
+plot_codes code (zero, inside, is) = (0, omega arith, is)
+plot_codes code (suc k, inside, is) = (suc (suc k), omega (arith, inside), is)
+
+some_line : (rest : List ℕ) (line : Option (List ℕ)) (later : List (Option (List ℕ))) → lines rest ≡ line ∷ later → rest ≡ [] → ⊥
+some_line rest line later first none = let both : [] ≡ line ∷ later = sym lines_none ∙ ap lines (sym none) ∙ first in cc
+
+whole_of : (front rest : List ℕ) (line : Option (List ℕ)) (later : List (Option (List ℕ))) → lines rest ≡ line ∷ later → IsWhole front ⊎ (rest ≡ []) → IsWhole front
+whole_of front rest line later first (inl whole) = whole
+whole_of front rest line later first (inr none) = absurd (some_line rest line later first none)
+
+said : (line : Option (List ℕ)) (later : List (Option (List ℕ))) → says line ≡ true → filter says (line ∷ later) ≡ line ∷ filter says later
+said line later some = ap (λ b. if b then line ∷ filter says later else filter says later) some
+
+-- what an input says behind its first lines
+told_behind : (input rest : List ℕ) (slots : List (Option ℤ)) (place : ℕ) (line : Option (List ℕ)) (later : List (Option (List ℕ))) → (b : Behind input rest slots place) → lines rest ≡ line ∷ later → says line ≡ true → filter says (lines input) ≡ filter says (lines b.front) ++ line ∷ filter says later
+told_behind input rest slots place line later b first some =
+    ap (λ i. filter says (lines i)) b.split
+    ∙ ap (filter says) (lines_joined b.front rest (whole_of b.front rest line later first b.whole))
+    ∙ filter-append says (lines b.front) (lines rest)
+    ∙ ap (λ l. filter says (lines b.front) ++ filter says l) first
+    ∙ ap (λ l. filter says (lines b.front) ++ l) (said line later some)
+
+abbrev text : Option ℤ → Option (List ℕ)
+text slot = Some (spelling slot)
+
+-- a line among those of slots is a slot's
+among : (front : List (Option (List ℕ))) (line : Option (List ℕ)) (later : List (Option (List ℕ))) (slots : List (Option ℤ)) → front ++ line ∷ later ≡ map text slots → All IsSlot slots → (slot : Option ℤ) × SpellsSlot line slot
+among [] line later [] same values = cc
+among [] line later (slot ∷ slots) same values = (slot, record { text = let e : line ≡ text slot = cc in e; in_range = All-head IsSlot slot slots values })
+among (first ∷ front) line later [] same values = cc
+among (first ∷ front) line later (slot ∷ slots) same values =
+    let rest : front ++ line ∷ later ≡ map text slots = cc in
+    among front line later slots rest (All-tail IsSlot slot slots values)
+
+-- good input has no bad line
+pub no_bad : (input : List ℕ) (place : ℕ) → IsInput input → FirstBad input place → ⊥
+no_bad input place good bad =
+    let told = told_behind input bad.rest bad.slots place bad.line bad.later bad.behind bad.first bad.bad.some in
+    let slot = among (filter says (lines bad.behind.front)) bad.line (filter says bad.later) good.slots (sym told ∙ good.spells.texts) good.spells.in_range in
+    bad.bad.none slot.0 slot.1
+
+-- it has no slot too many
+no_many : (input : List ℕ) → IsInput input → HasTooMany input → ⊥
+no_many input good many =
+    let told = told_behind input many.rest many.slots many.place many.line many.later many.behind many.first (says_true many.line many.slot many.good) in
+    let front = filter says (lines many.behind.front) in
+    omega (
+      arith,
+      good.few,
+      many.full,
+      ap length told,
+      length-append front (many.line ∷ filter says many.later),
+      ap length good.spells.texts,
+      length-map good.slots text,
+      ap length many.behind.spells.texts,
+      length-map many.slots text,
+    )
+
+-- it isn't too much
+pub no_much : (input : List ℕ) (place : ℕ) → IsInput input → IsTooMuch input place → ⊥
+no_much input place good (inl many) = no_many input good many.1
+no_much input place good (inr long) = omega (arith, good.short, long.1.past)
+
+-- so a run is done, or there is no memory
+pub completed : (code : ℕ) (R S B M : Type 0) → Contains (0 ∷ 3 ∷ 4 ∷ 5 ∷ 8 ∷ 9 ∷ []) code → (code ≡ 4 → R) → (code ≡ 5 → S) → (code ≡ 8 → B) → (code ≡ 9 → M) → (R → ⊥) → (S → ⊥) → (B → ⊥) → (M → ⊥) → (code ≡ 0) ⊎ (code ≡ 3)
+completed code R S B M (zero, inside, is) read send bad much no_read no_send no_bad no_much = inl (sym is)
+completed code R S B M (suc zero, inside, is) read send bad much no_read no_send no_bad no_much = inr (sym is)
+completed code R S B M (suc (suc zero), inside, is) read send bad much no_read no_send no_bad no_much = absurd (no_read (read (sym is)))
+completed code R S B M (suc (suc (suc zero)), inside, is) read send bad much no_read no_send no_bad no_much = absurd (no_send (send (sym is)))
+completed code R S B M (suc (suc (suc (suc zero))), inside, is) read send bad much no_read no_send no_bad no_much = absurd (no_bad (bad (sym is)))
+completed code R S B M (suc (suc (suc (suc (suc zero)))), inside, is) read send bad much no_read no_send no_bad no_much = absurd (no_much (much (sym is)))
+completed code R S B M (suc (suc (suc (suc (suc (suc k))))), inside, is) read send bad much no_read no_send no_bad no_much = absurd (omega (arith, inside))
+
+-- where the input is told
+pub complete_so : (o : Option (List ℕ)) (code place : ℕ) (R S W : Type 0) → Contains (0 ∷ 3 ∷ 4 ∷ 5 ∷ 8 ∷ 9 ∷ []) code → (code ≡ 4 → R) → (code ≡ 5 → S) → (code ≡ 8 → IfSome o (λ input. FirstBad input place)) → (code ≡ 9 → IfSome o (λ input. IsTooMuch input place)) → IfSome o (λ input. IsInput input → W → (R → ⊥) → (S → ⊥) → (code ≡ 0) ⊎ (code ≡ 3))
+complete_so None code place R S W codes read send bad much = tt
+complete_so (Some input) code place R S W codes read send bad much = λ good words no_read no_send.
+    completed code R S (FirstBad input place) (IsTooMuch input place) codes read send bad much no_read no_send (no_bad input place good) (no_much input place good)

@@ -1,0 +1,125 @@
+-- Where words are those of a command, and where the first wrong one is.
+use Rattle.std.proofs.Common.{◌≡◌, ℕ, zero, suc, ◌+◌, ◌<◌, ◌≤◌, List, [], ◌∷◌, length, length-take, take, Option, Some, None, refl, ap, subst, sym, ◌∙◌, arith}
+use Rattle.std.specs.Prelude.{slice_get, codes, min}
+use Rattle.std.specs.Fmt.{decimal}
+use Rattle.chart_grid.specs.Limits.{IsSide}
+use Rattle.whole_number.specs.Spelling.{SpellsNatural}
+use Rattle.whole_number.proofs.Digits.{one_natural}
+use Rattle.chart_program.specs.declared.words.Command.{Command}
+use Rattle.chart_program.specs.declared.words.Command.TheVariants.{Plot}
+use Rattle.chart_program.specs.Words.{Spells, Begins, IsWrongAt}
+
+one : IsSide 1
+one = record { some = omega arith; most = omega arith }
+
+abbrev plot_words : ℕ → ℕ → List (List ℕ)
+plot_words w h = codes "plot" ∷ decimal w ∷ decimal h ∷ []
+
+-- a list's first elements, from its elements
+first_one : {X : Type 0} (ws : List X) (a : X) → slice_get ws 0 ≡ Some a → take 1 ws ≡ a ∷ []
+first_one [] a is = cc
+first_one (x ∷ ws) a is = cc
+
+first_two : {X : Type 0} (ws : List X) (a b : X) → slice_get ws 0 ≡ Some a → slice_get ws 1 ≡ Some b → take 2 ws ≡ a ∷ b ∷ []
+first_two [] a b is next = cc
+first_two (x ∷ []) a b is next = cc
+first_two (x ∷ (y ∷ ws)) a b is next = cc
+
+first_three : {X : Type 0} (ws : List X) (a b c : X) → slice_get ws 0 ≡ Some a → slice_get ws 1 ≡ Some b → slice_get ws 2 ≡ Some c → take 3 ws ≡ a ∷ b ∷ c ∷ []
+first_three [] a b c is next third = cc
+first_three (x ∷ []) a b c is next third = cc
+first_three (x ∷ (y ∷ [])) a b c is next third = cc
+first_three (x ∷ (y ∷ (z ∷ ws))) a b c is next third = cc
+
+all_three : {X : Type 0} (ws : List X) → length ws ≤ 3 → take 3 ws ≡ ws
+all_three [] few = refl
+all_three (x ∷ []) few = refl
+all_three (x ∷ (y ∷ [])) few = refl
+all_three (x ∷ (y ∷ (z ∷ []))) few = refl
+all_three (x ∷ (y ∷ (z ∷ (v ∷ ws)))) few = absurd (omega (arith, few))
+
+got : {X : Type 0} (xs : List X) → slice_get (take 1 xs) 0 ≡ slice_get xs 0
+got [] = refl
+got (x ∷ xs) = refl
+
+got_second : {X : Type 0} (xs : List X) → slice_get (take 2 xs) 1 ≡ slice_get xs 1
+got_second [] = refl
+got_second (x ∷ []) = refl
+got_second (x ∷ (y ∷ xs)) = refl
+
+got_third : {X : Type 0} (xs : List X) → slice_get (take 3 xs) 2 ≡ slice_get xs 2
+got_third [] = refl
+got_third (x ∷ []) = refl
+got_third (x ∷ (y ∷ [])) = refl
+got_third (x ∷ (y ∷ (z ∷ xs))) = refl
+
+-- lists with the same first elements have the same element there
+get_first : {X : Type 0} (xs ys : List X) → take 1 xs ≡ take 1 ys → slice_get xs 0 ≡ slice_get ys 0
+get_first xs ys same = sym (got xs) ∙ ap (λ l. slice_get l 0) same ∙ got ys
+
+get_second : {X : Type 0} (xs ys : List X) → take 2 xs ≡ take 2 ys → slice_get xs 1 ≡ slice_get ys 1
+get_second xs ys same = sym (got_second xs) ∙ ap (λ l. slice_get l 1) same ∙ got_second ys
+
+get_third : {X : Type 0} (xs ys : List X) → take 3 xs ≡ take 3 ys → slice_get xs 2 ≡ slice_get ys 2
+get_third xs ys same = sym (got_third xs) ∙ ap (λ l. slice_get l 2) same ∙ got_third ys
+
+begins : (count w h : ℕ) (words : List (List ℕ)) → IsSide w → IsSide h → take count words ≡ take count (plot_words w h) → Begins count words
+begins count w h words wide high same = record { command = Plot w h; spelling = plot_words w h; spells = (refl, wide, high); same = same }
+
+-- what a command's words are
+first_of_command : (words spelling : List (List ℕ)) (command : Command) → Spells command spelling → take 1 words ≡ take 1 spelling → slice_get words 0 ≡ Some (codes "plot")
+first_of_command words spelling (Plot w h) spells same = get_first words spelling same ∙ ap (λ l. slice_get l 0) spells.0
+
+second_of_command : (words spelling : List (List ℕ)) (command : Command) → Spells command spelling → take 2 words ≡ take 2 spelling → (side : ℕ) × IsSide side × (slice_get words 1 ≡ Some (decimal side))
+second_of_command words spelling (Plot w h) spells same = (w, spells.1, get_second words spelling same ∙ ap (λ l. slice_get l 1) spells.0)
+
+third_of_command : (words spelling : List (List ℕ)) (command : Command) → Spells command spelling → take 3 words ≡ take 3 spelling → (side : ℕ) × IsSide side × (slice_get words 2 ≡ Some (decimal side))
+third_of_command words spelling (Plot w h) spells same = (h, spells.2, get_third words spelling same ∙ ap (λ l. slice_get l 2) spells.0)
+
+fourth_of_command : (words spelling : List (List ℕ)) (command : Command) → Spells command spelling → take 4 words ≡ take 4 spelling → length words ≤ 3
+fourth_of_command words spelling (Plot w h) spells same =
+    let short : take 4 words ≡ plot_words w h = same ∙ ap (take 4) spells.0 in
+    let few : min 4 (length words) ≤ 3 = omega (arith, ap length short, length-take 4 words) in
+    omega (arith, few)
+
+-- the first word is no command
+pub wrong_first : (words : List (List ℕ)) → (slice_get words 0 ≡ Some (codes "plot") → ⊥) → IsWrongAt 0 words
+wrong_first words none = record {
+  before = begins 0 1 1 words one one refl;
+  here = λ b. none (first_of_command words b.spelling b.command b.spells b.same);
+}
+
+-- the width, or the height, is missing or wrong
+pub wrong_second : (words : List (List ℕ)) → slice_get words 0 ≡ Some (codes "plot") → ((side : ℕ) → IsSide side → slice_get words 1 ≡ Some (decimal side) → ⊥) → IsWrongAt 1 words
+wrong_second words first none = record {
+  before = begins 1 1 1 words one one (first_one words (codes "plot") first);
+  here = λ b. let w = second_of_command words b.spelling b.command b.spells b.same in none w.0 w.1 w.2;
+}
+
+pub wrong_third : (words : List (List ℕ)) (w : ℕ) → IsSide w → slice_get words 0 ≡ Some (codes "plot") → slice_get words 1 ≡ Some (decimal w) → ((side : ℕ) → IsSide side → slice_get words 2 ≡ Some (decimal side) → ⊥) → IsWrongAt 2 words
+wrong_third words w wide first second none = record {
+  before = begins 2 w 1 words wide one (first_two words (codes "plot") (decimal w) first second);
+  here = λ b. let h = third_of_command words b.spelling b.command b.spells b.same in none h.0 h.1 h.2;
+}
+
+-- there is a word too many
+pub wrong_fourth : (words : List (List ℕ)) (w h : ℕ) → IsSide w → IsSide h → slice_get words 0 ≡ Some (codes "plot") → slice_get words 1 ≡ Some (decimal w) → slice_get words 2 ≡ Some (decimal h) → 3 < length words → IsWrongAt 3 words
+wrong_fourth words w h wide high first second third many = record {
+  before = begins 3 w h words wide high (first_three words (codes "plot") (decimal w) (decimal h) first second third);
+  here = λ b. omega (arith, many, fourth_of_command words b.spelling b.command b.spells b.same);
+}
+
+-- these are the words of a command
+pub right : (words : List (List ℕ)) (w h : ℕ) → slice_get words 0 ≡ Some (codes "plot") → slice_get words 1 ≡ Some (decimal w) → slice_get words 2 ≡ Some (decimal h) → length words ≤ 3 → words ≡ plot_words w h
+right words w h first second third few =
+    sym (all_three words few) ∙ first_three words (codes "plot") (decimal w) (decimal h) first second third
+
+inside : {X : Type 0} (o : Option X) (a b : X) → o ≡ Some a → o ≡ Some b → a ≡ b
+inside o a b first second = let both : Some a ≡ Some b = sym first ∙ second in cc
+
+-- a number that is no side is no side's word
+pub no_side : (words : List (List ℕ)) (place n : ℕ) (word : List ℕ) → slice_get words place ≡ Some word → SpellsNatural word n → ((1 ≤ n) × (n ≤ 4096) → ⊥) → (side : ℕ) → IsSide side → slice_get words place ≡ Some (decimal side) → ⊥
+no_side words place n word here spells off side is there =
+    let same : word ≡ decimal side = inside (slice_get words place) word (decimal side) here there in
+    let equal : n ≡ side = one_natural word n side spells (same, omega (arith, is.most)) in
+    off (omega (arith, equal, is.some), omega (arith, equal, is.most))

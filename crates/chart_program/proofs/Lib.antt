@@ -1,0 +1,7 @@
+pub mod Joined
+pub mod Entries
+pub mod Progress
+pub mod Ending
+pub mod Commands
+pub mod Charted
+pub mod Codes

@@ -1,0 +1,88 @@
+use Rattle.std.proofs.Common.{◌≡◌, ℕ, ℤ, List, Option, Ok, Err, IsTrue, IfSome, All, length, Some, refl, ap, sym, subst, ◌∙◌, rules, arith}
+use Rattle.std.proofs.lemmas.List.Elements.{All-nil}
+use Rattle.chart_world.specs.Reading.{Reading, unread, told_lines, with_first}
+use Rattle.plain_chart.specs.Samples.{IsSlot}
+use Rattle.chart_program.specs.declared.input.InputEnd.{InputEnd}
+use Rattle.chart_program.specs.Reads.{end_of, Stops, AddsLine, IsNotAdded}
+use Rattle.chart_program.proofs.Progress.{Progress}
+use Rattle.chart_program.proofs.Ending.{start_so, end_so, bad_so, too_long_bad, not_added_so, fault_so, error_so, line_so, values_so, few_so}
+use Rattle.chart_program.proofs.input.read_slots.Goals as goal
+
+pub lines-init : goal.lines-init
+lines-init g c =
+    let fresh = c.in_ok-lines.ensures in
+    let U : Reading → Type 0 = λ r. IsTrue r.usable in
+    let V : List (Option ℤ) → Type 0 = All IsSlot in
+    record {
+      usable = subst U (sym fresh) refl;
+      counted = omega (arith, ap (λ r. r.taken) fresh, ap (λ r. r.given) fresh, ap (λ r. length r.pending) fresh);
+      within = omega (arith, ap (λ r. r.given) fresh);
+      total = refl;
+      values = subst V (sym c.new-slots.ensures.items) (All-nil IsSlot);
+      few = omega (arith, c.new-slots.ensures.len);
+      progress = start_so (g.S.Streams.left c.args.from.now) c.in_ok-lines.lines c.new-slots.result.items fresh c.new-slots.ensures.items;
+      sent = refl;
+      send_faults = refl;
+      read_faults = omega arith;
+      beside = g.met.S.Streams.takes_none c.args.from.now;
+    }
+
+pub returns-in-End-clause-all : goal.returns-in-End-clause-all
+returns-in-End-clause-all g c =
+    end_so (g.S.Streams.left c.args.from.now) (unread c.lines.lines (g.S.Streams.left c.lines.from)) c.lines.lines.given c.lines.slots.items
+    (c.in_ok-next.ensures.end (ap Ok c.in-End.is)) c.lines.invariant.progress
+
+pub returns-in-TooLong-clause-ends : goal.returns-in-TooLong-clause-ends
+returns-in-TooLong-clause-ends g c =
+    bad_so (g.S.Streams.left c.args.from.now) (unread c.lines.lines (g.S.Streams.left c.lines.from)) (unread c.next.new.self (g.S.Streams.left c.next.new.from)) c.lines.lines.given c.offset.result c.lines.slots.items _
+    (c.in_ok-next.ensures.too_long (ap Ok c.in-TooLong.is)) too_long_bad (c.offset.ensures ∙ c.in_ok-next.ensures.offset_too_long (ap Ok c.in-TooLong.is)) c.lines.invariant.progress
+
+pub returns-in_err-next-clause-ends : goal.returns-in_err-next-clause-ends
+returns-in_err-next-clause-ends g c =
+    let f = c.in_err-next.field-0.0 in
+    let stops = fault_so (g.S.Streams.left c.args.from.now) c.lines.lines c.next.new.self (g.S.Streams.left c.lines.from) (g.S.Streams.left c.next.new.from) c.lines.slots.items f
+    (λ h. c.in_err-next.ensures.read_before (ap Err h)) (λ h. c.in_err-next.ensures.past_before (ap Err h)) (λ h. c.in_err-next.ensures.past (ap Err h))
+    c.in_err-next.ensures.left_on_err c.lines.invariant.counted c.in_err-next.ensures.total c.lines.invariant.progress in
+    let S : InputEnd → Type 0 = λ e. IfSome (g.S.Streams.left c.args.from.now) (λ input. Stops input (g.S.Streams.left c.next.new.from) e) in
+    error_so _ _ c.from_residual-in_err-next.result c.from_residual-in_err-next.ensures.1 (λ e is. subst S (sym is) stops)
+
+-- what the lines' last line is, in the words of the line that is passed on
+same_line : (bytes bytes' : Option (List ℕ)) (text line : List ℕ) → text ≡ line → told_lines bytes ≡ with_first (Some line) (told_lines bytes') → told_lines bytes ≡ with_first (Some text) (told_lines bytes')
+same_line bytes bytes' text line same told =
+    let P : List ℕ → Type 0 = λ l. told_lines bytes ≡ with_first (Some l) (told_lines bytes') in
+    subst P (sym same) told
+
+pub returns-in_err-add_line-in-Line-clause-ends : goal.returns-in_err-add_line-in-Line-clause-ends
+returns-in_err-add_line-in-Line-clause-ends g c =
+    let bytes = unread c.lines.lines (g.S.Streams.left c.lines.from) in
+    let bytes' = unread c.next.new.self (g.S.Streams.left c.next.new.from) in
+    let e = c.in_err-add_line-in-Line.field-0.0 in
+    let told = same_line bytes bytes' c.line.result.now c.next.new.self.line c.line.ensures.line (c.in_ok-next.ensures.line (ap Ok c.in-Line.is)) in
+    let at = c.offset-in-Line.ensures ∙ c.in_ok-next.ensures.offset (ap Ok c.in-Line.is) in
+    let stops = not_added_so (g.S.Streams.left c.args.from.now) bytes bytes' (g.S.Streams.left c.next.new.from) c.lines.lines.given c.offset-in-Line.result c.lines.slots.items c.line.result.now e
+    told at c.in_err-add_line-in-Line.ensures.ends c.lines.invariant.progress in
+    let S : InputEnd → Type 0 = λ x. IfSome (g.S.Streams.left c.args.from.now) (λ input. Stops input (g.S.Streams.left c.next.new.from) x) in
+    error_so _ _ c.from_residual-in_err-add_line-in-Line.result c.from_residual-in_err-add_line-in-Line.ensures.1 (λ x is. subst S (sym is) stops)
+
+pub lines-preserved : goal.lines-preserved
+lines-preserved g c =
+    let bytes = unread c.lines.lines (g.S.Streams.left c.lines.from) in
+    let bytes' = unread c.next.new.self (g.S.Streams.left c.next.new.from) in
+    let done = c.in_ok-add_line-in-Line.ensures.done in
+    let inv = c.lines.invariant in
+    let next = c.in_ok-next.ensures in
+    let told = same_line bytes bytes' c.line.result.now c.next.new.self.line c.line.ensures.line (c.in_ok-next.ensures.line (ap Ok c.in-Line.is)) in
+    record {
+      usable = next.usable;
+      counted = next.given;
+      within = next.within;
+      total = next.total ∙ inv.total;
+      values = values_so c.line.result.now c.lines.slots.items c.add_line.new.slots.items done inv.values;
+      few = omega (arith, few_so c.line.result.now c.lines.slots.items c.add_line.new.slots.items done (omega (arith, inv.few, c.lines.slots.ok)), c.add_line.new.slots.ok);
+      progress = line_so (g.S.Streams.left c.args.from.now) c.lines.lines c.next.new.self (g.S.Streams.left c.lines.from) (g.S.Streams.left c.next.new.from) c.lines.slots.items c.add_line.new.slots.items c.line.result.now
+          told next.rest inv.counted next.given next.total (omega (arith, inv.few, c.lines.slots.ok)) done inv.progress;
+      sent = next.sent ∙ inv.sent;
+      send_faults = next.send_faults ∙ inv.send_faults;
+      read_faults = omega (arith, next.read_faults, inv.read_faults);
+      beside = g.met.S.Streams.takes_then c.args.from.now c.lines.from c.next.new.from inv.beside next.beside;
+    }

@@ -1,0 +1,14 @@
+use Rattle.std.proofs.Common.{arith, refl}
+use Rattle.chart_program.proofs.Codes.{plot_codes, complete_so}
+use Rattle.chart_program.proofs.top.chart.Goals as goal
+
+pub returns-in-Err-clause-codes : goal.returns-in-Err-clause-codes
+returns-in-Err-clause-codes g c = (1, omega arith, refl)
+
+pub returns-in-Ok-Plot-clause-codes : goal.returns-in-Ok-Plot-clause-codes
+returns-in-Ok-Plot-clause-codes g c = plot_codes c.plot_status-status.result.code c.plot_status-status.ensures.codes
+
+pub returns-in-Ok-Plot-clause-complete : goal.returns-in-Ok-Plot-clause-complete
+returns-in-Ok-Plot-clause-complete g c =
+    let e = c.plot_status-status.ensures in
+    complete_so (g.W.Streams.left c.args.world) c.plot_status-status.result.code c.plot_status-status.result.place _ _ _ e.codes e.read e.send e.bad e.much

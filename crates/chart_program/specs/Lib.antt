@@ -1,0 +1,5 @@
+pub mod Words
+pub mod Slots
+pub mod Reads
+pub mod Plotted
+pub mod Ran

@@ -1,0 +1,23 @@
+-- The words of the command line.
+use Rattle.std.specs.Prelude.{◌≡◌, ℕ, ◌+◌, List, [], ◌∷◌, take, codes}
+use Rattle.std.specs.Fmt.{decimal}
+use Rattle.chart_grid.specs.Limits.{IsSide}
+use Rattle.chart_program.specs.declared.words.Command.{Command}
+use Rattle.chart_program.specs.declared.words.Command.TheVariants.{Plot}
+
+-- the words spell the command: `plot W H`, two numbers from 1 to 4,096
+abbrev pub Spells : Command → List (List ℕ) → Type 0
+Spells (Plot w h) words = (words ≡ codes "plot" ∷ decimal w ∷ decimal h ∷ []) × IsSide w × IsSide h
+
+-- the first words, so many of them, are those that some command begins with
+pub record Begins (count : ℕ) (words : List (List ℕ)) : Type 0 where
+  pub command : Command
+  pub spelling : List (List ℕ)
+  pub spells : Spells command spelling
+  pub same : take count words ≡ take count spelling
+
+-- the first wrong word, or the number of words where one is missing: some command begins with the words
+-- before it, and none with these and it
+pub record IsWrongAt (place : ℕ) (words : List (List ℕ)) : Type 0 where
+  pub before : Begins place words
+  pub here : Begins (place + 1) words → ⊥

@@ -1,0 +1,61 @@
+//! The chart program: one public call, `chart`, and the `main` that gives it the real world.
+//!
+//! `chart` takes the words of a command and a world, does the command and answers with a status. Its
+//! clauses say which bytes were sent for which input, and when each status comes. What a command
+//! computes stands in the crates below: here the input's lines become slots, and words a command.
+//!
+//! `main` leaves out the first word, which is the path of a store, and gives `chart` standard input
+//! and output. Nothing is claimed of `main` but that it is safe and ends.
+#![tactic(auto)]
+
+mod input;
+mod plot;
+mod slot;
+mod status;
+#[cfg(test)]
+mod tests;
+mod top;
+mod words;
+
+use chart_world::StdWorld;
+pub use status::Status;
+use std::alloc::Global;
+use std::process::ExitCode;
+use std::rt::Env;
+use std::{env, io};
+pub use top::chart;
+
+fn main(rt: HostRuntime) -> ExitCode {
+    let status = match words_after_path(&rt) {
+        Ok(words) => chart(rt.alloc(), words.as_slice(), StdWorld::new(&rt, ())).0,
+        Err(error) => unread_words(error),
+    };
+    report(&rt, status)
+}
+
+/// The words of the command line behind the program's name and the path.
+fn words_after_path(rt: &(impl Env + Alloc<A = Global>)) -> io::Result<Vec<String>> {
+    let mut words = Vec::new(rt.alloc());
+    for word in env::args(rt)?.skip(2) {
+        words.push(word)?;
+    }
+    Ok(words)
+}
+
+/// The status where the words can't be read: they are no text, or there is no memory.
+fn unread_words(error: io::Error) -> Status {
+    let code = match error.kind() {
+        io::ErrorKind::OutOfMemory => status::NO_MEMORY,
+        _ => status::WRONG_WORDS,
+    };
+    Status { code, place: 0 }
+}
+
+/// Tells the status on standard error where it isn't 0, and makes it the program's own.
+fn report(rt: &impl Eprint, status: Status) -> ExitCode {
+    let Status { code, place } = status;
+    if code != status::DONE {
+        let _ = eprintln!(rt; "chart: status {code} at {place}");
+    }
+    ExitCode::from(code)
+}

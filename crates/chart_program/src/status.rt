@@ -1,0 +1,31 @@
+/// How a run ended: 0 where it did all that it was asked, else a code that says what came in its way,
+/// with its place.
+#[derive(Clone, Copy, Debug, PartialEq, Eq)]
+pub struct Status {
+    /// One of the codes of this module.
+    pub code: u8,
+    /// What the code says of the words or of the input, else 0.
+    pub place: u64,
+}
+
+/// All input was read to its end, and all output was sent.
+pub const DONE: u8 = 0;
+
+/// The words aren't a command. The place is the index of the first wrong word, and the number of
+/// words where one is missing.
+pub const WRONG_WORDS: u8 = 2;
+
+/// There was no memory.
+pub const NO_MEMORY: u8 = 3;
+
+/// The input could not be read.
+pub const READ_FAULT: u8 = 4;
+
+/// The output could not be sent.
+pub const SEND_FAULT: u8 = 5;
+
+/// A line of the input isn't in the grammar. The place is its offset.
+pub const BAD_INPUT: u8 = 8;
+
+/// There is more input than a run takes. The place is the most that it takes.
+pub const TOO_MUCH: u8 = 9;

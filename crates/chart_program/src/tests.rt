@@ -1,0 +1,82 @@
+use crate::{Status, chart};
+use chart_world::MemWorld;
+use std::test::Fail;
+
+/// A run over a world in memory: its words, its input, the takes and sends that fail, and what is
+/// wanted: the status and the bytes sent.
+#[derive(Drop)]
+struct Case {
+    words: &'static [&'static str],
+    input: &'static [u8],
+    take_fails: &'static [u64],
+    send_fails: &'static [u64],
+    status: (u8, u64),
+    sent: &'static [u8],
+}
+
+const RISE: &[u8] = b"P4\n4 4\n\x20\x40\x40\x80";
+
+#[test]
+fn runs_in_memory(rt: HostRuntime) -> Result<(), Fail> {
+    let cases = [
+        Case {
+            words: &["plot", "4", "4"],
+            input: b"0\n3\n",
+            take_fails: &[],
+            send_fails: &[],
+            status: (0, 0),
+            sent: RISE,
+        },
+        Case {
+            words: &["plot", "4", "4"],
+            input: b"0\n3\n",
+            take_fails: &[0],
+            send_fails: &[],
+            status: (4, 0),
+            sent: b"",
+        },
+        Case {
+            words: &["plot", "4", "4"],
+            input: b"0\n3\n",
+            take_fails: &[],
+            send_fails: &[0],
+            status: (5, 0),
+            sent: b"P4\n4 ",
+        },
+        Case {
+            words: &["plot", "4", "4"],
+            input: b"0\nx\n",
+            take_fails: &[],
+            send_fails: &[],
+            status: (8, 2),
+            sent: b"",
+        },
+        Case {
+            words: &["plot", "4"],
+            input: b"0\n3\n",
+            take_fails: &[],
+            send_fails: &[],
+            status: (2, 2),
+            sent: b"",
+        },
+    ];
+    for case in &cases {
+        let alloc = rt.alloc();
+        let mut words = Vec::new(alloc);
+        for word in case.words {
+            words.push(String::from_str(alloc, word)?)?;
+        }
+        let world = MemWorld::new(
+            alloc,
+            (),
+            Vec::from_slice(alloc, case.input)?,
+            Vec::from_slice(alloc, case.take_fails)?,
+            Vec::from_slice(alloc, case.send_fails)?,
+        )?;
+        let (status, world) = chart(alloc, words.as_slice(), world);
+        let (code, place) = case.status;
+        assert_eq!(rt; status, Status { code, place });
+        assert_eq!(rt; world.sent(), case.sent);
+    }
+    Ok(())
+}

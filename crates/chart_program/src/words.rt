@@ -1,0 +1,69 @@
+ghost use Rattle.std.specs.Prelude.{◌≡◌, ◌↔◌, ℕ, IsTrue, map, None, Some, MatchOption, string_bytes, slice_get, IfOk, IfErr, IfSome, IfNone};
+ghost use Rattle.std.specs.Fmt.{decimal};
+ghost use Rattle.chart_grid.specs.Limits.{IsSide};
+ghost use Rattle.chart_program.specs.Words.{Spells, IsWrongAt};
+
+use whole_number::natural;
+
+/// What the words of the command line ask for.
+#[derive(Clone, Copy, Debug, PartialEq, Eq)]
+pub enum Command {
+    /// A picture of the input's numbers, `w` columns wide and `h` rows high, each 1 to 4,096.
+    Plot { w: u16, h: u16 },
+}
+
+/// The command that the words spell, or the place of the first wrong word: the number of words, where
+/// one is missing.
+pub fn command_of(words: &[String]) -> Result<Command, u64>
+    ensures command { IfOk result (λ command. Spells command (map string_bytes words.now)) }
+    ensures wrong { IfErr result (λ place. IsWrongAt place (map string_bytes words.now)) }
+{
+    if !is_word(words, 0, "plot") {
+        return Err(0);
+    }
+    let Some(w) = side_at(words, 1) else {
+        return Err(1);
+    };
+    let Some(h) = side_at(words, 2) else {
+        return Err(2);
+    };
+    if words.len() > 3 {
+        return Err(3);
+    }
+    Ok(Command::Plot { w, h })
+}
+
+/// The side of a canvas that the word at a place spells, 1 to 4,096.
+fn side_at(words: &[String], place: usize) -> Option<u16>
+    ensures found { IfSome result (λ side. IsSide side × (slice_get (map string_bytes words.now) place ≡ Some (decimal side))) }
+    ensures none { IfNone result ((side : ℕ) → IsSide side → slice_get (map string_bytes words.now) place ≡ Some (decimal side) → ⊥) }
+{
+    let word = word_at(words, place)?;
+    let number = natural(word.as_bytes())?;
+    if 1 <= number && number <= 4096 {
+        Some(number as u16)
+    } else {
+        None
+    }
+}
+
+/// Whether the word at a place is there and is this one.
+fn is_word(words: &[String], place: usize, text: &str) -> bool
+    ensures { IsTrue result ↔ (slice_get (map string_bytes words.now) place ≡ Some text.now) }
+{
+    match word_at(words, place) {
+        Some(word) => word == text,
+        None => false,
+    }
+}
+
+/// The word at a place, where there is one.
+fn word_at(words: &[String], place: usize) -> Option<&str>
+    ensures { MatchOption result (slice_get (map string_bytes words.now) place ≡ None) (λ word. slice_get (map string_bytes words.now) place ≡ Some word.now) }
+{
+    if place < words.len() {
+        Some(words[place].as_str())
+    } else {
+        None
+    }
+}

@@ -1,0 +1,4 @@
+pub mod Pending
+pub mod LineLaws
+pub mod Gathering
+pub mod NextLine

@@ -1,0 +1,161 @@
+use Rattle.std.proofs.Common.{◌≡◌, ◌∙◌, ◌+◌, ◌-◌, ◌^◌, ◌≤◌, ◌<◌, ◌++◌, [], length, take, ap, sym, arith, rules}
+use Rattle.block_disk.specs.Streams.{left_after}
+use Rattle.chart_world.specs.Feed.{pending_of, given_of}
+use Rattle.chart_world.specs.Reading.{in_front_of}
+use Rattle.chart_world.proofs.Pending.{pending_full, pending_from, pending_piece}
+use Rattle.chart_world.proofs.Gathering.{found, found_rest, none_yet, left_is, pass_all, ended, ended_rest, none_left, refill_step, input_step}
+use Rattle.chart_world.proofs.feed.Feed.gather.Goals.{else-before-len-via-then-before-len+else-given-before-lt-LIMIT, else-before-len-via-else-before-len}
+use Rattle.chart_world.proofs.feed.Feed.gather.Goals as goal
+
+pub returns-then-given-before-lt-LIMIT-clause-line : goal.returns-then-given-before-lt-LIMIT-clause-line
+returns-then-given-before-lt-LIMIT-clause-line g c =
+    let streams = g.S.Streams in
+    let told = in_front_of (pending_of c.args.self.now) (streams.left c.args.from.now) in
+    let at = c.loop-self.self in
+    let full = pending_full at.bytes.items at.start at.end at.ordered (omega (arith, at.within, at.sized, at.bytes.ok)) in
+    rw (c.pass.ensures.spill, c.keep.ensures.spill) (found told (streams.left c.loop-self.from) c.loop-self.length c.line_feed-before.result at.spill.items (pending_of at) c.line_feed-before.ensures (omega (arith, full, c.if-before-len.true, c.len.ensures)) c.loop-self.invariant.partway)
+
+pub returns-then-given-before-lt-LIMIT-clause-rest : goal.returns-then-given-before-lt-LIMIT-clause-rest
+returns-then-given-before-lt-LIMIT-clause-rest g c =
+    let streams = g.S.Streams in
+    let told = in_front_of (pending_of c.args.self.now) (streams.left c.args.from.now) in
+    let at = c.loop-self.self in
+    let before = c.line_feed-before.result in
+    let full = pending_full at.bytes.items at.start at.end at.ordered (omega (arith, at.within, at.sized, at.bytes.ok)) in
+    let below : before < length (pending_of at) = omega (arith, full, c.if-before-len.true, c.len.ensures) in
+    let next : at.start + before + 1 ≡ at.start + (before + 1) = omega arith in
+    rw (c.pass.ensures.bytes, c.pass.ensures.start, c.pass.ensures.end, c.keep.ensures.bytes, c.keep.ensures.start, c.keep.ensures.end)
+    (ap (λ l. in_front_of l (streams.left c.loop-self.from)) (pending_from at.bytes.items at.start (at.start + before + 1) at.end (before + 1) next (omega (arith, full, below)))
+    ∙ found_rest told (streams.left c.loop-self.from) c.loop-self.length before at.spill.items (pending_of at) c.line_feed-before.ensures below c.loop-self.invariant.partway)
+
+pub returns-then-self-gt-LIMIT-clause-past_before : goal.returns-then-self-gt-LIMIT-clause-past_before
+returns-then-self-gt-LIMIT-clause-past_before g c _ =
+    let streams = g.S.Streams in
+    let told = in_front_of (pending_of c.args.self.now) (streams.left c.args.from.now) in
+    let at = c.loop-self.self in
+    let given = c.loop-self.invariant.given in
+    let within : 2 ^ 32 - given_of c.args.self.now ≤ c.loop-self.length + c.line_feed-before.result =
+    elim c.else-before-len.branch [
+      | else-before-len-via-then-before-len+else-given-before-lt-LIMIT w ↦ omega (arith, given, w.given.ensures, w.if-given-before-lt-LIMIT.false)
+      | else-before-len-via-else-before-len w ↦ omega (arith, given, w.if-before-len.false, c.len.ensures, c.if-self-gt-LIMIT.true)
+    ] in
+    none_yet told (streams.left c.loop-self.from) c.loop-self.length (2 ^ 32 - given_of c.args.self.now) at.spill.items (pending_of at) (omega (arith, within, c.line_feed-before.ensures)) c.loop-self.invariant.partway
+
+pub returns-then-self-gt-LIMIT-clause-left_on_err : goal.returns-then-self-gt-LIMIT-clause-left_on_err
+returns-then-self-gt-LIMIT-clause-left_on_err g c =
+    let streams = g.S.Streams in
+    let told = in_front_of (pending_of c.args.self.now) (streams.left c.args.from.now) in
+    let at = c.loop-self.self in
+    let full = pending_full at.bytes.items at.start at.end at.ordered (omega (arith, at.within, at.sized, at.bytes.ok)) in
+    left_is told (streams.left c.loop-self.from) c.loop-self.length (at.taken - given_of c.args.self.now) at.spill.items (pending_of at) (omega (arith, full, c.loop-self.invariant.given, at.counted)) c.loop-self.invariant.partway
+
+pub returns-in_default-clause-read_before : goal.returns-in_default-clause-read_before
+returns-in_default-clause-read_before g c _ =
+    let streams = g.S.Streams in
+    let told = in_front_of (pending_of c.args.self.now) (streams.left c.args.from.now) in
+    let at = c.loop-self.self in
+    let length' = c.len-in-loop-self-2.result in
+    let full = pending_full at.bytes.items at.start at.end at.ordered (omega (arith, at.within, at.sized, at.bytes.ok)) in
+    let all : length (pending_of at) ≤ length' = omega (arith, full, c.len-in-loop-self-2.ensures) in
+    let within : length' ≤ c.line_feed-before.result =
+    elim c.else-before-len.branch [
+      | else-before-len-via-then-before-len+else-given-before-lt-LIMIT w ↦ omega (arith, w.given.ensures, w.if-given-before-lt-LIMIT.false, w.if-before-len.true, c.len.ensures, c.if-self-gt-LIMIT.false, at.counted)
+      | else-before-len-via-else-before-len w ↦ omega (arith, w.if-before-len.false, c.len.ensures, c.len-in-loop-self-2.ensures)
+    ] in
+    let passed = pass_all told (streams.left c.loop-self.from) c.loop-self.length length' at.spill.items (pending_of at) all (omega (arith, within, c.line_feed-before.ensures)) c.loop-self.invariant.partway in
+    let spill = take 8192 (at.spill.items ++ take length' (pending_of at)) in
+    none_yet told (streams.left c.loop-self.from) (c.loop-self.length + length') (c.refill.new.self.taken - given_of c.args.self.now) spill []
+    (omega (arith, c.in_default.ensures.taken_on_err, c.keep-in-loop-self.ensures.taken, c.loop-self.invariant.given, c.len-in-loop-self-2.ensures, at.counted)) passed
+
+pub returns-in_default-clause-left_on_err : goal.returns-in_default-clause-left_on_err
+returns-in_default-clause-left_on_err g c =
+    let streams = g.S.Streams in
+    let told = in_front_of (pending_of c.args.self.now) (streams.left c.args.from.now) in
+    let at = c.loop-self.self in
+    let length' = c.len-in-loop-self-2.result in
+    let full = pending_full at.bytes.items at.start at.end at.ordered (omega (arith, at.within, at.sized, at.bytes.ok)) in
+    let all : length (pending_of at) ≤ length' = omega (arith, full, c.len-in-loop-self-2.ensures) in
+    let within : length' ≤ c.line_feed-before.result =
+    elim c.else-before-len.branch [
+      | else-before-len-via-then-before-len+else-given-before-lt-LIMIT w ↦ omega (arith, w.given.ensures, w.if-given-before-lt-LIMIT.false, w.if-before-len.true, c.len.ensures, c.if-self-gt-LIMIT.false, at.counted)
+      | else-before-len-via-else-before-len w ↦ omega (arith, w.if-before-len.false, c.len.ensures, c.len-in-loop-self-2.ensures)
+    ] in
+    let passed = pass_all told (streams.left c.loop-self.from) c.loop-self.length length' at.spill.items (pending_of at) all (omega (arith, within, c.line_feed-before.ensures)) c.loop-self.invariant.partway in
+    let spill = take 8192 (at.spill.items ++ take length' (pending_of at)) in
+    c.in_default.ensures.left_on_err
+    ∙ left_is told (streams.left c.loop-self.from) (c.loop-self.length + length') (c.refill.new.self.taken - given_of c.args.self.now) spill []
+    (omega (arith, c.in_default.ensures.taken_on_err, c.keep-in-loop-self.ensures.taken, c.loop-self.invariant.given, c.len-in-loop-self-2.ensures, at.counted)) passed
+
+pub returns-else-length-eq0-clause-line : goal.returns-else-length-eq0-clause-line
+returns-else-length-eq0-clause-line g c =
+    let streams = g.S.Streams in
+    let told = in_front_of (pending_of c.args.self.now) (streams.left c.args.from.now) in
+    let at = c.loop-self.self in
+    let length' = c.len-in-loop-self-2.result in
+    let full = pending_full at.bytes.items at.start at.end at.ordered (omega (arith, at.within, at.sized, at.bytes.ok)) in
+    let all : length (pending_of at) ≤ length' = omega (arith, full, c.len-in-loop-self-2.ensures) in
+    let within : length' ≤ c.line_feed-before.result =
+    elim c.else-before-len.branch [
+      | else-before-len-via-then-before-len+else-given-before-lt-LIMIT w ↦ omega (arith, w.given.ensures, w.if-given-before-lt-LIMIT.false, w.if-before-len.true, c.len.ensures, c.if-self-gt-LIMIT.false, at.counted)
+      | else-before-len-via-else-before-len w ↦ omega (arith, w.if-before-len.false, c.len.ensures, c.len-in-loop-self-2.ensures)
+    ] in
+    let passed = pass_all told (streams.left c.loop-self.from) c.loop-self.length length' at.spill.items (pending_of at) all (omega (arith, within, c.line_feed-before.ensures)) c.loop-self.invariant.partway in
+    let spill = take 8192 (at.spill.items ++ take length' (pending_of at)) in
+    let none = none_left (streams.left c.loop-self.from) c.in-Ok.count c.refill.new.self.bytes.items c.if-count-eq0.true c.in-Ok.ensures.given in
+    let same : c.len-in-loop-self.result ≡ length' = c.len-in-loop-self.ensures ∙ sym c.len-in-loop-self-2.ensures in
+    rw (c.refill.ensures.spill, c.keep-in-loop-self.ensures.spill, same)
+    (ended told (streams.left c.loop-self.from) (c.loop-self.length + length') spill (omega (arith, c.if-length-eq0.false, same)) none passed)
+
+pub returns-else-length-eq0-clause-rest : goal.returns-else-length-eq0-clause-rest
+returns-else-length-eq0-clause-rest g c =
+    let streams = g.S.Streams in
+    let told = in_front_of (pending_of c.args.self.now) (streams.left c.args.from.now) in
+    let at = c.loop-self.self in
+    let length' = c.len-in-loop-self-2.result in
+    let full = pending_full at.bytes.items at.start at.end at.ordered (omega (arith, at.within, at.sized, at.bytes.ok)) in
+    let all : length (pending_of at) ≤ length' = omega (arith, full, c.len-in-loop-self-2.ensures) in
+    let within : length' ≤ c.line_feed-before.result =
+    elim c.else-before-len.branch [
+      | else-before-len-via-then-before-len+else-given-before-lt-LIMIT w ↦ omega (arith, w.given.ensures, w.if-given-before-lt-LIMIT.false, w.if-before-len.true, c.len.ensures, c.if-self-gt-LIMIT.false, at.counted)
+      | else-before-len-via-else-before-len w ↦ omega (arith, w.if-before-len.false, c.len.ensures, c.len-in-loop-self-2.ensures)
+    ] in
+    let passed = pass_all told (streams.left c.loop-self.from) c.loop-self.length length' at.spill.items (pending_of at) all (omega (arith, within, c.line_feed-before.ensures)) c.loop-self.invariant.partway in
+    let spill = take 8192 (at.spill.items ++ take length' (pending_of at)) in
+    let none = none_left (streams.left c.loop-self.from) c.in-Ok.count c.refill.new.self.bytes.items c.if-count-eq0.true c.in-Ok.ensures.given in
+    let nothing : pending_of c.refill.new.self ≡ [] =
+    rw (c.in-Ok.ensures.start, c.in-Ok.ensures.end, c.if-count-eq0.true) (pending_piece c.refill.new.self.bytes.items 0) in
+    let left = c.in-Ok.ensures.left ∙ ap (λ n. left_after n (streams.left c.loop-self.from)) c.if-count-eq0.true in
+    ap (λ l. in_front_of l (streams.left c.refill.new.from)) nothing
+    ∙ ended_rest told (streams.left c.loop-self.from) (streams.left c.refill.new.from) (c.loop-self.length + length') spill none left passed
+
+pub loop-self-preserved : goal.loop-self-preserved
+loop-self-preserved g c =
+    let streams = g.S.Streams in
+    let told = in_front_of (pending_of c.args.self.now) (streams.left c.args.from.now) in
+    let at = c.loop-self.self in
+    let length' = c.len-in-loop-self-2.result in
+    let full = pending_full at.bytes.items at.start at.end at.ordered (omega (arith, at.within, at.sized, at.bytes.ok)) in
+    let all : length (pending_of at) ≤ length' = omega (arith, full, c.len-in-loop-self-2.ensures) in
+    let within : length' ≤ c.line_feed-before.result =
+    elim c.else-before-len.branch [
+      | else-before-len-via-then-before-len+else-given-before-lt-LIMIT w ↦ omega (arith, w.given.ensures, w.if-given-before-lt-LIMIT.false, w.if-before-len.true, c.len.ensures, c.if-self-gt-LIMIT.false, at.counted)
+      | else-before-len-via-else-before-len w ↦ omega (arith, w.if-before-len.false, c.len.ensures, c.len-in-loop-self-2.ensures)
+    ] in
+    let passed = pass_all told (streams.left c.loop-self.from) c.loop-self.length length' at.spill.items (pending_of at) all (omega (arith, within, c.line_feed-before.ensures)) c.loop-self.invariant.partway in
+    let spill = take 8192 (at.spill.items ++ take length' (pending_of at)) in
+    let same : c.len-in-loop-self.result ≡ length' = c.len-in-loop-self.ensures ∙ sym c.len-in-loop-self-2.ensures in
+    let count = c.in-Ok.count in
+    let piece : pending_of c.refill.new.self ≡ take count c.refill.new.self.bytes.items =
+    rw (c.in-Ok.ensures.start, c.in-Ok.ensures.end) (pending_piece c.refill.new.self.bytes.items count) in
+    record {
+      partway = rw (c.refill.ensures.spill, c.keep-in-loop-self.ensures.spill, same, piece)
+          (refill_step told (streams.left c.loop-self.from) (streams.left c.refill.new.from) (c.loop-self.length + length') count spill c.refill.new.self.bytes.items c.in-Ok.ensures.given c.in-Ok.ensures.left passed);
+      given = omega (arith, c.in-Ok.ensures.taken, c.in-Ok.ensures.start, c.in-Ok.ensures.end, c.keep-in-loop-self.ensures.taken, c.loop-self.invariant.given, c.len-in-loop-self.ensures, at.counted);
+      forward = omega (arith, c.loop-self.invariant.forward, c.in-Ok.ensures.taken, c.keep-in-loop-self.ensures.taken);
+      total = input_step (streams.left c.loop-self.from) (streams.left c.refill.new.from) count at.taken c.refill.new.self.taken c.refill.new.self.bytes.items c.in-Ok.ensures.given c.in-Ok.ensures.left (c.in-Ok.ensures.taken ∙ ap (λ n. n + count) c.keep-in-loop-self.ensures.taken) ∙ c.loop-self.invariant.total;
+      sent = search rules;
+      send_faults = search rules;
+      read_faults = omega (arith, c.loop-self.invariant.read_faults, c.refill.ensures.read_faults);
+      pieces = omega (arith, c.loop-self.invariant.pieces, c.refill.ensures.pieces);
+      beside = g.met.S.Streams.takes_then _ _ _ c.loop-self.invariant.beside c.refill.ensures.beside;
+    }

@@ -1,0 +1,54 @@
+-- How far a reader of lines has come in its input.
+use Rattle.std.specs.Prelude.{ℕ, ◌+◌, Bool, true, List, [], ◌∷◌, ◌++◌, Option, None, Some, length, take, IfSome}
+use Rattle.std.specs.List.{after_first}
+use Rattle.chart_world.specs.Lines.{is_line_feed, lines, NoLineFeed}
+
+pub record Reading : Type 0 where
+  -- the bytes of the lines that were given, with what ended them
+  pub given : ℕ
+  -- the bytes behind them that were taken
+  pub pending : List ℕ
+  -- all bytes that were taken
+  pub taken : ℕ
+  -- what the last line says, and where it began
+  pub line : List ℕ
+  pub offset : ℕ
+  -- no call has answered a fault
+  pub usable : Bool
+
+-- before the first call
+abbrev pub unread_input : Reading
+unread_input = record { given = 0; pending = []; taken = 0; line = []; offset = 0; usable = true }
+
+-- these bytes and those behind them, where those are told
+abbrev pub in_front_of : List ℕ → Option (List ℕ) → Option (List ℕ)
+in_front_of pending None = None
+in_front_of pending (Some left) = Some (pending ++ left)
+
+-- The bytes behind the lines that were given, where the stream tells what is left to take.
+abbrev pub unread : Reading → Option (List ℕ) → Option (List ℕ)
+unread reading left = in_front_of reading.pending left
+
+-- the lines of these bytes, where they are told
+abbrev pub told_lines : Option (List ℕ) → Option (List (Option (List ℕ)))
+told_lines None = None
+told_lines (Some bytes) = Some (lines bytes)
+
+-- a line in front of those
+abbrev pub with_first : Option (List ℕ) → Option (List (Option (List ℕ))) → Option (List (Option (List ℕ)))
+with_first line None = None
+with_first line (Some later) = Some (line ∷ later)
+
+-- what stands behind the first line, where the bytes are told
+abbrev pub behind_first : Option (List ℕ) → Option (List ℕ)
+behind_first None = None
+behind_first (Some bytes) = Some (after_first is_line_feed bytes)
+
+-- the length of the whole input, where the stream tells what is left
+abbrev pub input_length : ℕ → Option (List ℕ) → Option ℕ
+input_length taken None = None
+input_length taken (Some left) = Some (taken + length left)
+
+-- no line feed stands among the first bytes, where they are told
+abbrev pub NoLineIn : ℕ → Option (List ℕ) → Type 0
+NoLineIn count bytes = IfSome bytes (λ told. NoLineFeed (take count told))

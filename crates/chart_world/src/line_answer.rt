@@ -1,0 +1,26 @@
+//! What a call for the next line answers.
+
+use thiserror::Error;
+
+/// The next line, or the end of the input.
+#[derive(Clone, Copy, Debug, PartialEq, Eq)]
+pub enum LineAnswer {
+    /// A line of at most 8,192 bytes, which `Lines::line` gives.
+    Line,
+    /// A line of more than 8,192 bytes. It is passed over.
+    TooLong,
+    /// No byte is left.
+    End,
+}
+
+/// Why no line came. It is the last answer of these `Lines`.
+#[derive(Clone, Copy, Debug, PartialEq, Eq, Error)]
+pub enum LineFault {
+    /// A take failed. Every line whose line feed was taken came before.
+    #[error("the input could not be read")]
+    ReadFault,
+    /// A byte past 2^32 was taken, and every line whose line feed is among the first 2^32 bytes came
+    /// before.
+    #[error("the input has more than 2^32 bytes")]
+    InputTooLong,
+}

@@ -1,0 +1,121 @@
+use Rattle.std.proofs.Common.{◌≡◌, ℕ, ℤ, ◌+◌, ◌*◌, ◌/◌, ◌<◌, ◌≤◌, ◌-ℤ◌, ◌↔◌, refl, sym, ◌∙◌, ap, inl, inr, arith, unsigned_abs}
+use Rattle.std.proofs.lemmas.Int.{ints, clamps, by_lt_z}
+use Rattle.std.proofs.lemmas.Bool.{cases_lt, cases_eq}
+use Rattle.std.proofs.lemmas.Nat.{div-mul-add}
+use Rattle.std.specs.Int.{int_min, int_max}
+use Rattle.line_raster.specs.declared.position.Point.{Point}
+use Rattle.line_raster.specs.Segment.{columns, rows, share, towards, On, InFill}
+use Rattle.line_raster.proofs.IdealLemmas.{column_pixel}
+use Rattle.line_raster.proofs.SegmentLemmas.{share-le, towards_down, towards_up}
+
+-- no step has no share
+share_none : (most distance : ℕ) → 0 < most → share most distance 0 ≡ 0
+share_none most distance some =
+    let e : 2 * 0 * distance + most ≡ 0 * (2 * most) + most = omega arith in
+    ap (λ m. m / (2 * most)) e ∙ div-mul-add 0 (2 * most) most (omega arith)
+
+-- all steps have the whole
+share_all : (most distance : ℕ) → 0 < most → share most distance most ≡ distance
+share_all most distance some =
+    let e : 2 * most * distance + most ≡ distance * (2 * most) + most = omega arith in
+    ap (λ m. m / (2 * most)) e ∙ div-mul-add distance (2 * most) most (omega arith)
+
+-- no row towards another is where it began
+towards_none : (a b : ℤ) → a ≡ towards a b 0
+towards_none a b =
+    by_lt_z b a
+    (λ down. let e = towards_down a b 0 down in omega (arith, ints, e))
+    (λ up. let e = towards_up a b 0 up in omega (arith, ints, e))
+
+-- all rows lead to it
+towards_all : (a b : ℤ) → b ≡ towards a b (unsigned_abs (b -ℤ a))
+towards_all a b =
+    by_lt_z b a
+    (λ down. let e = towards_down a b (unsigned_abs (b -ℤ a)) down in omega (arith, ints, e))
+    (λ up. let e = towards_up a b (unsigned_abs (b -ℤ a)) up in omega (arith, ints, e))
+
+-- the first end lies on the segment
+pub on_first : (p q : Point) → On p q p.x p.y
+on_first p q =
+    elim (cases_lt (columns p q) (rows p q)) [
+      | inl high ↦ inr (inr (record {
+        high = high;
+        n = 0;
+        reached = omega arith;
+        row = towards_none p.y q.y;
+        column = omega (arith, share_none (rows p q) (columns p q) (omega (arith, high)));
+      }))
+      | inr wide ↦ elim (cases_eq (columns p q) 0) [
+        | inl none ↦ inl (record { no_columns = none; no_rows = omega (arith, wide, none); column = refl; row = refl })
+        | inr apart ↦
+            let some : 0 < columns p q = omega (arith, apart) in
+            inr (inl (record {
+              wide = wide;
+              some = some;
+              n = 0;
+              reached = omega arith;
+              column = omega arith;
+              row = towards_none p.y q.y ∙ ap (towards p.y q.y) (sym (share_none (columns p q) (rows p q) some));
+            }))
+      ]
+    ]
+
+-- so does the last end
+pub on_last : (p q : Point) → p.x ≤ q.x → On p q q.x q.y
+on_last p q order =
+    elim (cases_lt (columns p q) (rows p q)) [
+      | inl high ↦ inr (inr (record {
+        high = high;
+        n = rows p q;
+        reached = omega arith;
+        row = towards_all p.y q.y;
+        column = omega (arith, order, share_all (rows p q) (columns p q) (omega (arith, high)));
+      }))
+      | inr wide ↦ elim (cases_eq (columns p q) 0) [
+        | inl none ↦ inl (record {
+          no_columns = none;
+          no_rows = omega (arith, wide, none);
+          column = omega (arith, order, none);
+          row = (let e : rows p q ≡ 0 = omega (arith, wide, none) in omega (arith, ints, e));
+        })
+        | inr apart ↦
+            let some : 0 < columns p q = omega (arith, apart) in
+            inr (inl (record {
+              wide = wide;
+              some = some;
+              n = columns p q;
+              reached = omega arith;
+              column = omega (arith, order);
+              row = towards_all p.y q.y ∙ ap (towards p.y q.y) (sym (share_all (columns p q) (rows p q) some));
+            }))
+      ]
+    ]
+
+-- a segment within one column is that column's rows from the lower end up to the higher
+pub on_one_column : (p q : Point) (x : ℕ) (y : ℤ) → p.x ≡ q.x → On p q x y ↔ InFill p.x (int_min p.y q.y) (int_max p.y q.y) x y
+on_one_column p q x y same =
+    let none : columns p q ≡ 0 = omega (arith, same) in (
+      (λ h. elim h [
+        | inl dot ↦ record { here = dot.column; above = omega (arith, ints, clamps, dot.row); below = omega (arith, ints, clamps, dot.row) }
+        | inr line ↦ elim line [
+          | inl flat ↦ absurd (omega (arith, none, flat.some))
+          | inr steep ↦
+              let part = share-le (rows p q) (columns p q) steep.n (omega (arith, steep.high)) steep.reached in
+              let place : InFill p.x (int_min p.y q.y) (int_max p.y q.y) x y =
+              by_lt_z q.y p.y
+              (λ down. let e = towards_down p.y q.y steep.n down in
+              record { here = omega (arith, steep.column, part, none); above = omega (arith, ints, clamps, steep.row, steep.reached, e, down); below = omega (arith, ints, clamps, steep.row, steep.reached, e, down) })
+              (λ up. let e = towards_up p.y q.y steep.n up in
+              record { here = omega (arith, steep.column, part, none); above = omega (arith, ints, clamps, steep.row, steep.reached, e, up); below = omega (arith, ints, clamps, steep.row, steep.reached, e, up) }) in
+              place
+        ]
+      ]),
+      (λ h. elim (cases_eq (rows p q) 0) [
+        | inl flat ↦ inl (record { no_columns = none; no_rows = flat; column = h.here; row = (let e = h.above in let f = h.below in omega (arith, ints, clamps, e, f, flat)) })
+        | inr apart ↦
+            let n : ℕ = unsigned_abs (y -ℤ p.y) in
+            let reached : n ≤ rows p q = omega (arith, ints, clamps, h.above, h.below) in
+            let part = share-le (rows p q) (columns p q) n (omega (arith, apart)) reached in
+            inr (inr (column_pixel p q y n x (omega (arith, none, apart)) h.above h.below refl (omega (arith, part, none, h.here))))
+      ]),
+    )

@@ -1,0 +1,9 @@
+pub mod Drawn
+pub mod CellLemmas
+pub mod CountLemmas
+pub mod SegmentLemmas
+pub mod RunLemmas
+pub mod RasterLemmas
+pub mod IdealLemmas
+pub mod EndLemmas
+pub mod FlatLemmas

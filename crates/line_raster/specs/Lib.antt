@@ -1,0 +1,6 @@
+pub mod Canvas
+pub mod Segment
+pub mod Raster
+pub mod Ideal
+pub mod Stored
+pub mod Run

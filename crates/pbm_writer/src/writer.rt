@@ -1,0 +1,56 @@
+ghost use Rattle.std.specs.Prelude.{◌≡◌, ℕ, ◌<◌, ◌^◌, ◌++◌, length, IfOk};
+ghost use Rattle.pbm_writer.specs.Picture.{picture, rows_below, Shows};
+
+use super::NoMemory;
+use super::rows::write_rows;
+use line_raster::Bitmap;
+use std::alloc::{AllocError, Global};
+
+/// The bytes of the bitmap as a raw PBM file.
+pub fn pbm(alloc: Global, bitmap: &Bitmap) -> Result<Vec<u8>, NoMemory>
+    ensures bytes { IfOk result (λ bytes. bytes.items ≡ picture bitmap.now) }
+    ensures shown { IfOk result (λ bytes. Shows bitmap.now bytes.items) }
+{
+    let width = bitmap.width();
+    let height = bitmap.height();
+    let head = format!(in alloc; "P4\n{width} {height}\n")?;
+    let bytes = with_rows(alloc, head.as_bytes(), bitmap)?;
+    Ok(bytes)
+}
+
+// The head and the rows' bytes behind it, in memory that is taken once.
+fn with_rows(alloc: Global, head: &[u8], bitmap: &Bitmap) -> Result<Vec<u8>, AllocError>
+    requires { length head.now < 2 ^ 63 }
+    ensures { IfOk result (λ bytes. bytes.items ≡ head.now ++ rows_below bitmap.now bitmap.now.h) }
+{
+    let row_bytes = usize::from(bitmap.width().div_ceil(8));
+    let size = head.len() + usize::from(bitmap.height()) * row_bytes;
+    let mut bytes = Vec::with_capacity(alloc, size)?;
+    bytes.extend_from_slice(head)?;
+    bytes.resize(size, 0)?;
+    write_rows(&mut bytes[head.len()..], bitmap);
+    Ok(bytes)
+}
+
+#[cfg(test)]
+mod tests {
+    use super::*;
+    use line_raster::{Point, column_fill, segment};
+
+    #[test]
+    fn writes_rows_from_the_top(rt: HostRuntime) {
+        let mut bitmap = Bitmap::new(rt.alloc(), 4, 4).expect(&rt, "memory");
+        segment(&mut bitmap, Point { x: 0, y: 0 }, Point { x: 2, y: 3 });
+        let bytes = pbm(rt.alloc(), &bitmap).expect(&rt, "memory");
+        assert_eq!(rt; bytes.as_slice(), b"P4\n4 4\n\x20\x40\x40\x80".as_slice());
+    }
+
+    #[test]
+    fn pads_the_last_byte(rt: HostRuntime) {
+        let mut bitmap = Bitmap::new(rt.alloc(), 11, 2).expect(&rt, "memory");
+        column_fill(&mut bitmap, 10, 0, 9);
+        column_fill(&mut bitmap, 0, 1, 1);
+        let bytes = pbm(rt.alloc(), &bitmap).expect(&rt, "memory");
+        assert_eq!(rt; bytes.as_slice(), b"P4\n11 2\n\x80\x20\x00\x20".as_slice());
+    }
+}

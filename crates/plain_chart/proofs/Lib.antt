@@ -1,0 +1,5 @@
+pub mod Keeping
+pub mod Widening
+pub mod Rastering
+pub mod Places
+pub mod Slots

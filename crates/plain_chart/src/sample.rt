@@ -1,0 +1,6 @@
+/// A stored value and its time.
+#[derive(Clone, Copy, Debug)]
+pub struct Sample {
+    pub time: i64,
+    pub value: i64,
+}

@@ -1,0 +1,6 @@
+/// The values from `lo` to `hi`, which a chart shows from the bottom row to the top one.
+#[derive(Clone, Copy, Debug)]
+pub struct ValueRange {
+    pub lo: i64,
+    pub hi: i64,
+}

@@ -1,0 +1,126 @@
+-- Digits, their value, and the one spelling of a number.
+use Rattle.std.proofs.Common.{◌≡◌, ℕ, ◌<◌, ◌≤◌, ◌^◌, ◌+◌, ◌*◌, ◌-◌, zero, suc, List, [], ◌∷◌, length, take, get_or, length-take, arith, subst, sym, ap, ◌∙◌, drop, ℤ, pos, negsuc, Option, Some, None, IfSome, IfNone}
+use Rattle.std.specs.Str.Parse.{AllDigits, digits_value}
+use Rattle.std.specs.Char.{digit_value}
+use Rattle.std.specs.Int.{IsInRange}
+use Rattle.std.proofs.lemmas.Int.Digits.{digits_value_more, digits_more}
+use Rattle.std.proofs.lemmas.Str.{digit_value_digit}
+use Rattle.std.specs.Fmt.{decimal}
+use Rattle.std.proofs.lemmas.Str.Parse.{IsNumeralModel, numerals_by_value, tells_digits, digits_value_short}
+use Rattle.std.proofs.lemmas.Fmt.{decimal_is_IsNumeral, length-decimal-le, first_decimal, decimal_digit, decimal-digits_value, decimal_injective}
+use Rattle.whole_number.specs.Spelling.{SpellsNatural, SpellsInteger}
+
+pub own : IsNumeralModel (AllDigits 10) (digits_value 10)
+own = numerals_by_value (AllDigits 10) tells_digits
+
+-- at most 19 digits are below 10 ^ 19
+pub below : (k : ℕ) (ds : List ℕ) → AllDigits 10 ds → length ds ≤ k → digits_value 10 ds < 10 ^ k
+below k ds digits short = digits_value_short own ds k digits short
+
+-- a number's spelling has a digit and at most 19 of them
+pub spelling_digits : (text : List ℕ) (n : ℕ) → SpellsNatural text n → AllDigits 10 text
+spelling_digits text n spells =
+    let small : n < 2 ^ 64 = omega (arith, spells.1) in
+    subst (AllDigits 10) (sym spells.0) (decimal_is_IsNumeral n small).0.1
+
+pub spelling_some : (text : List ℕ) (n : ℕ) → SpellsNatural text n → 0 < length text
+spelling_some text n spells =
+    let small : n < 2 ^ 64 = omega (arith, spells.1) in
+    omega (arith, (decimal_is_IsNumeral n small).0.0, ap length spells.0)
+
+pub spelling_short : (text : List ℕ) (n : ℕ) → SpellsNatural text n → length text ≤ 19
+spelling_short text n spells =
+    let small : n < 2 ^ 64 = omega (arith, spells.1) in
+    let some : 0 < 19 = omega arith in
+    omega (arith, length-decimal-le 19 n some spells.1 small, ap length spells.0)
+
+-- the first digit of a number of two digits or more isn't 0
+pub spelling_first : (text : List ℕ) (n : ℕ) → SpellsNatural text n → get_or text 0 0 ≡ 48 → length text ≤ 1
+spelling_first text zero spells zero_first =
+    let e : decimal 0 ≡ 48 ∷ [] = decimal_digit 0 (omega arith) in
+    omega (arith, ap length spells.0, ap length e)
+spelling_first text (suc n) spells zero_first =
+    let small : suc n < 2 ^ 64 = omega (arith, spells.1) in
+    absurd (omega (arith, first_decimal (suc n) (omega arith) small, ap (λ ds. get_or ds 0 0) spells.0))
+
+-- digits with no leading zero are the spelling of their value
+pub spells_value : (ds : List ℕ) → AllDigits 10 ds → 0 < length ds → length ds ≤ 19 → (get_or ds 0 0 ≡ 48 → length ds ≡ 1) → SpellsNatural ds (digits_value 10 ds)
+spells_value ds digits some short first =
+    let small : digits_value 10 ds < 10 ^ 19 = below 19 ds digits short in
+    (sym (decimal-digits_value own ds digits some first (omega (arith, small))), small)
+
+-- a digit more: the number so far has room for it, and its value follows
+pub room : (value i c : ℕ) (ds : List ℕ) → i < length ds → length ds ≤ 19 → AllDigits 10 (take i ds) → value ≡ digits_value 10 (take i ds) → value < 10 ^ 18
+room value i c ds inside short digits is =
+    let few : length (take i ds) ≤ 18 = simp length-take (omega arith) in
+    omega (arith, below 18 (take i ds) digits few, is)
+
+pub more_digits : (i : ℕ) (ds : List ℕ) → i < length ds → AllDigits 10 (take i ds) → IsInRange 48 57 (get_or ds i 0) → AllDigits 10 (take (i + 1) ds)
+more_digits i ds inside digits digit =
+    let small : digit_value (get_or ds i 0) < 10 = omega (arith, digit_value_digit (get_or ds i 0) digit, digit) in
+    digits_more 10 ds i inside digits small
+
+pub more_value : (value i d : ℕ) (ds : List ℕ) → i < length ds → value ≡ digits_value 10 (take i ds) → IsInRange 48 57 (get_or ds i 0) → d ≡ get_or ds i 0 - 48 → value * 10 + d ≡ digits_value 10 (take (i + 1) ds)
+more_value value i d ds inside is digit d_is =
+    omega (arith, digits_value_more 10 ds i inside, digit_value_digit (get_or ds i 0) digit, is, d_is, digit)
+
+-- the value of digits with no leading zero is the number that they spell, and where there are none they spell nothing
+pub found_value : (ds : List ℕ) (r : Option ℕ) → 0 < length ds → length ds ≤ 19 → (get_or ds 0 0 ≡ 48 → length ds ≡ 1) → IfSome r (λ n. AllDigits 10 ds × (n ≡ digits_value 10 ds)) → IfSome r (λ n. SpellsNatural ds n)
+found_value ds None some short first h = tt
+found_value ds (Some n) some short first h =
+    let P : ℕ → Type 0 = λ m. SpellsNatural ds m in
+    subst P (sym h.1) (spells_value ds h.0 some short first)
+
+pub none_value : (ds : List ℕ) (r : Option ℕ) → IfNone r (AllDigits 10 ds → ⊥) → IfNone r ((n : ℕ) → SpellsNatural ds n → ⊥)
+none_value ds None none = λ n spells. none (spelling_digits ds n spells)
+none_value ds (Some n) none = tt
+
+-- no number's digits begin with `-`
+pub no_dash : (n : ℕ) (ds : List ℕ) → SpellsNatural (45 ∷ ds) n → ⊥
+no_dash n ds spells = absurd (omega (arith, (spelling_digits (45 ∷ ds) n spells).0))
+
+-- behind a `-` stands the spelling of a number other than 0
+pub behind_dash : (ds : List ℕ) (z : ℤ) → SpellsInteger (45 ∷ ds) z → (n : ℕ) × (0 < n) × SpellsNatural ds n
+behind_dash ds (pos n) spells = absurd (no_dash n ds spells)
+behind_dash ds (negsuc n) spells = (suc n, omega arith, (ap (drop 1) spells.0, spells.1))
+
+pub none_behind : (ds : List ℕ) → ((n : ℕ) → SpellsNatural ds n → ⊥) → (z : ℤ) → SpellsInteger (45 ∷ ds) z → ⊥
+none_behind ds none z spells = let b = behind_dash ds z spells in none b.0 b.2
+
+pub zero_behind : (ds : List ℕ) → SpellsNatural ds 0 → (z : ℤ) → SpellsInteger (45 ∷ ds) z → ⊥
+zero_behind ds zero_spells z spells =
+    let b = behind_dash ds z spells in
+    let low : 0 < 2 ^ 64 = omega arith in
+    let high : b.0 < 2 ^ 64 = omega (arith, b.2.1) in
+    let same : 0 ≡ b.0 = decimal_injective 0 b.0 low high (sym zero_spells.0 ∙ b.2.0) in
+    omega (arith, same, b.1)
+
+-- a text that begins with `-`, by what stands behind that
+pub begins_dash : (text : List ℕ) → 0 < length text → get_or text 0 0 ≡ 45 → text ≡ 45 ∷ drop 1 text
+begins_dash [] some first = absurd (omega (arith, some))
+begins_dash (c ∷ cs) some first = ap (λ d. d ∷ cs) first
+
+pub none_dash : (text : List ℕ) → 0 < length text → get_or text 0 0 ≡ 45 → ((n : ℕ) → SpellsNatural (drop 1 text) n → ⊥) → (z : ℤ) → SpellsInteger text z → ⊥
+none_dash text some first none z spells =
+    let P : List ℕ → Type 0 = λ t. SpellsInteger t z in
+    none_behind (drop 1 text) none z (subst P (begins_dash text some first) spells)
+
+pub zero_dash : (text : List ℕ) → 0 < length text → get_or text 0 0 ≡ 45 → SpellsNatural (drop 1 text) 0 → (z : ℤ) → SpellsInteger text z → ⊥
+zero_dash text some first zero_spells z spells =
+    let P : List ℕ → Type 0 = λ t. SpellsInteger t z in
+    zero_behind (drop 1 text) zero_spells z (subst P (begins_dash text some first) spells)
+
+-- a text spells one number at the most
+pub one_natural : (text : List ℕ) (m n : ℕ) → SpellsNatural text m → SpellsNatural text n → m ≡ n
+one_natural text m n first second =
+    let low : m < 2 ^ 64 = omega (arith, first.1) in
+    let high : n < 2 ^ 64 = omega (arith, second.1) in
+    decimal_injective m n low high (sym first.0 ∙ second.0)
+
+pub one_integer : (text : List ℕ) (y z : ℤ) → SpellsInteger text y → SpellsInteger text z → y ≡ z
+one_integer text (pos m) (pos n) first second = ap pos (one_natural text m n first second)
+one_integer text (pos m) (negsuc n) first second = absurd (no_dash m (decimal (suc n)) (sym second.0 ∙ first.0, first.1))
+one_integer text (negsuc m) (pos n) first second = absurd (no_dash n (decimal (suc m)) (sym first.0 ∙ second.0, second.1))
+one_integer text (negsuc m) (negsuc n) first second =
+    let same : suc m ≡ suc n = one_natural (drop 1 text) (suc m) (suc n) (ap (drop 1) first.0, first.1) (ap (drop 1) second.0, second.1) in
+    ap negsuc (cc)
