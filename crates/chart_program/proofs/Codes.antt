@@ -8,7 +8,11 @@ use Rattle.chart_world.specs.Lines.{lines}
 use Rattle.chart_world.proofs.LineLaws.{lines_none}
 use Rattle.plain_chart.specs.Samples.{IsSlot}
 use Rattle.chart_program.specs.Slots.{says, spelling, SpellsSlot, SpellsAll, IsBad, IsWhole, Behind, FirstBad, HasTooMany, IsTooLong, most_slots}
-use Rattle.chart_program.specs.Ran.{IsTooMuch, IsInput}
+use Rattle.chart_program.specs.declared.words.Command.{Command}
+use Rattle.chart_program.specs.declared.words.Command.TheVariants.{Plot, Run}
+use Rattle.chart_program.specs.Words.{Spells}
+use Rattle.chart_program.specs.Ran.{run_words, OfCommand, HasTooMuch, IsSlots, IsInput, IsCutShort}
+use Rattle.chart_program.specs.Runs.{SendsWithin}
 use Rattle.chart_program.proofs.Joined.{lines_joined}
 use Rattle.chart_program.proofs.Ending.{says_true}
 
@@ -49,14 +53,14 @@ among (first ∷ front) line later (slot ∷ slots) same values =
     among front line later slots rest (All-tail IsSlot slot slots values)
 
 -- good input has no bad line
-pub no_bad : (input : List ℕ) (place : ℕ) → IsInput input → FirstBad input place → ⊥
+pub no_bad : (input : List ℕ) (place : ℕ) → IsSlots input → FirstBad input place → ⊥
 no_bad input place good bad =
     let told = told_behind input bad.rest bad.slots place bad.line bad.later bad.behind bad.first bad.bad.some in
     let slot = among (filter says (lines bad.behind.front)) bad.line (filter says bad.later) good.slots (sym told ∙ good.spells.texts) good.spells.in_range in
     bad.bad.none slot.0 slot.1
 
 -- it has no slot too many
-no_many : (input : List ℕ) → IsInput input → HasTooMany input → ⊥
+no_many : (input : List ℕ) → IsSlots input → HasTooMany input → ⊥
 no_many input good many =
     let told = told_behind input many.rest many.slots many.place many.line many.later many.behind many.first (says_true many.line many.slot many.good) in
     let front = filter says (lines many.behind.front) in
@@ -73,7 +77,7 @@ no_many input good many =
     )
 
 -- it isn't too much
-pub no_much : (input : List ℕ) (place : ℕ) → IsInput input → IsTooMuch input place → ⊥
+pub no_much : (input : List ℕ) (place : ℕ) → IsSlots input → HasTooMuch input place → ⊥
 no_much input place good (inl many) = no_many input good many.1
 no_much input place good (inr long) = omega (arith, good.short, long.1.past)
 
@@ -87,8 +91,54 @@ completed code R S B M (suc (suc (suc (suc zero))), inside, is) read send bad mu
 completed code R S B M (suc (suc (suc (suc (suc zero)))), inside, is) read send bad much no_read no_send no_bad no_much = absurd (no_much (much (sym is)))
 completed code R S B M (suc (suc (suc (suc (suc (suc k))))), inside, is) read send bad much no_read no_send no_bad no_much = absurd (omega (arith, inside))
 
--- where the input is told
-pub complete_so : (o : Option (List ℕ)) (code place : ℕ) (R S W : Type 0) → Contains (0 ∷ 3 ∷ 4 ∷ 5 ∷ 8 ∷ 9 ∷ []) code → (code ≡ 4 → R) → (code ≡ 5 → S) → (code ≡ 8 → IfSome o (λ input. FirstBad input place)) → (code ≡ 9 → IfSome o (λ input. IsTooMuch input place)) → IfSome o (λ input. IsInput input → W → (R → ⊥) → (S → ⊥) → (code ≡ 0) ⊎ (code ≡ 3))
-complete_so None code place R S W codes read send bad much = tt
-complete_so (Some input) code place R S W codes read send bad much = λ good words no_read no_send.
-    completed code R S (FirstBad input place) (IsTooMuch input place) codes read send bad much no_read no_send (no_bad input place good) (no_much input place good)
+-- where a plot's input is told
+pub complete_so : (o : Option (List ℕ)) (code place w h : ℕ) (words : List (List ℕ)) (command : Command) (R S W : Type 0) → command ≡ Plot w h → Spells command words → Contains (0 ∷ 3 ∷ 4 ∷ 5 ∷ 8 ∷ 9 ∷ []) code → (code ≡ 4 → R) → (code ≡ 5 → S) → (code ≡ 8 → IfSome o (λ input. FirstBad input place)) → (code ≡ 9 → IfSome o (λ input. HasTooMuch input place)) → IfSome o (λ input. W → ((command : Command) → Spells command words → IsInput command input) → (R → ⊥) → (S → ⊥) → (code ≡ 0) ⊎ (code ≡ 3))
+complete_so None code place w h words command R S W is spells codes read send bad much = tt
+complete_so (Some input) code place w h words command R S W is spells codes read send bad much = λ some good no_read no_send.
+    let P : Command → Type 0 = λ c. IsInput c input in
+    let slots : IsSlots input = subst P is (good command spells) in
+    completed code R S (FirstBad input place) (HasTooMuch input place) codes read send bad much no_read no_send (no_bad input place slots) (no_much input place slots)
+
+-- the codes of a run of lines are codes of a run
+pub run_codes : (code : ℕ) → Contains (0 ∷ 3 ∷ 4 ∷ 5 ∷ 9 ∷ []) code → Contains (0 ∷ 2 ∷ 3 ∷ 4 ∷ 5 ∷ 8 ∷ 9 ∷ []) code
+run_codes code (zero, inside, is) = (0, omega arith, is)
+run_codes code (suc zero, inside, is) = (2, omega arith, is)
+run_codes code (suc (suc zero), inside, is) = (3, omega arith, is)
+run_codes code (suc (suc (suc zero)), inside, is) = (4, omega arith, is)
+run_codes code (suc (suc (suc (suc zero))), inside, is) = (6, omega arith, is)
+run_codes code (suc (suc (suc (suc (suc k)))), inside, is) = absurd (omega (arith, inside))
+
+pub run_completed : (code : ℕ) (R S M : Type 0) → Contains (0 ∷ 3 ∷ 4 ∷ 5 ∷ 9 ∷ []) code → (code ≡ 4 → R) → (code ≡ 5 → S) → (code ≡ 9 → M) → (R → ⊥) → (S → ⊥) → (M → ⊥) → (code ≡ 0) ⊎ (code ≡ 3)
+run_completed code R S M (zero, inside, is) read send much no_read no_send no_much = inl (sym is)
+run_completed code R S M (suc zero, inside, is) read send much no_read no_send no_much = inr (sym is)
+run_completed code R S M (suc (suc zero), inside, is) read send much no_read no_send no_much = absurd (no_read (read (sym is)))
+run_completed code R S M (suc (suc (suc zero)), inside, is) read send much no_read no_send no_much = absurd (no_send (send (sym is)))
+run_completed code R S M (suc (suc (suc (suc zero))), inside, is) read send much no_read no_send no_much = absurd (no_much (much (sym is)))
+run_completed code R S M (suc (suc (suc (suc (suc k)))), inside, is) read send much no_read no_send no_much = absurd (omega (arith, inside))
+
+-- where the lines of a run are told
+pub run_complete : (o before now : Option (List ℕ)) (code : ℕ) (words : List (List ℕ)) (command : Command) (R S W : Type 0) → command ≡ Run → Spells command words → Contains (0 ∷ 3 ∷ 4 ∷ 5 ∷ 9 ∷ []) code → (code ≡ 4 → R) → (code ≡ 5 → S) → (code ≡ 9 → IfSome o (λ input. SendsWithin input before now)) → IfSome o (λ input. W → ((command : Command) → Spells command words → IsInput command input) → (R → ⊥) → (S → ⊥) → (code ≡ 0) ⊎ (code ≡ 3))
+run_complete None before now code words command R S W is spells codes read send much = tt
+run_complete (Some input) before now code words command R S W is spells codes read send much = λ some good no_read no_send.
+    let P : Command → Type 0 = λ c. IsInput c input in
+    let short : length input ≤ 2 ^ 32 = subst P is (good command spells) in
+    run_completed code R S (SendsWithin input before now) codes read send much no_read no_send (λ m. omega (arith, short, m.past))
+
+-- a run of lines has no bad line
+pub run_not_bad : (code : ℕ) → Contains (0 ∷ 3 ∷ 4 ∷ 5 ∷ 9 ∷ []) code → code ≡ 8 → ⊥
+run_not_bad code (zero, inside, is) eight = omega (arith, is, eight)
+run_not_bad code (suc zero, inside, is) eight = omega (arith, is, eight)
+run_not_bad code (suc (suc zero), inside, is) eight = omega (arith, is, eight)
+run_not_bad code (suc (suc (suc zero)), inside, is) eight = omega (arith, is, eight)
+run_not_bad code (suc (suc (suc (suc zero))), inside, is) eight = omega (arith, is, eight)
+run_not_bad code (suc (suc (suc (suc (suc k)))), inside, is) eight = absurd (omega (arith, inside))
+
+-- what holds at all holds where an input is told
+pub told_all : (o : Option (List ℕ)) (P : Type 0) → P → IfSome o (λ input. P)
+told_all None P holds = tt
+told_all (Some input) P holds = holds
+
+-- the place of too much input, and what was sent, where the input is told
+pub told_both : (o : Option (List ℕ)) (P : Type 0) (Q : List ℕ → Type 0) → P → IfSome o Q → IfSome o (λ input. P × Q input)
+told_both None P Q first second = tt
+told_both (Some input) P Q first second = (first, second)

@@ -1,12 +1,12 @@
 -- Where words are those of a command, and where the first wrong one is.
-use Rattle.std.proofs.Common.{◌≡◌, ℕ, zero, suc, ◌+◌, ◌<◌, ◌≤◌, List, [], ◌∷◌, length, length-take, take, Option, Some, None, refl, ap, subst, sym, ◌∙◌, arith}
+use Rattle.std.proofs.Common.{◌≡◌, ◌⊎◌, inl, inr, ℕ, zero, suc, ◌+◌, ◌<◌, ◌≤◌, List, [], ◌∷◌, length, length-take, take, Option, Some, None, refl, ap, subst, sym, ◌∙◌, arith}
 use Rattle.std.specs.Prelude.{slice_get, codes, min}
 use Rattle.std.specs.Fmt.{decimal}
 use Rattle.chart_grid.specs.Limits.{IsSide}
 use Rattle.whole_number.specs.Spelling.{SpellsNatural}
 use Rattle.whole_number.proofs.Digits.{one_natural}
 use Rattle.chart_program.specs.declared.words.Command.{Command}
-use Rattle.chart_program.specs.declared.words.Command.TheVariants.{Plot}
+use Rattle.chart_program.specs.declared.words.Command.TheVariants.{Plot, Run}
 use Rattle.chart_program.specs.Words.{Spells, Begins, IsWrongAt}
 
 one : IsSide 1
@@ -53,6 +53,18 @@ got_third (x ∷ []) = refl
 got_third (x ∷ (y ∷ [])) = refl
 got_third (x ∷ (y ∷ (z ∷ xs))) = refl
 
+one_of_two : {X : Type 0} (xs : List X) → take 1 (take 2 xs) ≡ take 1 xs
+one_of_two [] = refl
+one_of_two (x ∷ xs) = refl
+
+one_in_three : {X : Type 0} (xs : List X) → take 1 (take 3 xs) ≡ take 1 xs
+one_in_three [] = refl
+one_in_three (x ∷ xs) = refl
+
+one_in_four : {X : Type 0} (xs : List X) → take 1 (take 4 xs) ≡ take 1 xs
+one_in_four [] = refl
+one_in_four (x ∷ xs) = refl
+
 -- lists with the same first elements have the same element there
 get_first : {X : Type 0} (xs ys : List X) → take 1 xs ≡ take 1 ys → slice_get xs 0 ≡ slice_get ys 0
 get_first xs ys same = sym (got xs) ∙ ap (λ l. slice_get l 0) same ∙ got ys
@@ -66,56 +78,103 @@ get_third xs ys same = sym (got_third xs) ∙ ap (λ l. slice_get l 2) same ∙ 
 begins : (count w h : ℕ) (words : List (List ℕ)) → IsSide w → IsSide h → take count words ≡ take count (plot_words w h) → Begins count words
 begins count w h words wide high same = record { command = Plot w h; spelling = plot_words w h; spells = (refl, wide, high); same = same }
 
+begins_run : (count : ℕ) (words : List (List ℕ)) → take count words ≡ take count (codes "run" ∷ []) → Begins count words
+begins_run count words same = record { command = Run; spelling = codes "run" ∷ []; spells = refl; same = same }
+
 -- what a command's words are
-first_of_command : (words spelling : List (List ℕ)) (command : Command) → Spells command spelling → take 1 words ≡ take 1 spelling → slice_get words 0 ≡ Some (codes "plot")
-first_of_command words spelling (Plot w h) spells same = get_first words spelling same ∙ ap (λ l. slice_get l 0) spells.0
+first_of_command : (words spelling : List (List ℕ)) (command : Command) → Spells command spelling → take 1 words ≡ take 1 spelling → (slice_get words 0 ≡ Some (codes "plot")) ⊎ (slice_get words 0 ≡ Some (codes "run"))
+first_of_command words spelling (Plot w h) spells same = inl (get_first words spelling same ∙ ap (λ l. slice_get l 0) spells.0)
+first_of_command words spelling Run spells same = inr (get_first words spelling same ∙ ap (λ l. slice_get l 0) spells)
 
-second_of_command : (words spelling : List (List ℕ)) (command : Command) → Spells command spelling → take 2 words ≡ take 2 spelling → (side : ℕ) × IsSide side × (slice_get words 1 ≡ Some (decimal side))
-second_of_command words spelling (Plot w h) spells same = (w, spells.1, get_second words spelling same ∙ ap (λ l. slice_get l 1) spells.0)
+inside : {X : Type 0} (o : Option X) (a b : X) → o ≡ Some a → o ≡ Some b → a ≡ b
+inside o a b first second = let both : Some a ≡ Some b = sym first ∙ second in cc
 
-third_of_command : (words spelling : List (List ℕ)) (command : Command) → Spells command spelling → take 3 words ≡ take 3 spelling → (side : ℕ) × IsSide side × (slice_get words 2 ≡ Some (decimal side))
-third_of_command words spelling (Plot w h) spells same = (h, spells.2, get_third words spelling same ∙ ap (λ l. slice_get l 2) spells.0)
+not_both : codes "plot" ≡ codes "run" → ⊥
+not_both same = let lengths = ap length same in absurd (omega (arith, lengths))
 
-fourth_of_command : (words spelling : List (List ℕ)) (command : Command) → Spells command spelling → take 4 words ≡ take 4 spelling → length words ≤ 3
-fourth_of_command words spelling (Plot w h) spells same =
+-- these words don't begin both commands
+plot_or_run : (words spelling : List (List ℕ)) → slice_get words 0 ≡ Some (codes "plot") → slice_get words 0 ≡ slice_get spelling 0 → spelling ≡ codes "run" ∷ [] → ⊥
+plot_or_run words spelling first same is = not_both (inside (slice_get words 0) (codes "plot") (codes "run") first (same ∙ ap (λ l. slice_get l 0) is))
+
+one_of : {X : Type 0} (xs ys : List X) → take 2 xs ≡ take 2 ys → take 1 xs ≡ take 1 ys
+one_of xs ys same = sym (one_of_two xs) ∙ ap (take 1) same ∙ one_of_two ys
+
+one_of_three : {X : Type 0} (xs ys : List X) → take 3 xs ≡ take 3 ys → take 1 xs ≡ take 1 ys
+one_of_three xs ys same = sym (one_in_three xs) ∙ ap (take 1) same ∙ one_in_three ys
+
+one_of_four : {X : Type 0} (xs ys : List X) → take 4 xs ≡ take 4 ys → take 1 xs ≡ take 1 ys
+one_of_four xs ys same = sym (one_in_four xs) ∙ ap (take 1) same ∙ one_in_four ys
+
+second_of_command : (words spelling : List (List ℕ)) (command : Command) → Spells command spelling → slice_get words 0 ≡ Some (codes "plot") → take 2 words ≡ take 2 spelling → (side : ℕ) × IsSide side × (slice_get words 1 ≡ Some (decimal side))
+second_of_command words spelling (Plot w h) spells first same = (w, spells.1, get_second words spelling same ∙ ap (λ l. slice_get l 1) spells.0)
+second_of_command words spelling Run spells first same = absurd (plot_or_run words spelling first (get_first words spelling (one_of words spelling same)) spells)
+
+third_of_command : (words spelling : List (List ℕ)) (command : Command) → Spells command spelling → slice_get words 0 ≡ Some (codes "plot") → take 3 words ≡ take 3 spelling → (side : ℕ) × IsSide side × (slice_get words 2 ≡ Some (decimal side))
+third_of_command words spelling (Plot w h) spells first same = (h, spells.2, get_third words spelling same ∙ ap (λ l. slice_get l 2) spells.0)
+third_of_command words spelling Run spells first same = absurd (plot_or_run words spelling first (get_first words spelling (one_of_three words spelling same)) spells)
+
+fourth_of_command : (words spelling : List (List ℕ)) (command : Command) → Spells command spelling → slice_get words 0 ≡ Some (codes "plot") → take 4 words ≡ take 4 spelling → length words ≤ 3
+fourth_of_command words spelling (Plot w h) spells first same =
     let short : take 4 words ≡ plot_words w h = same ∙ ap (take 4) spells.0 in
     let few : min 4 (length words) ≤ 3 = omega (arith, ap length short, length-take 4 words) in
     omega (arith, few)
+fourth_of_command words spelling Run spells first same = absurd (plot_or_run words spelling first (get_first words spelling (one_of_four words spelling same)) spells)
 
 -- the first word is no command
-pub wrong_first : (words : List (List ℕ)) → (slice_get words 0 ≡ Some (codes "plot") → ⊥) → IsWrongAt 0 words
-wrong_first words none = record {
-  before = begins 0 1 1 words one one refl;
-  here = λ b. none (first_of_command words b.spelling b.command b.spells b.same);
+pub wrong_first : (words : List (List ℕ)) → (slice_get words 0 ≡ Some (codes "plot") → ⊥) → (slice_get words 0 ≡ Some (codes "run") → ⊥) → IsWrongAt 0 words
+wrong_first words no_plot no_run = record {
+  before = begins_run 0 words refl;
+  here = λ b. elim (first_of_command words b.spelling b.command b.spells b.same) [ inl plot ↦ no_plot plot | inr run ↦ no_run run ];
 }
+
+-- there is a word behind `run`
+length_two : (words spelling : List (List ℕ)) (command : Command) → Spells command spelling → slice_get words 0 ≡ Some (codes "run") → take 2 words ≡ take 2 spelling → length words ≤ 1
+length_two words spelling (Plot w h) spells first same =
+    absurd (not_both (inside (slice_get words 0) (codes "plot") (codes "run") (get_first words spelling (one_of words spelling same) ∙ ap (λ l. slice_get l 0) spells.0) first))
+length_two words spelling Run spells first same =
+    let short : take 2 words ≡ codes "run" ∷ [] = same ∙ ap (take 2) spells in
+    let few : min 2 (length words) ≤ 1 = omega (arith, ap length short, length-take 2 words) in
+    omega (arith, few)
+
+pub wrong_behind : (words : List (List ℕ)) → slice_get words 0 ≡ Some (codes "run") → 1 < length words → IsWrongAt 1 words
+wrong_behind words first many = record {
+  before = begins_run 1 words (first_one words (codes "run") first);
+  here = λ b. omega (arith, many, length_two words b.spelling b.command b.spells first b.same);
+}
+
+all_one : {X : Type 0} (ws : List X) → length ws ≤ 1 → take 1 ws ≡ ws
+all_one [] few = refl
+all_one (x ∷ []) few = refl
+all_one (x ∷ (y ∷ ws)) few = absurd (omega (arith, few))
+
+-- these are the words of a run
+pub right_run : (words : List (List ℕ)) → slice_get words 0 ≡ Some (codes "run") → length words ≤ 1 → words ≡ codes "run" ∷ []
+right_run words first few = sym (all_one words few) ∙ first_one words (codes "run") first
 
 -- the width, or the height, is missing or wrong
 pub wrong_second : (words : List (List ℕ)) → slice_get words 0 ≡ Some (codes "plot") → ((side : ℕ) → IsSide side → slice_get words 1 ≡ Some (decimal side) → ⊥) → IsWrongAt 1 words
 wrong_second words first none = record {
   before = begins 1 1 1 words one one (first_one words (codes "plot") first);
-  here = λ b. let w = second_of_command words b.spelling b.command b.spells b.same in none w.0 w.1 w.2;
+  here = λ b. let w = second_of_command words b.spelling b.command b.spells first b.same in none w.0 w.1 w.2;
 }
 
 pub wrong_third : (words : List (List ℕ)) (w : ℕ) → IsSide w → slice_get words 0 ≡ Some (codes "plot") → slice_get words 1 ≡ Some (decimal w) → ((side : ℕ) → IsSide side → slice_get words 2 ≡ Some (decimal side) → ⊥) → IsWrongAt 2 words
 wrong_third words w wide first second none = record {
   before = begins 2 w 1 words wide one (first_two words (codes "plot") (decimal w) first second);
-  here = λ b. let h = third_of_command words b.spelling b.command b.spells b.same in none h.0 h.1 h.2;
+  here = λ b. let h = third_of_command words b.spelling b.command b.spells first b.same in none h.0 h.1 h.2;
 }
 
 -- there is a word too many
 pub wrong_fourth : (words : List (List ℕ)) (w h : ℕ) → IsSide w → IsSide h → slice_get words 0 ≡ Some (codes "plot") → slice_get words 1 ≡ Some (decimal w) → slice_get words 2 ≡ Some (decimal h) → 3 < length words → IsWrongAt 3 words
 wrong_fourth words w h wide high first second third many = record {
   before = begins 3 w h words wide high (first_three words (codes "plot") (decimal w) (decimal h) first second third);
-  here = λ b. omega (arith, many, fourth_of_command words b.spelling b.command b.spells b.same);
+  here = λ b. omega (arith, many, fourth_of_command words b.spelling b.command b.spells first b.same);
 }
 
 -- these are the words of a command
 pub right : (words : List (List ℕ)) (w h : ℕ) → slice_get words 0 ≡ Some (codes "plot") → slice_get words 1 ≡ Some (decimal w) → slice_get words 2 ≡ Some (decimal h) → length words ≤ 3 → words ≡ plot_words w h
 right words w h first second third few =
     sym (all_three words few) ∙ first_three words (codes "plot") (decimal w) (decimal h) first second third
-
-inside : {X : Type 0} (o : Option X) (a b : X) → o ≡ Some a → o ≡ Some b → a ≡ b
-inside o a b first second = let both : Some a ≡ Some b = sym first ∙ second in cc
 
 -- a number that is no side is no side's word
 pub no_side : (words : List (List ℕ)) (place n : ℕ) (word : List ℕ) → slice_get words place ≡ Some word → SpellsNatural word n → ((1 ≤ n) × (n ≤ 4096) → ⊥) → (side : ℕ) → IsSide side → slice_get words place ≡ Some (decimal side) → ⊥

@@ -5,3 +5,4 @@ pub mod Ending
 pub mod Commands
 pub mod Charted
 pub mod Codes
+pub mod Answering

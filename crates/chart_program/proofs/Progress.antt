@@ -11,14 +11,14 @@ use Rattle.plain_chart.specs.Samples.{IsSlot}
 use Rattle.chart_program.specs.Slots.{says, spelling, SpellsSlot, SpellsAll, IsWhole, Behind, most_slots}
 use Rattle.chart_program.proofs.Joined.{lines_joined, first_piece, pieces, piece_ends, piece_line, append_none}
 
-some_left : (rest : List ℕ) (line : Option (List ℕ)) (later : List (Option (List ℕ))) → lines rest ≡ line ∷ later → rest ≢ []
+pub some_left : (rest : List ℕ) (line : Option (List ℕ)) (later : List (Option (List ℕ))) → lines rest ≡ line ∷ later → rest ≢ []
 some_left rest line later first none = let none_first : [] ≡ line ∷ later = sym lines_none ∙ ap lines (sym none) ∙ first in cc
 
-whole_front : (front rest : List ℕ) → IsWhole front ⊎ (rest ≡ []) → rest ≢ [] → IsWhole front
+pub whole_front : (front rest : List ℕ) → IsWhole front ⊎ (rest ≡ []) → rest ≢ [] → IsWhole front
 whole_front front rest (inl whole) some = whole
 whole_front front rest (inr none) some = absurd (some none)
 
-whole_joined : (front piece : List ℕ) → IsWhole front → IsWhole piece → IsWhole (front ++ piece)
+pub whole_joined : (front piece : List ℕ) → IsWhole front → IsWhole piece → IsWhole (front ++ piece)
 whole_joined front piece whole (inl none) =
     let P : List ℕ → Type 0 = λ p. IsWhole (front ++ p) in
     let Q : List ℕ → Type 0 = IsWhole in
@@ -79,10 +79,10 @@ passed old new (Some l) (Some l') rest rest' is is' counted counted' total =
     let there : new.pending ++ l' ≡ rest' = cc in
     omega (arith, sum, counted, counted', ap length here, ap length there, length-append old.pending l, length-append new.pending l')
 
-behind_told : (rest : List ℕ) (bytes bytes' : Option (List ℕ)) → bytes ≡ Some rest → bytes' ≡ behind_first bytes → bytes' ≡ Some (after_first is_line_feed rest)
+pub behind_told : (rest : List ℕ) (bytes bytes' : Option (List ℕ)) → bytes ≡ Some rest → bytes' ≡ behind_first bytes → bytes' ≡ Some (after_first is_line_feed rest)
 behind_told rest bytes bytes' told is = is ∙ ap behind_first told
 
-told_after : (rest : List ℕ) (bytes bytes' : Option (List ℕ)) (line : Option (List ℕ)) → bytes ≡ Some rest → bytes' ≡ Some (after_first is_line_feed rest) → told_lines bytes ≡ with_first line (told_lines bytes') → lines rest ≡ line ∷ lines (after_first is_line_feed rest)
+pub told_after : (rest : List ℕ) (bytes bytes' : Option (List ℕ)) (line : Option (List ℕ)) → bytes ≡ Some rest → bytes' ≡ Some (after_first is_line_feed rest) → told_lines bytes ≡ with_first line (told_lines bytes') → lines rest ≡ line ∷ lines (after_first is_line_feed rest)
 told_after rest bytes bytes' line told told' first =
     let P : Option (List ℕ) → Type 0 = λ b. told_lines b ≡ with_first line (told_lines bytes') in
     let Q : Option (List ℕ) → Type 0 = λ b. told_lines (Some rest) ≡ with_first line (told_lines b) in
@@ -99,3 +99,9 @@ progress_more input old new left left' slots added line p first rest counted cou
     let at : old.given + length (first_piece p.rest) ≡ new.given = omega (arith, sum, ap length (pieces p.rest), length-append (first_piece p.rest) (after_first is_line_feed p.rest)) in
     let P : ℕ → Type 0 = λ n. Behind input (after_first is_line_feed p.rest) (slots ++ added) n in
     record { rest = after_first is_line_feed p.rest; told = told'; behind = subst P at more }
+
+-- the line that was read, in the words of the line that is passed on
+pub same_line : (bytes bytes' : Option (List ℕ)) (text line : List ℕ) → text ≡ line → told_lines bytes ≡ with_first (Some line) (told_lines bytes') → told_lines bytes ≡ with_first (Some text) (told_lines bytes')
+same_line bytes bytes' text line same told =
+    let P : List ℕ → Type 0 = λ l. told_lines bytes ≡ with_first (Some l) (told_lines bytes') in
+    subst P (sym same) told

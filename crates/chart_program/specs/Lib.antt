@@ -3,3 +3,4 @@ pub mod Slots
 pub mod Reads
 pub mod Plotted
 pub mod Ran
+pub mod Runs

@@ -3,11 +3,12 @@ use Rattle.std.specs.Prelude.{◌≡◌, ℕ, ◌+◌, List, [], ◌∷◌, take
 use Rattle.std.specs.Fmt.{decimal}
 use Rattle.chart_grid.specs.Limits.{IsSide}
 use Rattle.chart_program.specs.declared.words.Command.{Command}
-use Rattle.chart_program.specs.declared.words.Command.TheVariants.{Plot}
+use Rattle.chart_program.specs.declared.words.Command.TheVariants.{Plot, Run}
 
--- the words spell the command: `plot W H`, two numbers from 1 to 4,096
+-- the words spell the command: `plot W H`, two numbers from 1 to 4,096, or `run`
 abbrev pub Spells : Command → List (List ℕ) → Type 0
 Spells (Plot w h) words = (words ≡ codes "plot" ∷ decimal w ∷ decimal h ∷ []) × IsSide w × IsSide h
+Spells Run words = words ≡ codes "run" ∷ []
 
 -- the first words, so many of them, are those that some command begins with
 pub record Begins (count : ℕ) (words : List (List ℕ)) : Type 0 where

@@ -10,6 +10,8 @@
 
 mod input;
 mod plot;
+mod reply_text;
+mod run;
 mod slot;
 mod status;
 #[cfg(test)]

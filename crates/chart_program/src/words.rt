@@ -1,4 +1,4 @@
-ghost use Rattle.std.specs.Prelude.{◌≡◌, ◌↔◌, ℕ, IsTrue, map, None, Some, MatchOption, string_bytes, slice_get, IfOk, IfErr, IfSome, IfNone};
+ghost use Rattle.std.specs.Prelude.{◌≡◌, ◌↔◌, ℕ, IsTrue, map, None, Some, MatchOption, string_bytes, slice_get, IfOk, IfErr, IfSome, IfNone, codes};
 ghost use Rattle.std.specs.Fmt.{decimal};
 ghost use Rattle.chart_grid.specs.Limits.{IsSide};
 ghost use Rattle.chart_program.specs.Words.{Spells, IsWrongAt};
@@ -10,6 +10,8 @@ use whole_number::natural;
 pub enum Command {
     /// A picture of the input's numbers, `w` columns wide and `h` rows high, each 1 to 4,096.
     Plot { w: u16, h: u16 },
+    /// The replies to the input's lines, over a book that begins empty.
+    Run,
 }
 
 /// The command that the words spell, or the place of the first wrong word: the number of words, where
@@ -18,9 +20,24 @@ pub fn command_of(words: &[String]) -> Result<Command, u64>
     ensures command { IfOk result (λ command. Spells command (map string_bytes words.now)) }
     ensures wrong { IfErr result (λ place. IsWrongAt place (map string_bytes words.now)) }
 {
-    if !is_word(words, 0, "plot") {
+    if is_word(words, 0, "plot") {
+        return plot_of(words);
+    }
+    if !is_word(words, 0, "run") {
         return Err(0);
     }
+    if words.len() > 1 {
+        return Err(1);
+    }
+    Ok(Command::Run)
+}
+
+/// The plot that the words spell, or the place of the first wrong word.
+fn plot_of(words: &[String]) -> Result<Command, u64>
+    requires { slice_get (map string_bytes words.now) 0 ≡ Some (codes "plot") }
+    ensures command { IfOk result (λ command. Spells command (map string_bytes words.now)) }
+    ensures wrong { IfErr result (λ place. IsWrongAt place (map string_bytes words.now)) }
+{
     let Some(w) = side_at(words, 1) else {
         return Err(1);
     };

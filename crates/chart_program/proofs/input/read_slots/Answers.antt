@@ -4,7 +4,7 @@ use Rattle.chart_world.specs.Reading.{Reading, unread, told_lines, with_first}
 use Rattle.plain_chart.specs.Samples.{IsSlot}
 use Rattle.chart_program.specs.declared.input.InputEnd.{InputEnd}
 use Rattle.chart_program.specs.Reads.{end_of, Stops, AddsLine, IsNotAdded}
-use Rattle.chart_program.proofs.Progress.{Progress}
+use Rattle.chart_program.proofs.Progress.{Progress, same_line}
 use Rattle.chart_program.proofs.Ending.{start_so, end_so, bad_so, too_long_bad, not_added_so, fault_so, error_so, line_so, values_so, few_so}
 use Rattle.chart_program.proofs.input.read_slots.Goals as goal
 
@@ -45,12 +45,6 @@ returns-in_err-next-clause-ends g c =
     c.in_err-next.ensures.left_on_err c.lines.invariant.counted c.in_err-next.ensures.total c.lines.invariant.progress in
     let S : InputEnd → Type 0 = λ e. IfSome (g.S.Streams.left c.args.from.now) (λ input. Stops input (g.S.Streams.left c.next.new.from) e) in
     error_so _ _ c.from_residual-in_err-next.result c.from_residual-in_err-next.ensures.1 (λ e is. subst S (sym is) stops)
-
--- what the lines' last line is, in the words of the line that is passed on
-same_line : (bytes bytes' : Option (List ℕ)) (text line : List ℕ) → text ≡ line → told_lines bytes ≡ with_first (Some line) (told_lines bytes') → told_lines bytes ≡ with_first (Some text) (told_lines bytes')
-same_line bytes bytes' text line same told =
-    let P : List ℕ → Type 0 = λ l. told_lines bytes ≡ with_first (Some l) (told_lines bytes') in
-    subst P (sym same) told
 
 pub returns-in_err-add_line-in-Line-clause-ends : goal.returns-in_err-add_line-in-Line-clause-ends
 returns-in_err-add_line-in-Line-clause-ends g c =

@@ -1,5 +1,5 @@
 use Rattle.std.proofs.Common.{arith, refl}
-use Rattle.chart_program.proofs.Codes.{plot_codes, complete_so}
+use Rattle.chart_program.proofs.Codes.{plot_codes, complete_so, run_codes, run_complete, run_not_bad, told_all, told_both}
 use Rattle.chart_program.proofs.top.chart.Goals as goal
 
 pub returns-in-Err-clause-codes : goal.returns-in-Err-clause-codes
@@ -11,4 +11,12 @@ returns-in-Ok-Plot-clause-codes g c = plot_codes c.plot_status-status.result.cod
 pub returns-in-Ok-Plot-clause-complete : goal.returns-in-Ok-Plot-clause-complete
 returns-in-Ok-Plot-clause-complete g c =
     let e = c.plot_status-status.ensures in
-    complete_so (g.W.Streams.left c.args.world) c.plot_status-status.result.code c.plot_status-status.result.place _ _ _ e.codes e.read e.send e.bad e.much
+    complete_so (g.W.Streams.left c.args.world) c.plot_status-status.result.code c.plot_status-status.result.place _ _ _ c.in-Ok-Plot.field-0 _ _ _ c.in-Ok-Plot.field-0-is c.in-Ok-Plot.ensures.command e.codes e.read e.send e.bad e.much
+
+pub returns-in-Ok-Run-clause-codes : goal.returns-in-Ok-Run-clause-codes
+returns-in-Ok-Run-clause-codes g c = run_codes c.run_status-status.result.code c.run_status-status.ensures.codes
+
+pub returns-in-Ok-Run-clause-complete : goal.returns-in-Ok-Run-clause-complete
+returns-in-Ok-Run-clause-complete g c =
+    let e = c.run_status-status.ensures in
+    run_complete (g.W.Streams.left c.args.world) _ _ c.run_status-status.result.code _ c.in-Ok-Run.field-0 _ _ _ c.in-Ok-Run.field-0-is c.in-Ok-Run.ensures.command e.codes e.read e.send e.past

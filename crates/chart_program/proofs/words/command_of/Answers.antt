@@ -1,34 +1,17 @@
 use Rattle.std.proofs.Common.{◌<◌, ◌≤◌, length, map, arith}
 use Rattle.std.specs.Prelude.{Bool, true, false, string_bytes, ◌≡◌}
 use Rattle.std.proofs.lemmas.List.{length-map}
-use Rattle.chart_program.proofs.Commands.{wrong_first, wrong_second, wrong_third, wrong_fourth, right}
+use Rattle.chart_program.proofs.Commands.{wrong_first, wrong_behind, right_run}
 use Rattle.chart_program.proofs.words.command_of.Goals as goal
 
-not_both : (b : Bool) → b ≡ false → b ≡ true → ⊥
-not_both b first second = cc
+not_so : (b : Bool) → b ≡ false → b ≡ true → ⊥
+not_so b first second = cc
 
 pub returns-then-not-is_word-clause-wrong : goal.returns-then-not-is_word-clause-wrong
 returns-then-not-is_word-clause-wrong c =
-    wrong_first (map string_bytes c.args.words.now) (λ is. not_both c.is_word.result c.if-not-is_word.true (c.is_word.ensures.1 is))
-
-pub returns-in_default-clause-wrong : goal.returns-in_default-clause-wrong
-returns-in_default-clause-wrong c =
-    wrong_second (map string_bytes c.args.words.now) (c.is_word.ensures.0 c.if-not-is_word.false) c.in_default.ensures.none
-
-pub returns-in_default-side_at-clause-wrong : goal.returns-in_default-side_at-clause-wrong
-returns-in_default-side_at-clause-wrong c =
-    wrong_third (map string_bytes c.args.words.now) c.in-Some.w c.in-Some.ensures.found.0 (c.is_word.ensures.0 c.if-not-is_word.false) c.in-Some.ensures.found.1 c.in_default-side_at.ensures.none
-
-pub returns-then-words-gt3-clause-wrong : goal.returns-then-words-gt3-clause-wrong
-returns-then-words-gt3-clause-wrong c =
-    let many : 3 < length (map string_bytes c.args.words.now) = omega (arith, c.if-words-gt3.true, length-map c.args.words.now string_bytes) in
-    wrong_fourth (map string_bytes c.args.words.now) c.in-Some.w c.in-Some-side_at.h c.in-Some.ensures.found.0 c.in-Some-side_at.ensures.found.0
-    (c.is_word.ensures.0 c.if-not-is_word.false) c.in-Some.ensures.found.1 c.in-Some-side_at.ensures.found.1 many
+    wrong_first (map string_bytes c.args.words.now) (λ is. not_so c.is_word.result c.if-is_word.false (c.is_word.ensures.1 is)) (λ is. not_so c.is_word-2.result c.if-not-is_word.true (c.is_word-2.ensures.1 is))
 
 pub returns-clause-command : goal.returns-clause-command
 returns-clause-command c =
-    let few : length (map string_bytes c.args.words.now) ≤ 3 = omega (arith, c.if-words-gt3.false, length-map c.args.words.now string_bytes) in (
-      right (map string_bytes c.args.words.now) c.in-Some.w c.in-Some-side_at.h (c.is_word.ensures.0 c.if-not-is_word.false) c.in-Some.ensures.found.1 c.in-Some-side_at.ensures.found.1 few,
-      c.in-Some.ensures.found.0,
-      c.in-Some-side_at.ensures.found.0,
-    )
+    let few : length (map string_bytes c.args.words.now) ≤ 1 = omega (arith, c.if-words-gt1.false, length-map c.args.words.now string_bytes) in
+    right_run (map string_bytes c.args.words.now) (c.is_word-2.ensures.0 c.if-not-is_word.false) few

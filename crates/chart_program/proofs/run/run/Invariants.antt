@@ -1,0 +1,18 @@
+use Rattle.std.proofs.Common.{◌≡◌, ◌+◌, ◌-◌, ◌^◌, ◌≤◌, length, IsTrue, IfSome}
+use Rattle.chart_world.specs.Reading.{unread, input_length}
+use Rattle.chart_program.proofs.Answering.{RunProgress}
+use Rattle.chart_program.proofs.run.run.Given as goal
+
+-- the lines given so far are answered
+abbrev pub invariant-lines : goal.invariant-lines
+invariant-lines g l = record {
+  usable : IsTrue l.lines.usable;
+  counted : l.lines.taken ≡ l.lines.given + length l.lines.pending;
+  within : l.lines.given ≤ 2 ^ 32;
+  progress : IfSome (g.S.Streams.left l.initial.streams) (λ input. RunProgress input (unread l.lines (g.S.Streams.left l.streams)) l.lines.given l.service (g.S.Streams.sent l.initial.streams) (g.S.Streams.sent l.streams));
+  read_faults : g.S.Streams.read_faults l.initial.streams ≤ g.S.Streams.read_faults l.streams;
+  send_faults : g.S.Streams.send_faults l.initial.streams ≤ g.S.Streams.send_faults l.streams;
+}
+
+abbrev pub decreases-lines : goal.decreases-lines
+decreases-lines g l = 2 ^ 32 - l.lines.given

@@ -1,0 +1,69 @@
+ghost use Rattle.std.specs.Prelude.{◌≡◌, IfOk, Some};
+ghost use Rattle.series_book.specs.Books.{IsSeries};
+ghost use Rattle.plain_chart.specs.Samples.{IsSeries as IsAxis};
+ghost use Rattle.chart_service.specs.State.{State};
+ghost use Rattle.chart_service.specs.Replies.{axis_of, ShowsSeries, ViewsSeries};
+ghost use Rattle.chart_service.specs.Viewing.{IsGridFor};
+
+use crate::failure::NoMemory;
+use crate::replies::Reply;
+use crate::viewport::Viewport;
+use chart_grid::{Axis, Grid, GridError};
+use line_raster::Bitmap;
+use plain_chart::{draw, range_of};
+use series_book::{Refusal, Series};
+use std::alloc::Global;
+
+/// The reply to a view of this series in an open session: the picture, or the first refusal that
+/// stands.
+pub(crate) fn view_series(
+    alloc: Global,
+    series: &Series,
+    session: u32,
+    viewport: Viewport,
+) -> Result<Reply, NoMemory>
+    requires { IsSeries series.now }
+    ensures { IfOk result (λ reply. (state : State) → ViewsSeries (Some series.now) session viewport.w viewport.h viewport.t0 viewport.t1 reply state state) }
+{
+    match grid_of(viewport) {
+        Err(GridError::BadWindow) => Ok(Reply::Refused(Refusal::BadWindow)),
+        Err(GridError::BadCanvas) => Ok(Reply::Refused(Refusal::BadCanvas)),
+        Ok(grid) => {
+            let bitmap = chart_of(alloc, grid, series)?;
+            Ok(Reply::Viewed { session, bitmap })
+        }
+    }
+}
+
+/// The grid that a view asks for.
+fn grid_of(viewport: Viewport) -> Result<Grid, GridError>
+    ensures { IsGridFor viewport result }
+{
+    Grid::new(viewport.t0, viewport.t1, viewport.w, viewport.h)
+}
+
+/// The chart of a series on a grid.
+fn chart_of(alloc: Global, grid: Grid, series: &Series) -> Result<Bitmap, NoMemory>
+    requires { IsSeries series.now }
+    ensures { IfOk result (ShowsSeries series.now grid.w grid.h grid.t0 grid.t1) }
+{
+    let slots = series.slots.as_slice();
+    let axis = axis_of(series);
+    let range = range_of(grid, axis, slots);
+    let mut bitmap = Bitmap::new(alloc, grid.w(), grid.h())?;
+    draw(&mut bitmap, grid, axis, slots, range);
+    Ok(bitmap)
+}
+
+/// The times of a series' slots.
+fn axis_of(series: &Series) -> Axis
+    requires { IsSeries series.now }
+    ensures axis { result ≡ axis_of series.now }
+    ensures in_range { IsAxis result }
+{
+    Axis {
+        start: series.start,
+        step: series.step,
+        slots: series.slots.as_slice().len() as u64,
+    }
+}

@@ -1,0 +1,4 @@
+pub mod NumberLemmas
+pub mod TokenLemmas
+pub mod GrammarLemmas
+pub mod RowLemmas

@@ -1,0 +1,4 @@
+pub mod Tokens
+pub mod Numbers
+pub mod Grammar
+pub mod Requests

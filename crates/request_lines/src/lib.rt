@@ -1,0 +1,30 @@
+//! Request lines and the requests that they spell.
+//!
+//! A line is a list of tokens with exactly one space between two of them, so that two spaces, or one
+//! at an end, make an empty token. The first token names the kind of the line, and each place after
+//! it allows certain tokens:
+//!
+//!     create NAME START STEP SCALE        append NAME V V ..
+//!     set NAME T V V ..                   clear NAME T COUNT
+//!     open N [CACHE]                      view N NAME W H T0 T1 RANGE
+//!
+//! A line that isn't so is refused at the first token that its place doesn't allow. Lines of more
+//! than 8,192 bytes are left to the layer above, as is what a request does.
+#![tactic(auto)]
+
+pub mod line_errors;
+pub mod line_kinds;
+pub mod lines;
+pub mod numbers;
+pub mod places;
+pub mod ranges;
+mod readers;
+pub mod requests;
+
+pub use line_errors::LineError;
+pub use lines::parse_line;
+pub use ranges::RangeWord;
+pub use requests::Request;
+
+#[cfg(test)]
+mod tests;

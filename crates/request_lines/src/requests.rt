@@ -1,0 +1,24 @@
+use crate::ranges::RangeWord;
+use series_book::{Edit, Name};
+
+/// What a line asks for.
+#[derive(Debug, Drop)]
+pub enum Request {
+    /// A change of the book.
+    Edit(Edit),
+    /// Opens a session with a cache of this many coefficients, or of 65,536.
+    Open {
+        session: u32,
+        cache: Option<u64>,
+    },
+    /// A view of one series on a canvas of w by h pixels over the window from t0 to t1.
+    View {
+        session: u32,
+        name: Name,
+        w: u64,
+        h: u64,
+        t0: i128,
+        t1: i128,
+        range: RangeWord,
+    },
+}

@@ -1,0 +1,4 @@
+pub mod PageLemmas
+pub mod SlotLemmas
+pub mod BookLemmas
+pub mod EditLemmas

@@ -1,0 +1,5 @@
+pub mod Names
+pub mod Refusals
+pub mod Pages
+pub mod Edits
+pub mod Books

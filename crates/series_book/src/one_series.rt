@@ -1,0 +1,32 @@
+ghost use Rattle.std.specs.Prelude.{◌≡◌, []};
+
+use crate::names::Name;
+use crate::slot_list::Slots;
+use std::alloc::Global;
+
+/// A series. Slot i stands at the time `start + i * step`; a whole number v in it means
+/// `v / 10^scale`.
+#[derive(Debug, Drop)]
+pub struct Series {
+    pub name: Name,
+    pub start: i64,
+    pub step: u32,
+    pub scale: u8,
+    pub slots: Slots,
+}
+
+impl Series {
+    /// A series without slots.
+    pub(crate) fn empty(alloc: Global, name: Name, start: i64, step: u32, scale: u8) -> Series
+        ensures { result ≡ record { name = name; start = start; step = step; scale = scale; slots = [] } }
+    {
+        let slots = Slots::from_vec(Vec::new(alloc));
+        Series {
+            name,
+            start,
+            step,
+            scale,
+            slots,
+        }
+    }
+}

@@ -1,0 +1,6 @@
+/// What an edit answers.
+#[derive(Clone, Copy, Debug, PartialEq, Eq)]
+pub struct Outcome {
+    /// The number of slots of the series after the edit.
+    pub slots: u64,
+}
