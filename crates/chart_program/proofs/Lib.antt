@@ -3,6 +3,5 @@ pub mod Entries
 pub mod Progress
 pub mod Ending
 pub mod Commands
-pub mod Charted
 pub mod Codes
 pub mod Answering

@@ -2,7 +2,8 @@
 //!
 //! `chart` takes the words of a command and a world, does the command and answers with a status. Its
 //! clauses say which bytes were sent for which input, and when each status comes. What a command
-//! computes stands in the crates below: here the input's lines become slots, and words a command.
+//! computes stands in the crates below: here words become a command, the lines of `plot` slots, and
+//! the replies of `run` text.
 //!
 //! `main` leaves out the first word, which is the path of a store, and gives `chart` standard input
 //! and output. Nothing is claimed of `main` but that it is safe and ends.

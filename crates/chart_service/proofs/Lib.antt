@@ -1,2 +1,1 @@
-pub mod Charted
 pub mod Viewed

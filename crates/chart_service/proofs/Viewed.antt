@@ -11,7 +11,7 @@ use Rattle.plain_chart.specs.declared.value_range.ValueRange.{ValueRange}
 use Rattle.plain_chart.specs.Samples.{IsSlot, IsRange, kept, values_of}
 use Rattle.plain_chart.specs.Chart.{IsChart, places}
 use Rattle.chart_service.specs.Replies.{ShowsSeries, axis_of}
-use Rattle.chart_service.proofs.Charted.{charted}
+use Rattle.plain_chart.proofs.Charted.{charted}
 
 -- a slot of a book's series is one that a chart may draw
 slot_fits : (slot : Option ℤ) → is_too_large slot ≡ false → IsSlot slot

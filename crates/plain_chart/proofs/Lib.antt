@@ -3,3 +3,4 @@ pub mod Widening
 pub mod Rastering
 pub mod Places
 pub mod Slots
+pub mod Charted

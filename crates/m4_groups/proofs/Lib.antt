@@ -1,0 +1,13 @@
+pub mod Vertical
+pub mod DrawnRows
+pub mod Monotone
+pub mod Pushed
+pub mod Along
+pub mod Values
+pub mod Sets
+pub mod Unique
+pub mod Gathering
+pub mod Sizes
+pub mod Painted
+pub mod Whole
+pub mod Drawable

@@ -1,0 +1,21 @@
+use Rattle.std.specs.Prelude.{ℤ, ◌≡◌, ◌<ℤ◌, List, Option, map, length, slice_get, ◌-◌, IfSome}
+use Rattle.chart_grid.specs.declared.grid.Grid.{Grid}
+use Rattle.m4_groups.specs.declared.row.Row.{Row}
+use Rattle.m4_groups.specs.Points.{AreInOrder}
+use Rattle.m4_groups.specs.Rows.{AreRowsOf}
+
+-- what was gathered of a list of points: its rows so far, and the time of its last point
+pub record Gathered : Type 0 where
+  pub grid : Grid
+  pub rows : List Row
+  pub latest : Option ℤ
+
+-- the time t is later than all that was gathered
+abbrev pub IsLater : Gathered → ℤ → Type 0
+IsLater s t = IfSome s.latest (λ u. u <ℤ t)
+
+-- s is what was gathered of these points
+pub record IsGathered (points : List (ℤ × ℤ)) (s : Gathered) : Type 0 where
+  pub order : AreInOrder s.grid points
+  pub rows : AreRowsOf s.grid points s.rows
+  pub latest : s.latest ≡ slice_get (map (λ p. p.0) points) (length points - 1)

@@ -1,0 +1,6 @@
+pub mod Points
+pub mod Rows
+pub mod Heights
+pub mod Gathered
+pub mod Folded
+pub mod Drawn
