@@ -8,9 +8,10 @@ use Rattle.chart_grid.specs.declared.axis.Axis.{Axis}
 use Rattle.line_raster.specs.Canvas.{Canvas, Adds, IsBlank}
 use Rattle.line_raster.specs.Raster.{InRaster}
 use Rattle.plain_chart.specs.declared.value_range.ValueRange.{ValueRange}
-use Rattle.plain_chart.specs.Samples.{IsSlot, IsRange, kept, values_of}
+use Rattle.plain_chart.specs.Samples.{IsSlot, kept, values_of}
 use Rattle.plain_chart.specs.Chart.{IsChart, places}
-use Rattle.chart_service.specs.Replies.{ShowsSeries, axis_of}
+use Rattle.request_lines.specs.declared.ranges.RangeWord.{RangeWord}
+use Rattle.chart_service.specs.Replies.{ShowsSeries, ShowsRange, axis_of}
 use Rattle.plain_chart.proofs.Charted.{charted}
 
 -- a slot of a book's series is one that a chart may draw
@@ -22,8 +23,8 @@ pub slots_fit : (slots : List (Option ℤ)) → All (λ value. is_too_large valu
 slots_fit slots small = λ k d below. slot_fits _ (small k d below)
 
 -- what shows a series on a grid shows it over the grid's window and canvas
-pub shown_over : (series : Series) (g : Grid) (w h : ℕ) (t0 t1 : ℤ) (drawing : Canvas) → ShowsWindow g t0 t1 → HasCanvas g w h → ShowsSeries series g.w g.h g.t0 g.t1 drawing → ShowsSeries series w h t0 t1 drawing
-shown_over series g w h t0 t1 drawing window canvas shows = record {
+pub shown_over : (series : Series) (word : RangeWord) (g : Grid) (w h : ℕ) (t0 t1 : ℤ) (drawing : Canvas) → ShowsWindow g t0 t1 → HasCanvas g w h → ShowsSeries series word g.w g.h g.t0 g.t1 drawing → ShowsSeries series word w h t0 t1 drawing
+shown_over series word g w h t0 t1 drawing window canvas shows = record {
   grid = shows.grid;
   window = record { from = shows.window.from ∙ window.from; to = shows.window.to ∙ window.to };
   canvas = record { columns = shows.canvas.columns ∙ canvas.columns; rows = shows.canvas.rows ∙ canvas.rows };
@@ -33,10 +34,10 @@ shown_over series g w h t0 t1 drawing window canvas shows = record {
 }
 
 -- a blank canvas on which the samples of a series are drawn shows the series
-pub shows_so : (series : Series) (g : Grid) (axis : Axis) (slots : List (Option ℤ)) (range : ValueRange) (blank drawn : Canvas) (w h : ℕ) → axis ≡ axis_of series → slots ≡ series.slots → HasCanvas g w h → IsRange (values_of (kept g axis slots)) range → IsBlank w h blank → Adds (λ x y. InRaster (places g range (kept g axis slots)) x (pos y)) blank drawn → ShowsSeries series g.w g.h g.t0 g.t1 drawn
-shows_so series g axis slots range blank drawn w h axis_is slots_are canvas spanned is_blank adds =
-    let spans : IsRange (values_of (kept g (axis_of series) series.slots)) range =
-    subst (λ s. IsRange (values_of (kept g (axis_of series) s)) range) slots_are (subst (λ a. IsRange (values_of (kept g a slots)) range) axis_is spanned) in
+pub shows_so : (series : Series) (word : RangeWord) (g : Grid) (axis : Axis) (slots : List (Option ℤ)) (range : ValueRange) (blank drawn : Canvas) (w h : ℕ) → axis ≡ axis_of series → slots ≡ series.slots → HasCanvas g w h → ShowsRange word (values_of (kept g axis slots)) range → IsBlank w h blank → Adds (λ x y. InRaster (places g range (kept g axis slots)) x (pos y)) blank drawn → ShowsSeries series word g.w g.h g.t0 g.t1 drawn
+shows_so series word g axis slots range blank drawn w h axis_is slots_are canvas spanned is_blank adds =
+    let spans : ShowsRange word (values_of (kept g (axis_of series) series.slots)) range =
+    subst (λ s. ShowsRange word (values_of (kept g (axis_of series) s)) range) slots_are (subst (λ a. ShowsRange word (values_of (kept g a slots)) range) axis_is spanned) in
     let chart : IsChart g range (kept g (axis_of series) series.slots) drawn =
     subst (λ s. IsChart g range (kept g (axis_of series) s) drawn) slots_are (subst (λ a. IsChart g range (kept g a slots) drawn) axis_is (charted g range (kept g axis slots) blank drawn w h canvas is_blank adds)) in
     record {

@@ -5,13 +5,14 @@
 //! - It answers one request at a time. A refused request is answered by the first refusal that
 //!   stands, in the order of the refusals' numbers, and changes nothing.
 //! - A view draws every segment between consecutive samples of one series, over the range from the
-//!   least to the greatest value that the window keeps.
+//!   least to the greatest value that the window keeps, or over one that is asked for.
 //!
 //! After want of memory the state is as it was. How lines are cut from the input, how replies are
 //! written, and what is to be done where a line is too long, is left to the layer above.
 #![tactic(auto)]
 
 mod failure;
+mod ranges;
 mod replies;
 mod service;
 mod sessions;

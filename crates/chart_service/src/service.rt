@@ -59,7 +59,7 @@ impl Service {
                 h,
                 t0,
                 t1,
-                range: RangeWord::Auto,
+                range,
             } => self.view(
                 *session,
                 name,
@@ -69,6 +69,7 @@ impl Service {
                     t0: *t0,
                     t1: *t1,
                 },
+                *range,
             ),
         }
     }
@@ -119,8 +120,14 @@ impl Service {
     }
 
     /// Answers a view.
-    fn view(&self, session: u32, name: &Name, viewport: Viewport) -> Result<Reply, NoMemory>
-        ensures { IfOk result (λ reply. Views (is_open session self.now.sessions) session name.now viewport.w viewport.h viewport.t0 viewport.t1 reply self.now self.now) }
+    fn view(
+        &self,
+        session: u32,
+        name: &Name,
+        viewport: Viewport,
+        word: RangeWord,
+    ) -> Result<Reply, NoMemory>
+        ensures { IfOk result (λ reply. Views (is_open session self.now.sessions) session name.now viewport.w viewport.h viewport.t0 viewport.t1 word reply self.now self.now) }
     {
         if !is_open(&self.sessions, session) {
             return Ok(Reply::Refused(Refusal::UnknownSession));
@@ -129,7 +136,7 @@ impl Service {
         let Some(id) = book.find(name) else {
             return Ok(Reply::Refused(Refusal::UnknownSeries));
         };
-        view_series(self.alloc, book.series(id), session, viewport)
+        view_series(self.alloc, book.series(id), session, viewport, word)
     }
 }
 

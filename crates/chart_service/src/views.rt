@@ -2,15 +2,17 @@ ghost use Rattle.std.specs.Prelude.{◌≡◌, IfOk, Some};
 ghost use Rattle.series_book.specs.Books.{IsSeries};
 ghost use Rattle.plain_chart.specs.Samples.{IsSeries as IsAxis};
 ghost use Rattle.chart_service.specs.State.{State};
-ghost use Rattle.chart_service.specs.Replies.{axis_of, ShowsSeries, ViewsSeries};
+ghost use Rattle.chart_service.specs.Replies.{axis_of, IsGoodRange, ShowsSeries, ViewsSeries};
 ghost use Rattle.chart_service.specs.Viewing.{IsGridFor};
 
 use crate::failure::NoMemory;
+use crate::ranges::{is_bad_range, shown_range};
 use crate::replies::Reply;
 use crate::viewport::Viewport;
 use chart_grid::{Axis, Grid, GridError};
 use line_raster::Bitmap;
-use plain_chart::{draw, range_of};
+use plain_chart::draw;
+use request_lines::RangeWord;
 use series_book::{Refusal, Series};
 use std::alloc::Global;
 
@@ -21,15 +23,19 @@ pub(crate) fn view_series(
     series: &Series,
     session: u32,
     viewport: Viewport,
+    word: RangeWord,
 ) -> Result<Reply, NoMemory>
     requires { IsSeries series.now }
-    ensures { IfOk result (λ reply. (state : State) → ViewsSeries (Some series.now) session viewport.w viewport.h viewport.t0 viewport.t1 reply state state) }
+    ensures { IfOk result (λ reply. (state : State) → ViewsSeries (Some series.now) session viewport.w viewport.h viewport.t0 viewport.t1 word reply state state) }
 {
     match grid_of(viewport) {
         Err(GridError::BadWindow) => Ok(Reply::Refused(Refusal::BadWindow)),
         Err(GridError::BadCanvas) => Ok(Reply::Refused(Refusal::BadCanvas)),
         Ok(grid) => {
-            let bitmap = chart_of(alloc, grid, series)?;
+            if is_bad_range(word) {
+                return Ok(Reply::Refused(Refusal::BadRange));
+            }
+            let bitmap = chart_of(alloc, grid, series, word)?;
             Ok(Reply::Viewed { session, bitmap })
         }
     }
@@ -42,14 +48,15 @@ fn grid_of(viewport: Viewport) -> Result<Grid, GridError>
     Grid::new(viewport.t0, viewport.t1, viewport.w, viewport.h)
 }
 
-/// The chart of a series on a grid.
-fn chart_of(alloc: Global, grid: Grid, series: &Series) -> Result<Bitmap, NoMemory>
-    requires { IsSeries series.now }
-    ensures { IfOk result (ShowsSeries series.now grid.w grid.h grid.t0 grid.t1) }
+/// The chart of a series on a grid, over the range that a word asks for.
+fn chart_of(alloc: Global, grid: Grid, series: &Series, word: RangeWord) -> Result<Bitmap, NoMemory>
+    requires series { IsSeries series.now }
+    requires good { IsGoodRange word }
+    ensures { IfOk result (ShowsSeries series.now word grid.w grid.h grid.t0 grid.t1) }
 {
     let slots = series.slots.as_slice();
     let axis = axis_of(series);
-    let range = range_of(grid, axis, slots);
+    let range = shown_range(grid, axis, slots, word);
     let mut bitmap = Bitmap::new(alloc, grid.w(), grid.h())?;
     draw(&mut bitmap, grid, axis, slots, range);
     Ok(bitmap)

@@ -8,10 +8,10 @@ use Rattle.request_lines.specs.declared.line_kinds.LineKind.{LineKind}
 use Rattle.request_lines.specs.declared.line_errors.LineError.{LineError}
 use Rattle.request_lines.specs.declared.line_errors.LineError.TheVariants.{BadLine, NoMemory}
 use Rattle.request_lines.specs.declared.ranges.RangeWord.{RangeWord}
-use Rattle.request_lines.specs.declared.ranges.RangeWord.TheVariants.{Auto}
 use Rattle.request_lines.specs.declared.requests.Request.{Request}
 use Rattle.request_lines.specs.declared.requests.Request.TheVariants.{Edit as EditRequest, Open, View}
 use Rattle.request_lines.specs.Numbers.{natural_value, integer_value}
+use Rattle.request_lines.specs.Ranges.{range_of}
 use Rattle.request_lines.specs.Tokens.{tokens, Cursor, tokens_left, next_token, past_token}
 use Rattle.request_lines.specs.Grammar.{Ending, kind_of, form_of, fault, tokens_fault, fault_of, Takes, Misses, MissesEnd}
 use Rattle.request_lines.specs.Requests.{value_of, create_of, append_of, set_of, clear_of, open_of, view_of, request_of, named, Reads, IsRequest, RefusesLine, read_line, ReadsAs}
@@ -124,7 +124,7 @@ pub view_is : (c0 c1 c2 c3 c4 c5 c6 c7 : Cursor) (session : ℕ) (name : List �
     → Takes Session c0 c1 → Takes Name c1 c2 → Takes Natural c2 c3 → Takes Natural c3 c4 → Takes Integer c4 c5 → Takes Integer c5 c6
     → Takes Range c6 c7 → tokens_left c7 ≡ []
     → session ≡ natural_value (next_token c0) → name ≡ next_token c1 → w ≡ natural_value (next_token c2) → h ≡ natural_value (next_token c3)
-    → t0 ≡ integer_value (next_token c4) → t0' ≡ t0 → t1 ≡ integer_value (next_token c5) → t1' ≡ t1 → range ≡ Auto
+    → t0 ≡ integer_value (next_token c4) → t0' ≡ t0 → t1 ≡ integer_value (next_token c5) → t1' ≡ t1 → range ≡ range_of (next_token c6)
     → view_of (tokens_left c0) ≡ Some (View session name w h t0' t1' range)
 unfolding view_of
 view_is c0 c1 c2 c3 c4 c5 c6 c7 session name w h t0 t0' t1 t1' range s0 s1 s2 s3 s4 s5 s6 none session_is name_is w_is h_is t0_is t0_told t1_is t1_told range_is =

@@ -8,6 +8,7 @@ use Rattle.request_lines.specs.declared.places.Place.TheVariants.{Name, Start, S
 use Rattle.request_lines.specs.declared.line_kinds.LineKind.{LineKind}
 use Rattle.request_lines.specs.declared.line_kinds.LineKind.TheVariants.{Create, Append, Set, Clear, Open, View}
 use Rattle.request_lines.specs.Numbers.{is_natural, natural_value, is_integer, integer_value}
+use Rattle.request_lines.specs.Ranges.{is_range}
 use Rattle.request_lines.specs.Tokens.{tokens, Cursor, tokens_left, next_token, past_token}
 use Rattle.request_lines.specs.declared.line_errors.LineError.{LineError}
 use Rattle.request_lines.specs.declared.line_errors.LineError.TheVariants.{BadLine, NoMemory}
@@ -28,7 +29,7 @@ allows Integer token = is_integer token
 allows Value token = is_integer token || bytes_eq token (codes "-")
 allows Natural token = is_natural token
 allows Session token = is_natural token && nat_le 1 (natural_value token) && nat_le (natural_value token) 4294967295
-allows Range token = bytes_eq token (codes "auto")
+allows Range token = is_range token
 
 -- what may follow the fixed places of a line
 pub data Ending : Type 0 where

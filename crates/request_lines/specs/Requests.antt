@@ -3,12 +3,12 @@ use Rattle.std.specs.Str.{bytes_eq}
 use Rattle.series_book.specs.declared.edits.Edit.TheVariants.{Create, Append, Set, Clear}
 use Rattle.series_book.specs.Names.{is_name}
 use Rattle.series_book.specs.Edits.{IsEdit}
-use Rattle.request_lines.specs.declared.ranges.RangeWord.TheVariants.{Auto}
 use Rattle.request_lines.specs.declared.requests.Request.{Request}
 use Rattle.request_lines.specs.declared.requests.Request.TheVariants.{Edit as EditRequest, Open, View}
 use Rattle.request_lines.specs.declared.line_errors.LineError.{LineError}
 use Rattle.request_lines.specs.declared.line_errors.LineError.TheVariants.{BadLine, NoMemory}
 use Rattle.request_lines.specs.Numbers.{natural_value, integer_value}
+use Rattle.request_lines.specs.Ranges.{range_of}
 use Rattle.request_lines.specs.Tokens.{tokens, Cursor, tokens_left}
 use Rattle.request_lines.specs.declared.line_kinds.LineKind.{LineKind}
 use Rattle.request_lines.specs.declared.line_kinds.LineKind.TheVariants.{Create as CreateLine, Append as AppendLine, Set as SetLine, Clear as ClearLine, Open as OpenLine, View as ViewLine}
@@ -48,7 +48,7 @@ open_of _ = None
 -- the request that the tokens after `view` name
 unfoldable pub view_of : List (List ℕ) → Option Request
 view_of (session ∷ name ∷ w ∷ h ∷ t0 ∷ t1 ∷ range ∷ []) =
-    Some (View (natural_value session) name (natural_value w) (natural_value h) (integer_value t0) (integer_value t1) Auto)
+    Some (View (natural_value session) name (natural_value w) (natural_value h) (integer_value t0) (integer_value t1) (range_of range))
 view_of _ = None
 
 -- the request that the tokens after the first word of a line name, by the line's kind

@@ -3,6 +3,7 @@ ghost use Rattle.request_lines.specs.Numbers.{is_natural, natural_value};
 ghost use Rattle.request_lines.specs.Grammar.{allows, is_digit_token};
 
 use crate::numbers::{integer_value, is_integer, is_natural, natural_value};
+use crate::ranges::is_range;
 use series_book::limits::{GREATEST_START, GREATEST_STEP};
 use series_book::names::is_name;
 
@@ -25,7 +26,7 @@ pub enum Place {
     Natural,
     /// A natural number from 1 to 2^32 - 1.
     Session,
-    /// The word `auto`.
+    /// The word `auto`, or an integer, two points and an integer.
     Range,
 }
 
@@ -45,7 +46,7 @@ impl Place {
             Place::Value => is_integer(token) || token == b"-".as_slice(),
             Place::Natural => is_natural(token),
             Place::Session => is_between(token, 1, u64::from(u32::MAX)),
-            Place::Range => token == b"auto".as_slice(),
+            Place::Range => is_range(token),
         }
     }
 }

@@ -5,6 +5,7 @@ ghost use Rattle.series_book.specs.Names.{is_name};
 ghost use Rattle.series_book.specs.declared.limits.TheConstants.{GREATEST_START, GREATEST_STEP, GREATEST_SCALE};
 ghost use Rattle.request_lines.specs.declared.places.Place.TheVariants.{Name as NamePlace, Start, Step, Scale, Integer, Value, Natural, Session, Range};
 ghost use Rattle.request_lines.specs.Numbers.{is_integer, natural_value, integer_value};
+ghost use Rattle.request_lines.specs.Ranges.{range_of};
 ghost use Rattle.request_lines.specs.Tokens.{is_space, tokens_left, next_token, past_token};
 ghost use Rattle.request_lines.specs.Grammar.{fault, Takes, Misses, MissesEnd, nothing, one_or_more, value_place};
 ghost use Rattle.request_lines.specs.Requests.{value_of};
@@ -12,7 +13,7 @@ ghost use Rattle.request_lines.specs.Requests.{value_of};
 use crate::line_errors::LineError;
 use crate::numbers::{integer_value, natural_value};
 use crate::places::Place;
-use crate::ranges::RangeWord;
+use crate::ranges::{RangeWord, range_of};
 use series_book::{Name, Values};
 use std::alloc::Global;
 use std::marker::Model;
@@ -159,12 +160,13 @@ impl<'a> Reader<'a> {
     }
 
     /// Takes a range.
+    #[tactic(auto, unfolding(crate::specs::Grammar::allows))]
     pub(crate) fn range(&mut self) -> Result<RangeWord, LineError>
-        ensures ok { IfOk result (λ range. Takes Range self.old self.new × (range ≡ RangeWord.Auto)) }
+        ensures ok { IfOk result (λ range. Takes Range self.old self.new × (range ≡ range_of (next_token self.old))) }
         ensures err { IfErr result (Misses Range self.old) }
     {
-        self.token(Place::Range)?;
-        Ok(RangeWord::Auto)
+        let token = self.token(Place::Range)?;
+        Ok(range_of(token))
     }
 
     /// Takes all tokens that are left, one at least, as values; missing ones only where they may be.

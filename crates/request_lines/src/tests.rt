@@ -41,7 +41,14 @@ fn finds_faults(rt: HostRuntime) -> Result<(), Fail> {
         ("open 1 0", None),
         ("open 1 2 3", Some(9)),
         ("view 1 a 4 4 0 5 auto", None),
-        ("view 1 a 4 4 0 5 3..2", Some(17)),
+        ("view 1 a 4 4 0 5 3..2", None),
+        ("view 1 a 4 4 0 5 -5..-1", None),
+        ("view 1 a 4 4 0 5 3.2", Some(17)),
+        ("view 1 a 4 4 0 5 3...2", Some(17)),
+        ("view 1 a 4 4 0 5 ..2", Some(17)),
+        ("view 1 a 4 4 0 5 3..", Some(17)),
+        ("view 1 a 4 4 0 5 -0..2", Some(17)),
+        ("view 1 a 4 4 0 5 autos", Some(17)),
         ("view 1 a 4 4 0 5 auto where t >", Some(22)),
     ];
     for (text, want) in rows {
@@ -68,7 +75,7 @@ fn reads_requests(rt: HostRuntime) -> Result<(), Fail> {
     assert_eq!(rt; name.as_slice(), b"a.b".as_slice());
     let want = [Some(9_999_999_999_999_999_999), None, Some(-7), Some(0)];
     assert_eq!(rt; values.as_slice(), want.as_slice());
-    let view = parse_line(rt.alloc(), b"view 3 temp 675 300 -5 86400 auto")?;
+    let view = parse_line(rt.alloc(), b"view 3 temp 675 300 -5 86400 0..-10")?;
     let Request::View {
         session,
         w,
@@ -82,6 +89,6 @@ fn reads_requests(rt: HostRuntime) -> Result<(), Fail> {
         return Err(Fail::from("view"));
     };
     assert_eq!(rt; (session, w, h, t0, t1), (3, 675, 300, -5, 86_400));
-    assert_eq!(rt; range, RangeWord::Auto);
+    assert_eq!(rt; range, RangeWord::Fixed { lo: 0, hi: -10 });
     Ok(())
 }
