@@ -6,8 +6,33 @@
 //! gives laws: so something may stand beside the streams later, on one clock with them.
 #![tactic(auto)]
 
+mod back;
+mod clocked;
+mod count_one;
+mod disk;
 mod failed;
+mod file_disk;
+mod fuse_disk;
+mod mem_calls;
+mod mem_disk;
+mod mem_made;
+mod no_disk;
+mod no_memory;
 mod streams;
+mod tear;
+mod world;
 
+pub use back::Back;
+pub use clocked::Clocked;
+pub use disk::{BLOCK, Disk};
 pub use failed::Failed;
+pub use file_disk::FileDisk;
+pub use fuse_disk::FuseDisk;
+pub use mem_disk::MemDisk;
+pub use no_memory::NoMemory;
 pub use streams::Streams;
+pub use tear::Tear;
+pub use world::World;
+
+#[cfg(test)]
+mod tests;

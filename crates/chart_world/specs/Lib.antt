@@ -4,3 +4,9 @@ pub mod Place
 pub mod Reading
 pub mod Worlds
 pub mod Laws
+pub mod Beside
+pub mod BesideKept
+pub mod Sends
+pub mod SentOn
+pub mod SendMoments
+pub mod Timed

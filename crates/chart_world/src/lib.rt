@@ -12,9 +12,12 @@ mod gather;
 mod laws;
 mod line_answer;
 mod lines;
+mod mem_beside;
+mod mem_streams;
 mod mem_world;
 mod no_memory;
 mod place;
+mod sent_log;
 mod std_world;
 
 pub use laws::lines_join_back;

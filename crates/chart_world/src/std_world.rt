@@ -1,9 +1,11 @@
 //! Standard input and output.
 ghost use Rattle.std.proofs.Common.{◌∙◌};
 ghost use Rattle.std.specs.Prelude.{◌≡◌, None, refl};
+ghost use Rattle.chart_world.specs.Beside.{beside, streams};
+ghost use Rattle.chart_world.specs.BesideKept.{disk_kept, disk_passes, disk_sent};
 
 use crate::count_one::count_one;
-use block_disk::{Failed, Streams};
+use block_disk::{Disk, Failed, Streams, World};
 use std::io;
 use std::io::{Read, Write};
 
@@ -82,4 +84,48 @@ impl<R: Input + Print + Drop, D: Drop> Streams for StdWorld<R, D> {
     ghost sends_more = { λ count more old new at_most same. same };
 
     ghost sends_then = { λ first second old between new one two. two ∙ one };
+}
+
+impl<R: Input + Print + Drop, D: Disk> Disk for StdWorld<R, D> {
+    ghost view = { λ world. beside (D.view world.disk) (streams None None world.read_faults world.send_faults world.pieces) };
+
+    fn blocks(&mut self) -> Result<u32, Failed> {
+        self.disk.blocks()
+    }
+
+    fn read_block(&mut self, no: u32, out: &mut [u8]) -> Result<(), Failed> {
+        self.disk.read_block(no, out)
+    }
+
+    fn write_block(&mut self, no: u32, from: &[u8]) -> Result<(), Failed> {
+        self.disk.write_block(no, from)
+    }
+
+    fn sync(&mut self) -> Result<(), Failed> {
+        self.disk.sync()
+    }
+}
+
+impl<R: Input + Print + Drop, D: Disk> World for StdWorld<R, D> {
+    ghost beside_left = { λ world. refl };
+
+    ghost beside_sent = { λ world. refl };
+
+    ghost beside_read_faults = { λ world. refl };
+
+    ghost beside_send_faults = { λ world. refl };
+
+    ghost beside_pieces = { λ world. refl };
+
+    ghost counts_sent = { λ world. tt };
+
+    ghost take_keeps = { λ old new same. disk_kept D.view old.disk new.disk _ _ same };
+
+    ghost take_passes = { λ old new same. disk_passes D.view old.disk new.disk _ _ _ _ same };
+
+    ghost send_keeps = { λ most old new same. disk_kept D.view old.disk new.disk _ _ same };
+
+    ghost send_passes = { λ most old new same. disk_passes D.view old.disk new.disk _ _ _ _ same };
+
+    ghost send_counts = { λ most old new same. disk_sent D.view old.disk new.disk most same };
 }

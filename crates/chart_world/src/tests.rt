@@ -3,7 +3,7 @@ ghost use Rattle.std.specs.Prelude.{◌≡◌, ◌≤◌, ◌+◌, ◌*◌, leng
 ghost use Rattle.block_disk.specs.Counts.{HasRisen};
 
 use super::*;
-use block_disk::{Failed, Streams};
+use block_disk::{Disk, Failed, MemDisk, Streams};
 use std::alloc::Global;
 use std::fmt::Write;
 use std::test::Fail;
@@ -115,12 +115,14 @@ fn send_times<S: Streams>(to: &mut S, piece: &[u8], times: u32) -> Result<(), Fa
 fn a_send_fails(rt: HostRuntime) -> Result<(), Fail> {
     let alloc = rt.alloc();
     let fails = vec![in alloc; 2]?;
-    let mut world = MemWorld::new(alloc, 7, Vec::new(alloc), Vec::new(alloc), fails)?;
+    let disk = MemDisk::new(alloc, 2, Vec::new(alloc))?;
+    let mut world = MemWorld::new(alloc, disk, Vec::new(alloc), Vec::new(alloc), fails)?;
     assert_eq!(rt; send_times(&mut world, b"abcd", 2), Ok(()));
     assert_eq!(rt; send_times(&mut world, b"efgh", 3), Err(Failed));
     assert_eq!(rt; world.sent(), b"abcdabcdef".as_slice());
     assert_eq!(rt; send_times(&mut world, b"z", 1), Ok(()));
     assert_eq!(rt; world.sent(), b"abcdabcdefz".as_slice());
-    assert_eq!(rt; world.into_disk(), 7);
+    assert_eq!(rt; world.blocks(), Ok(2));
+    assert_eq!(rt; world.into_disk().calls(), 1);
     Ok(())
 }

@@ -1,0 +1,4 @@
+pub mod Blocks
+pub mod MemMoves
+pub mod Passing
+pub mod Tears
