@@ -42,10 +42,10 @@ impl From<chart_world::NoMemory> for InputEnd {
     }
 }
 
-impl From<line_raster::NoMemory> for InputEnd {
+impl From<row_chart::NoMemory> for InputEnd {
     ghost from_gives = { λ _ e. e ≡ NoMemory };
 
-    fn from(_error: line_raster::NoMemory) -> InputEnd {
+    fn from(_error: row_chart::NoMemory) -> InputEnd {
         InputEnd::NoMemory
     }
 }

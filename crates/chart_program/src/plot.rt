@@ -9,9 +9,9 @@ ghost use Rattle.chart_program.specs.declared.plot.PlotEnd.TheVariants.{Input};
 use crate::input::{InputEnd, MOST_SLOTS, read_slots};
 use block_disk::Streams;
 use chart_grid::{Axis, Grid};
-use line_raster::Bitmap;
 use pbm_writer::pbm;
-use plain_chart::{draw, range_of};
+use plain_chart::range_of;
+use row_chart::chart_by_rows;
 use std::alloc::Global;
 use thiserror::Error;
 
@@ -68,8 +68,7 @@ fn picture_of(alloc: Global, w: u16, h: u16, slots: &[Option<i64>]) -> Result<Ve
         slots: slots.len() as u64,
     };
     let range = range_of(grid, axis, slots);
-    let mut bitmap = Bitmap::new(alloc, w, h)?;
-    draw(&mut bitmap, grid, axis, slots, range);
+    let bitmap = chart_by_rows(alloc, grid, axis, slots, range)?;
     Ok(pbm(alloc, &bitmap)?)
 }
 

@@ -5,14 +5,12 @@ use Rattle.series_book.specs.declared.one_series.Series.{Series}
 use Rattle.chart_grid.specs.declared.grid.Grid.{Grid}
 use Rattle.chart_grid.specs.Projection.{ShowsWindow, HasCanvas}
 use Rattle.chart_grid.specs.declared.axis.Axis.{Axis}
-use Rattle.line_raster.specs.Canvas.{Canvas, Adds, IsBlank}
-use Rattle.line_raster.specs.Raster.{InRaster}
+use Rattle.line_raster.specs.Canvas.{Canvas}
 use Rattle.plain_chart.specs.declared.value_range.ValueRange.{ValueRange}
 use Rattle.plain_chart.specs.Samples.{IsSlot, kept, values_of}
-use Rattle.plain_chart.specs.Chart.{IsChart, places}
+use Rattle.plain_chart.specs.Chart.{IsChart}
 use Rattle.request_lines.specs.declared.ranges.RangeWord.{RangeWord}
 use Rattle.chart_service.specs.Replies.{ShowsSeries, ShowsRange, axis_of}
-use Rattle.plain_chart.proofs.Charted.{charted}
 
 -- a slot of a book's series is one that a chart may draw
 slot_fits : (slot : Option ℤ) → is_too_large slot ≡ false → IsSlot slot
@@ -33,13 +31,13 @@ shown_over series word g w h t0 t1 drawing window canvas shows = record {
   chart = shows.chart;
 }
 
--- a blank canvas on which the samples of a series are drawn shows the series
-pub shows_so : (series : Series) (word : RangeWord) (g : Grid) (axis : Axis) (slots : List (Option ℤ)) (range : ValueRange) (blank drawn : Canvas) (w h : ℕ) → axis ≡ axis_of series → slots ≡ series.slots → HasCanvas g w h → ShowsRange word (values_of (kept g axis slots)) range → IsBlank w h blank → Adds (λ x y. InRaster (places g range (kept g axis slots)) x (pos y)) blank drawn → ShowsSeries series word g.w g.h g.t0 g.t1 drawn
-shows_so series word g axis slots range blank drawn w h axis_is slots_are canvas spanned is_blank adds =
+-- the chart of the samples of a series shows the series
+pub shows_so : (series : Series) (word : RangeWord) (g : Grid) (axis : Axis) (slots : List (Option ℤ)) (range : ValueRange) (drawn : Canvas) → axis ≡ axis_of series → slots ≡ series.slots → ShowsRange word (values_of (kept g axis slots)) range → IsChart g range (kept g axis slots) drawn → ShowsSeries series word g.w g.h g.t0 g.t1 drawn
+shows_so series word g axis slots range drawn axis_is slots_are spanned charted =
     let spans : ShowsRange word (values_of (kept g (axis_of series) series.slots)) range =
     subst (λ s. ShowsRange word (values_of (kept g (axis_of series) s)) range) slots_are (subst (λ a. ShowsRange word (values_of (kept g a slots)) range) axis_is spanned) in
     let chart : IsChart g range (kept g (axis_of series) series.slots) drawn =
-    subst (λ s. IsChart g range (kept g (axis_of series) s) drawn) slots_are (subst (λ a. IsChart g range (kept g a slots) drawn) axis_is (charted g range (kept g axis slots) blank drawn w h canvas is_blank adds)) in
+    subst (λ s. IsChart g range (kept g (axis_of series) s) drawn) slots_are (subst (λ a. IsChart g range (kept g a slots) drawn) axis_is charted) in
     record {
       grid = g;
       window = record { from = refl; to = refl };

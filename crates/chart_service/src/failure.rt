@@ -18,8 +18,8 @@ impl<T: Drop> From<AllocFailed<T>> for NoMemory {
     }
 }
 
-impl From<line_raster::NoMemory> for NoMemory {
-    fn from(_error: line_raster::NoMemory) -> NoMemory {
+impl From<row_chart::NoMemory> for NoMemory {
+    fn from(_error: row_chart::NoMemory) -> NoMemory {
         NoMemory
     }
 }

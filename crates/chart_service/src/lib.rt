@@ -4,8 +4,8 @@
 //!   open, in the order of their opening: at most 16, each with a cache of 1 to 131,072.
 //! - It answers one request at a time. A refused request is answered by the first refusal that
 //!   stands, in the order of the refusals' numbers, and changes nothing.
-//! - A view draws every segment between consecutive samples of one series, over the range from the
-//!   least to the greatest value that the window keeps, or over one that is asked for.
+//! - A view draws the samples of one series that its window keeps, each joined to the next, over the
+//!   range from the least to the greatest of their values, or over one that is asked for.
 //!
 //! After want of memory the state is as it was. How lines are cut from the input, how replies are
 //! written, and what is to be done where a line is too long, is left to the layer above.

@@ -38,6 +38,7 @@ pub(crate) fn shown_range(
     requires values { All IsSlot slots.now }
     ensures shown { ShowsRange word (values_of (kept grid axis slots.now)) result }
     ensures scale { IsScale result }
+    ensures high { IsValue result.hi }
 {
     match word {
         RangeWord::Auto => range_of(grid, axis, slots),

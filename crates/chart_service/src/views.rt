@@ -1,4 +1,4 @@
-ghost use Rattle.std.specs.Prelude.{◌≡◌, IfOk, Some};
+ghost use Rattle.std.specs.Prelude.{◌≡◌, ◌<◌, IfOk, Some};
 ghost use Rattle.series_book.specs.Books.{IsSeries};
 ghost use Rattle.plain_chart.specs.Samples.{IsSeries as IsAxis};
 ghost use Rattle.chart_service.specs.State.{State};
@@ -11,8 +11,8 @@ use crate::replies::Reply;
 use crate::viewport::Viewport;
 use chart_grid::{Axis, Grid, GridError};
 use line_raster::Bitmap;
-use plain_chart::draw;
 use request_lines::RangeWord;
+use row_chart::chart_by_rows;
 use series_book::{Refusal, Series};
 use std::alloc::Global;
 
@@ -57,8 +57,7 @@ fn chart_of(alloc: Global, grid: Grid, series: &Series, word: RangeWord) -> Resu
     let slots = series.slots.as_slice();
     let axis = axis_of(series);
     let range = shown_range(grid, axis, slots, word);
-    let mut bitmap = Bitmap::new(alloc, grid.w(), grid.h())?;
-    draw(&mut bitmap, grid, axis, slots, range);
+    let bitmap = chart_by_rows(alloc, grid, axis, slots, range)?;
     Ok(bitmap)
 }
 
@@ -67,6 +66,7 @@ fn axis_of(series: &Series) -> Axis
     requires { IsSeries series.now }
     ensures axis { result ≡ axis_of series.now }
     ensures in_range { IsAxis result }
+    ensures step { 0 < result.step }
 {
     Axis {
         start: series.start,

@@ -2,6 +2,7 @@ pub mod Vertical
 pub mod DrawnRows
 pub mod Monotone
 pub mod Pushed
+pub mod Ends
 pub mod Along
 pub mod Values
 pub mod Sets

@@ -1,8 +1,7 @@
 -- The rows of points, with a point after the last.
-use Rattle.std.proofs.Common.{ℕ, ℤ, zero, ◌≢◌, subst, ◌≡◌, arith, refl, suc, length, get_or, set, ap, ap₂, sym, ◌∙◌, List, [], ◌∷◌, ◌++◌, Bool, true, false, cond, ◌==◌, eqb-true, eq-eqb}
+use Rattle.std.proofs.Common.{ℕ, ℤ, zero, subst, ◌≡◌, arith, refl, suc, length, get_or, set, ap, ap₂, sym, ◌∙◌, List, [], ◌∷◌, ◌++◌, Bool, true, false, cond, ◌==◌, eqb-true, eq-eqb}
 use Rattle.std.specs.Int.{int_min, int_max}
 use Rattle.std.proofs.lemmas.Int.{ints, clamps}
-use Rattle.std.proofs.lemmas.List.{get_or_default}
 use Rattle.line_raster.specs.declared.position.Point.{Point}
 use Rattle.m4_groups.specs.declared.row.Row.{Row}
 use Rattle.m4_groups.specs.Folded.{row_of_one, row_from, put_first, rows_from, row_to, end_with, put_last}
@@ -97,29 +96,3 @@ put_last-same (a ∷ []) (suc n) s r l e same = absurd (omega (arith, l))
 put_last-same (a ∷ (b ∷ rs)) zero s r l e same = absurd (omega (arith, l))
 put_last-same (a ∷ (b ∷ rs)) (suc n) s r l e same =
     ap (λ q. a ∷ q) (put_last-same (b ∷ rs) n s r (omega (arith, l)) e same)
-
--- a point of another column gets a row of its own
-pub put_last-other : (rs : List Row) (n : ℕ) (s : Point) (r : Row) → length rs ≡ suc n → r ≡ get_or rs n r → s.x ≢ r.column → put_last rs s ≡ rs ++ row_of_one s ∷ []
-put_last-other [] n s r l e other = absurd (omega (arith, l))
-put_last-other (a ∷ []) zero s r l e other =
-    let away : s.x ≢ a.column = λ f. other (f ∙ ap (λ q. q.column) (sym e)) in
-    at_false (s.x == a.column) _ _ (apart s.x a.column away)
-  where
-    apart : (x y : ℕ) → x ≢ y → (x == y) ≡ false
-    apart x y n = grind arith
-put_last-other (a ∷ []) (suc n) s r l e other = absurd (omega (arith, l))
-put_last-other (a ∷ (b ∷ rs)) zero s r l e other = absurd (omega (arith, l))
-put_last-other (a ∷ (b ∷ rs)) (suc n) s r l e other =
-    ap (λ q. a ∷ q) (put_last-other (b ∷ rs) n s r (omega (arith, l)) e other)
-
--- the rows of no point, with one
-pub put_last-none : (rs : List Row) (s : Point) → length rs ≡ 0 → put_last rs s ≡ rs ++ row_of_one s ∷ []
-put_last-none [] s l = refl
-put_last-none (r ∷ rs) s l = absurd (omega (arith, l))
-
--- what the code wrote into the last row
-pub written_last : (rs : List Row) (n : ℕ) (s : Point) (r q : Row) → length rs ≡ suc n → r ≡ get_or rs n r → q ≡ get_or rs n q → s.x ≡ r.column → set rs n (row_to q s.y) ≡ put_last rs s
-written_last rs n s r q l er eq same =
-    let one : q ≡ r = eq ∙ get_or_default rs n q r (omega (arith, l)) ∙ sym er in
-    let P : Row → Type 0 = λ t. set rs n (row_to t s.y) ≡ put_last rs s in
-    subst P (sym one) (sym (put_last-same rs n s r l er same))

@@ -3,4 +3,5 @@ pub mod Rows
 pub mod Heights
 pub mod Gathered
 pub mod Folded
+pub mod Spanned
 pub mod Drawn

@@ -1,8 +1,9 @@
-ghost use Rattle.std.specs.Prelude.{◌≡◌, ℤ, List, [], ◌∷◌, ◌++◌, IfOk, OnOk, OnErr, Some};
-ghost use Rattle.chart_grid.specs.Projection.{InWindow};
-ghost use Rattle.m4_groups.specs.Gathered.{Gathered, IsGathered, IsLater};
+ghost use Rattle.std.specs.Prelude.{◌≡◌, ◌≢◌, ℕ, ℤ, ◌<◌, ◌↔◌, List, [], ◌∷◌, ◌++◌, IfOk, OnOk, OnErr, Some, IsTrue, vec_len};
+ghost use Rattle.chart_grid.specs.Projection.{InWindow, column};
+ghost use Rattle.m4_groups.specs.Gathered.{Gathered, IsGathered, IsLater, with_point};
 ghost use Rattle.m4_groups.specs.Rows.{AreRowsOf};
 ghost use Rattle.m4_groups.specs.Folded.{put_last};
+ghost use Rattle.m4_groups.specs.Spanned.{last_column};
 
 use crate::no_memory::NoMemory;
 use crate::row::Row;
@@ -17,12 +18,21 @@ pub struct Groups {
     grid: Grid,
     latest: Option<i64>,
     rows: Vec<Row>,
+    // Where the last row's column begins, and where it ends.
+    from: i64,
+    next: i64,
 }
 
 impl Model for Groups {
+    ghost use Rattle.m4_groups.specs.Gathered.{Gathered};
+
     ghost Value = { Gathered };
 
+    ghost use Rattle.m4_groups.specs.Spanned.{IsSpanned};
+
     ghost view = { λ g. record { grid = g.grid; rows = g.rows.items; latest = g.latest } };
+
+    ghost invariant = { IsSpanned };
 }
 
 impl Groups {
@@ -37,6 +47,8 @@ impl Groups {
             grid,
             latest: None,
             rows,
+            from: 0,
+            next: 0,
         })
     }
 
@@ -50,9 +62,45 @@ impl Groups {
         ensures latest { OnOk result (self.new.latest ≡ Some t) }
         ensures unchanged { OnErr result (self.new ≡ self.old) }
     {
-        add(&mut self.rows, self.grid.column_of(t), v)?;
+        if self.is_in_last(t) {
+            self.extend(t, v);
+            return Ok(());
+        }
+        self.begin(t, v)?;
+        Ok(())
+    }
+
+    // Takes in a point of the last row's column.
+    fn extend(&mut self, t: i64, v: i64)
+        requires shown { InWindow self.old.grid t }
+        requires own { last_column self.old.rows ≡ Some (column self.old.grid t) }
+        ensures { self.new ≡ with_point self.old t v }
+    {
+        extend_last(&mut self.rows, v);
+        self.latest = Some(t);
+    }
+
+    // Takes in a point of another column, which gets a row.
+    fn begin(&mut self, t: i64, v: i64) -> Result<(), NoMemory>
+        requires shown { InWindow self.old.grid t }
+        requires other { last_column self.old.rows ≢ Some (column self.old.grid t) }
+        ensures begun { OnOk result (self.new ≡ with_point self.old t v) }
+        ensures unchanged { OnErr result (self.new ≡ self.old) }
+    {
+        let column = self.grid.column_of(t);
+        self.rows.push(Row::of_one(column, v))?;
+        self.from = self.grid.border(column);
+        self.next = self.grid.border(column + 1);
         self.latest = Some(t);
         Ok(())
+    }
+
+    // Whether the last row is that of the time's column. It takes no division.
+    fn is_in_last(&self, t: i64) -> bool
+        requires { InWindow self.now.grid t }
+        ensures { IsTrue result ↔ (last_column self.now.rows ≡ Some (column self.now.grid t)) }
+    {
+        self.from <= t && t < self.next
     }
 
     /// The rows of the points: one for each column that has a point, in rising order of columns, with
@@ -65,16 +113,12 @@ impl Groups {
     }
 }
 
-// Takes in a value of the last row's column or of a later one.
-fn add(rows: &mut Vec<Row>, column: u16, v: i64) -> Result<(), NoMemory>
-    ensures added { OnOk result (rows.new.items ≡ put_last rows.old.items (record { x = column; y = v })) }
-    ensures unchanged { OnErr result (rows.new.items ≡ rows.old.items) }
+// Takes in a value of the last row's column.
+fn extend_last(rows: &mut Vec<Row>, v: i64)
+    requires { 0 < vec_len rows.old }
+    ensures { (column : ℕ) → last_column rows.old.items ≡ Some column →
+        rows.new.items ≡ put_last rows.old.items (record { x = column; y = v }) }
 {
-    let count = rows.len();
-    if count > 0 && rows[count - 1].column == column {
-        rows[count - 1].extend(v);
-        return Ok(());
-    }
-    rows.push(Row::of_one(column, v))?;
-    Ok(())
+    let last = rows.len() - 1;
+    rows[last].extend(v);
 }

@@ -1,6 +1,3 @@
-use Rattle.std.proofs.Common.{◌≡◌, ℕ, List, ◌∙◌, sym, subst, refl, arith}
-use Rattle.plain_chart.specs.Chart.{IsChart}
-use Rattle.plain_chart.proofs.Charted.{charted}
 use Rattle.chart_program.proofs.plot.picture_of.Goals as goal
 
 pub returns-clause-plot : goal.returns-clause-plot
@@ -10,7 +7,7 @@ returns-clause-plot c = record {
   canvas = c.grid_of-grid.ensures.canvas;
   range = c.range_of-range.result;
   spanned = c.range_of-range.ensures.range;
-  drawing = c.draw.new.bitmap;
-  chart = charted _ _ _ c.in_ok-bitmap.bitmap c.draw.new.bitmap _ _ c.grid_of-grid.ensures.canvas c.in_ok-bitmap.ensures c.draw.ensures;
+  drawing = c.in_ok-bitmap.bitmap;
+  chart = c.in_ok-bitmap.ensures;
   bytes_are = c.in_ok-pbm.ensures.bytes;
 }

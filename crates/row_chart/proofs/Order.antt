@@ -1,0 +1,81 @@
+-- The samples that a view keeps come in order of time, as the points that rows are gathered of.
+use Rattle.std.proofs.Common.{◌≡◌, ℕ, ℤ, ◌+◌, ◌*◌, ◌<◌, ◌≤ℤ◌, ◌<ℤ◌, List, [], ◌∷◌, ◌++◌, length, take, get_or, Option, None, Some, true, false, IfSome, All, sym, ap, subst, ◌∙◌, refl, arith}
+use Rattle.std.proofs.lemmas.Int.{ints}
+use Rattle.std.proofs.lemmas.List.{map-append}
+use Rattle.std.proofs.lemmas.List.Elements.{All-nil, All-cons, All-weaker}
+use Rattle.std.proofs.lemmas.List.Kept.{AllPairs-cons}
+use Rattle.std.specs.Prelude.{if◌then◌else◌}
+use Rattle.std.specs.List.{enumerate_from, filter_map, cons_option}
+use Rattle.std.specs.Option.{option_to_list}
+use Rattle.chart_grid.specs.declared.grid.Grid.{Grid}
+use Rattle.chart_grid.specs.declared.axis.Axis.{Axis}
+use Rattle.chart_grid.specs.Projection.{InWindow}
+use Rattle.plain_chart.specs.declared.sample.Sample.{Sample}
+use Rattle.plain_chart.specs.Samples.{kept, kept_at, time_at, in_window}
+use Rattle.plain_chart.proofs.Keeping.{kept_more}
+use Rattle.m4_groups.specs.Points.{AreInOrder}
+use Rattle.m4_groups.specs.Gathered.{Gathered, IsGathered, IsLater}
+use Rattle.m4_groups.proofs.Gathering.{point-follows}
+use Rattle.row_chart.specs.Points.{points_of}
+
+-- the samples of these slots, the first of which is slot n
+abbrev pub kept_from : Grid → Axis → ℕ → List (Option ℤ) → List Sample
+kept_from g axis n slots = filter_map (kept_at g axis) (enumerate_from n slots)
+
+in_window-is : (g : Grid) (t : ℤ) → in_window g t ≡ true → InWindow g t
+in_window-is g t e = record { from = grind (arith, ints); to = grind (arith, ints) }
+
+-- what holds of the later slots' samples, with and without the first slot's in front, holds of all
+pub first_slot : (P : List Sample → Type 0) (g : Grid) (axis : Axis) (n : ℕ) (o : Option ℤ) (slots : List (Option ℤ)) → P (kept_from g axis (n + 1) slots) → ((v : ℤ) → o ≡ Some v → InWindow g (time_at axis n) → P (record { time = time_at axis n; value = v } ∷ kept_from g axis (n + 1) slots)) → P (kept_from g axis n (o ∷ slots))
+first_slot P g axis n None slots without with_it = without
+first_slot P g axis n (Some v) slots without with_it =
+    elim (in_window g (time_at axis n)) as (λ b. in_window g (time_at axis n) ≡ b → P (cons_option (if b then Some (record { time = time_at axis n; value = v }) else None) (kept_from g axis (n + 1) slots))) [
+      | true ↦ λ e. with_it v refl (in_window-is g (time_at axis n) e)
+      | false ↦ λ e. without
+    ] refl
+
+time-later : (axis : Axis) (n : ℕ) → 0 < axis.step → time_at axis n <ℤ time_at axis (n + 1)
+time-later axis n some =
+    let e : (n + 1) * axis.step ≡ n * axis.step + axis.step = omega arith in
+    omega (arith, ints, e, some)
+
+-- no sample is earlier than the first slot
+earliest : (g : Grid) (axis : Axis) (n : ℕ) (slots : List (Option ℤ)) → 0 < axis.step → All (λ p. time_at axis n ≤ℤ p.0) (points_of (kept_from g axis n slots))
+earliest g axis n [] some = All-nil (λ p. time_at axis n ≤ℤ p.0)
+earliest g axis n (o ∷ slots) some =
+    let P : ℤ × ℤ → Type 0 = λ p. time_at axis n ≤ℤ p.0 in
+    let rest : All P (points_of (kept_from g axis (n + 1) slots)) =
+    All-weaker (λ p. time_at axis (n + 1) ≤ℤ p.0) P (λ p h. omega (arith, ints, h, time-later axis n some)) (points_of (kept_from g axis (n + 1) slots)) (earliest g axis (n + 1) slots some) in
+    first_slot (λ l. All P (points_of l)) g axis n o slots rest
+    (λ v is window. All-cons P (time_at axis n, v) (points_of (kept_from g axis (n + 1) slots)) (omega (arith, ints)) rest)
+
+-- the samples come in order of time, and each lies in the window
+pub kept-in_order : (g : Grid) (axis : Axis) (n : ℕ) (slots : List (Option ℤ)) → 0 < axis.step → AreInOrder g (points_of (kept_from g axis n slots))
+kept-in_order g axis n [] some = record { shown = All-nil (λ p. InWindow g p.0); rising = λ i j d less within. absurd (omega (arith, within)) }
+kept-in_order g axis n (o ∷ slots) some =
+    let rest = kept-in_order g axis (n + 1) slots some in
+    let points : List (ℤ × ℤ) = points_of (kept_from g axis (n + 1) slots) in
+    let later : All (λ p. time_at axis n <ℤ p.0) points =
+    All-weaker (λ p. time_at axis (n + 1) ≤ℤ p.0) (λ p. time_at axis n <ℤ p.0) (λ p h. omega (arith, ints, h, time-later axis n some)) points (earliest g axis (n + 1) slots some) in
+    first_slot (λ l. AreInOrder g (points_of l)) g axis n o slots rest
+    (λ v is window. record {
+      shown = All-cons (λ p. InWindow g p.0) (time_at axis n, v) points window rest.shown;
+      rising = AllPairs-cons (λ p q. p.0 <ℤ q.0) (time_at axis n, v) points later rest.rising;
+    })
+
+-- the points of one slot more are those so far and that slot's
+pub points_more : (g : Grid) (axis : Axis) (slots : List (Option ℤ)) (i : ℕ) (d : Option ℤ) (o : Option Sample) → i < length slots → o ≡ kept_at g axis (i, get_or slots i d) → points_of (kept g axis (take (i + 1) slots)) ≡ points_of (kept g axis (take i slots)) ++ points_of (option_to_list o)
+points_more g axis slots i d o inside is =
+    ap (λ l. points_of l) (kept_more g axis slots i d inside)
+    ∙ map-append (λ s. (s.time, s.value)) (kept g axis (take i slots)) (option_to_list (kept_at g axis (i, get_or slots i d)))
+    ∙ ap (λ x. points_of (kept g axis (take i slots)) ++ points_of (option_to_list x)) (sym is)
+
+-- the next slot's sample may be taken in
+pub sample-follows : (g : Grid) (axis : Axis) (slots : List (Option ℤ)) (i : ℕ) (d : Option ℤ) (o : Option Sample) (s : Gathered) → 0 < axis.step → i < length slots → o ≡ kept_at g axis (i, get_or slots i d) → s.grid ≡ g → IsGathered (points_of (kept g axis (take i slots))) s → IfSome o (λ t. InWindow s.grid t.time × IsLater s t.time)
+sample-follows g axis slots i d None s some inside is grid gathered = tt
+sample-follows g axis slots i d (Some t) s some inside is grid gathered =
+    let O : List (ℤ × ℤ) → Type 0 = λ l. AreInOrder g l in
+    let G : Grid → Type 0 = λ k. AreInOrder k (points_of (kept g axis (take i slots)) ++ (t.time, t.value) ∷ []) in
+    point-follows s (points_of (kept g axis (take i slots))) t.time t.value
+    (subst G (sym grid) (subst O (points_more g axis slots i d (Some t) inside is) (kept-in_order g axis 0 (take (i + 1) slots) some)))
+    gathered
