@@ -48,6 +48,10 @@ IsBadFor true true s c = (IsProper (left_part s c) → ⊥) ⊎ (IsProper (right
 abbrev pub IsBad : Span → Coef → Type 0
 IsBad s c = IsBadFor c.left c.right s c
 
+-- the span, where it is proper
+abbrev pub proper_only : Span → Option Span
+proper_only s = if is_proper s then Some s else None
+
 -- both, where both are proper
 abbrev pub if_proper : Span → Span → Option (Option Span × Option Span)
 if_proper l r = if is_proper l && is_proper r then Some (Some l, Some r) else None

@@ -1,8 +1,10 @@
 -- What the walks answer, and how many keys they ask.
-use Rattle.std.specs.Prelude.{ℕ, ℤ, ◌≡◌, ◌+◌, ◌*◌, ◌<◌, ◌≤◌, ◌&&◌, ◌||◌, nat_le, nat_lt, if◌then◌else◌, List, Option, None, Some, IfSome}
+use Rattle.std.specs.Prelude.{ℕ, ℤ, ◌≡◌, ◌+◌, ◌*◌, ◌<◌, ◌≤◌, ◌⊎◌, ◌&&◌, ◌||◌, nat_le, if◌then◌else◌, List, Option, None, Some, IfSome}
 use Rattle.om3_coeff.specs.declared.key.Key.{Key}
 use Rattle.om3_coeff.specs.declared.span.Span.{Span}
-use Rattle.om3_coeff.specs.Keys.{first_slot, end_slot, height, IsKey}
+use Rattle.om3_coeff.specs.declared.places.Place.{Place}
+use Rattle.om3_coeff.specs.declared.places.Place.TheVariants.{Outside, Within, Cut}
+use Rattle.om3_coeff.specs.Keys.{first_slot, end_slot, height, IsKey, IsOver}
 use Rattle.om3_coeff.specs.Spans.{IsValue, IsProperIfAny, Holds, IsClear}
 use Rattle.om3_coeff.specs.View.{NodesView, known_of}
 
@@ -26,10 +28,22 @@ pub record IsReached (view : NodesView) (k : Key) (s : Option Span) : Type 0 whe
   pub proper : IsProperIfAny s
   pub known : view.tells → known_of view k ≡ Some s
 
--- The most keys at or below k that a walk over the slots from a on and below b asks, where it asks
--- only keys that an end of the range cuts: none outside and within the range, one on each level where
--- one end cuts, two where both do.
-unfoldable pub most_asks : ℕ → ℕ → Key → ℕ
-most_asks a b k =
-    if (nat_le (end_slot k) a || nat_le b (first_slot k)) || (nat_le a (first_slot k) && nat_le (end_slot k) b) then 0
-    else (if nat_le a (first_slot k) || nat_le (end_slot k) b then k.level else 2 * k.level)
+-- how a key's range lies to the slots from a on and below b
+abbrev pub IsPlace : ℕ → ℕ → Key → Place → Type 0
+IsPlace a b k Outside = (end_slot k ≤ a) ⊎ (b ≤ first_slot k)
+IsPlace a b k Within = (a ≤ first_slot k) × (end_slot k ≤ b)
+IsPlace a b k Cut = (a < end_slot k) × (first_slot k < b) × ((first_slot k < a) ⊎ (b < end_slot k))
+
+-- The most keys at or below one with this range that an end of the slots from a on and below b cuts:
+-- none where the range lies outside or within, one on each level where one end cuts it, two where both do.
+unfoldable pub cut_keys : ℕ → ℕ → ℕ → ℕ → ℕ → ℕ
+cut_keys a b first end level =
+    if (nat_le end a || nat_le b first) || (nat_le a first && nat_le end b) then 0
+    else (if nat_le a first || nat_le end b then level else 2 * level)
+
+abbrev pub most_cut : ℕ → ℕ → Key → ℕ
+most_cut a b k = cut_keys a b (first_slot k) (end_slot k) k.level
+
+-- between two asks nothing was asked, or the key asked last is k or lies below it
+abbrev pub StaysBelow : Key → Option Key → Option Key → Type 0
+StaysBelow k before now = (now ≡ before) ⊎ IsOver k now

@@ -1,7 +1,7 @@
-ghost use Rattle.std.specs.Prelude.{◌≡◌, ℤ, ◌+◌, ◌*◌, ◌≤◌, List, Option, IfOk, IfErr, IfSome};
-ghost use Rattle.om3_coeff.specs.Keys.{height};
-ghost use Rattle.om3_coeff.specs.View.{Agrees, HasCause};
-ghost use Rattle.om3_coeff.specs.Walks.{IsFirstStored, IsLastStored, IsSlotIn};
+ghost use Rattle.std.specs.Prelude.{◌≡◌, ℤ, ◌+◌, ◌*◌, ◌≤◌, min, max, List, Option, IfOk, IfErr, IfSome, IfNone, IsSome, OnOk};
+ghost use Rattle.om3_coeff.specs.Keys.{first_slot, end_slot, height};
+ghost use Rattle.om3_coeff.specs.View.{Agrees, HasCause, MayAsk};
+ghost use Rattle.om3_coeff.specs.Walks.{IsReached, IsFirstStored, IsLastStored, IsSlotIn, StaysBelow, most_cut};
 
 use crate::asking::ask;
 use crate::errors::NodeError;
@@ -39,7 +39,22 @@ fn first_below<N: Nodes>(
     span: Option<Span>,
     a: u64,
     b: u64,
-) -> Result<Option<(u64, i64)>, NodeError> {
+) -> Result<Option<(u64, i64)>, NodeError>
+    requires fit { (N.view nodes.old).fit }
+    requires reached { IsReached (N.view nodes.old) key span }
+    requires follows { MayAsk (N.view nodes.old) key }
+
+    ensures list { (list : List (Option ℤ)) → Agrees (N.view nodes.old) list → IfOk result (IsFirstStored list (max a (first_slot key)) (min b (end_slot key))) }
+    ensures slot { IfOk result (λ found. IfSome found (IsSlotIn (max a (first_slot key)) (min b (end_slot key)))) }
+    ensures fit { (N.view nodes.new).fit }
+    ensures kept { N.keeps nodes.old nodes.new }
+    ensures below { OnOk result (StaysBelow key (N.view nodes.old).asked (N.view nodes.new).asked) }
+    ensures reads { (N.view nodes.new).reads ≤ (N.view nodes.old).reads + (most_cut a b key + key.level) }
+    ensures none { IfOk result (λ found. IfNone found ((N.view nodes.new).reads ≤ (N.view nodes.old).reads + most_cut a b key)) }
+    ensures some { IfOk result (λ found. IsSome span → a ≤ first_slot key → end_slot key ≤ b → IsSome found) }
+    ensures faults { (N.view nodes.old).faults ≤ (N.view nodes.new).faults }
+    ensures cause { IfErr result (HasCause (N.view nodes.old) (N.view nodes.new)) }
+{
     let Some(span) = span else {
         return Ok(None);
     };
@@ -84,7 +99,22 @@ fn last_below<N: Nodes>(
     span: Option<Span>,
     a: u64,
     b: u64,
-) -> Result<Option<(u64, i64)>, NodeError> {
+) -> Result<Option<(u64, i64)>, NodeError>
+    requires fit { (N.view nodes.old).fit }
+    requires reached { IsReached (N.view nodes.old) key span }
+    requires follows { MayAsk (N.view nodes.old) key }
+
+    ensures list { (list : List (Option ℤ)) → Agrees (N.view nodes.old) list → IfOk result (IsLastStored list (max a (first_slot key)) (min b (end_slot key))) }
+    ensures slot { IfOk result (λ found. IfSome found (IsSlotIn (max a (first_slot key)) (min b (end_slot key)))) }
+    ensures fit { (N.view nodes.new).fit }
+    ensures kept { N.keeps nodes.old nodes.new }
+    ensures below { OnOk result (StaysBelow key (N.view nodes.old).asked (N.view nodes.new).asked) }
+    ensures reads { (N.view nodes.new).reads ≤ (N.view nodes.old).reads + (most_cut a b key + key.level) }
+    ensures none { IfOk result (λ found. IfNone found ((N.view nodes.new).reads ≤ (N.view nodes.old).reads + most_cut a b key)) }
+    ensures some { IfOk result (λ found. IsSome span → a ≤ first_slot key → end_slot key ≤ b → IsSome found) }
+    ensures faults { (N.view nodes.old).faults ≤ (N.view nodes.new).faults }
+    ensures cause { IfErr result (HasCause (N.view nodes.old) (N.view nodes.new)) }
+{
     let Some(span) = span else {
         return Ok(None);
     };

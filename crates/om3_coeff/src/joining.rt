@@ -1,7 +1,7 @@
-ghost use Rattle.std.specs.Prelude.{◌≡◌, ◌↔◌, Option, Some, None, Ok, IfOk, IsErr, OnErr, IsTrue, ◌≤ℤ◌, ◌+ℤ◌, ◌-ℤ◌};
+ghost use Rattle.std.specs.Prelude.{◌≡◌, ◌↔◌, ◌&&◌, ◌+ℤ◌, ◌-ℤ◌, if◌then◌else◌, is_some, Option, Some, None, Ok, IfOk, IfSome, IsErr, IsTrue, OnErr};
 ghost use Rattle.om3_coeff.specs.declared.span.Span.{Span};
-ghost use Rattle.om3_coeff.specs.Spans.{hull, IsProper, IsProperIfAny, is_proper};
-ghost use Rattle.om3_coeff.specs.Coefs.{coef_of, parts, IsBad};
+ghost use Rattle.om3_coeff.specs.Spans.{hull, IsValue, IsProperIfAny, is_proper};
+ghost use Rattle.om3_coeff.specs.Coefs.{coef_of, parts, proper_only, left_part, right_part, is_flat, IsBad};
 
 use crate::coef::Coef;
 use crate::errors::BadCoef;
@@ -32,29 +32,36 @@ pub fn split(span: Span, coef: Coef) -> Result<(Option<Span>, Option<Span>), Bad
     ensures proper { IfOk result (λ halves. IsProperIfAny halves.0 × IsProperIfAny halves.1) }
     ensures whole { IfOk result (λ halves. hull halves.0 halves.1 ≡ Some span) }
 {
-    match (coef.left, coef.right) {
-        (false, false) => Err(BadCoef),
-        (true, true) => both_parts(span, coef),
-        (left, _) => one_part(span, coef, left),
+    parts(span, coef).ok_or(BadCoef)
+}
+
+fn coef_of(left: Option<Span>, right: Option<Span>) -> Coef
+    requires left { IsProperIfAny left }
+    requires right { IsProperIfAny right }
+    ensures { result ≡ coef_of left right }
+{
+    match (left, right) {
+        (Some(left), Some(right)) => Coef {
+            left: true,
+            right: true,
+            dmin: difference(left.min, right.min),
+            dmax: difference(left.max, right.max),
+        },
+        (left, right) => Coef {
+            left: left.is_some(),
+            right: right.is_some(),
+            dmin: 0,
+            dmax: 0,
+        },
     }
 }
 
-fn coef_of(left: Option<Span>, right: Option<Span>) -> Coef {
-    let (dmin, dmax) = differences(left, right);
-    Coef {
-        left: left.is_some(),
-        right: right.is_some(),
-        dmin,
-        dmax,
-    }
-}
-
-// By how much the left span's ends exceed the right one's, where both are there.
-fn differences(left: Option<Span>, right: Option<Span>) -> (i64, i64) {
-    let (Some(left), Some(right)) = (left, right) else {
-        return (0, 0);
-    };
-    (left.min - right.min, left.max - right.max)
+fn difference(a: i64, b: i64) -> i64
+    requires first { IsValue a }
+    requires second { IsValue b }
+    ensures { result ≡ a -ℤ b }
+{
+    a - b
 }
 
 /// The span of both ranges together.
@@ -71,60 +78,123 @@ pub(crate) fn hull(left: Option<Span>, right: Option<Span>) -> Option<Span>
     }
 }
 
+// The spans of the two halves, where the coefficient splits the span.
+fn parts(span: Span, coef: Coef) -> Option<(Option<Span>, Option<Span>)>
+    ensures { result ≡ parts span coef }
+{
+    match (coef.left, coef.right) {
+        (false, false) => None,
+        (true, false) => left_alone(one_part(span, coef)),
+        (false, true) => right_alone(one_part(span, coef)),
+        (true, true) => both(left_part(span, coef), right_part(span, coef)),
+    }
+}
+
+// Both, where both are there.
+fn both(left: Option<Span>, right: Option<Span>) -> Option<(Option<Span>, Option<Span>)>
+    ensures { result ≡ (if is_some left && is_some right then Some (left, right) else None) }
+{
+    if left.is_some() && right.is_some() {
+        Some((left, right))
+    } else {
+        None
+    }
+}
+
+// The left half, where it is there, and no right one.
+fn left_alone(part: Option<Span>) -> Option<(Option<Span>, Option<Span>)>
+    ensures { result ≡ (if is_some part then Some (part, None) else None) }
+{
+    if part.is_some() {
+        Some((part, None))
+    } else {
+        None
+    }
+}
+
+// The right half, where it is there, and no left one.
+fn right_alone(part: Option<Span>) -> Option<(Option<Span>, Option<Span>)>
+    ensures { result ≡ (if is_some part then Some (None, part) else None) }
+{
+    if part.is_some() {
+        Some((None, part))
+    } else {
+        None
+    }
+}
+
 // The half that alone has a stored value has the whole span.
-fn one_part(span: Span, coef: Coef, left: bool) -> Result<(Option<Span>, Option<Span>), BadCoef> {
-    if coef.dmin != 0 || coef.dmax != 0 || !is_proper(span) {
-        return Err(BadCoef);
+fn one_part(span: Span, coef: Coef) -> Option<Span>
+    ensures { result ≡ (if is_flat coef && is_proper span then Some span else None) }
+{
+    if coef.dmin != 0 || coef.dmax != 0 {
+        return None;
     }
-    Ok(if left {
-        (Some(span), None)
-    } else {
-        (None, Some(span))
-    })
+    checked(i128::from(span.min), i128::from(span.max))
 }
 
-fn both_parts(span: Span, coef: Coef) -> Result<(Option<Span>, Option<Span>), BadCoef> {
-    let (left_min, right_min) = parted_min(i128::from(span.min), i128::from(coef.dmin));
-    let (left_max, right_max) = parted_max(i128::from(span.max), i128::from(coef.dmax));
-    let left = checked(left_min, left_max)?;
-    let right = checked(right_min, right_max)?;
-    Ok((Some(left), Some(right)))
+fn left_part(span: Span, coef: Coef) -> Option<Span>
+    ensures { result ≡ proper_only (left_part span coef) }
+{
+    checked(
+        same_or_raised(coef.dmin <= 0, span.min, coef.dmin),
+        same_or_raised(coef.dmax >= 0, span.max, coef.dmax),
+    )
 }
 
-// The least values of the left and of the right half.
-fn parted_min(min: i128, difference: i128) -> (i128, i128) {
-    if difference <= 0 {
-        (min, min - difference)
+fn right_part(span: Span, coef: Coef) -> Option<Span>
+    ensures { result ≡ proper_only (right_part span coef) }
+{
+    checked(
+        lowered_or_same(coef.dmin <= 0, span.min, coef.dmin),
+        lowered_or_same(coef.dmax >= 0, span.max, coef.dmax),
+    )
+}
+
+// An end of the whole span, or one that is so much higher.
+fn same_or_raised(same: bool, end: i64, by: i64) -> i128
+    ensures { result ≡ (if same then end else end +ℤ by) }
+{
+    if same {
+        i128::from(end)
     } else {
-        (min + difference, min)
+        i128::from(end) + i128::from(by)
     }
 }
 
-// The greatest values of the left and of the right half.
-fn parted_max(max: i128, difference: i128) -> (i128, i128) {
-    if difference >= 0 {
-        (max, max - difference)
+// An end of the whole span that is so much lower, or that end.
+fn lowered_or_same(lower: bool, end: i64, by: i64) -> i128
+    ensures { result ≡ (if lower then end -ℤ by else end) }
+{
+    if lower {
+        i128::from(end) - i128::from(by)
     } else {
-        (max + difference, max)
+        i128::from(end)
     }
 }
 
 const GREATEST: u128 = 1_000_000_000_000_000_000;
 
 // The span with these ends, where it is ordered and in range.
-fn checked(min: i128, max: i128) -> Result<Span, BadCoef> {
-    if min > max || min.unsigned_abs() > GREATEST || max.unsigned_abs() > GREATEST {
-        return Err(BadCoef);
+fn checked(min: i128, max: i128) -> Option<Span>
+    ensures span { IfSome result (λ span. span ≡ record { min = min; max = max }) }
+    ensures some { is_some result ≡ is_proper (record { min = min; max = max }) }
+{
+    if !fits(min, max) {
+        return None;
     }
-    Ok(Span {
+    Some(Span {
         min: min as i64,
         max: max as i64,
     })
 }
 
-// Whether the span is ordered and its ends are at most 10^18 from 0.
-fn is_proper(span: Span) -> bool
-    ensures { result ≡ is_proper span }
+// Whether the ends are those of a span that is ordered and in range.
+#[tactic(auto, unfolding(crate::specs::Spans::is_proper))]
+fn fits(min: i128, max: i128) -> bool
+    ensures proper { result ≡ is_proper (record { min = min; max = max }) }
+    ensures low { IsTrue result → IsValue min }
+    ensures high { IsTrue result → IsValue max }
 {
-    checked(i128::from(span.min), i128::from(span.max)).is_ok()
+    min <= max && min.unsigned_abs() <= GREATEST && max.unsigned_abs() <= GREATEST
 }

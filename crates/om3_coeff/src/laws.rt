@@ -1,6 +1,6 @@
 //! What follows from the definitions. The functions do nothing: their contracts are the laws.
 
-ghost use Rattle.std.specs.Prelude.{◌≡◌, ℕ, ℤ, ◌≤◌, ◌<◌, ◌^◌, List, length, Option, None, Some, IfSome, IsSome};
+ghost use Rattle.std.specs.Prelude.{◌≡◌, ℕ, ℤ, ◌≤◌, ◌<◌, List, length, Option, None, Some, IfSome, IsSome};
 ghost use Rattle.om3_coeff.specs.declared.key.Key.{Key};
 ghost use Rattle.om3_coeff.specs.declared.span.Span.{Span};
 ghost use Rattle.om3_coeff.specs.declared.coef.Coef.{Coef};
@@ -59,7 +59,7 @@ pub fn what_is_known()
 /// with the list's coefficient, that key's span is known and is the list's.
 pub fn known_spans_are_the_list_s()
     ensures { (root : Option Span) (told : Key → Option Coef) (list : List (Option ℤ)) (k : Key) →
-        AreSlots list → length list ≤ 2 ^ 35 → root ≡ span list (top_key (length list)) →
+        AreSlots list → root ≡ span list (top_key (length list)) →
         IsKey (height (length list)) k →
         ((w : Key) → IsNode (height (length list)) w → k.level < w.level → IsAtOrAbove w k →
         IsSome (span list w) → told w ≡ Some (coef list w)) →

@@ -21,8 +21,9 @@ pub struct ListNodes<'a> {
 }
 
 impl<'a> ListNodes<'a> {
-    ghost use Rattle.std.specs.Prelude.{◌≡◌, ◌≤◌, ◌^◌, length, None};
-    ghost use Rattle.om3_coeff.specs.Spans.{AreSlots};
+    ghost use Rattle.std.specs.Prelude.{◌≡◌, ◌<◌, ◌≤◌, ◌^◌, length, None};
+    ghost use Rattle.om3_coeff.specs.Keys.{end_slot};
+    ghost use Rattle.om3_coeff.specs.Spans.{AreSlots, span};
     ghost use Rattle.om3_coeff.specs.View.{Agrees};
     ghost use Rattle.om3_coeff.specs.ListNodes.{list_view};
 
@@ -41,7 +42,10 @@ impl<'a> ListNodes<'a> {
     }
 
     // The span of the key's range, as far as there are slots.
-    fn span(&self, key: Key) -> Option<Span> {
+    fn span(&self, key: Key) -> Option<Span>
+        requires { end_slot key < 2 ^ 63 }
+        ensures { result ≡ span self.now.slots.now key }
+    {
         let count = self.slots.len();
         let first = (key.first() as usize).min(count);
         let end = (key.end() as usize).min(count);

@@ -1,5 +1,6 @@
-ghost use Rattle.std.specs.Prelude.{◌<◌, ◌≤◌, ◌^◌, ◌≡◌, ◌⊎◌};
-ghost use Rattle.om3_coeff.specs.Keys.{first_slot, end_slot};
+ghost use Rattle.std.specs.Prelude.{◌<◌, ◌^◌};
+ghost use Rattle.om3_coeff.specs.Keys.{end_slot};
+ghost use Rattle.om3_coeff.specs.Walks.{IsPlace};
 
 use crate::key::Key;
 
@@ -14,6 +15,7 @@ pub(crate) enum Place {
 /// The place of a key to the slots from `a` on and below `b`.
 pub(crate) fn place_of(key: Key, a: u64, b: u64) -> Place
     requires { end_slot key < 2 ^ 63 }
+    ensures { IsPlace a b key result }
 {
     let first = key.first();
     let end = key.end();

@@ -1,5 +1,5 @@
-ghost use Rattle.std.specs.Prelude.{◌≡◌, All, IfSome, List, Option};
-ghost use Rattle.om3_coeff.specs.Spans.{span_of, AreSlots, IsProperIfAny};
+ghost use Rattle.std.specs.Prelude.{◌≡◌};
+ghost use Rattle.om3_coeff.specs.Spans.{span_of, span_of_slot};
 
 use crate::joining::hull;
 use crate::span::Span;
@@ -15,7 +15,9 @@ pub(crate) fn span_of(slots: &[Option<i64>]) -> Option<Span>
     span
 }
 
-fn of_slot(slot: Option<i64>) -> Option<Span> {
+fn of_slot(slot: Option<i64>) -> Option<Span>
+    ensures { result ≡ span_of_slot slot }
+{
     slot.map(|value| Span {
         min: value,
         max: value,

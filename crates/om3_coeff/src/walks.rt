@@ -1,7 +1,8 @@
-ghost use Rattle.std.specs.Prelude.{◌≡◌, ℤ, ◌+◌, ◌*◌, ◌<◌, ◌≤◌, List, Option, Some, IfOk, IfErr, IfSome, slice_get};
-ghost use Rattle.om3_coeff.specs.Keys.{height};
-ghost use Rattle.om3_coeff.specs.Spans.{IsValue, IsProperIfAny, span_over};
-ghost use Rattle.om3_coeff.specs.View.{Agrees, HasCause};
+ghost use Rattle.std.specs.Prelude.{◌≡◌, ℤ, ◌+◌, ◌*◌, ◌<◌, ◌≤◌, min, max, List, Option, Some, IfOk, IfErr, IfSome, OnOk, slice_get};
+ghost use Rattle.om3_coeff.specs.Keys.{first_slot, end_slot, height};
+ghost use Rattle.om3_coeff.specs.Spans.{IsValue, IsProperIfAny, span_of_slot, span_over};
+ghost use Rattle.om3_coeff.specs.View.{Agrees, HasCause, MayAsk};
+ghost use Rattle.om3_coeff.specs.Walks.{IsReached, StaysBelow, most_cut};
 
 use crate::asking::ask;
 use crate::errors::NodeError;
@@ -37,7 +38,21 @@ fn value_below<N: Nodes>(
     key: Key,
     span: Option<Span>,
     slot: u64,
-) -> Result<Option<i64>, NodeError> {
+) -> Result<Option<i64>, NodeError>
+    requires fit { (N.view nodes.old).fit }
+    requires reached { IsReached (N.view nodes.old) key span }
+    requires follows { MayAsk (N.view nodes.old) key }
+    requires from { first_slot key ≤ slot }
+    requires to { slot < end_slot key }
+
+    ensures list { (list : List (Option ℤ)) → Agrees (N.view nodes.old) list → IfOk result (λ value. span_of_slot value ≡ span_over list slot (slot + 1)) }
+    ensures value { IfOk result (λ value. IfSome value IsValue) }
+    ensures fit { (N.view nodes.new).fit }
+    ensures kept { N.keeps nodes.old nodes.new }
+    ensures reads { (N.view nodes.new).reads ≤ (N.view nodes.old).reads + key.level }
+    ensures faults { (N.view nodes.old).faults ≤ (N.view nodes.new).faults }
+    ensures cause { IfErr result (HasCause (N.view nodes.old) (N.view nodes.new)) }
+{
     let Some(span) = span else {
         return Ok(None);
     };
@@ -80,7 +95,20 @@ fn span_below<N: Nodes>(
     span: Option<Span>,
     a: u64,
     b: u64,
-) -> Result<Option<Span>, NodeError> {
+) -> Result<Option<Span>, NodeError>
+    requires fit { (N.view nodes.old).fit }
+    requires reached { IsReached (N.view nodes.old) key span }
+    requires follows { MayAsk (N.view nodes.old) key }
+
+    ensures list { (list : List (Option ℤ)) → Agrees (N.view nodes.old) list → IfOk result (λ span. span ≡ span_over list (max a (first_slot key)) (min b (end_slot key))) }
+    ensures proper { IfOk result IsProperIfAny }
+    ensures fit { (N.view nodes.new).fit }
+    ensures kept { N.keeps nodes.old nodes.new }
+    ensures below { OnOk result (StaysBelow key (N.view nodes.old).asked (N.view nodes.new).asked) }
+    ensures reads { (N.view nodes.new).reads ≤ (N.view nodes.old).reads + most_cut a b key }
+    ensures faults { (N.view nodes.old).faults ≤ (N.view nodes.new).faults }
+    ensures cause { IfErr result (HasCause (N.view nodes.old) (N.view nodes.new)) }
+{
     let Some(span) = span else {
         return Ok(None);
     };

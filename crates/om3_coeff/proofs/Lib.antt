@@ -1,0 +1,6 @@
+pub mod SpanLemmas
+pub mod ExtremeLemmas
+pub mod KeyLemmas
+pub mod CoefLemmas
+pub mod KnownLemmas
+pub mod WalkLemmas
