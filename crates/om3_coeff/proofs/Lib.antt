@@ -4,3 +4,4 @@ pub mod KeyLemmas
 pub mod CoefLemmas
 pub mod KnownLemmas
 pub mod WalkLemmas
+pub mod ListLemmas

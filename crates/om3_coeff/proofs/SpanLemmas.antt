@@ -1,7 +1,9 @@
-use Rattle.std.proofs.Common.{ℕ, zero, suc, ℤ, ◌≡◌, ◌+◌, ◌-◌, ◌≤◌, List, [], ◌∷◌, ◌++◌, take, drop, length, refl, sym, ◌∙◌, ap, ap₂, subst, arith}
+use Rattle.std.proofs.Common.{ℕ, zero, suc, ℤ, ◌≡◌, ◌+◌, ◌-◌, ◌<◌, ◌≤◌, inl, inr, List, [], ◌∷◌, ◌++◌, take, drop, length, refl, sym, ◌∙◌, ap, ap₂, subst, arith}
 use Rattle.std.proofs.lemmas.Int.{ints, clamps}
-use Rattle.std.proofs.lemmas.List.{drop-drop, take_all}
-use Rattle.std.specs.Prelude.{Option, Some, None}
+use Rattle.std.proofs.lemmas.Bool.{cases_lt}
+use Rattle.std.proofs.lemmas.List.{drop-drop, drop_all, take_all, take_min, length-drop}
+use Rattle.std.proofs.lemmas.Option.{same_Some}
+use Rattle.std.specs.Prelude.{Option, Some, None, slice_get, min}
 use Rattle.std.specs.Int.{int_min, int_max}
 use Rattle.om3_coeff.specs.declared.span.Span.{Span}
 use Rattle.om3_coeff.specs.Spans.{hull, span_of_slot, span_of, span_over}
@@ -64,3 +66,41 @@ unfolding span_over
 span_over-all list b long =
     let whole : b - 0 ≡ b = omega arith in
     ap (λ n. span_of (take n list)) whole ∙ ap span_of (take_all b list long)
+
+min_past : (x n : ℕ) → n ≤ x → min x n ≡ n
+min_past x n h = omega arith
+
+-- a range by the places that a list has
+pub span_within : (list : List (Option ℤ)) (a b : ℕ) → span_of (take (min b (length list) - min a (length list)) (drop (min a (length list)) list)) ≡ span_over list a b
+unfolding span_over
+span_within list a b =
+    elim (cases_lt (length list) a) [
+      | inl past ↦
+          let none : min b (length list) - min a (length list) ≡ 0 = omega arith in
+          ap (λ n. span_of (take n (drop (min a (length list)) list))) none
+          ∙ sym (ap (λ xs. span_of xs) (ap (take (b - a)) (drop_all a list (omega arith)) ∙ take_all (b - a) [] (omega arith)))
+      | inr here ↦
+          let from : min a (length list) ≡ a = omega arith in
+          let left : length (drop a list) ≡ length list - a = length-drop a list in
+          let to : min b (length list) - a ≡ min (b - a) (length (drop a list)) = omega arith in
+          ap (λ n. span_of (take (min b (length list) - n) (drop n list))) from
+          ∙ ap (λ n. span_of (take n (drop a list))) to
+          ∙ ap span_of (take_min (b - a) (drop a list))
+    ]
+
+drop_at : (list : List (Option ℤ)) (i : ℕ) (x : Option ℤ) → slice_get list i ≡ Some x → drop i list ≡ x ∷ drop (suc i) list
+drop_at [] i x h = absurd (cc)
+drop_at (y ∷ list) zero x h = ap (λ y. y ∷ list) (same_Some y x h)
+drop_at (y ∷ list) (suc i) x h = drop_at list i x h
+
+-- the span of one slot
+pub span_at : (list : List (Option ℤ)) (i : ℕ) (x : Option ℤ) → slice_get list i ≡ Some x → span_over list i (i + 1) ≡ span_of_slot x
+unfolding span_over
+span_at list i x h =
+    let one : i + 1 - i ≡ 1 = omega arith in
+    ap₂ (λ n xs. span_of (take n xs)) one (drop_at list i x h) ∙ hull-none (span_of_slot x)
+
+pub get_some : (list : List (Option ℤ)) (i : ℕ) → i < length list → (x : Option ℤ) × (slice_get list i ≡ Some x)
+get_some [] i h = absurd (omega arith)
+get_some (y ∷ list) zero h = (y, refl)
+get_some (y ∷ list) (suc i) h = get_some list i (omega arith)

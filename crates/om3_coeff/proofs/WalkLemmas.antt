@@ -16,7 +16,7 @@ use Rattle.om3_coeff.specs.Known.{known}
 use Rattle.om3_coeff.specs.View.{NodesView, AgreesOn, Agrees, known_of, StaysSame, MayAsk, HasCause}
 use Rattle.om3_coeff.specs.declared.places.Place.TheVariants.{Outside, Within, Cut}
 use Rattle.om3_coeff.specs.Walks.{IsPlace, IsReached, cut_keys, most_cut, StaysBelow}
-use Rattle.om3_coeff.proofs.SpanLemmas.{hull-none, span_over-both, span_over-none}
+use Rattle.om3_coeff.proofs.SpanLemmas.{hull-none, span_over-both, span_over-none, span_at, get_some}
 use Rattle.om3_coeff.proofs.ExtremeLemmas.{span_over_is, one_span, none-clear, clear-none}
 use Rattle.om3_coeff.proofs.KeyLemmas.{by_lt, height_few, height_covers, end_within, left_first, right_end, left_some, right_some, left_parent, right_parent, above_itself, parent_above, above_on}
 use Rattle.om3_coeff.proofs.KnownLemmas.{known_top, reached_span}
@@ -349,3 +349,18 @@ cut_most a b first end level = grind (arith, nat_tests)
 pub top_reads : (a b n m : ℕ) (top : Key) → n ≡ m → top ≡ top_key n → most_cut a b top ≤ 2 * height m
 top_reads a b n m top slots is =
     omega (arith, cut_most a b (first_slot top) (end_slot top) top.level, ap (λ k. 2 * k.level) is, ap (λ n. 2 * height n) slots)
+
+pub value_list : (list : List (Option ℤ)) (i : ℕ) (v : Option ℤ) → i < length list → span_of_slot v ≡ span_over list i (i + 1) → slice_get list i ≡ Some v
+value_list list i v within e =
+    let x : (x : Option ℤ) × (slice_get list i ≡ Some x) = get_some list i within in
+    x.1 ∙ ap (λ x. Some x) (sym (same_slot v x.0 (e ∙ span_at list i x.0 x.1)))
+
+pub top_holds : (i n m : ℕ) (top : Key) → n ≡ m → top ≡ top_key n → n ≤ 2 ^ 35 → i < m → i < end_slot top
+top_holds i n m top slots is few within =
+    omega (arith, ap end_slot is, top_end n, height_covers n few)
+
+pub node_key : (top : ℕ) (k : Key) → IsNode top k → IsKey top k
+node_key top k node = record { high = node.high; within = node.within }
+
+pub left_small : (n : ℕ) (k half : Key) → IsKey (height n) k → 1 ≤ k.level → half ≡ left_of k → end_slot half < 2 ^ 63
+left_small n k half key low is = omega (arith, ap end_slot is, right_some k low, key_small n k key)

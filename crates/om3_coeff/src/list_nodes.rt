@@ -1,5 +1,5 @@
 ghost use Rattle.std.specs.Prelude.{◌≡◌, ◌≤◌, ◌^◌, length, None};
-ghost use Rattle.om3_coeff.specs.Spans.{AreSlots, span_of};
+ghost use Rattle.om3_coeff.specs.Spans.{AreSlots, span_over};
 
 use crate::coef::Coef;
 use crate::errors::NodeError;
@@ -17,7 +17,7 @@ pub struct ListNodes<'a> {
     root: Option<Span>,
     asked: Option<Key>,
     ghost values: { AreSlots slots.now },
-    ghost spans: { root ≡ span_of slots.now },
+    ghost whole: { root ≡ span_over slots.now 0 (length slots.now) },
 }
 
 impl<'a> ListNodes<'a> {
