@@ -311,10 +311,10 @@ pub split_proper : {E : Type 0} (p : Option (Option Span × Option Span)) (err :
     → IfOk r (λ halves. IsProperIfAny halves.0 × IsProperIfAny halves.1)
 split_proper p err r s c e f =
     IfOk-weaker r (λ halves. AreParts s c halves.0 halves.1) (λ halves. IsProperIfAny halves.0 × IsProperIfAny halves.1)
-        (λ halves h. (h.left_proper, h.right_proper)) (split_parts p err r s c e f)
+    (λ halves h. (h.left_proper, h.right_proper)) (split_parts p err r s c e f)
 
 pub split_whole : {E : Type 0} (p : Option (Option Span × Option Span)) (err : E) (r : Result (Option Span × Option Span) E) (s : Span) (c : Coef) → p ≡ parts s c → r ≡ ok_or p err
     → IfOk r (λ halves. hull halves.0 halves.1 ≡ Some s)
 split_whole p err r s c e f =
     IfOk-weaker r (λ halves. AreParts s c halves.0 halves.1) (λ halves. hull halves.0 halves.1 ≡ Some s)
-        (λ halves h. h.whole) (split_parts p err r s c e f)
+    (λ halves h. h.whole) (split_parts p err r s c e f)

@@ -157,11 +157,11 @@ pub above_on : (u w k : Key) → IsAtOrAbove u w → IsAtOrAbove w k → IsAtOrA
 above_on u w k h g = record {
   higher = omega (arith, h.higher, g.higher);
   holds =
-    let steps : (w.level - k.level) + (u.level - w.level) ≡ u.level - k.level = omega (arith, h.higher, g.higher) in
-    ap (λ n. k.index / 2 ^ n) (sym steps)
-    ∙ sym (shr-shr k.index (w.level - k.level) (u.level - w.level))
-    ∙ ap (λ n. n / 2 ^ (u.level - w.level)) g.holds
-    ∙ h.holds;
+      let steps : (w.level - k.level) + (u.level - w.level) ≡ u.level - k.level = omega (arith, h.higher, g.higher) in
+      ap (λ n. k.index / 2 ^ n) (sym steps)
+      ∙ sym (shr-shr k.index (w.level - k.level) (u.level - w.level))
+      ∙ ap (λ n. n / 2 ^ (u.level - w.level)) g.holds
+      ∙ h.holds;
 }
 
 -- the parent of a key of the tree is a node of it

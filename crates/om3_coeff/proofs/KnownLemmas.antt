@@ -68,7 +68,7 @@ unfolding known_from
 from_proper root told zero level index proper = proper
 from_proper root told (suc depth) level index proper =
     below_proper index (known_from root told depth (suc level) (index / 2)) (told (record { level = suc level; index = index / 2 }))
-        (from_proper root told depth (suc level) (index / 2) proper)
+    (from_proper root told depth (suc level) (index / 2) proper)
 
 pub known_proper : (root : Option Span) (told : Key → Option Coef) (top : ℕ) (k : Key) → IsProperIfAny root → IfSome (known root told top k) IsProperIfAny
 known_proper root told top k proper = from_proper root told (top - k.level) k.level k.index proper
@@ -84,10 +84,10 @@ clear_from root told top zero w k high levels place clear =
     subst P (same_key w k (omega arith) (sym place ∙ div-one k.index)) clear
 clear_from root told top (suc gap) w k high levels place clear =
     let widths : k.index / 2 / 2 ^ gap ≡ k.index / 2 ^ suc gap =
-        shr-shr k.index 1 gap ∙ ap (λ n. k.index / 2 ^ n) (omega arith) in
+    shr-shr k.index 1 gap ∙ ap (λ n. k.index / 2 ^ n) (omega arith) in
     known_step root told top k (omega arith)
     ∙ below_none k.index (known root told top (parent_of k)) (told (parent_of k))
-        (clear_from root told top gap w (parent_of k) high (omega arith) (widths ∙ place) clear)
+    (clear_from root told top gap w (parent_of k) high (omega arith) (widths ∙ place) clear)
 
 -- below a key that is known to have no span none has one
 pub known_clear : (root : Option Span) (told : Key → Option Coef) (top : ℕ) (w k : Key) → w.level ≤ top → IsAtOrAbove w k
@@ -116,7 +116,7 @@ parent_low k = omega arith
 none_half : (list : List (Option ℤ)) (k : Key) → span list (parent_of k) ≡ None → span list k ≡ None
 none_half list k none =
     let both : (span list (left_of (parent_of k)) ≡ None) × (span list (right_of (parent_of k)) ≡ None) =
-        hull_none (span list (left_of (parent_of k))) (span list (right_of (parent_of k))) (sym (span_halves list (parent_of k) (parent_low k)) ∙ none) in
+    hull_none (span list (left_of (parent_of k))) (span list (right_of (parent_of k))) (sym (span_halves list (parent_of k) (parent_low k)) ∙ none) in
     by_half (λ s. s ≡ None) list k (λ even. both.0) (λ odd. both.1)
 
 some_half : (list : List (Option ℤ)) (k : Key) (s : Span) → AreSlots list → span list (parent_of k) ≡ Some s
@@ -125,11 +125,11 @@ some_half list k s values some =
     let l : Option Span = span list (left_of (parent_of k)) in
     let r : Option Span = span list (right_of (parent_of k)) in
     let split : parts s (coef_of l r) ≡ Some (l, r) =
-        parts_joined l r s (span_over-proper list _ _ values) (span_over-proper list _ _ values) (sym (span_halves list (parent_of k) (parent_low k)) ∙ some) in
+    parts_joined l r s (span_over-proper list _ _ values) (span_over-proper list _ _ values) (sym (span_halves list (parent_of k) (parent_low k)) ∙ some) in
     ap (option_map (half k.index)) split
     ∙ by_half (λ t. Some (half k.index (let p : Option Span × Option Span = (l, r) in p)) ≡ Some t) list k
-        (λ even. ap (λ t. Some t) (even_is k.index (l, r) even))
-        (λ odd. ap (λ t. Some t) (odd_is k.index (l, r) odd))
+    (λ even. ap (λ t. Some t) (even_is k.index (l, r) even))
+    (λ odd. ap (λ t. Some t) (odd_is k.index (l, r) odd))
 
 known_half : (list : List (Option ℤ)) (k : Key) (s : Option Span) (c : Option Coef) → AreSlots list → span list (parent_of k) ≡ s
     → (IsSome s → c ≡ Some (coef list (parent_of k))) → known_below k.index (Some s) c ≡ Some (span list k)
@@ -156,8 +156,8 @@ spans_from root told list (suc depth) k values is levels within above =
     let fits_depth : p.index < 2 ^ depth = subst (λ n. p.index < 2 ^ n) gap fits in
     let node : IsNode (height (length list)) p = record { low = parent_low k; high = omega arith; within = fits } in
     let known_parent : known root told (height (length list)) p ≡ Some (span list p) =
-        spans_from root told list depth p values is (omega arith) fits_depth
-            (λ w here higher over some. above w here (omega arith) (above_on w p k over (parent_above k)) some) in
+    spans_from root told list depth p values is (omega arith) fits_depth
+    (λ w here higher over some. above w here (omega arith) (above_on w p k over (parent_above k)) some) in
     known_step root told (height (length list)) k low
     ∙ ap (λ s. known_below k.index s (told p)) known_parent
     ∙ known_half list k (span list p) (told p) values refl (λ some. above p node (omega arith) (parent_above k) some)
@@ -174,7 +174,7 @@ agrees_known view list k agrees key =
     let P : ℕ → Type 0 = λ n. IsKey (height n) k in
     ap (λ n. known view.root view.told (height n) k) agrees.slots
     ∙ known_spans view.root view.told list k agrees.values agrees.root (subst P agrees.slots key)
-        (λ w node low above some. agrees.told w node some tt)
+    (λ w node low above some. agrees.told w node some tt)
 
 -- what an ask shows of the halves
 known_left : (root : Option Span) (told : Key → Option Coef) (top : ℕ) (k : Key) (s : Span) (c : Coef) (left right : Option Span) → IsNode top k

@@ -5,3 +5,4 @@ pub mod CoefLemmas
 pub mod KnownLemmas
 pub mod WalkLemmas
 pub mod ListLemmas
+pub mod EndLemmas

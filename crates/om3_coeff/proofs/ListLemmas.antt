@@ -39,7 +39,7 @@ pub list_seen : (list : List (Option ℤ)) (asked : Option Key) (k : Key) (s : S
     → known_of (list_view list asked) k ≡ Some (Some s) → span list k ≡ Some s
 list_seen list asked k s values few node seen =
     same_Some (span list k) (Some s)
-        (sym (agrees_known (list_view list asked) list k (list_agrees list asked values few) (record { high = node.high; within = node.within })) ∙ seen)
+    (sym (agrees_known (list_view list asked) list k (list_agrees list asked values few) (record { high = node.high; within = node.within })) ∙ seen)
 
 some_is : (p : Option (Option Span × Option Span)) (q : Option Span × Option Span) → p ≡ Some q → IsSome p
 some_is p q e = let P : Option (Option Span × Option Span) → Type 0 = λ p. IsSome p in subst P (sym e) refl

@@ -117,7 +117,7 @@ one_value list i s h =
     let least : h.least.slot ≡ i = omega (arith, h.least.low, h.least.high) in
     let greatest : h.greatest.slot ≡ i = omega (arith, h.greatest.low, h.greatest.high) in
     same_Some s.min s.max (same_Some (Some s.min) (Some s.max)
-        (sym h.least.holds ∙ ap (slice_get list) (least ∙ sym greatest) ∙ h.greatest.holds))
+    (sym h.least.holds ∙ ap (slice_get list) (least ∙ sym greatest) ∙ h.greatest.holds))
 
 slot_extremes : (list : List (Option ℤ)) (i : ℕ) (s : Span) → Some s ≡ span_over list i (i + 1) → AreExtremes list i (i + 1) s
 slot_extremes list i s is = let P : Option Span → Type 0 = λ s. IsSpanOf list i (i + 1) s in subst P (sym is) (span_over_is list i (i + 1))
@@ -209,11 +209,11 @@ cut_counts a b k place =
     let low : 1 ≤ k.level = cut_low a b k place in
     let up : k.level - 1 + 1 ≡ k.level = omega arith in
     let left : most_cut a b (left_of k) ≡ cut_keys a b (first_slot k) (end_slot (left_of k)) (k.level - 1) =
-        ap (λ first. cut_keys a b first (end_slot (left_of k)) (k.level - 1)) (left_first k low) in
+    ap (λ first. cut_keys a b first (end_slot (left_of k)) (k.level - 1)) (left_first k low) in
     let right : most_cut a b (right_of k) ≡ cut_keys a b (end_slot (left_of k)) (end_slot k) (k.level - 1) =
-        ap (λ end. cut_keys a b (end_slot (left_of k)) end (k.level - 1)) (right_end k low) in
+    ap (λ end. cut_keys a b (end_slot (left_of k)) end (k.level - 1)) (right_end k low) in
     let whole : cut_keys a b (first_slot k) (end_slot k) (k.level - 1 + 1) ≡ most_cut a b k =
-        ap (cut_keys a b (first_slot k) (end_slot k)) up in
+    ap (cut_keys a b (first_slot k) (end_slot k)) up in
     omega (
       arith,
       left,
@@ -263,18 +263,18 @@ cut_span list a b first middle end low high from to =
     (λ left.
     by_lt middle b
     (λ right.
-      let here : max a middle ≡ middle = omega arith in
-      let there : min b middle ≡ middle = omega arith in
-      ap₂ (λ (x y : ℕ). hull (span_over list (max a first) x) (span_over list y (min b end))) there here
-      ∙ sym (span_over-both list (max a first) middle (min b end) (omega arith) (omega arith)))
+    let here : max a middle ≡ middle = omega arith in
+    let there : min b middle ≡ middle = omega arith in
+    ap₂ (λ (x y : ℕ). hull (span_over list (max a first) x) (span_over list y (min b end))) there here
+    ∙ sym (span_over-both list (max a first) middle (min b end) (omega arith) (omega arith)))
     (λ none.
-      let empty : span_over list (max a middle) (min b end) ≡ None = span_over-none list (max a middle) (min b end) (omega arith) in
-      let same : min b middle ≡ min b end = omega arith in
-      ap₂ (λ (x : ℕ) (y : Option Span). hull (span_over list (max a first) x) y) same empty ∙ hull-none (span_over list (max a first) (min b end))))
+    let empty : span_over list (max a middle) (min b end) ≡ None = span_over-none list (max a middle) (min b end) (omega arith) in
+    let same : min b middle ≡ min b end = omega arith in
+    ap₂ (λ (x : ℕ) (y : Option Span). hull (span_over list (max a first) x) y) same empty ∙ hull-none (span_over list (max a first) (min b end))))
     (λ none.
-      let empty : span_over list (max a first) (min b middle) ≡ None = span_over-none list (max a first) (min b middle) (omega arith) in
-      let same : max a middle ≡ max a first = omega arith in
-      ap₂ (λ (x : Option Span) (y : ℕ). hull x (span_over list y (min b end))) empty same)
+    let empty : span_over list (max a first) (min b middle) ≡ None = span_over-none list (max a first) (min b middle) (omega arith) in
+    let same : max a middle ≡ max a first = omega arith in
+    ap₂ (λ (x : Option Span) (y : ℕ). hull x (span_over list y (min b end))) empty same)
 
 pub list_cut : (list : List (Option ℤ)) (a b : ℕ) (k left right : Key) (x y : Option Span) → IsPlace a b k Cut → left ≡ left_of k → right ≡ right_of k
     → x ≡ span_over list (max a (first_slot left)) (min b (end_slot left)) → y ≡ span_over list (max a (first_slot right)) (min b (end_slot right))
@@ -286,8 +286,8 @@ list_cut list a b k left right x y place l r ex ey =
     let again : first_slot right ≡ end_slot (left_of k) = ap first_slot r in
     let to : end_slot right ≡ end_slot k = ap end_slot r ∙ right_end k low in
     ap₂ hull
-      (ex ∙ ap₂ (λ (f e : ℕ). span_over list (max a f) (min b e)) from middle)
-      (ey ∙ ap₂ (λ (f e : ℕ). span_over list (max a f) (min b e)) again to)
+    (ex ∙ ap₂ (λ (f e : ℕ). span_over list (max a f) (min b e)) from middle)
+    (ey ∙ ap₂ (λ (f e : ℕ). span_over list (max a f) (min b e)) again to)
     ∙ cut_span list a b (first_slot k) (end_slot (left_of k)) (end_slot k) (left_some k low) (right_some k low) place.0 place.1
 
 -- the same for the keys that the code has for the halves

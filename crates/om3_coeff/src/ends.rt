@@ -65,10 +65,10 @@ fn first_below<N: Nodes>(
         return Ok(Some((key.index, span.min)));
     }
     let (left, right) = ask(nodes, key, span)?;
-    if let Some(found) = first_below(nodes, key.left(), left, a, b)? {
-        return Ok(Some(found));
+    match first_below(nodes, key.left(), left, a, b)? {
+        Some(found) => Ok(Some(found)),
+        None => first_below(nodes, key.right(), right, a, b),
     }
-    first_below(nodes, key.right(), right, a, b)
 }
 
 /// The last stored slot from `a` on and below `b` with its value, or nothing where none is stored. It
@@ -125,8 +125,8 @@ fn last_below<N: Nodes>(
         return Ok(Some((key.index, span.min)));
     }
     let (left, right) = ask(nodes, key, span)?;
-    if let Some(found) = last_below(nodes, key.right(), right, a, b)? {
-        return Ok(Some(found));
+    match last_below(nodes, key.right(), right, a, b)? {
+        Some(found) => Ok(Some(found)),
+        None => last_below(nodes, key.left(), left, a, b),
     }
-    last_below(nodes, key.left(), left, a, b)
 }

@@ -31,17 +31,17 @@ returns-in_err-left-in-Cut-clause-reads g t c =
 pub returns-in_err-first-in-Cut-clause-reads : goal.returns-in_err-first-in-Cut-clause-reads
 returns-in_err-first-in-Cut-clause-reads g t c =
     cut_reads_twice c.args.a c.args.b c.args.key c.left.result _ _ _ c.in-Cut.ensures c.left.ensures
-        (c.in_ok-left-in-Cut.ensures.one_read c.requires.follows) c.in_err-first-in-Cut.ensures.reads
+    (c.in_ok-left-in-Cut.ensures.one_read c.requires.follows) c.in_err-first-in-Cut.ensures.reads
 
 pub returns-in_err-second-in-Cut-clause-reads : goal.returns-in_err-second-in-Cut-clause-reads
 returns-in_err-second-in-Cut-clause-reads g t c =
     cut_reads c.args.a c.args.b c.args.key c.left.result c.right.result _ _ _ _ c.in-Cut.ensures c.left.ensures c.right.ensures
-        (c.in_ok-left-in-Cut.ensures.one_read c.requires.follows) c.in_ok-first-in-Cut.ensures.reads c.in_err-second-in-Cut.ensures.reads
+    (c.in_ok-left-in-Cut.ensures.one_read c.requires.follows) c.in_ok-first-in-Cut.ensures.reads c.in_err-second-in-Cut.ensures.reads
 
 pub returns-in_ok-second-in-Cut-clause-reads : goal.returns-in_ok-second-in-Cut-clause-reads
 returns-in_ok-second-in-Cut-clause-reads g t c =
     cut_reads c.args.a c.args.b c.args.key c.left.result c.right.result _ _ _ _ c.in-Cut.ensures c.left.ensures c.right.ensures
-        (c.in_ok-left-in-Cut.ensures.one_read c.requires.follows) c.in_ok-first-in-Cut.ensures.reads c.in_ok-second-in-Cut.ensures.reads
+    (c.in_ok-left-in-Cut.ensures.one_read c.requires.follows) c.in_ok-first-in-Cut.ensures.reads c.in_ok-second-in-Cut.ensures.reads
 
 pub returns-in-Outside-clause-list : goal.returns-in-Outside-clause-list
 returns-in-Outside-clause-list g t c = λ list agrees. list_outside list c.args.a c.args.b c.args.key c.in-Outside.ensures
@@ -54,33 +54,32 @@ pub returns-in_ok-second-in-Cut-clause-proper : goal.returns-in_ok-second-in-Cut
 returns-in_ok-second-in-Cut-clause-proper g t c =
     let P : Option Span → Type 0 = λ s. IsProperIfAny s in
     subst P (sym c.hull.ensures)
-        (hull-proper c.in_ok-first-in-Cut.first c.in_ok-second-in-Cut.second c.in_ok-first-in-Cut.ensures.proper c.in_ok-second-in-Cut.ensures.proper)
+    (hull-proper c.in_ok-first-in-Cut.first c.in_ok-second-in-Cut.second c.in_ok-first-in-Cut.ensures.proper c.in_ok-second-in-Cut.ensures.proper)
 
 pub returns-in_ok-second-in-Cut-clause-below : goal.returns-in_ok-second-in-Cut-clause-below
 returns-in_ok-second-in-Cut-clause-below g t c =
     both_below_at c.args.key c.left.result c.right.result _ _ _ _ (cut_low c.args.a c.args.b c.args.key c.in-Cut.ensures) c.left.ensures c.right.ensures
-        c.in_ok-left-in-Cut.ensures.asked c.in_ok-first-in-Cut.ensures.below c.in_ok-second-in-Cut.ensures.below
+    c.in_ok-left-in-Cut.ensures.asked c.in_ok-first-in-Cut.ensures.below c.in_ok-second-in-Cut.ensures.below
 
 pub returns-in_ok-second-in-Cut-clause-list : goal.returns-in_ok-second-in-Cut-clause-list
 returns-in_ok-second-in-Cut-clause-list g t c = λ list agrees.
     let asked : StaysSame (g.N.Nodes.view c.args.nodes.now) (g.N.Nodes.view c.ask.new.nodes) =
-        g.met.N.Nodes.keeps_same c.args.nodes.now c.ask.new.nodes c.in_ok-left-in-Cut.ensures.kept in
+    g.met.N.Nodes.keeps_same c.args.nodes.now c.ask.new.nodes c.in_ok-left-in-Cut.ensures.kept in
     let walked : StaysSame (g.N.Nodes.view c.ask.new.nodes) (g.N.Nodes.view c.span_below.new.nodes) =
-        g.met.N.Nodes.keeps_same c.ask.new.nodes c.span_below.new.nodes c.in_ok-first-in-Cut.ensures.kept in
+    g.met.N.Nodes.keeps_same c.ask.new.nodes c.span_below.new.nodes c.in_ok-first-in-Cut.ensures.kept in
     let then : Agrees (g.N.Nodes.view c.ask.new.nodes) list =
-        still_agrees (g.N.Nodes.view c.args.nodes.now) (g.N.Nodes.view c.ask.new.nodes) list asked agrees in
+    still_agrees (g.N.Nodes.view c.args.nodes.now) (g.N.Nodes.view c.ask.new.nodes) list asked agrees in
     let later : Agrees (g.N.Nodes.view c.span_below.new.nodes) list =
-        still_agrees (g.N.Nodes.view c.ask.new.nodes) (g.N.Nodes.view c.span_below.new.nodes) list walked then in
+    still_agrees (g.N.Nodes.view c.ask.new.nodes) (g.N.Nodes.view c.span_below.new.nodes) list walked then in
     c.hull.ensures
     ∙ list_cut list c.args.a c.args.b c.args.key c.left.result c.right.result c.in_ok-first-in-Cut.first c.in_ok-second-in-Cut.second c.in-Cut.ensures c.left.ensures c.right.ensures
-        (c.in_ok-first-in-Cut.ensures.list list then) (c.in_ok-second-in-Cut.ensures.list list later)
+    (c.in_ok-first-in-Cut.ensures.list list then) (c.in_ok-second-in-Cut.ensures.list list later)
 
 pub span_below-requires : goal.span_below-requires
 span_below-requires g t c κs within =
     let low : 1 ≤ c.args.key.level = cut_low c.args.a c.args.b c.args.key c.in-Cut.ensures in
     let same : StaysSame (g.N.Nodes.view c.args.nodes.now) (g.N.Nodes.view c.ask.new.nodes) =
-        g.met.N.Nodes.keeps_same c.args.nodes.now c.ask.new.nodes c.in_ok-left-in-Cut.ensures.kept in
-    (
+    g.met.N.Nodes.keeps_same c.args.nodes.now c.ask.new.nodes c.in_ok-left-in-Cut.ensures.kept in (
       search rules,
       (
         search rules,
@@ -99,9 +98,8 @@ pub span_below-requires-in-Cut : goal.span_below-requires-in-Cut
 span_below-requires-in-Cut g t c κs within =
     let low : 1 ≤ c.args.key.level = cut_low c.args.a c.args.b c.args.key c.in-Cut.ensures in
     let same : StaysSame (g.N.Nodes.view c.args.nodes.now) (g.N.Nodes.view c.span_below.new.nodes) =
-        g.met.N.Nodes.keeps_same c.args.nodes.now c.span_below.new.nodes
-            (g.met.N.Nodes.keeps_on c.args.nodes.now c.ask.new.nodes c.span_below.new.nodes c.in_ok-left-in-Cut.ensures.kept c.in_ok-first-in-Cut.ensures.kept) in
-    (
+    g.met.N.Nodes.keeps_same c.args.nodes.now c.span_below.new.nodes
+    (g.met.N.Nodes.keeps_on c.args.nodes.now c.ask.new.nodes c.span_below.new.nodes c.in_ok-left-in-Cut.ensures.kept c.in_ok-first-in-Cut.ensures.kept) in (
       search rules,
       (
         search rules,

@@ -17,7 +17,7 @@ returns-then-key-eq0-clause-list g t c = λ list agrees.
     let P : Option Span → Type 0 = λ s. IsReached (g.N.Nodes.view c.args.nodes.now) c.args.key s in
     let reached : IsReached (g.N.Nodes.view c.args.nodes.now) c.args.key (Some c.in-Some.span) = subst P c.in-Some.is c.requires.reached in
     value_code list c.in-Some.span.min c.args.slot reached.proper.low
-        (value_here (g.N.Nodes.view c.args.nodes.now) list c.args.key c.in-Some.span c.args.slot agrees reached (omega arith) c.requires.from c.requires.to)
+    (value_here (g.N.Nodes.view c.args.nodes.now) list c.args.key c.in-Some.span c.args.slot agrees reached (omega arith) c.requires.from c.requires.to)
 
 pub right-second-requires-clause-fits : goal.right-second-requires-clause-fits
 right-second-requires-clause-fits g t c = key_small (g.N.Nodes.view c.args.nodes.now).slots c.args.key c.requires.reached.key
@@ -32,8 +32,7 @@ left-requires-clause-fits g t c = key_small (g.N.Nodes.view c.args.nodes.now).sl
 pub value_below-requires : goal.value_below-requires
 value_below-requires g t c κs within =
     let low : 1 ≤ c.args.key.level = omega arith in
-    let same : StaysSame (g.N.Nodes.view c.args.nodes.now) (g.N.Nodes.view c.ask.new.nodes) = g.met.N.Nodes.keeps_same c.args.nodes.now c.ask.new.nodes c.in_ok-left.ensures.kept in
-    (
+    let same : StaysSame (g.N.Nodes.view c.args.nodes.now) (g.N.Nodes.view c.ask.new.nodes) = g.met.N.Nodes.keeps_same c.args.nodes.now c.ask.new.nodes c.in_ok-left.ensures.kept in (
       search rules,
       (
         search rules,
@@ -57,8 +56,7 @@ value_below-requires g t c κs within =
 pub value_below-requires-else-slot-first : goal.value_below-requires-else-slot-first
 value_below-requires-else-slot-first g t c κs within =
     let low : 1 ≤ c.args.key.level = omega arith in
-    let same : StaysSame (g.N.Nodes.view c.args.nodes.now) (g.N.Nodes.view c.ask.new.nodes) = g.met.N.Nodes.keeps_same c.args.nodes.now c.ask.new.nodes c.in_ok-left.ensures.kept in
-    (
+    let same : StaysSame (g.N.Nodes.view c.args.nodes.now) (g.N.Nodes.view c.ask.new.nodes) = g.met.N.Nodes.keeps_same c.args.nodes.now c.ask.new.nodes c.in_ok-left.ensures.kept in (
       search rules,
       (
         search rules,

@@ -9,9 +9,9 @@ pub returns : goal.returns
 returns c =
     let list = c.args.self.now.slots.now in
     let from : c.min-first.result ≡ min (first_slot c.args.key) (length c.args.self.now.slots.now) =
-        c.min-first.ensures ∙ ap (λ n. min n (length c.args.self.now.slots.now)) c.first.ensures in
+    c.min-first.ensures ∙ ap (λ n. min n (length c.args.self.now.slots.now)) c.first.ensures in
     let to : c.min-end.result ≡ min (end_slot c.args.key) (length c.args.self.now.slots.now) =
-        c.min-end.ensures ∙ ap (λ n. min n (length c.args.self.now.slots.now)) c.end.ensures in
+    c.min-end.ensures ∙ ap (λ n. min n (length c.args.self.now.slots.now)) c.end.ensures in
     c.span_of.ensures
     ∙ ap₂ (λ (f e : ℕ). span_of (take (e - f) (drop f c.args.self.now.slots.now))) from to
     ∙ span_within c.args.self.now.slots.now (first_slot c.args.key) (end_slot c.args.key)

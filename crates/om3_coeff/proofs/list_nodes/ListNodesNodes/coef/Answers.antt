@@ -28,4 +28,4 @@ join-requires-clause-right c =
 pub returns-clause-splits : goal.returns-clause-splits
 returns-clause-splits c =
     list_splits c.args.self.now.slots.now c.args.self.now.asked c.args.key c.left.result c.right.result c.args._span c.span-left.result c.span-right.result c.join.result.0
-        c.args.self.now.values c.requires.fit c.requires.key (c.requires.seen tt) c.left.ensures c.right.ensures c.span-left.ensures c.span-right.ensures c.join.ensures.coef
+    c.args.self.now.values c.requires.fit c.requires.key (c.requires.seen tt) c.left.ensures c.right.ensures c.span-left.ensures c.span-right.ensures c.join.ensures.coef
