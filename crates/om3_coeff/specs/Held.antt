@@ -1,6 +1,6 @@
 -- What nodes over coefficients that were received mean.
-use Rattle.std.specs.Prelude.{ℕ, ◌≡◌, ◌^◌, ◌≤◌, ◌&&◌, ◌==◌, if◌then◌else◌, List, [], ◌∷◌, Option, None, Some, refl}
-use Rattle.std.proofs.Common.{ap, ap₂, sym, subst, subst₃, ◌∙◌}
+use Rattle.std.specs.Prelude.{ℕ, ◌≡◌, ◌^◌, ◌≤◌, ◌&&◌, ◌==◌, if◌then◌else◌, List, [], ◌∷◌, Option, None, Some}
+use Rattle.std.proofs.Common.{sym, subst}
 use Rattle.om3_coeff.specs.declared.key.Key.{Key}
 use Rattle.om3_coeff.specs.declared.span.Span.{Span}
 use Rattle.om3_coeff.specs.declared.coef.Coef.{Coef}
@@ -46,31 +46,24 @@ held_view slots root told asked asks = record {
   bad = IsHeldError root told (height slots);
 }
 
--- asks leave slots, root and what is held
-pub record HeldStays (slots now_slots : ℕ) (root now_root : Option Span) (held now_held : List (Key × Coef)) : Type 0 where
-  pub slots : now_slots ≡ slots
-  pub root : now_root ≡ root
-  pub held : now_held ≡ held
+-- the errors that may come are those of what is told
+same_error : (root other : Option Span) (told after : Key → Option Coef) (slots count : ℕ) (e : NodeError) → other ≡ root → after ≡ told → count ≡ slots
+    → IsHeldError root told (height slots) e → IsHeldError other after (height count) e
+same_error root other told after slots count e of_root of_told of_slots h =
+    let P : Option Span → Type 0 = λ r. IsHeldError r told (height slots) e in
+    let Q : (Key → Option Coef) → Type 0 = λ t. IsHeldError other t (height slots) e in
+    let R : ℕ → Type 0 = λ n. IsHeldError other after (height n) e in
+    subst R (sym of_slots) (subst Q (sym of_told) (subst P (sym of_root) h))
 
-pub held_itself : (slots : ℕ) (root : Option Span) (held : List (Key × Coef)) → HeldStays slots slots root root held held
-held_itself slots root held = record { slots = refl; root = refl; held = refl }
-
-pub held_on : (n m l : ℕ) (r s t : Option Span) (x y z : List (Key × Coef)) → HeldStays n m r s x y → HeldStays m l s t y z → HeldStays n l r t x z
-held_on n m l r s t x y z h g = record { slots = g.slots ∙ h.slots; root = g.root ∙ h.root; held = g.held ∙ h.held }
-
--- so the view stays the same
-pub held_same : (n m : ℕ) (r s : Option Span) (x y : List (Key × Coef)) (before now : Option Key) (asks later : ℕ) → HeldStays n m r s x y
-    → StaysSame (held_view n r (told_by x) before asks) (held_view m s (told_by y) now later)
-held_same n m r s x y before now asks later h = record {
-  slots = h.slots;
-  root = h.root;
+-- over the same slots, root and coefficients the nodes stay the same
+pub held_stays : (slots count : ℕ) (root other : Option Span) (told after : Key → Option Coef) (before now : Option Key) (asks later : ℕ) → count ≡ slots → other ≡ root → after ≡ told
+    → StaysSame (held_view slots root told before asks) (held_view count other after now later)
+held_stays slots count root other told after before now asks later of_slots of_root of_told = record {
+  slots = of_slots;
+  root = of_root;
   tells = λ t. t;
   has_told = λ t. t;
-  told = λ t. ap told_by h.held;
-  bad = λ e.
-      let P : Option Span → List (Key × Coef) → ℕ → Type 0 = λ r x n. IsHeldError r (told_by x) (height n) e in
-      subst₃ P (sym h.root) (sym h.held) (sym h.slots);
-  was_bad = λ e.
-      let P : Option Span → List (Key × Coef) → ℕ → Type 0 = λ r x n. IsHeldError r (told_by x) (height n) e in
-      subst₃ P h.root h.held h.slots;
+  told = λ t. of_told;
+  bad = λ e. same_error root other told after slots count e of_root of_told of_slots;
+  was_bad = λ e. same_error other root after told count slots e (sym of_root) (sym of_told) (sym of_slots);
 }
