@@ -1,10 +1,10 @@
-use Rattle.std.proofs.Common.{ℕ, zero, suc, ℤ, ◌≡◌, ◌+◌, ◌-◌, ◌<◌, ◌≤◌, ◌≤ℤ◌, ◌⊎◌, inl, inr, List, [], ◌∷◌, ◌++◌, take, drop, length, refl, sym, ◌∙◌, ap, ap₂, subst, arith, zero-add}
+use Rattle.std.proofs.Common.{ℕ, zero, suc, ℤ, ◌≡◌, ◌+◌, ◌-◌, ◌<◌, ◌≤◌, ◌≤ℤ◌, List, [], ◌∷◌, ◌++◌, take, drop, refl, sym, ◌∙◌, ap, ap₂, subst, arith}
 use Rattle.std.proofs.lemmas.Int.{ints, clamps, by_lt_z}
-use Rattle.std.proofs.lemmas.Option.{same_Some, slice_get_within, slice_get_past}
+use Rattle.std.proofs.lemmas.Option.{same_Some}
 use Rattle.std.specs.Prelude.{Option, Some, None, IfSome, slice_get}
 use Rattle.std.specs.Int.{int_min, int_max}
 use Rattle.om3_coeff.specs.declared.span.Span.{Span}
-use Rattle.om3_coeff.specs.Spans.{IsValue, AreSlots, IsProper, IsProperIfAny, Holds, IsClear, IsStored, AreExtremes, IsSpanOf, hull, span_of_slot, span_of, span_over}
+use Rattle.om3_coeff.specs.Spans.{IsValue, AreSlots, IsProperIfAny, Holds, IsClear, IsStored, IsSpanOf, hull, span_of_slot, span_of, span_over}
 
 -- s has the least and the greatest value of a whole list
 record IsWhole (list : List (Option ℤ)) (s : Span) : Type 0 where

@@ -1,12 +1,11 @@
-use Rattle.std.proofs.Common.{ℕ, zero, suc, ℤ, ◌≡◌, ◌+◌, ◌-◌, ◌*◌, ◌/◌, ◌%◌, ◌^◌, ◌<◌, ◌≤◌, min, max, ◌⊎◌, inl, inr, Bool, true, false, cond, leb, List, refl, sym, ◌∙◌, ap, ap₂, subst, arith, lit≤, lit<}
+use Rattle.std.proofs.Common.{ℕ, suc, ℤ, ◌≡◌, ◌+◌, ◌-◌, ◌*◌, ◌/◌, ◌%◌, ◌^◌, ◌<◌, ◌≤◌, inl, inr, List, sym, ◌∙◌, ap, ap₂, arith, lit<}
 use Rattle.std.proofs.Math.Nat.{pow-succ', div-one, div-mul-le_self, mul_assoc, mul-le-mul_right, pow-le-pow_right}
 use Rattle.std.proofs.lemmas.Nat.{pow_pos, pow-add, shr-shr, shr_below, shr_split, mod_below}
 use Rattle.std.proofs.lemmas.Bool.{cases_lt}
 use Rattle.std.proofs.lemmas.Bool.Decides.{nat_tests}
-use Rattle.std.specs.Prelude.{Option, Some, None}
+use Rattle.std.specs.Prelude.{Option}
 use Rattle.om3_coeff.specs.declared.key.Key.{Key}
-use Rattle.om3_coeff.specs.declared.span.Span.{Span}
-use Rattle.om3_coeff.specs.Keys.{first_slot, end_slot, left_of, right_of, parent_of, page_levels, height, top_key, IsKey, IsNode, IsAtOrAbove, IsOver, MayFollow}
+use Rattle.om3_coeff.specs.Keys.{first_slot, end_slot, left_of, right_of, parent_of, page_levels, height, IsKey, IsNode, IsAtOrAbove}
 use Rattle.om3_coeff.specs.Spans.{hull, span, span_over}
 use Rattle.om3_coeff.proofs.SpanLemmas.{span_over-both}
 

@@ -1,4 +1,4 @@
-use Rattle.std.proofs.Common.{◌≡◌, ◌≤◌, length}
+use Rattle.std.proofs.Common.{◌≤◌, length}
 use Rattle.om3_coeff.specs.Spans.{AreSlots}
 use Rattle.om3_coeff.proofs.tests.random_slots.Given as goal
 
