@@ -1,5 +1,5 @@
 -- The pairs of another series, when a view needs keys of one.
-use Rattle.std.proofs.Common.{◌≡◌, ◌≢◌, ℕ, Bool, true, false, cond, not, ◌&&◌, nat_eq, ◌==◌, List, [], ◌∷◌, ◌++◌, map, take, reverse, is_some, Some, refl, sym, ap, ◌∙◌}
+use Rattle.std.proofs.Common.{◌≡◌, ◌≢◌, ℕ, Bool, true, false, cond, not, ◌&&◌, nat_eq, ◌==◌, List, [], ◌∷◌, ◌++◌, take, reverse, is_some, Some, refl, sym, ap, ◌∙◌}
 use Rattle.std.specs.List.{filter}
 use Rattle.std.specs.Map.{lookup}
 use Rattle.std.proofs.lemmas.List.Elements.{filter-append}
@@ -7,7 +7,7 @@ use Rattle.std.proofs.lemmas.Bool.Decides.{Decides-eqb}
 use Rattle.om3_coeff.specs.declared.key.Key.{Key}
 use Rattle.om3_coeff.specs.declared.coef.Coef.{Coef}
 use Rattle.coefficient_cache.specs.declared.series_key.SeriesKey.{SeriesKey}
-use Rattle.coefficient_cache.specs.Pairs.{series_key, is_key, in_series, has}
+use Rattle.coefficient_cache.specs.Pairs.{series_key, key_eq, in_series, has}
 use Rattle.coefficient_cache.specs.Views.{hits, news, others, renewed, of_series}
 use Rattle.coefficient_cache.proofs.Filtered.{filter-reverse, filter-take}
 
@@ -33,7 +33,7 @@ module _ (series other : ℕ) (apart : other ≢ series) where
   not_needed [] k h = refl
   not_needed (e ∷ es) k h =
       let differs : nat_eq k.series series ≡ false = unequal k.series series (λ same. apart (sym ((Decides-eqb k.series other).0 h) ∙ same)) in
-      ap (λ b. is_some (cond (b && (nat_eq k.key.level e.0.level && nat_eq k.key.index e.0.index)) (Some e.1) (lookup (is_key k) (in_series series es)))) differs
+      ap (λ b. is_some (cond (b && (nat_eq k.key.level e.0.level && nat_eq k.key.index e.0.index)) (Some e.1) (lookup (key_eq k) (in_series series es)))) differs
       ∙ not_needed es k h
 
   -- all its pairs are among the others
@@ -60,6 +60,6 @@ module _ (series other : ℕ) (apart : other ≢ series) where
       let front = reverse (news pairs all) ++ reverse (hits pairs all) in
       let cut = filter-take of capacity (front ++ others pairs all) in
       let gone : of_series other front ≡ [] =
-          filter-append of (reverse (news pairs all)) (reverse (hits pairs all))
-          ∙ (λ i. (filter-reverse of (news pairs all) ∙ ap reverse (none_needed (λ e. not (has pairs e.0)) needed)) i ++ (filter-reverse of (hits pairs all) ∙ ap reverse (none_needed (λ e. has pairs e.0) needed)) i) in
+      filter-append of (reverse (news pairs all)) (reverse (hits pairs all))
+      ∙ (λ i. (filter-reverse of (news pairs all) ∙ ap reverse (none_needed (λ e. not (has pairs e.0)) needed)) i ++ (filter-reverse of (hits pairs all) ∙ ap reverse (none_needed (λ e. has pairs e.0) needed)) i) in
       (cut.0, cut.1 ∙ ap (take cut.0) (filter-append of front (others pairs all) ∙ (λ i. gone i ++ all_others pairs needed i)))

@@ -1,5 +1,5 @@
 -- Look-ups in filters and in lists that are turned round, where no two keys are equal.
-use Rattle.std.proofs.Common.{◌≡◌, ℕ, ◌+◌, ◌-◌, ◌≤◌, Bool, true, false, cond, List, [], ◌∷◌, ◌++◌, length, map, take, drop, reverse, Option, Some, None, refl, sym, ap, ◌∙◌, append-nil, arith}
+use Rattle.std.proofs.Common.{◌≡◌, ℕ, ◌+◌, ◌-◌, ◌≤◌, Bool, true, false, cond, List, [], ◌∷◌, ◌++◌, length, map, take, drop, reverse, Some, None, refl, sym, ap, ◌∙◌, append-nil, arith}
 use Rattle.std.specs.Cmp.{IsEquivalence}
 use Rattle.std.specs.List.{filter, IsDistinct}
 use Rattle.std.specs.Map.{keys_of, lookup}
@@ -32,9 +32,11 @@ filter-reverse p (x ∷ xs) =
 
 -- what a filter keeps of the first n is the first of what it keeps
 pub filter-take : {X : Type 0} (p : X → Bool) (n : ℕ) (xs : List X) → (m : ℕ) × (filter p (take n xs) ≡ take m (filter p xs))
-filter-take p n xs = (length (filter p (take n xs)),
-    sym (take-append_seam (filter p (take n xs)) (filter p (drop n xs)))
-    ∙ ap (take (length (filter p (take n xs)))) (sym (filter-append p (take n xs) (drop n xs)) ∙ ap (filter p) (take-append-drop n xs)))
+filter-take p n xs = (
+  length (filter p (take n xs)),
+  sym (take-append_seam (filter p (take n xs)) (filter p (drop n xs)))
+      ∙ ap (take (length (filter p (take n xs)))) (sym (filter-append p (take n xs) (drop n xs)) ∙ ap (filter p) (take-append-drop n xs)),
+)
 
 module _ {K V : Type 0} (test : K → Bool) where
   pub lookup-filter-none : (q : K × V → Bool) (es : List (K × V)) → lookup test es ≡ None → lookup test (filter q es) ≡ None

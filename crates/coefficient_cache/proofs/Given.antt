@@ -1,5 +1,5 @@
 -- What is sent and what is held give the needed list; needed keys are held afterwards.
-use Rattle.std.proofs.Common.{◌≡◌, ◌≢◌, ℕ, suc, ◌+◌, ◌<◌, ◌≤◌, Bool, true, false, cond, not, List, [], ◌∷◌, ◌++◌, length, map, take, get_or, reverse, Option, Some, None, is_some, refl, sym, ap, ◌∙◌, subst, arith, length-append, pos}
+use Rattle.std.proofs.Common.{◌≡◌, ℕ, ◌<◌, ◌≤◌, Bool, true, false, cond, not, List, [], ◌∷◌, ◌++◌, length, map, get_or, reverse, Option, Some, None, refl, sym, ap, ◌∙◌, subst, arith, length-append, pos}
 use Rattle.std.specs.List.{filter, filter_map, IsDistinct, All, Contains}
 use Rattle.std.specs.Map.{keys_of, lookup}
 use Rattle.std.specs.Option.{option_map, option_map_or}
@@ -11,41 +11,41 @@ use Rattle.std.proofs.lemmas.Map.Views.{lookup-from_Contains}
 use Rattle.om3_coeff.specs.declared.key.Key.{Key}
 use Rattle.om3_coeff.specs.declared.coef.Coef.{Coef}
 use Rattle.coefficient_cache.specs.declared.series_key.SeriesKey.{SeriesKey}
-use Rattle.coefficient_cache.specs.Pairs.{series_key, is_key, is_coefficient, in_series, coefficient_at, has, holds}
-use Rattle.coefficient_cache.specs.Views.{AreDistinct, Gives, to_send, hits, news, others, looked_up, renewed}
-use Rattle.coefficient_cache.proofs.Keys.{Decides-is_key, Decides-is_coefficient, key_laws, key_exact, key_from}
+use Rattle.coefficient_cache.specs.Pairs.{series_key, key_eq, coefficient_eq, in_series, coefficient_at, has, holds}
+use Rattle.coefficient_cache.specs.Views.{AreDistinct, Gives, to_send, others, looked_up, renewed}
+use Rattle.coefficient_cache.proofs.Keys.{Decides-key_eq, Decides-coefficient_eq, key_laws, key_exact, key_from}
 use Rattle.coefficient_cache.proofs.Finds.{or_else, lookup-append}
 use Rattle.coefficient_cache.proofs.Filtered.{filter-map, lookup-filter, lookup-reverse, lookup-kept}
 
-held-some : (o : Option Coef) (v : Coef) → option_map_or (is_coefficient v) o false ≡ true → o ≡ Some v
+held-some : (o : Option Coef) (v : Coef) → option_map_or (coefficient_eq v) o false ≡ true → o ≡ Some v
 held-some None v h = absurd cc
-held-some (Some w) v h = ap Some (sym ((Decides-is_coefficient v w).0 h))
+held-some (Some w) v h = ap Some (sym ((Decides-coefficient_eq v w).0 h))
 
 -- a list holds a pair exactly where a look-up of its key gives its coefficient
 pub found-held : (pairs : List (SeriesKey × Coef)) (e : SeriesKey × Coef) → holds pairs e ≡ true → coefficient_at pairs e.0 ≡ Some e.1
 found-held pairs e = held-some (coefficient_at pairs e.0) e.1
 
 pub held-found : (pairs : List (SeriesKey × Coef)) (e : SeriesKey × Coef) → coefficient_at pairs e.0 ≡ Some e.1 → holds pairs e ≡ true
-held-found pairs e h = ap (λ o. option_map_or (is_coefficient e.1) o false) h ∙ (Decides-is_coefficient e.1 e.1).1 refl
+held-found pairs e h = ap (λ o. option_map_or (coefficient_eq e.1) o false) h ∙ (Decides-coefficient_eq e.1 e.1).1 refl
 
 abbrev no_coef : Coef
 no_coef = record { left = false; right = false; dmin = pos 0; dmax = pos 0 }
 
 -- the keys of needed pairs differ
-pub distinct-in_series : (series : ℕ) (needed : List (Key × Coef)) → AreDistinct needed → IsDistinct is_key (keys_of (in_series series needed))
+pub distinct-in_series : (series : ℕ) (needed : List (Key × Coef)) → AreDistinct needed → IsDistinct key_eq (keys_of (in_series series needed))
 distinct-in_series series needed distinct =
-    IsDistinct-from_AllPairs Decides-is_key (keys_of (in_series series needed)) (λ i j d lt in_range.
-      let g : Key × Coef → SeriesKey × Coef = λ e. (series_key series e.0, e.1) in
-      let f : SeriesKey × Coef → SeriesKey = λ e. e.0 in
-      let z : Key × Coef = (d.key, no_coef) in
-      let long : length (keys_of (in_series series needed)) ≡ length needed = length-map (in_series series needed) f ∙ length-map needed g in
-      let ends : j < length needed = subst (λ n. j < n) long in_range in
-      let starts : i < length needed = omega arith in
-      let at = λ (n : ℕ) (h : n < length needed). get_or-map f (in_series series needed) n (g z) d (subst (λ m. n < m) (sym (length-map needed g)) h) ∙ ap f (get_or-map g needed n z (g z) h) in
-      λ same. distinct i j z lt ends (key_from series (get_or needed i z).0 (get_or needed j z).0 (sym (at i starts) ∙ same ∙ at j ends)))
+    IsDistinct-from_AllPairs Decides-key_eq (keys_of (in_series series needed)) (λ i j d lt in_range.
+    let g : Key × Coef → SeriesKey × Coef = λ e. (series_key series e.0, e.1) in
+    let f : SeriesKey × Coef → SeriesKey = λ e. e.0 in
+    let z : Key × Coef = (d.key, no_coef) in
+    let long : length (keys_of (in_series series needed)) ≡ length needed = length-map (in_series series needed) f ∙ length-map needed g in
+    let ends : j < length needed = subst (λ n. j < n) long in_range in
+    let starts : i < length needed = omega arith in
+    let at = λ (n : ℕ) (h : n < length needed). get_or-map f (in_series series needed) n (g z) d (subst (λ m. n < m) (sym (length-map needed g)) h) ∙ ap f (get_or-map g needed n z (g z) h) in
+    λ same. distinct i j z lt ends (key_from series (get_or needed i z).0 (get_or needed j z).0 (sym (at i starts) ∙ same ∙ at j ends)))
 
 -- a look-up in the needed pairs gives each its coefficient
-pub found-needed : (series : ℕ) (needed : List (Key × Coef)) (i : ℕ) (d : Key × Coef) → AreDistinct needed → i < length needed → lookup (is_key (series_key series (get_or needed i d).0)) (in_series series needed) ≡ Some (get_or needed i d).1
+pub found-needed : (series : ℕ) (needed : List (Key × Coef)) (i : ℕ) (d : Key × Coef) → AreDistinct needed → i < length needed → lookup (key_eq (series_key series (get_or needed i d).0)) (in_series series needed) ≡ Some (get_or needed i d).1
 found-needed series needed i d distinct h =
     let g : Key × Coef → SeriesKey × Coef = λ e. (series_key series e.0, e.1) in
     let long : i < length (in_series series needed) = subst (λ n. i < n) (sym (length-map needed g)) h in
@@ -65,8 +65,8 @@ sent-and-held pairs series needed distinct i d h =
     let k = series_key series (get_or needed i d).0 in
     let v = (get_or needed i d).1 in
     let p : SeriesKey × Coef → Bool = λ e. not (holds pairs e) in
-    lookup-append (is_key k) (in_series series (to_send pairs series needed)) pairs
-    ∙ ap (λ l. or_else (lookup (is_key k) l) (coefficient_at pairs k)) (sym (filter-map p (λ e. (series_key series e.0, e.1)) needed))
+    lookup-append (key_eq k) (in_series series (to_send pairs series needed)) pairs
+    ∙ ap (λ l. or_else (lookup (key_eq k) l) (coefficient_at pairs k)) (sym (filter-map p (λ e. (series_key series e.0, e.1)) needed))
     ∙ ap (λ o. or_else o (coefficient_at pairs k)) (lookup-filter key_laws key_exact p all k v (distinct-in_series series needed distinct) (found-needed series needed i d distinct h))
     ∙ sent_or_held pairs k v (holds pairs (k, v)) refl
 
@@ -95,13 +95,13 @@ needed-held capacity pairs series needed distinct fits i d h =
     let found = found-needed series needed i d distinct h in
     let front = reverse (filter q all) ++ reverse (filter p all) in
     let short : length front ≤ capacity =
-        omega (arith, length-append (reverse (filter q all)) (reverse (filter p all)), length-reverse (filter q all), length-reverse (filter p all), length-filter_both p q (λ e. refl) all, length-map needed g) in
-    lookup-kept (is_key k) capacity front (others pairs all) v short (
-      lookup-append (is_key k) (reverse (filter q all)) (reverse (filter p all))
-      ∙ (λ j. or_else
-        ((lookup-reverse key_laws key_exact (filter q all) k (IsDistinct-keys_filter is_key q all apart) ∙ lookup-filter key_laws key_exact q all k v apart found) j)
-        ((lookup-reverse key_laws key_exact (filter p all) k (IsDistinct-keys_filter is_key p all apart) ∙ lookup-filter key_laws key_exact p all k v apart found) j))
-      ∙ new_or_hit (has pairs k) v)
+    omega (arith, length-append (reverse (filter q all)) (reverse (filter p all)), length-reverse (filter q all), length-reverse (filter p all), length-filter_both p q (λ e. refl) all, length-map needed g) in
+    lookup-kept (key_eq k) capacity front (others pairs all) v short (
+    lookup-append (key_eq k) (reverse (filter q all)) (reverse (filter p all))
+    ∙ (λ j. or_else
+    ((lookup-reverse key_laws key_exact (filter q all) k (IsDistinct-keys_filter key_eq q all apart) ∙ lookup-filter key_laws key_exact q all k v apart found) j)
+    ((lookup-reverse key_laws key_exact (filter p all) k (IsDistinct-keys_filter key_eq p all apart) ∙ lookup-filter key_laws key_exact p all k v apart found) j))
+    ∙ new_or_hit (has pairs k) v)
 
 -- what a list gives isn't sent
 pub nothing-to-send : (view : List (SeriesKey × Coef)) (series : ℕ) (needed : List (Key × Coef)) → Gives view series needed → to_send view series needed ≡ []

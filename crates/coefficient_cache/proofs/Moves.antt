@@ -1,5 +1,5 @@
 -- What a `put` of a needed key does to a list, told by its hits, its new keys and the others.
-use Rattle.std.proofs.Common.{◌≡◌, ℕ, zero, suc, ◌-◌, ◌<◌, Bool, true, false, cond, not, ◌&&◌, ◌||◌, List, [], ◌∷◌, ◌++◌, take, reverse, Option, Some, None, is_some, refl, sym, ap, ◌∙◌, subst, append_assoc, append-nil, arith}
+use Rattle.std.proofs.Common.{◌≡◌, ℕ, zero, suc, ◌-◌, ◌<◌, Bool, true, false, cond, not, ◌&&◌, ◌||◌, List, [], ◌∷◌, ◌++◌, take, reverse, Some, None, is_some, refl, sym, ap, ◌∙◌, append-nil, arith}
 use Rattle.std.proofs.lemmas.List.{reverse-append, take-take}
 use Rattle.std.specs.Cmp.{IsEquivalence}
 use Rattle.std.specs.List.{filter, IsDistinct}
@@ -164,8 +164,8 @@ module _ {K V : Type 0} {eq : K → K → Bool} (laws : IsEquivalence eq) (exact
   put-new base xs k v n some fresh out =
       let L = reverse (news base xs) ++ base in
       let none : has L k ≡ false =
-          has-append (eq k) (reverse (news base xs)) base
-          ∙ (λ i. (has-reverse (eq k) (news base xs) ∙ has-filter (λ j. not (has base j)) xs k ∙ ap (λ b. not (has base k) && b) fresh ∙ and-false (not (has base k))) i || out i) in
+      has-append (eq k) (reverse (news base xs)) base
+      ∙ (λ i. (has-reverse (eq k) (news base xs) ∙ has-filter (λ j. not (has base j)) xs k ∙ ap (λ b. not (has base k) && b) fresh ∙ and-false (not (has base k))) i || out i) in
       put-missed (take n L) k v n (lookup-take-none (eq k) n L (none_from_is_some (lookup (eq k) L) none))
       ∙ take-put n (k, v) L some
       ∙ ap (λ zs. take n (zs ++ base)) (sym (reverse-append (news base xs) ((k, v) ∷ [])) ∙ ap reverse (sym (filter-one (λ e. not (has base e.0)) xs (k, v) true (ap not out))))

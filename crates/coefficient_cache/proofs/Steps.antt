@@ -7,7 +7,7 @@ use Rattle.lru.specs.LruCache.{LruCache, lru_cache, put_entries}
 use Rattle.om3_coeff.specs.declared.key.Key.{Key}
 use Rattle.om3_coeff.specs.declared.coef.Coef.{Coef}
 use Rattle.coefficient_cache.specs.declared.series_key.SeriesKey.{SeriesKey}
-use Rattle.coefficient_cache.specs.Pairs.{series_key, is_key, in_series, has}
+use Rattle.coefficient_cache.specs.Pairs.{series_key, key_eq, in_series, has}
 use Rattle.coefficient_cache.specs.Views.{AreDistinct, are_new, hits, news, others, renewed}
 use Rattle.coefficient_cache.proofs.Keys.{key_laws, key_exact, in_series-more, is_fresh}
 use Rattle.coefficient_cache.proofs.Moves.{moved, topped, move-hit, move-miss, has-moved, put-new, put-none}
@@ -52,17 +52,17 @@ module _ (series : ℕ) (needed : List (Key × Coef)) (i : ℕ) (d : Key × Coef
   fresh : has before key ≡ false
   fresh = is_fresh series needed i d distinct in_range
 
-  hit_or_miss : (pairs : List (SeriesKey × Coef)) (n : ℕ) (b : Bool) → IsDistinct is_key (keys_of pairs) → has pairs key ≡ b → cond b (put_entries is_key (lru_cache (moved_keys pairs before) n) key coef) (moved_keys pairs before) ≡ moved_keys pairs (before ++ (key, coef) ∷ [])
+  hit_or_miss : (pairs : List (SeriesKey × Coef)) (n : ℕ) (b : Bool) → IsDistinct key_eq (keys_of pairs) → has pairs key ≡ b → cond b (put_entries key_eq (lru_cache (moved_keys pairs before) n) key coef) (moved_keys pairs before) ≡ moved_keys pairs (before ++ (key, coef) ∷ [])
   hit_or_miss pairs n true apart h = move-hit key_laws key_exact pairs before key coef n apart fresh h
   hit_or_miss pairs n false apart h = move-miss key_laws key_exact pairs before key coef h
 
   -- a needed key that is in the list comes to its front, and nothing moves for another
-  pub hits-step : (pairs : List (SeriesKey × Coef)) (old : LruCache SeriesKey Coef) (k : SeriesKey) (new : List (SeriesKey × Coef)) → IsDistinct is_key (keys_of pairs) → old.entries ≡ moved_keys pairs before → k ≡ key → new ≡ (if has old.entries k then put_entries is_key old k coef else old.entries) → new ≡ moved_keys pairs after
+  pub hits-step : (pairs : List (SeriesKey × Coef)) (old : LruCache SeriesKey Coef) (k : SeriesKey) (new : List (SeriesKey × Coef)) → IsDistinct key_eq (keys_of pairs) → old.entries ≡ moved_keys pairs before → k ≡ key → new ≡ (if has old.entries k then put_entries key_eq old k coef else old.entries) → new ≡ moved_keys pairs after
   hits-step pairs old k new apart was is then_ =
       let same : old ≡ lru_cache (moved_keys pairs before) old.cap = (λ j. lru_cache (was j) old.cap) in
       then_
-      ∙ (λ j. if has (same j).entries (is j) then put_entries is_key (same j) (is j) coef else (same j).entries)
-      ∙ ap (λ b. cond b (put_entries is_key (lru_cache (moved_keys pairs before) old.cap) key coef) (moved_keys pairs before)) (has-moved key_laws key_exact pairs before key)
+      ∙ (λ j. if has (same j).entries (is j) then put_entries key_eq (same j) (is j) coef else (same j).entries)
+      ∙ ap (λ b. cond b (put_entries key_eq (lru_cache (moved_keys pairs before) old.cap) key coef) (moved_keys pairs before)) (has-moved key_laws key_exact pairs before key)
       ∙ hit_or_miss pairs old.cap (has pairs key) apart refl
       ∙ ap (moved_keys pairs) (sym more)
 
@@ -80,14 +80,14 @@ module _ (series : ℕ) (needed : List (Key × Coef)) (i : ℕ) (d : Key × Coef
       let f : SeriesKey × Coef → Bool = λ p. not (has base p.0) in
       let long : i < length (map g needed) = subst (λ n. i < n) (sym (length-map needed g)) in_range in
       let told : get_or flags i e ≡ not (has base key) =
-          ap (λ l. get_or l i e) are ∙ get_or-map f (map g needed) i (g d) e long ∙ ap f (get_or-map g needed i d (g d) in_range) in
+      ap (λ l. get_or l i e) are ∙ get_or-map f (map g needed) i (g d) e long ∙ ap f (get_or-map g needed i d (g d) in_range) in
       not_turned (has base key) b (sym told ∙ at)
 
   -- a new key is put in front
-  pub new-step : (base : List (SeriesKey × Coef)) (old : LruCache SeriesKey Coef) (n : ℕ) (k : SeriesKey) (new : List (SeriesKey × Coef)) → 0 < n → has base key ≡ false → old.entries ≡ topped_keys n base before → old.cap ≡ n → k ≡ key → new ≡ put_entries is_key old k coef → new ≡ topped_keys n base after
+  pub new-step : (base : List (SeriesKey × Coef)) (old : LruCache SeriesKey Coef) (n : ℕ) (k : SeriesKey) (new : List (SeriesKey × Coef)) → 0 < n → has base key ≡ false → old.entries ≡ topped_keys n base before → old.cap ≡ n → k ≡ key → new ≡ put_entries key_eq old k coef → new ≡ topped_keys n base after
   new-step base old n k new some out was size is put =
       put
-      ∙ (λ j. put_entries is_key (lru_cache (was j) (size j)) (is j) coef)
+      ∙ (λ j. put_entries key_eq (lru_cache (was j) (size j)) (is j) coef)
       ∙ put-new key_laws key_exact base before key coef n some fresh out
       ∙ ap (topped_keys n base) (sym more)
 

@@ -3,7 +3,7 @@ use Rattle.std.specs.List.{IsDistinct}
 use Rattle.std.specs.Map.{keys_of}
 use Rattle.om3_coeff.specs.declared.coef.Coef.{Coef}
 use Rattle.coefficient_cache.specs.declared.series_key.SeriesKey.{SeriesKey}
-use Rattle.coefficient_cache.specs.Pairs.{is_key}
+use Rattle.coefficient_cache.specs.Pairs.{key_eq}
 
 -- a list of pairs, the most recently used first, and how many it may have
 pub record Cache : Type 0 where
@@ -16,5 +16,5 @@ IsCapacity n = (1 ≤ n) × (n ≤ 131072)
 
 -- no two pairs are of the same key, and there are no more than the capacity
 pub record IsValid (c : Cache) : Type 0 where
-  pub distinct : IsDistinct is_key (keys_of c.pairs)
+  pub distinct : IsDistinct key_eq (keys_of c.pairs)
   pub within : length c.pairs ≤ c.capacity

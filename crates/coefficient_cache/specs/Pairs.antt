@@ -13,12 +13,12 @@ abbrev pub series_key : ℕ → Key → SeriesKey
 series_key series key = record { series = series; key = key }
 
 -- the two keys are the same
-abbrev pub is_key : SeriesKey → SeriesKey → Bool
-is_key a b = nat_eq a.series b.series && (nat_eq a.key.level b.key.level && nat_eq a.key.index b.key.index)
+abbrev pub key_eq : SeriesKey → SeriesKey → Bool
+key_eq a b = nat_eq a.series b.series && (nat_eq a.key.level b.key.level && nat_eq a.key.index b.key.index)
 
 -- the two coefficients are the same
-abbrev pub is_coefficient : Coef → Coef → Bool
-is_coefficient a b = beq a.left b.left && (beq a.right b.right && (int_eq a.dmin b.dmin && int_eq a.dmax b.dmax))
+abbrev pub coefficient_eq : Coef → Coef → Bool
+coefficient_eq a b = beq a.left b.left && (beq a.right b.right && (int_eq a.dmin b.dmin && int_eq a.dmax b.dmax))
 
 -- needed keys of one series, each with its present coefficient, as pairs of a list
 abbrev pub in_series : ℕ → List (Key × Coef) → List (SeriesKey × Coef)
@@ -26,7 +26,7 @@ in_series series needed = map (λ e. (series_key series e.0, e.1)) needed
 
 -- the coefficient that the list holds for a key, if it has the key
 abbrev pub coefficient_at : List (SeriesKey × Coef) → SeriesKey → Option Coef
-coefficient_at pairs key = lookup (is_key key) pairs
+coefficient_at pairs key = lookup (key_eq key) pairs
 
 -- the list has the key, with whatever coefficient
 abbrev pub has : List (SeriesKey × Coef) → SeriesKey → Bool
@@ -34,4 +34,4 @@ has pairs key = is_some (coefficient_at pairs key)
 
 -- the list holds the key with this very coefficient
 abbrev pub holds : List (SeriesKey × Coef) → SeriesKey × Coef → Bool
-holds pairs e = option_map_or (is_coefficient e.1) (coefficient_at pairs e.0) false
+holds pairs e = option_map_or (coefficient_eq e.1) (coefficient_at pairs e.0) false

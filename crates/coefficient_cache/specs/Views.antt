@@ -1,5 +1,5 @@
 -- What a view does with a list: what is sent for it, and the list after it.
-use Rattle.std.specs.Prelude.{ℕ, Bool, ◌≡◌, ◌≢◌, not, ◌==◌, List, ◌++◌, Option, Some, map, reverse, take, All, AllPairs, filter}
+use Rattle.std.specs.Prelude.{ℕ, Bool, ◌≡◌, ◌≢◌, not, ◌==◌, List, ◌++◌, Some, map, reverse, take, All, AllPairs, filter}
 use Rattle.std.specs.List.{filter_map}
 use Rattle.std.specs.Option.{option_map}
 use Rattle.om3_coeff.specs.declared.key.Key.{Key}
@@ -37,11 +37,15 @@ others pairs needed = filter (λ e. not (has needed e.0)) pairs
 abbrev pub renewed : ℕ → List (SeriesKey × Coef) → List (SeriesKey × Coef) → List (SeriesKey × Coef)
 renewed capacity pairs needed = take capacity (reverse (news pairs needed) ++ reverse (hits pairs needed) ++ others pairs needed)
 
+-- where a client looks its needed keys up: among the sent pairs first, and then in its list
+abbrev pub sent_and_held : List (SeriesKey × Coef) → ℕ → List (Key × Coef) → List (SeriesKey × Coef)
+sent_and_held pairs series needed = in_series series (to_send pairs series needed) ++ pairs
+
 -- looking up each needed key gives its needed coefficient
 abbrev pub Gives : List (SeriesKey × Coef) → ℕ → List (Key × Coef) → Type 0
 Gives pairs series needed = All (λ e. coefficient_at pairs (series_key series e.0) ≡ Some e.1) needed
 
--- the keys of the series, each with the coefficient that a look-up gives; a key that is nowhere is left out
+-- the keys of a series, each with the coefficient that a look-up gives; one that isn't found is left out
 abbrev pub looked_up : List (SeriesKey × Coef) → ℕ → List Key → List (Key × Coef)
 looked_up pairs series keys = filter_map (λ key. option_map (λ coef. (key, coef)) (coefficient_at pairs (series_key series key))) keys
 

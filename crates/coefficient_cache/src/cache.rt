@@ -15,8 +15,12 @@ use std::num::NonZeroUsize;
 /// The most pairs that a list may have.
 pub const MOST_CAPACITY: u32 = 131_072;
 
-/// The capacity of a list for which none is named.
-pub const DEFAULT_CAPACITY: u32 = 65_536;
+/// Whether a list may have this capacity: 1 to `MOST_CAPACITY`.
+pub fn is_capacity(n: u64) -> bool
+    ensures { IsTrue result ↔ IsCapacity n }
+{
+    1 <= n && n <= u64::from(MOST_CAPACITY)
+}
 
 /// The coefficients that a client keeps, the most recently used first. A session's list at the server
 /// is the same.
@@ -41,12 +45,16 @@ impl CoefficientCache {
         requires { IsCapacity capacity }
         ensures { IfOk result (λ cache. cache ≡ record { pairs = []; capacity = capacity }) }
     {
-        let Some(capacity) = NonZeroUsize::new(capacity as usize) else {
-            return Err(NoMemory);
-        };
+        let capacity = NonZeroUsize::new(capacity as usize).unwrap();
         Ok(CoefficientCache {
             pairs: LruCache::sparse(alloc, capacity)?,
         })
+    }
+
+    // The list itself, for tests.
+    #[cfg(test)]
+    pub(crate) fn pairs(&self) -> &Pairs {
+        &self.pairs
     }
 
     /// How many pairs the list has.

@@ -1,11 +1,12 @@
 //! What follows from the definitions. The functions do nothing: their contracts are the laws.
 
-ghost use Rattle.std.specs.Prelude.{◌≡◌, ◌≢◌, ℕ, ◌≤◌, ◌↔◌, List, [], ◌++◌, Some, length, map, take, IsTrue};
+ghost use Rattle.std.specs.Prelude.{◌≡◌, ◌≢◌, ℕ, ◌≤◌, ◌↔◌, List, [], Some, length, take, IsTrue};
+ghost use Rattle.std.specs.Map.{keys_of};
 ghost use Rattle.om3_coeff.specs.declared.key.Key.{Key};
 ghost use Rattle.om3_coeff.specs.declared.coef.Coef.{Coef};
 ghost use Rattle.coefficient_cache.specs.declared.series_key.SeriesKey.{SeriesKey};
 ghost use Rattle.coefficient_cache.specs.Pairs.{in_series, coefficient_at, holds};
-ghost use Rattle.coefficient_cache.specs.Views.{AreDistinct, Gives, to_send, looked_up, renewed, of_series};
+ghost use Rattle.coefficient_cache.specs.Views.{AreDistinct, Gives, to_send, sent_and_held, looked_up, renewed, of_series};
 
 /// A list holds a pair exactly where a look-up of its key gives its coefficient.
 pub fn held_is_found()
@@ -17,7 +18,7 @@ pub fn held_is_found()
 /// then in the list gives each needed key its needed coefficient.
 pub fn sent_and_held_give_the_needed()
     ensures { (pairs : List (SeriesKey × Coef)) (series : ℕ) (needed : List (Key × Coef)) →
-        AreDistinct needed → Gives (in_series series (to_send pairs series needed) ++ pairs) series needed }
+        AreDistinct needed → Gives (sent_and_held pairs series needed) series needed }
 {}
 
 /// A client whose list is the server's, and that looks up the needed keys among the sent pairs and in
@@ -25,11 +26,11 @@ pub fn sent_and_held_give_the_needed()
 pub fn both_ends_keep_one_list()
     ensures looked_up { (pairs : List (SeriesKey × Coef)) (series : ℕ) (needed : List (Key × Coef)) →
         AreDistinct needed →
-        looked_up (in_series series (to_send pairs series needed) ++ pairs) series (map (λ e. e.0) needed) ≡ needed }
+        looked_up (sent_and_held pairs series needed) series (keys_of needed) ≡ needed }
     ensures renewed { (capacity : ℕ) (pairs : List (SeriesKey × Coef)) (series : ℕ) (needed : List (Key × Coef)) →
         AreDistinct needed →
-        renewed capacity pairs (in_series series (looked_up (in_series series (to_send pairs series needed) ++ pairs) series (map (λ e. e.0) needed)))
-            ≡ renewed capacity pairs (in_series series needed) }
+        renewed capacity pairs (in_series series (looked_up (sent_and_held pairs series needed) series (keys_of needed)))
+        ≡ renewed capacity pairs (in_series series needed) }
 {}
 
 /// After a view that needs at most as many keys as the capacity, the list holds each of them with its

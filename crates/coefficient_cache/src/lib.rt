@@ -20,6 +20,6 @@ mod series_key;
 #[cfg(test)]
 mod tests;
 
-pub use cache::{CoefficientCache, DEFAULT_CAPACITY, MOST_CAPACITY};
+pub use cache::{CoefficientCache, MOST_CAPACITY, is_capacity};
 pub use no_memory::NoMemory;
 pub use series_key::SeriesKey;

@@ -2,7 +2,7 @@
 
 ghost use Rattle.std.specs.Prelude.{◌≡◌, ◌++◌, reverse, take, if◌then◌else◌, OnOk, IfOk};
 ghost use Rattle.lru.specs.LruCache.{put_entries};
-ghost use Rattle.coefficient_cache.specs.Pairs.{is_key, in_series, has};
+ghost use Rattle.coefficient_cache.specs.Pairs.{key_eq, in_series, has};
 ghost use Rattle.coefficient_cache.specs.Views.{AreDistinct, hits, news, are_new, others};
 
 use crate::no_memory::NoMemory;
@@ -29,6 +29,7 @@ pub(crate) fn renew_hits(
         (λ is_new. is_new.items ≡ are_new pairs.old.entries (in_series series needed.now)) }
     ensures capacity { pairs.new.cap ≡ pairs.old.cap }
 {
+    // It brings in what holds of every list: no two keys are the same.
     let _length = pairs.len();
     let mut is_new = Vec::with_capacity(alloc, needed.len())?;
     for (key, coef) in needed {
@@ -41,7 +42,7 @@ pub(crate) fn renew_hits(
 fn renew_hit(pairs: &mut Pairs, key: SeriesKey, coef: Coef) -> Result<bool, NoMemory>
     ensures there { IfOk result (λ is_there. is_there ≡ has pairs.old.entries key) }
     ensures entries { OnOk result (pairs.new.entries ≡
-        (if has pairs.old.entries key then put_entries is_key pairs.old key coef else pairs.old.entries)) }
+        (if has pairs.old.entries key then put_entries key_eq pairs.old key coef else pairs.old.entries)) }
     ensures capacity { pairs.new.cap ≡ pairs.old.cap }
 {
     let is_there = pairs.contains(&key);
@@ -51,7 +52,8 @@ fn renew_hit(pairs: &mut Pairs, key: SeriesKey, coef: Coef) -> Result<bool, NoMe
     Ok(is_there)
 }
 
-// Puts the needed keys that are new in front, in order.
+// Puts the needed keys that are new in front, in order. They are told by flags, since a hit may have
+// fallen off by its turn.
 pub(crate) fn put_news(
     pairs: &mut Pairs,
     series: u16,
@@ -64,6 +66,7 @@ pub(crate) fn put_news(
         (pairs.new.entries ≡ take pairs.old.cap (reverse (news pairs.old.entries all) ++ pairs.old.entries)) }
     ensures capacity { pairs.new.cap ≡ pairs.old.cap }
 {
+    // It brings in what holds of every list: it is within its capacity.
     let _length = pairs.len();
     for (i, (key, coef)) in needed.iter().enumerate() {
         if is_new[i] {

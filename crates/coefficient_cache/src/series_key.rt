@@ -8,5 +8,6 @@ use om3_coeff::Key;
 pub struct SeriesKey {
     /// The number of the series.
     pub series: u16,
+    /// The key in the tree of that series.
     pub key: Key,
 }

@@ -1,4 +1,4 @@
-use Rattle.std.proofs.Common.{false, true, pos, refl, sym, ap, ◌∙◌}
+use Rattle.std.proofs.Common.{false, true, pos, refl, ap, ◌∙◌}
 use Rattle.om3_coeff.specs.declared.key.Key.{Key}
 use Rattle.om3_coeff.specs.declared.coef.Coef.{Coef}
 use Rattle.coefficient_cache.specs.Pairs.{series_key}
@@ -12,12 +12,12 @@ loop-i-preserved c = elim c.if-is_new-i.branch [
       let was = c.loop-i.invariant in
       let put = w.in_ok-put.ensures.entries in record {
         topped = ap (λ p. p.entries) w.pairs-is ∙ new-step c.args.series c.args.needed.now c.loop-i.i _ c.requires.distinct c.loop-i-test.true c.args.pairs.now.entries c.loop-i.pairs c.args.pairs.now.cap (series_key c.args.series _) _ c.len-length.ensures.valid.2 (flag-at c.args.series c.args.needed.now c.loop-i.i _ c.requires.distinct c.loop-i-test.true c.args.pairs.now.entries c.args.is_new.now true false c.requires.news w.if-is_new-i.true) was.topped was.capacity refl (ap (λ p. p.entries) put);
-        capacity = ap (λ p. p.cap) w.pairs-is ∙ ap (λ p. p.cap) put ∙ was.capacity
+        capacity = ap (λ p. p.cap) w.pairs-is ∙ ap (λ p. p.cap) put ∙ was.capacity;
       }
   | else-is_new-i w ↦
       let was = c.loop-i.invariant in
       let none : Key × Coef = (record { level = 0; index = 0 }, record { left = false; right = false; dmin = pos 0; dmax = pos 0 }) in record {
         topped = ap (λ p. p.entries) w.pairs-is ∙ old-step c.args.series c.args.needed.now c.loop-i.i none c.requires.distinct c.loop-i-test.true c.args.pairs.now.entries c.loop-i.pairs.entries c.args.pairs.now.cap (flag-at c.args.series c.args.needed.now c.loop-i.i none c.requires.distinct c.loop-i-test.true c.args.pairs.now.entries c.args.is_new.now false false c.requires.news w.if-is_new-i.false) was.topped;
-        capacity = ap (λ p. p.cap) w.pairs-is ∙ was.capacity
+        capacity = ap (λ p. p.cap) w.pairs-is ∙ was.capacity;
       }
 ]

@@ -1,5 +1,4 @@
-use Rattle.std.proofs.Common.{◌∙◌, refl, sym, ap}
-use Rattle.std.proofs.lemmas.List.Elements.{filter_agree}
+use Rattle.std.proofs.Common.{◌∙◌, refl, sym}
 use Rattle.coefficient_cache.specs.Pairs.{series_key}
 use Rattle.coefficient_cache.proofs.Steps.{hits-step, flags-step}
 use Rattle.coefficient_cache.proofs.Moves.{others-none}
@@ -9,7 +8,7 @@ pub loop-key-init : goal.loop-key-init
 loop-key-init c = record {
   moved = sym (others-none c.args.pairs.now.entries);
   flags = c.in_ok-is_new.ensures.items;
-  capacity = refl
+  capacity = refl;
 }
 
 pub loop-key-preserved : goal.loop-key-preserved
@@ -17,5 +16,5 @@ loop-key-preserved c =
     let was = c.loop-key.invariant in let turn = c.in_ok-renew_hit.ensures in record {
       moved = hits-step c.args.series c.args.needed.now c.loop-key.key-index _ c.requires c.loop-key-test.true c.args.pairs.now.entries c.loop-key.pairs (series_key c.args.series _) _ c.len-length.ensures.valid.0 was.moved refl turn.entries;
       flags = c.in_ok-push.ensures.items ∙ flags-step c.args.series c.args.needed.now c.loop-key.key-index _ c.requires c.loop-key-test.true c.args.pairs.now.entries c.loop-key.pairs (series_key c.args.series _) c.in_ok-renew_hit.field-0 c.loop-key.is_new.items was.moved refl turn.there was.flags;
-      capacity = turn.capacity ∙ was.capacity
+      capacity = turn.capacity ∙ was.capacity;
     }

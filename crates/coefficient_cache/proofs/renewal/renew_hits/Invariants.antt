@@ -7,5 +7,5 @@ abbrev pub invariant-loop-key : goal.invariant-loop-key
 invariant-loop-key l = record {
   moved : l.pairs.entries ≡ reverse (hits l.initial.pairs.entries (in_series l.series (take l.key-index l.needed))) ++ others l.initial.pairs.entries (in_series l.series (take l.key-index l.needed));
   flags : l.is_new.items ≡ are_new l.initial.pairs.entries (in_series l.series (take l.key-index l.needed));
-  capacity : l.pairs.cap ≡ l.fn.pairs.cap
+  capacity : l.pairs.cap ≡ l.fn.pairs.cap;
 }

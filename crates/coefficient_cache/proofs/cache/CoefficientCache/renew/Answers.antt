@@ -19,6 +19,6 @@ returns-clause-renewed c =
     let inside = c.self.inside.pairs in
     subst (λ (l : List (SeriesKey × Coef)). OnOk c.put_news.result (c.put_news.new.pairs.entries ≡ l))
     ((λ i. topped_keys (hits.capacity i) (hits.hits i) all)
-      ∙ topped-moved inside.cap inside.entries all
-      ∙ (λ i. renewed (c.self.view_is i).capacity (c.self.view_is i).pairs all))
+    ∙ topped-moved inside.cap inside.entries all
+    ∙ (λ i. renewed (c.self.view_is i).capacity (c.self.view_is i).pairs all))
     c.put_news.ensures.news
