@@ -33,7 +33,7 @@ module _ (series other : ℕ) (apart : other ≢ series) where
   not_needed [] k h = refl
   not_needed (e ∷ es) k h =
       let differs : nat_eq k.series series ≡ false = unequal k.series series (λ same. apart (sym ((Decides-eqb k.series other).0 h) ∙ same)) in
-      ap (λ b. is_some (cond (b && (nat_eq k.key.level e.0.level && nat_eq k.key.index e.0.index)) (Some e.1) (lookup (key_eq k) (in_series series es)))) differs
+      ap (λ b. is_some (cond (b && (nat_eq k.level e.0.level && nat_eq k.index e.0.index)) (Some e.1) (lookup (key_eq k) (in_series series es)))) differs
       ∙ not_needed es k h
 
   -- all its pairs are among the others

@@ -37,7 +37,7 @@ distinct-in_series series needed distinct =
     IsDistinct-from_AllPairs Decides-key_eq (keys_of (in_series series needed)) (λ i j d lt in_range.
     let g : Key × Coef → SeriesKey × Coef = λ e. (series_key series e.0, e.1) in
     let f : SeriesKey × Coef → SeriesKey = λ e. e.0 in
-    let z : Key × Coef = (d.key, no_coef) in
+    let z : Key × Coef = (record { level = d.level; index = d.index }, no_coef) in
     let long : length (keys_of (in_series series needed)) ≡ length needed = length-map (in_series series needed) f ∙ length-map needed g in
     let ends : j < length needed = subst (λ n. j < n) long in_range in
     let starts : i < length needed = omega arith in

@@ -15,11 +15,11 @@ use Rattle.coefficient_cache.proofs.Finds.{has-append}
 pub Decides-key_eq : (a b : SeriesKey) → Decides (key_eq a b) (a ≡ b)
 Decides-key_eq a b =
     Decides-like (key_eq a b)
-    (λ t. (λ i. record { series = t.0 i; key = record { level = t.1.0 i; index = t.1.1 i } }))
-    (λ e. (ap (λ k. k.series) e, (ap (λ k. k.key.level) e, ap (λ k. k.key.index) e)))
-    (Decides-and (nat_eq a.series b.series) (nat_eq a.key.level b.key.level && nat_eq a.key.index b.key.index)
+    (λ t. (λ i. record { series = t.0 i; level = t.1.0 i; index = t.1.1 i }))
+    (λ e. (ap (λ k. k.series) e, (ap (λ k. k.level) e, ap (λ k. k.index) e)))
+    (Decides-and (nat_eq a.series b.series) (nat_eq a.level b.level && nat_eq a.index b.index)
     (Decides-eqb a.series b.series)
-    (Decides-and (nat_eq a.key.level b.key.level) (nat_eq a.key.index b.key.index) (Decides-eqb a.key.level b.key.level) (Decides-eqb a.key.index b.key.index)))
+    (Decides-and (nat_eq a.level b.level) (nat_eq a.index b.index) (Decides-eqb a.level b.level) (Decides-eqb a.index b.index)))
 
 pub Decides-coefficient_eq : (a b : Coef) → Decides (coefficient_eq a b) (a ≡ b)
 Decides-coefficient_eq a b =
@@ -40,7 +40,7 @@ key_exact a b = (Decides-key_eq a b).0
 
 -- two keys of one series are the same only where the keys are
 pub key_from : (series : ℕ) (a b : Key) → series_key series a ≡ series_key series b → a ≡ b
-key_from series a b e = ap (λ k. k.key) e
+key_from series a b e = λ i. record { level = (e i).level; index = (e i).index }
 
 -- one needed key more
 pub in_series-more : (series : ℕ) (needed : List (Key × Coef)) (i : ℕ) (d : Key × Coef) → i < length needed → in_series series (take (i + 1) needed) ≡ in_series series (take i needed) ++ (series_key series (get_or needed i d).0, (get_or needed i d).1) ∷ []

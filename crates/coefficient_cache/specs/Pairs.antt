@@ -10,11 +10,11 @@ use Rattle.coefficient_cache.specs.declared.series_key.SeriesKey.{SeriesKey}
 
 -- the key of a series
 abbrev pub series_key : ℕ → Key → SeriesKey
-series_key series key = record { series = series; key = key }
+series_key series key = record { series = series; level = key.level; index = key.index }
 
 -- the two keys are the same
 abbrev pub key_eq : SeriesKey → SeriesKey → Bool
-key_eq a b = nat_eq a.series b.series && (nat_eq a.key.level b.key.level && nat_eq a.key.index b.key.index)
+key_eq a b = nat_eq a.series b.series && (nat_eq a.level b.level && nat_eq a.index b.index)
 
 -- the two coefficients are the same
 abbrev pub coefficient_eq : Coef → Coef → Bool

@@ -84,7 +84,7 @@ impl CoefficientCache {
     pub fn find(&self, series: u16, key: Key) -> Option<Coef>
         ensures { result ≡ coefficient_at self.now.pairs (series_key series key) }
     {
-        self.pairs.peek(&SeriesKey { series, key }).copied()
+        self.pairs.peek(&SeriesKey::new(series, key)).copied()
     }
 
     /// Those of the needed keys of a series, in order, which the list lacks or holds with another

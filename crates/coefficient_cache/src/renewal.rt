@@ -33,7 +33,7 @@ pub(crate) fn renew_hits(
     let _length = pairs.len();
     let mut is_new = Vec::with_capacity(alloc, needed.len())?;
     for (key, coef) in needed {
-        is_new.push(!renew_hit(pairs, SeriesKey { series, key: *key }, *coef)?)?;
+        is_new.push(!renew_hit(pairs, SeriesKey::new(series, *key), *coef)?)?;
     }
     Ok(is_new)
 }
@@ -70,7 +70,7 @@ pub(crate) fn put_news(
     let _length = pairs.len();
     for (i, (key, coef)) in needed.iter().enumerate() {
         if is_new[i] {
-            pairs.put(SeriesKey { series, key: *key }, *coef)?;
+            pairs.put(SeriesKey::new(series, *key), *coef)?;
         }
     }
     Ok(())

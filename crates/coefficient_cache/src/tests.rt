@@ -113,7 +113,7 @@ fn is_same(cache: &CoefficientCache, list: &[Pair]) -> bool {
         return false;
     }
     for (i, (key, coef)) in cache.pairs().iter().enumerate() {
-        if i >= list.len() || (key.series, key.key, *coef) != list[i] {
+        if i >= list.len() || *key != SeriesKey::new(list[i].0, list[i].1) || *coef != list[i].2 {
             return false;
         }
     }

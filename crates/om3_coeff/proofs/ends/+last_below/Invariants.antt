@@ -1,0 +1,4 @@
+use Rattle.om3_coeff.proofs.ends.+last_below.Given as goal
+
+abbrev pub decreases-last_below : goal.decreases-last_below
+decreases-last_below g l = l.key.level

@@ -1,0 +1,4 @@
+use Rattle.om3_coeff.proofs.walks.+value_below.Given as goal
+
+abbrev pub decreases-value_below : goal.decreases-value_below
+decreases-value_below g l = l.key.level

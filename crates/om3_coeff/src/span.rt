@@ -1,0 +1,6 @@
+/// The least and the greatest stored value of a range.
+#[derive(Clone, Copy, Debug, PartialEq, Eq)]
+pub struct Span {
+    pub min: i64,
+    pub max: i64,
+}
