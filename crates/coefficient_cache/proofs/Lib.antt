@@ -1,0 +1,7 @@
+pub mod Finds
+pub mod Moves
+pub mod Keys
+pub mod Steps
+pub mod Filtered
+pub mod Given
+pub mod Apart

@@ -1,0 +1,24 @@
+use Rattle.std.proofs.Common.{◌≡◌, List, sym, ap, ◌∙◌, subst, OnOk}
+use Rattle.om3_coeff.specs.declared.coef.Coef.{Coef}
+use Rattle.coefficient_cache.specs.declared.series_key.SeriesKey.{SeriesKey}
+use Rattle.coefficient_cache.specs.Pairs.{in_series}
+use Rattle.coefficient_cache.specs.Views.{are_new, renewed}
+use Rattle.coefficient_cache.proofs.Steps.{are_new-moved, topped_keys, topped-moved}
+use Rattle.coefficient_cache.proofs.cache.CoefficientCache.renew.Goals as goal
+
+pub put_news-requires-clause-news : goal.put_news-requires-clause-news
+put_news-requires-clause-news c =
+    let all = in_series c.args.series c.args.needed.now in
+    let hits = c.in_ok-is_new.ensures in
+    c.deref.ensures.value ∙ hits.news ∙ sym (are_new-moved c.self.inside.pairs.entries all) ∙ ap (λ l. are_new l all) (sym hits.hits)
+
+pub returns-clause-renewed : goal.returns-clause-renewed
+returns-clause-renewed c =
+    let all = in_series c.args.series c.args.needed.now in
+    let hits = c.in_ok-is_new.ensures in
+    let inside = c.self.inside.pairs in
+    subst (λ (l : List (SeriesKey × Coef)). OnOk c.put_news.result (c.put_news.new.pairs.entries ≡ l))
+    ((λ i. topped_keys (hits.capacity i) (hits.hits i) all)
+    ∙ topped-moved inside.cap inside.entries all
+    ∙ (λ i. renewed (c.self.view_is i).capacity (c.self.view_is i).pairs all))
+    c.put_news.ensures.news

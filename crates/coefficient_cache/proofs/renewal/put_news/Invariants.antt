@@ -1,0 +1,10 @@
+use Rattle.std.proofs.Common.{◌≡◌, ◌++◌, reverse, take}
+use Rattle.coefficient_cache.specs.Pairs.{in_series}
+use Rattle.coefficient_cache.specs.Views.{news}
+use Rattle.coefficient_cache.proofs.renewal.put_news.Given as goal
+
+abbrev pub invariant-loop-i : goal.invariant-loop-i
+invariant-loop-i l = record {
+  topped : l.pairs.entries ≡ take l.fn.pairs.cap (reverse (news l.fn.pairs.entries (in_series l.series (take l.i l.needed))) ++ l.fn.pairs.entries);
+  capacity : l.pairs.cap ≡ l.fn.pairs.cap;
+}

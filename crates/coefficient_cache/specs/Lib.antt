@@ -1,0 +1,3 @@
+pub mod Pairs
+pub mod Views
+pub mod Caches

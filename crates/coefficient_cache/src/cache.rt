@@ -1,0 +1,138 @@
+ghost use Rattle.std.specs.Prelude.{◌≡◌, ◌↔◌, [], length, IfOk, OnOk, IsTrue};
+ghost use Rattle.coefficient_cache.specs.Pairs.{series_key, coefficient_at, holds, in_series};
+ghost use Rattle.coefficient_cache.specs.Views.{AreDistinct, to_send, renewed};
+ghost use Rattle.coefficient_cache.specs.Caches.{IsCapacity, IsValid};
+
+use crate::no_memory::NoMemory;
+use crate::renewal::{Pairs, put_news, renew_hits};
+use crate::series_key::SeriesKey;
+use lru::LruCache;
+use om3_coeff::{Coef, Coefs, Key};
+use std::alloc::Global;
+use std::marker::Model;
+use std::num::NonZeroUsize;
+
+/// The most pairs that a list may have.
+pub const MOST_CAPACITY: u32 = 131_072;
+
+/// Whether a list may have this capacity: 1 to `MOST_CAPACITY`.
+pub fn is_capacity(n: u64) -> bool
+    ensures { IsTrue result ↔ IsCapacity n }
+{
+    1 <= n && n <= u64::from(MOST_CAPACITY)
+}
+
+/// The coefficients that a client keeps, the most recently used first. A session's list at the server
+/// is the same.
+#[derive(Drop)]
+pub struct CoefficientCache {
+    pairs: Pairs,
+}
+
+impl Model for CoefficientCache {
+    ghost use Rattle.coefficient_cache.specs.Caches.{Cache, IsCapacity};
+
+    ghost Value = { Cache };
+
+    ghost view = { λ c. record { pairs = c.pairs.entries; capacity = c.pairs.cap } };
+
+    ghost invariant = { λ c. IsCapacity c.pairs.cap };
+}
+
+impl CoefficientCache {
+    /// An empty list of at most `capacity` pairs, which takes memory only as it fills.
+    pub fn new(alloc: Global, capacity: u32) -> Result<CoefficientCache, NoMemory>
+        requires { IsCapacity capacity }
+        ensures { IfOk result (λ cache. cache ≡ record { pairs = []; capacity = capacity }) }
+    {
+        let capacity = NonZeroUsize::new(capacity as usize).unwrap();
+        Ok(CoefficientCache {
+            pairs: LruCache::sparse(alloc, capacity)?,
+        })
+    }
+
+    // The list itself, for tests.
+    #[cfg(test)]
+    pub(crate) fn pairs(&self) -> &Pairs {
+        &self.pairs
+    }
+
+    /// How many pairs the list has.
+    pub fn len(&self) -> usize
+        ensures len { result ≡ length self.now.pairs }
+        ensures valid { IsValid self.now }
+    {
+        self.pairs.len()
+    }
+
+    /// Whether the list has no pair.
+    pub fn is_empty(&self) -> bool
+        ensures { IsTrue result ↔ (self.now.pairs ≡ []) }
+    {
+        self.pairs.is_empty()
+    }
+
+    /// How many pairs the list may have.
+    pub fn capacity(&self) -> u32
+        ensures capacity { result ≡ self.now.capacity }
+        ensures in_range { IsCapacity self.now.capacity }
+    {
+        self.pairs.cap().get() as u32
+    }
+
+    /// The coefficient that the list holds for a key of a series. The list stays in its order.
+    pub fn find(&self, series: u16, key: Key) -> Option<Coef>
+        ensures { result ≡ coefficient_at self.now.pairs (series_key series key) }
+    {
+        self.pairs.peek(&SeriesKey::new(series, key)).copied()
+    }
+
+    /// Those of the needed keys of a series, in order, which the list lacks or holds with another
+    /// coefficient than the needed one. The list stays as it is.
+    pub fn to_send(
+        &self,
+        alloc: Global,
+        series: u16,
+        needed: &[(Key, Coef)],
+    ) -> Result<Coefs, NoMemory>
+        ensures { IfOk result (λ sent. sent ≡ to_send self.now.pairs series needed.now) }
+    {
+        let mut sent = Vec::new(alloc);
+        for (key, coef) in needed {
+            if !self.holds(series, *key, *coef) {
+                sent.push((*key, *coef))?;
+            }
+        }
+        Ok(Coefs::from_vec(sent))
+    }
+
+    // Whether the list holds the key with this coefficient.
+    fn holds(&self, series: u16, key: Key, coef: Coef) -> bool
+        ensures { result ≡ holds self.now.pairs (series_key series key, coef) }
+    {
+        match self.find(series, key) {
+            Some(held) => coef == held,
+            None => false,
+        }
+    }
+
+    /// Changes the list by a view that needs these keys of a series, each with its present
+    /// coefficient: first the needed keys that are in the list come to its front, in order, and then
+    /// the others are put in front, in order. What passes the capacity falls off the end.
+    ///
+    /// After `NoMemory` the list has its capacity and any pairs: it is of no further use.
+    pub fn renew(
+        &mut self,
+        alloc: Global,
+        series: u16,
+        needed: &[(Key, Coef)],
+    ) -> Result<(), NoMemory>
+        requires { AreDistinct needed.now }
+        ensures renewed { OnOk result
+            (self.new.pairs ≡ renewed self.old.capacity self.old.pairs (in_series series needed.now)) }
+        ensures capacity { self.new.capacity ≡ self.old.capacity }
+    {
+        let is_new = renew_hits(&mut self.pairs, alloc, series, needed)?;
+        put_news(&mut self.pairs, series, needed, &is_new)
+    }
+}
