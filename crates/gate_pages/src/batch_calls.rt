@@ -117,4 +117,12 @@ impl Batch {
     {
         &self.pages[at]
     }
+
+    /// The number of the page at a place.
+    pub(crate) fn number(&self, at: usize) -> u32
+        requires { at < length (entries self.now) }
+        ensures { result ≡ (slice_index_or (entries self.now) at (0, [])).0 }
+    {
+        self.pages[at].number
+    }
 }

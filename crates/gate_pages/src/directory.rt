@@ -35,7 +35,8 @@ fn put_numbers(block: &mut [u8], batch: &Batch)
     ensures front { (at size : ℕ) → at + size ≤ 12 → take size (drop at block.new) ≡ take size (drop at block.old) }
 {
     for i in 0..batch.len() {
-        put_number(block, 12 + 4 * i, batch.page(i).number);
+        let number = batch.number(i);
+        put_number(block, 12 + 4 * i, number);
     }
 }
 
@@ -51,16 +52,14 @@ pub(crate) fn write_directory(block: &mut [u8], batch: &Batch)
 }
 
 /// The number at an offset.
+#[tactic(auto, unfolding(crate::specs::Journal::number_at))]
 fn number_at(block: &[u8], offset: usize) -> u32
     requires { offset + 4 ≤ length block.now }
     ensures { result ≡ number_from block.now offset }
 {
-    u32::from_be_bytes([
-        block[offset],
-        block[offset + 1],
-        block[offset + 2],
-        block[offset + 3],
-    ])
+    let (_, rest) = block.split_at(offset);
+    let (front, _) = rest.split_at(4);
+    u32::from_be_bytes([front[0], front[1], front[2], front[3]])
 }
 
 /// So many page numbers, from byte 12 on.

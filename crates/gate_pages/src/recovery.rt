@@ -46,8 +46,9 @@ fn copy_home<D: Disk>(disk: &mut D, buffer: &mut [u8], numbers: &[u32]) -> Resul
     ensures cause { OnErr result (HasRisen (D.view disk.old).faults (D.view disk.new).faults) }
 {
     for i in 0..numbers.len() {
+        let number = numbers[i];
         disk.read_block(IMAGES + i as u32, buffer)?;
-        disk.write_block(HOME + numbers[i], buffer)?;
+        disk.write_block(HOME + number, buffer)?;
     }
     Ok(())
 }
@@ -60,9 +61,9 @@ fn replay<D: Disk>(disk: &mut D, buffer: &mut [u8], numbers: &[u32]) -> Result<(
     requires distinct { IsTrue (is_distinct numbers.now) }
     requires within { LiesWithin (D.view disk.old).size numbers.now }
     requires only { Only (D.view disk.old).image (Now (D.view disk.old)) }
-    requires open { Honest (D.view disk.old) → is_open ((D.view disk.old).image 0) ≡ true }
+    requires opened { Honest (D.view disk.old) → is_open ((D.view disk.old).image 0) ≡ true }
     ensures moves { Moves Anywhere (length numbers.now) 2 (length numbers.now + 1) (D.view disk.old) (D.view disk.new) }
-    ensures moments { (count : ℕ) → (Honest (D.view disk.old) → told_by count ((D.view disk.old).image 1) ≡ Some numbers.now) → Passes (D.view disk.old) (D.view disk.new) (λ image. pages_of count image ≡ pages_of count (D.view disk.old).image) (Quiet (D.view disk.old)) }
+    ensures moments { (count : ℕ) → (Honest (D.view disk.old) → told_by count ((D.view disk.old).image 1) ≡ Some numbers.now) → Passes (D.view disk.old) (D.view disk.new) (StandsAsBefore count (D.view disk.old)) (Quiet (D.view disk.old)) }
     ensures closed { OnOk result (IsClosed (D.view disk.new)) }
     ensures done { (count : ℕ) → Honest (D.view disk.old) → told_by count ((D.view disk.old).image 1) ≡ Some numbers.now → OnOk result (home (D.view disk.new).image ≡ pages_of count (D.view disk.old).image) }
     ensures cause { OnErr result (HasRisen (D.view disk.old).faults (D.view disk.new).faults) }
