@@ -6,3 +6,5 @@ pub mod Redoing
 pub mod Directories
 pub mod Homes
 pub mod Replaying
+pub mod OpeningLemmas
+pub mod PageCalls

@@ -5,5 +5,6 @@ pub mod Journal
 pub mod Pages
 pub mod ListPages
 pub mod GatePages
+pub mod GateLaws
 pub mod Steps
 pub mod Openings

@@ -1,11 +1,12 @@
 //! The directory of the journal.
 ghost use Rattle.std.specs.Prelude.{◌≡◌, ◌≤◌, ◌+◌, ◌*◌, ℕ, Some, length, take, drop, map, option_map, IfOk, IfSome, IsTrue};
 ghost use Rattle.std.specs.Int.{w32, to_be_bytes};
-ghost use Rattle.std.specs.List.{range_with_len};
+ghost use Rattle.std.specs.List.{range_with_len, starts_with};
+ghost use Rattle.std.proofs.Math.Dec.{eqb};
 ghost use Rattle.block_disk.specs.MemDisk.{replaced};
 ghost use Rattle.gate_pages.specs.Batch.{numbers, is_distinct, is_one_of, all_below as every_below};
 ghost use Rattle.gate_pages.specs.Entries.{entries};
-ghost use Rattle.gate_pages.specs.Journal.{number_at as number_from, numbers_in, directory as told_by};
+ghost use Rattle.gate_pages.specs.Journal.{magic, number_at as number_from, numbers_in, directory as told_by};
 
 use crate::batch::Batch;
 use crate::errors::NoMemory;
@@ -63,6 +64,7 @@ fn number_at(block: &[u8], offset: usize) -> u32
 }
 
 /// So many page numbers, from byte 12 on.
+#[tactic(auto, using(crate::proofs::Directories::numbers_more))]
 fn numbers_from(alloc: Global, block: &[u8], count: usize) -> Result<Vec<u32>, NoMemory>
     requires whole { length block.now ≡ 4096 }
     requires few { count ≤ 64 }
@@ -116,7 +118,15 @@ fn all_distinct(numbers: &[u32]) -> bool
     true
 }
 
+/// Whether a block begins as a directory.
+fn is_marked(block: &[u8]) -> bool
+    ensures { result ≡ starts_with eqb block.now magic }
+{
+    block.starts_with(&MAGIC)
+}
+
 /// The page numbers of a directory that keeps its layout.
+#[tactic(auto, using(crate::proofs::Directories::no_mark, crate::proofs::Directories::too_many, crate::proofs::Directories::some_above, crate::proofs::Directories::some_twice, crate::proofs::Directories::keeps_all))]
 pub(crate) fn directory(
     alloc: Global,
     block: &[u8],
@@ -128,13 +138,19 @@ pub(crate) fn directory(
     ensures below { IfOk result (λ found. IfSome found (λ ns. IsTrue (every_below count ns.items))) }
     ensures distinct { IfOk result (λ found. IfSome found (λ ns. IsTrue (is_distinct ns.items))) }
 {
+    if !is_marked(block) {
+        return Ok(None);
+    }
     let many = number_at(block, 8) as usize;
-    if !block.starts_with(&MAGIC) || many > MOST {
+    if many > MOST {
         return Ok(None);
     }
     let numbers = numbers_from(alloc, block, many)?;
-    if all_below(numbers.as_slice(), count) && all_distinct(numbers.as_slice()) {
-        return Ok(Some(numbers));
+    if !all_below(numbers.as_slice(), count) {
+        return Ok(None);
     }
-    Ok(None)
+    if !all_distinct(numbers.as_slice()) {
+        return Ok(None);
+    }
+    Ok(Some(numbers))
 }

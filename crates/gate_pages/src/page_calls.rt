@@ -1,6 +1,7 @@
 //! The calls of pages on a disk.
 ghost use Rattle.std.specs.Prelude.{◌≡◌, IsTrue};
 ghost use Rattle.block_disk.specs.View.{Honest};
+ghost use Rattle.gate_pages.specs.GateLaws.{gate_rests, gate_tells};
 ghost use Rattle.gate_pages.specs.GatePages.{pages_view};
 
 use crate::batch::Batch;
@@ -39,7 +40,7 @@ impl<D: Disk> Pages for GatePages<D> {
         Ok(())
     }
 
-    ghost rests = { ? };
+    ghost rests = { λ pages sound other left. gate_rests pages.count (D.view pages.disk) (pages.at_rest sound).only other left };
 
-    ghost tells = { ? };
+    ghost tells = { λ pages sound honest. gate_tells pages.count (D.view pages.disk) (pages.at_rest sound).only honest };
 }
