@@ -111,11 +111,11 @@ one_of_at batch at below =
     list_any_at (λ n. eqb n (get_or batch at (0, [])).0) (numbers batch) at 0 (omega (arith, below, length-map batch (λ (entry : Entry). entry.0)))
     (same_number (get_or (numbers batch) at 0) (get_or batch at (0, [])).0 there)
 
-not_first : (a b : Bool) → IsTrue (not a && b) → a ≡ false
+pub not_first : (a b : Bool) → IsTrue (not a && b) → a ≡ false
 not_first true b = λ is. search rules
 not_first false b = λ is. refl
 
-not_rest : (a b : Bool) → IsTrue (not a && b) → IsTrue b
+pub not_rest : (a b : Bool) → IsTrue (not a && b) → IsTrue b
 not_rest true b = λ is. search rules
 not_rest false b = λ is. is
 

@@ -52,6 +52,9 @@ impl Pages for ListPages {
     }
 
     fn commit(&mut self, batch: &Batch) -> Result<(), DiskFault> {
+        if batch.len() == 0 {
+            return Ok(());
+        }
         put_pages(self.bytes.as_mut_slice(), self.count, batch);
         Ok(())
     }

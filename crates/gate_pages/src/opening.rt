@@ -88,8 +88,10 @@ fn opened<D: Disk>(alloc: Global, disk: &mut D) -> Result<(Vec<u8>, u32), OpenCa
 {
     let count = pages_on(disk)?;
     let mut buffer = vec![in alloc; 0; BLOCK]?;
-    recover(alloc, disk, buffer.as_mut_slice(), count)?;
-    Ok((buffer, count))
+    match recover(alloc, disk, buffer.as_mut_slice(), count) {
+        Ok(()) => Ok((buffer, count)),
+        Err(cause) => Err(cause),
+    }
 }
 
 /// The same, once its gate is closed.
@@ -105,6 +107,8 @@ fn formatted<D: Disk>(alloc: Global, disk: &mut D) -> Result<(Vec<u8>, u32), Ope
 {
     let count = pages_on(disk)?;
     let mut buffer = vec![in alloc; 0; BLOCK]?;
-    shut(disk, buffer.as_mut_slice())?;
-    Ok((buffer, count))
+    match shut(disk, buffer.as_mut_slice()) {
+        Ok(()) => Ok((buffer, count)),
+        Err(_) => Err(OpenCause::DiskFault),
+    }
 }

@@ -16,7 +16,7 @@ replace-requires c =
     let less = below_from_all c.args.count (numbers batch) (get_or batch i (0, [])).0 (numbers_below c.args.count batch c.requires.below) (one_of_at batch i below) in
     let n = c.page-page.result.now.number in
     let same : n < c.args.count = omega (arith, less, ap (λ (e : Entry). e.0) c.page-page.ensures) in
-    omega (arith, mul-le-mul_left 4096 same, c.loop-i.invariant.whole, c.as_slice.ensures.len, c.as_slice.ensures.value, c.page-page.result.now.whole, ap length c.as_slice.ensures.value)
+    omega (arith, mul-le-mul_left 4096 same, c.loop-i.invariant.whole, c.as_slice.ensures.len, c.page-page.result.now.whole, ap length c.as_slice.ensures.value)
 
 pub loop-i-preserved : goal.loop-i-preserved
 loop-i-preserved c =

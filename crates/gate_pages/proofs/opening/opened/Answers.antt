@@ -6,45 +6,45 @@ use Rattle.gate_pages.proofs.Moving.{moves_then, moves_weaker, untouched}
 use Rattle.gate_pages.proofs.OpeningLemmas.{explains_back, leaves_back, moments_back, counted_moments}
 use Rattle.gate_pages.proofs.opening.opened.Goals as goal
 
-pub returns-in_err-recover-clause-cause : goal.returns-in_err-recover-clause-cause
-returns-in_err-recover-clause-cause g c =
+pub returns-in-Err-clause-cause : goal.returns-in-Err-clause-cause
+returns-in-Err-clause-cause g c =
     let view = g.D.Disk.view in
-    explains_back (view c.args.disk.now) (view c.pages_on.new.disk) (view c.recover.new.disk) c.pages_on.ensures.moves c.in_err-recover.field-0 c.in_err-recover.ensures.cause
+    explains_back (view c.args.disk.now) (view c.pages_on.new.disk) (view c.recover.new.disk) c.pages_on.ensures.moves c.in-Err.cause c.in-Err.ensures.cause
 
-pub returns-in_err-recover-clause-left : goal.returns-in_err-recover-clause-left
-returns-in_err-recover-clause-left g c =
+pub returns-in-Err-clause-left : goal.returns-in-Err-clause-left
+returns-in-Err-clause-left g c =
     let view = g.D.Disk.view in
-    leaves_back (view c.args.disk.now) (view c.pages_on.new.disk) (view c.recover.new.disk) c.pages_on.ensures.moves c.in_err-recover.field-0 c.in_err-recover.ensures.left
+    leaves_back (view c.args.disk.now) (view c.pages_on.new.disk) (view c.recover.new.disk) c.pages_on.ensures.moves c.in-Err.cause c.in-Err.ensures.left
 
-pub returns-in_err-recover-clause-moments : goal.returns-in_err-recover-clause-moments
-returns-in_err-recover-clause-moments g c =
-    let view = g.D.Disk.view in
-    let count = c.in_ok-count.count in
-    counted_moments count (page_count (view c.args.disk.now).size) (view c.args.disk.now) (view c.recover.new.disk) c.in_ok-count.ensures.count
-    (moments_back (view c.args.disk.now) (view c.pages_on.new.disk) (view c.recover.new.disk) c.pages_on.ensures.moves count c.recover.ensures.moments)
-
-pub returns-in_err-recover-clause-moves : goal.returns-in_err-recover-clause-moves
-returns-in_err-recover-clause-moves g c =
-    let view = g.D.Disk.view in
-    moves_then Anywhere 0 0 0 66 3 65 (view c.args.disk.now) (view c.pages_on.new.disk) (view c.recover.new.disk)
-    (moves_weaker Nowhere Anywhere 0 0 0 0 0 0 (view c.args.disk.now) (view c.pages_on.new.disk) (λ number nothing. tt) (omega arith) (omega arith) (omega arith) c.pages_on.ensures.moves) c.recover.ensures.moves
-
-pub returns-clause-moments : goal.returns-clause-moments
-returns-clause-moments g c =
+pub returns-in-Err-clause-moments : goal.returns-in-Err-clause-moments
+returns-in-Err-clause-moments g c =
     let view = g.D.Disk.view in
     let count = c.in_ok-count.count in
     counted_moments count (page_count (view c.args.disk.now).size) (view c.args.disk.now) (view c.recover.new.disk) c.in_ok-count.ensures.count
     (moments_back (view c.args.disk.now) (view c.pages_on.new.disk) (view c.recover.new.disk) c.pages_on.ensures.moves count c.recover.ensures.moments)
 
-pub returns-clause-moves : goal.returns-clause-moves
-returns-clause-moves g c =
+pub returns-in-Err-clause-moves : goal.returns-in-Err-clause-moves
+returns-in-Err-clause-moves g c =
     let view = g.D.Disk.view in
     moves_then Anywhere 0 0 0 66 3 65 (view c.args.disk.now) (view c.pages_on.new.disk) (view c.recover.new.disk)
     (moves_weaker Nowhere Anywhere 0 0 0 0 0 0 (view c.args.disk.now) (view c.pages_on.new.disk) (λ number nothing. tt) (omega arith) (omega arith) (omega arith) c.pages_on.ensures.moves) c.recover.ensures.moves
 
-pub returns-clause-pages : goal.returns-clause-pages
-returns-clause-pages g c honest =
+pub returns-in-Ok-clause-moments : goal.returns-in-Ok-clause-moments
+returns-in-Ok-clause-moments g c =
+    let view = g.D.Disk.view in
+    let count = c.in_ok-count.count in
+    counted_moments count (page_count (view c.args.disk.now).size) (view c.args.disk.now) (view c.recover.new.disk) c.in_ok-count.ensures.count
+    (moments_back (view c.args.disk.now) (view c.pages_on.new.disk) (view c.recover.new.disk) c.pages_on.ensures.moves count c.recover.ensures.moments)
+
+pub returns-in-Ok-clause-moves : goal.returns-in-Ok-clause-moves
+returns-in-Ok-clause-moves g c =
+    let view = g.D.Disk.view in
+    moves_then Anywhere 0 0 0 66 3 65 (view c.args.disk.now) (view c.pages_on.new.disk) (view c.recover.new.disk)
+    (moves_weaker Nowhere Anywhere 0 0 0 0 0 0 (view c.args.disk.now) (view c.pages_on.new.disk) (λ number nothing. tt) (omega arith) (omega arith) (omega arith) c.pages_on.ensures.moves) c.recover.ensures.moves
+
+pub returns-in-Ok-clause-pages : goal.returns-in-Ok-clause-pages
+returns-in-Ok-clause-pages g c honest =
     let view = g.D.Disk.view in
     let asked = c.pages_on.ensures.moves in
-    c.in_ok-recover.ensures.pages (asked.honest honest)
+    c.in-Ok.ensures.pages (asked.honest honest)
     ∙ ap (λ image. pages_of c.in_ok-count.count image) (untouched 0 0 0 (view c.args.disk.now) (view c.pages_on.new.disk) asked honest)
