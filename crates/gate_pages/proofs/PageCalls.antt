@@ -2,21 +2,21 @@
 use Rattle.std.proofs.Common.{◌≡◌, ℕ, ◌+◌, ◌*◌, ◌-◌, ◌≤◌, ◌<◌, ◌^◌, min, Bool, false, List, length, IsTrue, refl, sym, ap, arith, ◌∙◌}
 use Rattle.std.proofs.Math.Path.{fun_ext}
 use Rattle.block_disk.specs.View.{Image, View, Now, Honest, Only, Passes, Rises, Moves, Nowhere}
+use Rattle.block_disk.proofs.Passing.{passes_weaker}
 use Rattle.gate_pages.specs.Batch.{Entry, put_all, numbers, is_one_of, AllBelow}
-use Rattle.gate_pages.specs.GateLaws.{pages_passes}
+use Rattle.gate_pages.specs.GateLaws.{pages_passes, passes_pages}
 use Rattle.gate_pages.specs.GatePages.{pages_view, IsClosed}
 use Rattle.gate_pages.specs.Journal.{home, is_open, pages_of}
 use Rattle.gate_pages.specs.Pages.{Quiet, Reads, Commits, BeforeOrAfter}
 use Rattle.gate_pages.specs.Steps.{Anywhere, LiesWithin}
-use Rattle.gate_pages.proofs.Moving.{moments_from, untouched}
+use Rattle.gate_pages.proofs.Moving.{nothing_torn, untouched}
 use Rattle.gate_pages.proofs.Puts.{below_from_all, numbers_below}
 use Rattle.gate_pages.proofs.States.{closed_pages}
 
-pub reads_page : (count : ℕ) (sound : Bool) (old new : View) → IsClosed old → Moves Nowhere 1 0 0 old new → Reads (Honest old) (Honest new) (pages_view count sound old) (pages_view count sound new)
-reads_page count sound old new closed moves = record {
-  time = pages_passes count sound sound old new (λ pages. pages ≡ pages_of count old.image) (Quiet old)
-  (moments_from Nowhere 1 0 0 old new (λ image. pages_of count image ≡ pages_of count old.image) moves closed.only
-  (λ image same honest. ap (λ i. pages_of count i) (fun_ext (λ number. same number (λ nothing. nothing)))));
+pub reads_page : (count : ℕ) (sound : Bool) (old new : View) → Moves Nowhere 1 0 0 old new → Reads (Honest old) (Honest new) (pages_view count sound old) (pages_view count sound new)
+reads_page count sound old new moves = record {
+  time = passes_pages count count sound sound old new (Quiet old) refl
+  (passes_weaker old new _ (Now old) (Quiet old) (Quiet old) (λ image torn. nothing_torn (Now old) image torn) (λ sent quiet. quiet) moves.time);
   told = moves.honest;
   was_told = moves.was_honest;
   image = λ honest. ap (λ i. pages_of count i) (untouched 1 0 0 old new moves honest);

@@ -1,6 +1,6 @@
 -- What the calls of pages do.
 use Rattle.std.specs.Prelude.{ℕ, ◌+◌, ◌*◌, ◌≡◌, ◌≤◌, ◌⊎◌, List, length}
-use Rattle.block_disk.specs.View.{Image, View, sent_now, Passes, Rises}
+use Rattle.block_disk.specs.View.{Image, View, Now, sent_now, Passes, Rises}
 use Rattle.gate_pages.specs.Batch.{Entry, put_all}
 
 -- no byte is sent meanwhile
@@ -11,9 +11,9 @@ Quiet view count = count ≡ sent_now view
 abbrev pub BeforeOrAfter : List Entry → Image → Image → Type 0
 BeforeOrAfter batch before pages = (pages ≡ before) ⊎ (pages ≡ put_all batch before)
 
--- A page is read at most once, and nothing else changes. At each moment a crash leaves the pages.
+-- One block is read at most, and nothing else changes. At each moment a crash leaves what it might have left before.
 pub record Reads (told_old told_new : Type 0) (old new : View) : Type 0 where
-  pub time : Passes old new (λ pages. pages ≡ old.image) (Quiet old)
+  pub time : Passes old new (Now old) (Quiet old)
   pub told : told_old → told_new
   pub was_told : told_new → told_old
   pub image : told_old → new.image ≡ old.image

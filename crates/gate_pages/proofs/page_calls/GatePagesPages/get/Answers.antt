@@ -9,9 +9,9 @@ returns-clause-page g c honest =
 pub returns-clause-reads : goal.returns-clause-reads
 returns-clause-reads g c =
     let self = c.args.self.now in
-    reads_page self.count self.sound (g.D.Disk.view self.disk) (g.D.Disk.view c.read_block.new.self) (self.at_rest c.requires.sound) c.read_block.ensures.moves
+    reads_page self.count self.sound (g.D.Disk.view self.disk) (g.D.Disk.view c.read_block.new.self) c.read_block.ensures.moves
 
 pub returns-in_err-read_block-clause-reads : goal.returns-in_err-read_block-clause-reads
 returns-in_err-read_block-clause-reads g c =
     let self = c.args.self.now in
-    reads_page self.count self.sound (g.D.Disk.view self.disk) (g.D.Disk.view c.read_block.new.self) (self.at_rest c.requires.sound) c.read_block.ensures.moves
+    reads_page self.count self.sound (g.D.Disk.view self.disk) (g.D.Disk.view c.read_block.new.self) c.read_block.ensures.moves
