@@ -5,8 +5,9 @@
 //! computes stands in the crates below: here words become a command, the lines of `plot` slots, and
 //! the replies of `run` text.
 //!
-//! `main` leaves out the first word, which is the path of a store, and gives `chart` standard input
-//! and output. Nothing is claimed of `main` but that it is safe and ends.
+//! `main` opens the file that the first word names as a disk, and gives `chart` the words after it
+//! and a world of this disk, standard input and standard output. No command calls the disk yet.
+//! Nothing is claimed of `main` but that it is safe and ends.
 #![tactic(auto)]
 
 mod input;
@@ -20,6 +21,7 @@ mod tests;
 mod top;
 mod words;
 
+use block_disk::FileDisk;
 use chart_world::StdWorld;
 pub use status::Status;
 use std::alloc::Global;
@@ -29,17 +31,23 @@ use std::{env, io};
 pub use top::chart;
 
 fn main(rt: HostRuntime) -> ExitCode {
-    let status = match words_after_path(&rt) {
-        Ok(words) => chart(rt.alloc(), words.as_slice(), StdWorld::new(&rt, ())).0,
+    let status = match all_words(&rt) {
+        Ok(words) => match words.as_slice() {
+            [path, rest @ ..] => {
+                let world = StdWorld::new(&rt, FileDisk::at(&rt, path.as_str()));
+                chart(rt.alloc(), rest, world).0
+            }
+            [] => chart(rt.alloc(), &[], StdWorld::new(&rt, ())).0,
+        },
         Err(error) => unread_words(error),
     };
     report(&rt, status)
 }
 
-/// The words of the command line behind the program's name and the path.
-fn words_after_path(rt: &(impl Env + Alloc<A = Global>)) -> io::Result<Vec<String>> {
+/// The words of the command line behind the program's name: the path, and the words of a command.
+fn all_words(rt: &(impl Env + Alloc<A = Global>)) -> io::Result<Vec<String>> {
     let mut words = Vec::new(rt.alloc());
-    for word in env::args(rt)?.skip(2) {
+    for word in env::args(rt)?.skip(1) {
         words.push(word)?;
     }
     Ok(words)

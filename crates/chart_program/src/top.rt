@@ -15,7 +15,7 @@ use crate::status::{
     BAD_INPUT, DONE, NO_MEMORY, READ_FAULT, SEND_FAULT, Status, TOO_MUCH, WRONG_WORDS,
 };
 use crate::words::{Command, command_of};
-use block_disk::Streams;
+use block_disk::{Streams, World};
 use std::alloc::Global;
 
 /// The most bytes of input that a run takes.
@@ -24,7 +24,7 @@ const MOST_BYTES: u64 = 4_294_967_296;
 /// Does the command of the words, with the world's input and output, and gives the world back.
 ///
 /// Only the input that is told is spoken of: a real stream tells none.
-pub fn chart<W: Streams>(alloc: Global, words: &[String], mut world: W) -> (Status, W)
+pub fn chart<W: World>(alloc: Global, words: &[String], mut world: W) -> (Status, W)
     // each status comes exactly for its cause
     ensures codes { Contains (DONE ∷ WRONG_WORDS ∷ NO_MEMORY ∷ READ_FAULT ∷ SEND_FAULT ∷ BAD_INPUT ∷ TOO_MUCH ∷ []) result.0.code }
     ensures wrong { result.0.code ≡ WRONG_WORDS → IsWrongAt result.0.place (map string_bytes words.now) }

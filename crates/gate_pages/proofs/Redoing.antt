@@ -1,0 +1,125 @@
+-- The moments of a commit, step by step.
+use Rattle.std.proofs.Common.{◌≡◌, ℕ, ◌+◌, ◌≤◌, Bool, true, false, List, length, Some, refl, sym, ap, arith, inl, inr, ◌∙◌, IsTrue}
+use Rattle.std.proofs.Math.Path.{fun_ext}
+use Rattle.block_disk.specs.View.{Image, View, Now, Honest, Only, SameOff, Passes, Moves, Nowhere, At}
+use Rattle.gate_pages.specs.Batch.{Entry, put_all, numbers, all_below}
+use Rattle.gate_pages.specs.GatePages.{IsClosed}
+use Rattle.gate_pages.specs.Journal.{home, is_open, directory, images, pages_of}
+use Rattle.gate_pages.specs.Pages.{BeforeOrAfter, Quiet}
+use Rattle.gate_pages.specs.Steps.{Anywhere, IsJournal, IsHome, HoldsBatch}
+use Rattle.gate_pages.proofs.Moving.{Rests, time_then, moments_from, settled, moves_then, moves_weaker, moves_synced}
+use Rattle.gate_pages.proofs.States.{Staged, closed_pages, in_stage, stage_home, in_gate, in_closing, in_home, staged_gate, staged_home, put_torn, gate_kept, before_or_after}
+
+-- any calls, and one more
+pub way : (touched : ℕ → Type 0) (reads syncs writes reads' syncs' writes' : ℕ) (old mid new : View) → Moves Anywhere reads syncs writes old mid → Moves touched reads' syncs' writes' mid new → Moves Anywhere (reads + reads') (syncs + syncs') (writes + writes') old new
+way touched reads syncs writes reads' syncs' writes' old mid new first second =
+    moves_then Anywhere reads syncs writes reads' syncs' writes' old mid new first
+    (moves_weaker touched Anywhere reads' syncs' writes' reads' syncs' writes' mid new (λ number in_some. tt) (omega arith) (omega arith) (omega arith) second)
+
+-- an open gate before a journal
+pub record Opened (count : ℕ) (batch : List Entry) (pages image : Image) : Type 0 where
+  pub staged : Staged count batch pages image
+  pub gate : is_open (image 0) ≡ true
+
+-- a closed gate, and the pages lie so
+pub record Shut (pages image : Image) : Type 0 where
+  pub gate : is_open (image 0) ≡ false
+  pub lies : home image ≡ pages
+
+pub closed_of : (pages : Image) (view : View) → Rests (Shut pages) view → IsClosed view
+closed_of pages view rests = record { only = rests.only; gate = λ honest. (rests.is honest).gate }
+
+module _ (count : ℕ) (batch : List Entry) (few : length batch ≤ 64) (start : View) (images : Image → Type 0) (pages : Image) where
+  -- some way into a commit: the moments so far, and what stands on a disk at rest
+  pub record Way (property : Image → Type 0) (view : View) : Type 0 where
+    pub time : Passes start view images (Quiet start)
+    pub back : Honest view → Honest start
+    pub rests : Rests property view
+
+  module _ (after : (image : Image) → Honest start → pages_of count image ≡ put_all batch pages → images image) where
+    -- the gate is written, open
+    pub gate_time : (before : (image : Image) → Honest start → pages_of count image ≡ pages → images image) (reads syncs writes : ℕ) (view view' : View) → Way (Staged count batch pages) view → Moves (At 0) reads syncs writes view view' → Passes start view' images (Quiet start)
+    gate_time before reads syncs writes view view' at moves =
+        time_then start view view' images at.time
+        (moments_from (At 0) reads syncs writes view view' images moves at.rests.only
+        (λ image same honest. elim (in_gate count batch few pages view.image image (at.rests.is honest) same) [
+          | inl old ↦ before image (at.back honest) old
+          | inr new ↦ after image (at.back honest) new
+        ]))
+
+    pub gate_way : (before : (image : Image) → Honest start → pages_of count image ≡ pages → images image) (view mid view' : View) → Way (Staged count batch pages) view → Moves (At 0) 0 0 1 view mid → (Honest view → is_open (mid.image 0) ≡ true)
+        → Moves Nowhere 0 1 0 mid view' → Only view'.image (Now view') → Way (Opened count batch pages) view'
+    gate_way before view mid view' at written opened synced only = record {
+      time = gate_time before (0 + 0) (0 + 1) (1 + 0) view view' at (moves_synced (At 0) 0 0 1 view mid view' written synced);
+      back = λ honest. at.back (written.was_honest (synced.was_honest honest));
+      rests = settled (At 0) 0 0 1 0 1 0 view mid view' (Opened count batch pages) written
+      (λ honest. record { staged = staged_gate count batch few pages view.image mid.image (at.rests.is honest) (written.off honest); gate = opened honest })
+      synced only;
+    }
+
+    -- the pages are written home
+    pub home_time : (reads syncs writes : ℕ) (view view' : View) → Way (Opened count batch pages) view → Moves (IsHome (numbers batch)) reads syncs writes view view' → Passes start view' images (Quiet start)
+    home_time reads syncs writes view view' at moves =
+        time_then start view view' images at.time
+        (moments_from (IsHome (numbers batch)) reads syncs writes view view' images moves at.rests.only
+        (λ image same honest. after image (at.back honest) (in_home count batch few pages view.image image (at.rests.is honest).staged (at.rests.is honest).gate same)))
+
+    pub home_way : (reads writes : ℕ) (view mid view' : View) → Way (Opened count batch pages) view → Moves (IsHome (numbers batch)) reads 0 writes view mid → (Honest view → home mid.image ≡ put_all batch (home view.image))
+        → Moves Nowhere 0 1 0 mid view' → Only view'.image (Now view') → Way (Opened count batch (put_all batch pages)) view'
+    home_way reads writes view mid view' at written lies synced only = record {
+      time = home_time (reads + 0) (0 + 1) (writes + 0) view view' at (moves_synced (IsHome (numbers batch)) reads 0 writes view mid view' written synced);
+      back = λ honest. at.back (written.was_honest (synced.was_honest honest));
+      rests = settled (IsHome (numbers batch)) reads 0 writes 0 1 0 view mid view' (Opened count batch (put_all batch pages)) written
+      (λ honest.
+          let was = at.rests.is honest in
+          record {
+            staged = staged_home count batch few pages (put_all batch pages) view.image mid.image was.staged (written.off honest) (lies honest ∙ ap (λ (i : Image). put_all batch i) was.staged.lies);
+            gate = gate_kept count batch few view.image mid.image (written.off honest) ∙ was.gate;
+          })
+      synced only;
+    }
+
+    -- the gate is written, closed
+    pub close_time : (reads syncs writes : ℕ) (view view' : View) → Way (Opened count batch (put_all batch pages)) view → Moves (At 0) reads syncs writes view view' → Passes start view' images (Quiet start)
+    close_time reads syncs writes view view' at moves =
+        time_then start view view' images at.time
+        (moments_from (At 0) reads syncs writes view view' images moves at.rests.only
+        (λ image same honest. after image (at.back honest) (in_closing count batch few pages view.image image (at.rests.is honest).staged same)))
+
+    pub close_way : (view mid view' : View) → Way (Opened count batch (put_all batch pages)) view → Moves (At 0) 0 0 1 view mid → (Honest view → is_open (mid.image 0) ≡ false)
+        → Moves Nowhere 0 1 0 mid view' → Only view'.image (Now view') → Way (Shut (put_all batch pages)) view'
+    close_way view mid view' at written shut synced only = record {
+      time = close_time (0 + 0) (0 + 1) (1 + 0) view view' at (moves_synced (At 0) 0 0 1 view mid view' written synced);
+      back = λ honest. at.back (written.was_honest (synced.was_honest honest));
+      rests = settled (At 0) 0 0 1 0 1 0 view mid view' (Shut (put_all batch pages)) written
+      (λ honest. record { gate = shut honest; lies = (staged_gate count batch few (put_all batch pages) view.image mid.image (at.rests.is honest).staged (written.off honest)).lies })
+      synced only;
+    }
+
+-- The moments of a commit are those with the pages from before it or after it.
+abbrev pub Moment : ℕ → List Entry → View → Image → Type 0
+Moment count batch start image = BeforeOrAfter batch (pages_of count start.image) (pages_of count image)
+
+module _ (count : ℕ) (batch : List Entry) (start : View) (closed : IsClosed start) where
+  pub possible : (image : Image) → Honest start → BeforeOrAfter batch (home start.image) (pages_of count image) → Moment count batch start image
+  possible image honest which = before_or_after batch (home start.image) (pages_of count start.image) (pages_of count image) (closed_pages count start.image (closed.gate honest)) which
+
+  -- the journal is written
+  pub stage_time : (reads syncs writes : ℕ) (view' : View) → Moves IsJournal reads syncs writes start view' → Passes start view' (Moment count batch start) (Quiet start)
+  stage_time reads syncs writes view' moves =
+      moments_from IsJournal reads syncs writes start view' (Moment count batch start) moves closed.only
+      (λ image same honest. possible image honest (inl (in_stage count start.image image (closed.gate honest) same)))
+
+  pub stage_way : (few : length batch ≤ 64) (writes : ℕ) (mid view' : View) → IsTrue (all_below count (numbers batch)) → Moves IsJournal 0 0 writes start mid → (Honest start → HoldsBatch batch mid.image)
+      → Moves Nowhere 0 1 0 mid view' → Only view'.image (Now view') → Way count batch few start (Moment count batch start) (home start.image) (Staged count batch (home start.image)) view'
+  stage_way few writes mid view' below written holds synced only = record {
+    time = stage_time (0 + 0) (0 + 1) (writes + 0) view' (moves_synced IsJournal 0 0 writes start mid view' written synced);
+    back = λ honest. written.was_honest (synced.was_honest honest);
+    rests = settled IsJournal 0 0 writes 0 1 0 start mid view' (Staged count batch (home start.image)) written
+    (λ honest. record {
+      listed = (holds honest).listed count below;
+      images_are = (holds honest).images_are;
+      lies = stage_home start.image mid.image (written.off honest);
+    })
+    synced only;
+  }

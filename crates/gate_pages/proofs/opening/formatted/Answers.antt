@@ -1,0 +1,22 @@
+use Rattle.std.proofs.Common.{inl, inr, arith}
+use Rattle.block_disk.specs.View.{Nowhere, At}
+use Rattle.gate_pages.proofs.Moving.{moves_then, moves_weaker}
+use Rattle.gate_pages.proofs.opening.formatted.Goals as goal
+
+pub returns-in-Ok-clause-moves : goal.returns-in-Ok-clause-moves
+returns-in-Ok-clause-moves g c =
+    let view = g.D.Disk.view in
+    moves_then (At 0) 0 0 0 0 1 1 (view c.args.disk.now) (view c.pages_on.new.disk) (view c.shut.new.disk)
+    (moves_weaker Nowhere (At 0) 0 0 0 0 0 0 (view c.args.disk.now) (view c.pages_on.new.disk) (λ number nothing. absurd nothing) (omega arith) (omega arith) (omega arith) c.pages_on.ensures.moves) c.shut.ensures.moves
+
+pub returns-in-Err-clause-moves : goal.returns-in-Err-clause-moves
+returns-in-Err-clause-moves g c =
+    let view = g.D.Disk.view in
+    moves_then (At 0) 0 0 0 0 1 1 (view c.args.disk.now) (view c.pages_on.new.disk) (view c.shut.new.disk)
+    (moves_weaker Nowhere (At 0) 0 0 0 0 0 0 (view c.args.disk.now) (view c.pages_on.new.disk) (λ number nothing. absurd nothing) (omega arith) (omega arith) (omega arith) c.pages_on.ensures.moves) c.shut.ensures.moves
+
+pub returns-in-Err-clause-cause : goal.returns-in-Err-clause-cause
+returns-in-Err-clause-cause g c = elim c.in-Err.ensures.cause [
+  | inl risen ↦ inl (omega (arith, risen, c.pages_on.ensures.moves.faults))
+  | inr last ↦ inr last
+]

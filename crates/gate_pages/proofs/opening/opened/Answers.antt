@@ -1,0 +1,50 @@
+use Rattle.std.proofs.Common.{◌≡◌, ◌∙◌, ℕ, ap, sym, arith}
+use Rattle.block_disk.specs.View.{Image, Nowhere}
+use Rattle.gate_pages.specs.Journal.{page_count, pages_of}
+use Rattle.gate_pages.specs.Steps.{Anywhere}
+use Rattle.gate_pages.proofs.Moving.{moves_then, moves_weaker, untouched}
+use Rattle.gate_pages.proofs.OpeningLemmas.{explains_back, leaves_back, moments_back, counted_moments}
+use Rattle.gate_pages.proofs.opening.opened.Goals as goal
+
+pub returns-in-Err-clause-cause : goal.returns-in-Err-clause-cause
+returns-in-Err-clause-cause g c =
+    let view = g.D.Disk.view in
+    explains_back (view c.args.disk.now) (view c.pages_on.new.disk) (view c.recover.new.disk) c.pages_on.ensures.moves c.in-Err.cause c.in-Err.ensures.cause
+
+pub returns-in-Err-clause-left : goal.returns-in-Err-clause-left
+returns-in-Err-clause-left g c =
+    let view = g.D.Disk.view in
+    leaves_back (view c.args.disk.now) (view c.pages_on.new.disk) (view c.recover.new.disk) c.pages_on.ensures.moves c.in-Err.cause c.in-Err.ensures.left
+
+pub returns-in-Err-clause-moments : goal.returns-in-Err-clause-moments
+returns-in-Err-clause-moments g c =
+    let view = g.D.Disk.view in
+    let count = c.in_ok-count.count in
+    counted_moments count (page_count (view c.args.disk.now).size) (view c.args.disk.now) (view c.recover.new.disk) c.in_ok-count.ensures.count
+    (moments_back (view c.args.disk.now) (view c.pages_on.new.disk) (view c.recover.new.disk) c.pages_on.ensures.moves count c.recover.ensures.moments)
+
+pub returns-in-Err-clause-moves : goal.returns-in-Err-clause-moves
+returns-in-Err-clause-moves g c =
+    let view = g.D.Disk.view in
+    moves_then Anywhere 0 0 0 66 3 65 (view c.args.disk.now) (view c.pages_on.new.disk) (view c.recover.new.disk)
+    (moves_weaker Nowhere Anywhere 0 0 0 0 0 0 (view c.args.disk.now) (view c.pages_on.new.disk) (λ number nothing. tt) (omega arith) (omega arith) (omega arith) c.pages_on.ensures.moves) c.recover.ensures.moves
+
+pub returns-in-Ok-clause-moments : goal.returns-in-Ok-clause-moments
+returns-in-Ok-clause-moments g c =
+    let view = g.D.Disk.view in
+    let count = c.in_ok-count.count in
+    counted_moments count (page_count (view c.args.disk.now).size) (view c.args.disk.now) (view c.recover.new.disk) c.in_ok-count.ensures.count
+    (moments_back (view c.args.disk.now) (view c.pages_on.new.disk) (view c.recover.new.disk) c.pages_on.ensures.moves count c.recover.ensures.moments)
+
+pub returns-in-Ok-clause-moves : goal.returns-in-Ok-clause-moves
+returns-in-Ok-clause-moves g c =
+    let view = g.D.Disk.view in
+    moves_then Anywhere 0 0 0 66 3 65 (view c.args.disk.now) (view c.pages_on.new.disk) (view c.recover.new.disk)
+    (moves_weaker Nowhere Anywhere 0 0 0 0 0 0 (view c.args.disk.now) (view c.pages_on.new.disk) (λ number nothing. tt) (omega arith) (omega arith) (omega arith) c.pages_on.ensures.moves) c.recover.ensures.moves
+
+pub returns-in-Ok-clause-pages : goal.returns-in-Ok-clause-pages
+returns-in-Ok-clause-pages g c honest =
+    let view = g.D.Disk.view in
+    let asked = c.pages_on.ensures.moves in
+    c.in-Ok.ensures.pages (asked.honest honest)
+    ∙ ap (λ image. pages_of c.in_ok-count.count image) (untouched 0 0 0 (view c.args.disk.now) (view c.pages_on.new.disk) asked honest)

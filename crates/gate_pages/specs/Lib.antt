@@ -1,0 +1,10 @@
+pub mod Batch
+pub mod Batches
+pub mod Entries
+pub mod Journal
+pub mod Pages
+pub mod ListPages
+pub mod GatePages
+pub mod GateLaws
+pub mod Steps
+pub mod Openings

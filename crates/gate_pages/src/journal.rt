@@ -1,0 +1,105 @@
+//! The steps of a commit.
+ghost use Rattle.std.specs.Prelude.{◌≡◌, ◌<◌, ◌≤◌, ◌+◌, ◌*◌, ◌==◌, ℕ, [], length, slice_index_or, OnOk, OnErr, IsTrue};
+ghost use Rattle.block_disk.specs.Counts.{HasRisen};
+ghost use Rattle.block_disk.specs.View.{View, Image, Now, Honest, Only, Passes, Moves, At};
+ghost use Rattle.gate_pages.specs.Batch.{put_all, numbers, all_below};
+ghost use Rattle.gate_pages.specs.Entries.{entries};
+ghost use Rattle.gate_pages.specs.GatePages.{IsClosed};
+ghost use Rattle.gate_pages.specs.Journal.{home, is_open, pages_of};
+ghost use Rattle.gate_pages.specs.Pages.{BeforeOrAfter, Quiet};
+ghost use Rattle.gate_pages.specs.Steps.{Anywhere, IsJournal, IsHome, LiesWithin, HoldsBatch};
+
+use crate::batch::Batch;
+use crate::directory::write_directory;
+use crate::layout::{CLOSED, DIRECTORY, GATE, HOME, IMAGES, OPEN};
+use block_disk::{Disk, Failed};
+
+/// Writes the images of a batch into the journal.
+fn write_images<D: Disk>(disk: &mut D, batch: &Batch) -> Result<(), Failed>
+    requires room { 66 ≤ (D.view disk.old).size }
+    ensures moves { Moves IsJournal 0 0 (length (entries batch.now)) (D.view disk.old) (D.view disk.new) }
+    ensures images { Honest (D.view disk.old) → OnOk result ((k : ℕ) → k < length (entries batch.now) → (D.view disk.new).image (2 + k) ≡ (slice_index_or (entries batch.now) k (0, [])).1) }
+    ensures cause { OnErr result (HasRisen (D.view disk.old).faults (D.view disk.new).faults) }
+{
+    for i in 0..batch.len() {
+        let page = batch.page(i);
+        disk.write_block(IMAGES + i as u32, page.bytes.as_slice())?;
+    }
+    Ok(())
+}
+
+/// Writes a batch into the journal.
+fn stage<D: Disk>(disk: &mut D, buffer: &mut [u8], batch: &Batch) -> Result<(), Failed>
+    requires room { 66 ≤ (D.view disk.old).size }
+    requires whole { length buffer.old ≡ 4096 }
+    ensures moves { Moves IsJournal 0 0 (length (entries batch.now) + 1) (D.view disk.old) (D.view disk.new) }
+    ensures holds { Honest (D.view disk.old) → OnOk result (HoldsBatch (entries batch.now) (D.view disk.new).image) }
+    ensures cause { OnErr result (HasRisen (D.view disk.old).faults (D.view disk.new).faults) }
+{
+    write_images(disk, batch)?;
+    write_directory(buffer, batch);
+    disk.write_block(DIRECTORY, buffer)?;
+    Ok(())
+}
+
+/// Writes a gate with this byte.
+pub(crate) fn write_gate<D: Disk>(
+    disk: &mut D,
+    buffer: &mut [u8],
+    byte: u8,
+) -> Result<(), Failed>
+    requires room { 66 ≤ (D.view disk.old).size }
+    requires whole { length buffer.old ≡ 4096 }
+    ensures moves { Moves (At 0) 0 0 1 (D.view disk.old) (D.view disk.new) }
+    ensures gate { Honest (D.view disk.old) → OnOk result (is_open ((D.view disk.new).image 0) ≡ (byte == 1)) }
+    ensures cause { OnErr result (HasRisen (D.view disk.old).faults (D.view disk.new).faults) }
+{
+    buffer.fill(0);
+    buffer[0] = byte;
+    disk.write_block(GATE, buffer)?;
+    Ok(())
+}
+
+/// Writes the pages of a batch home.
+fn write_home<D: Disk>(disk: &mut D, batch: &Batch) -> Result<(), Failed>
+    requires within { LiesWithin (D.view disk.old).size (numbers (entries batch.now)) }
+    ensures moves { Moves (IsHome (numbers (entries batch.now))) 0 0 (length (entries batch.now)) (D.view disk.old) (D.view disk.new) }
+    ensures home { Honest (D.view disk.old) → OnOk result (home (D.view disk.new).image ≡ put_all (entries batch.now) (home (D.view disk.old).image)) }
+    ensures cause { OnErr result (HasRisen (D.view disk.old).faults (D.view disk.new).faults) }
+{
+    for i in 0..batch.len() {
+        let page = batch.page(i);
+        disk.write_block(HOME + page.number, page.bytes.as_slice())?;
+    }
+    Ok(())
+}
+
+/// Commits a batch through the journal.
+pub(crate) fn redo<D: Disk>(
+    disk: &mut D,
+    buffer: &mut [u8],
+    batch: &Batch,
+) -> Result<(), Failed>
+    requires room { 66 ≤ (D.view disk.old).size }
+    requires whole { length buffer.old ≡ 4096 }
+    requires within { LiesWithin (D.view disk.old).size (numbers (entries batch.now)) }
+    requires closed { IsClosed (D.view disk.old) }
+    ensures moves { Moves Anywhere 0 4 (2 * length (entries batch.now) + 3) (D.view disk.old) (D.view disk.new) }
+    ensures moments { (count : ℕ) → IsTrue (all_below count (numbers (entries batch.now))) → Passes (D.view disk.old) (D.view disk.new) (λ image. BeforeOrAfter (entries batch.now) (pages_of count (D.view disk.old).image) (pages_of count image)) (Quiet (D.view disk.old)) }
+    ensures closed { OnOk result (IsClosed (D.view disk.new)) }
+    ensures done { Honest (D.view disk.old) → OnOk result (home (D.view disk.new).image ≡ put_all (entries batch.now) (home (D.view disk.old).image)) }
+    ensures cause { OnErr result (HasRisen (D.view disk.old).faults (D.view disk.new).faults) }
+{
+    stage(disk, buffer, batch)?;
+    // The journal has to be on the disk before the gate opens.
+    disk.sync()?;
+    write_gate(disk, buffer, OPEN)?;
+    // The gate has to be open on the disk before a page is touched.
+    disk.sync()?;
+    write_home(disk, batch)?;
+    // The pages have to be on the disk before the gate closes.
+    disk.sync()?;
+    write_gate(disk, buffer, CLOSED)?;
+    disk.sync()?;
+    Ok(())
+}
