@@ -1,0 +1,5 @@
+mod Ranging
+mod Columns
+mod Ends
+mod Same
+mod Depth

@@ -1,0 +1,4 @@
+pub mod Ranges
+pub mod Needed
+pub mod Wanted
+pub mod Listed
