@@ -10,8 +10,7 @@ use crate::input::{InputEnd, MOST_SLOTS, read_slots};
 use block_disk::Streams;
 use chart_grid::{Axis, Grid};
 use pbm_writer::pbm;
-use plain_chart::range_of;
-use row_chart::chart_by_rows;
+use row_chart::{chart_of_rows, range_of_rows, rows_of_slots};
 use std::alloc::Global;
 use thiserror::Error;
 
@@ -67,8 +66,9 @@ fn picture_of(alloc: Global, w: u16, h: u16, slots: &[Option<i64>]) -> Result<Ve
         step: 1,
         slots: slots.len() as u64,
     };
-    let range = range_of(grid, axis, slots);
-    let bitmap = chart_by_rows(alloc, grid, axis, slots, range)?;
+    let rows = rows_of_slots(alloc, grid, axis, slots)?;
+    let range = range_of_rows(&rows);
+    let bitmap = chart_of_rows(alloc, grid, &rows, range)?;
     Ok(pbm(alloc, &bitmap)?)
 }
 

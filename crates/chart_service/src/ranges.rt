@@ -1,11 +1,17 @@
-ghost use Rattle.std.specs.Prelude.{◌≡◌, ◌^◌, ◌≤◌, All, IsTrue, false, length, nat_lt, unsigned_abs};
-ghost use Rattle.plain_chart.specs.Samples.{kept, values_of, IsSeries, IsSlot, IsValue};
+ghost use Rattle.std.specs.Prelude.{◌≡◌, ◌^◌, ◌≤◌, ℕ, All, IsTrue, List, false, nat_lt, unsigned_abs};
+ghost use Rattle.chart_grid.specs.declared.grid.Grid.{Grid};
+ghost use Rattle.m4_groups.specs.Rows.{AreRowsOf};
+ghost use Rattle.m4_groups.specs.Heights.{IsDrawable};
+ghost use Rattle.row_chart.specs.Points.{points_of};
+ghost use Rattle.plain_chart.specs.declared.sample.Sample.{Sample};
+ghost use Rattle.plain_chart.specs.Samples.{values_of, IsValue};
 ghost use Rattle.plain_chart.specs.Chart.{IsScale};
 ghost use Rattle.chart_service.specs.Replies.{IsBadRange, IsGoodRange, ShowsRange};
 
-use chart_grid::{Axis, Grid};
-use plain_chart::{ValueRange, range_of};
+use m4_groups::Rows;
+use plain_chart::ValueRange;
 use request_lines::RangeWord;
+use row_chart::range_of_rows;
 
 /// Whether the ends of a range are out of order, or one passes 10^18 in size.
 pub(crate) fn is_bad_range(word: RangeWord) -> bool
@@ -25,23 +31,16 @@ fn is_too_large(value: i128) -> bool
     value.unsigned_abs() > 1_000_000_000_000_000_000
 }
 
-/// The range that a view shows: that of the kept values, or the one that is asked for.
-pub(crate) fn shown_range(
-    grid: Grid,
-    axis: Axis,
-    slots: &[Option<i64>],
-    word: RangeWord,
-) -> ValueRange
+/// The range that a view with these rows shows: that of the kept values, or the one that is asked for.
+pub(crate) fn shown_range(rows: &Rows, word: RangeWord) -> ValueRange
     requires good { IsGoodRange word }
-    requires series { IsSeries axis }
-    requires slots { axis.slots ≡ length slots.now }
-    requires values { All IsSlot slots.now }
-    ensures shown { ShowsRange word (values_of (kept grid axis slots.now)) result }
+    requires drawable { (w : ℕ) × All (IsDrawable w) rows.now }
+    ensures shown { (grid : Grid) (samples : List Sample) → AreRowsOf grid (points_of samples) rows.now → ShowsRange word (values_of samples) result }
     ensures scale { IsScale result }
     ensures high { IsValue result.hi }
 {
     match word {
-        RangeWord::Auto => range_of(grid, axis, slots),
+        RangeWord::Auto => range_of_rows(rows),
         RangeWord::Fixed { lo, hi } => ValueRange {
             lo: narrowed(lo),
             hi: narrowed(hi),

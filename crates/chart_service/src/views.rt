@@ -12,7 +12,7 @@ use crate::viewport::Viewport;
 use chart_grid::{Axis, Grid, GridError};
 use line_raster::Bitmap;
 use request_lines::RangeWord;
-use row_chart::chart_by_rows;
+use row_chart::{chart_of_rows, rows_of_slots};
 use series_book::{Refusal, Series};
 use std::alloc::Global;
 
@@ -56,8 +56,9 @@ fn chart_of(alloc: Global, grid: Grid, series: &Series, word: RangeWord) -> Resu
 {
     let slots = series.slots.as_slice();
     let axis = axis_of(series);
-    let range = shown_range(grid, axis, slots, word);
-    let bitmap = chart_by_rows(alloc, grid, axis, slots, range)?;
+    let rows = rows_of_slots(alloc, grid, axis, slots)?;
+    let range = shown_range(&rows, word);
+    let bitmap = chart_of_rows(alloc, grid, &rows, range)?;
     Ok(bitmap)
 }
 

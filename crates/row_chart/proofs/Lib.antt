@@ -1,3 +1,6 @@
 pub mod Order
-pub mod Window
+pub mod Columns
+pub mod Rowed
+pub mod Summed
+pub mod Ranged
 pub mod Picture

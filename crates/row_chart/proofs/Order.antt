@@ -14,8 +14,6 @@ use Rattle.plain_chart.specs.declared.sample.Sample.{Sample}
 use Rattle.plain_chart.specs.Samples.{kept, kept_at, time_at, in_window}
 use Rattle.plain_chart.proofs.Keeping.{kept_more}
 use Rattle.m4_groups.specs.Points.{AreInOrder}
-use Rattle.m4_groups.specs.Gathered.{Gathered, IsGathered, IsLater}
-use Rattle.m4_groups.proofs.Gathering.{point-follows}
 use Rattle.row_chart.specs.Points.{points_of}
 
 -- the samples of these slots, the first of which is slot n
@@ -62,20 +60,3 @@ kept-in_order g axis n (o ∷ slots) some =
       shown = All-cons (λ p. InWindow g p.0) (time_at axis n, v) points window rest.shown;
       rising = AllPairs-cons (λ p q. p.0 <ℤ q.0) (time_at axis n, v) points later rest.rising;
     })
-
--- the points of one slot more are those so far and that slot's
-pub points_more : (g : Grid) (axis : Axis) (slots : List (Option ℤ)) (i : ℕ) (d : Option ℤ) (o : Option Sample) → i < length slots → o ≡ kept_at g axis (i, get_or slots i d) → points_of (kept g axis (take (i + 1) slots)) ≡ points_of (kept g axis (take i slots)) ++ points_of (option_to_list o)
-points_more g axis slots i d o inside is =
-    ap (λ l. points_of l) (kept_more g axis slots i d inside)
-    ∙ map-append (λ s. (s.time, s.value)) (kept g axis (take i slots)) (option_to_list (kept_at g axis (i, get_or slots i d)))
-    ∙ ap (λ x. points_of (kept g axis (take i slots)) ++ points_of (option_to_list x)) (sym is)
-
--- the next slot's sample may be taken in
-pub sample-follows : (g : Grid) (axis : Axis) (slots : List (Option ℤ)) (i : ℕ) (d : Option ℤ) (o : Option Sample) (s : Gathered) → 0 < axis.step → i < length slots → o ≡ kept_at g axis (i, get_or slots i d) → s.grid ≡ g → IsGathered (points_of (kept g axis (take i slots))) s → IfSome o (λ t. InWindow s.grid t.time × IsLater s t.time)
-sample-follows g axis slots i d None s some inside is grid gathered = tt
-sample-follows g axis slots i d (Some t) s some inside is grid gathered =
-    let O : List (ℤ × ℤ) → Type 0 = λ l. AreInOrder g l in
-    let G : Grid → Type 0 = λ k. AreInOrder k (points_of (kept g axis (take i slots)) ++ (t.time, t.value) ∷ []) in
-    point-follows s (points_of (kept g axis (take i slots))) t.time t.value
-    (subst G (sym grid) (subst O (points_more g axis slots i d (Some t) inside is) (kept-in_order g axis 0 (take (i + 1) slots) some)))
-    gathered

@@ -1,9 +1,9 @@
 -- The rows of a view's samples can be drawn, and their picture is that of the samples.
-use Rattle.std.proofs.Common.{◌≡◌, ℕ, ℤ, pos, ◌+◌, List, [], ◌∷◌, Option, All, ap, subst, refl}
+use Rattle.std.proofs.Common.{◌≡◌, ℕ, ℤ, pos, ◌+◌, ◌<◌, List, [], ◌∷◌, Option, All, ap, subst, refl}
 use Rattle.std.proofs.lemmas.List.Elements.{All-nil, All-cons, All-head, All-tail}
 use Rattle.chart_grid.specs.declared.grid.Grid.{Grid}
 use Rattle.chart_grid.specs.declared.axis.Axis.{Axis}
-use Rattle.chart_grid.specs.Projection.{HasCanvas}
+use Rattle.chart_grid.specs.Projection.{HasCanvas, InWindow, column}
 use Rattle.line_raster.specs.Canvas.{Canvas, Adds}
 use Rattle.line_raster.specs.Raster.{InRaster}
 use Rattle.line_raster.specs.declared.position.Point.{Point}
@@ -12,13 +12,12 @@ use Rattle.plain_chart.specs.declared.value_range.ValueRange.{ValueRange}
 use Rattle.plain_chart.specs.Samples.{kept, IsSlot, IsValue}
 use Rattle.plain_chart.specs.Chart.{place, places}
 use Rattle.m4_groups.specs.declared.row.Row.{Row}
-use Rattle.m4_groups.specs.Points.{AreInOrder, pixels}
+use Rattle.m4_groups.specs.Points.{AreInOrder, pixels, spots}
 use Rattle.m4_groups.specs.Rows.{AreRowsOf}
 use Rattle.m4_groups.specs.Heights.{IsDrawable, HaveSameHeights}
-use Rattle.m4_groups.specs.Gathered.{Gathered, IsGathered}
 use Rattle.m4_groups.proofs.Drawable.{rows-drawable}
 use Rattle.row_chart.specs.Points.{points_of}
-use Rattle.row_chart.proofs.Order.{kept_from, first_slot}
+use Rattle.row_chart.proofs.Order.{kept_from, first_slot, kept-in_order}
 
 -- the samples hold values of the slots
 values_kept : (g : Grid) (axis : Axis) (n : ℕ) (slots : List (Option ℤ)) → All IsSlot slots → All (λ p. IsValue p.1) (points_of (kept_from g axis n slots))
@@ -34,19 +33,25 @@ placed : (g : Grid) (range : ValueRange) (samples : List Sample) → pixels g ra
 placed g range [] = refl
 placed g range (s ∷ samples) = ap (λ l. place g range s ∷ l) (placed g range samples)
 
--- what was gathered of the kept samples has rows that a canvas of the grid's width can show
-pub kept-drawable : (g : Grid) (axis : Axis) (slots : List (Option ℤ)) (s : Gathered) (rows : List Row) (w : ℕ) → All IsSlot slots → s.grid ≡ g → g.w ≡ w → IsGathered (points_of (kept g axis slots)) s → AreRowsOf s.grid (points_of (kept g axis slots)) rows → All (IsDrawable w) rows
-kept-drawable g axis slots s rows w all grid wide gathered own =
-    let G : Grid → Type 0 = λ k. All (IsDrawable k.w) rows in
-    let W : ℕ → Type 0 = λ n. All (IsDrawable n) rows in
-    subst W wide (subst G grid (rows-drawable s.grid (points_of (kept g axis slots)) rows gathered.order (values_kept g axis 0 slots all) own))
+-- the rows of the kept samples can be shown on a canvas of the grid's width
+pub kept-drawable : (g : Grid) (axis : Axis) (slots : List (Option ℤ)) (rows : List Row) → 0 < axis.step → All IsSlot slots
+    → AreRowsOf g (points_of (kept g axis slots)) rows → All (IsDrawable g.w) rows
+kept-drawable g axis slots rows step all own =
+    rows-drawable g (points_of (kept g axis slots)) rows (kept-in_order g axis 0 slots step) (values_kept g axis 0 slots all) own
+
+-- each kept sample lies on the canvas
+pub kept-drawn : ((g : Grid) (t : ℤ) → InWindow g t → column g t < g.w) → (g : Grid) (points : List (ℤ × ℤ)) → All (λ p. InWindow g p.0) points
+    → All (λ s. s.x < g.w) (spots g points)
+kept-drawn drawn g [] shown = All-nil (λ s. s.x < g.w)
+kept-drawn drawn g (p ∷ points) shown =
+    All-cons (λ s. s.x < g.w) (record { x = column g p.0; y = p.1 }) (spots g points) (drawn g p.0 (All-head (λ p. InWindow g p.0) p points shown))
+    (kept-drawn drawn g points (All-tail (λ p. InWindow g p.0) p points shown))
 
 -- rows that add the raster of the points whose rows they are add the raster of the samples
-pub raster_of_kept : (g : Grid) (range : ValueRange) (samples : List Sample) (s : Gathered) (rows : List Row) (old new : Canvas) → s.grid ≡ g → HasCanvas g old.w old.h → IsGathered (points_of samples) s → AreRowsOf s.grid (points_of samples) rows
+pub raster_of_kept : (g : Grid) (range : ValueRange) (axis : Axis) (slots : List (Option ℤ)) (rows : List Row) (old new : Canvas) → 0 < axis.step
+    → HasCanvas g old.w old.h → AreRowsOf g (points_of (kept g axis slots)) rows
     → ((k : Grid) (points : List (ℤ × ℤ)) (of : List Row) → HasCanvas k old.w old.h → AreInOrder k points → AreRowsOf k points of → HaveSameHeights range.lo range.hi old.h rows of → Adds (λ x y. InRaster (pixels k range.lo range.hi points) x (pos y)) old new)
-    → Adds (λ x y. InRaster (places g range samples) x (pos y)) old new
-raster_of_kept g range samples s rows old new grid canvas gathered own raster =
-    let O : Grid → Type 0 = λ k. AreInOrder k (points_of samples) in
-    let R : Grid → Type 0 = λ k. AreRowsOf k (points_of samples) rows in
+    → Adds (λ x y. InRaster (places g range (kept g axis slots)) x (pos y)) old new
+raster_of_kept g range axis slots rows old new step canvas own raster =
     let A : List Point → Type 0 = λ l. Adds (λ x y. InRaster l x (pos y)) old new in
-    subst A (placed g range samples) (raster g (points_of samples) rows canvas (subst O grid gathered.order) (subst R grid own) refl)
+    subst A (placed g range (kept g axis slots)) (raster g (points_of (kept g axis slots)) rows canvas (kept-in_order g axis 0 slots step) own refl)

@@ -1,2 +1,3 @@
 pub mod Points
-pub mod Shown
+pub mod Summaries
+pub mod Ranges

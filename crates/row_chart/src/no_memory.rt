@@ -1,3 +1,4 @@
+use std::alloc::{AllocError, AllocFailed};
 use thiserror::Error;
 
 /// No memory was left for the rows or for the bitmap.
@@ -5,8 +6,14 @@ use thiserror::Error;
 #[error("no memory for the chart")]
 pub struct NoMemory;
 
-impl From<m4_groups::NoMemory> for NoMemory {
-    fn from(_error: m4_groups::NoMemory) -> NoMemory {
+impl From<AllocError> for NoMemory {
+    fn from(_error: AllocError) -> NoMemory {
+        NoMemory
+    }
+}
+
+impl<T: Drop> From<AllocFailed<T>> for NoMemory {
+    fn from(_error: AllocFailed<T>) -> NoMemory {
         NoMemory
     }
 }

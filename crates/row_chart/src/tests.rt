@@ -2,9 +2,9 @@ ghost use Rattle.std.specs.Prelude.{◌≡◌, ◌<◌, ◌≤◌, All, IsTrue, 
 ghost use Rattle.plain_chart.specs.Samples.{IsSeries, IsSlot, IsValue};
 ghost use Rattle.plain_chart.specs.Chart.{IsScale};
 
-use crate::{chart_by_rows, draw_by_rows};
+use crate::{chart_of_rows, range_of_rows, rows_of_slots};
 use chart_grid::{Axis, Grid};
-use line_raster::{Bitmap, column_fill};
+use line_raster::Bitmap;
 use plain_chart::{ValueRange, draw, range_of};
 use std::alloc::Global;
 
@@ -193,7 +193,7 @@ fn is_range(range: ValueRange) -> bool
     range.lo <= range.hi && is_value(range.lo) && is_value(range.hi)
 }
 
-// The chart by rows and the one by segments, on a bitmap with a black column each.
+// The chart by rows and the one by segments.
 fn both(
     alloc: Global,
     grid: Grid,
@@ -201,14 +201,25 @@ fn both(
     slots: &[Option<i64>],
     range: ValueRange,
 ) -> Option<(Bitmap, Bitmap)> {
-    let mut by_rows = Bitmap::new(alloc, grid.w(), grid.h()).ok()?;
     let mut by_segments = Bitmap::new(alloc, grid.w(), grid.h()).ok()?;
     if !can_be_drawn(axis, slots, range) {
         return None;
     }
-    draw_by_rows(alloc, &mut by_rows, grid, axis, slots, range).ok()?;
+    let rows = rows_of_slots(alloc, grid, axis, slots).ok()?;
+    let by_rows = chart_of_rows(alloc, grid, &rows, range).ok()?;
     draw(&mut by_segments, grid, axis, slots, range);
     Some((by_rows, by_segments))
+}
+
+// Whether the range of the rows is that of the samples.
+fn has_one_range(alloc: Global, grid: Grid, axis: Axis, slots: &[Option<i64>]) -> Option<bool> {
+    if !is_axis(axis) || axis.slots != slots.len() as u64 || !are_slots(slots) {
+        return None;
+    }
+    let rows = rows_of_slots(alloc, grid, axis, slots).ok()?;
+    let range = range_of_rows(&rows);
+    let all = range_of(grid, axis, slots);
+    Some(range.lo == all.lo && range.hi == all.hi)
 }
 
 // How many pixels differ.
@@ -239,6 +250,7 @@ fn rows_draw_what_segments_draw(rt: HostRuntime) {
         let (by_rows, by_segments) = both(rt.alloc(), grid, axis, slots, range).expect(
             &rt, "memory",
         );
+        assert!(rt; has_one_range(rt.alloc(), grid, axis, slots) == Some(true));
         assert_eq!(rt;
             differences(&by_rows, &by_segments),
             0,
@@ -247,7 +259,6 @@ fn rows_draw_what_segments_draw(rt: HostRuntime) {
     }
 }
 
-// What was black stays so, and a chart begins on a white bitmap.
 #[test]
 fn charts_are_drawn(rt: HostRuntime) {
     let grid = Grid::new(0, 4, 4, 4).expect(&rt, "a window");
@@ -257,13 +268,9 @@ fn charts_are_drawn(rt: HostRuntime) {
         slots: 2,
     };
     let slots = [Some(0), Some(3)];
-    let range = range_of(grid, axis, &slots);
+    let rows = rows_of_slots(rt.alloc(), grid, axis, &slots).expect(&rt, "memory");
+    let range = range_of_rows(&rows);
     assert_eq!(rt; (range.lo, range.hi), (0, 3));
-    let chart = chart_by_rows(rt.alloc(), grid, axis, &slots, range).expect(&rt, "memory");
+    let chart = chart_of_rows(rt.alloc(), grid, &rows, range).expect(&rt, "memory");
     assert_eq!(rt; chart.black(), 4);
-    let mut bitmap = Bitmap::new(rt.alloc(), 4, 4).expect(&rt, "memory");
-    column_fill(&mut bitmap, 3, 0, 2);
-    assert!(rt; bitmap.width() == grid.w() && bitmap.height() == grid.h());
-    draw_by_rows(rt.alloc(), &mut bitmap, grid, axis, &slots, range).expect(&rt, "memory");
-    assert_eq!(rt; bitmap.black(), 7);
 }
