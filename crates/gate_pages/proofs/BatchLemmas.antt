@@ -62,6 +62,7 @@ page_set (first ∷ batch) (suc at) entry q below same none = by (page_set batch
     clash : (c : Bool) → c ≡ true → c ≡ false → ⊥
     clash true = λ is nope. search rules
     clash false = λ is nope. search rules
+
     other : eqb q first.0 ≡ true → eqb q entry.0 ≡ false
     other is = elim (eqb_tells q entry.0) [
       | inl both ↦ elim (eqb_tells q first.0) [
@@ -70,6 +71,7 @@ page_set (first ∷ batch) (suc at) entry q below same none = by (page_set batch
       ]
       | inr not_both ↦ not_both.0
     ]
+
     by : page_in (set batch at entry) q ≡ cond (eqb q entry.0) (Some entry.1) (page_in batch q) → (b : Bool) → eqb q first.0 ≡ b → page_in (first ∷ set batch at entry) q ≡ cond (eqb q entry.0) (Some entry.1) (page_in (first ∷ batch) q)
     by rest true is = page_here first (set batch at entry) q is ∙ sym (ap (λ b. cond b (Some entry.1) (page_in (first ∷ batch) q)) (other is) ∙ page_here first batch q is)
     by rest false is =
@@ -89,17 +91,21 @@ distinct_more (m ∷ ns) n new distinct =
     or_first : (a b : Bool) → (a || b) ≡ false → a ≡ false
     or_first true b = λ nope. nope
     or_first false b = λ nope. refl
+
     or_rest : (a b : Bool) → (a || b) ≡ false → b ≡ false
     or_rest true true = λ nope. nope
     or_rest true false = λ nope. refl
     or_rest false b = λ nope. nope
+
     both : (a b : Bool) → a ≡ false → b ≡ false → (a || (b || false)) ≡ false
     both true b = λ no_a no_b. no_a
     both false true = λ no_a no_b. no_b
     both false false = λ no_a no_b. refl
+
     clash : (c : Bool) → c ≡ true → c ≡ false → ⊥
     clash true = λ is nope. search rules
     clash false = λ is nope. search rules
+
     turned : (a b : ℕ) → eqb b a ≡ false → eqb a b ≡ false
     turned a b is = elim (eqb_tells a b) [ inl same ↦ absurd (clash (eqb b a) (same_number b a (sym same.1)) is) | inr other ↦ other.0 ]
 

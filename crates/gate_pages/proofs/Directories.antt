@@ -81,6 +81,7 @@ too_many count block many =
   where
     gt_false : (a b : ℕ) → b < a → leb a b ≡ false
     gt_false a b above = search (rules, above)
+
     and_false : (b : Bool) → (b && false) ≡ false
     and_false true = refl
     and_false false = refl
@@ -132,8 +133,8 @@ images_from (entry ∷ batch) block image each =
     let first : image block ≡ entry.1 = ap image (sym here) ∙ each 0 (omega arith) in
     ap (λ (page : List ℕ). (entry.0, page) ∷ images (numbers batch) (block + 1) image) first
     ∙ ap (λ (l : List Entry). entry ∷ l) (images_from batch (block + 1) image (λ k below.
-        let next : block + 1 + k ≡ block + suc k = omega arith in
-        ap image next ∙ each (suc k) (omega (arith, below))))
+    let next : block + 1 + k ≡ block + suc k = omega arith in
+    ap image next ∙ each (suc k) (omega (arith, below))))
 
 pub image_at : (ns : List ℕ) (block : ℕ) (image : Image) (k : ℕ) → k < length ns → get_or (images ns block image) k (0, []) ≡ (get_or ns k 0, image (block + k))
 image_at [] block image k below = absurd (omega (arith, below))

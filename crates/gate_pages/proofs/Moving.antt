@@ -42,8 +42,8 @@ pub moves_then : (touched : ℕ → Type 0) (reads syncs writes reads' syncs' wr
 moves_then touched reads syncs writes reads' syncs' writes' old mid new first second =
     let torn : (image : Image) → TornOff touched (Now mid) image → TornOff touched (Now old) image =
     λ image left.
-        let back = moves_now touched reads syncs writes old mid left.from first left.was in
-        record { from = back.from; was = back.was; same = λ number free. left.same number free ∙ back.same number free } in
+    let back = moves_now touched reads syncs writes old mid left.from first left.was in
+    record { from = back.from; was = back.was; same = λ number free. left.same number free ∙ back.same number free } in
     record {
       time = time_then old mid new (TornOff touched (Now old)) first.time (passes_weaker mid new (TornOff touched (Now mid)) (TornOff touched (Now old)) (Quiet mid) (Quiet mid) torn (λ count quiet. quiet) second.time);
       honest = λ honest. second.honest (first.honest honest);
@@ -62,8 +62,8 @@ moves_then touched reads syncs writes reads' syncs' writes' old mid new first se
 pub moves_weaker : (touched touched' : ℕ → Type 0) (reads syncs writes reads' syncs' writes' : ℕ) (old new : View) → ((number : ℕ) → touched number → touched' number) → reads ≤ reads' → syncs ≤ syncs' → writes ≤ writes' → Moves touched reads syncs writes old new → Moves touched' reads' syncs' writes' old new
 moves_weaker touched touched' reads syncs writes reads' syncs' writes' old new more more_reads more_syncs more_writes moves = record {
   time = passes_weaker old new (TornOff touched (Now old)) (TornOff touched' (Now old)) (Quiet old) (Quiet old)
-  (λ image torn. record { from = torn.from; was = torn.was; same = λ number free. torn.same number (λ in_less. free (more number in_less)) })
-  (λ count quiet. quiet) moves.time;
+      (λ image torn. record { from = torn.from; was = torn.was; same = λ number free. torn.same number (λ in_less. free (more number in_less)) })
+      (λ count quiet. quiet) moves.time;
   honest = moves.honest;
   was_honest = moves.was_honest;
   off = λ honest number free. moves.off honest number (λ in_less. free (more number in_less));
@@ -124,9 +124,9 @@ pub moments_from : (touched : ℕ → Type 0) (reads syncs writes : ℕ) (old ne
 moments_from touched reads syncs writes old new images moves only at_each =
     passes_weaker old new (TornOff touched (Now old)) images (Quiet old) (Quiet old)
     (λ image torn.
-        let is = only torn.from torn.was in
-        let same : SameOff touched old.image image = λ number free. torn.same number free ∙ ap (λ (i : Image). i number) is in
-        at_each image same (honest_by old torn.from only torn.was))
+    let is = only torn.from torn.was in
+    let same : SameOff touched old.image image = λ number free. torn.same number free ∙ ap (λ (i : Image). i number) is in
+    at_each image same (honest_by old torn.from only torn.was))
     (λ count quiet. quiet) moves.time
 
 -- nothing is pending, and what reads give has this property

@@ -20,9 +20,12 @@ module _ (old mid new : View) (asked : Moves Nowhere 0 0 0 old mid) where
   explains_back DiskFault (inl risen) = inl (omega (arith, risen, asked.faults))
   explains_back DiskFault (inr last) = inr last
   explains_back (TooSmall size) is = (is.0 ∙ asked.size, is.1)
-  explains_back BadDirectory is = (omega (arith, is.0, asked.size), λ honest.
-      let P : Image → Type 0 = λ i. IsBroken (page_count old.size) i in
-      subst P (untouched 0 0 0 old mid asked honest) (broken_size mid.image (is.1 (asked.honest honest))))
+  explains_back BadDirectory is = (
+    omega (arith, is.0, asked.size),
+    λ honest.
+        let P : Image → Type 0 = λ i. IsBroken (page_count old.size) i in
+        subst P (untouched 0 0 0 old mid asked honest) (broken_size mid.image (is.1 (asked.honest honest))),
+  )
   explains_back NoMemory is = tt
 
   pub leaves_back : (cause : OpenCause) → Leaves cause mid new → Leaves cause old new

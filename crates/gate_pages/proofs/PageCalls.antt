@@ -16,7 +16,7 @@ use Rattle.gate_pages.proofs.States.{closed_pages}
 pub reads_page : (count : ℕ) (sound : Bool) (old new : View) → Moves Nowhere 1 0 0 old new → Reads (Honest old) (Honest new) (pages_view count sound old) (pages_view count sound new)
 reads_page count sound old new moves = record {
   time = passes_pages count count sound sound old new (Quiet old) refl
-  (passes_weaker old new _ (Now old) (Quiet old) (Quiet old) (λ image torn. nothing_torn (Now old) image torn) (λ sent quiet. quiet) moves.time);
+      (passes_weaker old new _ (Now old) (Quiet old) (Quiet old) (λ image torn. nothing_torn (Now old) image torn) (λ sent quiet. quiet) moves.time);
   told = moves.honest;
   was_told = moves.was_honest;
   image = λ honest. ap (λ i. pages_of count i) (untouched 1 0 0 old new moves honest);

@@ -45,6 +45,7 @@ not_one_of (entry ∷ batch) number none = elim (eqb_tells number entry.0) [
   where
     some_none : (page : List ℕ) → Some page ≡ None → ⊥
     some_none page same = none-some page (sym same)
+
     differ : (a b : ℕ) → a ≢ b → eqb a b ≡ false
     differ a b not_same = elim (eqb_tells a b) [ inl is ↦ absurd (not_same is.1) | inr is ↦ is.0 ]
 
@@ -64,6 +65,7 @@ one_of (entry ∷ batch) number found = elim (eqb_tells number entry.0) [
   where
     differ : (a b : ℕ) → a ≢ b → eqb a b ≡ false
     differ a b not_same = elim (eqb_tells a b) [ inl is ↦ absurd (not_same is.1) | inr is ↦ is.0 ]
+
     equal : (a b : ℕ) → a ≡ b → eqb a b ≡ true
     equal a b same = elim (eqb_tells a b) [ inl is ↦ is.0 | inr is ↦ absurd (is.1 same) ]
 
@@ -81,11 +83,14 @@ page_more (first ∷ batch) entry number new = elim (eqb_tells number first.0) [
   where
     differ : (a b : ℕ) → a ≢ b → eqb a b ≡ false
     differ a b not_same = elim (eqb_tells a b) [ inl is ↦ absurd (not_same is.1) | inr is ↦ is.0 ]
+
     equal : (a b : ℕ) → a ≡ b → eqb a b ≡ true
     equal a b same = elim (eqb_tells a b) [ inl is ↦ is.0 | inr is ↦ absurd (is.1 same) ]
+
     by : (a b : Bool) → (a || b) ≡ false → a ≡ true → ⊥
     by true b = λ nope is. search rules
     by false b = λ nope is. search rules
+
     later : (a b : Bool) → (a || b) ≡ false → b ≡ false
     later true b = λ nope. absurd (by true b nope refl)
     later false b = λ nope. nope
@@ -173,9 +178,11 @@ below_from_all count (m ∷ ns) n all is = elim (cases_lt m count) [
     rest : (a b : Bool) → IsTrue (a && b) → IsTrue b
     rest true b = λ both. both
     rest false b = λ both. search rules
+
     later : (a b : Bool) → a ≡ false → IsTrue (a || b) → IsTrue b
     later true b = λ nope either. search rules
     later false b = λ nope either. either
+
     none : (a b : Bool) → a ≡ false → IsTrue (a && b) → ⊥
     none true b = λ nope both. search rules
     none false b = λ nope both. search rules

@@ -53,8 +53,8 @@ module _ (count : ℕ) (batch : List Entry) (few : length batch ≤ 64) (start :
       time = gate_time before (0 + 0) (0 + 1) (1 + 0) view view' at (moves_synced (At 0) 0 0 1 view mid view' written synced);
       back = λ honest. at.back (written.was_honest (synced.was_honest honest));
       rests = settled (At 0) 0 0 1 0 1 0 view mid view' (Opened count batch pages) written
-      (λ honest. record { staged = staged_gate count batch few pages view.image mid.image (at.rests.is honest) (written.off honest); gate = opened honest })
-      synced only;
+          (λ honest. record { staged = staged_gate count batch few pages view.image mid.image (at.rests.is honest) (written.off honest); gate = opened honest })
+          synced only;
     }
 
     -- the pages are written home
@@ -70,13 +70,13 @@ module _ (count : ℕ) (batch : List Entry) (few : length batch ≤ 64) (start :
       time = home_time (reads + 0) (0 + 1) (writes + 0) view view' at (moves_synced (IsHome (numbers batch)) reads 0 writes view mid view' written synced);
       back = λ honest. at.back (written.was_honest (synced.was_honest honest));
       rests = settled (IsHome (numbers batch)) reads 0 writes 0 1 0 view mid view' (Opened count batch (put_all batch pages)) written
-      (λ honest.
+          (λ honest.
           let was = at.rests.is honest in
           record {
             staged = staged_home count batch few pages (put_all batch pages) view.image mid.image was.staged (written.off honest) (lies honest ∙ ap (λ (i : Image). put_all batch i) was.staged.lies);
             gate = gate_kept count batch few view.image mid.image (written.off honest) ∙ was.gate;
           })
-      synced only;
+          synced only;
     }
 
     -- the gate is written, closed
@@ -92,8 +92,8 @@ module _ (count : ℕ) (batch : List Entry) (few : length batch ≤ 64) (start :
       time = close_time (0 + 0) (0 + 1) (1 + 0) view view' at (moves_synced (At 0) 0 0 1 view mid view' written synced);
       back = λ honest. at.back (written.was_honest (synced.was_honest honest));
       rests = settled (At 0) 0 0 1 0 1 0 view mid view' (Shut (put_all batch pages)) written
-      (λ honest. record { gate = shut honest; lies = (staged_gate count batch few (put_all batch pages) view.image mid.image (at.rests.is honest).staged (written.off honest)).lies })
-      synced only;
+          (λ honest. record { gate = shut honest; lies = (staged_gate count batch few (put_all batch pages) view.image mid.image (at.rests.is honest).staged (written.off honest)).lies })
+          synced only;
     }
 
 -- The moments of a commit are those with the pages from before it or after it.
@@ -116,10 +116,10 @@ module _ (count : ℕ) (batch : List Entry) (start : View) (closed : IsClosed st
     time = stage_time (0 + 0) (0 + 1) (writes + 0) view' (moves_synced IsJournal 0 0 writes start mid view' written synced);
     back = λ honest. written.was_honest (synced.was_honest honest);
     rests = settled IsJournal 0 0 writes 0 1 0 start mid view' (Staged count batch (home start.image)) written
-    (λ honest. record {
-      listed = (holds honest).listed count below;
-      images_are = (holds honest).images_are;
-      lies = stage_home start.image mid.image (written.off honest);
-    })
-    synced only;
+        (λ honest. record {
+          listed = (holds honest).listed count below;
+          images_are = (holds honest).images_are;
+          lies = stage_home start.image mid.image (written.off honest);
+        })
+        synced only;
   }

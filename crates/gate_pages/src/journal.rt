@@ -43,11 +43,7 @@ fn stage<D: Disk>(disk: &mut D, buffer: &mut [u8], batch: &Batch) -> Result<(), 
 }
 
 /// Writes a gate with this byte.
-pub(crate) fn write_gate<D: Disk>(
-    disk: &mut D,
-    buffer: &mut [u8],
-    byte: u8,
-) -> Result<(), Failed>
+pub(crate) fn write_gate<D: Disk>(disk: &mut D, buffer: &mut [u8], byte: u8) -> Result<(), Failed>
     requires room { 66 ≤ (D.view disk.old).size }
     requires whole { length buffer.old ≡ 4096 }
     ensures moves { Moves (At 0) 0 0 1 (D.view disk.old) (D.view disk.new) }
@@ -75,11 +71,7 @@ fn write_home<D: Disk>(disk: &mut D, batch: &Batch) -> Result<(), Failed>
 }
 
 /// Commits a batch through the journal.
-pub(crate) fn redo<D: Disk>(
-    disk: &mut D,
-    buffer: &mut [u8],
-    batch: &Batch,
-) -> Result<(), Failed>
+pub(crate) fn redo<D: Disk>(disk: &mut D, buffer: &mut [u8], batch: &Batch) -> Result<(), Failed>
     requires room { 66 ≤ (D.view disk.old).size }
     requires whole { length buffer.old ≡ 4096 }
     requires within { LiesWithin (D.view disk.old).size (numbers (entries batch.now)) }

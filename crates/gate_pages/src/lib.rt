@@ -34,6 +34,5 @@ pub use list_pages::ListPages;
 pub use page_world::PageWorld;
 pub use pages::Pages;
 
-
 #[cfg(test)]
 mod tests;

@@ -12,9 +12,7 @@ ghost use Rattle.gate_pages.specs.Steps.{Anywhere, IsHome, LiesWithin};
 use crate::directory::directory;
 use crate::errors::OpenCause;
 use crate::journal::write_gate;
-use crate::layout::{
-    CLOSED, DIRECTORY, FEWEST_BLOCKS, GATE, HOME, IMAGES, MOST_BLOCKS, OPEN,
-};
+use crate::layout::{CLOSED, DIRECTORY, FEWEST_BLOCKS, GATE, HOME, IMAGES, MOST_BLOCKS, OPEN};
 use block_disk::{Disk, Failed};
 use std::alloc::Global;
 

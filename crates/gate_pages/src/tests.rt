@@ -1,13 +1,13 @@
 //! Commits and recoveries that are stopped anywhere, and pages in a file.
 
 use super::*;
-use block_disk::{BLOCK, Disk, FileDisk, FuseDisk, MemDisk, Tear};
+use block_disk::{BLOCK, Disk, Failed, FileDisk, FuseDisk, MemDisk, Tear};
 use std::alloc::Global;
 use std::fs;
 use std::test::Fail;
 
 /// The pages that the tests commit.
-const PLACES: [u32; 3] = [3, 61, 5];
+const PLACES: [u32; 3] = [3, 60, 5];
 
 /// Adds a page full of one byte, where there is room.
 fn put(batch: &mut Batch, p: u32, byte: u8) {
@@ -63,17 +63,37 @@ fn open<D: Disk>(alloc: Global, disk: D) -> Result<GatePages<D>, OpenCause> {
     }
 }
 
-/// A disk of 128 blocks whose three pages are full of 1, with nothing pending.
-fn old_disk(alloc: Global) -> Result<MemDisk, Fail> {
-    let disk = MemDisk::new(alloc, 128, Vec::new(alloc))?;
-    let mut pages = open(alloc, disk)?;
-    commit(&mut pages, &batch_of(alloc, 1)?)?;
-    Ok(pages.into_disk().after_crash(Tear::Old)?)
+/// Writes a block that begins with these bytes, and is full of one byte behind them.
+fn write<D: Disk>(disk: &mut D, no: u32, front: &[u8], byte: u8) -> Result<(), Failed> {
+    if no >= disk.blocks()? {
+        return Err(Failed);
+    }
+    let mut block = [byte; BLOCK];
+    for (place, byte) in block.iter_mut().zip(front) {
+        *place = *byte;
+    }
+    disk.write_block(no, &block)
+}
+
+/// A disk of so many blocks with nothing pending, whose gate byte is this, and whose directory is
+/// these bytes and zeros, before three images full of 2. The three pages are full of 1.
+fn disk_of(alloc: Global, blocks: u32, gate: u8, directory: &[u8]) -> Result<MemDisk, Fail> {
+    let mut disk = MemDisk::new(alloc, blocks, Vec::new(alloc))?;
+    write(&mut disk, 0, &[gate], 0)?;
+    write(&mut disk, 1, directory, 0)?;
+    for no in 2..5 {
+        write(&mut disk, no, &[], 2)?;
+    }
+    for no in [66 + 3, 66 + 5, 126] {
+        write(&mut disk, no, &[], 1)?;
+    }
+    disk.sync()?;
+    Ok(disk)
 }
 
 /// Commits pages full of 2, on a disk that stops after so many calls of the commit.
 fn stopped_commit(alloc: Global, calls: u64) -> Result<(bool, MemDisk), Fail> {
-    let disk = FuseDisk::new(old_disk(alloc)?, 3 + calls);
+    let disk = FuseDisk::new(disk_of(alloc, 128, 0, b"")?, calls.saturating_add(3));
     let mut pages = open(alloc, disk)?;
     let done = commit(&mut pages, &batch_of(alloc, 2)?).is_ok();
     if done != pages.is_sound() {
@@ -90,50 +110,91 @@ fn stopped_opening(alloc: Global, disk: MemDisk, calls: u64) -> (bool, MemDisk) 
     }
 }
 
-const TEARS: [Tear; 5] = [Tear::Old, Tear::New, Tear::Half, Tear::Junk(7), Tear::Junk(1)];
+/// The byte of the pages after a commit of 2 over 1 that stops after each number of its calls. It
+/// makes 13: 4 writes and a sync, the gate and a sync, 3 writes and a sync, the gate and a sync.
+fn after_stops(alloc: Global, tear: Tear) -> Result<Vec<u8>, Fail> {
+    let mut bytes = Vec::new(alloc);
+    for calls in 0..14 {
+        let (done, disk) = stopped_commit(alloc, calls)?;
+        let mut pages = open(alloc, disk.after_crash(tear)?)?;
+        let byte = byte_of(&mut pages)?;
+        bytes.push(if done { byte.wrapping_add(10) } else { byte })?;
+    }
+    Ok(bytes)
+}
 
-/// A commit of three pages makes 13 calls: 4 writes and a sync, the gate and a sync, 3 writes and a
-/// sync, the gate and a sync.
+/// Once the gate was written and not synced, the tear decides.
 #[test]
 fn a_stopped_commit_leaves_old_or_new_pages(rt: HostRuntime) -> Result<(), Fail> {
     let alloc = rt.alloc();
-    for calls in 0..15 {
-        for tear in TEARS {
-            let (done, disk) = stopped_commit(alloc, calls)?;
-            let mut pages = open(alloc, disk.after_crash(tear)?)?;
-            let byte = byte_of(&mut pages)?;
-            assert_eq!(rt; done, calls >= 13, "{calls} {tear:?}");
-            assert_eq!(rt; byte == 1 || byte == 2, true, "{calls} {tear:?}");
-            assert_eq!(rt; byte == 2 || calls < 7, true, "{calls} {tear:?}");
-            assert_eq!(rt; byte == 1 || calls > 5, true, "{calls} {tear:?}");
-        }
+    for (tear, torn) in [(Tear::Old, 1), (Tear::New, 2), (Tear::Half, 2)] {
+        let want = [1, 1, 1, 1, 1, 1, torn, 2, 2, 2, 2, 2, 2, 12];
+        assert_eq!(rt;
+            after_stops(alloc, tear)?.as_slice(),
+            want.as_slice(),
+            "{tear:?}"
+        );
     }
     Ok(())
 }
 
-/// A disk whose gate is open before three images full of 2.
-fn committed_disk(alloc: Global) -> Result<MemDisk, Fail> {
-    let mut image = vec![in alloc; 0; 128 * BLOCK]?;
-    image[0] = 1;
-    let directory = "CHARTDIR\0\0\0\x03\0\0\0\x03\0\0\0\x3D\0\0\0\x05";
-    image.as_mut_slice()[BLOCK..BLOCK + 24].copy_from_slice(directory.as_bytes());
-    image.as_mut_slice()[2 * BLOCK..5 * BLOCK].fill(2);
-    Ok(MemDisk::from_bytes(alloc, image, Vec::new(alloc)))
+#[test]
+fn junk_leaves_old_or_new_pages(rt: HostRuntime) -> Result<(), Fail> {
+    let alloc = rt.alloc();
+    for (tear, torn) in [(Tear::Junk(7), 1), (Tear::Junk(1), 2)] {
+        let want = [1, 1, 1, 1, 1, 1, torn, 2, 2, 2, 2, 2, 2, 12];
+        assert_eq!(rt;
+            after_stops(alloc, tear)?.as_slice(),
+            want.as_slice(),
+            "{tear:?}"
+        );
+    }
+    Ok(())
 }
 
-/// An opening that copies three pages makes 13 calls: the size, a sync, two reads, three times a read
-/// and a write, a sync, the gate and a sync.
+/// The directory of the three pages.
+const LISTED: &str = "CHARTDIR\0\0\0\x03\0\0\0\x03\0\0\0\x3C\0\0\0\x05";
+
+/// The byte of the pages after an opening that stops after each number of its calls, and one more
+/// that stops halfway. With three pages to copy it makes 13 calls: the size, a sync, two reads, three
+/// times a read and a write, a sync, the gate and a sync.
+fn after_openings(alloc: Global, tear: Tear) -> Result<Vec<u8>, Fail> {
+    let mut bytes = Vec::new(alloc);
+    for calls in 0..14 {
+        let disk = disk_of(alloc, 128, 1, LISTED.as_bytes())?;
+        let (done, disk) = stopped_opening(alloc, disk, calls);
+        let (_, disk) = stopped_opening(alloc, disk.after_crash(tear)?, calls / 2);
+        let mut pages = open(alloc, disk.after_crash(tear)?)?;
+        let byte = byte_of(&mut pages)?;
+        bytes.push(if done { byte.wrapping_add(10) } else { byte })?;
+    }
+    Ok(bytes)
+}
+
 #[test]
 fn a_stopped_opening_leaves_the_pages(rt: HostRuntime) -> Result<(), Fail> {
     let alloc = rt.alloc();
-    for calls in 0..15 {
-        for tear in TEARS {
-            let (done, disk) = stopped_opening(alloc, committed_disk(alloc)?, calls);
-            let (_, disk) = stopped_opening(alloc, disk.after_crash(tear)?, calls / 2);
-            let mut pages = open(alloc, disk.after_crash(tear)?)?;
-            assert_eq!(rt; done, calls >= 13, "{calls} {tear:?}");
-            assert_eq!(rt; byte_of(&mut pages)?, 2, "{calls} {tear:?}");
-        }
+    let want = [2, 2, 2, 2, 2, 2, 2, 2, 2, 2, 2, 2, 2, 12];
+    for tear in [Tear::Old, Tear::New, Tear::Half] {
+        assert_eq!(rt;
+            after_openings(alloc, tear)?.as_slice(),
+            want.as_slice(),
+            "{tear:?}"
+        );
+    }
+    Ok(())
+}
+
+#[test]
+fn an_opening_stopped_with_junk_leaves_the_pages(rt: HostRuntime) -> Result<(), Fail> {
+    let alloc = rt.alloc();
+    let want = [2, 2, 2, 2, 2, 2, 2, 2, 2, 2, 2, 2, 2, 12];
+    for tear in [Tear::Junk(7), Tear::Junk(1)] {
+        assert_eq!(rt;
+            after_openings(alloc, tear)?.as_slice(),
+            want.as_slice(),
+            "{tear:?}"
+        );
     }
     Ok(())
 }
@@ -148,16 +209,6 @@ fn causes(alloc: Global, disk: MemDisk) -> (Option<OpenCause>, Option<OpenCause>
         Ok(_) => (opened, None),
         Err(back) => (opened, Some(back.cause)),
     }
-}
-
-/// A disk of so many blocks whose gate byte is this, and whose directory is these bytes and zeros.
-fn disk_of(alloc: Global, blocks: usize, gate: u8, directory: &[u8]) -> Result<MemDisk, Fail> {
-    let mut image = vec![in alloc; 0; blocks * BLOCK]?;
-    image[0] = gate;
-    for (at, byte) in directory.iter().enumerate() {
-        image[BLOCK + at] = *byte;
-    }
-    Ok(MemDisk::from_bytes(alloc, image, Vec::new(alloc)))
 }
 
 #[test]
@@ -196,12 +247,15 @@ fn pages_in_memory(rt: HostRuntime) -> Result<(), Fail> {
     put(&mut batch, 5, 9);
     put(&mut batch, 0, 8);
     assert_eq!(rt; (batch.len(), batch.has(0), batch.has(1)), (4, true, false));
-    assert_eq!(rt; batch.get(5).map(|page| page[4095]), Some(9));
+    assert_eq!(rt;
+        batch.get(5).map(|page| page.last().copied()),
+        Some(Some(9))
+    );
     assert_eq!(rt; batch.get(4).is_none(), true);
     assert_eq!(rt; commit(&mut pages, &batch), Ok(()));
     assert_eq!(rt; get(&mut pages, 5), Ok((9, 9, 9)));
     assert_eq!(rt; get(&mut pages, 0), Ok((8, 8, 8)));
-    assert_eq!(rt; get(&mut pages, 61), Ok((1, 1, 1)));
+    assert_eq!(rt; get(&mut pages, 60), Ok((1, 1, 1)));
     assert_eq!(rt; get(&mut pages, 62), Err(DiskFault));
     batch.clear();
     assert_eq!(rt; (batch.len(), batch.has(0)), (0, false));

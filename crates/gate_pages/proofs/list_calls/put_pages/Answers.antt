@@ -33,8 +33,8 @@ loop-i-preserved c =
     record {
       whole = ap length is ∙ length-replaced bytes (4096 * n) page (omega (arith, within, c.page-page.result.now.whole)) ∙ c.loop-i.invariant.whole;
       so_far = ap (λ l. blocks_of l) is
-      ∙ blocks_put bytes n page c.page-page.result.now.whole within
-      ∙ ap (λ (m : Image). put n page m) c.loop-i.invariant.so_far
-      ∙ ap (λ (e : Entry). put e.0 e.1 (put_all (take i batch) (blocks_of c.args.bytes.now))) c.page-page.ensures
-      ∙ put_step batch i (blocks_of c.args.bytes.now) below c.args.batch.now.distinct;
+          ∙ blocks_put bytes n page c.page-page.result.now.whole within
+          ∙ ap (λ (m : Image). put n page m) c.loop-i.invariant.so_far
+          ∙ ap (λ (e : Entry). put e.0 e.1 (put_all (take i batch) (blocks_of c.args.bytes.now))) c.page-page.ensures
+          ∙ put_step batch i (blocks_of c.args.bytes.now) below c.args.batch.now.distinct;
     }

@@ -58,7 +58,7 @@ loop-i-preserved g c =
     let written = moves_weaker (At (66 + n)) touched 0 0 1 0 0 1 mid new (λ number at. is_home ns n number (one_of_numbers ns i below) at) (omega arith) (omega arith) (omega arith) c.write_block.ensures.moves in
     record {
       moves = moves_weaker touched touched (i + 1 + 0) (0 + 0 + 0) (i + 0 + 1) (i + 1) 0 (i + 1) start new (λ number is. is) (omega arith) (omega arith) (omega arith)
-      (moves_then touched (i + 1) (0 + 0) (i + 0) 0 0 1 start mid new (moves_then touched i 0 i 1 0 0 start old mid c.loop-i.invariant.moves read) written);
+          (moves_then touched (i + 1) (0 + 0) (i + 0) 0 0 1 start mid new (moves_then touched i 0 i 1 0 0 start old mid c.loop-i.invariant.moves read) written);
       lies = λ honest.
           let old_honest = c.loop-i.invariant.moves.honest honest in
           let mid_honest = c.read_block.ensures.moves.honest old_honest in

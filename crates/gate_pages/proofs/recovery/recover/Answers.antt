@@ -87,11 +87,11 @@ returns-in_err-replay-clause-moments g c =
     let view3 = view c.read_block-2.new.self in
     let quiet3 = moves_then Nowhere 1 1 0 1 0 0 view0 view2 view3 quiet2 c.read_block-2.ensures.moves in
     let listed = λ (honest : Honest view3).
-        let honest2 = c.read_block-2.ensures.moves.was_honest honest in
-        let found : option_map (λ (v : Vec ℕ Global). v.items) c.in_ok-numbers.field-0 ≡ Some c.as_slice.result.now =
-        ap (λ o. option_map (λ (v : Vec ℕ Global). v.items) o) c.in-Some.is ∙ ap (λ (l : List ℕ). Some l) (sym c.as_slice.ensures.value) in
-        ap (λ block. directory count block) (c.read_block-2.ensures.moves.off honest2 1 (λ nothing. nothing) ∙ sym (c.in_ok-read_block-2.ensures.bytes honest2))
-        ∙ sym c.in_ok-numbers.ensures.directory ∙ found in
+    let honest2 = c.read_block-2.ensures.moves.was_honest honest in
+    let found : option_map (λ (v : Vec ℕ Global). v.items) c.in_ok-numbers.field-0 ≡ Some c.as_slice.result.now =
+    ap (λ o. option_map (λ (v : Vec ℕ Global). v.items) o) c.in-Some.is ∙ ap (λ (l : List ℕ). Some l) (sym c.as_slice.ensures.value) in
+    ap (λ block. directory count block) (c.read_block-2.ensures.moves.off honest2 1 (λ nothing. nothing) ∙ sym (c.in_ok-read_block-2.ensures.bytes honest2))
+    ∙ sym c.in_ok-numbers.ensures.directory ∙ found in
     let view4 = view c.replay.new.disk in
     time_then view0 view3 view4 (StandsAsBefore count view0) (stands_quiet count 2 1 0 view0 view3 quiet3)
     (passes_weaker view3 view4 (StandsAsBefore count view3) (StandsAsBefore count view0) (Quiet view3) (Quiet view3) (λ image stands. stands_back count 2 1 0 view0 view3 image quiet3 stands) (λ sent quiet. quiet) (c.replay.ensures.moments count listed))
@@ -107,11 +107,11 @@ returns-clause-moments g c =
     let view3 = view c.read_block-2.new.self in
     let quiet3 = moves_then Nowhere 1 1 0 1 0 0 view0 view2 view3 quiet2 c.read_block-2.ensures.moves in
     let listed = λ (honest : Honest view3).
-        let honest2 = c.read_block-2.ensures.moves.was_honest honest in
-        let found : option_map (λ (v : Vec ℕ Global). v.items) c.in_ok-numbers.field-0 ≡ Some c.as_slice.result.now =
-        ap (λ o. option_map (λ (v : Vec ℕ Global). v.items) o) c.in-Some.is ∙ ap (λ (l : List ℕ). Some l) (sym c.as_slice.ensures.value) in
-        ap (λ block. directory count block) (c.read_block-2.ensures.moves.off honest2 1 (λ nothing. nothing) ∙ sym (c.in_ok-read_block-2.ensures.bytes honest2))
-        ∙ sym c.in_ok-numbers.ensures.directory ∙ found in
+    let honest2 = c.read_block-2.ensures.moves.was_honest honest in
+    let found : option_map (λ (v : Vec ℕ Global). v.items) c.in_ok-numbers.field-0 ≡ Some c.as_slice.result.now =
+    ap (λ o. option_map (λ (v : Vec ℕ Global). v.items) o) c.in-Some.is ∙ ap (λ (l : List ℕ). Some l) (sym c.as_slice.ensures.value) in
+    ap (λ block. directory count block) (c.read_block-2.ensures.moves.off honest2 1 (λ nothing. nothing) ∙ sym (c.in_ok-read_block-2.ensures.bytes honest2))
+    ∙ sym c.in_ok-numbers.ensures.directory ∙ found in
     let view4 = view c.replay.new.disk in
     time_then view0 view3 view4 (StandsAsBefore count view0) (stands_quiet count 2 1 0 view0 view3 quiet3)
     (passes_weaker view3 view4 (StandsAsBefore count view3) (StandsAsBefore count view0) (Quiet view3) (Quiet view3) (λ image stands. stands_back count 2 1 0 view0 view3 image quiet3 stands) (λ sent quiet. quiet) (c.replay.ensures.moments count listed))
@@ -127,10 +127,10 @@ returns-clause-pages g c honest =
     let view3 = view c.read_block-2.new.self in
     let quiet3 = moves_then Nowhere 1 1 0 1 0 0 view0 view2 view3 quiet2 c.read_block-2.ensures.moves in
     let listed = λ (honest : Honest view3).
-        let honest2 = c.read_block-2.ensures.moves.was_honest honest in
-        let found : option_map (λ (v : Vec ℕ Global). v.items) c.in_ok-numbers.field-0 ≡ Some c.as_slice.result.now =
-        ap (λ o. option_map (λ (v : Vec ℕ Global). v.items) o) c.in-Some.is ∙ ap (λ (l : List ℕ). Some l) (sym c.as_slice.ensures.value) in
-        ap (λ block. directory count block) (c.read_block-2.ensures.moves.off honest2 1 (λ nothing. nothing) ∙ sym (c.in_ok-read_block-2.ensures.bytes honest2))
-        ∙ sym c.in_ok-numbers.ensures.directory ∙ found in
+    let honest2 = c.read_block-2.ensures.moves.was_honest honest in
+    let found : option_map (λ (v : Vec ℕ Global). v.items) c.in_ok-numbers.field-0 ≡ Some c.as_slice.result.now =
+    ap (λ o. option_map (λ (v : Vec ℕ Global). v.items) o) c.in-Some.is ∙ ap (λ (l : List ℕ). Some l) (sym c.as_slice.ensures.value) in
+    ap (λ block. directory count block) (c.read_block-2.ensures.moves.off honest2 1 (λ nothing. nothing) ∙ sym (c.in_ok-read_block-2.ensures.bytes honest2))
+    ∙ sym c.in_ok-numbers.ensures.directory ∙ found in
     let honest3 = quiet3.honest honest in
     c.in_ok-replay.ensures.done count honest3 (listed honest3) ∙ ap (λ image. pages_of count image) (untouched 2 1 0 view0 view3 quiet3 honest)

@@ -22,13 +22,15 @@ loop-i-preserved c =
     let i = c.loop-i.i in
     let within : self.len ≤ length self.pages.items = omega (arith, self.within, self.room) in
     let here = number_at self.len self.pages.items i c.index.result.now c.loop-i-test.true within c.index.ensures in
-    record { below = λ k low. elim (cases_lt k i) [
-      | inl less ↦ c.loop-i.invariant.below k less
-      | inr more ↦
-          let same : i ≡ k = omega (arith, low, more) in
-          let P : ℕ → Type 0 = λ n. (get_or (entries self) n (0, [])).0 < c.args.count in
-          subst P same (omega (arith, here, c.if-index-count.false))
-    ] }
+    record {
+      below = λ k low. elim (cases_lt k i) [
+        | inl less ↦ c.loop-i.invariant.below k less
+        | inr more ↦
+            let same : i ≡ k = omega (arith, low, more) in
+            let P : ℕ → Type 0 = λ n. (get_or (entries self) n (0, [])).0 < c.args.count in
+            subst P same (omega (arith, here, c.if-index-count.false))
+      ];
+    }
 
 pub returns : goal.returns
 returns c =
