@@ -1,13 +1,13 @@
-use Rattle.std.proofs.Common.{ℕ, ℤ, pos, ◌≡◌, ◌+ℤ◌, ◌-ℤ◌, ◌≤ℤ◌, ◌≤◌, ◌^◌, ◌⊎◌, inl, inr, Bool, true, false, cond, ◌&&◌, refl, sym, ◌∙◌, ap, ap₂, subst, arith}
-use Rattle.std.proofs.lemmas.Int.{ints, clamps, by_lt_z}
+use Rattle.std.proofs.Common.{ℤ, pos, ◌≡◌, ◌+ℤ◌, ◌-ℤ◌, ◌⊎◌, inl, inr, Bool, true, false, cond, ◌&&◌, refl, sym, ◌∙◌, ap, ap₂, subst, arith}
+use Rattle.std.proofs.lemmas.Int.{ints, clamps}
 use Rattle.std.proofs.lemmas.Option.{same_Some, cond_some}
 use Rattle.std.proofs.lemmas.Result.{IfOk-weaker}
 use Rattle.std.proofs.lemmas.Bool.Decides.{nat_tests}
-use Rattle.std.specs.Prelude.{Option, Some, None, ◌↔◌, is_some, IsErr, IfOk, OnErr, Result, Ok, Err, ok_or, int_le, nat_le, unsigned_abs}
+use Rattle.std.specs.Prelude.{Option, Some, None, is_some, IsErr, IfOk, Result, Ok, ok_or, int_le}
 use Rattle.std.specs.Int.{int_min, int_max}
 use Rattle.om3_coeff.specs.declared.span.Span.{Span}
 use Rattle.om3_coeff.specs.declared.coef.Coef.{Coef}
-use Rattle.om3_coeff.specs.Spans.{IsValue, IsProper, IsProperIfAny, is_proper, hull}
+use Rattle.om3_coeff.specs.Spans.{IsProper, IsProperIfAny, is_proper, hull}
 use Rattle.om3_coeff.specs.Coefs.{coef_of, left_part, right_part, IsFlat, IsBadFor, IsBad, if_proper, proper_only, is_flat, parts_by, parts}
 
 -- the test says what the relation says

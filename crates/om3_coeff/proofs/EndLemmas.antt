@@ -1,4 +1,4 @@
-use Rattle.std.proofs.Common.{ℕ, zero, suc, ℤ, ◌≡◌, ◌+◌, ◌-◌, ◌*◌, ◌^◌, ◌<◌, ◌≤◌, min, max, ◌⊎◌, inl, inr, List, length, refl, sym, ◌∙◌, ap, ap₂, subst, subst₂, arith}
+use Rattle.std.proofs.Common.{ℕ, ℤ, ◌≡◌, ◌+◌, ◌-◌, ◌*◌, ◌^◌, ◌<◌, ◌≤◌, min, max, List, refl, sym, ◌∙◌, ap, subst, subst₂, arith}
 use Rattle.std.proofs.lemmas.Nat.{pow_pos}
 use Rattle.std.proofs.lemmas.Bool.Decides.{nat_tests}
 use Rattle.std.specs.Int.{w64, cast_signed, cast_unsigned}
@@ -8,13 +8,13 @@ use Rattle.om3_coeff.specs.declared.span.Span.{Span}
 use Rattle.om3_coeff.specs.declared.places.Place.{Place}
 use Rattle.om3_coeff.specs.declared.places.Place.TheVariants.{Outside, Within, Cut}
 use Rattle.om3_coeff.specs.Keys.{first_slot, end_slot, left_of, right_of, height, top_key}
-use Rattle.om3_coeff.specs.Spans.{IsValue, IsProper, IsProperIfAny, Holds, IsClear, IsStored, AreExtremes, IsSpanOf, hull, span_over, span}
+use Rattle.om3_coeff.specs.Spans.{IsValue, IsProper, IsProperIfAny, Holds, IsClear, AreExtremes, IsSpanOf, hull, span_over}
 use Rattle.om3_coeff.specs.View.{NodesView, Agrees}
 use Rattle.om3_coeff.specs.Walks.{IsPlace, IsReached, IsFirstStored, IsLastStored, IsSlotIn, cut_keys, most_cut}
 use Rattle.om3_coeff.proofs.ExtremeLemmas.{span_over_is, none-clear}
 use Rattle.om3_coeff.proofs.KeyLemmas.{by_lt, left_first, right_end, left_some, right_some, height_covers}
 use Rattle.om3_coeff.proofs.KnownLemmas.{reached_span}
-use Rattle.om3_coeff.proofs.WalkLemmas.{same_value, slot_range, slot_of, cut_counts, cut_low, list_none, list_outside, top_first, top_end, top_reads}
+use Rattle.om3_coeff.proofs.WalkLemmas.{same_value, slot_range, cut_counts, list_none, list_outside, top_first, top_end, top_reads}
 
 -- two facts of what a call answered
 pub ok_both : {X Y : Type 0} (r : Result X Y) (P Q R : X → Type 0) → ((x : X) → P x → Q x → R x) → IfOk r P → IfOk r Q → IfOk r R

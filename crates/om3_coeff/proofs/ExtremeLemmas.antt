@@ -1,10 +1,10 @@
-use Rattle.std.proofs.Common.{ℕ, zero, suc, ℤ, ◌≡◌, ◌+◌, ◌-◌, ◌<◌, ◌≤◌, ◌≤ℤ◌, ◌⊎◌, inl, inr, List, [], ◌∷◌, ◌++◌, take, drop, length, refl, sym, ◌∙◌, ap, ap₂, subst, arith, zero-add}
+use Rattle.std.proofs.Common.{ℕ, zero, suc, ℤ, ◌≡◌, ◌+◌, ◌-◌, ◌<◌, ◌≤◌, ◌≤ℤ◌, List, [], ◌∷◌, ◌++◌, take, drop, refl, sym, ◌∙◌, ap, ap₂, subst, arith}
 use Rattle.std.proofs.lemmas.Int.{ints, clamps, by_lt_z}
-use Rattle.std.proofs.lemmas.Option.{same_Some, slice_get_within, slice_get_past}
-use Rattle.std.specs.Prelude.{Option, Some, None, slice_get}
+use Rattle.std.proofs.lemmas.Option.{same_Some}
+use Rattle.std.specs.Prelude.{Option, Some, None, IfSome, slice_get}
 use Rattle.std.specs.Int.{int_min, int_max}
 use Rattle.om3_coeff.specs.declared.span.Span.{Span}
-use Rattle.om3_coeff.specs.Spans.{IsValue, AreSlots, IsProper, IsProperIfAny, Holds, IsClear, IsStored, AreExtremes, IsSpanOf, hull, span_of_slot, span_of, span_over}
+use Rattle.om3_coeff.specs.Spans.{IsValue, AreSlots, IsProperIfAny, Holds, IsClear, IsStored, IsSpanOf, hull, span_of_slot, span_of, span_over}
 
 -- s has the least and the greatest value of a whole list
 record IsWhole (list : List (Option ℤ)) (s : Span) : Type 0 where
@@ -146,3 +146,9 @@ none-clear list a b none =
 
 pub clear-none : (list : List (Option ℤ)) (a b : ℕ) → IsClear list a b → span_over list a b ≡ None
 clear-none list a b clear = one_span list a b (span_over list a b) None (span_over_is list a b) clear
+
+-- one slot more
+pub slots-push : (list : List (Option ℤ)) (x : Option ℤ) → AreSlots list → IfSome x IsValue → AreSlots (list ++ x ∷ [])
+slots-push [] x slots value = each_slot x [] IsValue (λ v e. let P : Option ℤ → Type 0 = λ x. IfSome x IsValue in subst P e value) (λ i v h. absurd (cc))
+slots-push (y ∷ list) x slots value =
+    each_slot y (list ++ x ∷ []) IsValue (λ v e. slots 0 v (ap (λ y. Some y) e)) (slots-push list x (λ i v h. slots (suc i) v h) value)

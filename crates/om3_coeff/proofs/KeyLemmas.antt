@@ -1,12 +1,11 @@
-use Rattle.std.proofs.Common.{ℕ, zero, suc, ℤ, ◌≡◌, ◌+◌, ◌-◌, ◌*◌, ◌/◌, ◌%◌, ◌^◌, ◌<◌, ◌≤◌, min, max, ◌⊎◌, inl, inr, Bool, true, false, cond, leb, List, refl, sym, ◌∙◌, ap, ap₂, subst, arith, lit≤, lit<}
-use Rattle.std.proofs.Math.Nat.{pow-succ', div-one, mul-le-mul_right, pow-le-pow_right}
+use Rattle.std.proofs.Common.{ℕ, suc, ℤ, ◌≡◌, ◌+◌, ◌-◌, ◌*◌, ◌/◌, ◌%◌, ◌^◌, ◌<◌, ◌≤◌, inl, inr, List, sym, ◌∙◌, ap, ap₂, arith, lit<}
+use Rattle.std.proofs.Math.Nat.{pow-succ', div-one, div-mul-le_self, mul_assoc, mul-le-mul_right, pow-le-pow_right}
 use Rattle.std.proofs.lemmas.Nat.{pow_pos, pow-add, shr-shr, shr_below, shr_split, mod_below}
 use Rattle.std.proofs.lemmas.Bool.{cases_lt}
 use Rattle.std.proofs.lemmas.Bool.Decides.{nat_tests}
-use Rattle.std.specs.Prelude.{Option, Some, None}
+use Rattle.std.specs.Prelude.{Option}
 use Rattle.om3_coeff.specs.declared.key.Key.{Key}
-use Rattle.om3_coeff.specs.declared.span.Span.{Span}
-use Rattle.om3_coeff.specs.Keys.{first_slot, end_slot, left_of, right_of, parent_of, page_levels, height, top_key, IsKey, IsNode, IsAtOrAbove, IsOver, MayFollow}
+use Rattle.om3_coeff.specs.Keys.{first_slot, end_slot, left_of, right_of, parent_of, page_levels, height, IsKey, IsNode, IsAtOrAbove}
 use Rattle.om3_coeff.specs.Spans.{hull, span, span_over}
 use Rattle.om3_coeff.proofs.SpanLemmas.{span_over-both}
 
@@ -188,3 +187,38 @@ right_key top k node = record { high = omega (arith, node.high); within = half_w
 -- two keys of one level and one index
 pub same_key : (w k : Key) → w.level ≡ k.level → w.index ≡ k.index → w ≡ k
 same_key w k e f = ap₂ (λ (level index : ℕ). let p : Key = record { level = level; index = index } in p) e f
+
+-- a range holds those of the keys below
+range_from : (q g l : ℕ) → (q / 2 ^ g) * 2 ^ (g + l) ≤ q * 2 ^ l
+range_from q g l =
+    let parts : (q / 2 ^ g) * 2 ^ (g + l) ≡ (q / 2 ^ g) * 2 ^ g * 2 ^ l =
+    ap (λ n. (q / 2 ^ g) * n) (pow-add 2 g l) ∙ sym (mul_assoc (q / 2 ^ g) (2 ^ g) (2 ^ l)) in
+    omega (arith, parts, mul-le-mul_right {m = (q / 2 ^ g) * 2 ^ g} {n = q} (2 ^ l) (div-mul-le_self q (2 ^ g)))
+
+range_to : (q g l : ℕ) → (q + 1) * 2 ^ l ≤ (q / 2 ^ g + 1) * 2 ^ (g + l)
+range_to q g l =
+    let parts : (q / 2 ^ g + 1) * 2 ^ (g + l) ≡ (q / 2 ^ g + 1) * 2 ^ g * 2 ^ l =
+    ap (λ n. (q / 2 ^ g + 1) * n) (pow-add 2 g l) ∙ sym (mul_assoc (q / 2 ^ g + 1) (2 ^ g) (2 ^ l)) in
+    let more : q + 1 ≤ (q / 2 ^ g + 1) * 2 ^ g = omega (arith, shr_split q g, mod_below q (2 ^ g) (pow_pos g)) in
+    omega (arith, parts, mul-le-mul_right {m = q + 1} {n = (q / 2 ^ g + 1) * 2 ^ g} (2 ^ l) more)
+
+above_levels : (w k : Key) → IsAtOrAbove w k → (w.level - k.level) + k.level ≡ w.level
+above_levels w k h = omega (arith, h.higher)
+
+pub first_above : (w k : Key) → IsAtOrAbove w k → first_slot w ≤ first_slot k
+first_above w k h =
+    let e : (k.index / 2 ^ (w.level - k.level)) * 2 ^ ((w.level - k.level) + k.level) ≡ first_slot w =
+    ap₂ (λ q l. q * 2 ^ l) h.holds (above_levels w k h) in
+    omega (arith, e, range_from k.index (w.level - k.level) k.level)
+
+pub end_above : (w k : Key) → IsAtOrAbove w k → end_slot k ≤ end_slot w
+end_above w k h =
+    let e : (k.index / 2 ^ (w.level - k.level) + 1) * 2 ^ ((w.level - k.level) + k.level) ≡ end_slot w =
+    ap₂ (λ q l. (q + 1) * 2 ^ l) h.holds (above_levels w k h) in
+    omega (arith, e, range_to k.index (w.level - k.level) k.level)
+
+pub slot_first : (k : Key) → k.level ≡ 0 → first_slot k ≡ k.index
+slot_first k at_zero = let width : 2 ^ k.level ≡ 1 = ap (λ n. 2 ^ n) at_zero in omega (arith, ap (λ n. k.index * n) width)
+
+pub slot_end : (k : Key) → k.level ≡ 0 → end_slot k ≡ k.index + 1
+slot_end k at_zero = let width : 2 ^ k.level ≡ 1 = ap (λ n. 2 ^ n) at_zero in omega (arith, ap (λ n. (k.index + 1) * n) width)

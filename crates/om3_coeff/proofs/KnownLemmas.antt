@@ -1,6 +1,5 @@
-use Rattle.std.proofs.Common.{ℕ, zero, suc, ℤ, ◌≡◌, ◌+◌, ◌-◌, ◌*◌, ◌/◌, ◌%◌, ◌^◌, ◌<◌, ◌≤◌, ◌⊎◌, inl, inr, Bool, true, false, cond, List, length, refl, sym, ◌∙◌, ap, ap₂, subst, arith}
+use Rattle.std.proofs.Common.{ℕ, zero, suc, ℤ, ◌≡◌, ◌+◌, ◌-◌, ◌*◌, ◌/◌, ◌%◌, ◌^◌, ◌<◌, ◌≤◌, ◌⊎◌, inl, inr, cond, List, length, refl, sym, ◌∙◌, ap, ap₂, subst, arith}
 use Rattle.std.proofs.lemmas.Bool.{cases_lt}
-use Rattle.std.proofs.lemmas.Bool.Decides.{nat_tests}
 use Rattle.std.proofs.lemmas.Nat.{mod_below, shr-shr}
 use Rattle.std.proofs.Math.Nat.{div-one}
 use Rattle.std.proofs.lemmas.Option.{same_Some}
@@ -13,11 +12,11 @@ use Rattle.om3_coeff.specs.Keys.{parent_of, left_of, right_of, height, top_key, 
 use Rattle.om3_coeff.specs.Spans.{AreSlots, IsProperIfAny, hull, span}
 use Rattle.om3_coeff.specs.Coefs.{coef_of, coef, parts}
 use Rattle.om3_coeff.specs.Known.{half, known_below, known_from, known}
-use Rattle.om3_coeff.specs.View.{NodesView, AgreesOn, Agrees, known_of}
+use Rattle.om3_coeff.specs.View.{NodesView, Agrees, known_of}
 use Rattle.om3_coeff.specs.Walks.{IsReached}
 use Rattle.om3_coeff.proofs.ExtremeLemmas.{span_over-proper}
 use Rattle.om3_coeff.proofs.CoefLemmas.{AreParts, parts_joined, parts_are}
-use Rattle.om3_coeff.proofs.KeyLemmas.{span_halves, even_half, odd_half, left_parent, right_parent, above_itself, parent_above, above_on, parent_within, same_key, left_key, right_key}
+use Rattle.om3_coeff.proofs.KeyLemmas.{span_halves, even_half, odd_half, left_parent, right_parent, parent_above, above_on, parent_within, same_key, left_key, right_key}
 
 -- the top has the root's span
 pub known_top : (root : Option Span) (told : Key → Option Coef) (n : ℕ) → known root told (height n) (top_key n) ≡ Some root

@@ -1,13 +1,13 @@
-use Rattle.std.proofs.Common.{ℕ, ℤ, ◌≡◌, ◌+◌, ◌*◌, ◌^◌, ◌<◌, ◌≤◌, List, length, refl, sym, ◌∙◌, ap, ap₂, subst, arith}
+use Rattle.std.proofs.Common.{ℕ, ℤ, ◌≡◌, ◌^◌, ◌≤◌, List, length, refl, sym, ◌∙◌, ap, ap₂, subst, arith}
 use Rattle.std.proofs.lemmas.Option.{same_Some}
-use Rattle.std.specs.Prelude.{Option, Some, None, IsSome}
+use Rattle.std.specs.Prelude.{Option, Some, IsSome}
 use Rattle.om3_coeff.specs.declared.key.Key.{Key}
 use Rattle.om3_coeff.specs.declared.span.Span.{Span}
 use Rattle.om3_coeff.specs.declared.coef.Coef.{Coef}
-use Rattle.om3_coeff.specs.Keys.{first_slot, end_slot, left_of, right_of, height, top_key, IsKey, IsNode}
-use Rattle.om3_coeff.specs.Spans.{AreSlots, IsProperIfAny, hull, span_of, span_over, span}
-use Rattle.om3_coeff.specs.Coefs.{coef_of, coef, parts}
-use Rattle.om3_coeff.specs.View.{AgreesOn, Agrees, known_of}
+use Rattle.om3_coeff.specs.Keys.{left_of, right_of, height, top_key, IsNode}
+use Rattle.om3_coeff.specs.Spans.{AreSlots, IsProperIfAny, hull, span_over, span}
+use Rattle.om3_coeff.specs.Coefs.{coef_of, parts}
+use Rattle.om3_coeff.specs.View.{Agrees, known_of}
 use Rattle.om3_coeff.specs.ListNodes.{list_view}
 use Rattle.om3_coeff.proofs.SpanLemmas.{span_over-all}
 use Rattle.om3_coeff.proofs.ExtremeLemmas.{span_over-proper}

@@ -1,23 +1,21 @@
-use Rattle.std.proofs.Common.{ℕ, zero, suc, ℤ, ◌≡◌, ◌+◌, ◌-◌, ◌*◌, ◌/◌, ◌%◌, ◌^◌, ◌<◌, ◌≤◌, min, max, ◌⊎◌, inl, inr, Bool, true, false, cond, List, length, refl, sym, ◌∙◌, ap, ap₂, subst, arith, lit<, lit≤}
+use Rattle.std.proofs.Common.{ℕ, ℤ, ◌≡◌, ◌+◌, ◌-◌, ◌*◌, ◌^◌, ◌<◌, ◌≤◌, min, max, ◌⊎◌, inl, inr, List, length, refl, sym, ◌∙◌, ap, ap₂, subst, arith, lit<}
 use Rattle.std.proofs.Math.Nat.{pow-le-pow_right}
 use Rattle.std.proofs.lemmas.Nat.{pow_pos}
 use Rattle.std.proofs.lemmas.Bool.Decides.{nat_tests}
-use Rattle.std.proofs.lemmas.Int.{ints, to_z-of_z, fits_signed_from_abs}
+use Rattle.std.proofs.lemmas.Int.{to_z-of_z, fits_signed_from_abs}
 use Rattle.std.proofs.lemmas.Option.{same_Some}
 use Rattle.std.specs.Int.{w64, cast_signed, cast_unsigned}
-use Rattle.std.specs.Prelude.{Option, Some, None, IfSome, IsSome, slice_get}
+use Rattle.std.specs.Prelude.{Option, Some, None, slice_get}
 use Rattle.om3_coeff.specs.declared.key.Key.{Key}
 use Rattle.om3_coeff.specs.declared.span.Span.{Span}
-use Rattle.om3_coeff.specs.declared.coef.Coef.{Coef}
-use Rattle.om3_coeff.specs.declared.errors.NodeError.{NodeError}
-use Rattle.om3_coeff.specs.Keys.{first_slot, end_slot, parent_of, left_of, right_of, height, top_key, IsKey, IsNode, IsAtOrAbove, IsOver, MayFollow}
-use Rattle.om3_coeff.specs.Spans.{IsValue, IsProper, IsProperIfAny, Holds, IsClear, IsStored, AreExtremes, IsSpanOf, hull, span_of_slot, span_over, span}
+use Rattle.om3_coeff.specs.Keys.{first_slot, end_slot, left_of, right_of, height, top_key, IsKey, IsNode, IsAtOrAbove, IsOver}
+use Rattle.om3_coeff.specs.Spans.{IsValue, IsProperIfAny, AreExtremes, IsSpanOf, hull, span_of_slot, span_over, span}
 use Rattle.om3_coeff.specs.Known.{known}
-use Rattle.om3_coeff.specs.View.{NodesView, AgreesOn, Agrees, known_of, StaysSame, MayAsk, HasCause}
+use Rattle.om3_coeff.specs.View.{NodesView, Agrees, known_of, StaysSame, MayAsk}
 use Rattle.om3_coeff.specs.declared.places.Place.TheVariants.{Outside, Within, Cut}
 use Rattle.om3_coeff.specs.Walks.{IsPlace, IsReached, cut_keys, most_cut, StaysBelow}
 use Rattle.om3_coeff.proofs.SpanLemmas.{hull-none, span_over-both, span_over-none, span_at, get_some}
-use Rattle.om3_coeff.proofs.ExtremeLemmas.{span_over_is, one_span, none-clear, clear-none}
+use Rattle.om3_coeff.proofs.ExtremeLemmas.{span_over_is, none-clear, clear-none}
 use Rattle.om3_coeff.proofs.KeyLemmas.{by_lt, height_few, height_covers, end_within, left_first, right_end, left_some, right_some, left_parent, right_parent, above_itself, parent_above, above_on}
 use Rattle.om3_coeff.proofs.KnownLemmas.{known_top, reached_span}
 

@@ -1,5 +1,5 @@
 -- Coefficients: what a key's coefficient is, and how it splits a span into those of the two halves.
-use Rattle.std.specs.Prelude.{ℤ, pos, ◌≡◌, ◌+ℤ◌, ◌-ℤ◌, ◌≢◌, ◌⊎◌, Bool, true, false, ◌&&◌, int_le, if◌then◌else◌, List, Option, None, Some}
+use Rattle.std.specs.Prelude.{ℤ, pos, ◌≡◌, ◌+ℤ◌, ◌-ℤ◌, ◌⊎◌, Bool, true, false, ◌&&◌, int_le, if◌then◌else◌, List, Option, None, Some}
 use Rattle.om3_coeff.specs.declared.key.Key.{Key}
 use Rattle.om3_coeff.specs.declared.span.Span.{Span}
 use Rattle.om3_coeff.specs.declared.coef.Coef.{Coef}

@@ -5,3 +5,4 @@ pub mod Known
 pub mod View
 pub mod Walks
 pub mod ListNodes
+pub mod Held

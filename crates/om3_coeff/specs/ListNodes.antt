@@ -1,5 +1,5 @@
 -- What nodes over a list of slots mean.
-use Rattle.std.specs.Prelude.{ℕ, ℤ, ◌≡◌, ◌^◌, ◌≤◌, List, length, Option, Some}
+use Rattle.std.specs.Prelude.{ℤ, ◌≡◌, ◌^◌, ◌≤◌, List, length, Option, Some}
 use Rattle.std.proofs.Common.{ap}
 use Rattle.om3_coeff.specs.declared.key.Key.{Key}
 use Rattle.om3_coeff.specs.Spans.{span_over}

@@ -1,10 +1,10 @@
 //! What follows from the definitions. The functions do nothing: their contracts are the laws.
 
-ghost use Rattle.std.specs.Prelude.{◌≡◌, ℕ, ℤ, ◌≤◌, ◌<◌, List, length, Option, None, Some, IfSome, IsSome};
+ghost use Rattle.std.specs.Prelude.{◌≡◌, ℕ, ℤ, ◌+◌, ◌≤◌, ◌<◌, List, length, Option, None, Some, IfSome, IsSome};
 ghost use Rattle.om3_coeff.specs.declared.key.Key.{Key};
 ghost use Rattle.om3_coeff.specs.declared.span.Span.{Span};
 ghost use Rattle.om3_coeff.specs.declared.coef.Coef.{Coef};
-ghost use Rattle.om3_coeff.specs.Keys.{height, top_key, parent_of, left_of, right_of, end_slot, IsKey, IsNode, IsAtOrAbove};
+ghost use Rattle.om3_coeff.specs.Keys.{height, top_key, parent_of, left_of, right_of, first_slot, end_slot, IsKey, IsNode, IsAtOrAbove};
 ghost use Rattle.om3_coeff.specs.Spans.{AreSlots, IsProperIfAny, IsSpanOf, hull, span_of, span_over, span};
 ghost use Rattle.om3_coeff.specs.Coefs.{coef_of, coef, parts};
 ghost use Rattle.om3_coeff.specs.Known.{known, known_below};
@@ -40,6 +40,14 @@ pub fn split_and_join_undo_each_other()
         hull left right ≡ Some s }
     ensures join { (s : Span) (c : Coef) (left right : Option Span) → parts s c ≡ Some (left, right) →
         coef_of left right ≡ c }
+{}
+
+/// A key's range holds those of the keys below it, and a key of level 0 is its slot.
+pub fn ranges_hold_those_below()
+    ensures first { (w k : Key) → IsAtOrAbove w k → first_slot w ≤ first_slot k }
+    ensures end { (w k : Key) → IsAtOrAbove w k → end_slot k ≤ end_slot w }
+    ensures slot { (k : Key) → k.level ≡ 0 → first_slot k ≡ k.index }
+    ensures one { (k : Key) → k.level ≡ 0 → end_slot k ≡ k.index + 1 }
 {}
 
 /// What is known from a root's span and told coefficients: the top's span is known, what is known of a

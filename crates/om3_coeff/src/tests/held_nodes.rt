@@ -1,6 +1,5 @@
 //! Nodes over coefficients that were received, and a count of asks.
-ghost use Rattle.std.specs.Prelude.{◌≡◌, ◌≤◌, ◌^◌, None};
-ghost use Rattle.om3_coeff.specs.Spans.{IsProperIfAny};
+ghost use Rattle.std.specs.Prelude.{◌≡◌};
 ghost use Rattle.om3_coeff.specs.Held.{told_by};
 
 use crate::{Coef, Key, NodeError, Nodes, Span, split};
@@ -15,8 +14,7 @@ pub(crate) struct HeldNodes<'a> {
 }
 
 impl<'a> HeldNodes<'a> {
-    ghost use Rattle.std.specs.Prelude.{◌≡◌, ◌≤◌, ◌^◌, None};
-    ghost use Rattle.om3_coeff.specs.Spans.{IsProperIfAny};
+    ghost use Rattle.std.specs.Prelude.{◌≡◌};
 
     pub(crate) fn new(slots: u64, root: Option<Span>, held: &'a [(Key, Coef)]) -> HeldNodes<'a>
         ensures slots { result.slots ≡ slots }
@@ -49,12 +47,13 @@ fn found(held: &[(Key, Coef)], key: Key) -> Option<Coef>
 }
 
 impl<'a> Nodes for HeldNodes<'a> {
-    ghost use Rattle.std.specs.Prelude.{◌≡◌};
-    ghost use Rattle.om3_coeff.specs.Held.{told_by, held_view, HeldStays, held_itself, held_on, held_same};
+    ghost use Rattle.std.specs.Prelude.{◌≡◌, refl};
+    ghost use Rattle.std.proofs.Common.{◌∙◌, ap};
+    ghost use Rattle.om3_coeff.specs.Held.{told_by, held_view, held_stays};
 
     ghost view = { λ nodes. held_view nodes.slots nodes.root (told_by nodes.held.now) nodes.asked nodes.asks };
 
-    ghost keeps = { λ old new. HeldStays old.slots new.slots old.root new.root old.held.now new.held.now };
+    ghost keeps = { λ old new. (new.slots ≡ old.slots) × (new.root ≡ old.root) × (new.held.now ≡ old.held.now) };
 
     fn slots(&self) -> u64 {
         self.slots
@@ -77,9 +76,9 @@ impl<'a> Nodes for HeldNodes<'a> {
         Ok(coef)
     }
 
-    ghost keeps_itself = { λ nodes. held_itself nodes.slots nodes.root nodes.held.now };
+    ghost keeps_itself = { λ nodes. (refl, refl, refl) };
 
-    ghost keeps_on = { λ old between new. held_on old.slots between.slots new.slots old.root between.root new.root old.held.now between.held.now new.held.now };
+    ghost keeps_on = { λ old between new first then. (then.0 ∙ first.0, then.1 ∙ first.1, then.2 ∙ first.2) };
 
-    ghost keeps_same = { λ old new. held_same old.slots new.slots old.root new.root old.held.now new.held.now old.asked new.asked old.asks new.asks };
+    ghost keeps_same = { λ old new same. held_stays old.slots new.slots old.root new.root (told_by old.held.now) (told_by new.held.now) old.asked new.asked old.asks new.asks same.0 same.1 (ap told_by same.2) };
 }

@@ -1,12 +1,12 @@
-use Rattle.std.proofs.Common.{rules, arith, ℕ, ℤ, List, ◌≤◌, ◌+◌, subst, sym, ◌≡◌, refl, inr}
+use Rattle.std.proofs.Common.{rules, arith, ℕ, ℤ, ◌≤◌, ◌+◌, subst, refl, inr}
 use Rattle.std.proofs.lemmas.Result.{IfOk-weaker}
-use Rattle.std.specs.Prelude.{Option, Some, None, IfSome, IfNone, IsSome, max, min}
+use Rattle.std.specs.Prelude.{Option, IfSome, IfNone, IsSome, max, min}
 use Rattle.om3_coeff.specs.declared.key.Key.{Key}
 use Rattle.om3_coeff.specs.Keys.{first_slot, end_slot, left_of, right_of}
 use Rattle.om3_coeff.specs.View.{Agrees, StaysSame}
 use Rattle.om3_coeff.specs.Walks.{IsFirstStored, IsSlotIn, StaysBelow, most_cut}
 use Rattle.om3_coeff.proofs.WalkLemmas.{key_small, go_to, ask_at, ask_left, after_left, still_agrees, both_below_at, right_follows_at}
-use Rattle.om3_coeff.proofs.EndLemmas.{AreHalves, are_halves, ok_both, clear_none, is_here, first_here, slot_here, first_in_left, slot_in_left, slots_in_right, first_after_left, found_right, if_none, reads_left, reads_then_right, none_reads}
+use Rattle.om3_coeff.proofs.EndLemmas.{are_halves, ok_both, clear_none, is_here, first_here, slot_here, first_in_left, slot_in_left, slots_in_right, first_after_left, found_right, if_none, reads_left, reads_then_right, none_reads}
 use Rattle.om3_coeff.proofs.ends.+first_below.Goals as goal
 
 pub returns-in_default-clause-list : goal.returns-in_default-clause-list

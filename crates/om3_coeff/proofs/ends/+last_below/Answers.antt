@@ -1,12 +1,12 @@
-use Rattle.std.proofs.Common.{rules, arith, ℕ, ℤ, List, ◌≤◌, ◌+◌, subst, sym, ◌≡◌, refl, inr}
+use Rattle.std.proofs.Common.{rules, arith, ℕ, ℤ, ◌≤◌, ◌+◌, subst, refl, inr}
 use Rattle.std.proofs.lemmas.Result.{IfOk-weaker}
-use Rattle.std.specs.Prelude.{Option, Some, None, IfSome, IfNone, IsSome, max, min}
+use Rattle.std.specs.Prelude.{Option, IfSome, IfNone, IsSome, max, min}
 use Rattle.om3_coeff.specs.declared.key.Key.{Key}
 use Rattle.om3_coeff.specs.Keys.{first_slot, end_slot, left_of, right_of}
 use Rattle.om3_coeff.specs.View.{Agrees, StaysSame}
 use Rattle.om3_coeff.specs.Walks.{IsLastStored, IsSlotIn, StaysBelow, most_cut}
 use Rattle.om3_coeff.proofs.WalkLemmas.{key_small, go_to, ask_at, ask_right, after_right, still_agrees, both_below_back_at, left_follows_at}
-use Rattle.om3_coeff.proofs.EndLemmas.{AreHalves, are_halves, ok_both, clear_none, is_here, last_here, slot_here, last_in_right, slot_in_right, slots_in_left, last_after_right, found_left, if_none, reads_right, reads_then_left, none_reads_back}
+use Rattle.om3_coeff.proofs.EndLemmas.{are_halves, ok_both, clear_none, is_here, last_here, slot_here, last_in_right, slot_in_right, slots_in_left, last_after_right, found_left, if_none, reads_right, reads_then_left, none_reads_back}
 use Rattle.om3_coeff.proofs.ends.+last_below.Goals as goal
 
 pub returns-in_default-clause-list : goal.returns-in_default-clause-list

@@ -1,4 +1,4 @@
-use Rattle.std.proofs.Common.{sym, arith, suc, ◌<◌, ◌≤◌, ◌^◌}
+use Rattle.std.proofs.Common.{sym, arith}
 use Rattle.om3_coeff.proofs.KeyLemmas.{levels_1, levels_2, levels_3, levels_4, levels_5, levels_least}
 use Rattle.om3_coeff.proofs.heights.page_levels.Goals as goal
 

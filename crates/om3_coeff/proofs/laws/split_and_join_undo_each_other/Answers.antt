@@ -1,4 +1,4 @@
-use Rattle.om3_coeff.proofs.CoefLemmas.{AreParts, parts_joined, parts_are}
+use Rattle.om3_coeff.proofs.CoefLemmas.{parts_joined, parts_are}
 use Rattle.om3_coeff.proofs.laws.split_and_join_undo_each_other.Goals as goal
 
 pub returns-clause-split : goal.returns-clause-split

@@ -1,12 +1,9 @@
-use Rattle.std.proofs.Common.{rules, arith, ◌≤◌, ◌+◌, subst, sym, ◌≡◌, ◌∙◌, List, ℤ}
-use Rattle.std.specs.Prelude.{Option, Some}
-use Rattle.om3_coeff.specs.declared.key.Key.{Key}
+use Rattle.std.proofs.Common.{rules, ◌≤◌, subst, sym, ◌∙◌}
+use Rattle.std.specs.Prelude.{Option}
 use Rattle.om3_coeff.specs.declared.span.Span.{Span}
-use Rattle.om3_coeff.specs.declared.places.Place.TheVariants.{Outside, Within, Cut}
 use Rattle.om3_coeff.specs.Keys.{left_of, right_of}
 use Rattle.om3_coeff.specs.Spans.{IsProperIfAny}
 use Rattle.om3_coeff.specs.View.{Agrees, StaysSame}
-use Rattle.om3_coeff.specs.Walks.{IsPlace, IsReached}
 use Rattle.om3_coeff.proofs.CoefLemmas.{hull-proper}
 use Rattle.om3_coeff.proofs.WalkLemmas.{key_small, go_to, ask_at, ask_left, still_agrees, cut_low, cut_reads, cut_reads_once, cut_reads_twice, list_none, list_outside, list_within, list_cut, both_below_at, right_follows_at}
 use Rattle.om3_coeff.proofs.walks.+span_below.Goals as goal

@@ -1,8 +1,7 @@
-use Rattle.std.proofs.Common.{rules, arith, ◌≤◌, subst, sym, ◌≡◌}
+use Rattle.std.proofs.Common.{rules, arith, ◌≤◌, subst}
 use Rattle.std.specs.Prelude.{Option, Some}
 use Rattle.om3_coeff.specs.declared.span.Span.{Span}
 use Rattle.om3_coeff.specs.Keys.{left_of, right_of}
-use Rattle.om3_coeff.specs.Spans.{IsProperIfAny}
 use Rattle.om3_coeff.specs.View.{StaysSame}
 use Rattle.om3_coeff.specs.Walks.{IsReached}
 use Rattle.om3_coeff.proofs.WalkLemmas.{key_small, right_small, value_none, value_here, value_code, go_to, ask_at, ask_left, ask_right, left_from, left_to, right_from, right_to}

@@ -1,7 +1,6 @@
-use Rattle.std.proofs.Common.{arith, ◌≤◌, ◌+◌, ◌^◌, subst, sym, ◌≡◌}
+use Rattle.std.proofs.Common.{arith, ◌≤◌, ◌^◌, ◌≡◌}
 use Rattle.std.proofs.lemmas.Result.{IfOk-weaker}
-use Rattle.std.specs.Prelude.{max, min, Option}
-use Rattle.om3_coeff.specs.declared.span.Span.{Span}
+use Rattle.std.specs.Prelude.{max, min}
 use Rattle.om3_coeff.specs.Keys.{first_slot, end_slot}
 use Rattle.om3_coeff.specs.Spans.{span_over}
 use Rattle.om3_coeff.proofs.WalkLemmas.{at_top, whole_list, top_reads}

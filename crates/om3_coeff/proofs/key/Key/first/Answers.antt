@@ -1,4 +1,4 @@
-use Rattle.std.proofs.Common.{arith, ◌<◌}
+use Rattle.std.proofs.Common.{arith}
 use Rattle.om3_coeff.proofs.KeyLemmas.{level_small}
 use Rattle.om3_coeff.proofs.key.Key.first.Goals as goal
 

@@ -1,6 +1,4 @@
-use Rattle.std.proofs.Common.{arith}
-use Rattle.std.specs.Prelude.{Option}
-use Rattle.om3_coeff.specs.Keys.{first_slot, end_slot, IsKey, height}
+use Rattle.om3_coeff.specs.Keys.{first_slot, end_slot}
 use Rattle.om3_coeff.proofs.WalkLemmas.{key_small, left_small, right_small, node_key}
 use Rattle.om3_coeff.proofs.ListLemmas.{list_splits, proper_at}
 use Rattle.om3_coeff.proofs.list_nodes.ListNodesNodes.coef.Goals as goal

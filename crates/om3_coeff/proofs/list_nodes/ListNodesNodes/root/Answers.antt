@@ -1,4 +1,4 @@
-use Rattle.std.proofs.Common.{rules, length}
+use Rattle.std.proofs.Common.{length}
 use Rattle.om3_coeff.proofs.ListLemmas.{proper_at}
 use Rattle.om3_coeff.proofs.list_nodes.ListNodesNodes.root.Goals as goal
 
