@@ -6,7 +6,11 @@
 //! A client that holds coefficients can't see the list of slots; the keys that it wants are said by
 //! what the root and its coefficients show. Where those are the series' own, both are the same keys.
 //!
-//! This crate has the definitions and that law. The walks that find the keys stand above it.
+//! This crate has the definitions, that law and the order of keys in a list. The walks that find the
+//! keys stand above it.
 #![tactic(auto)]
 
 pub mod laws;
+mod order;
+
+pub use order::comes_before;
