@@ -1,5 +1,5 @@
 -- Pages are written home, one after another.
-use Rattle.std.proofs.Common.{◌≡◌, ◌≢◌, ℕ, ◌+◌, ◌-◌, ◌<◌, ◌≤◌, ◌^◌, min, Bool, true, false, cond, eqb, List, [], length, take, get_or, refl, sym, ap, subst, arith, inl, inr, ◌∙◌, IsTrue}
+use Rattle.std.proofs.Common.{◌≡◌, ℕ, ◌+◌, ◌-◌, ◌<◌, true, cond, eqb, List, [], length, take, get_or, refl, sym, ap, subst, arith, inl, inr, ◌∙◌, IsTrue}
 use Rattle.std.proofs.lemmas.Bool.Decides.{eqb_tells}
 use Rattle.std.proofs.lemmas.List.Folds.{list_any_at}
 use Rattle.std.proofs.Math.Path.{fun_ext}
@@ -7,7 +7,7 @@ use Rattle.block_disk.specs.MemDisk.{put}
 use Rattle.block_disk.specs.View.{Image, SameOff, At, Nowhere}
 use Rattle.gate_pages.specs.Batch.{Entry, put_all, numbers, is_one_of, is_distinct}
 use Rattle.gate_pages.specs.Journal.{home}
-use Rattle.gate_pages.specs.Steps.{IsHome, LiesWithin}
+use Rattle.gate_pages.specs.Steps.{IsHome}
 use Rattle.gate_pages.proofs.Puts.{put_step, same_number}
 
 -- a block is written where a page lies

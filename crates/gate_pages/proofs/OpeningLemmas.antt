@@ -1,11 +1,10 @@
 -- An opening that asked for the size first.
-use Rattle.std.proofs.Common.{◌≡◌, ℕ, ◌+◌, ◌≤◌, ◌⊎◌, inl, inr, None, true, sym, ap, subst, arith, ◌∙◌}
-use Rattle.block_disk.specs.Counts.{HasRisen}
-use Rattle.block_disk.specs.View.{Image, View, Now, Honest, Moves, Nowhere, Passes}
+use Rattle.std.proofs.Common.{◌≡◌, ℕ, inl, inr, subst, arith, ◌∙◌}
+use Rattle.block_disk.specs.View.{Image, View, Moves, Nowhere, Passes}
 use Rattle.block_disk.proofs.Passing.{passes_weaker}
 use Rattle.gate_pages.specs.GatePages.{IsBroken, StandsAsBefore}
-use Rattle.gate_pages.specs.Journal.{page_count, is_open, directory}
-use Rattle.gate_pages.specs.Openings.{Explains, Leaves, LeftBroken}
+use Rattle.gate_pages.specs.Journal.{page_count}
+use Rattle.gate_pages.specs.Openings.{Explains, Leaves}
 use Rattle.gate_pages.specs.Pages.{Quiet}
 use Rattle.gate_pages.specs.declared.errors.OpenCause.{OpenCause}
 use Rattle.gate_pages.specs.declared.errors.OpenCause.TheVariants.{DiskFault, TooSmall, BadDirectory, NoMemory}

@@ -1,12 +1,11 @@
 -- What the calls of pages do, by what the calls of their disk do.
-use Rattle.std.proofs.Common.{◌≡◌, ℕ, ◌+◌, ◌*◌, ◌-◌, ◌≤◌, ◌<◌, ◌^◌, min, Bool, false, List, length, IsTrue, refl, sym, ap, arith, ◌∙◌}
-use Rattle.std.proofs.Math.Path.{fun_ext}
-use Rattle.block_disk.specs.View.{Image, View, Now, Honest, Only, Passes, Rises, Moves, Nowhere}
+use Rattle.std.proofs.Common.{◌≡◌, ℕ, ◌+◌, ◌*◌, ◌≤◌, ◌^◌, Bool, List, length, refl, sym, ap, arith, ◌∙◌}
+use Rattle.block_disk.specs.View.{Image, View, Now, Honest, Passes, Moves, Nowhere}
 use Rattle.block_disk.proofs.Passing.{passes_weaker}
-use Rattle.gate_pages.specs.Batch.{Entry, put_all, numbers, is_one_of, AllBelow}
+use Rattle.gate_pages.specs.Batch.{Entry, put_all, numbers, AllBelow}
 use Rattle.gate_pages.specs.GateLaws.{pages_passes, passes_pages}
 use Rattle.gate_pages.specs.GatePages.{pages_view, IsClosed}
-use Rattle.gate_pages.specs.Journal.{home, is_open, pages_of}
+use Rattle.gate_pages.specs.Journal.{home, pages_of}
 use Rattle.gate_pages.specs.Pages.{Quiet, Reads, Commits, BeforeOrAfter}
 use Rattle.gate_pages.specs.Steps.{Anywhere, LiesWithin}
 use Rattle.gate_pages.proofs.Moving.{nothing_torn, untouched}

@@ -1,14 +1,13 @@
 -- The moments of a commit, step by step.
-use Rattle.std.proofs.Common.{◌≡◌, ℕ, ◌+◌, ◌≤◌, Bool, true, false, List, length, Some, refl, sym, ap, arith, inl, inr, ◌∙◌, IsTrue}
-use Rattle.std.proofs.Math.Path.{fun_ext}
-use Rattle.block_disk.specs.View.{Image, View, Now, Honest, Only, SameOff, Passes, Moves, Nowhere, At}
+use Rattle.std.proofs.Common.{◌≡◌, ℕ, ◌+◌, ◌≤◌, true, false, List, length, ap, arith, inl, inr, ◌∙◌, IsTrue}
+use Rattle.block_disk.specs.View.{Image, View, Now, Honest, Only, Passes, Moves, Nowhere, At}
 use Rattle.gate_pages.specs.Batch.{Entry, put_all, numbers, all_below}
 use Rattle.gate_pages.specs.GatePages.{IsClosed}
-use Rattle.gate_pages.specs.Journal.{home, is_open, directory, images, pages_of}
+use Rattle.gate_pages.specs.Journal.{home, is_open, pages_of}
 use Rattle.gate_pages.specs.Pages.{BeforeOrAfter, Quiet}
 use Rattle.gate_pages.specs.Steps.{Anywhere, IsJournal, IsHome, HoldsBatch}
 use Rattle.gate_pages.proofs.Moving.{Rests, time_then, moments_from, settled, moves_then, moves_weaker, moves_synced}
-use Rattle.gate_pages.proofs.States.{Staged, closed_pages, in_stage, stage_home, in_gate, in_closing, in_home, staged_gate, staged_home, put_torn, gate_kept, before_or_after}
+use Rattle.gate_pages.proofs.States.{Staged, closed_pages, in_stage, stage_home, in_gate, in_closing, in_home, staged_gate, staged_home, gate_kept, before_or_after}
 
 -- any calls, and one more
 pub way : (touched : ℕ → Type 0) (reads syncs writes reads' syncs' writes' : ℕ) (old mid new : View) → Moves Anywhere reads syncs writes old mid → Moves touched reads' syncs' writes' mid new → Moves Anywhere (reads + reads') (syncs + syncs') (writes + writes') old new

@@ -1,13 +1,13 @@
 -- The moments of a recovery.
-use Rattle.std.proofs.Common.{◌≡◌, ℕ, ◌+◌, ◌≤◌, Bool, true, List, length, Some, refl, sym, ap, subst, arith, ◌∙◌, IsTrue}
-use Rattle.block_disk.specs.View.{Image, View, Now, Honest, Only, Passes, Moves, Nowhere, At}
+use Rattle.std.proofs.Common.{◌≡◌, ℕ, ◌≤◌, true, List, length, Some, refl, sym, ap, subst, ◌∙◌}
+use Rattle.block_disk.specs.View.{Image, View, Now, Honest, Only, Passes, Moves, Nowhere}
 use Rattle.block_disk.proofs.Passing.{passes_none, passes_weaker}
-use Rattle.gate_pages.specs.Batch.{Entry, put_all, numbers, is_one_of}
+use Rattle.gate_pages.specs.Batch.{Entry, put_all, numbers}
 use Rattle.gate_pages.specs.GatePages.{StandsAsBefore}
 use Rattle.gate_pages.specs.Journal.{home, is_open, directory, images, pages_of}
 use Rattle.gate_pages.specs.Pages.{Quiet}
 use Rattle.gate_pages.specs.Steps.{IsHome}
-use Rattle.gate_pages.proofs.Moving.{moves_now, nothing_torn, moves_weaker}
+use Rattle.gate_pages.proofs.Moving.{moves_now, nothing_torn}
 use Rattle.gate_pages.proofs.Redoing.{Way, Opened}
 use Rattle.gate_pages.proofs.States.{Staged, staged_open, numbers_images}
 

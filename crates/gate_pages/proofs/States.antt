@@ -1,12 +1,12 @@
 -- What a crash makes of the blocks in each step of a commit and of a recovery.
-use Rattle.std.proofs.Common.{◌≡◌, ◌≢◌, ℕ, zero, suc, ◌+◌, ◌-◌, ◌<◌, ◌≤◌, Bool, true, false, cond, eqb, List, [], ◌∷◌, length, map, Option, Some, None, refl, sym, ap, subst, arith, inl, inr, ◌∙◌, ◌⊎◌, IsTrue, rules}
+use Rattle.std.proofs.Common.{◌≡◌, ℕ, suc, ◌+◌, ◌-◌, ◌<◌, ◌≤◌, Bool, true, false, cond, List, [], ◌∷◌, length, Option, Some, refl, sym, ap, subst, arith, inl, inr, ◌∙◌, IsTrue, rules}
 use Rattle.std.proofs.lemmas.List.{length-map}
 use Rattle.std.proofs.Math.Path.{fun_ext}
 use Rattle.block_disk.specs.View.{Image, SameOff, At}
-use Rattle.gate_pages.specs.Batch.{Entry, page_in, put_all, numbers, is_one_of, all_below}
+use Rattle.gate_pages.specs.Batch.{Entry, put_all, numbers, is_one_of}
 use Rattle.gate_pages.specs.Journal.{home, is_open, directory, images, replayed, pages_of}
 use Rattle.gate_pages.specs.Pages.{BeforeOrAfter}
-use Rattle.gate_pages.specs.Steps.{IsJournal, IsHome, HoldsBatch}
+use Rattle.gate_pages.specs.Steps.{IsJournal, IsHome}
 use Rattle.gate_pages.proofs.Puts.{put_twice, put_same, not_one_of}
 
 not_both : (b : Bool) → b ≡ false → IsTrue b → ⊥

@@ -1,5 +1,5 @@
 -- What is known of pages by what is known of their disk.
-use Rattle.std.proofs.Common.{◌≡◌, ℕ, ◌≤◌, Bool, IsTrue, refl, sym, ap, subst, arith, ◌∙◌}
+use Rattle.std.proofs.Common.{◌≡◌, ℕ, Bool, refl, sym, ap, subst, ◌∙◌}
 use Rattle.block_disk.specs.View.{Image, View, Now, Honest, Only, Passes, DiskKept}
 use Rattle.block_disk.proofs.Passing.{now_back}
 use Rattle.gate_pages.specs.GatePages.{PagesOf, pages_view}

@@ -1,5 +1,5 @@
 -- What pages on a disk mean.
-use Rattle.std.specs.Prelude.{ℕ, ◌+◌, ◌≡◌, ◌≤◌, ◌<◌, Bool, true, false, IsTrue, None}
+use Rattle.std.specs.Prelude.{ℕ, ◌≡◌, Bool, true, false, IsTrue, None}
 use Rattle.block_disk.specs.View.{Image, View, Now, Honest, Only}
 use Rattle.gate_pages.specs.Journal.{pages_of, is_open, directory}
 

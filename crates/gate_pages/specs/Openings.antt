@@ -1,5 +1,5 @@
 -- What comes of an opening.
-use Rattle.std.specs.Prelude.{ℕ, ◌≡◌, ◌≤◌, ◌<◌, Result, Ok, Err}
+use Rattle.std.specs.Prelude.{◌≡◌, ◌≤◌, ◌<◌, Result, Ok, Err}
 use Rattle.block_disk.specs.Counts.{HasRisen}
 use Rattle.block_disk.specs.View.{Image, View, Now, Honest, Moves, Nowhere}
 use Rattle.block_disk.specs.declared.disk.Disk.{Ghosts}

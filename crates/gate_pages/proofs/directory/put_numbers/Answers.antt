@@ -1,7 +1,6 @@
 use Rattle.std.proofs.Common.{◌≡◌, ◌∙◌, ◌+◌, ◌*◌, ◌<◌, ◌≤◌, [], length, take, drop, get_or, ap, sym, arith}
 use Rattle.std.specs.Int.{w32, to_be_bytes}
 use Rattle.std.proofs.lemmas.List.{length-map, get_or-map}
-use Rattle.block_disk.specs.MemDisk.{replaced}
 use Rattle.block_disk.proofs.Blocks.{length-replaced, replaced_before}
 use Rattle.gate_pages.specs.Batch.{Entry, numbers}
 use Rattle.gate_pages.specs.Entries.{entries}

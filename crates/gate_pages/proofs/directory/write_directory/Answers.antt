@@ -1,6 +1,5 @@
-use Rattle.std.proofs.Common.{◌≡◌, ◌∙◌, ◌+◌, ◌≤◌, ◌<◌, ◌^◌, length, take, drop, ap, sym, arith, refl}
+use Rattle.std.proofs.Common.{◌≡◌, ◌∙◌, ◌<◌, ◌^◌, length, take, drop, ap, arith}
 use Rattle.std.specs.Int.{w32, to_be_bytes}
-use Rattle.block_disk.specs.MemDisk.{replaced}
 use Rattle.block_disk.proofs.Blocks.{length-replaced, replaced_before, replaced_there}
 use Rattle.gate_pages.specs.Batch.{numbers}
 use Rattle.gate_pages.specs.Entries.{entries}

@@ -1,4 +1,4 @@
-use Rattle.std.proofs.Common.{◌≡◌, ℕ, ◌+◌, ◌*◌, ◌≤◌, length, inl, inr, arith}
+use Rattle.std.proofs.Common.{◌≡◌, ◌+◌, ◌*◌, length, inl, inr, arith}
 use Rattle.block_disk.specs.View.{Image, Honest, Nowhere, At}
 use Rattle.gate_pages.specs.Batch.{numbers, put_all}
 use Rattle.gate_pages.specs.Entries.{entries}
@@ -7,7 +7,7 @@ use Rattle.gate_pages.specs.Steps.{Anywhere, IsJournal, IsHome}
 use Rattle.gate_pages.proofs.BatchLemmas.{few_entries}
 use Rattle.gate_pages.proofs.Moving.{moves_weaker, moves_synced}
 use Rattle.gate_pages.proofs.Puts.{all_below_from}
-use Rattle.gate_pages.proofs.Redoing.{way, Moment, possible, stage_time, stage_way, gate_time, gate_way, home_time, home_way, close_time, close_way, closed_of}
+use Rattle.gate_pages.proofs.Redoing.{way, Moment, possible, stage_time, stage_way, gate_time, gate_way, home_time, home_way, close_time, close_way}
 use Rattle.gate_pages.proofs.journal.redo.Goals as goal
 
 pub returns-in_err-stage-clause-moves : goal.returns-in_err-stage-clause-moves

@@ -1,4 +1,4 @@
-use Rattle.std.proofs.Common.{◌≡◌, ◌∙◌, ◌+◌, ◌<◌, ap, arith}
+use Rattle.std.proofs.Common.{◌∙◌, ◌+◌, ap, arith}
 use Rattle.gate_pages.specs.Entries.{entries}
 use Rattle.gate_pages.specs.Journal.{directory}
 use Rattle.gate_pages.proofs.Directories.{images_from}

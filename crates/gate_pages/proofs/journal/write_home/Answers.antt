@@ -1,4 +1,4 @@
-use Rattle.std.proofs.Common.{◌≡◌, ◌∙◌, ℕ, ◌+◌, ◌<◌, ◌≤◌, ◌^◌, min, [], get_or, length, ap, sym, subst, arith, IsTrue}
+use Rattle.std.proofs.Common.{◌∙◌, ℕ, ◌+◌, ◌<◌, [], get_or, length, ap, sym, subst, arith, IsTrue}
 use Rattle.block_disk.specs.View.{At}
 use Rattle.gate_pages.specs.Batch.{Entry, numbers, is_one_of}
 use Rattle.gate_pages.specs.Entries.{entries}

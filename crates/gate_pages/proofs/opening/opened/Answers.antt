@@ -1,5 +1,5 @@
-use Rattle.std.proofs.Common.{◌≡◌, ◌∙◌, ℕ, ap, sym, arith}
-use Rattle.block_disk.specs.View.{Image, Nowhere}
+use Rattle.std.proofs.Common.{◌∙◌, ap, arith}
+use Rattle.block_disk.specs.View.{Nowhere}
 use Rattle.gate_pages.specs.Journal.{page_count, pages_of}
 use Rattle.gate_pages.specs.Steps.{Anywhere}
 use Rattle.gate_pages.proofs.Moving.{moves_then, moves_weaker, untouched}

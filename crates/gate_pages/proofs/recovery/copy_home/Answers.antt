@@ -1,7 +1,7 @@
-use Rattle.std.proofs.Common.{◌≡◌, ◌∙◌, ℕ, ◌+◌, ◌<◌, ◌≤◌, ◌^◌, min, List, [], get_or, length, ap, sym, subst, arith, IsTrue}
+use Rattle.std.proofs.Common.{◌≡◌, ◌∙◌, ℕ, ◌+◌, ◌<◌, List, get_or, length, ap, sym, subst, arith, IsTrue}
 use Rattle.std.proofs.lemmas.List.{take_all}
 use Rattle.block_disk.specs.View.{Nowhere, At}
-use Rattle.gate_pages.specs.Batch.{Entry, numbers, is_one_of, is_distinct, put_all}
+use Rattle.gate_pages.specs.Batch.{Entry, is_distinct, put_all}
 use Rattle.gate_pages.specs.Journal.{home, images}
 use Rattle.gate_pages.specs.Steps.{IsHome}
 use Rattle.gate_pages.proofs.Directories.{image_at}

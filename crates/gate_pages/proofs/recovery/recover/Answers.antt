@@ -1,10 +1,10 @@
-use Rattle.std.proofs.Common.{◌≡◌, ◌∙◌, ℕ, ◌+◌, ◌-◌, ◌≤◌, ◌<◌, ◌^◌, min, List, Some, Vec, ap, sym, subst, arith, option_map, Option, IfSome, IsTrue}
+use Rattle.std.proofs.Common.{◌≡◌, ◌∙◌, ℕ, List, Some, Vec, ap, sym, subst, arith, option_map, Option, IfSome, IsTrue}
 use Rattle.std.specs.declared.alloc.Global.{Global}
-use Rattle.block_disk.specs.View.{Image, Honest, Nowhere}
+use Rattle.block_disk.specs.View.{Honest, Nowhere}
 use Rattle.block_disk.proofs.Passing.{passes_weaker}
 use Rattle.gate_pages.specs.Batch.{is_one_of, all_below}
 use Rattle.gate_pages.specs.GatePages.{StandsAsBefore}
-use Rattle.gate_pages.specs.Journal.{home, directory, pages_of}
+use Rattle.gate_pages.specs.Journal.{directory, pages_of}
 use Rattle.gate_pages.specs.Pages.{Quiet}
 use Rattle.gate_pages.proofs.Moving.{moves_then, time_then, untouched}
 use Rattle.gate_pages.proofs.Puts.{below_from_all}

@@ -1,4 +1,4 @@
-use Rattle.std.proofs.Common.{◌≡◌, ◌∙◌, ℕ, ◌+◌, ◌≤◌, length, ap, sym, arith}
+use Rattle.std.proofs.Common.{◌∙◌, ◌+◌, ◌≤◌, length, sym, arith}
 use Rattle.block_disk.specs.View.{Nowhere, At}
 use Rattle.gate_pages.specs.Batch.{numbers}
 use Rattle.gate_pages.specs.GatePages.{StandsAsBefore}

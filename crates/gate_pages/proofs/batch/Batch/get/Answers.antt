@@ -1,4 +1,4 @@
-use Rattle.std.proofs.Common.{◌≡◌, ◌∙◌, ℕ, ◌≤◌, ◌<◌, List, length, Some, sym, ap, arith}
+use Rattle.std.proofs.Common.{◌∙◌, ℕ, ◌≤◌, ◌<◌, List, length, Some, sym, ap, arith}
 use Rattle.gate_pages.specs.Batch.{Entry}
 use Rattle.gate_pages.specs.Batches.{entry_of}
 use Rattle.gate_pages.proofs.BatchLemmas.{none_there, some_there, entry_at}

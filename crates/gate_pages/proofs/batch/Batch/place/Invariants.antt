@@ -1,4 +1,4 @@
-use Rattle.std.proofs.Common.{ℕ, ◌≡◌, ◌≢◌, ◌-◌, ◌<◌, ◌≤◌, [], slice_index_or}
+use Rattle.std.proofs.Common.{ℕ, ◌≢◌, ◌-◌, ◌<◌, ◌≤◌, [], slice_index_or}
 use Rattle.gate_pages.specs.Entries.{entries}
 use Rattle.gate_pages.proofs.batch.Batch.place.Given as goal
 

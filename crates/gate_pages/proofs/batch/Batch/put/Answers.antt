@@ -1,8 +1,7 @@
-use Rattle.std.proofs.Common.{◌≡◌, ◌∙◌, ℕ, ◌+◌, ◌≤◌, ◌<◌, Bool, true, false, cond, List, length, set, Option, Some, None, is_some, IsTrue, refl, sym, ap, arith, rules, inl, inr}
+use Rattle.std.proofs.Common.{◌≡◌, ◌∙◌, ℕ, ◌+◌, ◌≤◌, ◌<◌, cond, List, length, set, Option, Some, None, is_some, IsTrue, sym, ap, arith, rules, inl, inr}
 use Rattle.std.proofs.lemmas.Bool.{cases_lt}
 use Rattle.std.proofs.lemmas.List.{length-set}
 use Rattle.gate_pages.specs.Batch.{page_in}
-use Rattle.gate_pages.specs.Batches.{entries_of}
 use Rattle.gate_pages.specs.Entries.{entries}
 use Rattle.gate_pages.proofs.BatchLemmas.{length_entries, none_there, some_there, added_distinct, added_page, kept_distinct, kept_page}
 use Rattle.gate_pages.proofs.batch.Batch.put.Goals as goal
