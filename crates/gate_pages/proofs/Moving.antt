@@ -137,14 +137,3 @@ pub record Rests (property : Image → Type 0) (view : View) : Type 0 where
 -- calls that end with nothing pending
 pub rested : (touched : ℕ → Type 0) (reads syncs writes : ℕ) (old new : View) (property : Image → Type 0) → Moves touched reads syncs writes old new → Only new.image (Now new) → (Honest old → property new.image) → Rests property new
 rested touched reads syncs writes old new property moves only holds = record { only = only; is = λ honest. holds (moves.was_honest honest) }
-
--- writes, and then a call that touches nothing
-pub moves_after : (touched : ℕ → Type 0) (reads syncs writes reads' syncs' writes' : ℕ) (old mid new : View) → Moves touched reads syncs writes old mid → Moves Nowhere reads' syncs' writes' mid new → Moves touched (reads + reads') (syncs + syncs') (writes + writes') old new
-moves_after touched reads syncs writes reads' syncs' writes' old mid new first second =
-    moves_then touched reads syncs writes reads' syncs' writes' old mid new first
-    (moves_weaker Nowhere touched reads' syncs' writes' reads' syncs' writes' mid new (λ number no_block. absurd no_block) (omega arith) (omega arith) (omega arith) second)
-
--- what was so of the image is so after it
-pub holds_after : (touched : ℕ → Type 0) (reads syncs writes reads' syncs' writes' : ℕ) (old mid new : View) (property : Image → Type 0) → Moves touched reads syncs writes old mid → Moves Nowhere reads' syncs' writes' mid new → Honest old → property mid.image → property new.image
-holds_after touched reads syncs writes reads' syncs' writes' old mid new property first second honest holds =
-    subst property (sym (untouched reads' syncs' writes' mid new second (first.honest honest))) holds
