@@ -1,5 +1,5 @@
 -- Takes and sends in a row leave the disk.
-use Rattle.std.proofs.Common.{◌≡◌, refl, ◌∙◌}
+use Rattle.std.proofs.Common.{refl, ◌∙◌}
 use Rattle.block_disk.specs.View.{View, DiskKept}
 
 pub kept_none : (at : View) → DiskKept at at

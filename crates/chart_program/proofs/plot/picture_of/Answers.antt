@@ -1,5 +1,3 @@
-use Rattle.std.proofs.Common.{◌≡◌, ℕ, List, ◌∙◌, sym, subst, refl, arith}
-use Rattle.plain_chart.specs.Chart.{IsChart}
 use Rattle.plain_chart.proofs.Charted.{charted}
 use Rattle.chart_program.proofs.plot.picture_of.Goals as goal
 

@@ -1,10 +1,9 @@
-use Rattle.std.proofs.Common.{◌≡◌, ℕ, List, Option, None, Ok, Err, IsTrue, IfSome, length, refl, ap, sym, subst, ◌∙◌, arith}
-use Rattle.block_disk.specs.Streams.{sent_after}
+use Rattle.std.proofs.Common.{None, Ok, Err, IsTrue, IfSome, length, refl, ap, sym, subst, ◌∙◌, arith}
 use Rattle.chart_world.specs.Reading.{Reading, unread}
 use Rattle.series_book.specs.declared.refusals.Refusal.TheVariants.{LineTooLong}
 use Rattle.chart_service.specs.declared.replies.Reply.TheVariants.{Refused}
 use Rattle.chart_program.specs.declared.run.RunEnd.{RunEnd}
-use Rattle.chart_program.specs.Runs.{EndsRun, run_end_of, text_of}
+use Rattle.chart_program.specs.Runs.{EndsRun, run_end_of}
 use Rattle.chart_program.proofs.Progress.{same_line}
 use Rattle.chart_program.proofs.Ending.{error_so}
 use Rattle.chart_program.proofs.Answering.{run_starts, run_begins, run_answers, run_line, run_done, run_fault, line_stops, reply_stops, ends_moved, progress_now, progress_left}

@@ -1,6 +1,6 @@
 use Rattle.std.proofs.Common.{◌≡◌, ◌+◌, ◌-◌, ◌^◌, ◌≤◌, length, IsTrue, IfSome}
 use Rattle.block_disk.specs.View.{DiskKept}
-use Rattle.chart_world.specs.Reading.{unread, input_length}
+use Rattle.chart_world.specs.Reading.{unread}
 use Rattle.chart_program.proofs.Answering.{RunProgress}
 use Rattle.chart_program.proofs.run.run.Given as goal
 
