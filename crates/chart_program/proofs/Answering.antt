@@ -1,5 +1,5 @@
 -- One line more of a run is answered.
-use Rattle.std.proofs.Common.{◌≡◌, ◌≢◌, ℕ, suc, ◌+◌, ◌-◌, ◌^◌, ◌<◌, ◌≤◌, ◌⊎◌, List, [], ◌∷◌, ◌++◌, length, take, drop, Option, Some, None, IfSome, refl, ap, subst, inl, inr, sym, ◌∙◌, arith, append_assoc, length-append}
+use Rattle.std.proofs.Common.{◌≡◌, ◌≢◌, ℕ, suc, ◌+◌, ◌-◌, ◌^◌, ◌<◌, List, [], ◌∷◌, ◌++◌, length, take, drop, Option, Some, None, IfSome, refl, ap, subst, inl, inr, sym, ◌∙◌, arith, append_assoc, length-append}
 use Rattle.std.specs.Prelude.{flat_map, true, if◌then◌else◌}
 use Rattle.std.specs.List.{filter, after_first}
 use Rattle.std.proofs.lemmas.List.{take-append-drop}
@@ -17,9 +17,9 @@ use Rattle.chart_service.specs.declared.replies.Reply.{Reply}
 use Rattle.chart_program.specs.declared.run.RunEnd.{RunEnd}
 use Rattle.chart_program.specs.declared.run.RunEnd.TheVariants.{NoMemory, ReadFault, InputTooLong, SendFault}
 use Rattle.chart_program.specs.Slots.{says, IsWhole}
-use Rattle.chart_program.specs.Runs.{text_of, start, told, RepliesToAll, Answers, BeginsWith, SendsText, SendsFirst, SendsFrontOf, SendsTaken, SendsWithin, EndsRun, AnswersLine, LineDone, AnswersPart, LineStops, SendStops, run_end_of}
+use Rattle.chart_program.specs.Runs.{text_of, start, told, RepliesToAll, Answers, BeginsWith, SendsText, SendsFirst, SendsFrontOf, SendsTaken, SendsWithin, EndsRun, LineDone, LineStops, SendStops, run_end_of}
 use Rattle.chart_program.proofs.Joined.{lines_joined, first_piece, pieces, piece_ends, piece_line, append_none}
-use Rattle.chart_program.proofs.Progress.{some_left, whole_front, whole_joined, passed, behind_told, told_after, first_told}
+use Rattle.chart_program.proofs.Progress.{some_left, whole_front, whole_joined, passed, behind_told, told_after}
 use Rattle.chart_program.proofs.Ending.{told_so}
 
 replies_more : (old between new : State) (lines : List (Option (List ℕ))) (replies : List Reply) (line : Option (List ℕ)) (reply : Reply) → RepliesToAll old lines replies between → RepliesToLine line reply between new → RepliesToAll old (lines ++ line ∷ []) (replies ++ reply ∷ []) new

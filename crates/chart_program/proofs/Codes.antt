@@ -1,17 +1,17 @@
 -- The codes of a run, and when they can't come.
-use Rattle.std.proofs.Common.{◌≡◌, ℕ, ℤ, zero, suc, ◌+◌, ◌^◌, ◌<◌, ◌≤◌, ◌⊎◌, List, [], ◌∷◌, ◌++◌, length, map, Option, Some, None, refl, ap, subst, inl, inr, sym, ◌∙◌, arith, length-append}
-use Rattle.std.specs.Prelude.{Contains, All, Bool, true, IfSome, if◌then◌else◌}
+use Rattle.std.proofs.Common.{◌≡◌, ℕ, ℤ, zero, suc, ◌^◌, ◌≤◌, ◌⊎◌, List, [], ◌∷◌, ◌++◌, length, map, Option, Some, None, ap, subst, inl, inr, sym, ◌∙◌, arith, length-append}
+use Rattle.std.specs.Prelude.{Contains, All, true, IfSome, if◌then◌else◌}
 use Rattle.std.specs.List.{filter}
 use Rattle.std.proofs.lemmas.List.{length-map}
 use Rattle.std.proofs.lemmas.List.Elements.{filter-append, All-head, All-tail}
 use Rattle.chart_world.specs.Lines.{lines}
 use Rattle.chart_world.proofs.LineLaws.{lines_none}
 use Rattle.plain_chart.specs.Samples.{IsSlot}
-use Rattle.chart_program.specs.Slots.{says, spelling, SpellsSlot, SpellsAll, IsBad, IsWhole, Behind, FirstBad, HasTooMany, IsTooLong, most_slots}
+use Rattle.chart_program.specs.Slots.{says, spelling, SpellsSlot, IsWhole, Behind, FirstBad, HasTooMany}
 use Rattle.chart_program.specs.declared.words.Command.{Command}
 use Rattle.chart_program.specs.declared.words.Command.TheVariants.{Plot, Run}
 use Rattle.chart_program.specs.Words.{Spells}
-use Rattle.chart_program.specs.Ran.{run_words, OfCommand, HasTooMuch, IsSlots, IsInput, IsCutShort}
+use Rattle.chart_program.specs.Ran.{HasTooMuch, IsSlots, IsInput}
 use Rattle.chart_program.specs.Runs.{SendsWithin}
 use Rattle.chart_program.proofs.Joined.{lines_joined}
 use Rattle.chart_program.proofs.Ending.{says_true}

@@ -1,22 +1,22 @@
 -- How the reading of slots begins, and how it ends.
-use Rattle.std.proofs.Common.{◌≡◌, ◌≢◌, ℕ, ℤ, ◌+◌, ◌-◌, ◌^◌, ◌<◌, ◌≤◌, List, [], ◌∷◌, ◌++◌, length, take, drop, map, Option, Some, None, Result, Ok, Err, IfSome, IfErr, IsTrue, refl, ap, subst, inl, inr, sym, ◌∙◌, arith, length-append, pos, negsuc, suc, zero}
-use Rattle.std.specs.Prelude.{All, Bool, true, false, IsErrAnd, if◌then◌else◌}
+use Rattle.std.proofs.Common.{◌≡◌, ℕ, ℤ, ◌+◌, ◌-◌, ◌^◌, ◌<◌, ◌≤◌, List, [], ◌∷◌, ◌++◌, length, take, drop, Option, Some, None, Result, Ok, Err, IfSome, IfErr, refl, ap, subst, inl, inr, sym, ◌∙◌, arith, length-append, pos, negsuc}
+use Rattle.std.specs.Prelude.{All, true, IsErrAnd, if◌then◌else◌}
 use Rattle.std.specs.List.{filter}
-use Rattle.std.specs.Fmt.{decimal, signed_decimal}
+use Rattle.std.specs.Fmt.{decimal}
 use Rattle.std.proofs.lemmas.Fmt.{decimal_nonempty}
 use Rattle.std.proofs.lemmas.List.{take-append-drop}
 use Rattle.std.proofs.lemmas.List.Elements.{All-nil, All-cons, All-append}
 use Rattle.block_disk.specs.Streams.{left_after}
 use Rattle.chart_world.specs.declared.line_answer.LineFault.{LineFault}
 use Rattle.chart_world.specs.declared.line_answer.LineFault.TheVariants as fault
-use Rattle.chart_world.specs.Lines.{is_line_feed, lines}
+use Rattle.chart_world.specs.Lines.{lines}
 use Rattle.chart_world.specs.Reading.{Reading, unread_input, unread, told_lines, with_first, behind_first, input_length, NoLineIn}
 use Rattle.chart_world.proofs.LineLaws.{lines_none, lines_first}
 use Rattle.plain_chart.specs.Samples.{IsSlot}
 use Rattle.chart_program.specs.declared.input.InputEnd.{InputEnd}
 use Rattle.chart_program.specs.declared.input.InputEnd.TheVariants.{NoMemory, ReadFault, InputTooLong, BadLine, TooManySlots}
-use Rattle.chart_program.specs.Slots.{says, spelling, SpellsSlot, SpellsAll, IsBad, IsWhole, Behind, FirstBad, HasTooMany, IsTooLong, StoppedBefore, most_slots}
-use Rattle.chart_program.specs.Reads.{end_of, AddsSlot, AddsLine, Overflows, IsNotAdded, Stops}
+use Rattle.chart_program.specs.Slots.{says, spelling, SpellsSlot, SpellsAll, IsBad, FirstBad, HasTooMany, IsTooLong, StoppedBefore, most_slots}
+use Rattle.chart_program.specs.Reads.{end_of, AddsLine, Overflows, IsNotAdded, Stops}
 use Rattle.chart_program.proofs.Joined.{append_none}
 use Rattle.chart_program.proofs.Progress.{Progress, progress_more, first_told}
 

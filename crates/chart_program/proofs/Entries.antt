@@ -1,10 +1,10 @@
 -- What a line says.
-use Rattle.std.proofs.Common.{◌≡◌, ℤ, List, ℕ, Option, Some, None, sym, subst, arith}
+use Rattle.std.proofs.Common.{◌≡◌, ℤ, List, ℕ, Some, sym, subst, arith}
 use Rattle.whole_number.specs.Spelling.{SpellsInteger}
 use Rattle.whole_number.proofs.Digits.{one_integer}
 use Rattle.plain_chart.specs.Samples.{IsValue}
 use Rattle.std.specs.Fmt.{signed_decimal}
-use Rattle.chart_program.specs.Slots.{SpellsSlot, spelling}
+use Rattle.chart_program.specs.Slots.{SpellsSlot}
 
 inside : (a b : List ℕ) → Some a ≡ Some b → a ≡ b
 inside a b same = cc

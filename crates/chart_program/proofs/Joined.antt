@@ -1,6 +1,6 @@
 -- The lines of whole lines with more bytes behind them.
-use Rattle.std.proofs.Common.{◌≡◌, ◌≢◌, ℕ, ◌+◌, ◌<◌, ◌≤◌, List, [], ◌∷◌, ◌++◌, length, take, drop, get_or, map, refl, ap, subst, inl, inr, ◌⊎◌, sym, ◌∙◌, arith, append_assoc}
-use Rattle.std.specs.Prelude.{Bool, true, false, cond, Option}
+use Rattle.std.proofs.Common.{◌≡◌, ℕ, ◌+◌, ◌<◌, List, [], ◌∷◌, ◌++◌, length, take, get_or, map, refl, ap, subst, inl, inr, ◌⊎◌, sym, ◌∙◌, arith, append_assoc}
+use Rattle.std.specs.Prelude.{true, false, cond, Option}
 use Rattle.std.specs.List.{slice_split, onto_first, after_first, position_or_len}
 use Rattle.std.proofs.lemmas.List.{map-append, take-append-drop, take_more, drop_all, append_cancel_right}
 use Rattle.std.proofs.lemmas.List.Sums.{passes_at_first}

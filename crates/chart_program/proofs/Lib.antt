@@ -5,3 +5,4 @@ pub mod Ending
 pub mod Commands
 pub mod Codes
 pub mod Answering
+pub mod DiskKept

@@ -1,14 +1,14 @@
 -- One line more of the input is read.
-use Rattle.std.proofs.Common.{◌≡◌, ◌≢◌, ℕ, ℤ, ◌+◌, ◌-◌, ◌<◌, ◌≤◌, ◌⊎◌, List, [], ◌∷◌, ◌++◌, length, take, drop, map, Option, Some, None, IfSome, refl, ap, subst, inl, inr, sym, ◌∙◌, arith, append_assoc, length-append}
+use Rattle.std.proofs.Common.{◌≡◌, ◌≢◌, ℕ, ℤ, ◌+◌, ◌≤◌, ◌⊎◌, List, [], ◌∷◌, ◌++◌, length, map, Option, Some, None, refl, ap, subst, inl, inr, sym, ◌∙◌, arith, append_assoc, length-append}
 use Rattle.std.specs.Prelude.{All}
 use Rattle.std.specs.List.{filter, after_first}
 use Rattle.std.proofs.lemmas.List.{map-append}
-use Rattle.std.proofs.lemmas.List.Elements.{filter-append, All-append, All-nil, All-cons}
+use Rattle.std.proofs.lemmas.List.Elements.{filter-append, All-append}
 use Rattle.chart_world.specs.Lines.{is_line_feed, lines}
 use Rattle.chart_world.specs.Reading.{Reading, unread, told_lines, with_first, behind_first, input_length}
 use Rattle.chart_world.proofs.LineLaws.{lines_none}
 use Rattle.plain_chart.specs.Samples.{IsSlot}
-use Rattle.chart_program.specs.Slots.{says, spelling, SpellsSlot, SpellsAll, IsWhole, Behind, most_slots}
+use Rattle.chart_program.specs.Slots.{says, spelling, SpellsAll, IsWhole, Behind, most_slots}
 use Rattle.chart_program.proofs.Joined.{lines_joined, first_piece, pieces, piece_ends, piece_line, append_none}
 
 pub some_left : (rest : List ℕ) (line : Option (List ℕ)) (later : List (Option (List ℕ))) → lines rest ≡ line ∷ later → rest ≢ []

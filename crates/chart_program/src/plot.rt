@@ -1,5 +1,6 @@
 ghost use Rattle.std.specs.Prelude.{◌≡◌, ◌≤◌, ◌≢◌, pos, max, length, All, IfOk, IfErr, IfSome, OnOk};
 ghost use Rattle.block_disk.specs.Counts.{HasRisen};
+ghost use Rattle.block_disk.specs.View.{View, DiskKept};
 ghost use Rattle.chart_grid.specs.Limits.{IsSide};
 ghost use Rattle.chart_grid.specs.Projection.{ShowsWindow, HasCanvas};
 ghost use Rattle.plain_chart.specs.Samples.{IsSlot};
@@ -7,7 +8,7 @@ ghost use Rattle.chart_program.specs.Plotted.{IsPlot, SendsPlot, EndsPlot};
 ghost use Rattle.chart_program.specs.declared.plot.PlotEnd.TheVariants.{Input};
 
 use crate::input::{InputEnd, MOST_SLOTS, read_slots};
-use block_disk::Streams;
+use block_disk::World;
 use chart_grid::{Axis, Grid};
 use pbm_writer::pbm;
 use row_chart::{chart_of_rows, range_of_rows, rows_of_slots};
@@ -34,7 +35,7 @@ impl From<InputEnd> for PlotEnd {
 }
 
 /// Reads the slots of the input and sends their chart, `w` columns wide and `h` rows high.
-pub fn plot<S: Streams>(alloc: Global, w: u16, h: u16, streams: &mut S) -> Result<(), PlotEnd>
+pub fn plot<S: World>(alloc: Global, w: u16, h: u16, streams: &mut S) -> Result<(), PlotEnd>
     requires wide { IsSide w }
     requires high { IsSide h }
     ensures done { OnOk result (IfSome (S.left streams.old) (λ input. SendsPlot w h input (S.sent streams.old) (S.sent streams.new))) }
@@ -42,6 +43,7 @@ pub fn plot<S: Streams>(alloc: Global, w: u16, h: u16, streams: &mut S) -> Resul
     ensures unsent { IfErr result (λ end. end ≢ PlotEnd.SendFault → S.sent streams.new ≡ S.sent streams.old) }
     ensures read { result ≡ Err (PlotEnd.Input InputEnd.ReadFault) → HasRisen (S.read_faults streams.old) (S.read_faults streams.new) }
     ensures send { result ≡ Err PlotEnd.SendFault → HasRisen (S.send_faults streams.old) (S.send_faults streams.new) }
+    ensures disk { DiskKept (S.view streams.old) (S.view streams.new) }
 {
     let slots = read_slots(alloc, streams)?;
     let bytes = picture_of(alloc, w, h, slots.as_slice())?;

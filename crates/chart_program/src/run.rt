@@ -1,11 +1,12 @@
 ghost use Rattle.std.specs.Prelude.{◌≡◌, ◌≤◌, length, IfOk, IfErr, IfSome, OnOk};
 ghost use Rattle.block_disk.specs.Counts.{HasRisen};
 ghost use Rattle.block_disk.specs.Streams.{sent_after};
+ghost use Rattle.block_disk.specs.View.{View, DiskKept};
 ghost use Rattle.chart_program.specs.declared.run.RunEnd.TheVariants.{NoMemory};
 ghost use Rattle.chart_program.specs.Runs.{text_of, start, SendsText, EndsRun, LineDone, LineStops, SendStops, run_end_of};
 
 use crate::reply_text::reply_text;
-use block_disk::Streams;
+use block_disk::World;
 use chart_service::{Reply, Service};
 use chart_world::{LineAnswer, LineFault, Lines};
 use series_book::{ListBook, Refusal};
@@ -33,11 +34,12 @@ pub enum RunEnd {
 }
 
 /// Answers each line of the input that isn't empty, in order, over a book that begins empty.
-pub fn run<S: Streams>(alloc: Global, streams: &mut S) -> Result<(), RunEnd>
+pub fn run<S: World>(alloc: Global, streams: &mut S) -> Result<(), RunEnd>
     ensures done { OnOk result (IfSome (S.left streams.old) (λ input. SendsText input (S.sent streams.old) (S.sent streams.new))) }
     ensures ends { IfErr result (λ end. IfSome (S.left streams.old) (λ input. EndsRun input (S.left streams.new) (S.sent streams.old) (S.sent streams.new) end)) }
     ensures read { result ≡ Err RunEnd.ReadFault → HasRisen (S.read_faults streams.old) (S.read_faults streams.new) }
     ensures send { result ≡ Err RunEnd.SendFault → HasRisen (S.send_faults streams.old) (S.send_faults streams.new) }
+    ensures disk { DiskKept (S.view streams.old) (S.view streams.new) }
 {
     let mut service = start_service(alloc)?;
     let mut lines = Lines::new(alloc)?;
@@ -64,7 +66,7 @@ fn start_service(alloc: Global) -> Result<Service, RunEnd>
 }
 
 /// Answers a line, unless it is empty.
-fn answer_line<S: Streams>(
+fn answer_line<S: World>(
     alloc: Global,
     service: &mut Service,
     line: &[u8],
@@ -77,6 +79,7 @@ fn answer_line<S: Streams>(
     ensures send_faults { S.send_faults streams.old ≤ S.send_faults streams.new }
     ensures left { S.left streams.new ≡ S.left streams.old }
     ensures read_faults { S.read_faults streams.new ≡ S.read_faults streams.old }
+    ensures disk { DiskKept (S.view streams.old) (S.view streams.new) }
 {
     if line.is_empty() {
         return Ok(());
@@ -86,13 +89,14 @@ fn answer_line<S: Streams>(
 }
 
 /// Sends the text of a reply.
-fn send_reply<S: Streams>(alloc: Global, reply: &Reply, streams: &mut S) -> Result<(), RunEnd>
+fn send_reply<S: World>(alloc: Global, reply: &Reply, streams: &mut S) -> Result<(), RunEnd>
     ensures done { OnOk result (S.sent streams.new ≡ sent_after (text_of reply.now) (S.sent streams.old)) }
     ensures stops { IfErr result (SendStops (text_of reply.now) (S.sent streams.old) (S.sent streams.new)) }
     ensures send { result ≡ Err RunEnd.SendFault → HasRisen (S.send_faults streams.old) (S.send_faults streams.new) }
     ensures send_faults { S.send_faults streams.old ≤ S.send_faults streams.new }
     ensures left { S.left streams.new ≡ S.left streams.old }
     ensures read_faults { S.read_faults streams.new ≡ S.read_faults streams.old }
+    ensures disk { DiskKept (S.view streams.old) (S.view streams.new) }
 {
     let text = reply_text(alloc, reply)?;
     if streams.send(text.as_slice()).is_err() {

@@ -1,5 +1,6 @@
 ghost use Rattle.std.specs.Prelude.{◌≡◌, ◌≢◌, ◌↔◌, ◌⊎◌, ◌^◌, ℕ, [], ◌∷◌, map, Contains, string_bytes, IfSome};
 ghost use Rattle.block_disk.specs.Counts.{HasRisen};
+ghost use Rattle.block_disk.specs.View.{View, DiskKept};
 ghost use Rattle.chart_program.specs.declared.words.Command.{Command};
 ghost use Rattle.chart_program.specs.Words.{Spells, IsWrongAt};
 ghost use Rattle.chart_program.specs.Slots.{FirstBad, StoppedBefore};
@@ -15,7 +16,7 @@ use crate::status::{
     BAD_INPUT, DONE, NO_MEMORY, READ_FAULT, SEND_FAULT, Status, TOO_MUCH, WRONG_WORDS,
 };
 use crate::words::{Command, command_of};
-use block_disk::{Streams, World};
+use block_disk::World;
 use std::alloc::Global;
 
 /// The most bytes of input that a run takes.
@@ -42,6 +43,9 @@ pub fn chart<W: World>(alloc: Global, words: &[String], mut world: W) -> (Status
     ensures part { result.0.code ≡ SEND_FAULT → OfCommand (map string_bytes words.now) (λ command. IfSome (W.left world) (λ input. SendsPart command input (W.sent world) (W.sent result.1))) }
     ensures nothing { result.0.code ≢ DONE → result.0.code ≢ SEND_FAULT → map string_bytes words.now ≢ run_words → W.sent result.1 ≡ W.sent world }
 
+    // the disk isn't called
+    ensures disk { DiskKept (W.view world) (W.view result.1) }
+
     // with good words, good input and no fault the command is done, or there is no memory
     ensures complete { IfSome (W.left world) (λ input. OfCommand (map string_bytes words.now) (λ command. Unit {0}) → ((command : Command) → Spells command (map string_bytes words.now) → IsInput command input) → (HasRisen (W.read_faults world) (W.read_faults result.1) → ⊥) → (HasRisen (W.send_faults world) (W.send_faults result.1) → ⊥) → (result.0.code ≡ DONE) ⊎ (result.0.code ≡ NO_MEMORY)) }
 {
@@ -65,7 +69,7 @@ pub fn chart<W: World>(alloc: Global, words: &[String], mut world: W) -> (Status
 }
 
 /// Sends a plot, and says how that ended.
-fn plot_status<W: Streams>(alloc: Global, w: u16, h: u16, world: &mut W) -> Status
+fn plot_status<W: World>(alloc: Global, w: u16, h: u16, world: &mut W) -> Status
     requires wide { IsSide w }
     requires high { IsSide h }
     ensures codes { Contains (DONE ∷ NO_MEMORY ∷ READ_FAULT ∷ SEND_FAULT ∷ BAD_INPUT ∷ TOO_MUCH ∷ []) result.code }
@@ -78,6 +82,7 @@ fn plot_status<W: Streams>(alloc: Global, w: u16, h: u16, world: &mut W) -> Stat
     ensures done { result.code ≡ DONE → IfSome (W.left world.old) (λ input. SendsPlot w h input (W.sent world.old) (W.sent world.new)) }
     ensures part { result.code ≡ SEND_FAULT → IfSome (W.left world.old) (λ input. SendsFront w h input (W.sent world.old) (W.sent world.new)) }
     ensures nothing { result.code ≢ DONE → result.code ≢ SEND_FAULT → W.sent world.new ≡ W.sent world.old }
+    ensures disk { DiskKept (W.view world.old) (W.view world.new) }
 {
     match plot(alloc, w, h, world) {
         Ok(()) => ended(DONE, 0),
@@ -91,7 +96,7 @@ fn plot_status<W: Streams>(alloc: Global, w: u16, h: u16, world: &mut W) -> Stat
 }
 
 /// Answers the lines of the input, and says how that ended.
-fn run_status<W: Streams>(alloc: Global, world: &mut W) -> Status
+fn run_status<W: World>(alloc: Global, world: &mut W) -> Status
     ensures codes { Contains (DONE ∷ NO_MEMORY ∷ READ_FAULT ∷ SEND_FAULT ∷ TOO_MUCH ∷ []) result.code }
     ensures read { result.code ≡ READ_FAULT → HasRisen (W.read_faults world.old) (W.read_faults world.new) }
     ensures send { result.code ≡ SEND_FAULT → HasRisen (W.send_faults world.old) (W.send_faults world.new) }
@@ -102,6 +107,7 @@ fn run_status<W: Streams>(alloc: Global, world: &mut W) -> Status
     ensures memory { result.code ≡ NO_MEMORY → IfSome (W.left world.old) (λ input. SendsSome input (W.sent world.old) (W.sent world.new)) }
     ensures much { result.code ≡ TOO_MUCH → result.place ≡ 2 ^ 32 }
     ensures past { result.code ≡ TOO_MUCH → IfSome (W.left world.old) (λ input. SendsWithin input (W.sent world.old) (W.sent world.new)) }
+    ensures disk { DiskKept (W.view world.old) (W.view world.new) }
 {
     match run(alloc, world) {
         Ok(()) => ended(DONE, 0),

@@ -134,19 +134,6 @@ pub record Rests (property : Image → Type 0) (view : View) : Type 0 where
   pub only : Only view.image (Now view)
   pub is : Honest view → property view.image
 
--- writes, and then a sync
-pub settled : (touched : ℕ → Type 0) (reads syncs writes reads' syncs' writes' : ℕ) (old mid new : View) (property : Image → Type 0)
-    → Moves touched reads syncs writes old mid → (Honest old → property mid.image)
-    → Moves Nowhere reads' syncs' writes' mid new → Only new.image (Now new) → Rests property new
-settled touched reads syncs writes reads' syncs' writes' old mid new property first written second only = record {
-  only = only;
-  is = λ honest.
-      let mid_honest = second.was_honest honest in
-      subst property (sym (untouched reads' syncs' writes' mid new second mid_honest)) (written (first.was_honest mid_honest));
-}
-
--- the two calls as one
-pub moves_synced : (touched : ℕ → Type 0) (reads syncs writes : ℕ) (old mid new : View) → Moves touched reads syncs writes old mid → Moves Nowhere 0 1 0 mid new → Moves touched (reads + 0) (syncs + 1) (writes + 0) old new
-moves_synced touched reads syncs writes old mid new first second =
-    moves_then touched reads syncs writes 0 1 0 old mid new first
-    (moves_weaker Nowhere touched 0 1 0 0 1 0 mid new (λ number no_block. absurd no_block) (omega arith) (omega arith) (omega arith) second)
+-- calls that end with nothing pending
+pub rested : (touched : ℕ → Type 0) (reads syncs writes : ℕ) (old new : View) (property : Image → Type 0) → Moves touched reads syncs writes old new → Only new.image (Now new) → (Honest old → property new.image) → Rests property new
+rested touched reads syncs writes old new property moves only holds = record { only = only; is = λ honest. holds (moves.was_honest honest) }

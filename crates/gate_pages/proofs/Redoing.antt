@@ -1,12 +1,12 @@
 -- The moments of a commit, step by step.
 use Rattle.std.proofs.Common.{◌≡◌, ℕ, ◌+◌, ◌≤◌, true, false, List, length, ap, arith, inl, inr, ◌∙◌, IsTrue}
-use Rattle.block_disk.specs.View.{Image, View, Now, Honest, Only, Passes, Moves, Nowhere, At}
+use Rattle.block_disk.specs.View.{Image, View, Now, Honest, Only, Passes, Moves, At}
 use Rattle.gate_pages.specs.Batch.{Entry, put_all, numbers, all_below}
 use Rattle.gate_pages.specs.GatePages.{IsClosed}
 use Rattle.gate_pages.specs.Journal.{home, is_open, pages_of}
 use Rattle.gate_pages.specs.Pages.{BeforeOrAfter, Quiet}
 use Rattle.gate_pages.specs.Steps.{Anywhere, IsJournal, IsHome, HoldsBatch}
-use Rattle.gate_pages.proofs.Moving.{Rests, time_then, moments_from, settled, moves_then, moves_weaker, moves_synced}
+use Rattle.gate_pages.proofs.Moving.{Rests, time_then, moments_from, rested, moves_then, moves_weaker}
 use Rattle.gate_pages.proofs.States.{Staged, closed_pages, in_stage, stage_home, in_gate, in_closing, in_home, staged_gate, staged_home, gate_kept, before_or_after}
 
 -- any calls, and one more
@@ -46,14 +46,13 @@ module _ (count : ℕ) (batch : List Entry) (few : length batch ≤ 64) (start :
           | inr new ↦ after image (at.back honest) new
         ]))
 
-    pub gate_way : (before : (image : Image) → Honest start → pages_of count image ≡ pages → images image) (view mid view' : View) → Way (Staged count batch pages) view → Moves (At 0) 0 0 1 view mid → (Honest view → is_open (mid.image 0) ≡ true)
-        → Moves Nowhere 0 1 0 mid view' → Only view'.image (Now view') → Way (Opened count batch pages) view'
-    gate_way before view mid view' at written opened synced only = record {
-      time = gate_time before (0 + 0) (0 + 1) (1 + 0) view view' at (moves_synced (At 0) 0 0 1 view mid view' written synced);
-      back = λ honest. at.back (written.was_honest (synced.was_honest honest));
-      rests = settled (At 0) 0 0 1 0 1 0 view mid view' (Opened count batch pages) written
-          (λ honest. record { staged = staged_gate count batch few pages view.image mid.image (at.rests.is honest) (written.off honest); gate = opened honest })
-          synced only;
+    pub gate_way : (before : (image : Image) → Honest start → pages_of count image ≡ pages → images image) (view view' : View) → Way (Staged count batch pages) view → Moves (At 0) 0 1 1 view view' → Only view'.image (Now view')
+        → (Honest view → is_open (view'.image 0) ≡ true) → Way (Opened count batch pages) view'
+    gate_way before view view' at moves only opened = record {
+      time = gate_time before 0 1 1 view view' at moves;
+      back = λ honest. at.back (moves.was_honest honest);
+      rests = rested (At 0) 0 1 1 view view' (Opened count batch pages) moves only
+          (λ honest. record { staged = staged_gate count batch few pages view.image view'.image (at.rests.is honest) (moves.off honest); gate = opened honest });
     }
 
     -- the pages are written home
@@ -63,19 +62,18 @@ module _ (count : ℕ) (batch : List Entry) (few : length batch ≤ 64) (start :
         (moments_from (IsHome (numbers batch)) reads syncs writes view view' images moves at.rests.only
         (λ image same honest. after image (at.back honest) (in_home count batch few pages view.image image (at.rests.is honest).staged (at.rests.is honest).gate same)))
 
-    pub home_way : (reads writes : ℕ) (view mid view' : View) → Way (Opened count batch pages) view → Moves (IsHome (numbers batch)) reads 0 writes view mid → (Honest view → home mid.image ≡ put_all batch (home view.image))
-        → Moves Nowhere 0 1 0 mid view' → Only view'.image (Now view') → Way (Opened count batch (put_all batch pages)) view'
-    home_way reads writes view mid view' at written lies synced only = record {
-      time = home_time (reads + 0) (0 + 1) (writes + 0) view view' at (moves_synced (IsHome (numbers batch)) reads 0 writes view mid view' written synced);
-      back = λ honest. at.back (written.was_honest (synced.was_honest honest));
-      rests = settled (IsHome (numbers batch)) reads 0 writes 0 1 0 view mid view' (Opened count batch (put_all batch pages)) written
+    pub home_way : (reads writes : ℕ) (view view' : View) → Way (Opened count batch pages) view → Moves (IsHome (numbers batch)) reads 1 writes view view' → Only view'.image (Now view')
+        → (Honest view → home view'.image ≡ put_all batch (home view.image)) → Way (Opened count batch (put_all batch pages)) view'
+    home_way reads writes view view' at moves only lies = record {
+      time = home_time reads 1 writes view view' at moves;
+      back = λ honest. at.back (moves.was_honest honest);
+      rests = rested (IsHome (numbers batch)) reads 1 writes view view' (Opened count batch (put_all batch pages)) moves only
           (λ honest.
           let was = at.rests.is honest in
           record {
-            staged = staged_home count batch few pages (put_all batch pages) view.image mid.image was.staged (written.off honest) (lies honest ∙ ap (λ (i : Image). put_all batch i) was.staged.lies);
-            gate = gate_kept count batch few view.image mid.image (written.off honest) ∙ was.gate;
-          })
-          synced only;
+            staged = staged_home count batch few pages (put_all batch pages) view.image view'.image was.staged (moves.off honest) (lies honest ∙ ap (λ (i : Image). put_all batch i) was.staged.lies);
+            gate = gate_kept count batch few view.image view'.image (moves.off honest) ∙ was.gate;
+          });
     }
 
     -- the gate is written, closed
@@ -85,14 +83,13 @@ module _ (count : ℕ) (batch : List Entry) (few : length batch ≤ 64) (start :
         (moments_from (At 0) reads syncs writes view view' images moves at.rests.only
         (λ image same honest. after image (at.back honest) (in_closing count batch few pages view.image image (at.rests.is honest).staged same)))
 
-    pub close_way : (view mid view' : View) → Way (Opened count batch (put_all batch pages)) view → Moves (At 0) 0 0 1 view mid → (Honest view → is_open (mid.image 0) ≡ false)
-        → Moves Nowhere 0 1 0 mid view' → Only view'.image (Now view') → Way (Shut (put_all batch pages)) view'
-    close_way view mid view' at written shut synced only = record {
-      time = close_time (0 + 0) (0 + 1) (1 + 0) view view' at (moves_synced (At 0) 0 0 1 view mid view' written synced);
-      back = λ honest. at.back (written.was_honest (synced.was_honest honest));
-      rests = settled (At 0) 0 0 1 0 1 0 view mid view' (Shut (put_all batch pages)) written
-          (λ honest. record { gate = shut honest; lies = (staged_gate count batch few (put_all batch pages) view.image mid.image (at.rests.is honest).staged (written.off honest)).lies })
-          synced only;
+    pub close_way : (view view' : View) → Way (Opened count batch (put_all batch pages)) view → Moves (At 0) 0 1 1 view view' → Only view'.image (Now view')
+        → (Honest view → is_open (view'.image 0) ≡ false) → Way (Shut (put_all batch pages)) view'
+    close_way view view' at moves only shut = record {
+      time = close_time 0 1 1 view view' at moves;
+      back = λ honest. at.back (moves.was_honest honest);
+      rests = rested (At 0) 0 1 1 view view' (Shut (put_all batch pages)) moves only
+          (λ honest. record { gate = shut honest; lies = (staged_gate count batch few (put_all batch pages) view.image view'.image (at.rests.is honest).staged (moves.off honest)).lies });
     }
 
 -- The moments of a commit are those with the pages from before it or after it.
@@ -109,16 +106,15 @@ module _ (count : ℕ) (batch : List Entry) (start : View) (closed : IsClosed st
       moments_from IsJournal reads syncs writes start view' (Moment count batch start) moves closed.only
       (λ image same honest. possible image honest (inl (in_stage count start.image image (closed.gate honest) same)))
 
-  pub stage_way : (few : length batch ≤ 64) (writes : ℕ) (mid view' : View) → IsTrue (all_below count (numbers batch)) → Moves IsJournal 0 0 writes start mid → (Honest start → HoldsBatch batch mid.image)
-      → Moves Nowhere 0 1 0 mid view' → Only view'.image (Now view') → Way count batch few start (Moment count batch start) (home start.image) (Staged count batch (home start.image)) view'
-  stage_way few writes mid view' below written holds synced only = record {
-    time = stage_time (0 + 0) (0 + 1) (writes + 0) view' (moves_synced IsJournal 0 0 writes start mid view' written synced);
-    back = λ honest. written.was_honest (synced.was_honest honest);
-    rests = settled IsJournal 0 0 writes 0 1 0 start mid view' (Staged count batch (home start.image)) written
+  pub stage_way : (few : length batch ≤ 64) (writes : ℕ) (view' : View) → IsTrue (all_below count (numbers batch)) → Moves IsJournal 0 1 writes start view' → Only view'.image (Now view')
+      → (Honest start → HoldsBatch batch view'.image) → Way count batch few start (Moment count batch start) (home start.image) (Staged count batch (home start.image)) view'
+  stage_way few writes view' below moves only holds = record {
+    time = stage_time 0 1 writes view' moves;
+    back = moves.was_honest;
+    rests = rested IsJournal 0 1 writes start view' (Staged count batch (home start.image)) moves only
         (λ honest. record {
           listed = (holds honest).listed count below;
           images_are = (holds honest).images_are;
-          lies = stage_home start.image mid.image (written.off honest);
-        })
-        synced only;
+          lies = stage_home start.image view'.image (moves.off honest);
+        });
   }

@@ -28,8 +28,8 @@ fn write_images<D: Disk>(disk: &mut D, batch: &Batch) -> Result<(), Failed>
     Ok(())
 }
 
-/// Writes a batch into the journal.
-fn stage<D: Disk>(disk: &mut D, buffer: &mut [u8], batch: &Batch) -> Result<(), Failed>
+/// Writes the images of a batch and their directory.
+fn write_journal<D: Disk>(disk: &mut D, buffer: &mut [u8], batch: &Batch) -> Result<(), Failed>
     requires room { 66 ≤ (D.view disk.old).size }
     requires whole { length buffer.old ≡ 4096 }
     ensures moves { Moves IsJournal 0 0 (length (entries batch.now) + 1) (D.view disk.old) (D.view disk.new) }
@@ -57,7 +57,7 @@ pub(crate) fn write_gate<D: Disk>(disk: &mut D, buffer: &mut [u8], byte: u8) -> 
 }
 
 /// Writes the pages of a batch home.
-fn write_home<D: Disk>(disk: &mut D, batch: &Batch) -> Result<(), Failed>
+fn write_pages<D: Disk>(disk: &mut D, batch: &Batch) -> Result<(), Failed>
     requires within { LiesWithin (D.view disk.old).size (numbers (entries batch.now)) }
     ensures moves { Moves (IsHome (numbers (entries batch.now))) 0 0 (length (entries batch.now)) (D.view disk.old) (D.view disk.new) }
     ensures home { Honest (D.view disk.old) → OnOk result (home (D.view disk.new).image ≡ put_all (entries batch.now) (home (D.view disk.old).image)) }
@@ -67,6 +67,47 @@ fn write_home<D: Disk>(disk: &mut D, batch: &Batch) -> Result<(), Failed>
         let page = batch.page(i);
         disk.write_block(HOME + page.number, page.bytes.as_slice())?;
     }
+    Ok(())
+}
+
+/// Brings a batch into the journal, and on the disk.
+fn stage<D: Disk>(disk: &mut D, buffer: &mut [u8], batch: &Batch) -> Result<(), Failed>
+    requires room { 66 ≤ (D.view disk.old).size }
+    requires whole { length buffer.old ≡ 4096 }
+    ensures moves { Moves IsJournal 0 1 (length (entries batch.now) + 1) (D.view disk.old) (D.view disk.new) }
+    ensures durable { OnOk result (Only (D.view disk.new).image (Now (D.view disk.new))) }
+    ensures holds { Honest (D.view disk.old) → OnOk result (HoldsBatch (entries batch.now) (D.view disk.new).image) }
+    ensures cause { OnErr result (HasRisen (D.view disk.old).faults (D.view disk.new).faults) }
+{
+    write_journal(disk, buffer, batch)?;
+    disk.sync()?; // the whole journal, before the gate opens
+    Ok(())
+}
+
+/// Brings a gate with this byte on the disk.
+pub(crate) fn set_gate<D: Disk>(disk: &mut D, buffer: &mut [u8], byte: u8) -> Result<(), Failed>
+    requires room { 66 ≤ (D.view disk.old).size }
+    requires whole { length buffer.old ≡ 4096 }
+    ensures moves { Moves (At 0) 0 1 1 (D.view disk.old) (D.view disk.new) }
+    ensures durable { OnOk result (Only (D.view disk.new).image (Now (D.view disk.new))) }
+    ensures gate { Honest (D.view disk.old) → OnOk result (is_open ((D.view disk.new).image 0) ≡ (byte == 1)) }
+    ensures cause { OnErr result (HasRisen (D.view disk.old).faults (D.view disk.new).faults) }
+{
+    write_gate(disk, buffer, byte)?;
+    disk.sync()?; // the gate, before anything else is written
+    Ok(())
+}
+
+/// Brings the pages of a batch home, and on the disk.
+fn bring_home<D: Disk>(disk: &mut D, batch: &Batch) -> Result<(), Failed>
+    requires within { LiesWithin (D.view disk.old).size (numbers (entries batch.now)) }
+    ensures moves { Moves (IsHome (numbers (entries batch.now))) 0 1 (length (entries batch.now)) (D.view disk.old) (D.view disk.new) }
+    ensures durable { OnOk result (Only (D.view disk.new).image (Now (D.view disk.new))) }
+    ensures home { Honest (D.view disk.old) → OnOk result (home (D.view disk.new).image ≡ put_all (entries batch.now) (home (D.view disk.old).image)) }
+    ensures cause { OnErr result (HasRisen (D.view disk.old).faults (D.view disk.new).faults) }
+{
+    write_pages(disk, batch)?;
+    disk.sync()?; // all pages, before the gate closes
     Ok(())
 }
 
@@ -83,15 +124,8 @@ pub(crate) fn redo<D: Disk>(disk: &mut D, buffer: &mut [u8], batch: &Batch) -> R
     ensures cause { OnErr result (HasRisen (D.view disk.old).faults (D.view disk.new).faults) }
 {
     stage(disk, buffer, batch)?;
-    // The journal has to be on the disk before the gate opens.
-    disk.sync()?;
-    write_gate(disk, buffer, OPEN)?;
-    // The gate has to be open on the disk before a page is touched.
-    disk.sync()?;
-    write_home(disk, batch)?;
-    // The pages have to be on the disk before the gate closes.
-    disk.sync()?;
-    write_gate(disk, buffer, CLOSED)?;
-    disk.sync()?;
+    set_gate(disk, buffer, OPEN)?;
+    bring_home(disk, batch)?;
+    set_gate(disk, buffer, CLOSED)?;
     Ok(())
 }

@@ -11,7 +11,7 @@ ghost use Rattle.gate_pages.specs.Steps.{Anywhere, IsHome, LiesWithin};
 
 use crate::directory::directory;
 use crate::errors::OpenCause;
-use crate::journal::write_gate;
+use crate::journal::set_gate;
 use crate::layout::{CLOSED, DIRECTORY, FEWEST_BLOCKS, GATE, HOME, IMAGES, MOST_BLOCKS, OPEN};
 use block_disk::{Disk, Failed};
 use std::alloc::Global;
@@ -33,7 +33,7 @@ pub(crate) fn pages_on<D: Disk>(disk: &mut D) -> Result<u32, OpenCause>
 }
 
 /// Copies the images of the journal home.
-fn copy_home<D: Disk>(disk: &mut D, buffer: &mut [u8], numbers: &[u32]) -> Result<(), Failed>
+fn copy_images<D: Disk>(disk: &mut D, buffer: &mut [u8], numbers: &[u32]) -> Result<(), Failed>
     requires room { 66 ≤ (D.view disk.old).size }
     requires whole { length buffer.old ≡ 4096 }
     requires few { length numbers.now ≤ 64 }
@@ -48,6 +48,23 @@ fn copy_home<D: Disk>(disk: &mut D, buffer: &mut [u8], numbers: &[u32]) -> Resul
         disk.read_block(IMAGES + i as u32, buffer)?;
         disk.write_block(HOME + number, buffer)?;
     }
+    Ok(())
+}
+
+/// Brings the images of the journal home, and on the disk.
+fn copy_home<D: Disk>(disk: &mut D, buffer: &mut [u8], numbers: &[u32]) -> Result<(), Failed>
+    requires room { 66 ≤ (D.view disk.old).size }
+    requires whole { length buffer.old ≡ 4096 }
+    requires few { length numbers.now ≤ 64 }
+    requires distinct { IsTrue (is_distinct numbers.now) }
+    requires within { LiesWithin (D.view disk.old).size numbers.now }
+    ensures moves { Moves (IsHome numbers.now) (length numbers.now) 1 (length numbers.now) (D.view disk.old) (D.view disk.new) }
+    ensures durable { OnOk result (Only (D.view disk.new).image (Now (D.view disk.new))) }
+    ensures home { Honest (D.view disk.old) → OnOk result (home (D.view disk.new).image ≡ put_all (images numbers.now 2 (D.view disk.old).image) (home (D.view disk.old).image)) }
+    ensures cause { OnErr result (HasRisen (D.view disk.old).faults (D.view disk.new).faults) }
+{
+    copy_images(disk, buffer, numbers)?;
+    disk.sync()?; // all pages, before the gate closes
     Ok(())
 }
 
@@ -67,10 +84,7 @@ fn replay<D: Disk>(disk: &mut D, buffer: &mut [u8], numbers: &[u32]) -> Result<(
     ensures cause { OnErr result (HasRisen (D.view disk.old).faults (D.view disk.new).faults) }
 {
     copy_home(disk, buffer, numbers)?;
-    // The pages have to be on the disk before the gate closes.
-    disk.sync()?;
-    write_gate(disk, buffer, CLOSED)?;
-    disk.sync()?;
+    set_gate(disk, buffer, CLOSED)?;
     Ok(())
 }
 
@@ -92,7 +106,7 @@ pub(crate) fn recover<D: Disk>(
     ensures cause { IfErr result (λ cause. Explains cause (D.view disk.old) (D.view disk.new)) }
     ensures left { IfErr result (λ cause. Leaves cause (D.view disk.old) (D.view disk.new)) }
 {
-    disk.sync()?;
+    disk.sync()?; // what an earlier run left pending
     disk.read_block(GATE, buffer)?;
     if buffer[0] != OPEN {
         return Ok(());
@@ -113,7 +127,6 @@ pub(crate) fn shut<D: Disk>(disk: &mut D, buffer: &mut [u8]) -> Result<(), Faile
     ensures closed { OnOk result (IsClosed (D.view disk.new)) }
     ensures cause { OnErr result (HasRisen (D.view disk.old).faults (D.view disk.new).faults) }
 {
-    write_gate(disk, buffer, CLOSED)?;
-    disk.sync()?;
+    set_gate(disk, buffer, CLOSED)?;
     Ok(())
 }

@@ -1,13 +1,13 @@
-use Rattle.std.proofs.Common.{◌≡◌, ℕ, List, Option, None, Ok, Err, IsTrue, IfSome, length, refl, ap, sym, subst, ◌∙◌, arith}
-use Rattle.block_disk.specs.Streams.{sent_after}
+use Rattle.std.proofs.Common.{None, Ok, Err, IsTrue, IfSome, length, refl, ap, sym, subst, ◌∙◌, arith}
 use Rattle.chart_world.specs.Reading.{Reading, unread}
 use Rattle.series_book.specs.declared.refusals.Refusal.TheVariants.{LineTooLong}
 use Rattle.chart_service.specs.declared.replies.Reply.TheVariants.{Refused}
 use Rattle.chart_program.specs.declared.run.RunEnd.{RunEnd}
-use Rattle.chart_program.specs.Runs.{EndsRun, run_end_of, text_of}
+use Rattle.chart_program.specs.Runs.{EndsRun, run_end_of}
 use Rattle.chart_program.proofs.Progress.{same_line}
 use Rattle.chart_program.proofs.Ending.{error_so}
 use Rattle.chart_program.proofs.Answering.{run_starts, run_begins, run_answers, run_line, run_done, run_fault, line_stops, reply_stops, ends_moved, progress_now, progress_left}
+use Rattle.chart_program.proofs.DiskKept.{kept_none, kept_then}
 use Rattle.chart_program.proofs.run.run.Goals as goal
 
 pub returns-in_err-service-clause-ends : goal.returns-in_err-service-clause-ends
@@ -35,6 +35,7 @@ lines-init g c =
       progress = run_starts (g.S.Streams.left c.args.streams.now) (g.S.Streams.sent c.args.streams.now) c.in_ok-lines.lines c.in_ok-service.service fresh c.in_ok-service.ensures.start;
       read_faults = omega arith;
       send_faults = omega arith;
+      disk = kept_none (g.S.Disk.view c.args.streams.now);
     }
 
 pub returns-in_err-next-clause-ends : goal.returns-in_err-next-clause-ends
@@ -60,6 +61,7 @@ returns-in-End-clause-done g c =
 
 pub lines-preserved-in-Continue-branch-5 : goal.lines-preserved-in-Continue-branch-5
 lines-preserved-in-Continue-branch-5 g c =
+    let view = g.S.Disk.view in
     let o = g.S.Streams.left c.args.streams.now in
     let before = g.S.Streams.sent c.args.streams.now in
     let left = g.S.Streams.left c.lines.streams in
@@ -79,6 +81,7 @@ lines-preserved-in-Continue-branch-5 g c =
       progress = progress_left o c.next.new.self left' (g.S.Streams.left c.send_reply.new.streams) c.lines.service before later made.left q;
       read_faults = omega (arith, next.read_faults, inv.read_faults, made.read_faults);
       send_faults = omega (arith, next.send_faults, inv.send_faults, made.send_faults);
+      disk = kept_then (view c.args.streams.now) (view c.next.new.from) (view c.send_reply.new.streams) (kept_then (view c.args.streams.now) (view c.lines.streams) (view c.next.new.from) c.lines.invariant.disk (g.met.S.World.take_keeps c.lines.streams c.next.new.from next.beside)) made.disk;
     }
 
 pub returns-in_err-send_reply-in-TooLong-clause-ends : goal.returns-in_err-send_reply-in-TooLong-clause-ends
@@ -101,6 +104,7 @@ returns-in_err-send_reply-in-TooLong-clause-ends g c =
 
 pub lines-preserved : goal.lines-preserved
 lines-preserved g c =
+    let view = g.S.Disk.view in
     let o = g.S.Streams.left c.args.streams.now in
     let before = g.S.Streams.sent c.args.streams.now in
     let left = g.S.Streams.left c.lines.streams in
@@ -121,6 +125,7 @@ lines-preserved g c =
       progress = progress_left o c.next.new.self left' (g.S.Streams.left c.answer_line.new.streams) c.answer_line.new.service before later made.left q;
       read_faults = omega (arith, next.read_faults, inv.read_faults, made.read_faults);
       send_faults = omega (arith, next.send_faults, inv.send_faults, made.send_faults);
+      disk = kept_then (view c.args.streams.now) (view c.next.new.from) (view c.answer_line.new.streams) (kept_then (view c.args.streams.now) (view c.lines.streams) (view c.next.new.from) c.lines.invariant.disk (g.met.S.World.take_keeps c.lines.streams c.next.new.from next.beside)) made.disk;
     }
 
 pub returns-in_err-answer_line-in-Line-clause-ends : goal.returns-in_err-answer_line-in-Line-clause-ends
@@ -141,3 +146,33 @@ returns-in_err-answer_line-in-Line-clause-ends g c =
     told next.rest inv.counted next.given next.total no.stops p in
     error_so _ _ c.from_residual-in_err-answer_line-in-Line.result c.from_residual-in_err-answer_line-in-Line.ensures.1
     (λ e is. ends_moved o left' (g.S.Streams.left c.answer_line.new.streams) before later later f e no.left refl is ends)
+
+pub returns-in_err-service-clause-disk : goal.returns-in_err-service-clause-disk
+returns-in_err-service-clause-disk g c =
+    let view = g.S.Disk.view in
+    kept_none (view c.args.streams.now)
+
+pub returns-in_err-lines-clause-disk : goal.returns-in_err-lines-clause-disk
+returns-in_err-lines-clause-disk g c =
+    let view = g.S.Disk.view in
+    kept_none (view c.args.streams.now)
+
+pub returns-in_err-next-clause-disk : goal.returns-in_err-next-clause-disk
+returns-in_err-next-clause-disk g c =
+    let view = g.S.Disk.view in
+    kept_then (view c.args.streams.now) (view c.lines.streams) (view c.next.new.from) c.lines.invariant.disk (g.met.S.World.take_keeps c.lines.streams c.next.new.from c.next.ensures.beside)
+
+pub returns-in-End-clause-disk : goal.returns-in-End-clause-disk
+returns-in-End-clause-disk g c =
+    let view = g.S.Disk.view in
+    kept_then (view c.args.streams.now) (view c.lines.streams) (view c.next.new.from) c.lines.invariant.disk (g.met.S.World.take_keeps c.lines.streams c.next.new.from c.next.ensures.beside)
+
+pub returns-in_err-send_reply-in-TooLong-clause-disk : goal.returns-in_err-send_reply-in-TooLong-clause-disk
+returns-in_err-send_reply-in-TooLong-clause-disk g c =
+    let view = g.S.Disk.view in
+    kept_then (view c.args.streams.now) (view c.next.new.from) (view c.send_reply.new.streams) (kept_then (view c.args.streams.now) (view c.lines.streams) (view c.next.new.from) c.lines.invariant.disk (g.met.S.World.take_keeps c.lines.streams c.next.new.from c.next.ensures.beside)) c.send_reply.ensures.disk
+
+pub returns-in_err-answer_line-in-Line-clause-disk : goal.returns-in_err-answer_line-in-Line-clause-disk
+returns-in_err-answer_line-in-Line-clause-disk g c =
+    let view = g.S.Disk.view in
+    kept_then (view c.args.streams.now) (view c.next.new.from) (view c.answer_line.new.streams) (kept_then (view c.args.streams.now) (view c.lines.streams) (view c.next.new.from) c.lines.invariant.disk (g.met.S.World.take_keeps c.lines.streams c.next.new.from c.next.ensures.beside)) c.answer_line.ensures.disk

@@ -1,5 +1,6 @@
 use Rattle.std.proofs.Common.{◌≡◌, ◌+◌, ◌-◌, ◌^◌, ◌≤◌, length, IsTrue, IfSome}
-use Rattle.chart_world.specs.Reading.{unread, input_length}
+use Rattle.block_disk.specs.View.{DiskKept}
+use Rattle.chart_world.specs.Reading.{unread}
 use Rattle.chart_program.proofs.Answering.{RunProgress}
 use Rattle.chart_program.proofs.run.run.Given as goal
 
@@ -12,6 +13,7 @@ invariant-lines g l = record {
   progress : IfSome (g.S.Streams.left l.initial.streams) (λ input. RunProgress input (unread l.lines (g.S.Streams.left l.streams)) l.lines.given l.service (g.S.Streams.sent l.initial.streams) (g.S.Streams.sent l.streams));
   read_faults : g.S.Streams.read_faults l.initial.streams ≤ g.S.Streams.read_faults l.streams;
   send_faults : g.S.Streams.send_faults l.initial.streams ≤ g.S.Streams.send_faults l.streams;
+  disk : DiskKept (g.S.Disk.view l.initial.streams) (g.S.Disk.view l.streams);
 }
 
 abbrev pub decreases-lines : goal.decreases-lines

@@ -1,4 +1,4 @@
-use Rattle.std.proofs.Common.{ℤ, subst, sym, arith, rules}
+use Rattle.std.proofs.Common.{ℤ, subst, sym, arith}
 use Rattle.std.specs.Prelude.{FitsSigned, IsTrue, false}
 use Rattle.std.specs.Int.{w128}
 use Rattle.std.proofs.lemmas.Int.{ints, to_z-of_z}

@@ -1,5 +1,5 @@
 use Rattle.std.proofs.Common.{arith, refl}
-use Rattle.chart_program.proofs.Codes.{plot_codes, complete_so, run_codes, run_complete, run_not_bad, told_all, told_both}
+use Rattle.chart_program.proofs.Codes.{plot_codes, complete_so, run_codes, run_complete}
 use Rattle.chart_program.proofs.top.chart.Goals as goal
 
 pub returns-in-Err-clause-codes : goal.returns-in-Err-clause-codes

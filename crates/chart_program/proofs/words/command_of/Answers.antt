@@ -1,7 +1,7 @@
-use Rattle.std.proofs.Common.{◌<◌, ◌≤◌, length, map, arith}
+use Rattle.std.proofs.Common.{◌≤◌, length, map, arith}
 use Rattle.std.specs.Prelude.{Bool, true, false, string_bytes, ◌≡◌}
 use Rattle.std.proofs.lemmas.List.{length-map}
-use Rattle.chart_program.proofs.Commands.{wrong_first, wrong_behind, right_run}
+use Rattle.chart_program.proofs.Commands.{wrong_first, right_run}
 use Rattle.chart_program.proofs.words.command_of.Goals as goal
 
 not_so : (b : Bool) → b ≡ false → b ≡ true → ⊥

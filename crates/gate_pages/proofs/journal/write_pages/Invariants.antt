@@ -4,7 +4,7 @@ use Rattle.gate_pages.specs.Batch.{put_all, numbers}
 use Rattle.gate_pages.specs.Entries.{entries}
 use Rattle.gate_pages.specs.Journal.{home}
 use Rattle.gate_pages.specs.Steps.{IsHome}
-use Rattle.gate_pages.proofs.journal.write_home.Given as goal
+use Rattle.gate_pages.proofs.journal.write_pages.Given as goal
 
 abbrev pub invariant-loop-i : goal.invariant-loop-i
 invariant-loop-i g l = record {

@@ -2,7 +2,7 @@ use Rattle.std.proofs.Common.{◌∙◌, ◌+◌, ap, arith}
 use Rattle.gate_pages.specs.Entries.{entries}
 use Rattle.gate_pages.specs.Journal.{directory}
 use Rattle.gate_pages.proofs.Directories.{images_from}
-use Rattle.gate_pages.proofs.journal.stage.Goals as goal
+use Rattle.gate_pages.proofs.journal.write_journal.Goals as goal
 
 pub returns-clause-holds : goal.returns-clause-holds
 returns-clause-holds g c honest =

@@ -8,7 +8,7 @@ use Rattle.gate_pages.proofs.Directories.{image_at}
 use Rattle.gate_pages.proofs.Homes.{home_step, home_read, is_home, one_of_numbers}
 use Rattle.gate_pages.proofs.Moving.{moves_then, moves_weaker}
 use Rattle.gate_pages.proofs.States.{numbers_images, length_images}
-use Rattle.gate_pages.proofs.recovery.copy_home.Goals as goal
+use Rattle.gate_pages.proofs.recovery.copy_images.Goals as goal
 
 pub overflow_add-number : goal.overflow_add-number
 overflow_add-number g c =

@@ -7,7 +7,7 @@ use Rattle.gate_pages.specs.Steps.{IsHome}
 use Rattle.gate_pages.proofs.Homes.{home_step, is_home}
 use Rattle.gate_pages.proofs.Moving.{moves_then, moves_weaker}
 use Rattle.gate_pages.proofs.Puts.{one_of_at}
-use Rattle.gate_pages.proofs.journal.write_home.Goals as goal
+use Rattle.gate_pages.proofs.journal.write_pages.Goals as goal
 
 pub overflow_add-page : goal.overflow_add-page
 overflow_add-page g c =

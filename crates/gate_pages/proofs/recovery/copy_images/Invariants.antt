@@ -3,7 +3,7 @@ use Rattle.block_disk.specs.View.{Honest, Moves}
 use Rattle.gate_pages.specs.Batch.{put_all}
 use Rattle.gate_pages.specs.Journal.{home, images}
 use Rattle.gate_pages.specs.Steps.{IsHome}
-use Rattle.gate_pages.proofs.recovery.copy_home.Given as goal
+use Rattle.gate_pages.proofs.recovery.copy_images.Given as goal
 
 abbrev pub invariant-loop-i : goal.invariant-loop-i
 invariant-loop-i g l = record {
