@@ -4,5 +4,8 @@ pub mod Progress
 pub mod Ending
 pub mod Commands
 pub mod Codes
-pub mod Answering
 pub mod DiskKept
+pub mod Drawing
+pub mod Running
+pub mod Telling
+pub mod Parsing

@@ -1,6 +1,9 @@
 pub mod Words
+pub mod Start
 pub mod Slots
 pub mod Reads
 pub mod Plotted
-pub mod Ran
+pub mod Texts
 pub mod Runs
+pub mod Draws
+pub mod Ran

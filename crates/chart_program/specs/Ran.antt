@@ -1,40 +1,130 @@
 -- What a run of a command does.
-use Rattle.std.specs.Prelude.{◌≡◌, ℕ, ℤ, ◌≤◌, ◌^◌, ◌⊎◌, List, [], ◌∷◌, length, Option, codes}
+use Rattle.std.specs.Prelude.{◌≡◌, ℕ, ℤ, ◌≤◌, ◌^◌, ◌⊎◌, List, [], ◌∷◌, length, All, flat_map, Option, IfSome, codes, ⊤}
+use Rattle.std.specs.List.{filter}
+use Rattle.block_disk.specs.Streams.{sent_after}
+use Rattle.line_raster.specs.Canvas.{Canvas}
+use Rattle.om3_coeff.specs.declared.key.Key.{Key}
+use Rattle.chart_frames.specs.declared.frame.Frame.{Frame}
+use Rattle.chart_frames.specs.Frames.{Fits, spelling, key_number}
+use Rattle.chart_client.specs.declared.errors.ClientError.TheVariants as client
+use Rattle.chart_service.specs.declared.failure.ServeEnd.{ServeEnd}
+use Rattle.chart_service.specs.declared.failure.ServeEnd.TheVariants as serve_end
+use Rattle.chart_program.specs.declared.run_end.RunEnd.{RunEnd}
+use Rattle.chart_program.specs.declared.run_end.RunEnd.TheVariants as run_end
+use Rattle.chart_service.specs.State.{State, IsSound}
+use Rattle.chart_service.specs.Serving.{AreSpelled, RepliesToAll, SendsText, SendsFrontOf, SendsTaken, SendsWithin, SendsSome}
+use Rattle.chart_client.specs.Accepting.{HasNumber}
+use Rattle.drawn_replies.specs.Pictures.{ArePictured, AreOwnPictured, NoneRejected, names}
 use Rattle.chart_program.specs.declared.words.Command.{Command}
-use Rattle.chart_program.specs.declared.words.Command.TheVariants.{Plot, Run}
+use Rattle.chart_program.specs.declared.words.Command.TheVariants.{Plot, Run, Serve, Draw}
+use Rattle.chart_program.specs.declared.draw_end.DrawEnd.TheVariants as draw_end
 use Rattle.chart_program.specs.Words.{Spells}
 use Rattle.chart_program.specs.Slots.{SpellsAll, FirstBad, HasTooMany, IsTooLong, StoppedBefore, most_slots}
 use Rattle.chart_program.specs.Plotted.{SendsPlot, SendsFront}
-use Rattle.chart_program.specs.Runs.{SendsText, SendsFrontOf, SendsTaken, SendsSome, SendsWithin}
+use Rattle.chart_program.specs.Start.{start}
+use Rattle.chart_program.specs.Texts.{texts_of, picture_bytes}
+use Rattle.chart_program.specs.Draws.{DrawsAll, DrawsTaken, DrawsWithin, IsCut, StopsAtFrame}
 
--- the words of `run`
-abbrev pub run_words : List (List ℕ)
-run_words = codes "run" ∷ []
+-- the words of the commands that send before their input has ended
+abbrev pub stream_words : List (List (List ℕ))
+stream_words = (codes "run" ∷ []) ∷ (codes "serve" ∷ []) ∷ (codes "draw" ∷ []) ∷ []
+
+-- The text of a run: that of each line's frame, with the picture of the book as it is at that line.
+pub record AreTexts (lines : List (Option (List ℕ))) (frames : List Frame) (text : List ℕ) : Type 0 where
+  pub drawings : List (Option Canvas)
+  pub state : State
+  pub pictured : ArePictured start lines frames drawings state
+  pub texts : text ≡ texts_of frames drawings
+
+-- what a serving command says to its lines: texts with pictures, or the spellings of their frames
+abbrev pub Says : Type 1
+Says = List (Option (List ℕ)) → List Frame → List ℕ → Type 0
+
+-- the lines of the whole input were answered so, over a book that begins empty
+abbrev pub AnswersAll : Says → List ℕ → Option (List ℕ) → Option (List ℕ) → Type 0
+AnswersAll IsText input before now = (state : State) × SendsText IsText input start state before now
+
+-- the first bytes of what answers the first lines were sent
+abbrev pub AnswersFront : Says → List ℕ → Option (List ℕ) → Option (List ℕ) → Type 0
+AnswersFront IsText input before now = (state : State) × SendsFrontOf IsText input start state before now
+
+-- all lines that ended among the bytes taken were answered, and these bytes are left
+abbrev pub AnswersTaken : Says → List ℕ → List ℕ → Option (List ℕ) → Option (List ℕ) → Type 0
+AnswersTaken IsText input bytes before now = (state : State) × SendsTaken IsText input bytes start state before now
+
+-- all lines that ended among the first 2^32 bytes were answered, and there is a byte more
+abbrev pub AnswersWithin : Says → List ℕ → Option (List ℕ) → Option (List ℕ) → Type 0
+AnswersWithin IsText input before now = (state : State) × SendsWithin IsText input start state before now
+
+-- some first lines were answered
+abbrev pub AnswersSome : Says → List ℕ → Option (List ℕ) → Option (List ℕ) → Type 0
+AnswersSome IsText input before now = (state : State) × SendsSome IsText input start state before now
+
+-- why not all lines were answered, and what was sent
+abbrev pub EndsServing : Says → List ℕ → Option (List ℕ) → Option (List ℕ) → Option (List ℕ) → ServeEnd → Type 0
+EndsServing IsText input left before now serve_end.ReadFault = IfSome left (λ bytes. AnswersTaken IsText input bytes before now)
+EndsServing IsText input left before now serve_end.SendFault = AnswersFront IsText input before now
+EndsServing IsText input left before now serve_end.InputTooLong = AnswersWithin IsText input before now
+EndsServing IsText input left before now serve_end.NoMemory = AnswersSome IsText input before now
+
+-- the same, where each frame was shown: nothing but want of memory keeps it from that
+abbrev pub EndsLines : Says → List ℕ → Option (List ℕ) → Option (List ℕ) → Option (List ℕ) → RunEnd → Type 0
+EndsLines IsText input left before now (run_end.Serve end) = EndsServing IsText input left before now end
+EndsLines IsText input left before now (run_end.Show client.NoMemory) = AnswersSome IsText input before now
+EndsLines IsText input left before now (run_end.Show e) = ⊥
 
 -- the command's output for this input was sent, the whole of it
 abbrev pub SendsAll : Command → List ℕ → Option (List ℕ) → Option (List ℕ) → Type 0
 SendsAll (Plot w h) input before now = SendsPlot w h input before now
-SendsAll Run input before now = SendsText input before now
+SendsAll Run input before now = AnswersAll AreTexts input before now
+SendsAll Serve input before now = AnswersAll AreSpelled input before now
+SendsAll Draw input before now = DrawsAll input before now
 
 -- the first bytes of the command's output for this input were sent
 abbrev pub SendsPart : Command → List ℕ → Option (List ℕ) → Option (List ℕ) → Type 0
 SendsPart (Plot w h) input before now = SendsFront w h input before now
-SendsPart Run input before now = SendsFrontOf input before now
+SendsPart Run input before now = AnswersFront AreTexts input before now
+SendsPart Serve input before now = AnswersFront AreSpelled input before now
+SendsPart Draw input before now = StopsAtFrame input before now draw_end.SendFault
 
--- A take failed, where these bytes were left. A plot has sent nothing, a run what the lines taken give.
+-- A take failed, where these bytes were left. A plot has sent nothing, a serving command what answers the
+-- lines taken, and `draw` the pictures of the frames taken.
 abbrev pub StopsBefore : Command → List ℕ → Option (List ℕ) → Option (List ℕ) → List ℕ → Type 0
 StopsBefore (Plot w h) input before now bytes = StoppedBefore input bytes
-StopsBefore Run input before now bytes = SendsTaken input bytes before now
+StopsBefore Run input before now bytes = AnswersTaken AreTexts input bytes before now
+StopsBefore Serve input before now bytes = AnswersTaken AreSpelled input bytes before now
+StopsBefore Draw input before now bytes = DrawsTaken input bytes before now
 
--- There was no memory. A plot has sent nothing, a run what some first lines give.
+-- There was no memory. A plot has sent nothing, a serving command what answers some first lines, and `draw` the
+-- pictures of some first frames.
 abbrev pub IsCutShort : Command → List ℕ → Option (List ℕ) → Option (List ℕ) → Type 0
 IsCutShort (Plot w h) input before now = now ≡ before
-IsCutShort Run input before now = SendsSome input before now
+IsCutShort Run input before now = AnswersSome AreTexts input before now
+IsCutShort Serve input before now = AnswersSome AreSpelled input before now
+IsCutShort Draw input before now = StopsAtFrame input before now draw_end.NoMemory
 
--- the line at this place is the first that isn't in the command's grammar: a run answers each line
-abbrev pub IsBadInput : Command → List ℕ → ℕ → Type 0
-IsBadInput (Plot w h) input place = FirstBad input place
-IsBadInput Run input place = ⊥
+-- The line or the field at this place is the first that isn't in the command's grammar, or the input ends there
+-- within a frame; a serving command answers each line. `draw` has sent the pictures of the frames before.
+abbrev pub IsBadInput : Command → List ℕ → ℕ → Option (List ℕ) → Option (List ℕ) → Type 0
+IsBadInput (Plot w h) input place before now = FirstBad input place
+IsBadInput Run input place before now = ⊥
+IsBadInput Serve input place before now = ⊥
+IsBadInput Draw input place before now = IsCut input place before now ⊎ StopsAtFrame input before now (draw_end.BadFrame place)
+
+-- a frame's first wanted key that can't be used has no coefficient
+abbrev pub Lacks : Command → List ℕ → ℕ → Option (List ℕ) → Option (List ℕ) → Type 0
+Lacks Draw input place before now = (key : Key) × (place ≡ key_number key) × StopsAtFrame input before now (draw_end.Missing key)
+Lacks command input place before now = ⊥
+
+-- a frame's first wanted key that can't be used has one that doesn't fit
+abbrev pub Misfits : Command → List ℕ → ℕ → Option (List ℕ) → Option (List ℕ) → Type 0
+Misfits Draw input place before now = (key : Key) × (place ≡ key_number key) × StopsAtFrame input before now (draw_end.BadCoefficient key)
+Misfits command input place before now = ⊥
+
+-- a frame names this session, which isn't open
+abbrev pub NamesUnopened : Command → List ℕ → ℕ → Option (List ℕ) → Option (List ℕ) → Type 0
+NamesUnopened Draw input place before now = StopsAtFrame input before now (draw_end.UnknownSession place)
+NamesUnopened command input place before now = ⊥
 
 -- the words are those of a command, and this holds of it
 pub record OfCommand (words : List (List ℕ)) (P : Command → Type 0) : Type 0 where
@@ -49,7 +139,9 @@ HasTooMuch input place = ((place ≡ most_slots) × HasTooMany input) ⊎ ((plac
 -- there is more input than the command takes
 abbrev pub IsTooMuch : Command → List ℕ → ℕ → Option (List ℕ) → Option (List ℕ) → Type 0
 IsTooMuch (Plot w h) input place before now = HasTooMuch input place
-IsTooMuch Run input place before now = (place ≡ 2 ^ 32) × SendsWithin input before now
+IsTooMuch Run input place before now = (place ≡ 2 ^ 32) × AnswersWithin AreTexts input before now
+IsTooMuch Serve input place before now = (place ≡ 2 ^ 32) × AnswersWithin AreSpelled input before now
+IsTooMuch Draw input place before now = (place ≡ 2 ^ 32) × DrawsWithin input before now
 
 -- the input is slots, and no more than a plot takes
 pub record IsSlots (input : List ℕ) : Type 0 where
@@ -58,7 +150,48 @@ pub record IsSlots (input : List ℕ) : Type 0 where
   pub few : length slots ≤ most_slots
   pub short : length input ≤ 2 ^ 32
 
+-- the input is frames, and no more than `draw` takes, and a client rejects none
+pub record IsFrames (input : List ℕ) : Type 0 where
+  pub frames : List Frame
+  pub fit : All Fits frames
+  pub spelled : input ≡ flat_map spelling frames
+  pub accepted : NoneRejected frames
+  pub short : length input ≤ 2 ^ 32
+
 -- the input is in the command's grammar, and no more than it takes
 abbrev pub IsInput : Command → List ℕ → Type 0
 IsInput (Plot w h) input = IsSlots input
 IsInput Run input = length input ≤ 2 ^ 32
+IsInput Serve input = length input ≤ 2 ^ 32
+IsInput Draw input = IsFrames input
+
+-- a key that the end names has a number
+abbrev pub IsNumbered : RunEnd → Type 0
+IsNumbered (run_end.Serve end) = ⊤
+IsNumbered (run_end.Show e) = HasNumber e
+
+-- lines are answered by these frames, over a book and with no session open
+pub record AreReplies (old : State) (lines : List (Option (List ℕ))) (frames : List Frame) (new : State) : Type 0 where
+  pub sound : IsSound old
+  pub alone : old.sessions ≡ []
+  pub replied : RepliesToAll old lines frames new
+
+-- the pictures of the answered views were sent, each of the book as it was at that line
+pub record SendsPictures (old : State) (lines : List (Option (List ℕ))) (frames : List Frame) (new : State) (before now : Option (List ℕ)) : Type 0 where
+  pub drawings : List (Option Canvas)
+  pub pictured : ArePictured old lines frames drawings new
+  pub sent : now ≡ sent_after (flat_map picture_bytes drawings) before
+
+-- the pictures of one session's answered views were sent, each of the book as it was at that line
+pub record SendsOwnPictures (n : ℕ) (old : State) (lines : List (Option (List ℕ))) (frames : List Frame) (new : State) (before now : Option (List ℕ)) : Type 0 where
+  pub drawings : List (Option Canvas)
+  pub pictured : AreOwnPictured n old lines frames drawings new
+  pub sent : now ≡ sent_after (flat_map picture_bytes drawings) before
+
+-- Where the input is the frames that answer lines, the pictures of the book were sent; where it is those of one
+-- session alone, that session's.
+pub record DrawsReplies (input : List ℕ) (before now : Option (List ℕ)) : Type 0 where
+  pub all : (old new : State) (lines : List (Option (List ℕ))) (frames : List Frame) → AreReplies old lines frames new
+      → input ≡ flat_map spelling frames → SendsPictures old lines frames new before now
+  pub own : (n : ℕ) (old new : State) (lines : List (Option (List ℕ))) (frames : List Frame) → AreReplies old lines frames new
+      → input ≡ flat_map spelling (filter (names n) frames) → SendsOwnPictures n old lines frames new before now

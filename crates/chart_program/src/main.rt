@@ -2,18 +2,25 @@
 //!
 //! `chart` takes the words of a command and a world, does the command and answers with a status. Its
 //! clauses say which bytes were sent for which input, and when each status comes. What a command
-//! computes stands in the crates below: here words become a command, the lines of `plot` slots, and
-//! the replies of `run` text.
+//! computes stands in the crates below: here words become a command, the lines of `plot` slots, the
+//! frames of `draw` pictures, and what the frames of `run` show becomes text.
 //!
 //! `main` opens the file that the first word names as a disk, and gives `chart` the words after it
 //! and a world of this disk, standard input and standard output. No command calls the disk yet.
 //! Nothing is claimed of `main` but that it is safe and ends.
 #![tactic(auto)]
 
+mod draw;
+mod draw_end;
 mod input;
+mod limits;
+mod lines;
 mod plot;
 mod reply_text;
 mod run;
+mod run_end;
+#[cfg(test)]
+mod session_tests;
 mod slot;
 mod status;
 #[cfg(test)]
@@ -23,6 +30,8 @@ mod words;
 
 use block_disk::FileDisk;
 use chart_world::StdWorld;
+pub use run::run_on;
+pub use run_end::RunEnd;
 pub use status::Status;
 use std::alloc::Global;
 use std::process::ExitCode;

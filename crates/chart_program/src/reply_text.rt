@@ -1,72 +1,92 @@
-ghost use Rattle.std.specs.Prelude.{◌≡◌, ◌++◌, IfOk, IfErr};
-ghost use Rattle.series_book.specs.Refusals.{number_of, pair_of};
-ghost use Rattle.chart_service.specs.declared.replies.Reply.TheVariants.{Done, Refused, Opened, Viewed};
-ghost use Rattle.chart_program.specs.Runs.{text_of};
+ghost use Rattle.std.specs.Prelude.{◌≡◌, ◌++◌, IfOk, IfErr, OnOk, codes};
+ghost use Rattle.std.specs.Fmt.{decimal};
+ghost use Rattle.chart_service.specs.declared.failure.ServeEnd.TheVariants.{NoMemory};
+ghost use Rattle.chart_program.specs.declared.run_end.RunEnd.TheVariants.{Serve};
+ghost use Rattle.chart_program.specs.Texts.{line_of, picture_bytes, text_of};
 
-use crate::run::RunEnd;
-use chart_service::Reply;
+use crate::run_end::RunEnd;
+use chart_client::Shown;
+use chart_frames::Frame;
 use line_raster::Bitmap;
 use pbm_writer::pbm;
-use series_book::Refusal;
-use std::alloc::{AllocError, Global};
+use std::alloc::Global;
 
-/// The text of a reply: one line, and behind that of an answered view its picture.
-pub fn reply_text(alloc: Global, reply: &Reply) -> Result<Vec<u8>, RunEnd>
-    ensures text { IfOk result (λ text. text.items ≡ text_of reply.now) }
-    ensures memory { IfErr result (λ end. end ≡ RunEnd.NoMemory) }
+/// The text of what a frame of so many bytes shows: a line, and behind that the picture, where there
+/// is one.
+pub fn reply_text(alloc: Global, shown: &Shown, sent: usize) -> Result<Vec<u8>, RunEnd>
+    ensures text { IfOk result (λ text. text.items ≡ text_of shown.now.frame shown.now.bitmap sent) }
+    ensures memory { IfErr result (λ end. end ≡ Serve NoMemory) }
 {
-    match reply {
-        Reply::Done { slots } => done_text(alloc, *slots),
-        Reply::Refused(refusal) => refused_text(alloc, refusal),
-        Reply::Opened { session, cache } => opened_text(alloc, *session, *cache),
-        Reply::Viewed { session, bitmap } => viewed_text(alloc, *session, bitmap),
+    let mut text = line_of(alloc, &shown.frame, sent)?;
+    add_picture(alloc, &shown.bitmap, &mut text)?;
+    Ok(text)
+}
+
+/// Adds the picture, where there is one.
+fn add_picture(alloc: Global, bitmap: &Option<Bitmap>, text: &mut Vec<u8>) -> Result<(), RunEnd>
+    ensures text { OnOk result (text.new.items ≡ text.old.items ++ picture_bytes bitmap.now) }
+    ensures memory { IfErr result (λ end. end ≡ Serve NoMemory) }
+{
+    let Some(bitmap) = bitmap else {
+        return Ok(());
+    };
+    let picture = pbm(alloc, bitmap)?;
+    text.extend_from_slice(picture.as_slice())?;
+    Ok(())
+}
+
+/// The line of a frame of so many bytes.
+#[tactic(auto, unfolding(crate::specs::Texts::line_of))]
+fn line_of(alloc: Global, frame: &Frame, sent: usize) -> Result<Vec<u8>, RunEnd>
+    ensures line { IfOk result (λ text. text.items ≡ line_of frame.now sent) }
+    ensures memory { IfErr result (λ end. end ≡ Serve NoMemory) }
+{
+    match frame {
+        Frame::Done { slots } => done_line(alloc, *slots),
+        Frame::Refused { number, a, b } => refused_line(alloc, *number, *a, *b),
+        Frame::Opened { session, cache } => opened_line(alloc, *session, *cache),
+        Frame::Closed { session } => closed_line(alloc, *session),
+        Frame::View(view) => view_line(alloc, view.session, sent),
+        Frame::Rows(rows) => view_line(alloc, rows.session, sent),
     }
 }
 
-#[tactic(auto, unfolding(crate::specs::Runs::text_of))]
-fn done_text(alloc: Global, slots: u64) -> Result<Vec<u8>, RunEnd>
-    ensures text { IfOk result (λ text. text.items ≡ text_of (Done slots)) }
-    ensures memory { IfErr result (λ end. end ≡ RunEnd.NoMemory) }
+fn done_line(alloc: Global, slots: u64) -> Result<Vec<u8>, RunEnd>
+    ensures line { IfOk result (λ text. text.items ≡ codes "done " ++ (decimal slots ++ codes "\n")) }
+    ensures memory { IfErr result (λ end. end ≡ Serve NoMemory) }
 {
     let line = format!(in alloc; "done {slots}\n")?;
     Ok(Vec::from_slice(alloc, line.as_bytes())?)
 }
 
-#[tactic(auto, unfolding(crate::specs::Runs::text_of))]
-fn refused_text(alloc: Global, refusal: &Refusal) -> Result<Vec<u8>, RunEnd>
-    ensures text { IfOk result (λ text. text.items ≡ text_of (Refused refusal.now)) }
-    ensures memory { IfErr result (λ end. end ≡ RunEnd.NoMemory) }
+fn refused_line(alloc: Global, number: u8, a: u64, b: u64) -> Result<Vec<u8>, RunEnd>
+    ensures line { IfOk result (λ text. text.items ≡ codes "refused " ++ (decimal number ++ (codes " " ++ (decimal a ++ (codes " " ++ (decimal b ++ codes "\n")))))) }
+    ensures memory { IfErr result (λ end. end ≡ Serve NoMemory) }
 {
-    let number = refusal.number();
-    let (a, b) = refusal.pair();
     let line = format!(in alloc; "refused {number} {a} {b}\n")?;
     Ok(Vec::from_slice(alloc, line.as_bytes())?)
 }
 
-#[tactic(auto, unfolding(crate::specs::Runs::text_of))]
-fn opened_text(alloc: Global, session: u32, cache: u32) -> Result<Vec<u8>, RunEnd>
-    ensures text { IfOk result (λ text. text.items ≡ text_of (Opened session cache)) }
-    ensures memory { IfErr result (λ end. end ≡ RunEnd.NoMemory) }
+fn opened_line(alloc: Global, session: u32, cache: u32) -> Result<Vec<u8>, RunEnd>
+    ensures line { IfOk result (λ text. text.items ≡ codes "opened " ++ (decimal session ++ (codes " " ++ (decimal cache ++ codes "\n")))) }
+    ensures memory { IfErr result (λ end. end ≡ Serve NoMemory) }
 {
     let line = format!(in alloc; "opened {session} {cache}\n")?;
     Ok(Vec::from_slice(alloc, line.as_bytes())?)
 }
 
-#[tactic(auto, unfolding(crate::specs::Runs::text_of))]
-fn viewed_text(alloc: Global, session: u32, bitmap: &Bitmap) -> Result<Vec<u8>, RunEnd>
-    ensures text { IfOk result (λ text. text.items ≡ text_of (Viewed session bitmap.now)) }
-    ensures memory { IfErr result (λ end. end ≡ RunEnd.NoMemory) }
+fn closed_line(alloc: Global, session: u32) -> Result<Vec<u8>, RunEnd>
+    ensures line { IfOk result (λ text. text.items ≡ codes "closed " ++ (decimal session ++ codes "\n")) }
+    ensures memory { IfErr result (λ end. end ≡ Serve NoMemory) }
 {
-    let line = format!(in alloc; "view {session} sent 0\n")?;
-    let picture = pbm(alloc, bitmap)?;
-    Ok(joined(alloc, line.as_bytes(), picture.as_slice())?)
+    let line = format!(in alloc; "closed {session}\n")?;
+    Ok(Vec::from_slice(alloc, line.as_bytes())?)
 }
 
-/// One list of bytes behind another.
-fn joined(alloc: Global, first: &[u8], second: &[u8]) -> Result<Vec<u8>, AllocError>
-    ensures { IfOk result (λ bytes. bytes.items ≡ first.now ++ second.now) }
+fn view_line(alloc: Global, session: u32, sent: usize) -> Result<Vec<u8>, RunEnd>
+    ensures line { IfOk result (λ text. text.items ≡ codes "view " ++ (decimal session ++ (codes " sent " ++ (decimal sent ++ codes "\n")))) }
+    ensures memory { IfErr result (λ end. end ≡ Serve NoMemory) }
 {
-    let mut bytes = Vec::from_slice(alloc, first)?;
-    bytes.extend_from_slice(second)?;
-    Ok(bytes)
+    let line = format!(in alloc; "view {session} sent {sent}\n")?;
+    Ok(Vec::from_slice(alloc, line.as_bytes())?)
 }

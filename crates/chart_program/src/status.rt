@@ -24,8 +24,20 @@ pub const READ_FAULT: u8 = 4;
 /// The output could not be sent.
 pub const SEND_FAULT: u8 = 5;
 
-/// A line of the input isn't in the grammar. The place is its offset.
+/// A line or a frame of the input isn't in the grammar, and the place is the offset of the line or of the
+/// field. Where the input ends within a frame, the place is its length.
 pub const BAD_INPUT: u8 = 8;
 
 /// There is more input than a run takes. The place is the most that it takes.
 pub const TOO_MUCH: u8 = 9;
+
+/// The first coefficient that a view wants and can't use was neither sent nor held. The place is the
+/// number of its key.
+pub const MISSING: u8 = 10;
+
+/// The first coefficient that a view wants and can't use doesn't fit. The place is the number of its
+/// key.
+pub const BAD_COEFFICIENT: u8 = 11;
+
+/// A frame names a session that isn't open. The place is the session's number.
+pub const UNKNOWN_SESSION: u8 = 15;

@@ -57,7 +57,7 @@ fn runs_in_memory(rt: HostRuntime) -> Result<(), Fail> {
             take_fails: &[],
             send_fails: &[],
             status: (0, 0),
-            sent: b"done 0\ndone 4\nopened 1 65536\nview 1 sent 0\nP4\n4 4\n\x40\x40\xa0\x20",
+            sent: b"done 0\ndone 4\nopened 1 65536\nview 1 sent 288\nP4\n4 4\n\x40\x40\xa0\x20",
         },
         Case {
             words: &["run"],

@@ -1,47 +1,64 @@
-ghost use Rattle.std.specs.Prelude.{◌≡◌, ◌≢◌, ◌↔◌, ◌⊎◌, ◌^◌, ℕ, [], ◌∷◌, map, Contains, string_bytes, IfSome};
+ghost use Rattle.std.specs.Prelude.{◌≡◌, ◌≢◌, ◌⊎◌, ◌≤◌, ◌^◌, [], ◌∷◌, length, map, Contains, string_bytes, IfSome};
 ghost use Rattle.block_disk.specs.Counts.{HasRisen};
 ghost use Rattle.block_disk.specs.View.{View, DiskKept};
+ghost use Rattle.chart_grid.specs.Limits.{IsSide};
+ghost use Rattle.chart_service.specs.Serving.{AreSpelled};
 ghost use Rattle.chart_program.specs.declared.words.Command.{Command};
+ghost use Rattle.chart_program.specs.declared.words.Command.TheVariants.{Run, Draw};
+ghost use Rattle.chart_program.specs.declared.draw_end.DrawEnd.TheVariants as draw_end;
 ghost use Rattle.chart_program.specs.Words.{Spells, IsWrongAt};
 ghost use Rattle.chart_program.specs.Slots.{FirstBad, StoppedBefore};
-ghost use Rattle.chart_grid.specs.Limits.{IsSide};
 ghost use Rattle.chart_program.specs.Plotted.{SendsPlot, SendsFront};
-ghost use Rattle.chart_program.specs.Ran.{run_words, OfCommand, SendsAll, SendsPart, StopsBefore, IsBadInput, HasTooMuch, IsTooMuch, IsCutShort, IsInput};
-ghost use Rattle.chart_program.specs.Runs.{SendsText, SendsFrontOf, SendsTaken, SendsSome, SendsWithin};
+ghost use Rattle.chart_program.specs.Draws.{DrawsAll, DrawsTaken, DrawsWithin, StopsAtFrame};
+ghost use Rattle.chart_program.specs.Ran.{OfCommand, SendsAll, SendsPart, StopsBefore, IsBadInput, HasTooMuch, IsTooMuch, IsCutShort, IsInput, Lacks, Misfits, NamesUnopened, DrawsReplies, AreTexts, AnswersAll, AnswersFront, AnswersTaken, AnswersWithin, AnswersSome, IsFrames, stream_words};
 
+use crate::draw::draw;
+use crate::draw_end::DrawEnd;
 use crate::input::{InputEnd, MOST_SLOTS};
+use crate::limits::MOST_BYTES;
+use crate::lines::{run_lines, serve_lines};
 use crate::plot::{PlotEnd, plot};
-use crate::run::{RunEnd, run};
+use crate::run_end::RunEnd;
 use crate::status::{
-    BAD_INPUT, DONE, NO_MEMORY, READ_FAULT, SEND_FAULT, Status, TOO_MUCH, WRONG_WORDS,
+    BAD_COEFFICIENT, BAD_INPUT, DONE, MISSING, NO_MEMORY, READ_FAULT, SEND_FAULT, Status, TOO_MUCH,
+    UNKNOWN_SESSION, WRONG_WORDS,
 };
 use crate::words::{Command, command_of};
 use block_disk::World;
+use chart_client::ClientError;
+use chart_frames::laws::{
+    length_is_told, more_bytes_mend_nothing, one_frame_a_spelling, spellings_are_good,
+};
+use chart_service::ServeEnd;
+use drawn_replies::laws::{one_session_draws_the_book, replies_draw_the_book};
 use std::alloc::Global;
-
-/// The most bytes of input that a run takes.
-const MOST_BYTES: u64 = 4_294_967_296;
 
 /// Does the command of the words, with the world's input and output, and gives the world back.
 ///
 /// Only the input that is told is spoken of: a real stream tells none.
 pub fn chart<W: World>(alloc: Global, words: &[String], mut world: W) -> (Status, W)
     // each status comes exactly for its cause
-    ensures codes { Contains (DONE ∷ WRONG_WORDS ∷ NO_MEMORY ∷ READ_FAULT ∷ SEND_FAULT ∷ BAD_INPUT ∷ TOO_MUCH ∷ []) result.0.code }
+    ensures codes { Contains (DONE ∷ WRONG_WORDS ∷ NO_MEMORY ∷ READ_FAULT ∷ SEND_FAULT ∷ BAD_INPUT ∷ TOO_MUCH ∷ MISSING ∷ BAD_COEFFICIENT ∷ UNKNOWN_SESSION ∷ []) result.0.code }
     ensures wrong { result.0.code ≡ WRONG_WORDS → IsWrongAt result.0.place (map string_bytes words.now) }
     ensures command { result.0.code ≢ WRONG_WORDS → OfCommand (map string_bytes words.now) (λ command. Unit {0}) }
     ensures read { result.0.code ≡ READ_FAULT → HasRisen (W.read_faults world) (W.read_faults result.1) }
     ensures stopped { result.0.code ≡ READ_FAULT → OfCommand (map string_bytes words.now) (λ command. IfSome (W.left world) (λ input. IfSome (W.left result.1) (StopsBefore command input (W.sent world) (W.sent result.1)))) }
     ensures send { result.0.code ≡ SEND_FAULT → HasRisen (W.send_faults world) (W.send_faults result.1) }
-    ensures bad { result.0.code ≡ BAD_INPUT → OfCommand (map string_bytes words.now) (λ command. IfSome (W.left world) (λ input. IsBadInput command input result.0.place)) }
+    ensures bad { result.0.code ≡ BAD_INPUT → OfCommand (map string_bytes words.now) (λ command. IfSome (W.left world) (λ input. IsBadInput command input result.0.place (W.sent world) (W.sent result.1))) }
     ensures much { result.0.code ≡ TOO_MUCH → OfCommand (map string_bytes words.now) (λ command. IfSome (W.left world) (λ input. IsTooMuch command input result.0.place (W.sent world) (W.sent result.1))) }
+    ensures missing { result.0.code ≡ MISSING → OfCommand (map string_bytes words.now) (λ command. IfSome (W.left world) (λ input. Lacks command input result.0.place (W.sent world) (W.sent result.1))) }
+    ensures misfit { result.0.code ≡ BAD_COEFFICIENT → OfCommand (map string_bytes words.now) (λ command. IfSome (W.left world) (λ input. Misfits command input result.0.place (W.sent world) (W.sent result.1))) }
+    ensures unopened { result.0.code ≡ UNKNOWN_SESSION → OfCommand (map string_bytes words.now) (λ command. IfSome (W.left world) (λ input. NamesUnopened command input result.0.place (W.sent world) (W.sent result.1))) }
     ensures memory { result.0.code ≡ NO_MEMORY → OfCommand (map string_bytes words.now) (λ command. IfSome (W.left world) (λ input. IsCutShort command input (W.sent world) (W.sent result.1))) }
-    ensures place { result.0.code ≢ WRONG_WORDS → result.0.code ≢ BAD_INPUT → result.0.code ≢ TOO_MUCH → result.0.place ≡ 0 }
+    ensures place { Contains (DONE ∷ NO_MEMORY ∷ READ_FAULT ∷ SEND_FAULT ∷ []) result.0.code → result.0.place ≡ 0 }
 
     // what was sent
     ensures done { result.0.code ≡ DONE → OfCommand (map string_bytes words.now) (λ command. IfSome (W.left world) (λ input. SendsAll command input (W.sent world) (W.sent result.1))) }
     ensures part { result.0.code ≡ SEND_FAULT → OfCommand (map string_bytes words.now) (λ command. IfSome (W.left world) (λ input. SendsPart command input (W.sent world) (W.sent result.1))) }
-    ensures nothing { result.0.code ≢ DONE → result.0.code ≢ SEND_FAULT → map string_bytes words.now ≢ run_words → W.sent result.1 ≡ W.sent world }
+    ensures nothing { result.0.code ≢ DONE → result.0.code ≢ SEND_FAULT → (Contains stream_words (map string_bytes words.now) → ⊥) → W.sent result.1 ≡ W.sent world }
+
+    // of the frames that answer lines `draw` sends the pictures of the book
+    ensures pictures { result.0.code ≡ DONE → Spells Draw (map string_bytes words.now) → IfSome (W.left world) (λ input. DrawsReplies input (W.sent world) (W.sent result.1)) }
 
     // the disk isn't called
     ensures disk { DiskKept (W.view world) (W.view result.1) }
@@ -63,6 +80,14 @@ pub fn chart<W: World>(alloc: Global, words: &[String], mut world: W) -> (Status
         }
         Ok(Command::Run) => {
             let status = run_status(alloc, &mut world);
+            (status, world)
+        }
+        Ok(Command::Serve) => {
+            let status = serve_status(alloc, &mut world);
+            (status, world)
+        }
+        Ok(Command::Draw) => {
+            let status = draw_status(alloc, &mut world);
             (status, world)
         }
     }
@@ -95,26 +120,101 @@ fn plot_status<W: World>(alloc: Global, w: u16, h: u16, world: &mut W) -> Status
     }
 }
 
-/// Answers the lines of the input, and says how that ended.
+/// Sends the texts and pictures that answer the lines of the input, and says how that ended.
 fn run_status<W: World>(alloc: Global, world: &mut W) -> Status
+    ensures codes { Contains (DONE ∷ NO_MEMORY ∷ READ_FAULT ∷ SEND_FAULT ∷ TOO_MUCH ∷ MISSING ∷ BAD_COEFFICIENT ∷ UNKNOWN_SESSION ∷ []) result.code }
+    ensures read { result.code ≡ READ_FAULT → HasRisen (W.read_faults world.old) (W.read_faults world.new) }
+    ensures send { result.code ≡ SEND_FAULT → HasRisen (W.send_faults world.old) (W.send_faults world.new) }
+    ensures place { Contains (DONE ∷ NO_MEMORY ∷ READ_FAULT ∷ SEND_FAULT ∷ []) result.code → result.place ≡ 0 }
+    ensures missing { result.code ≡ MISSING → IfSome (W.left world.old) (λ input. Lacks Run input result.place (W.sent world.old) (W.sent world.new)) }
+    ensures misfit { result.code ≡ BAD_COEFFICIENT → IfSome (W.left world.old) (λ input. Misfits Run input result.place (W.sent world.old) (W.sent world.new)) }
+    ensures unopened { result.code ≡ UNKNOWN_SESSION → IfSome (W.left world.old) (λ input. NamesUnopened Run input result.place (W.sent world.old) (W.sent world.new)) }
+    ensures done { result.code ≡ DONE → IfSome (W.left world.old) (λ input. AnswersAll AreTexts input (W.sent world.old) (W.sent world.new)) }
+    ensures within { result.code ≡ DONE → IfSome (W.left world.old) (λ input. length input ≤ 2 ^ 32) }
+    ensures part { result.code ≡ SEND_FAULT → IfSome (W.left world.old) (λ input. AnswersFront AreTexts input (W.sent world.old) (W.sent world.new)) }
+    ensures stopped { result.code ≡ READ_FAULT → IfSome (W.left world.old) (λ input. IfSome (W.left world.new) (λ bytes. AnswersTaken AreTexts input bytes (W.sent world.old) (W.sent world.new))) }
+    ensures memory { result.code ≡ NO_MEMORY → IfSome (W.left world.old) (λ input. AnswersSome AreTexts input (W.sent world.old) (W.sent world.new)) }
+    ensures much { result.code ≡ TOO_MUCH → result.place ≡ 2 ^ 32 }
+    ensures past { result.code ≡ TOO_MUCH → IfSome (W.left world.old) (λ input. AnswersWithin AreTexts input (W.sent world.old) (W.sent world.new)) }
+    ensures disk { DiskKept (W.view world.old) (W.view world.new) }
+{
+    match run_lines(alloc, world) {
+        Ok(()) => ended(DONE, 0),
+        Err(RunEnd::Serve(ServeEnd::NoMemory)) => ended(NO_MEMORY, 0),
+        Err(RunEnd::Serve(ServeEnd::ReadFault)) => ended(READ_FAULT, 0),
+        Err(RunEnd::Serve(ServeEnd::SendFault)) => ended(SEND_FAULT, 0),
+        Err(RunEnd::Serve(ServeEnd::InputTooLong)) => ended(TOO_MUCH, MOST_BYTES),
+        Err(RunEnd::Show(ClientError::NoMemory)) => ended(NO_MEMORY, 0),
+        Err(RunEnd::Show(ClientError::Missing { key })) => ended(MISSING, key.number()),
+        Err(RunEnd::Show(ClientError::BadCoefficient { key })) => {
+            ended(BAD_COEFFICIENT, key.number())
+        }
+        Err(RunEnd::Show(ClientError::UnknownSession { session })) => {
+            ended(UNKNOWN_SESSION, u64::from(session))
+        }
+    }
+}
+
+/// Sends the frames that answer the lines of the input, and says how that ended.
+fn serve_status<W: World>(alloc: Global, world: &mut W) -> Status
     ensures codes { Contains (DONE ∷ NO_MEMORY ∷ READ_FAULT ∷ SEND_FAULT ∷ TOO_MUCH ∷ []) result.code }
     ensures read { result.code ≡ READ_FAULT → HasRisen (W.read_faults world.old) (W.read_faults world.new) }
     ensures send { result.code ≡ SEND_FAULT → HasRisen (W.send_faults world.old) (W.send_faults world.new) }
     ensures place { result.code ≢ TOO_MUCH → result.place ≡ 0 }
-    ensures done { result.code ≡ DONE → IfSome (W.left world.old) (λ input. SendsText input (W.sent world.old) (W.sent world.new)) }
-    ensures part { result.code ≡ SEND_FAULT → IfSome (W.left world.old) (λ input. SendsFrontOf input (W.sent world.old) (W.sent world.new)) }
-    ensures stopped { result.code ≡ READ_FAULT → IfSome (W.left world.old) (λ input. IfSome (W.left world.new) (λ bytes. SendsTaken input bytes (W.sent world.old) (W.sent world.new))) }
-    ensures memory { result.code ≡ NO_MEMORY → IfSome (W.left world.old) (λ input. SendsSome input (W.sent world.old) (W.sent world.new)) }
+    ensures done { result.code ≡ DONE → IfSome (W.left world.old) (λ input. AnswersAll AreSpelled input (W.sent world.old) (W.sent world.new)) }
+    ensures within { result.code ≡ DONE → IfSome (W.left world.old) (λ input. length input ≤ 2 ^ 32) }
+    ensures part { result.code ≡ SEND_FAULT → IfSome (W.left world.old) (λ input. AnswersFront AreSpelled input (W.sent world.old) (W.sent world.new)) }
+    ensures stopped { result.code ≡ READ_FAULT → IfSome (W.left world.old) (λ input. IfSome (W.left world.new) (λ bytes. AnswersTaken AreSpelled input bytes (W.sent world.old) (W.sent world.new))) }
+    ensures memory { result.code ≡ NO_MEMORY → IfSome (W.left world.old) (λ input. AnswersSome AreSpelled input (W.sent world.old) (W.sent world.new)) }
     ensures much { result.code ≡ TOO_MUCH → result.place ≡ 2 ^ 32 }
-    ensures past { result.code ≡ TOO_MUCH → IfSome (W.left world.old) (λ input. SendsWithin input (W.sent world.old) (W.sent world.new)) }
+    ensures past { result.code ≡ TOO_MUCH → IfSome (W.left world.old) (λ input. AnswersWithin AreSpelled input (W.sent world.old) (W.sent world.new)) }
     ensures disk { DiskKept (W.view world.old) (W.view world.new) }
 {
-    match run(alloc, world) {
+    match serve_lines(alloc, world) {
         Ok(()) => ended(DONE, 0),
-        Err(RunEnd::NoMemory) => ended(NO_MEMORY, 0),
-        Err(RunEnd::ReadFault) => ended(READ_FAULT, 0),
-        Err(RunEnd::InputTooLong) => ended(TOO_MUCH, MOST_BYTES),
-        Err(RunEnd::SendFault) => ended(SEND_FAULT, 0),
+        Err(ServeEnd::NoMemory) => ended(NO_MEMORY, 0),
+        Err(ServeEnd::ReadFault) => ended(READ_FAULT, 0),
+        Err(ServeEnd::SendFault) => ended(SEND_FAULT, 0),
+        Err(ServeEnd::InputTooLong) => ended(TOO_MUCH, MOST_BYTES),
+    }
+}
+
+/// Sends the pictures of the input's frames, and says how that ended.
+fn draw_status<W: World>(alloc: Global, world: &mut W) -> Status
+    ensures codes { Contains (DONE ∷ NO_MEMORY ∷ READ_FAULT ∷ SEND_FAULT ∷ BAD_INPUT ∷ TOO_MUCH ∷ MISSING ∷ BAD_COEFFICIENT ∷ UNKNOWN_SESSION ∷ []) result.code }
+    ensures read { result.code ≡ READ_FAULT → HasRisen (W.read_faults world.old) (W.read_faults world.new) }
+    ensures send { result.code ≡ SEND_FAULT → HasRisen (W.send_faults world.old) (W.send_faults world.new) }
+    ensures place { Contains (DONE ∷ NO_MEMORY ∷ READ_FAULT ∷ SEND_FAULT ∷ []) result.code → result.place ≡ 0 }
+    ensures done { result.code ≡ DONE → IfSome (W.left world.old) (λ input. DrawsAll input (W.sent world.old) (W.sent world.new)) }
+    ensures pictures { result.code ≡ DONE → IfSome (W.left world.old) (λ input. DrawsReplies input (W.sent world.old) (W.sent world.new)) }
+    ensures part { result.code ≡ SEND_FAULT → IfSome (W.left world.old) (λ input. StopsAtFrame input (W.sent world.old) (W.sent world.new) draw_end.SendFault) }
+    ensures stopped { result.code ≡ READ_FAULT → IfSome (W.left world.old) (λ input. IfSome (W.left world.new) (λ bytes. DrawsTaken input bytes (W.sent world.old) (W.sent world.new))) }
+    ensures memory { result.code ≡ NO_MEMORY → IfSome (W.left world.old) (λ input. StopsAtFrame input (W.sent world.old) (W.sent world.new) draw_end.NoMemory) }
+    ensures much { result.code ≡ TOO_MUCH → result.place ≡ 2 ^ 32 }
+    ensures past { result.code ≡ TOO_MUCH → IfSome (W.left world.old) (λ input. DrawsWithin input (W.sent world.old) (W.sent world.new)) }
+    ensures bad { result.code ≡ BAD_INPUT → IfSome (W.left world.old) (λ input. IsBadInput Draw input result.place (W.sent world.old) (W.sent world.new)) }
+    ensures missing { result.code ≡ MISSING → IfSome (W.left world.old) (λ input. Lacks Draw input result.place (W.sent world.old) (W.sent world.new)) }
+    ensures misfit { result.code ≡ BAD_COEFFICIENT → IfSome (W.left world.old) (λ input. Misfits Draw input result.place (W.sent world.old) (W.sent world.new)) }
+    ensures unopened { result.code ≡ UNKNOWN_SESSION → IfSome (W.left world.old) (λ input. NamesUnopened Draw input result.place (W.sent world.old) (W.sent world.new)) }
+    ensures good { IfSome (W.left world.old) (λ input. IsFrames input → Contains (DONE ∷ NO_MEMORY ∷ READ_FAULT ∷ SEND_FAULT ∷ []) result.code) }
+    ensures disk { DiskKept (W.view world.old) (W.view world.new) }
+{
+    one_frame_a_spelling();
+    length_is_told();
+    spellings_are_good();
+    more_bytes_mend_nothing();
+    replies_draw_the_book();
+    one_session_draws_the_book();
+    match draw(alloc, world) {
+        Ok(()) => ended(DONE, 0),
+        Err(DrawEnd::NoMemory) => ended(NO_MEMORY, 0),
+        Err(DrawEnd::ReadFault) => ended(READ_FAULT, 0),
+        Err(DrawEnd::SendFault) => ended(SEND_FAULT, 0),
+        Err(DrawEnd::InputTooLong) => ended(TOO_MUCH, MOST_BYTES),
+        Err(DrawEnd::BadFrame { at }) => ended(BAD_INPUT, at),
+        Err(DrawEnd::Missing { key }) => ended(MISSING, key.number()),
+        Err(DrawEnd::BadCoefficient { key }) => ended(BAD_COEFFICIENT, key.number()),
+        Err(DrawEnd::UnknownSession { session }) => ended(UNKNOWN_SESSION, u64::from(session)),
     }
 }
 

@@ -1,7 +1,8 @@
 ghost use Rattle.std.specs.Prelude.{◌≡◌, ◌↔◌, ℕ, IsTrue, map, None, Some, MatchOption, string_bytes, slice_get, IfOk, IfErr, IfSome, IfNone, codes};
 ghost use Rattle.std.specs.Fmt.{decimal};
 ghost use Rattle.chart_grid.specs.Limits.{IsSide};
-ghost use Rattle.chart_program.specs.Words.{Spells, IsWrongAt};
+ghost use Rattle.chart_program.specs.Words.{Spells, IsWrongAt, IsSingle, word_of};
+ghost use Rattle.chart_program.specs.declared.words.Command.{Command};
 
 use whole_number::natural;
 
@@ -10,8 +11,12 @@ use whole_number::natural;
 pub enum Command {
     /// A picture of the input's numbers, `w` columns wide and `h` rows high, each 1 to 4,096.
     Plot { w: u16, h: u16 },
-    /// The replies to the input's lines, over a book that begins empty.
+    /// The texts and pictures that answer the input's lines, over a book that begins empty.
     Run,
+    /// The frames that answer the input's lines, over a book that begins empty.
+    Serve,
+    /// The pictures of the input's frames.
+    Draw,
 }
 
 /// The command that the words spell, or the place of the first wrong word: the number of words, where
@@ -23,13 +28,27 @@ pub fn command_of(words: &[String]) -> Result<Command, u64>
     if is_word(words, 0, "plot") {
         return plot_of(words);
     }
-    if !is_word(words, 0, "run") {
-        return Err(0);
-    }
+    let command = single_word(words)?;
     if words.len() > 1 {
         return Err(1);
     }
-    Ok(Command::Run)
+    Ok(command)
+}
+
+/// The command without operands that the first word is, or its place.
+fn single_word(words: &[String]) -> Result<Command, u64>
+    ensures command { IfOk result (λ command. (slice_get (map string_bytes words.now) 0 ≡ Some (word_of command)) × IsSingle command) }
+    ensures wrong { IfErr result (λ place. (place ≡ 0) × ((command : Command) → IsSingle command → slice_get (map string_bytes words.now) 0 ≡ Some (word_of command) → ⊥)) }
+{
+    if is_word(words, 0, "run") {
+        Ok(Command::Run)
+    } else if is_word(words, 0, "serve") {
+        Ok(Command::Serve)
+    } else if is_word(words, 0, "draw") {
+        Ok(Command::Draw)
+    } else {
+        Err(0)
+    }
 }
 
 /// The plot that the words spell, or the place of the first wrong word.

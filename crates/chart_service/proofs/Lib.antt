@@ -1,1 +1,16 @@
-pub mod Viewed
+pub mod Joined
+pub mod Passing
+pub mod Answering
+pub mod DiskKept
+pub mod Served
+pub mod Told
+pub mod Editing
+pub mod Keeping
+pub mod Lasts
+pub mod Showing
+pub mod Answered
+pub mod Openings
+pub mod Standing
+pub mod OneList
+pub mod OneGrid
+pub mod OneReply

@@ -1,3 +1,7 @@
 pub mod State
-pub mod Replies
 pub mod Viewing
+pub mod Replies
+pub mod Opening
+pub mod Planning
+pub mod Alone
+pub mod Serving

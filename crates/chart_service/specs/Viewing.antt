@@ -1,22 +1,117 @@
--- The grid that a view asks for.
-use Rattle.std.specs.Prelude.{◌⊎◌, Result, Ok, Err}
+-- An answered view: its frame, and the chart that it stands for.
+use Rattle.std.specs.Prelude.{◌≡◌, ◌⊎◌, ℕ, ℤ, pos, ◌^◌, ◌<◌, ◌≤◌, ◌≤ℤ◌, ◌<ℤ◌, unsigned_abs, ⊤, List, length, Option, None, Some}
+use Rattle.series_book.specs.declared.one_series.Series.{Series}
+use Rattle.request_lines.specs.declared.ranges.RangeWord.{RangeWord}
+use Rattle.request_lines.specs.declared.ranges.RangeWord.TheVariants as word
+use Rattle.chart_grid.specs.declared.axis.Axis.{Axis}
 use Rattle.chart_grid.specs.declared.grid.Grid.{Grid}
-use Rattle.chart_grid.specs.declared.grid_error.GridError.{GridError}
-use Rattle.chart_grid.specs.declared.grid_error.GridError.TheVariants.{BadWindow, BadCanvas}
-use Rattle.chart_grid.specs.Limits.{IsWindow, IsSide, IsBadWindow, IsBadSide}
-use Rattle.chart_grid.specs.Projection.{ShowsWindow, HasCanvas}
-use Rattle.chart_service.specs.declared.viewport.Viewport.{Viewport}
+use Rattle.om3_coeff.specs.declared.key.Key.{Key}
+use Rattle.om3_coeff.specs.declared.span.Span.{Span}
+use Rattle.om3_coeff.specs.declared.coef.Coef.{Coef}
+use Rattle.om3_coeff.specs.Spans.{span_over}
+use Rattle.om3_coeff.specs.Coefs.{coef}
+use Rattle.view_keys.specs.Needed.{IsNeeded}
+use Rattle.view_keys.specs.Listed.{IsListOf}
+use Rattle.coefficient_cache.specs.Views.{to_send}
+use Rattle.zoom_session.specs.declared.session.Session.{Session}
+use Rattle.zoom_session.specs.declared.view_spec.ViewSpec.{ViewSpec}
+use Rattle.zoom_session.specs.declared.view_spec.RangeSpec.{RangeSpec}
+use Rattle.zoom_session.specs.declared.view_spec.RangeSpec.TheVariants.{Auto, Fixed}
+use Rattle.zoom_session.specs.Sessions.{session_of, viewed}
+use Rattle.plain_chart.specs.declared.value_range.ValueRange.{ValueRange}
+use Rattle.plain_chart.specs.Samples.{kept, values_of, IsRange, IsValue}
+use Rattle.line_raster.specs.Canvas.{Canvas}
+use Rattle.plain_chart.specs.Chart.{IsChart}
+use Rattle.chart_frames.specs.declared.frame.Frame.{Frame}
+use Rattle.chart_frames.specs.declared.frame.Frame.TheVariants.{View}
+use Rattle.chart_frames.specs.declared.frame.ViewFrame.{ViewFrame}
+use Rattle.chart_service.specs.State.{State}
 
--- a grid shows the window that is asked for on its canvas, both in range
-pub record ShowsViewport (v : Viewport) (g : Grid) : Type 0 where
-  pub in_range : IsWindow v.t0 v.t1
-  pub wide : IsSide v.w
-  pub high : IsSide v.h
-  pub window : ShowsWindow g v.t0 v.t1
-  pub canvas : HasCanvas g v.w v.h
+-- the times of a series' slots
+abbrev pub axis_of : Series → Axis
+axis_of series = record { start = series.start; step = series.step; slots = length series.slots }
 
--- the grid, or why there is none: the window is looked at first
-abbrev pub IsGridFor : Viewport → Result Grid GridError → Type 0
-IsGridFor v (Ok g) = ShowsViewport v g
-IsGridFor v (Err BadWindow) = IsBadWindow v.t0 v.t1
-IsGridFor v (Err BadCanvas) = IsWindow v.t0 v.t1 × (IsBadSide v.w ⊎ IsBadSide v.h)
+-- the ends of a range that is asked for are in order, and at most 10^18 in size
+abbrev pub IsGoodRange : RangeWord → Type 0
+IsGoodRange word.Auto = ⊤
+IsGoodRange (word.Fixed lo hi) = (lo ≤ℤ hi) × IsValue lo × IsValue hi
+
+-- they are out of order, or one passes 10^18 in size
+abbrev pub IsBadRange : RangeWord → Type 0
+IsBadRange word.Auto = ⊥
+IsBadRange (word.Fixed lo hi) = (hi <ℤ lo) ⊎ ((10 ^ 18 < unsigned_abs lo) ⊎ (10 ^ 18 < unsigned_abs hi))
+
+-- the range of a view by the word that asks for it
+abbrev pub range_spec : RangeWord → RangeSpec
+range_spec word.Auto = Auto
+range_spec (word.Fixed lo hi) = Fixed lo hi
+
+-- the range that a view shows: from the least to the greatest of the kept values, or the one that is asked for
+abbrev pub ShowsRange : RangeSpec → List ℤ → ValueRange → Type 0
+ShowsRange Auto values range = IsRange values range
+ShowsRange (Fixed lo hi) values range = (range.lo ≡ lo) × (range.hi ≡ hi)
+
+-- the span of all slots of a series
+abbrev pub root_of : Series → Option Span
+root_of series = span_over series.slots 0 (length series.slots)
+
+-- 1 where the series has a stored value, and its least and greatest one; 0 where it has none
+abbrev pub has_of : Option Span → ℕ
+has_of None = 0
+has_of (Some s) = 1
+
+abbrev pub least_of : Option Span → ℤ
+least_of None = pos 0
+least_of (Some s) = s.min
+
+abbrev pub greatest_of : Option Span → ℤ
+greatest_of None = pos 0
+greatest_of (Some s) = s.max
+
+-- the fields of a view's frame: session, view, range, what is told of the series, and the coefficients sent
+abbrev pub view_frame : ℕ → ViewSpec → ValueRange → Series → List (Key × Coef) → ViewFrame
+view_frame number spec range series send = record {
+  session = number;
+  series = spec.series;
+  w = spec.grid.w;
+  h = spec.grid.h;
+  t0 = spec.grid.t0;
+  t1 = spec.grid.t1;
+  lo = range.lo;
+  hi = range.hi;
+  start = series.start;
+  step = series.step;
+  slots = length series.slots;
+  has = has_of (root_of series);
+  rmin = least_of (root_of series);
+  rmax = greatest_of (root_of series);
+  count = length send;
+  coefs = send;
+}
+
+-- the keys that a view of a series needs, with their present coefficients, in order
+abbrev pub AreNeeded : Series → Grid → List (Key × Coef) → Type 0
+AreNeeded series grid needed =
+    IsListOf (IsNeeded series.slots (axis_of series) grid) (λ k. Some (coef series.slots k)) needed
+
+-- The view is answered: of the keys that it needs those are sent which the session's client lacks or
+-- holds with an old coefficient, and the session keeps the view and the client's list.
+pub record Answers (series : Series) (spec : ViewSpec) (number : ℕ) (answer : Frame) (old new : State) : Type 0 where
+  pub session : Session
+  pub open_is : session_of number old.sessions ≡ Some session
+  pub needed : List (Key × Coef)
+  pub are_needed : AreNeeded series spec.grid needed
+  pub room : length needed ≤ session.cache.capacity
+  pub range : ValueRange
+  pub shown : ShowsRange spec.range (values_of (kept spec.grid (axis_of series) series.slots)) range
+  pub frame_is : answer ≡ View (view_frame number spec range series (to_send session.cache.pairs spec.series needed))
+  pub state : new ≡ record old { sessions = viewed number spec needed old.sessions }
+
+-- the drawing is the chart of a series for a view's frame
+pub record ShowsView (series : Series) (view : ViewFrame) (drawing : Canvas) : Type 0 where
+  pub grid : Grid
+  pub from : grid.t0 ≡ view.t0
+  pub to : grid.t1 ≡ view.t1
+  pub columns : grid.w ≡ view.w
+  pub rows : grid.h ≡ view.h
+  pub chart : IsChart grid (record { lo = view.lo; hi = view.hi }) (kept grid (axis_of series) series.slots) drawing

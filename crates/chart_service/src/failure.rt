@@ -1,10 +1,28 @@
+use chart_world::LineFault;
 use std::alloc::{AllocError, AllocFailed};
 use thiserror::Error;
 
-/// No memory was left for a request. The state is as it was before it.
+/// No memory was left for a request. The book is as it was before it.
 #[derive(Clone, Copy, Debug, PartialEq, Eq, Error)]
 #[error("no memory for the request")]
 pub struct NoMemory;
+
+/// Why `serve` didn't answer all lines of its input. What the lines before did stays.
+#[derive(Clone, Copy, Debug, PartialEq, Eq, Error)]
+pub enum ServeEnd {
+    /// A take failed. Each line that ended before was answered.
+    #[error("the input could not be read")]
+    ReadFault,
+    /// A send failed. The first bytes of the frames were sent.
+    #[error("the frame could not be sent")]
+    SendFault,
+    /// A byte past 2^32 was taken. Each line that ended before it was answered.
+    #[error("the input has more than 2^32 bytes")]
+    InputTooLong,
+    /// There was no memory. The lines before were answered.
+    #[error("out of memory")]
+    NoMemory,
+}
 
 impl From<AllocError> for NoMemory {
     fn from(_error: AllocError) -> NoMemory {
@@ -18,8 +36,55 @@ impl<T: Drop> From<AllocFailed<T>> for NoMemory {
     }
 }
 
-impl From<row_chart::NoMemory> for NoMemory {
-    fn from(_error: row_chart::NoMemory) -> NoMemory {
+impl From<zoom_session::NoMemory> for NoMemory {
+    fn from(_error: zoom_session::NoMemory) -> NoMemory {
         NoMemory
+    }
+}
+
+impl From<LineFault> for ServeEnd {
+    ghost use Rattle.std.specs.Prelude.{◌≡◌};
+    ghost use Rattle.chart_service.specs.Serving.{end_of};
+
+    ghost from_gives = { λ fault end. end ≡ end_of fault };
+
+    fn from(fault: LineFault) -> ServeEnd {
+        match fault {
+            LineFault::ReadFault => ServeEnd::ReadFault,
+            LineFault::InputTooLong => ServeEnd::InputTooLong,
+        }
+    }
+}
+
+impl From<chart_world::NoMemory> for ServeEnd {
+    ghost use Rattle.std.specs.Prelude.{◌≡◌};
+    ghost use Rattle.chart_service.specs.declared.failure.ServeEnd.TheVariants.{NoMemory};
+
+    ghost from_gives = { λ _ end. end ≡ NoMemory };
+
+    fn from(_error: chart_world::NoMemory) -> ServeEnd {
+        ServeEnd::NoMemory
+    }
+}
+
+impl From<chart_frames::NoMemory> for ServeEnd {
+    ghost use Rattle.std.specs.Prelude.{◌≡◌};
+    ghost use Rattle.chart_service.specs.declared.failure.ServeEnd.TheVariants.{NoMemory};
+
+    ghost from_gives = { λ _ end. end ≡ NoMemory };
+
+    fn from(_error: chart_frames::NoMemory) -> ServeEnd {
+        ServeEnd::NoMemory
+    }
+}
+
+impl From<NoMemory> for ServeEnd {
+    ghost use Rattle.std.specs.Prelude.{◌≡◌};
+    ghost use Rattle.chart_service.specs.declared.failure.ServeEnd.TheVariants.{NoMemory};
+
+    ghost from_gives = { λ _ end. end ≡ NoMemory };
+
+    fn from(_error: NoMemory) -> ServeEnd {
+        ServeEnd::NoMemory
     }
 }

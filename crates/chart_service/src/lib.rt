@@ -1,27 +1,30 @@
-//! Requests and their replies, over a book that is held as plain lists.
+//! Request lines and the frames that answer them, over a book that is held as plain lists.
 //!
 //! - A service holds a book, the number of pages that the book may take, and the sessions that are
-//!   open, in the order of their opening: at most 16, each with a cache of 1 to 131,072.
+//!   open, each with the coefficients that its client keeps and the view that it was answered last.
 //! - It answers one request at a time. A refused request is answered by the first refusal that
 //!   stands, in the order of the refusals' numbers, and changes nothing.
-//! - A view draws the samples of one series that its window keeps, each joined to the next, over the
-//!   range from the least to the greatest of their values, or over one that is asked for.
+//! - A view, a zoom and a pan are answered by what the session's client lacks: of the coefficients
+//!   that the view needs, those which the client doesn't keep, or keeps with an old value.
 //!
-//! After want of memory the state is as it was. How lines are cut from the input, how replies are
-//! written, and what is to be done where a line is too long, is left to the layer above.
+//! `serve` answers the lines of a stream, one frame a line. Where memory is wanting the book is as it
+//! was, and the session that the request names may be closed. Drawing is the client's.
 #![tactic(auto)]
 
 mod failure;
+pub mod laws;
 mod ranges;
-mod replies;
+mod refusals;
 mod service;
-mod sessions;
+mod serving;
+#[cfg(test)]
+mod serving_tests;
+mod shown;
 #[cfg(test)]
 mod tests;
 mod viewport;
-mod views;
 
-pub use failure::NoMemory;
-pub use replies::Reply;
+pub use failure::{NoMemory, ServeEnd};
+pub use refusals::refused;
 pub use service::Service;
-pub use sessions::Session;
+pub use serving::serve;

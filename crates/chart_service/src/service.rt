@@ -1,33 +1,51 @@
-ghost use Rattle.std.specs.Prelude.{◌≡◌, ◌≤◌, [], length, IfOk, OnErr};
-ghost use Rattle.series_book.specs.Edits.{IsEdit, apply};
+ghost use Rattle.std.specs.Prelude.{◌≡◌, ◌≤◌, ◌<◌, ◌^◌, ◌+ℤ◌, [], length, slice_get, ℤ, Some, IfOk, IfErr, IfSome, OnErr, OnOk, IsTrue, IsSomeAnd};
+ghost use Rattle.series_book.specs.Edits.{IsEdit, apply, id_of};
+ghost use Rattle.series_book.specs.Books.{IsSeries};
 ghost use Rattle.request_lines.specs.Requests.{IsInRange, read_line};
-ghost use Rattle.chart_service.specs.State.{is_open};
-ghost use Rattle.chart_service.specs.Replies.{Edits, Opens, Views, Replies, RepliesTo, open_refusal, cache_of};
+ghost use Rattle.chart_frames.specs.Frames.{Fits};
+ghost use Rattle.zoom_session.specs.Views.{IsRangeSpec};
+ghost use Rattle.zoom_session.specs.Sessions.{is_open, session_of, open_refusal};
+ghost use Rattle.chart_service.specs.State.{IsViewOf, IsSound};
+ghost use Rattle.chart_service.specs.Viewing.{axis_of};
+ghost use Rattle.chart_service.specs.Planning.{IsSpecFor, IsLastOf, IsMoved, PlansOrStops, IsGridFor};
+ghost use Rattle.chart_service.specs.Opening.{OpensBy, LosesAtMost};
+ghost use Rattle.chart_service.specs.Alone.{session_in, session_named};
+ghost use Rattle.chart_service.specs.Serving.{KeepsBook};
+ghost use Rattle.chart_service.specs.Replies.{Edits, Opens, Closes, AnswersView, RepliesToView, Moves, MovesIn, Replies, RepliesToLine, line_text, cache_of};
 
 use crate::failure::NoMemory;
-use crate::replies::Reply;
-use crate::sessions::{DEFAULT_CACHE, MOST_SESSIONS, Session, is_open, open_refusal};
+use crate::ranges::{is_bad_range, range_spec};
+use crate::refusals::refused;
+use crate::shown::{Planned, plan, view_frame};
 use crate::viewport::Viewport;
-use crate::views::view_series;
+use chart_frames::Frame;
+use chart_grid::{Axis, Grid, GridError};
+use om3_coeff::ListNodes;
 use request_lines::{LineError, RangeWord, Request, parse_line};
-use series_book::{BookError, Edit, ListBook, Name, Refusal};
+use series_book::{Book, BookError, Edit, ListBook, Name, Refusal, Series};
 use std::alloc::Global;
 use std::marker::Model;
+use zoom_session::{DEFAULT_CACHE, PlanError, SessionError, Sessions, ViewSpec};
+
+/// The most bytes of a line.
+const LONGEST_LINE: usize = 8_192;
 
 /// A book and the sessions that are open. It answers requests one by one.
 #[derive(Drop)]
 pub struct Service {
-    alloc: Global,
+    pub(crate) alloc: Global,
     book: ListBook,
-    sessions: Vec<Session>,
+    sessions: Sessions,
 }
 
 impl Model for Service {
-    ghost use Rattle.chart_service.specs.State.{State};
+    ghost use Rattle.chart_service.specs.State.{State, AreViewsOf};
 
     ghost Value = { State };
 
-    ghost view = { λ s. record { book = s.book.book; total = s.book.total; sessions = s.sessions.items } };
+    ghost view = { λ s. record { book = s.book.book; total = s.book.total; sessions = s.sessions } };
+
+    ghost invariant = { λ s. AreViewsOf s.book.book s.sessions };
 }
 
 impl Service {
@@ -35,7 +53,7 @@ impl Service {
     pub fn new(alloc: Global, book: ListBook) -> Result<Service, NoMemory>
         ensures { IfOk result (λ service. service ≡ record { book = book.book; total = book.total; sessions = [] }) }
     {
-        let sessions = Vec::with_capacity(alloc, MOST_SESSIONS)?;
+        let sessions = Sessions::new(alloc)?;
         Ok(Service {
             alloc,
             book,
@@ -43,11 +61,38 @@ impl Service {
         })
     }
 
-    /// Answers a request. `NoMemory` comes for want of memory alone, and the state is then as it was.
-    pub fn step(&mut self, request: &Request) -> Result<Reply, NoMemory>
+    /// What holds of each service between calls. It does nothing.
+    pub fn is_sound(&self)
+        ensures { IsSound self.now }
+    {
+        let _book = self.book.book().as_slice();
+        let _sessions = self.sessions.is_open(1);
+    }
+
+    /// Answers a request. `NoMemory` comes for want of memory alone; the book is then as it was, and
+    /// the session that the request names may be closed.
+    pub fn step(&mut self, request: &Request) -> Result<Frame, NoMemory>
         requires { IsInRange request.now }
-        ensures reply { IfOk result (λ reply. Replies request.now reply self.old self.new) }
-        ensures err { OnErr result (self.new ≡ self.old) }
+        ensures reply { IfOk result (λ frame. Replies request.now frame self.old self.new) }
+        ensures fits { IfOk result Fits }
+        ensures opens { IfOk result (λ frame. OpensBy frame self.old.sessions self.new.sessions) }
+        ensures kept { OnErr result (KeepsBook self.old self.new) }
+        ensures sessions { OnErr result (LosesAtMost (session_in request.now) self.old.sessions self.new.sessions) }
+        ensures sound { IsSound self.new }
+    {
+        let reply = self.reply_to(request);
+        self.is_sound();
+        reply
+    }
+
+    /// Answers a request.
+    fn reply_to(&mut self, request: &Request) -> Result<Frame, NoMemory>
+        requires { IsInRange request.now }
+        ensures reply { IfOk result (λ frame. Replies request.now frame self.old self.new) }
+        ensures fits { IfOk result Fits }
+        ensures opens { IfOk result (λ frame. OpensBy frame self.old.sessions self.new.sessions) }
+        ensures kept { OnErr result (KeepsBook self.old self.new) }
+        ensures sessions { OnErr result (LosesAtMost (session_in request.now) self.old.sessions self.new.sessions) }
     {
         match request {
             Request::Edit(edit) => self.edit(edit),
@@ -60,83 +105,239 @@ impl Service {
                 t0,
                 t1,
                 range,
-            } => self.view(
-                *session,
-                name,
-                Viewport {
+            } => {
+                let viewport = Viewport {
                     w: *w,
                     h: *h,
                     t0: *t0,
                     t1: *t1,
-                },
-                *range,
-            ),
+                };
+                self.view(*session, name, viewport, *range)
+            }
+            Request::Zoom { session, t0, t1 } => self.zoom(*session, *t0, *t1),
+            Request::Pan { session, by } => self.pan(*session, *by),
+            Request::Close { session } => Ok(self.close(*session)),
         }
     }
 
-    /// Answers the request that a line spells, or refuses the line where it spells none. `NoMemory`
-    /// comes for want of memory alone, and the state is then as it was.
-    pub fn step_line(&mut self, line: &[u8]) -> Result<Reply, NoMemory>
-        requires { length line.now ≤ 8192 }
-        ensures reply { IfOk result (λ reply. RepliesTo (read_line line.now) reply self.old self.new) }
-        ensures err { OnErr result (self.new ≡ self.old) }
+    /// Answers a line. A line of more than 8,192 bytes is refused as too long, and one that spells no
+    /// request as bad at the offset of its fault.
+    pub fn step_line(&mut self, line: &[u8]) -> Result<Frame, NoMemory>
+        ensures reply { IfOk result (λ frame. RepliesToLine (line_text line.now) frame self.old self.new) }
+        ensures fits { IfOk result Fits }
+        ensures opens { IfOk result (λ frame. OpensBy frame self.old.sessions self.new.sessions) }
+        ensures kept { OnErr result (KeepsBook self.old self.new) }
+        ensures sessions { OnErr result (LosesAtMost (session_named (line_text line.now)) self.old.sessions self.new.sessions) }
+        ensures sound { IsSound self.new }
     {
+        self.is_sound();
+        if line.len() > LONGEST_LINE {
+            return Ok(refused(Refusal::LineTooLong));
+        }
         match parse_line(self.alloc, line) {
             Ok(request) => self.step(&request),
-            Err(LineError::BadLine { at }) => Ok(Reply::Refused(Refusal::BadLine { at })),
+            Err(LineError::BadLine { at }) => Ok(refused(Refusal::BadLine { at })),
             Err(LineError::NoMemory) => Err(NoMemory),
         }
     }
 
     /// Does an edit.
-    fn edit(&mut self, edit: &Edit) -> Result<Reply, NoMemory>
+    #[tactic(auto, using(crate::proofs::Keeping::views_edited, crate::proofs::Editing::edit_fits, crate::proofs::Openings::opens_done))]
+    fn edit(&mut self, edit: &Edit) -> Result<Frame, NoMemory>
         requires { IsEdit edit.now }
-        ensures reply { IfOk result (λ reply. Edits (apply self.old.book self.old.total edit.now) reply self.old self.new) }
-        ensures err { OnErr result (self.new ≡ self.old) }
+        ensures reply { IfOk result (λ frame. Edits (apply self.old.book self.old.total edit.now) frame self.old self.new) }
+        ensures fits { IfOk result Fits }
+        ensures opens { IfOk result (λ frame. OpensBy frame self.old.sessions self.new.sessions) }
+        ensures kept { OnErr result (self.new ≡ self.old) }
     {
-        match self.book.apply(edit) {
-            Ok(outcome) => Ok(Reply::Done {
-                slots: outcome.slots,
-            }),
-            Err(BookError::Refused(refusal)) => Ok(Reply::Refused(refusal)),
-            Err(BookError::NoMemory) => Err(NoMemory),
-        }
-    }
-
-    /// Opens a session.
-    fn open(&mut self, number: u32, cache: u64) -> Result<Reply, NoMemory>
-        ensures reply { IfOk result (λ reply. Opens (open_refusal self.old.sessions number cache) number cache reply self.old self.new) }
-        ensures err { OnErr result (self.new ≡ self.old) }
-    {
-        if let Some(refusal) = open_refusal(&self.sessions, number, cache) {
-            return Ok(Reply::Refused(refusal));
-        }
-        let cache = cache as u32;
-        self.sessions.push(Session { number, cache })?;
-        Ok(Reply::Opened {
-            session: number,
-            cache,
+        let outcome = match self.book.apply(edit) {
+            Ok(outcome) => outcome,
+            Err(BookError::Refused(refusal)) => return Ok(refused(refusal)),
+            Err(BookError::NoMemory) => return Err(NoMemory),
+        };
+        // It brings in what holds of each book.
+        let _series = self.book.book().as_slice();
+        Ok(Frame::Done {
+            slots: outcome.slots,
         })
     }
 
-    /// Answers a view.
+    /// Opens a session.
+    fn open(&mut self, number: u32, cache: u64) -> Result<Frame, NoMemory>
+        requires { 1 ≤ number }
+        ensures reply { IfOk result (λ frame. Opens (open_refusal self.old.sessions number cache) number cache frame self.old self.new) }
+        ensures fits { IfOk result Fits }
+        ensures opens { IfOk result (λ frame. OpensBy frame self.old.sessions self.new.sessions) }
+        ensures kept { OnErr result (self.new ≡ self.old) }
+    {
+        match self.sessions.open(number, cache) {
+            Ok(()) => Ok(Frame::Opened {
+                session: number,
+                cache: cache as u32,
+            }),
+            Err(SessionError::Refused(refusal)) => Ok(refused(refusal)),
+            Err(SessionError::NoMemory) => Err(NoMemory),
+        }
+    }
+
+    /// Closes a session.
+    #[tactic(auto, using(crate::proofs::Keeping::views_closed, crate::proofs::Openings::opens_closed))]
+    fn close(&mut self, number: u32) -> Frame
+        requires { 1 ≤ number }
+        ensures reply { Closes (is_open number self.old.sessions) number result self.old self.new }
+        ensures fits { Fits result }
+        ensures opens { OpensBy result self.old.sessions self.new.sessions }
+    {
+        // It brings in what holds of the open sessions.
+        let _open = self.sessions.is_open(number);
+        if let Err(refusal) = self.sessions.close(number) {
+            return refused(refusal);
+        }
+        Frame::Closed { session: number }
+    }
+
+    /// Answers a view of the series of a name.
     fn view(
-        &self,
-        session: u32,
+        &mut self,
+        number: u32,
         name: &Name,
         viewport: Viewport,
         word: RangeWord,
-    ) -> Result<Reply, NoMemory>
-        ensures { IfOk result (λ reply. Views (is_open session self.now.sessions) session name.now viewport.w viewport.h viewport.t0 viewport.t1 word reply self.now self.now) }
+    ) -> Result<Frame, NoMemory>
+        requires { 1 ≤ number }
+        ensures reply { IfOk result (λ frame. RepliesToView (is_open number self.old.sessions) number name.now viewport.w viewport.h viewport.t0 viewport.t1 word frame self.old self.new) }
+        ensures fits { IfOk result Fits }
+        ensures opens { IfOk result (λ frame. OpensBy frame self.old.sessions self.new.sessions) }
+        ensures kept { OnErr result (KeepsBook self.old self.new) }
+        ensures sessions { OnErr result (LosesAtMost (Some number) self.old.sessions self.new.sessions) }
     {
-        if !is_open(&self.sessions, session) {
-            return Ok(Reply::Refused(Refusal::UnknownSession));
+        if !self.sessions.is_open(number) {
+            return Ok(refused(Refusal::UnknownSession));
         }
-        let book = self.book.book();
-        let Some(id) = book.find(name) else {
-            return Ok(Reply::Refused(Refusal::UnknownSeries));
+        let Some(series) = id_of(self.book.book(), name) else {
+            return Ok(refused(Refusal::UnknownSeries));
         };
-        view_series(self.alloc, book.series(id), session, viewport, word)
+        match spec_of(series, viewport, word) {
+            Ok(spec) => self.answer(number, spec),
+            Err(refusal) => Ok(refused(refusal)),
+        }
+    }
+
+    /// Answers a session's last view over another window.
+    #[tactic(auto, using(crate::proofs::Answered::move_refused))]
+    fn zoom(&mut self, number: u32, t0: i128, t1: i128) -> Result<Frame, NoMemory>
+        requires { 1 ≤ number }
+        ensures reply { IfOk result (λ frame. MovesIn (session_of number self.old.sessions) number (λ last. (t0, t1)) frame self.old self.new) }
+        ensures fits { IfOk result Fits }
+        ensures opens { IfOk result (λ frame. OpensBy frame self.old.sessions self.new.sessions) }
+        ensures kept { OnErr result (KeepsBook self.old self.new) }
+        ensures sessions { OnErr result (LosesAtMost (Some number) self.old.sessions self.new.sessions) }
+    {
+        match self.last_view(number) {
+            Err(refusal) => Ok(refused(refusal)),
+            Ok(last) => self.answer_over(number, last, zoomed(last.grid, t0, t1)),
+        }
+    }
+
+    /// Answers a session's last view, its window moved by this much.
+    #[tactic(auto, using(crate::proofs::Answered::move_refused))]
+    fn pan(&mut self, number: u32, by: i128) -> Result<Frame, NoMemory>
+        requires { 1 ≤ number }
+        ensures reply { IfOk result (λ frame. MovesIn (session_of number self.old.sessions) number (λ last. (last.grid.t0 +ℤ by, last.grid.t1 +ℤ by)) frame self.old self.new) }
+        ensures fits { IfOk result Fits }
+        ensures opens { IfOk result (λ frame. OpensBy frame self.old.sessions self.new.sessions) }
+        ensures kept { OnErr result (KeepsBook self.old self.new) }
+        ensures sessions { OnErr result (LosesAtMost (Some number) self.old.sessions self.new.sessions) }
+    {
+        match self.last_view(number) {
+            Err(refusal) => Ok(refused(refusal)),
+            Ok(last) => self.answer_over(number, last, panned(last.grid, by)),
+        }
+    }
+
+    /// Answers a session's last view over another window, unless there is no grid for that.
+    fn answer_over(
+        &mut self,
+        number: u32,
+        last: ViewSpec,
+        grid: Result<Grid, GridError>,
+    ) -> Result<Frame, NoMemory>
+        requires number { 1 ≤ number }
+        requires opened { IsTrue (is_open number self.old.sessions) }
+        requires view { IsViewOf self.old.book last }
+        ensures reply { (t0 t1 : ℤ) → IsMoved last.grid t0 t1 grid → IfOk result (λ frame. Moves last number t0 t1 frame self.old self.new) }
+        ensures fits { IfOk result Fits }
+        ensures opens { IfOk result (λ frame. OpensBy frame self.old.sessions self.new.sessions) }
+        ensures kept { OnErr result (KeepsBook self.old self.new) }
+        ensures sessions { OnErr result (LosesAtMost (Some number) self.old.sessions self.new.sessions) }
+    {
+        match grid {
+            Ok(grid) => self.answer(
+                number,
+                ViewSpec {
+                    series: last.series,
+                    grid,
+                    range: last.range,
+                },
+            ),
+            Err(_) => Ok(refused(Refusal::BadWindow)),
+        }
+    }
+
+    /// The view that a session was answered last, or why there is none.
+    #[tactic(auto, using(crate::proofs::Lasts::none_of, crate::proofs::Lasts::no_last, crate::proofs::Lasts::last_so, crate::proofs::Lasts::view_so))]
+    fn last_view(&self, number: u32) -> Result<ViewSpec, Refusal>
+        ensures last { IsLastOf (session_of number self.now.sessions) result }
+        ensures view { IfOk result (IsViewOf self.now.book) }
+        ensures answer { OnOk result (IsTrue (is_open number self.now.sessions)) }
+    {
+        if !self.sessions.is_open(number) {
+            return Err(Refusal::UnknownSession);
+        }
+        match self.sessions.last_view(number).copied() {
+            Some(last) => Ok(last),
+            None => Err(Refusal::NoView),
+        }
+    }
+
+    /// Answers a view of a series of the book in an open session.
+    #[tactic(auto, using(crate::proofs::Keeping::views_closed, crate::proofs::Keeping::views_viewed, crate::proofs::Openings::opens_viewed, crate::proofs::Answered::answered_fits, crate::proofs::Answered::answered_view, crate::proofs::Answered::refused_too_large))]
+    fn answer(&mut self, number: u32, spec: ViewSpec) -> Result<Frame, NoMemory>
+        requires number { 1 ≤ number }
+        requires opened { IsTrue (is_open number self.old.sessions) }
+        requires view { IsViewOf self.old.book spec }
+        ensures reply { IfOk result (λ frame. IsSomeAnd (slice_get self.old.book spec.series) (λ series. AnswersView series spec number frame self.old self.new)) }
+        ensures fits { IfOk result Fits }
+        ensures opens { IfOk result (λ frame. OpensBy frame self.old.sessions self.new.sessions) }
+        ensures kept { OnErr result (KeepsBook self.old self.new) }
+        ensures sessions { OnErr result (LosesAtMost (Some number) self.old.sessions self.new.sessions) }
+    {
+        let planned = match self.plan(number, &spec) {
+            Ok(planned) => planned,
+            Err(PlanError::TooLarge { needed, cache }) => {
+                return Ok(refused(Refusal::ViewTooLarge { needed, cache }));
+            }
+            Err(PlanError::Node(_)) => unreachable!(),
+            Err(PlanError::NoMemory) => return Err(NoMemory),
+        };
+        if self.sessions.apply(number, spec, &planned.plan).is_err() {
+            return Err(NoMemory);
+        }
+        Ok(Frame::View(view_frame(number, &spec, planned)))
+    }
+
+    /// What a view of a series of the book takes and tells.
+    fn plan(&self, number: u32, spec: &ViewSpec) -> Result<Planned, PlanError>
+        requires opened { IsTrue (is_open number self.now.sessions) }
+        requires view { IsViewOf self.now.book spec.now }
+        ensures planned { IsSomeAnd (slice_get self.now.book spec.now.series) (λ series. PlansOrStops series spec.now (session_of number self.now.sessions) result) }
+        ensures series { IsSomeAnd (slice_get self.now.book spec.now.series) IsSeries }
+        ensures few { spec.now.series < 512 }
+    {
+        let series = self.book.book().series(usize::from(spec.series));
+        let axis = axis_of(series);
+        let mut nodes = ListNodes::new(series.slots.as_slice());
+        plan(&self.sessions, number, spec, axis, &mut nodes)
     }
 }
 
@@ -144,8 +345,67 @@ impl Service {
 fn cache_of(cache: Option<u64>) -> u64
     ensures { result ≡ cache_of cache }
 {
-    match cache {
-        None => DEFAULT_CACHE,
-        Some(cache) => cache,
+    cache.unwrap_or(DEFAULT_CACHE)
+}
+
+/// The id of the series of a name.
+fn id_of(book: &Book, name: &Name) -> Option<u16>
+    ensures id { result ≡ id_of name.now book.now }
+    ensures there { IfSome result (λ id. id < length book.now) }
+{
+    let _book = book.as_slice();
+    let id = book.find(name)?;
+    Some(id as u16)
+}
+
+/// The grid of the same canvas over another window.
+fn zoomed(grid: Grid, t0: i128, t1: i128) -> Result<Grid, GridError>
+    ensures { IsMoved grid t0 t1 result }
+{
+    grid.zoom(t0, t1)
+}
+
+/// The grid of the same canvas, its window moved by this much.
+fn panned(grid: Grid, by: i128) -> Result<Grid, GridError>
+    ensures { IsMoved grid (grid.t0 +ℤ by) (grid.t1 +ℤ by) result }
+{
+    grid.pan(by)
+}
+
+/// The view of a series that is asked for, or the first refusal that stands against it.
+fn spec_of(series: u16, viewport: Viewport, word: RangeWord) -> Result<ViewSpec, Refusal>
+    ensures spec { IsSpecFor series viewport word result }
+    ensures range { IfOk result (λ spec. IsRangeSpec spec.range) }
+{
+    let grid = match grid_of(viewport) {
+        Ok(grid) => grid,
+        Err(GridError::BadWindow) => return Err(Refusal::BadWindow),
+        Err(GridError::BadCanvas) => return Err(Refusal::BadCanvas),
+    };
+    if is_bad_range(word) {
+        return Err(Refusal::BadRange);
+    }
+    Ok(ViewSpec {
+        series,
+        grid,
+        range: range_spec(word),
+    })
+}
+
+/// The grid that a view asks for.
+fn grid_of(viewport: Viewport) -> Result<Grid, GridError>
+    ensures { IsGridFor viewport result }
+{
+    Grid::new(viewport.t0, viewport.t1, viewport.w, viewport.h)
+}
+
+/// The times of a series' slots.
+fn axis_of(series: &Series) -> Axis
+    ensures { result ≡ axis_of series.now }
+{
+    Axis {
+        start: series.start,
+        step: series.step,
+        slots: series.slots.as_slice().len() as u64,
     }
 }

@@ -1,24 +1,26 @@
-//! Request lines and their replies.
+//! Request lines and the frames that answer them.
 ghost use Rattle.std.specs.Prelude.{◌≤◌};
 ghost use Rattle.series_book.specs.declared.limits.TheConstants.{FIXED_PAGES};
 
 use super::*;
-use line_raster::Bitmap;
+use chart_frames::{Frame, ViewFrame};
+use om3_coeff::{Coef, Key};
 use series_book::ListBook;
 use std::alloc::Global;
 use std::test::Fail;
 
-/// What a line is answered, without its picture.
+/// What a line is answered: of a view how many coefficients are sent, and its range of values.
 #[derive(Clone, Copy, Debug, PartialEq, Eq)]
 enum Answer {
     Done(u64),
     Refused(u8, u64, u64),
     Opened(u32, u32),
-    Viewed(u32),
+    Closed(u32),
+    Viewed(u32, i64, i64),
     Nothing,
 }
 
-use Answer::{Done, Opened, Refused, Viewed};
+use Answer::{Closed, Done, Opened, Refused, Viewed};
 
 fn service(alloc: Global, pages: u64) -> Result<Service, Fail>
     requires { FIXED_PAGES ≤ pages }
@@ -27,25 +29,30 @@ fn service(alloc: Global, pages: u64) -> Result<Service, Fail>
     Ok(Service::new(alloc, book)?)
 }
 
-fn answer_to(service: &mut Service, line: &str) -> Answer {
-    match reply(service, line) {
-        Some(Reply::Done { slots }) => Answer::Done(slots),
-        Some(Reply::Refused(refusal)) => {
-            let pair = refusal.pair();
-            Answer::Refused(refusal.number(), pair.0, pair.1)
-        }
-        Some(Reply::Opened { session, cache }) => Answer::Opened(session, cache),
-        Some(Reply::Viewed { session, .. }) => Answer::Viewed(session),
-        None => Answer::Nothing,
+fn answer_of(frame: &Frame) -> Answer {
+    match frame {
+        Frame::Done { slots } => Answer::Done(*slots),
+        Frame::Refused { number, a, b } => Answer::Refused(*number, *a, *b),
+        Frame::Opened { session, cache } => Answer::Opened(*session, *cache),
+        Frame::Closed { session } => Answer::Closed(*session),
+        Frame::View(view) => Answer::Viewed(view.count, view.lo, view.hi),
+        Frame::Rows(_) => Answer::Nothing,
     }
 }
 
-fn reply(service: &mut Service, line: &str) -> Option<Reply> {
-    let line = line.as_bytes();
-    if line.len() > 8192 {
-        return None;
+fn answer_to(service: &mut Service, line: &str) -> Answer {
+    match service.step_line(line.as_bytes()) {
+        Ok(frame) => answer_of(&frame),
+        Err(_) => Answer::Nothing,
     }
-    service.step_line(line).ok()
+}
+
+/// The frame of an answered view.
+fn view_of(service: &mut Service, line: &str) -> Result<ViewFrame, NoMemory> {
+    match service.step_line(line.as_bytes())? {
+        Frame::View(view) => Ok(view),
+        _ => Err(NoMemory),
+    }
 }
 
 /// Each line after a series `a` of step 10 and the session 1.
@@ -54,10 +61,13 @@ fn replies_to_lines(rt: HostRuntime) -> Result<(), Fail> {
     for (line, want) in [
         ("frob", Refused(2, 0, 0)),
         ("create c 0 0 0", Refused(2, 11, 0)),
-        ("close 9", Refused(2, 0, 0)),
+        ("close 9", Refused(4, 0, 0)),
+        ("zoom 9 0 1", Refused(4, 0, 0)),
+        ("pan 9 1", Refused(4, 0, 0)),
+        ("close 1", Closed(1)),
         ("view 1 a 4 4 0 5 3.2", Refused(2, 17, 0)),
         ("view 1 a 4 4 0 5 3..2", Refused(19, 0, 0)),
-        ("view 1 a 4 4 0 5 2..2", Viewed(1)),
+        ("view 1 a 4 4 0 5 2..2", Viewed(0, 2, 2)),
         (
             "view 1 a 4 4 0 5 -1000000000000000001..0",
             Refused(19, 0, 0),
@@ -65,7 +75,7 @@ fn replies_to_lines(rt: HostRuntime) -> Result<(), Fail> {
         ("view 1 a 4 4 0 5 0..1000000000000000001", Refused(19, 0, 0)),
         (
             "view 1 a 4 4 0 5 -1000000000000000000..1000000000000000000",
-            Viewed(1),
+            Viewed(0, -1_000_000_000_000_000_000, 1_000_000_000_000_000_000),
         ),
         ("view 1 a 0 4 0 5 3..2", Refused(18, 0, 0)),
         ("view 2 a 4 4 0 5 auto", Refused(4, 0, 0)),
@@ -85,6 +95,8 @@ fn replies_to_lines(rt: HostRuntime) -> Result<(), Fail> {
         ("set a 0 1000000000000000001", Refused(13, 0, 0)),
         ("clear a 0 4097", Refused(14, 0, 0)),
         ("set a 2684354560 1", Refused(15, 0, 0)),
+        ("pan 1 5", Refused(16, 0, 0)),
+        ("zoom 1 5 5", Refused(16, 0, 0)),
         ("view 1 a 4 4 5 5 auto", Refused(17, 0, 0)),
         ("view 1 a 0 4 5 5 auto", Refused(17, 0, 0)),
         ("view 1 a 4 4 0 2000000000000000001 auto", Refused(17, 0, 0)),
@@ -93,13 +105,133 @@ fn replies_to_lines(rt: HostRuntime) -> Result<(), Fail> {
         ("view 1 a 0 4 0 5 auto", Refused(18, 0, 0)),
         (
             "view 1 a 4096 1 -2000000000000000000 2000000000000000000 auto",
-            Viewed(1),
+            Viewed(0, 0, 0),
         ),
         ("clear a 0 3", Done(0)),
     ] {
         let mut service = service(rt.alloc(), 1_048_510)?;
         assert_eq!(rt; answer_to(&mut service, "create a 0 10 0"), Done(0));
         assert_eq!(rt; answer_to(&mut service, "open 1"), Opened(1, 65_536));
+        assert_eq!(rt; answer_to(&mut service, line), want, "at {line}");
+    }
+    Ok(())
+}
+
+/// A coefficient as its key, its flags and its differences.
+type Sent = (u8, u64, bool, bool, i64, i64);
+
+fn sent_of(coef: &(Key, Coef)) -> Sent {
+    let (key, coef) = *coef;
+    (
+        key.level, key.index, coef.left, coef.right, coef.dmin, coef.dmax,
+    )
+}
+
+#[test]
+fn sends_what_the_client_lacks(rt: HostRuntime) -> Result<(), Fail> {
+    let mut service = service(rt.alloc(), 62)?;
+    for (line, want) in [
+        ("create a 0 1 0", Done(0)),
+        ("append a 4 7 2 -", Done(4)),
+        ("open 1", Opened(1, 65_536)),
+    ] {
+        assert_eq!(rt; answer_to(&mut service, line), want, "at {line}");
+    }
+    let view = view_of(&mut service, "view 1 a 4 4 0 4 auto")?;
+    assert_eq!(rt; (view.session, view.series, view.w, view.h), (1, 0, 4, 4));
+    assert_eq!(rt; (view.t0, view.t1, view.lo, view.hi), (0, 4, 2, 7));
+    assert_eq!(rt; (view.start, view.step, view.slots), (0, 1, 4));
+    assert_eq!(rt; (view.has, view.rmin, view.rmax, view.count), (1, 2, 7, 8));
+    let wanted = [
+        (7u8, 0u64, true, false, 0i64, 0i64),
+        (6, 0, true, false, 0, 0),
+        (5, 0, true, false, 0, 0),
+        (4, 0, true, false, 0, 0),
+        (3, 0, true, false, 0, 0),
+        (2, 0, true, true, 2, 5),
+        (1, 0, true, true, -3, -3),
+        (1, 1, true, false, 0, 0),
+    ];
+    assert_eq!(rt; view.coefs.as_slice().len(), 8);
+    for (sent, want) in view.coefs.as_slice().iter().zip(&wanted) {
+        assert_eq!(rt; sent_of(sent), *want);
+    }
+    assert_eq!(rt; answer_to(&mut service, "set a 2 1"), Done(4));
+    let view = view_of(&mut service, "view 1 a 4 4 0 4 auto")?;
+    assert_eq!(rt; (view.lo, view.hi, view.rmin, view.rmax), (1, 7, 1, 7));
+    assert_eq!(rt; view.coefs.as_slice().len(), 1);
+    for sent in view.coefs.as_slice() {
+        assert_eq!(rt; sent_of(sent), (2, 0, true, true, 3, 6));
+    }
+    Ok(())
+}
+
+/// The numbers of coefficients sent, by two clients, for changes that are taken back, and behind a
+/// zoom and a pan.
+#[test]
+fn counts_what_is_sent(rt: HostRuntime) -> Result<(), Fail> {
+    let mut service = service(rt.alloc(), 62)?;
+    for (line, want) in [
+        ("create a 0 1 0", Done(0)),
+        ("append a 4 7 2 -", Done(4)),
+        ("open 1", Opened(1, 65_536)),
+        ("view 1 a 4 4 0 4 auto", Viewed(8, 2, 7)),
+        ("set a 2 1", Done(4)),
+        ("view 1 a 4 4 0 4 auto", Viewed(1, 1, 7)),
+        ("set a 2 5", Done(4)),
+        ("set a 2 1", Done(4)),
+        ("view 1 a 4 4 0 4 auto", Viewed(0, 1, 7)),
+        ("open 2", Opened(2, 65_536)),
+        ("set a 2 2", Done(4)),
+        ("view 2 a 4 4 0 4 auto", Viewed(8, 2, 7)),
+        ("view 1 a 4 4 0 4 auto", Viewed(1, 2, 7)),
+        ("view 1 a 4 4 0 4 1..9", Viewed(0, 1, 9)),
+        ("zoom 1 0 2", Viewed(0, 1, 9)),
+        ("zoom 1 5 5", Refused(17, 0, 0)),
+        ("pan 1 2", Viewed(0, 1, 9)),
+        ("pan 1 4000000000000000000", Refused(17, 0, 0)),
+        ("zoom 2 0 2", Viewed(0, 4, 7)),
+        ("pan 2 2", Viewed(0, 2, 2)),
+        ("pan 2 -2", Viewed(0, 4, 7)),
+        ("close 2", Closed(2)),
+        ("pan 2 1", Refused(4, 0, 0)),
+        ("open 2", Opened(2, 65_536)),
+        ("pan 2 1", Refused(16, 0, 0)),
+    ] {
+        assert_eq!(rt; answer_to(&mut service, line), want, "at {line}");
+    }
+    Ok(())
+}
+
+/// What falls off a list is sent again, and a view that is too large changes nothing.
+#[test]
+fn keeps_to_the_capacity(rt: HostRuntime) -> Result<(), Fail> {
+    let mut service = service(rt.alloc(), 62)?;
+    let mut zeros = String::from_str(rt.alloc(), "append z")?;
+    for _ in 0..37u8 {
+        zeros.push_str(" 0")?;
+    }
+    assert_eq!(rt; answer_to(&mut service, "create z 0 1 0"), Done(0));
+    assert_eq!(rt; answer_to(&mut service, &zeros), Done(37));
+    for (line, want) in [
+        ("open 1 40", Opened(1, 40)),
+        ("view 1 z 37 2 0 37 auto", Refused(20, 41, 40)),
+        ("pan 1 1", Refused(16, 0, 0)),
+        ("view 1 z 37 2 5 5 auto", Refused(17, 0, 0)),
+        ("view 1 z 0 2 0 37 3..2", Refused(18, 0, 0)),
+        ("view 1 z 37 2 0 37 3..2", Refused(19, 0, 0)),
+        ("view 1 z 1 2 0 1 auto", Viewed(7, 0, 0)),
+        ("view 1 z 37 2 0 37 auto", Refused(20, 41, 40)),
+        ("pan 1 0", Viewed(0, 0, 0)),
+        ("close 1", Closed(1)),
+        ("open 1 41", Opened(1, 41)),
+        ("view 1 z 37 2 0 37 auto", Viewed(41, 0, 0)),
+        ("create y 0 1 0", Done(0)),
+        ("append y 1 1", Done(2)),
+        ("view 1 y 1 1 0 2 auto", Viewed(7, 1, 1)),
+        ("view 1 z 37 2 0 37 auto", Viewed(7, 0, 0)),
+        ("view 1 y 1 1 0 2 auto", Viewed(7, 1, 1)),
+    ] {
         assert_eq!(rt; answer_to(&mut service, line), want, "at {line}");
     }
     Ok(())
@@ -161,50 +293,6 @@ fn fills_the_pages(rt: HostRuntime) -> Result<(), Fail> {
         ("append a 1", Done(5633)),
     ] {
         assert_eq!(rt; answer_to(&mut service, line), want, "at {line}");
-    }
-    Ok(())
-}
-
-/// Whether the picture of 4 by 4 is black just at the pixels of the rows 40 40 A0 20, which are
-/// hexadecimal and stand from the top.
-fn is_known(bitmap: &Bitmap) -> bool {
-    bitmap.width() == 4
-        && bitmap.height() == 4
-        && bitmap.black() == 5
-        && is_black(bitmap, 1, 3)
-        && is_black(bitmap, 1, 2)
-        && is_black(bitmap, 0, 1)
-        && is_black(bitmap, 2, 1)
-        && is_black(bitmap, 2, 0)
-}
-
-fn is_black(bitmap: &Bitmap, x: u16, y: u16) -> bool {
-    x < bitmap.width() && y < bitmap.height() && bitmap.get(x, y)
-}
-
-#[test]
-fn views_a_series(rt: HostRuntime) -> Result<(), Fail> {
-    let mut service = service(rt.alloc(), 62)?;
-    for (line, want) in [
-        ("create a 0 1 0", Done(0)),
-        ("append a 4 7 2 -", Done(4)),
-        ("open 1", Opened(1, 65_536)),
-    ] {
-        assert_eq!(rt; answer_to(&mut service, line), want, "at {line}");
-    }
-    for line in [
-        "view 1 a 4 4 0 4 auto",
-        "set a 2 1",
-        "view 1 a 4 4 0 4 auto",
-    ] {
-        match reply(&mut service, line) {
-            Some(Reply::Viewed { session, bitmap }) => {
-                assert_eq!(rt; session, 1);
-                assert!(rt; is_known(&bitmap));
-            }
-            Some(Reply::Done { slots }) => assert_eq!(rt; slots, 4),
-            _ => assert!(rt; false, "at {line}"),
-        }
     }
     Ok(())
 }

@@ -9,12 +9,12 @@ use Rattle.request_lines.specs.declared.line_errors.LineError.{LineError}
 use Rattle.request_lines.specs.declared.line_errors.LineError.TheVariants.{BadLine, NoMemory}
 use Rattle.request_lines.specs.declared.ranges.RangeWord.{RangeWord}
 use Rattle.request_lines.specs.declared.requests.Request.{Request}
-use Rattle.request_lines.specs.declared.requests.Request.TheVariants.{Edit as EditRequest, Open, View}
+use Rattle.request_lines.specs.declared.requests.Request.TheVariants.{Edit as EditRequest, Open, View, Zoom, Pan, Close}
 use Rattle.request_lines.specs.Numbers.{natural_value, integer_value}
 use Rattle.request_lines.specs.Ranges.{range_of}
 use Rattle.request_lines.specs.Tokens.{tokens, Cursor, tokens_left, next_token, past_token}
 use Rattle.request_lines.specs.Grammar.{Ending, kind_of, form_of, fault, tokens_fault, fault_of, Takes, Misses, MissesEnd}
-use Rattle.request_lines.specs.Requests.{value_of, create_of, append_of, set_of, clear_of, open_of, view_of, request_of, named, Reads, IsRequest, RefusesLine, read_line, ReadsAs}
+use Rattle.request_lines.specs.Requests.{value_of, create_of, append_of, set_of, clear_of, open_of, view_of, zoom_of, pan_of, close_of, request_of, named, Reads, IsRequest, RefusesLine, read_line, ReadsAs}
 use Rattle.request_lines.proofs.TokenLemmas.{tokens_left-within, tokens_left-there, tokens_left-none}
 use Rattle.request_lines.proofs.GrammarLemmas.{fault-takes, misses-fault}
 
@@ -104,6 +104,30 @@ pub clear_is : (c0 c1 c2 c3 : Cursor) (name : List ℕ) (time told : ℤ) (count
 unfolding clear_of
 clear_is c0 c1 c2 c3 name time told count t0 t1 t2 none name_is time_is told_is count_is =
     rw (takes-tokens Name c0 c1 t0, takes-tokens Integer c1 c2 t1, takes-tokens Natural c2 c3 t2, none, told_is, name_is, time_is, count_is) refl
+
+-- the same after `zoom`
+pub zoom_is : (c0 c1 c2 c3 : Cursor) (session : ℕ) (t0 told0 t1 told1 : ℤ)
+    → Takes Session c0 c1 → Takes Integer c1 c2 → Takes Integer c2 c3 → tokens_left c3 ≡ []
+    → session ≡ natural_value (next_token c0) → t0 ≡ integer_value (next_token c1) → told0 ≡ t0 → t1 ≡ integer_value (next_token c2) → told1 ≡ t1
+    → zoom_of (tokens_left c0) ≡ Some (Zoom session told0 told1)
+unfolding zoom_of
+zoom_is c0 c1 c2 c3 session t0 told0 t1 told1 k0 k1 k2 none session_is t0_is told0_is t1_is told1_is =
+    rw (takes-tokens Session c0 c1 k0, takes-tokens Integer c1 c2 k1, takes-tokens Integer c2 c3 k2, none, told0_is, told1_is, session_is, t0_is, t1_is) refl
+
+-- the same after `pan`
+pub pan_is : (c0 c1 c2 : Cursor) (session : ℕ) (by told : ℤ)
+    → Takes Session c0 c1 → Takes Integer c1 c2 → tokens_left c2 ≡ []
+    → session ≡ natural_value (next_token c0) → by ≡ integer_value (next_token c1) → told ≡ by
+    → pan_of (tokens_left c0) ≡ Some (Pan session told)
+unfolding pan_of
+pan_is c0 c1 c2 session by told k0 k1 none session_is by_is told_is =
+    rw (takes-tokens Session c0 c1 k0, takes-tokens Integer c1 c2 k1, none, told_is, session_is, by_is) refl
+
+-- the same after `close`
+pub close_is : (c0 c1 : Cursor) (session : ℕ) → Takes Session c0 c1 → tokens_left c1 ≡ [] → session ≡ natural_value (next_token c0)
+    → close_of (tokens_left c0) ≡ Some (Close session)
+unfolding close_of
+close_is c0 c1 session k0 none session_is = rw (takes-tokens Session c0 c1 k0, none, session_is) refl
 
 -- the same after `open`, without a cache
 pub open_alone : (c0 c1 : Cursor) (session : ℕ) → Takes Session c0 c1 → length c1.line < c1.at → session ≡ natural_value (next_token c0)

@@ -6,7 +6,7 @@ use Rattle.series_book.specs.declared.limits.TheConstants.{GREATEST_START, GREAT
 use Rattle.request_lines.specs.declared.places.Place.{Place}
 use Rattle.request_lines.specs.declared.places.Place.TheVariants.{Name, Start, Step, Scale, Integer, Value, Natural, Session, Range}
 use Rattle.request_lines.specs.declared.line_kinds.LineKind.{LineKind}
-use Rattle.request_lines.specs.declared.line_kinds.LineKind.TheVariants.{Create, Append, Set, Clear, Open, View}
+use Rattle.request_lines.specs.declared.line_kinds.LineKind.TheVariants.{Create, Append, Set, Clear, Open, View, Zoom, Pan, Close}
 use Rattle.request_lines.specs.Numbers.{is_natural, natural_value, is_integer, integer_value}
 use Rattle.request_lines.specs.Ranges.{is_range}
 use Rattle.request_lines.specs.Tokens.{tokens, Cursor, tokens_left, next_token, past_token}
@@ -51,6 +51,9 @@ kind_of word =
     else if bytes_eq word (codes "clear") then Some Clear
     else if bytes_eq word (codes "open") then Some Open
     else if bytes_eq word (codes "view") then Some View
+    else if bytes_eq word (codes "zoom") then Some Zoom
+    else if bytes_eq word (codes "pan") then Some Pan
+    else if bytes_eq word (codes "close") then Some Close
     else None
 
 -- the table of lines: the places after the first word
@@ -61,6 +64,9 @@ form_of Set = record { places = Name ∷ Integer ∷ []; ending = one_or_more In
 form_of Clear = record { places = Name ∷ Integer ∷ Natural ∷ []; ending = nothing }
 form_of Open = record { places = Session ∷ []; ending = at_most_one Natural }
 form_of View = record { places = Session ∷ Name ∷ Natural ∷ Natural ∷ Integer ∷ Integer ∷ Range ∷ []; ending = nothing }
+form_of Zoom = record { places = Session ∷ Integer ∷ Integer ∷ []; ending = nothing }
+form_of Pan = record { places = Session ∷ Integer ∷ []; ending = nothing }
+form_of Close = record { places = Session ∷ []; ending = nothing }
 
 -- the offset of the first of these tokens, which begin at an offset, that this place doesn't allow
 unfoldable pub first_misfit : Place → List (List ℕ) → ℕ → Option ℕ

@@ -4,14 +4,14 @@ use Rattle.series_book.specs.declared.edits.Edit.TheVariants.{Create, Append, Se
 use Rattle.series_book.specs.Names.{is_name}
 use Rattle.series_book.specs.Edits.{IsEdit}
 use Rattle.request_lines.specs.declared.requests.Request.{Request}
-use Rattle.request_lines.specs.declared.requests.Request.TheVariants.{Edit as EditRequest, Open, View}
+use Rattle.request_lines.specs.declared.requests.Request.TheVariants.{Edit as EditRequest, Open, View, Zoom, Pan, Close}
 use Rattle.request_lines.specs.declared.line_errors.LineError.{LineError}
 use Rattle.request_lines.specs.declared.line_errors.LineError.TheVariants.{BadLine, NoMemory}
 use Rattle.request_lines.specs.Numbers.{natural_value, integer_value}
 use Rattle.request_lines.specs.Ranges.{range_of}
 use Rattle.request_lines.specs.Tokens.{tokens, Cursor, tokens_left}
 use Rattle.request_lines.specs.declared.line_kinds.LineKind.{LineKind}
-use Rattle.request_lines.specs.declared.line_kinds.LineKind.TheVariants.{Create as CreateLine, Append as AppendLine, Set as SetLine, Clear as ClearLine, Open as OpenLine, View as ViewLine}
+use Rattle.request_lines.specs.declared.line_kinds.LineKind.TheVariants.{Create as CreateLine, Append as AppendLine, Set as SetLine, Clear as ClearLine, Open as OpenLine, View as ViewLine, Zoom as ZoomLine, Pan as PanLine, Close as CloseLine}
 use Rattle.request_lines.specs.Grammar.{kind_of, form_of, fault, fault_of}
 
 -- the value that a token of an append or a set names: a hyphen alone is a missing slot
@@ -51,6 +51,21 @@ view_of (session ∷ name ∷ w ∷ h ∷ t0 ∷ t1 ∷ range ∷ []) =
     Some (View (natural_value session) name (natural_value w) (natural_value h) (integer_value t0) (integer_value t1) (range_of range))
 view_of _ = None
 
+-- the request that the tokens after `zoom` name
+unfoldable pub zoom_of : List (List ℕ) → Option Request
+zoom_of (session ∷ t0 ∷ t1 ∷ []) = Some (Zoom (natural_value session) (integer_value t0) (integer_value t1))
+zoom_of _ = None
+
+-- the request that the tokens after `pan` name
+unfoldable pub pan_of : List (List ℕ) → Option Request
+pan_of (session ∷ by ∷ []) = Some (Pan (natural_value session) (integer_value by))
+pan_of _ = None
+
+-- the request that the tokens after `close` name
+unfoldable pub close_of : List (List ℕ) → Option Request
+close_of (session ∷ []) = Some (Close (natural_value session))
+close_of _ = None
+
 -- the request that the tokens after the first word of a line name, by the line's kind
 abbrev pub request_of : LineKind → List (List ℕ) → Option Request
 request_of CreateLine others = create_of others
@@ -59,6 +74,9 @@ request_of SetLine others = set_of others
 request_of ClearLine others = clear_of others
 request_of OpenLine others = open_of others
 request_of ViewLine others = view_of others
+request_of ZoomLine others = zoom_of others
+request_of PanLine others = pan_of others
+request_of CloseLine others = close_of others
 
 -- the same, where there is a line of this kind
 abbrev pub kind_request : Option LineKind → List (List ℕ) → Option Request
@@ -110,3 +128,6 @@ abbrev pub IsInRange : Request → Type 0
 IsInRange (EditRequest edit) = IsEdit edit
 IsInRange (Open session cache) = (1 ≤ session) × (session ≤ 4294967295)
 IsInRange (View session name w h t0 t1 range) = (1 ≤ session) × (session ≤ 4294967295) × IsTrue (is_name name)
+IsInRange (Zoom session t0 t1) = (1 ≤ session) × (session ≤ 4294967295)
+IsInRange (Pan session by) = (1 ≤ session) × (session ≤ 4294967295)
+IsInRange (Close session) = (1 ≤ session) × (session ≤ 4294967295)

@@ -10,6 +10,9 @@ pub enum LineKind {
     Clear,
     Open,
     View,
+    Zoom,
+    Pan,
+    Close,
 }
 
 impl LineKind {
@@ -30,6 +33,12 @@ impl LineKind {
             Some(LineKind::Open)
         } else if word == b"view".as_slice() {
             Some(LineKind::View)
+        } else if word == b"zoom".as_slice() {
+            Some(LineKind::Zoom)
+        } else if word == b"pan".as_slice() {
+            Some(LineKind::Pan)
+        } else if word == b"close".as_slice() {
+            Some(LineKind::Close)
         } else {
             None
         }

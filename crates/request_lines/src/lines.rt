@@ -1,5 +1,5 @@
 ghost use Rattle.std.specs.Prelude.{◌≡◌, ◌≤◌, length, IfOk, IfErr};
-ghost use Rattle.request_lines.specs.declared.line_kinds.LineKind.TheVariants.{Create, Append, Set, Clear, Open, View};
+ghost use Rattle.request_lines.specs.declared.line_kinds.LineKind.TheVariants.{Create, Append, Set, Clear, Open, View, Zoom, Pan, Close};
 ghost use Rattle.request_lines.specs.Requests.{IsRequest, IsInRange, RefusesLine, read_line, ReadsAs, Reads};
 
 use crate::line_errors::LineError;
@@ -38,6 +38,9 @@ fn read(kind: LineKind, alloc: Global, reader: &mut Reader) -> Result<Request, L
         LineKind::Clear => clear(alloc, reader),
         LineKind::Open => open(reader),
         LineKind::View => view(alloc, reader),
+        LineKind::Zoom => zoom(reader),
+        LineKind::Pan => pan(reader),
+        LineKind::Close => close(reader),
     }
 }
 
@@ -128,4 +131,34 @@ fn view(alloc: Global, reader: &mut Reader) -> Result<Request, LineError>
         t1,
         range,
     })
+}
+
+fn zoom(reader: &mut Reader) -> Result<Request, LineError>
+    ensures reads { Reads Zoom reader.old result }
+    ensures in_range { IfOk result IsInRange }
+{
+    let session = reader.session()?;
+    let t0 = reader.integer()?;
+    let t1 = reader.integer()?;
+    reader.end()?;
+    Ok(Request::Zoom { session, t0, t1 })
+}
+
+fn pan(reader: &mut Reader) -> Result<Request, LineError>
+    ensures reads { Reads Pan reader.old result }
+    ensures in_range { IfOk result IsInRange }
+{
+    let session = reader.session()?;
+    let by = reader.integer()?;
+    reader.end()?;
+    Ok(Request::Pan { session, by })
+}
+
+fn close(reader: &mut Reader) -> Result<Request, LineError>
+    ensures reads { Reads Close reader.old result }
+    ensures in_range { IfOk result IsInRange }
+{
+    let session = reader.session()?;
+    reader.end()?;
+    Ok(Request::Close { session })
 }

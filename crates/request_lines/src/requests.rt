@@ -21,4 +21,19 @@ pub enum Request {
         t1: i128,
         range: RangeWord,
     },
+    /// The session's last view, over another window.
+    Zoom {
+        session: u32,
+        t0: i128,
+        t1: i128,
+    },
+    /// The session's last view, its window moved by this much.
+    Pan {
+        session: u32,
+        by: i128,
+    },
+    /// Closes a session.
+    Close {
+        session: u32,
+    },
 }

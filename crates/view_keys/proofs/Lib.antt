@@ -3,3 +3,4 @@ mod Columns
 mod Ends
 mod Same
 mod Depth
+mod Distinct

@@ -1,16 +1,18 @@
-//! What follows from the definitions of needed and wanted keys. The functions do nothing: their
-//! contracts are the laws.
+//! What follows from the definitions of needed and wanted keys and of their lists. The functions do
+//! nothing: their contracts are the laws.
 
-ghost use Rattle.std.specs.Prelude.{◌≡◌, ℕ, ℤ, ◌^◌, ◌<◌, ◌≤◌, ◌↔◌, List, length, Option, Some};
+ghost use Rattle.std.specs.Prelude.{◌≡◌, ◌≢◌, ℕ, ℤ, ◌^◌, ◌<◌, ◌≤◌, ◌↔◌, List, length, AllPairs, Option, Some};
 ghost use Rattle.chart_grid.specs.declared.axis.Axis.{Axis};
 ghost use Rattle.chart_grid.specs.declared.grid.Grid.{Grid};
 ghost use Rattle.om3_coeff.specs.declared.key.Key.{Key};
+ghost use Rattle.om3_coeff.specs.declared.coef.Coef.{Coef};
 ghost use Rattle.om3_coeff.specs.Keys.{height, top_key};
 ghost use Rattle.om3_coeff.specs.Spans.{AreSlots, span};
 ghost use Rattle.om3_coeff.specs.Coefs.{coef};
 ghost use Rattle.om3_coeff.specs.Known.{known};
 ghost use Rattle.view_keys.specs.Needed.{IsNeeded};
 ghost use Rattle.view_keys.specs.Wanted.{Seen, IsWanted};
+ghost use Rattle.view_keys.specs.Listed.{AreInOrder};
 
 use chart_grid::laws::columns_rise;
 use om3_coeff::laws::{known_spans_are_the_list_s, spans_are_the_extremes, what_is_known};
@@ -32,3 +34,8 @@ pub fn wanted_keys_are_needed()
     what_is_known();
     known_spans_are_the_list_s();
 }
+
+/// A list in order has no key twice.
+pub fn keys_in_order_are_distinct()
+    ensures { (entries : List (Key × Coef)) → AreInOrder entries → AllPairs (λ e f. e.0 ≢ f.0) entries }
+{}

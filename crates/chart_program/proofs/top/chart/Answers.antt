@@ -1,5 +1,7 @@
 use Rattle.std.proofs.Common.{arith, refl}
-use Rattle.chart_program.proofs.Codes.{plot_codes, complete_so, run_codes, run_complete}
+use Rattle.chart_service.specs.Serving.{AreSpelled}
+use Rattle.chart_program.specs.Ran.{AreTexts}
+use Rattle.chart_program.proofs.Codes.{plot_codes, complete_so, run_codes, run_complete, serve_codes, serve_complete, draw_codes, draw_complete}
 use Rattle.chart_program.proofs.top.chart.Goals as goal
 
 pub returns-in-Err-clause-codes : goal.returns-in-Err-clause-codes
@@ -19,4 +21,20 @@ returns-in-Ok-Run-clause-codes g c = run_codes c.run_status-status.result.code c
 pub returns-in-Ok-Run-clause-complete : goal.returns-in-Ok-Run-clause-complete
 returns-in-Ok-Run-clause-complete g c =
     let e = c.run_status-status.ensures in
-    run_complete (g.W.Streams.left c.args.world) _ _ c.run_status-status.result.code _ c.in-Ok-Run.field-0 _ _ _ c.in-Ok-Run.field-0-is c.in-Ok-Run.ensures.command e.codes e.read e.send e.past
+    run_complete AreTexts (g.W.Streams.left c.args.world) _ _ c.run_status-status.result.code _ c.in-Ok-Run.field-0 _ _ _ c.in-Ok-Run.field-0-is c.in-Ok-Run.ensures.command e.codes e.read e.send e.past e.missing e.misfit e.unopened
+
+pub returns-in-Ok-Serve-clause-codes : goal.returns-in-Ok-Serve-clause-codes
+returns-in-Ok-Serve-clause-codes g c = serve_codes c.serve_status-status.result.code c.serve_status-status.ensures.codes
+
+pub returns-in-Ok-Serve-clause-complete : goal.returns-in-Ok-Serve-clause-complete
+returns-in-Ok-Serve-clause-complete g c =
+    let e = c.serve_status-status.ensures in
+    serve_complete AreSpelled (g.W.Streams.left c.args.world) _ _ c.serve_status-status.result.code _ c.in-Ok-Serve.field-0 _ _ _ c.in-Ok-Serve.field-0-is c.in-Ok-Serve.ensures.command e.codes e.read e.send e.past
+
+pub returns-in-Ok-Draw-clause-codes : goal.returns-in-Ok-Draw-clause-codes
+returns-in-Ok-Draw-clause-codes g c = draw_codes c.draw_status-status.result.code c.draw_status-status.ensures.codes
+
+pub returns-in-Ok-Draw-clause-complete : goal.returns-in-Ok-Draw-clause-complete
+returns-in-Ok-Draw-clause-complete g c =
+    let e = c.draw_status-status.ensures in
+    draw_complete (g.W.Streams.left c.args.world) c.draw_status-status.result.code _ c.in-Ok-Draw.field-0 _ _ _ c.in-Ok-Draw.field-0-is c.in-Ok-Draw.ensures.command e.read e.send e.good

@@ -1,0 +1,63 @@
+"""What the benchmarks share: the built program, the values that they draw, and the seconds and the memory of a run."""
+import os
+import statistics
+import subprocess
+import time
+
+ROOT = os.path.dirname(os.path.dirname(os.path.realpath(__file__)))
+PROGRAM = f"{ROOT}/crates/chart_program/out/chart_program"
+WIDTH, HEIGHT = 1000, 400
+
+
+def walk(count):
+    """The values of a random walk that starts at 0, with steps of -100 to 100 from a linear congruential generator."""
+    state, value = 7, 0
+    for _ in range(count):
+        state = (state * 6364136223846793005 + 1442695040888963407) % 2**64
+        value += (state >> 33) % 201 - 100
+        yield value
+
+
+def is_built():
+    """Has ./chart build the program where it must, by a chart of nothing."""
+    how = {"stdin": subprocess.DEVNULL, "stdout": subprocess.DEVNULL}
+    return subprocess.run([f"{ROOT}/chart", "-", "plot", "1", "1"], **how).returncode == 0
+
+
+def measure(words, given):
+    """Seconds, the peak of memory in MiB and what was written, of one run on the file given."""
+    with open(given, "rb") as given, open("written", "wb") as written:
+        start = time.perf_counter()
+        # A child of this process would count this process's own memory as its peak, so a small one starts it.
+        subprocess.run(["/usr/bin/time", "-f", "%M", "-o", "peak", *words], stdin=given, stdout=written, check=True)
+        seconds = time.perf_counter() - start
+    with open("peak") as peak, open("written", "rb") as written:
+        return seconds, int(peak.read()) / 1024, written.read()
+
+
+def measure_all(rows, rounds):
+    """The runs of each row: a name, the words or what is missing, and the file given. The rows take turns."""
+    runs = {name: [] for name, words, _ in rows if isinstance(words, list)}
+    for _ in range(rounds):
+        for name, words, given in rows:
+            if name in runs:
+                runs[name].append(measure(words, given))
+    return runs
+
+
+def least_seconds(runs):
+    return {name: min(run[0] for run in runs[name]) for name in runs}
+
+
+def print_table(title, rows, runs, base):
+    least = least_seconds(runs)
+    print(title)
+    print(f"{'program':24}{'median s':>10}{'least s':>9}{'peak MiB':>10}{'ratio':>8}")
+    for name, words, _ in rows:
+        if name not in runs:
+            print(f"{name:24}  {words}")
+            continue
+        median = statistics.median(run[0] for run in runs[name])
+        peak = max(run[1] for run in runs[name])
+        ratio = f"{least[name] / least[base]:8.2f}" if base in least else ""
+        print(f"{name:24}{median:10.3f}{least[name]:9.3f}{peak:10.1f}{ratio}")

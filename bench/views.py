@@ -1,0 +1,123 @@
+"""What a client is sent for views of a long series, and the seconds that a view takes. See bench/run."""
+import io
+import shlex
+import subprocess
+import sys
+
+from measuring import HEIGHT, PROGRAM, ROOT, WIDTH, least_seconds, measure_all, walk
+
+COUNT, LINE, VIEWS, ROUNDS = 1000000, 256, 20, 5
+CLIENT = f"{ROOT}/clients/python/chart_client.py"
+POINT, ROWS_HEAD, ROW = 16, 31, 34  # bytes: a time and a value; of a Rows frame the fields before its rows, and a row
+
+
+def series():
+    """The request lines that make the series `s`, and its values."""
+    values = list(walk(COUNT))
+    lines = ["create s 0 1 0"]
+    lines += [f"append s {' '.join(map(str, values[at : at + LINE]))}" for at in range(0, COUNT, LINE)]
+    return lines, values
+
+
+def view():
+    return f"view 1 s {WIDTH} {HEIGHT} 0 {COUNT} auto"
+
+
+def steps(values):
+    """What a session asks, one after the other: a name, the request lines, and the slots of the window."""
+    half = COUNT // 2
+    yield "first view", ["open 1", view()], COUNT
+    yield "the same again", [view()], COUNT
+    yield "after one correction", [f"set s {half + 1} {max(values) + 1000}", view()], COUNT
+    yield "zoom to the middle half", [f"zoom 1 {half - half // 2} {half + half // 2}"], half // 2 * 2
+    yield "pan by a tenth of that", [f"pan 1 {half // 10}"], half // 2 * 2
+
+
+def write_lines(name, lines):
+    with open(name, "w") as file:
+        file.writelines(f"{line}\n" for line in lines)
+
+
+def answers(replies):
+    """The bytes sent, and the picture, of each view among the replies of `run`."""
+    replies = io.BytesIO(replies)
+    for line in iter(replies.readline, b""):
+        if line.startswith(b"refused "):
+            sys.exit(f"a request was refused: {line.decode()}")
+        if line.startswith(b"view "):
+            head = replies.readline() + replies.readline()
+            w, h = (int(word) for word in head.split()[1:])
+            yield int(line.split()[3]), head + replies.read(h * ((w + 7) // 8))
+
+
+def output_of(words, given):
+    with open(given, "rb") as given:
+        return subprocess.run(words, stdin=given, stdout=subprocess.PIPE, check=True).stdout
+
+
+def print_bytes(lines, values):
+    asked = list(steps(values))
+    write_lines("session", lines + [line for _, added, _ in asked for line in added])
+    sent = [sent for sent, _ in answers(output_of([PROGRAM, "-", "run"], "session"))]
+    print(f"a session over {COUNT} values of a random walk, {WIDTH} by {HEIGHT} pixels: the bytes of each view's frame, and for")
+    print(f"comparison a frame of the first, least, greatest and last value of each column, and {POINT} bytes for each point")
+    print(f"{'request':26}{'sent':>12}{'columns':>12}{'points':>12}")
+    for (name, _, slots), count in zip(asked, sent, strict=True):
+        print(f"{name:26}{count:12}{ROWS_HEAD + ROW * WIDTH:12}{POINT * slots:12}")
+
+
+def piped(*programs):
+    """The words that run these programs, each given what the one before it writes."""
+    return ["sh", "-c", " | ".join(shlex.join(words) for words in programs)]
+
+
+def ways():
+    """The rows of the table of seconds: a name, the words, and whether it is given frames in place of lines."""
+    run, serve, draw = ([PROGRAM, "-", word] for word in ("run", "serve", "draw"))
+    client = [sys.executable, CLIENT]
+    yield "run", run, False
+    yield "serve", serve, False
+    yield "serve | draw", piped(serve, draw), False
+    yield "serve | client in Python", piped(serve, client), False
+    yield "draw", draw, True
+    yield "client in Python", client, True
+
+
+def measure_ways(lines):
+    """The runs of each way without views, and with VIEWS sessions of one first view each."""
+    inputs = {"without": lines, "with": lines + VIEWS * ["open 1", view(), "close 1"]}
+    rows = []
+    for kind, asked in inputs.items():
+        write_lines(f"{kind}.lines", asked)
+        with open(f"{kind}.frames", "wb") as file:
+            file.write(output_of([PROGRAM, "-", "serve"], f"{kind}.lines"))
+        for name, words, is_framed in ways():
+            rows.append((f"{name}, {kind}", words, f"{kind}.{'frames' if is_framed else 'lines'}"))
+    return measure_all(rows, ROUNDS)
+
+
+def pictures_of(name, written):
+    """The pictures that a way wrote; `serve` writes none."""
+    if name == "run":
+        return b"".join(picture for _, picture in answers(written))
+    return None if name == "serve" else written
+
+
+def print_seconds(lines):
+    runs = measure_ways(lines)
+    least = least_seconds(runs)
+    print(f"seconds of a first view: the least of {ROUNDS} rounds with {VIEWS} of them less that without, over {VIEWS}")
+    print(f"{'program':26}{'a view s':>12}{'without s':>12}{'peak MiB':>12}")
+    pictures = set()
+    for name, _, _ in ways():
+        without, runs_with = least[f"{name}, without"], runs[f"{name}, with"]
+        peak = max(run[1] for run in runs_with)
+        print(f"{name:26}{(least[f'{name}, with'] - without) / VIEWS:12.4f}{without:12.3f}{peak:12.1f}")
+        pictures |= {pictures_of(name, run[2]) for run in runs_with} - {None}
+    print(f"the pictures of all ways {'are the same bytes' if len(pictures) == 1 else 'DIFFER'}")
+
+
+def measure_views():
+    lines, values = series()
+    print_bytes(lines, values)
+    print_seconds(lines)

@@ -1,0 +1,15 @@
+pub mod Ranging
+pub mod Unknown
+pub mod Searched
+pub mod Columns
+pub mod Firsts
+pub mod Fronts
+pub mod Entries
+pub mod Drawn
+pub mod Usable
+pub mod Found
+pub mod Places
+pub mod Viewed
+pub mod Standing
+pub mod Grids
+pub mod Answered

@@ -1,0 +1,10 @@
+pub mod Holdings
+pub mod Agreeing
+pub mod Failing
+pub mod HeldNodes
+pub mod Keeping
+pub mod Searching
+pub mod Drawing
+pub mod Finding
+pub mod Accepting
+pub mod Showing

@@ -1,0 +1,174 @@
+-- A frame takes as many bytes as its length says.
+use Rattle.std.proofs.Common.{◌≡◌, ℕ, zero, suc, ◌+◌, ◌-◌, ◌*◌, ◌<◌, ◌≤◌, ◌⊎◌, inl, inr, Bool, true, false, cond, leb, eqb, List, length, drop, Option, Some, None, Result, Ok, Err, refl, sym, subst, arith, length-drop}
+use Rattle.std.proofs.lemmas.Bool.{cases_lt, leb-true, eqb-true, and_parts}
+use Rattle.chart_frames.specs.declared.fields.Stop.{Stop}
+use Rattle.chart_frames.specs.declared.fields.Stop.TheVariants.{More, Bad}
+use Rattle.chart_frames.specs.Format.{Format, field, number_in}
+use Rattle.chart_frames.specs.Reading.{read}
+use Rattle.chart_frames.specs.Fields.{is_rows_length, is_length, admits, session_fields, side_field, side_fields, series_fields, window_fields, range_fields, axis_fields, has_field, rmin_field, rmax_field, stored_fields, count_fields, key_field, difference_field, coef_fields, coefs_fields, place_fields, source_fields, view_fields, row_count_fields, column_field, value_field, at_most_field, at_least_field, between_field, row_fields, rows_fields, head_fields, done_fields, refused_fields, opened_fields, kind_fields, length_field, kind_field, frame_fields}
+use Rattle.chart_frames.proofs.FormatLaws.{Fills, Sized, read_there, read_short, read_sized}
+
+coefs_fill : (count slots : ℕ) (last : Option ℕ) (m : ℕ) → m ≡ 25 * count → Fills m (coefs_fields slots last count)
+unfolding coefs_fields key_field coef_fields difference_field
+coefs_fill zero slots last m e = omega (arith, e)
+coefs_fill (suc count) slots last m e = (
+  omega (arith, e),
+  λ key _. (
+    omega (arith, e),
+    λ flags _. (
+      omega (arith, e),
+      λ dmin _. (
+        omega (arith, e),
+        λ dmax _.
+            coefs_fill count slots (Some key) (m - 8 - 1 - 8 - 8) (omega (arith, e)),
+      ),
+    ),
+  ),
+)
+
+rows_fill : (count w : ℕ) (last : Option ℕ) (m : ℕ) → m ≡ 34 * count → Fills m (rows_fields w last count)
+unfolding rows_fields column_field row_fields value_field at_most_field at_least_field between_field
+rows_fill zero w last m e = omega (arith, e)
+rows_fill (suc count) w last m e = (
+  omega (arith, e),
+  λ column _. (
+    omega (arith, e),
+    λ first _. (
+      omega (arith, e),
+      λ least _. (
+        omega (arith, e),
+        λ greatest _. (
+          omega (arith, e),
+          λ l _.
+              rows_fill count w (Some column) (m - 2 - 8 - 8 - 8 - 8) (omega (arith, e)),
+        ),
+      ),
+    ),
+  ),
+)
+
+view_fill : (length : ℕ) → 84 ≤ length → Fills (length - 1) (view_fields length (λ slots count. coefs_fields slots None count))
+unfolding view_fields place_fields source_fields session_fields series_fields side_fields side_field window_fields range_fields axis_fields stored_fields has_field rmin_field rmax_field count_fields
+view_fill length long = (
+  omega arith,
+  λ session _. (
+    omega arith,
+    λ series _. (
+      omega arith,
+      λ w _. (
+        omega arith,
+        λ h _. (
+          omega arith,
+          λ t0 _. (
+            omega arith,
+            λ t1 _. (
+              omega arith,
+              λ lo _. (
+                omega arith,
+                λ hi _. (
+                  omega arith,
+                  λ start _. (
+                    omega arith,
+                    λ step _. (
+                      omega arith,
+                      λ slots _. (
+                        omega arith,
+                        λ has _. (
+                          omega arith,
+                          λ rmin _. (
+                            omega arith,
+                            λ rmax _. (
+                              omega arith,
+                              λ count e.
+                                  coefs_fill count slots None (length - 1 - 4 - 2 - 2 - 2 - 8 - 8 - 8 - 8 - 8 - 4 - 8 - 1 - 8 - 8 - 4) (omega (arith, eqb-true (84 + 25 * count) length e)),
+                            ),
+                          ),
+                        ),
+                      ),
+                    ),
+                  ),
+                ),
+              ),
+            ),
+          ),
+        ),
+      ),
+    ),
+  ),
+)
+
+head_fill : (length : ℕ) → 27 ≤ length → Fills (length - 1) (head_fields length (λ w count. rows_fields w None count))
+unfolding head_fields session_fields side_fields side_field range_fields row_count_fields
+head_fill length long = (
+  omega arith,
+  λ session _. (
+    omega arith,
+    λ w _. (
+      omega arith,
+      λ h _. (
+        omega arith,
+        λ lo _. (
+          omega arith,
+          λ hi _. (
+            omega arith,
+            λ count e.
+                rows_fill count w None (length - 1 - 4 - 2 - 2 - 8 - 8 - 2) (omega (arith, eqb-true (27 + 34 * count) length (and_parts (leb count w) (eqb (27 + 34 * count) length) e).1)),
+          ),
+        ),
+      ),
+    ),
+  ),
+)
+
+-- the length that the chosen kind admits
+pick : (m : ℕ) (b : Bool) (p q : Bool) (f g : Format) → cond b p q ≡ true → (p ≡ true → Fills m f) → (q ≡ true → Fills m g) → Fills m (cond b f g)
+pick m true p q f g h x y = x h
+pick m false p q f g h x y = y h
+
+last_pick : (b p : Bool) → cond b p false ≡ true → p ≡ true
+last_pick true p h = h
+last_pick false p h = absurd cc
+
+kind_fill : (length kind : ℕ) → admits length kind ≡ true → Fills (length - 1) (kind_fields length kind)
+unfolding admits kind_fields done_fields refused_fields opened_fields session_fields
+kind_fill length kind h =
+    pick (length - 1) (eqb kind 1) _ _ _ _ h (λ e. let is = eqb-true length 9 e in (omega (arith, is), λ slots _. omega (arith, is)))
+    (λ h. pick (length - 1) (eqb kind 2) _ _ _ _ h (λ e. let is = eqb-true length 18 e in (omega (arith, is), λ number _. (omega (arith, is), λ a _. (omega (arith, is), λ b _. omega (arith, is)))))
+    (λ h. pick (length - 1) (eqb kind 3) _ _ _ _ h (λ e. let is = eqb-true length 9 e in (omega (arith, is), λ session _. (omega (arith, is), λ cache _. omega (arith, is))))
+    (λ h. pick (length - 1) (eqb kind 4) _ _ _ _ h (λ e. let is = eqb-true length 5 e in (omega (arith, is), λ session _. omega (arith, is)))
+    (λ h. pick (length - 1) (eqb kind 5) _ _ _ _ h (λ e. view_fill length (leb-true 84 length (and_parts (leb 84 length) _ e).0))
+    (λ h. head_fill length (leb-true 27 length (and_parts (leb 27 length) _ (last_pick (eqb kind 6) (is_rows_length length) h)).0))))))
+
+length_some : (length kind : ℕ) → is_length length ≡ true → 1 ≤ length
+length_some zero kind h = absurd (cc (h))
+length_some (suc n) kind h = omega arith
+
+framed_fill : (length : ℕ) → is_length length ≡ true → Fills length (field 1 (admits length) (kind_fields length))
+framed_fill length h = (length_some length 0 h, λ kind ok. kind_fill length kind ok)
+
+-- what reading a frame says of the number of bytes
+abbrev pub FrameSized : List ℕ → Result (List ℕ) Stop → Type 0
+FrameSized bytes (Ok tail) = (4 ≤ length bytes) × (length bytes ≡ 4 + number_in 4 bytes + length tail)
+FrameSized bytes (Err More) = (length bytes < 4) ⊎ (length bytes < 4 + number_in 4 bytes)
+FrameSized bytes (Err (Bad left)) = Unit {0}
+
+sized_frame : (bytes : List ℕ) (r : Result (List ℕ) Stop) → 4 ≤ length bytes → Sized (number_in 4 bytes) (length (drop 4 bytes)) r → FrameSized bytes r
+sized_frame bytes (Ok tail) long h = (long, omega (arith, h, length-drop 4 bytes))
+sized_frame bytes (Err More) long h = inr (omega (arith, h, length-drop 4 bytes))
+sized_frame bytes (Err (Bad left)) long h = tt
+
+sized_by : (bytes : List ℕ) (b : Bool) → 4 ≤ length bytes → is_length (number_in 4 bytes) ≡ b
+    → FrameSized bytes (cond b (read (field 1 (admits (number_in 4 bytes)) (kind_fields (number_in 4 bytes))) (drop 4 bytes)) (Err (Bad (length bytes))))
+sized_by bytes true long h =
+    sized_frame bytes (read (field 1 (admits (number_in 4 bytes)) (kind_fields (number_in 4 bytes))) (drop 4 bytes)) long
+    (read_sized (field 1 (admits (number_in 4 bytes)) (kind_fields (number_in 4 bytes))) (number_in 4 bytes) (drop 4 bytes) (framed_fill (number_in 4 bytes) h))
+sized_by bytes false long h = tt
+
+pub frame_sized : (bytes : List ℕ) → FrameSized bytes (read frame_fields bytes)
+unfolding frame_fields length_field kind_field
+frame_sized bytes =
+    elim (cases_lt (length bytes) 4) [
+      | inl short ↦ subst (FrameSized bytes) (sym (read_short 4 is_length (λ length. field 1 (admits length) (kind_fields length)) bytes short)) (inl short)
+      | inr long ↦ subst (FrameSized bytes) (sym (read_there 4 is_length (λ length. field 1 (admits length) (kind_fields length)) bytes long))
+          (sized_by bytes (is_length (number_in 4 bytes)) long refl)
+    ]

@@ -1,0 +1,12 @@
+pub mod Numbers
+pub mod FormatLaws
+pub mod Orders
+pub mod Items
+pub mod Admits
+pub mod Meets
+pub mod Fills
+pub mod Frames
+pub mod Places
+pub mod Streams
+pub mod Lengths
+pub mod Writing

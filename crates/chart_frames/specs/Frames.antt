@@ -1,0 +1,205 @@
+-- Frames: the numbers of their fields, their one spelling, and the rules that their fields meet.
+use Rattle.std.specs.Prelude.{ℕ, ℤ, pos, ◌≡◌, ◌+◌, ◌*◌, ◌^◌, ◌<◌, ◌≤◌, ◌≤ℤ◌, ◌<ℤ◌, ◌⊎◌, false, ◌&&◌, ◌||◌, IsTrue, unsigned_abs, List, [], ◌∷◌, length, All, AllPairs, if◌then◌else◌}
+use Rattle.std.specs.Int.{w64, cast_unsigned}
+use Rattle.om3_coeff.specs.declared.key.Key.{Key}
+use Rattle.om3_coeff.specs.declared.coef.Coef.{Coef}
+use Rattle.om3_coeff.specs.Keys.{height, IsNode}
+use Rattle.m4_groups.specs.declared.row.Row.{Row}
+use Rattle.m4_groups.specs.Rows.{AreRising}
+use Rattle.m4_groups.specs.Heights.{IsValue}
+use Rattle.chart_frames.specs.declared.frame.Frame.{Frame}
+use Rattle.chart_frames.specs.declared.frame.Frame.TheVariants.{Done, Refused, Opened, Closed, View, Rows}
+use Rattle.chart_frames.specs.declared.frame.ViewFrame.{ViewFrame}
+use Rattle.chart_frames.specs.declared.frame.RowsFrame.{RowsFrame}
+use Rattle.chart_frames.specs.Format.{spell}
+use Rattle.chart_frames.specs.Fields.{names_first, names_second, frame_fields}
+
+-- a signed number as the number that its eight bytes spell
+abbrev pub unsigned : ℤ → ℕ
+unsigned z = cast_unsigned w64 z
+
+-- ---- numbers
+
+abbrev pub key_number : Key → ℕ
+key_number k = k.level * 2 ^ 40 + k.index
+
+-- 1 where the left half has a value, 2 where the right one has, and 3 where both have
+abbrev pub flags_of : Coef → ℕ
+flags_of c = (if c.left then 1 else 0) + (if c.right then 2 else 0)
+
+abbrev pub coefs_numbers : List (Key × Coef) → List ℕ
+coefs_numbers [] = []
+coefs_numbers (e ∷ es) = key_number e.0 ∷ (flags_of e.1 ∷ (unsigned e.1.dmin ∷ (unsigned e.1.dmax ∷ coefs_numbers es)))
+
+abbrev pub all_rows_numbers : List Row → List ℕ
+all_rows_numbers [] = []
+all_rows_numbers (r ∷ rs) =
+    r.column ∷ (unsigned r.first ∷ (unsigned r.least ∷ (unsigned r.greatest ∷ (unsigned r.last ∷ all_rows_numbers rs))))
+
+-- the numbers of a view's fields, with these coefficients
+abbrev pub view_numbers : ViewFrame → List (Key × Coef) → List ℕ
+view_numbers v coefs =
+    (84 + 25 * v.count) ∷ (5 ∷ (v.session ∷ (v.series ∷ (v.w ∷ (v.h ∷ (unsigned v.t0 ∷ (unsigned v.t1 ∷ (unsigned v.lo ∷ (unsigned v.hi
+    ∷ (unsigned v.start ∷ (v.step ∷ (v.slots ∷ (v.has ∷ (unsigned v.rmin ∷ (unsigned v.rmax ∷ (v.count ∷ coefs_numbers coefs))))))))))))))))
+
+-- the numbers of the fields of a frame of rows, with these rows
+abbrev pub rows_numbers : RowsFrame → List Row → List ℕ
+rows_numbers r rows =
+    (27 + 34 * r.count) ∷ (6 ∷ (r.session ∷ (r.w ∷ (r.h ∷ (unsigned r.lo ∷ (unsigned r.hi ∷ (r.count ∷ all_rows_numbers rows)))))))
+
+-- the numbers of a frame's fields, in their order
+abbrev pub numbers_of : Frame → List ℕ
+numbers_of (Done slots) = 9 ∷ (1 ∷ (slots ∷ []))
+numbers_of (Refused number a b) = 18 ∷ (2 ∷ (number ∷ (a ∷ (b ∷ []))))
+numbers_of (Opened session cache) = 9 ∷ (3 ∷ (session ∷ (cache ∷ [])))
+numbers_of (Closed session) = 5 ∷ (4 ∷ (session ∷ []))
+numbers_of (View v) = view_numbers v v.coefs
+numbers_of (Rows r) = rows_numbers r r.rows
+
+-- the bytes of a frame: each field's number by its size
+abbrev pub spelling : Frame → List ℕ
+spelling f = spell frame_fields (numbers_of f)
+
+-- ---- rules
+
+pub record IsSession (session : ℕ) : Type 0 where
+  pub low : 1 ≤ session
+  pub high : session < 2 ^ 32
+
+-- a width or a height of a canvas
+pub record IsSide (n : ℕ) : Type 0 where
+  pub low : 1 ≤ n
+  pub high : n ≤ 4096
+
+-- a number of at most 2 * 10^18 in size
+abbrev pub IsTime : ℤ → Type 0
+IsTime t = unsigned_abs t ≤ 2 * 10 ^ 18
+
+-- a window has its first end below its second one
+pub record IsWindow (t0 t1 : ℤ) : Type 0 where
+  pub from : IsTime t0
+  pub to : IsTime t1
+  pub forward : t0 <ℤ t1
+
+-- a range of values
+pub record IsRange (lo hi : ℤ) : Type 0 where
+  pub low : IsValue lo
+  pub high : IsValue hi
+  pub ordered : lo ≤ℤ hi
+
+-- start, step and number of slots of a series
+pub record IsAxis (start : ℤ) (step slots : ℕ) : Type 0 where
+  pub first : IsValue start
+  pub least : 1 ≤ step
+  pub most : step ≤ 2 ^ 31
+  pub limit : slots ≤ 2 ^ 28
+
+-- The least and the greatest stored value, where one is stored; without slots none is.
+pub record IsStored (slots has : ℕ) (rmin rmax : ℤ) : Type 0 where
+  pub flag : has ≤ 1
+  pub somewhere : has ≡ 1 → 1 ≤ slots
+  pub range : IsRange rmin rmax
+  pub none_least : has ≡ 0 → rmin ≡ pos 0
+  pub none_greatest : has ≡ 0 → rmax ≡ pos 0
+
+-- some half has a value, and a difference that isn't 0 stands only where both have
+pub record IsCoef (c : Coef) : Type 0 where
+  pub some : IsTrue (c.left || c.right)
+  pub least : IsTime c.dmin
+  pub greatest : IsTime c.dmax
+  pub single_least : (c.left && c.right) ≡ false → c.dmin ≡ pos 0
+  pub single_greatest : (c.left && c.right) ≡ false → c.dmax ≡ pos 0
+
+-- a coefficient of the tree over so many slots
+pub record FitsCoef (slots : ℕ) (e : Key × Coef) : Type 0 where
+  pub key : IsNode (height slots) e.0
+  pub coef : IsCoef e.1
+
+-- falling levels, and within a level rising indices
+abbrev pub Precedes : Key × Coef → Key × Coef → Type 0
+Precedes a b = (b.0.level < a.0.level) ⊎ ((b.0.level ≡ a.0.level) × (a.0.index < b.0.index))
+
+pub record FitCoefs (slots : ℕ) (coefs : List (Key × Coef)) : Type 0 where
+  pub each : All (FitsCoef slots) coefs
+  pub order : AllPairs Precedes coefs
+
+-- where a view is shown
+pub record FitsPlace (session series w h : ℕ) (t0 t1 : ℤ) : Type 0 where
+  pub named : IsSession session
+  pub known : series < 512
+  pub width : IsSide w
+  pub height : IsSide h
+  pub window : IsWindow t0 t1
+
+-- what is shown of it
+pub record FitsSource (lo hi start : ℤ) (step slots has : ℕ) (rmin rmax : ℤ) : Type 0 where
+  pub range : IsRange lo hi
+  pub axis : IsAxis start step slots
+  pub stored : IsStored slots has rmin rmax
+
+-- what is so of a view's fields before its coefficients
+pub record FitsViewHead (v : ViewFrame) : Type 0 where
+  pub place : FitsPlace v.session v.series v.w v.h v.t0 v.t1
+  pub source : FitsSource v.lo v.hi v.start v.step v.slots v.has v.rmin v.rmax
+  pub most : v.count ≤ 131072
+
+pub record FitsView (v : ViewFrame) : Type 0 where
+  pub head : FitsViewHead v
+  pub count : v.count ≡ length v.coefs
+  pub coefs : FitCoefs v.slots v.coefs
+
+-- the least of four values lies at or below the first and the last one, and the greatest at or above them
+pub record AreOrdered (first least greatest last : ℤ) : Type 0 where
+  pub least_first : least ≤ℤ first
+  pub first_greatest : first ≤ℤ greatest
+  pub least_last : least ≤ℤ last
+  pub last_greatest : last ≤ℤ greatest
+
+-- a row on a canvas of w columns
+pub record FitsRow (w : ℕ) (r : Row) : Type 0 where
+  pub column : r.column < w
+  pub first : IsValue r.first
+  pub least : IsValue r.least
+  pub greatest : IsValue r.greatest
+  pub last : IsValue r.last
+  pub order : AreOrdered r.first r.least r.greatest r.last
+
+pub record FitRows (w : ℕ) (rows : List Row) : Type 0 where
+  pub each : All (FitsRow w) rows
+  pub order : AreRising rows
+
+-- what is so of the fields before the rows
+pub record FitsRowsHead (r : RowsFrame) : Type 0 where
+  pub session : IsSession r.session
+  pub width : IsSide r.w
+  pub height : IsSide r.h
+  pub range : IsRange r.lo r.hi
+  pub most : r.count ≤ r.w
+
+pub record FitsRows (r : RowsFrame) : Type 0 where
+  pub head : FitsRowsHead r
+  pub count : r.count ≡ length r.rows
+  pub rows : FitRows r.w r.rows
+
+-- a refusal's number; it tells numbers more only where it names them
+pub record FitsRefused (number a b : ℕ) : Type 0 where
+  pub low : 1 ≤ number
+  pub high : number ≤ 21
+  pub first : a < 2 ^ 64
+  pub second : b < 2 ^ 64
+  pub no_first : names_first number ≡ false → a ≡ 0
+  pub no_second : names_second number ≡ false → b ≡ 0
+
+pub record FitsOpened (session cache : ℕ) : Type 0 where
+  pub named : IsSession session
+  pub low : 1 ≤ cache
+  pub high : cache ≤ 131072
+
+-- the fields meet their rules
+abbrev pub Fits : Frame → Type 0
+Fits (Done slots) = slots ≤ 2 ^ 28
+Fits (Refused number a b) = FitsRefused number a b
+Fits (Opened session cache) = FitsOpened session cache
+Fits (Closed session) = IsSession session
+Fits (View v) = FitsView v
+Fits (Rows r) = FitsRows r

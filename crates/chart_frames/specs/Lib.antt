@@ -1,0 +1,9 @@
+pub mod Pending
+pub mod Format
+pub mod Reading
+pub mod Fields
+pub mod Frames
+pub mod Spelled
+pub mod Items
+pub mod Places
+pub mod Stream

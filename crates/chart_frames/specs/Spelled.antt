@@ -1,0 +1,70 @@
+-- The bytes of the parts of a frame, each in front of what follows it.
+use Rattle.std.specs.Prelude.{ℕ, ℤ, ◌+◌, ◌*◌, List, [], ◌∷◌, ◌++◌}
+use Rattle.om3_coeff.specs.declared.key.Key.{Key}
+use Rattle.om3_coeff.specs.declared.coef.Coef.{Coef}
+use Rattle.m4_groups.specs.declared.row.Row.{Row}
+use Rattle.chart_frames.specs.declared.frame.Frame.{Frame}
+use Rattle.chart_frames.specs.declared.frame.Frame.TheVariants.{Done, Refused, Opened, Closed, View, Rows}
+use Rattle.chart_frames.specs.declared.frame.ViewFrame.{ViewFrame}
+use Rattle.chart_frames.specs.declared.frame.RowsFrame.{RowsFrame}
+use Rattle.chart_frames.specs.Format.{number_bytes}
+use Rattle.chart_frames.specs.Frames.{unsigned, key_number, flags_of}
+
+-- the eight bytes of a signed number
+abbrev pub signed_bytes : ℤ → List ℕ
+signed_bytes z = number_bytes 8 (unsigned z)
+
+-- the length and the kind of a frame, and what follows
+abbrev pub framed : ℕ → ℕ → List ℕ → List ℕ
+framed length kind tail = number_bytes 4 length ++ (number_bytes 1 kind ++ tail)
+
+-- two signed numbers, and what follows
+abbrev pub two_before : ℤ → ℤ → List ℕ → List ℕ
+two_before low high tail = signed_bytes low ++ (signed_bytes high ++ tail)
+
+-- where a view is shown, and what follows
+unfoldable pub place_before : ViewFrame → List ℕ → List ℕ
+place_before v tail =
+    number_bytes 4 v.session ++ (number_bytes 2 v.series ++ (number_bytes 2 v.w ++ (number_bytes 2 v.h ++ two_before v.t0 v.t1 tail)))
+
+-- what is shown of a view up to the number of coefficients, and what follows
+unfoldable pub source_before : ViewFrame → List ℕ → List ℕ
+source_before v tail =
+    two_before v.lo v.hi (signed_bytes v.start ++ (number_bytes 4 v.step ++ (number_bytes 8 v.slots
+    ++ (number_bytes 1 v.has ++ two_before v.rmin v.rmax (number_bytes 4 v.count ++ tail)))))
+
+-- the fields of a view behind the kind, up to the number of coefficients, and what follows
+abbrev pub view_before : ViewFrame → List ℕ → List ℕ
+view_before v tail = place_before v (source_before v tail)
+
+-- the fields behind the kind, up to the number of rows, and what follows
+unfoldable pub rows_before : RowsFrame → List ℕ → List ℕ
+rows_before r tail =
+    number_bytes 4 r.session ++ (number_bytes 2 r.w ++ (number_bytes 2 r.h ++ two_before r.lo r.hi (number_bytes 2 r.count ++ tail)))
+
+-- one coefficient, and what follows
+unfoldable pub coef_before : Key × Coef → List ℕ → List ℕ
+coef_before e tail = number_bytes 8 (key_number e.0) ++ (number_bytes 1 (flags_of e.1) ++ two_before e.1.dmin e.1.dmax tail)
+
+-- coefficients, and what follows
+abbrev pub coefs_before : List (Key × Coef) → List ℕ → List ℕ
+coefs_before [] tail = tail
+coefs_before (e ∷ es) tail = coef_before e (coefs_before es tail)
+
+-- one row, and what follows
+unfoldable pub row_before : Row → List ℕ → List ℕ
+row_before r tail = number_bytes 2 r.column ++ two_before r.first r.least (two_before r.greatest r.last tail)
+
+-- rows, and what follows
+abbrev pub rows_all_before : List Row → List ℕ → List ℕ
+rows_all_before [] tail = tail
+rows_all_before (r ∷ rs) tail = row_before r (rows_all_before rs tail)
+
+-- a frame, and what follows
+abbrev pub frame_before : Frame → List ℕ → List ℕ
+frame_before (Done slots) tail = framed 9 1 (number_bytes 8 slots ++ tail)
+frame_before (Refused number a b) tail = framed 18 2 (number_bytes 1 number ++ (number_bytes 8 a ++ (number_bytes 8 b ++ tail)))
+frame_before (Opened session cache) tail = framed 9 3 (number_bytes 4 session ++ (number_bytes 4 cache ++ tail))
+frame_before (Closed session) tail = framed 5 4 (number_bytes 4 session ++ tail)
+frame_before (View v) tail = framed (84 + 25 * v.count) 5 (view_before v (coefs_before v.coefs tail))
+frame_before (Rows r) tail = framed (27 + 34 * r.count) 6 (rows_before r (rows_all_before r.rows tail))

@@ -1,0 +1,52 @@
+use std::alloc::{AllocError, AllocFailed};
+use thiserror::Error;
+
+/// Want of memory. It may come at any call that allocates.
+#[derive(Clone, Copy, Debug, PartialEq, Eq, Error)]
+#[error("out of memory")]
+pub struct NoMemory;
+
+impl From<AllocError> for NoMemory {
+    fn from(_error: AllocError) -> NoMemory {
+        NoMemory
+    }
+}
+
+impl<T: Drop> From<AllocFailed<T>> for NoMemory {
+    fn from(_error: AllocFailed<T>) -> NoMemory {
+        NoMemory
+    }
+}
+
+/// Why no frame was given.
+#[derive(Clone, Copy, Debug, PartialEq, Eq, Error)]
+pub enum FrameFault {
+    /// A complete field breaks its rule. `at` is the offset in the stream of the field's first byte.
+    #[error("the field at {at} breaks its rule")]
+    BadFrame { at: u64 },
+    /// Want of memory.
+    #[error("out of memory")]
+    NoMemory,
+}
+
+impl From<AllocError> for FrameFault {
+    ghost use Rattle.std.specs.Prelude.{◌≡◌};
+    ghost use Rattle.chart_frames.specs.declared.errors.FrameFault.TheVariants.{NoMemory};
+
+    ghost from_gives = { λ _ error. error ≡ NoMemory };
+
+    fn from(_error: AllocError) -> FrameFault {
+        FrameFault::NoMemory
+    }
+}
+
+impl<T: Drop> From<AllocFailed<T>> for FrameFault {
+    ghost use Rattle.std.specs.Prelude.{◌≡◌};
+    ghost use Rattle.chart_frames.specs.declared.errors.FrameFault.TheVariants.{NoMemory};
+
+    ghost from_gives = { λ _ error. error ≡ NoMemory };
+
+    fn from(_error: AllocFailed<T>) -> FrameFault {
+        FrameFault::NoMemory
+    }
+}

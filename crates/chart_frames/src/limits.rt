@@ -1,0 +1,49 @@
+/// The length of a frame with one number of eight bytes, or with two of four.
+pub const EIGHT_LENGTH: u32 = 9;
+
+/// The length of a frame that tells a refusal.
+pub const REFUSED_LENGTH: u32 = 18;
+
+/// The length of a frame that tells a session alone.
+pub const SESSION_LENGTH: u32 = 5;
+
+/// The length of a view without coefficients, the bytes before the first one, and those of one.
+pub const VIEW_LENGTH: u32 = 84;
+
+pub const VIEW_HEAD_BYTES: usize = 88;
+
+pub const COEF_BYTES: usize = 25;
+
+/// The most coefficients of a view.
+pub const MOST_COEFS: u32 = 131_072;
+
+/// The length of a frame of rows without any, the bytes before the first one, and those of one.
+pub const ROWS_LENGTH: u32 = 27;
+
+pub const ROWS_HEAD_BYTES: usize = 31;
+
+pub const ROW_BYTES: usize = 34;
+
+/// The most rows: one a column.
+pub const MOST_ROWS: u32 = 4_096;
+
+/// The most pixels of a side.
+pub const MOST_PIXELS: u16 = 4_096;
+
+/// The series of a book are numbered below it.
+pub const SERIES_END: u16 = 512;
+
+/// The greatest size of a value, and of a start.
+pub const GREATEST_VALUE: u64 = 1_000_000_000_000_000_000;
+
+/// The greatest size of a window's end, and of a difference.
+pub const GREATEST_TIME: u64 = 2_000_000_000_000_000_000;
+
+/// The greatest step.
+pub const GREATEST_STEP: u32 = 2_147_483_648;
+
+/// The most slots of a series: 128^4.
+pub const MOST_SLOTS: u64 = 268_435_456;
+
+/// The keys of a level: a key's number is its level times this, and its index.
+pub const LEVEL_KEYS: u64 = 1_099_511_627_776;

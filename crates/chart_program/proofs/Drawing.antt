@@ -1,0 +1,393 @@
+-- How far the frames of an input are drawn.
+use Rattle.std.proofs.Common.{◌≡◌, ℕ, ◌+◌, ◌<◌, ◌≤◌, List, [], ◌∷◌, ◌++◌, length, take, drop, ◌-◌, ◌^◌, inl, inr, Option, None, Some, Result, Ok, Err, IfSome, IfErr, refl, ap, sym, subst, ◌∙◌, arith, append_assoc, length-append}
+use Rattle.std.specs.Prelude.{flat_map, IsErrAnd}
+use Rattle.std.proofs.lemmas.List.Elements.{All-nil, All-cons, All-append}
+use Rattle.std.proofs.lemmas.List.{take-take, take-append-drop, length-drop}
+use Rattle.std.proofs.lemmas.Grind.{flat_map-append}
+use Rattle.line_raster.specs.Canvas.{Canvas}
+use Rattle.block_disk.specs.Streams.{sent_after, Given, left_after}
+use Rattle.chart_frames.specs.declared.frame.Frame.{Frame}
+use Rattle.chart_frames.specs.declared.frame.Frame.TheVariants.{Done}
+use Rattle.chart_frames.specs.Frames.{Fits, spelling}
+use Rattle.chart_frames.specs.Pending.{Pending, held}
+use Rattle.chart_frames.specs.Format.{number_in, Breaks}
+use Rattle.chart_frames.specs.Fields.{frame_fields}
+use Rattle.chart_frames.specs.declared.errors.FrameFault.{FrameFault}
+use Rattle.chart_frames.specs.declared.errors.FrameFault.TheVariants as fault
+use Rattle.chart_frames.specs.Stream.{Takes, Answers, IsPartial}
+use Rattle.chart_client.specs.declared.holding.Holding.{Holding}
+use Rattle.chart_client.specs.Accepting.{Accepts}
+use Rattle.drawn_replies.specs.Pictures.{AcceptsAll}
+use Rattle.chart_program.specs.Texts.{picture_bytes}
+use Rattle.chart_program.specs.declared.draw_end.DrawEnd.{DrawEnd}
+use Rattle.chart_program.specs.declared.draw_end.DrawEnd.TheVariants.{NoMemory, ReadFault, SendFault, InputTooLong, BadFrame, Missing, BadCoefficient, UnknownSession}
+use Rattle.chart_program.specs.Draws.{DrawsMore, DrawsFirst, DrawsFrame, FrameStops, NextStops, HoldingStops, FramesStop, PieceStops, EndsDraw, DrawsAll, DrawsTaken, DrawsWithin, IsCut, IsFront, StopsAtFrame, fed, frame_end}
+
+append_none : {X : Type 0} (xs : List X) → xs ++ [] ≡ xs
+append_none [] = refl
+append_none (x ∷ xs) = ap (λ l. x ∷ l) (append_none xs)
+
+sent_none : (before : Option (List ℕ)) → before ≡ sent_after [] before
+sent_none None = refl
+sent_none (Some sent) = ap Some (sym (append_none sent))
+
+sent_more : (text more : List ℕ) (before now later : Option (List ℕ)) → now ≡ sent_after text before → later ≡ sent_after more now → later ≡ sent_after (text ++ more) before
+sent_more text more None now later first second = second ∙ ap (sent_after more) first
+sent_more text more (Some sent) now later first second = second ∙ ap (sent_after more) first ∙ ap Some (append_assoc sent text more)
+
+accepts_joined : (fs gs : List Frame) (ds es : List (Option Canvas)) (old between new : List Holding)
+    → AcceptsAll old fs ds between → AcceptsAll between gs es new → AcceptsAll old (fs ++ gs) (ds ++ es) new
+accepts_joined [] gs [] es old between new all more =
+    let P : List Holding → Type 0 = λ h. AcceptsAll h gs es new in
+    subst P all more
+accepts_joined [] gs (d ∷ ds) es old between new all more = absurd all
+accepts_joined (f ∷ fs) gs [] es old between new all more = absurd all
+accepts_joined (f ∷ fs) gs (d ∷ ds) es old between new all more =
+    (all.0, all.1, accepts_joined fs gs ds es all.0 between new all.2 more)
+
+-- nothing is drawn yet
+pub drawn_none : (at : Pending) (holdings : List Holding) (now : Option (List ℕ)) → DrawsMore at at holdings holdings now now
+drawn_none at holdings now = record {
+  frames = [];
+  fit = All-nil Fits;
+  split = refl;
+  given = omega arith;
+  drawings = [];
+  accepted = refl;
+  sent = sent_none now;
+}
+
+-- a frame is drawn
+pub drawn_one : (old new : Pending) (f : Frame) (d : Option Canvas) (holdings holdings' : List Holding) (before now : Option (List ℕ))
+    → Takes old new f → Accepts f d holdings holdings' → now ≡ sent_after (picture_bytes d) before → DrawsMore old new holdings holdings' before now
+drawn_one old new f d holdings holdings' before now takes accepts sends = record {
+  frames = f ∷ [];
+  fit = All-cons Fits f [] takes.fits (All-nil Fits);
+  split = takes.front ∙ ap (λ l. l ++ new.rest) (sym (append_none (spelling f)));
+  given = omega (arith, takes.given, ap length (append_none (spelling f)));
+  drawings = d ∷ [];
+  accepted = (holdings', accepts, refl);
+  sent = sends ∙ ap (λ l. sent_after l before) (sym (append_none (picture_bytes d)));
+}
+
+-- frames are drawn, and then more
+pub drawn_then : (old between new : Pending) (h h' h'' : List Holding) (before now later : Option (List ℕ))
+    → DrawsMore old between h h' before now → DrawsMore between new h' h'' now later → DrawsMore old new h h'' before later
+drawn_then old between new h h' h'' before now later a b = record {
+  frames = a.frames ++ b.frames;
+  fit = All-append Fits a.frames b.frames a.fit b.fit;
+  split =
+      a.split ∙ ap (λ l. flat_map spelling a.frames ++ l) b.split
+      ∙ sym (append_assoc (flat_map spelling a.frames) (flat_map spelling b.frames) new.rest)
+      ∙ ap (λ l. l ++ new.rest) (sym (flat_map-append spelling a.frames b.frames));
+  given = omega (arith, a.given, b.given, length-append (flat_map spelling a.frames) (flat_map spelling b.frames), ap length (flat_map-append spelling a.frames b.frames));
+  drawings = a.drawings ++ b.drawings;
+  accepted = accepts_joined a.frames b.frames a.drawings b.drawings h h' h'' a.accepted b.accepted;
+  sent =
+      sent_more (flat_map picture_bytes a.drawings) (flat_map picture_bytes b.drawings) before now later a.sent b.sent
+      ∙ ap (λ l. sent_after l before) (sym (flat_map-append picture_bytes a.drawings b.drawings));
+}
+
+-- the same, where more bytes stand behind
+pub drawn_wide : (old new : Pending) (more : List ℕ) (h h' : List Holding) (before now : Option (List ℕ)) → DrawsMore old new h h' before now
+    → DrawsMore (held old.given (old.rest ++ more)) (held new.given (new.rest ++ more)) h h' before now
+drawn_wide old new more h h' before now a = record {
+  frames = a.frames;
+  fit = a.fit;
+  split = ap (λ l. l ++ more) a.split ∙ append_assoc (flat_map spelling a.frames) new.rest more;
+  given = a.given;
+  drawings = a.drawings;
+  accepted = a.accepted;
+  sent = a.sent;
+}
+
+-- The frames of the input so far are drawn, where the input and what is left of it are told: these bytes are held
+-- behind them.
+abbrev pub DrawnOf : Option (List ℕ) → Option (List ℕ) → Pending → List Holding → Option (List ℕ) → Option (List ℕ) → Type 0
+DrawnOf o left at holdings before now =
+    IfSome o (λ input. (bytes : List ℕ) × (left ≡ Some bytes) × DrawsFirst input (held at.given (at.rest ++ bytes)) holdings before now)
+
+-- before the first take
+pub drawn_start : (o : Option (List ℕ)) (at : Pending) (h : List Holding) (before : Option (List ℕ)) → at ≡ held 0 [] → h ≡ [] → DrawnOf o o at h before before
+drawn_start None at h before is none = tt
+drawn_start (Some input) at h before is none =
+    let P : Pending → Type 0 = λ a. DrawnOf (Some input) (Some input) a h before before in
+    let Q : List Holding → Type 0 = λ hs. DrawnOf (Some input) (Some input) (held 0 []) hs before before in
+    subst P (sym is) (subst Q (sym none) (input, refl, drawn_none (held 0 input) [] before))
+
+-- what a frame that is given leaves
+pub takes_so : (old new : Pending) (o : Option Frame) (f : Frame) → Answers old (Ok o) new → o ≡ Some f → Takes old new f
+takes_so old new o f answers is = let P : Option Frame → Type 0 = λ x. Answers old (Ok x) new in subst P is answers
+
+pub partial_so : (old new : Pending) (o : Option Frame) → Answers old (Ok o) new → o ≡ None → IsPartial old × (new ≡ old)
+partial_so old new o answers is = let P : Option Frame → Type 0 = λ x. Answers old (Ok x) new in subst P is answers
+
+pub shorter : (old new : Pending) (f : Frame) → ((f : Frame) (x : List ℕ) → Fits f → length (spelling f) ≡ 4 + number_in 4 (spelling f ++ x))
+    → Takes old new f → length new.rest < length old.rest
+shorter old new f told takes =
+    omega (arith, told f new.rest takes.fits, ap length takes.front, length-append (spelling f) new.rest)
+
+-- a frame more is drawn
+pub drawn_frame : (start old new : Pending) (f : Frame) (h h' h'' : List Holding) (before now later : Option (List ℕ)) → Takes old new f
+    → DrawsFrame f h' h'' now later → DrawsMore start old h h' before now → DrawsMore start new h h'' before later
+drawn_frame start old new f h h' h'' before now later takes draws a =
+    drawn_then start old new h h' h'' before now later a (drawn_one old new f draws.0 h' h'' now later takes draws.1 draws.2)
+
+-- a frame isn't drawn
+next_stops : (at : Pending) (f : Frame) (behind : List ℕ) (h : List Holding) (before now : Option (List ℕ)) (end : DrawEnd) → Fits f
+    → at.rest ≡ spelling f ++ behind → FrameStops f h before now end → HoldingStops at h before now end
+next_stops at f behind h before now NoMemory fits front stops = stops
+next_stops at f behind h before now ReadFault fits front stops = absurd stops
+next_stops at f behind h before now SendFault fits front stops = record { frame = f; fits = fits; behind = behind; next = front; stops = stops }
+next_stops at f behind h before now InputTooLong fits front stops = absurd stops
+next_stops at f behind h before now (BadFrame n) fits front stops = absurd stops
+next_stops at f behind h before now (Missing key) fits front stops = record { frame = f; fits = fits; behind = behind; next = front; stops = stops }
+next_stops at f behind h before now (BadCoefficient key) fits front stops = record { frame = f; fits = fits; behind = behind; next = front; stops = stops }
+next_stops at f behind h before now (UnknownSession n) fits front stops = record { frame = f; fits = fits; behind = behind; next = front; stops = stops }
+
+pub frame_stops : (start old new : Pending) (f : Frame) (h h' : List Holding) (before now later : Option (List ℕ)) (end : DrawEnd) → Takes old new f
+    → FrameStops f h' now later end → DrawsMore start old h h' before now → FramesStop start h before later end
+frame_stops start old new f h h' before now later end takes stops a = record {
+  rest = old;
+  client = h';
+  sent_first = now;
+  first = a;
+  stops = next_stops old f new.rest h' now later end takes.fits takes.front stops;
+}
+
+-- no frame is given
+fault_at : (old new : Pending) (h : List Holding) (now : Option (List ℕ)) (e : FrameFault) → Answers old (Err e) new → HoldingStops old h now now (frame_end e)
+fault_at old new h now (fault.BadFrame at) answers = (refl, answers.0)
+fault_at old new h now fault.NoMemory answers = refl
+
+pub fault_stops : (start old new : Pending) (h h' : List Holding) (before now : Option (List ℕ)) (e : FrameFault) (end : DrawEnd) → end ≡ frame_end e
+    → Answers old (Err e) new → DrawsMore start old h h' before now → FramesStop start h before now end
+fault_stops start old new h h' before now e end is answers a =
+    let P : DrawEnd → Type 0 = λ x. FramesStop start h before now x in
+    subst P (sym is) (record { rest = old; client = h'; sent_first = now; first = a; stops = fault_at old new h' now e answers })
+
+-- there was no memory for a piece
+pub piece_unfed : (piece : List ℕ) (old : Pending) (h : List Holding) (now : Option (List ℕ)) (end : DrawEnd) → end ≡ NoMemory → PieceStops piece old h now now end
+piece_unfed piece old h now end is =
+    let P : DrawEnd → Type 0 = λ x. PieceStops piece old h now now x in
+    subst P (sym is) (record { rest = fed piece old; client = h; sent_first = now; first = drawn_none (fed piece old) h now; stops = refl })
+
+pub error_so : {T E : Type 0} (P Q : E → Type 0) (r : Result T E) → IsErrAnd r P → ((e : E) → P e → Q e) → IfErr r Q
+error_so P Q (Ok v) is more = tt
+error_so P Q (Err e) is more = more e is
+
+pub if_err : {T E : Type 0} (P Q : E → Type 0) (r : Result T E) → IfErr r P → ((e : E) → P e → Q e) → IfErr r Q
+if_err P Q (Ok v) is more = tt
+if_err P Q (Err e) is more = more e is
+
+pub no_memory_first : (o left before : Option (List ℕ)) (end : DrawEnd) → end ≡ NoMemory → IfSome o (λ input. EndsDraw input left before before end)
+no_memory_first None left before end is = tt
+no_memory_first (Some input) left before end is =
+    let P : DrawEnd → Type 0 = λ x. EndsDraw input left before before x in
+    subst P (sym is) (record { rest = held 0 input; client = []; sent_first = before; first = drawn_none (held 0 input) [] before; stops = refl })
+
+-- ---- pieces
+
+-- a take that gave nothing, where the bytes left are told
+none_left : (count : ℕ) (bytes buffer : List ℕ) (left : Option (List ℕ)) → IfSome left (λ told. Given count told buffer) → left ≡ Some bytes → count ≡ 0 → bytes ≡ []
+none_left count bytes buffer left given is none =
+    let P : Option (List ℕ) → Type 0 = λ l. IfSome l (λ told. Given count told buffer) in
+    let here : Given count bytes buffer = subst P is given in
+    here.ends none
+
+front_of : (at : Pending) → IsPartial at → IsFront at.rest
+front_of at partial = record { few = partial.few; good = partial.good }
+
+-- behind the last take
+drawn_all_at : (input bytes : List ℕ) (at : Pending) (h : List Holding) (before now : Option (List ℕ)) → bytes ≡ [] → at.rest ≡ []
+    → DrawsFirst input (held at.given (at.rest ++ bytes)) h before now → DrawsAll input before now
+drawn_all_at input bytes at h before now none empty first =
+    let P : List ℕ → Type 0 = λ l. DrawsFirst input (held at.given l) h before now in
+    (at.given, h, subst P (ap (λ l. l ++ bytes) empty ∙ none) first)
+
+pub drawn_all : (o left : Option (List ℕ)) (count : ℕ) (buffer : List ℕ) (at : Pending) (h : List Holding) (before now : Option (List ℕ))
+    → IfSome left (λ told. Given count told buffer) → count ≡ 0 → at.rest ≡ [] → DrawnOf o left at h before now → IfSome o (λ input. DrawsAll input before now)
+drawn_all None left count buffer at h before now given none empty drawn = tt
+drawn_all (Some input) left count buffer at h before now given none empty drawn =
+    drawn_all_at input drawn.0 at h before now (none_left count drawn.0 buffer left given drawn.1 none) empty drawn.2
+
+cut_at : (input bytes : List ℕ) (at : Pending) (h : List Holding) (taken : ℕ) (before now : Option (List ℕ)) → bytes ≡ [] → 0 < length at.rest
+    → IsPartial at → taken ≡ at.given + length at.rest → DrawsFirst input (held at.given (at.rest ++ bytes)) h before now → IsCut input taken before now
+cut_at input bytes at h taken before now none some partial counted first =
+    let rest_is : at.rest ++ bytes ≡ at.rest = ap (λ l. at.rest ++ l) none ∙ append_none at.rest in
+    record {
+      rest = held at.given (at.rest ++ bytes);
+      holdings = h;
+      first = first;
+      some = omega (arith, some, ap length rest_is);
+      unended = subst IsFront (sym rest_is) (front_of at partial);
+      end = omega (arith, counted, first.given, ap length first.split, ap length rest_is, length-append (flat_map spelling first.frames) (at.rest ++ bytes));
+    }
+
+pub cut_so : (o left left' : Option (List ℕ)) (count : ℕ) (buffer : List ℕ) (at : Pending) (h : List Holding) (taken : ℕ) (before now : Option (List ℕ)) (end : DrawEnd)
+    → IfSome left (λ told. Given count told buffer) → count ≡ 0 → end ≡ BadFrame taken → 0 < length at.rest → IsPartial at → taken ≡ at.given + length at.rest
+    → DrawnOf o left at h before now → IfSome o (λ input. EndsDraw input left' before now end)
+cut_so None left left' count buffer at h taken before now end given none is some partial counted drawn = tt
+cut_so (Some input) left left' count buffer at h taken before now end given none is some partial counted drawn =
+    let P : DrawEnd → Type 0 = λ e. EndsDraw input left' before now e in
+    subst P (sym is) (inl (cut_at input drawn.0 at h taken before now (none_left count drawn.0 buffer left given drawn.1 none) some partial counted drawn.2))
+
+-- at a take that failed
+pub taken_so : (o left left' : Option (List ℕ)) (at : Pending) (h : List Holding) (before now now' : Option (List ℕ)) (end : DrawEnd) → end ≡ ReadFault → left' ≡ left → now' ≡ now
+    → IsPartial at → DrawnOf o left at h before now → IfSome o (λ input. EndsDraw input left' before now' end)
+taken_so None left left' at h before now now' end is same sent partial drawn = tt
+taken_so (Some input) left left' at h before now now' end is same sent partial drawn =
+    let P : DrawEnd → Type 0 = λ e. EndsDraw input left' before now' e in
+    let L : Option (List ℕ) → Type 0 = λ l. IfSome l (λ bytes. DrawsTaken input bytes before now') in
+    let N : Option (List ℕ) → Type 0 = λ n. DrawsTaken input drawn.0 before n in
+    subst P (sym is) (subst L (sym (same ∙ drawn.1)) (subst N (sym sent) (record {
+      rest = held at.given (at.rest ++ drawn.0);
+      holdings = h;
+      first = drawn.2;
+      partial = at.rest;
+      taken = refl;
+      unended = front_of at partial;
+    })))
+
+-- the piece that is fed is the front of what was left
+piece_is : (fits count : ℕ) (bytes buffer piece : List ℕ) → Given count bytes buffer → fits ≤ count → piece ≡ take fits buffer → piece ≡ take fits bytes
+piece_is fits count bytes buffer piece given less is =
+    is ∙ sym (take-take fits count buffer less) ∙ ap (take fits) given.front ∙ take-take fits count bytes less
+
+-- what is held and what is left, behind a piece
+parted : (fits : ℕ) (bytes piece held_bytes : List ℕ) → piece ≡ take fits bytes → held_bytes ++ bytes ≡ (held_bytes ++ piece) ++ drop fits bytes
+parted fits bytes piece held_bytes is =
+    ap (λ l. held_bytes ++ l) (sym (take-append-drop fits bytes) ∙ ap (λ l. l ++ drop fits bytes) (sym is)) ∙ sym (append_assoc held_bytes piece (drop fits bytes))
+
+-- frames more are drawn, behind a piece
+drawn_piece_at : (input bytes piece : List ℕ) (fits : ℕ) (at at' : Pending) (h h' : List Holding) (before now now' : Option (List ℕ)) → piece ≡ take fits bytes
+    → DrawsFirst input (held at.given (at.rest ++ bytes)) h before now → DrawsMore (fed piece at) at' h h' now now'
+    → DrawsFirst input (held at'.given (at'.rest ++ drop fits bytes)) h' before now'
+drawn_piece_at input bytes piece fits at at' h h' before now now' is first more =
+    let P : List ℕ → Type 0 = λ l. DrawsFirst input (held at.given l) h before now in
+    drawn_then (held 0 input) (held at.given ((at.rest ++ piece) ++ drop fits bytes)) (held at'.given (at'.rest ++ drop fits bytes)) [] h h' before now now'
+    (subst P (parted fits bytes piece at.rest is) first) (drawn_wide (fed piece at) at' (drop fits bytes) h h' now now' more)
+
+pub counted_more : (taken fits : ℕ) (piece : List ℕ) (at at' : Pending) (h h' : List Holding) (now now' : Option (List ℕ)) → taken ≡ at.given + length at.rest
+    → length piece ≡ fits → DrawsMore (fed piece at) at' h h' now now' → taken + fits ≡ at'.given + length at'.rest
+counted_more taken fits piece at at' h h' now now' counted sized more =
+    omega (arith, counted, sized, more.given, ap length more.split, length-append at.rest piece, length-append (flat_map spelling more.frames) at'.rest)
+
+-- where all that was taken is fed
+pub drawn_piece : (o left left' : Option (List ℕ)) (fits count : ℕ) (buffer piece : List ℕ) (at at' : Pending) (h h' : List Holding) (before now now' : Option (List ℕ))
+    → IfSome left (λ told. Given count told buffer) → left' ≡ left_after count left → fits ≡ count → piece ≡ take fits buffer
+    → DrawsMore (fed piece at) at' h h' now now' → DrawnOf o left at h before now → DrawnOf o left' at' h' before now'
+drawn_piece None left left' fits count buffer piece at at' h h' before now now' given after all is more drawn = tt
+drawn_piece (Some input) left left' fits count buffer piece at at' h h' before now now' given after all is more drawn =
+    let G : Option (List ℕ) → Type 0 = λ l. IfSome l (λ told. Given count told buffer) in
+    let here : Given count drawn.0 buffer = subst G drawn.1 given in
+    let front = piece_is fits count drawn.0 buffer piece here (omega (arith, all)) is in (
+      drop fits drawn.0,
+      after ∙ ap (left_after count) drawn.1 ∙ ap (λ n. Some (drop n drawn.0)) (sym all),
+      drawn_piece_at input drawn.0 piece fits at at' h h' before now now' front drawn.2 more,
+    )
+
+take_exact : (xs ys : List ℕ) → take (length xs) (xs ++ ys) ≡ xs
+take_exact [] ys = refl
+take_exact (x ∷ xs) ys = ap (λ l. x ∷ l) (take_exact xs ys)
+
+-- where more was taken than is fed
+within_piece : (input bytes piece : List ℕ) (fits count : ℕ) (at at' : Pending) (h h' : List Holding) (before now now' : Option (List ℕ)) → piece ≡ take fits bytes
+    → count ≤ length bytes → fits < count → 2 ^ 32 ≡ at'.given + length at'.rest → IsPartial at'
+    → DrawsFirst input (held at.given (at.rest ++ bytes)) h before now → DrawsMore (fed piece at) at' h h' now now' → DrawsWithin input before now'
+within_piece input bytes piece fits count at at' h h' before now now' is few less full partial first more =
+    let all = drawn_piece_at input bytes piece fits at at' h h' before now now' is first more in
+    let room : 2 ^ 32 - at'.given ≡ length at'.rest = omega (arith, full) in
+    record {
+      rest = held at'.given (at'.rest ++ drop fits bytes);
+      holdings = h';
+      first = all;
+      unended = subst IsFront (sym (ap (λ n. take n (at'.rest ++ drop fits bytes)) room ∙ take_exact at'.rest (drop fits bytes))) (front_of at' partial);
+      past = omega (arith, full, all.given, ap length all.split, length-append (flat_map spelling all.frames) (at'.rest ++ drop fits bytes), length-append at'.rest (drop fits bytes), length-drop fits bytes, few, less);
+    }
+
+pub within_so : (o left left' : Option (List ℕ)) (fits count : ℕ) (buffer piece : List ℕ) (at at' : Pending) (h h' : List Holding) (before now now' : Option (List ℕ)) (end : DrawEnd)
+    → IfSome left (λ told. Given count told buffer) → fits < count → piece ≡ take fits buffer → 2 ^ 32 ≡ at'.given + length at'.rest → IsPartial at' → end ≡ InputTooLong
+    → DrawsMore (fed piece at) at' h h' now now' → DrawnOf o left at h before now → IfSome o (λ input. EndsDraw input left' before now' end)
+within_so None left left' fits count buffer piece at at' h h' before now now' end given less is full partial too_long more drawn = tt
+within_so (Some input) left left' fits count buffer piece at at' h h' before now now' end given less is full partial too_long more drawn =
+    let G : Option (List ℕ) → Type 0 = λ l. IfSome l (λ told. Given count told buffer) in
+    let here : Given count drawn.0 buffer = subst G drawn.1 given in
+    let front = piece_is fits count drawn.0 buffer piece here (omega (arith, less)) is in
+    let P : DrawEnd → Type 0 = λ e. EndsDraw input left' before now' e in
+    subst P (sym too_long) (within_piece input drawn.0 piece fits count at at' h h' before now now' front here.within less full partial drawn.2 more)
+
+-- a frame that isn't drawn, or a bad field, with more bytes behind
+abbrev pub Stay : Type 0
+Stay = (bytes more : List ℕ) (at : ℕ) → Breaks frame_fields bytes at → Breaks frame_fields (bytes ++ more) at
+
+next_wide : (at : Pending) (more : List ℕ) (h : List Holding) (before now : Option (List ℕ)) (end : DrawEnd) → NextStops at h before now end
+    → NextStops (held at.given (at.rest ++ more)) h before now end
+next_wide at more h before now end n = record {
+  frame = n.frame;
+  fits = n.fits;
+  behind = n.behind ++ more;
+  next = ap (λ l. l ++ more) n.next ∙ append_assoc (spelling n.frame) n.behind more;
+  stops = n.stops;
+}
+
+stops_wide : Stay → (at : Pending) (more : List ℕ) (h : List Holding) (before now : Option (List ℕ)) (end : DrawEnd) → HoldingStops at h before now end
+    → HoldingStops (held at.given (at.rest ++ more)) h before now end
+stops_wide stay at more h before now NoMemory s = s
+stops_wide stay at more h before now ReadFault s = next_wide at more h before now ReadFault s
+stops_wide stay at more h before now SendFault s = next_wide at more h before now SendFault s
+stops_wide stay at more h before now InputTooLong s = next_wide at more h before now InputTooLong s
+stops_wide stay at more h before now (BadFrame n) s = (s.0, (s.1.0, s.1.1, stay at.rest more s.1.0 s.1.2))
+stops_wide stay at more h before now (Missing key) s = next_wide at more h before now (Missing key) s
+stops_wide stay at more h before now (BadCoefficient key) s = next_wide at more h before now (BadCoefficient key) s
+stops_wide stay at more h before now (UnknownSession n) s = next_wide at more h before now (UnknownSession n) s
+
+stopped_at : Stay → (input bytes piece : List ℕ) (fits : ℕ) (at : Pending) (h : List Holding) (before now now' : Option (List ℕ)) (end : DrawEnd) → piece ≡ take fits bytes
+    → DrawsFirst input (held at.given (at.rest ++ bytes)) h before now → PieceStops piece at h now now' end → StopsAtFrame input before now' end
+stopped_at stay input bytes piece fits at h before now now' end is first s = record {
+  rest = held s.rest.given (s.rest.rest ++ drop fits bytes);
+  client = s.client;
+  sent_first = s.sent_first;
+  first = drawn_piece_at input bytes piece fits at s.rest h s.client before now s.sent_first is first s.first;
+  stops = stops_wide stay s.rest (drop fits bytes) s.client s.sent_first now' end s.stops;
+}
+
+ends_at : (input : List ℕ) (left before now : Option (List ℕ)) (end : DrawEnd) → StopsAtFrame input before now end → EndsDraw input left before now end
+ends_at input left before now NoMemory s = s
+ends_at input left before now ReadFault s = let never = s.stops.stops in absurd never
+ends_at input left before now SendFault s = s
+ends_at input left before now InputTooLong s = let never = s.stops.stops in absurd never
+ends_at input left before now (BadFrame n) s = inr s
+ends_at input left before now (Missing key) s = s
+ends_at input left before now (BadCoefficient key) s = s
+ends_at input left before now (UnknownSession n) s = s
+
+pub stopped_so : Stay → (o left left' : Option (List ℕ)) (fits count : ℕ) (buffer piece : List ℕ) (at : Pending) (h : List Holding) (before now now' : Option (List ℕ)) (end : DrawEnd)
+    → IfSome left (λ told. Given count told buffer) → fits ≤ count → piece ≡ take fits buffer → PieceStops piece at h now now' end → DrawnOf o left at h before now
+    → IfSome o (λ input. EndsDraw input left' before now' end)
+stopped_so stay None left left' fits count buffer piece at h before now now' end given less is s drawn = tt
+stopped_so stay (Some input) left left' fits count buffer piece at h before now now' end given less is s drawn =
+    let G : Option (List ℕ) → Type 0 = λ l. IfSome l (λ told. Given count told buffer) in
+    let here : Given count drawn.0 buffer = subst G drawn.1 given in
+    let front = piece_is fits count drawn.0 buffer piece here less is in
+    ends_at input left' before now' end (stopped_at stay input drawn.0 piece fits at h before now now' end front drawn.2 s)
+
+-- a take leaves what was drawn
+pub drawn_sent : (o left : Option (List ℕ)) (at : Pending) (h : List Holding) (before now now' : Option (List ℕ)) → now' ≡ now → DrawnOf o left at h before now → DrawnOf o left at h before now'
+drawn_sent o left at h before now now' same = let P : Option (List ℕ) → Type 0 = λ n. DrawnOf o left at h before n in subst P (sym same)
+
+-- no frame stands at the front of no bytes
+abbrev pub Good : Type 0
+Good = (f : Frame) (x : List ℕ) (at : ℕ) → Fits f → Breaks frame_fields (spelling f ++ x) at → ⊥
+
+none_partial : Stay → Good → IsPartial (held 0 [])
+none_partial stay good = record {
+  few = inl (omega arith);
+  good = λ at breaks. good (Done 0) [] at (omega arith) (stay [] (spelling (Done 0) ++ []) at breaks);
+}
+
+pub start_partial : Stay → Good → (at : Pending) → at ≡ held 0 [] → IsPartial at
+start_partial stay good at is = subst IsPartial (sym is) (none_partial stay good)
+
+pub start_counted : (at : Pending) → at ≡ held 0 [] → 0 ≡ at.given + length at.rest
+start_counted at is = let P : Pending → Type 0 = λ a. 0 ≡ a.given + length a.rest in subst P (sym is) refl

@@ -1,0 +1,222 @@
+-- Bytes are the spellings of one list of frames.
+use Rattle.std.proofs.Common.{◌≡◌, ℕ, ◌+◌, ◌<◌, ◌⊎◌, inl, inr, List, [], ◌∷◌, ◌++◌, length, Option, None, Some, IfSome, refl, ap, sym, subst, ◌∙◌, arith, append_assoc, length-append}
+use Rattle.std.specs.Prelude.{flat_map, All, map}
+use Rattle.std.specs.List.{filter}
+use Rattle.std.proofs.lemmas.List.Elements.{All-nil, All-cons, All-head, All-tail, All-filter}
+use Rattle.chart_frames.specs.declared.frame.Frame.{Frame}
+use Rattle.chart_frames.specs.Format.{Breaks, number_in}
+use Rattle.chart_frames.specs.Fields.{frame_fields}
+use Rattle.chart_frames.specs.declared.frame.Frame.TheVariants.{Done}
+use Rattle.chart_frames.specs.Frames.{Fits, spelling}
+use Rattle.chart_service.specs.State.{State, IsSound}
+use Rattle.chart_service.specs.Serving.{RepliesToAll}
+use Rattle.chart_service.specs.Alone.{only}
+use Rattle.chart_frames.specs.Pending.{Pending, held}
+use Rattle.line_raster.specs.Canvas.{Canvas}
+use Rattle.om3_coeff.specs.declared.key.Key.{Key}
+use Rattle.chart_client.specs.declared.holding.Holding.{Holding}
+use Rattle.chart_client.specs.declared.errors.ClientError.{ClientError}
+use Rattle.chart_client.specs.declared.errors.ClientError.TheVariants as client
+use Rattle.chart_client.specs.Accepting.{Rejects}
+use Rattle.drawn_replies.specs.Mirrors.{mirrored, Mirrors}
+use Rattle.drawn_replies.specs.Pictures.{AcceptsAll, ArePictured, AreOwnPictured, NoneRejected, names}
+use Rattle.chart_program.specs.declared.draw_end.DrawEnd.TheVariants as draw_end
+use Rattle.chart_program.specs.Draws.{DrawsMore, DrawsAll, StopsAtFrame, IsCut, DrawsWithin, IsFront, EndsDraw}
+use Rattle.chart_program.specs.Ran.{IsFrames, DrawsReplies}
+use Rattle.chart_program.proofs.Drawing.{Good, Stay}
+
+abbrev pub OneFrame : Type 0
+OneFrame = (f g : Frame) (x y : List ℕ) → Fits f → Fits g → spelling f ++ x ≡ spelling g ++ y → (f ≡ g) × (x ≡ y)
+
+abbrev pub Told : Type 0
+Told = (f : Frame) (x : List ℕ) → Fits f → length (spelling f) ≡ 4 + number_in 4 (spelling f ++ x)
+
+-- what is known of frames
+pub record Known : Type 0 where
+  pub one : OneFrame
+  pub told : Told
+  pub good : Good
+
+some_bytes : Told → (f : Frame) (x : List ℕ) → Fits f → spelling f ++ x ≡ [] → ⊥
+some_bytes told f x fits none = omega (arith, told f x fits, ap length none, length-append (spelling f) x)
+
+-- frames whose spellings begin the bytes of others are the first of these
+pub record Begins (frames all : List Frame) (rest : List ℕ) : Type 0 where
+  pub more : List Frame
+  pub split : all ≡ frames ++ more
+  pub fit : All Fits more
+  pub behind : rest ≡ flat_map spelling more
+
+begins_one : (f : Frame) (fs all : List Frame) (rest : List ℕ) → Begins fs all rest → Begins (f ∷ fs) (f ∷ all) rest
+begins_one f fs all rest b = record { more = b.more; split = ap (λ l. f ∷ l) b.split; fit = b.fit; behind = b.behind }
+
+pub begins : Known → (frames all : List Frame) (rest : List ℕ) → All Fits frames → All Fits all → flat_map spelling all ≡ flat_map spelling frames ++ rest → Begins frames all rest
+begins k [] all rest fit fit_all same = record { more = all; split = refl; fit = fit_all; behind = sym same }
+begins k (f ∷ fs) [] rest fit fit_all same =
+    absurd (some_bytes k.told f (flat_map spelling fs ++ rest) (All-head Fits f fs fit) (sym (append_assoc (spelling f) (flat_map spelling fs) rest) ∙ sym same))
+begins k (f ∷ fs) (g ∷ gs) rest fit fit_all same =
+    let first = k.one g f (flat_map spelling gs) (flat_map spelling fs ++ rest) (All-head Fits g gs fit_all) (All-head Fits f fs fit)
+    (same ∙ append_assoc (spelling f) (flat_map spelling fs) rest) in
+    let later = begins k fs gs rest (All-tail Fits f fs fit) (All-tail Fits g gs fit_all) first.1 in
+    let P : Frame → Type 0 = λ h. Begins (f ∷ fs) (h ∷ gs) rest in
+    subst P (sym first.0) (begins_one f fs gs rest later)
+
+-- no field breaks its rule where frames stand
+no_break : Known → (more : List Frame) (at : ℕ) → All Fits more → Breaks frame_fields (flat_map spelling more) at → (Breaks frame_fields [] at → ⊥) → ⊥
+no_break k [] at fit breaks none = none breaks
+no_break k (m ∷ ms) at fit breaks none = k.good m (flat_map spelling ms) at (All-head Fits m ms fit) breaks
+
+-- some bytes of frames hold a whole frame
+no_front : Known → (more : List Frame) → All Fits more → 0 < length (flat_map spelling more) → IsFront (flat_map spelling more) → ⊥
+no_front k [] fit some front = absurd (omega (arith, some))
+no_front k (m ∷ ms) fit some front =
+    let fits = All-head Fits m ms fit in
+    elim front.few [
+      | inl few ↦ omega (arith, few, k.told m (flat_map spelling ms) fits, length-append (spelling m) (flat_map spelling ms))
+      | inr few ↦ omega (arith, few, k.told m (flat_map spelling ms) fits, length-append (spelling m) (flat_map spelling ms))
+    ]
+
+-- the next frame is accepted
+not_rejected : Known → (all frames more : List Frame) (holdings : List Holding) (drawings : List (Option Canvas)) (f : Frame) (behind : List ℕ) (e : ClientError) → NoneRejected all → all ≡ frames ++ more → All Fits more
+    → AcceptsAll [] frames drawings holdings → Fits f → flat_map spelling more ≡ spelling f ++ behind → Rejects f e holdings → e ≡ client.NoMemory
+not_rejected k all frames [] holdings drawings f behind e none split fit accepted fits same rejects =
+    absurd (some_bytes k.told f behind fits (sym same))
+not_rejected k all frames (m ∷ ms) holdings drawings f behind e none split fit accepted fits same rejects =
+    let first = k.one m f (flat_map spelling ms) behind (All-head Fits m ms fit) fits same in
+    let R : Frame → Type 0 = λ g. Rejects g e holdings in
+    none frames ms m drawings holdings e split accepted (subst R (sym first.0) rejects)
+
+next_rejected : Known → (all more : List Frame) (frames : List Frame) (drawings : List (Option Canvas)) (holdings : List Holding) (rest : List ℕ) (f : Frame) (behind : List ℕ) (e : ClientError) → NoneRejected all → all ≡ frames ++ more
+    → All Fits more → rest ≡ flat_map spelling more → AcceptsAll [] frames drawings holdings → Fits f → rest ≡ spelling f ++ behind → Rejects f e holdings → e ≡ client.NoMemory
+next_rejected k all more frames drawings holdings rest f behind e none split fit is accepted fits front rejects =
+    not_rejected k all frames more holdings drawings f behind e none split fit accepted fits (sym is ∙ front) rejects
+
+-- what is left of frames behind those that were drawn
+left_of : Known → (input : List ℕ) (good : IsFrames input) (rest : Pending) (holdings : List Holding) (before now : Option (List ℕ)) → (d : DrawsMore (held 0 input) rest [] holdings before now) → Begins d.frames good.frames rest.rest
+left_of k input good rest holdings before now d = begins k d.frames good.frames rest.rest d.fit good.fit (sym good.spelled ∙ d.split)
+
+-- good input has no bad field
+pub no_bad_frame : Known → ((at : ℕ) → Breaks frame_fields [] at → ⊥) → (input : List ℕ) (at : ℕ) (before now : Option (List ℕ)) → IsFrames input
+    → IsCut input at before now ⊎ StopsAtFrame input before now (draw_end.BadFrame at) → ⊥
+no_bad_frame k none input at before now good (inl cut) =
+    let b = left_of k input good cut.rest cut.holdings before now cut.first in
+    no_front k b.more b.fit (omega (arith, cut.some, ap length b.behind)) (subst IsFront b.behind cut.unended)
+no_bad_frame k none input at before now good (inr stop) =
+    let b = left_of k input good stop.rest stop.client before stop.sent_first stop.first in
+    let P : List ℕ → Type 0 = λ l. Breaks frame_fields l stop.stops.1.0 in
+    no_break k b.more stop.stops.1.0 b.fit (subst P b.behind stop.stops.1.2) (none stop.stops.1.0)
+
+-- and no frame that a client rejects
+pub no_missing : Known → (input : List ℕ) (key : Key) (before now : Option (List ℕ)) → IsFrames input → StopsAtFrame input before now (draw_end.Missing key) → ⊥
+no_missing k input key before now good stop =
+    let b = left_of k input good stop.rest stop.client before stop.sent_first stop.first in
+    let s = stop.stops in
+    let never : client.Missing key ≡ client.NoMemory = next_rejected k good.frames b.more stop.first.frames stop.first.drawings stop.client stop.rest.rest s.frame s.behind (client.Missing key) good.accepted b.split b.fit b.behind stop.first.accepted s.fits s.next s.stops.0 in
+    cc
+
+pub no_misfit : Known → (input : List ℕ) (key : Key) (before now : Option (List ℕ)) → IsFrames input → StopsAtFrame input before now (draw_end.BadCoefficient key) → ⊥
+no_misfit k input key before now good stop =
+    let b = left_of k input good stop.rest stop.client before stop.sent_first stop.first in
+    let s = stop.stops in
+    let never : client.BadCoefficient key ≡ client.NoMemory = next_rejected k good.frames b.more stop.first.frames stop.first.drawings stop.client stop.rest.rest s.frame s.behind (client.BadCoefficient key) good.accepted b.split b.fit b.behind stop.first.accepted s.fits s.next s.stops.0 in
+    cc
+
+pub no_unopened : Known → (input : List ℕ) (n : ℕ) (before now : Option (List ℕ)) → IsFrames input → StopsAtFrame input before now (draw_end.UnknownSession n) → ⊥
+no_unopened k input n before now good stop =
+    let b = left_of k input good stop.rest stop.client before stop.sent_first stop.first in
+    let s = stop.stops in
+    let never : client.UnknownSession n ≡ client.NoMemory = next_rejected k good.frames b.more stop.first.frames stop.first.drawings stop.client stop.rest.rest s.frame s.behind (client.UnknownSession n) good.accepted b.split b.fit b.behind stop.first.accepted s.fits s.next s.stops.0 in
+    cc
+
+-- nor too many bytes
+no_much_frames : (input : List ℕ) (before now : Option (List ℕ)) → IsFrames input → DrawsWithin input before now → ⊥
+no_much_frames input before now good within = omega (arith, good.short, within.past)
+
+-- ---- so such an end never comes
+
+pub none_broken : Stay → Good → (at : ℕ) → Breaks frame_fields [] at → ⊥
+none_broken stay good at breaks = good (Done 0) [] at (omega arith) (stay [] (spelling (Done 0) ++ []) at breaks)
+
+pub bad_never : Known → Stay → (P : Type 0) (o left before now : Option (List ℕ)) (at : ℕ) → IfSome o (λ input. EndsDraw input left before now (draw_end.BadFrame at)) → IfSome o (λ input. IsFrames input → P)
+bad_never k stay P None left before now at ends = tt
+bad_never k stay P (Some input) left before now at ends = λ good. absurd (no_bad_frame k (none_broken stay k.good) input at before now good ends)
+
+pub much_never : (P : Type 0) (o left before now : Option (List ℕ)) → IfSome o (λ input. EndsDraw input left before now draw_end.InputTooLong) → IfSome o (λ input. IsFrames input → P)
+much_never P None left before now ends = tt
+much_never P (Some input) left before now ends = λ good. absurd (no_much_frames input before now good ends)
+
+pub missing_never : Known → (P : Type 0) (o left before now : Option (List ℕ)) (key : Key) → IfSome o (λ input. EndsDraw input left before now (draw_end.Missing key)) → IfSome o (λ input. IsFrames input → P)
+missing_never k P None left before now key ends = tt
+missing_never k P (Some input) left before now key ends = λ good. absurd (no_missing k input key before now good ends)
+
+pub misfit_never : Known → (P : Type 0) (o left before now : Option (List ℕ)) (key : Key) → IfSome o (λ input. EndsDraw input left before now (draw_end.BadCoefficient key)) → IfSome o (λ input. IsFrames input → P)
+misfit_never k P None left before now key ends = tt
+misfit_never k P (Some input) left before now key ends = λ good. absurd (no_misfit k input key before now good ends)
+
+pub unopened_never : Known → (P : Type 0) (o left before now : Option (List ℕ)) (n : ℕ) → IfSome o (λ input. EndsDraw input left before now (draw_end.UnknownSession n)) → IfSome o (λ input. IsFrames input → P)
+unopened_never k P None left before now n ends = tt
+unopened_never k P (Some input) left before now n ends = λ good. absurd (no_unopened k input n before now good ends)
+
+-- ---- the frames that answer lines
+
+abbrev pub AllDraw : Type 0
+AllDraw = (lines : List (Option (List ℕ))) (frames : List Frame) (drawings : List (Option Canvas)) (old new : State) (holdings now : List Holding) → IsSound old
+    → RepliesToAll old lines frames new → Mirrors old.sessions holdings → AcceptsAll holdings frames drawings now → ArePictured old lines frames drawings new × Mirrors new.sessions now
+
+abbrev pub OwnDraw : Type 0
+OwnDraw = (n : ℕ) (lines : List (Option (List ℕ))) (frames : List Frame) (drawings : List (Option Canvas)) (old new : State) (holdings now : List Holding) → IsSound old
+    → RepliesToAll old lines frames new → Mirrors (only n old.sessions) holdings → AcceptsAll holdings (filter (names n) frames) drawings now
+    → AreOwnPictured n old lines frames drawings new × Mirrors (only n new.sessions) now
+
+replies_fit : (lines : List (Option (List ℕ))) (frames : List Frame) (old new : State) → RepliesToAll old lines frames new → All Fits frames
+replies_fit [] [] old new replied = All-nil Fits
+replies_fit [] (f ∷ fs) old new replied = absurd replied
+replies_fit (l ∷ ls) [] old new replied = absurd replied
+replies_fit (l ∷ ls) (f ∷ fs) old new replied = All-cons Fits f fs replied.1.1 (replies_fit ls fs replied.0 new replied.2)
+
+none_more : Known → (more : List Frame) → All Fits more → [] ≡ flat_map spelling more → more ≡ []
+none_more k [] fit none = refl
+none_more k (m ∷ ms) fit none = absurd (some_bytes k.told m (flat_map spelling ms) (All-head Fits m ms fit) (sym none))
+
+append_no_frame : (fs : List Frame) → fs ++ [] ≡ fs
+append_no_frame [] = refl
+append_no_frame (f ∷ fs) = ap (λ l. f ∷ l) (append_no_frame fs)
+
+-- the frames that were drawn are all of them
+all_drawn : Known → (input : List ℕ) (frames : List Frame) (given : ℕ) (holdings : List Holding) (before now : Option (List ℕ)) → All Fits frames → input ≡ flat_map spelling frames
+    → (d : DrawsMore (held 0 input) (held given []) [] holdings before now) → d.frames ≡ frames
+all_drawn k input frames given holdings before now fit spelled d =
+    let b = begins k d.frames frames [] d.fit fit (sym spelled ∙ d.split) in
+    sym (b.split ∙ ap (λ m. d.frames ++ m) (none_more k b.more b.fit b.behind) ∙ append_no_frame d.frames)
+
+replies_at : Known → AllDraw → OwnDraw → (input : List ℕ) (before now : Option (List ℕ)) → DrawsAll input before now → DrawsReplies input before now
+replies_at k draws own input before now all = record {
+  all = λ old new lines frames r spelled.
+      let d = all.2 in
+      let same = all_drawn k input frames all.0 all.1 before now (replies_fit lines frames old new r.replied) spelled d in
+      let A : List Frame → Type 0 = λ fs. AcceptsAll [] fs d.drawings all.1 in
+      record {
+        drawings = d.drawings;
+        pictured = (draws lines frames d.drawings old new [] all.1 r.sound r.replied (ap (λ ss. map mirrored ss) (sym r.alone)) (subst A same d.accepted)).0;
+        sent = d.sent;
+      };
+  own = λ n old new lines frames r spelled.
+      let d = all.2 in
+      let fit = All-filter (names n) Fits frames (replies_fit lines frames old new r.replied) in
+      let same = all_drawn k input (filter (names n) frames) all.0 all.1 before now fit spelled d in
+      let A : List Frame → Type 0 = λ fs. AcceptsAll [] fs d.drawings all.1 in
+      record {
+        drawings = d.drawings;
+        pictured = (own n lines frames d.drawings old new [] all.1 r.sound r.replied (ap (λ ss. map mirrored (only n ss)) (sym r.alone)) (subst A same d.accepted)).0;
+        sent = d.sent;
+      };
+}
+
+pub replies_drawn : Known → AllDraw → OwnDraw → (o before now : Option (List ℕ)) → IfSome o (λ input. DrawsAll input before now) → IfSome o (λ input. DrawsReplies input before now)
+replies_drawn k draws own None before now all = tt
+replies_drawn k draws own (Some input) before now all = replies_at k draws own input before now all
+
+-- what holds at all holds of good input
+pub good_so : (o : Option (List ℕ)) (P : Type 0) → P → IfSome o (λ input. IsFrames input → P)
+good_so None P holds = tt
+good_so (Some input) P holds = λ good. holds

@@ -1,0 +1,76 @@
+use Rattle.std.proofs.Common.{refl, ◌∙◌, arith}
+use Rattle.chart_program.proofs.DiskKept.{kept_none, kept_then}
+use Rattle.chart_program.proofs.Drawing.{drawn_none, drawn_frame, takes_so, shorter}
+use Rattle.chart_program.proofs.draw.draw_frames.Goals as goal
+
+pub frames-init : goal.frames-init
+frames-init g c = record {
+  drawn = drawn_none c.args.decoder.now c.args.client.now (g.S.Streams.sent c.args.streams.now);
+  send_faults = omega arith;
+  left = refl;
+  read_faults = refl;
+  disk = kept_none (g.S.Disk.view c.args.streams.now);
+}
+
+pub frames-smaller-in_ok-draw_frame-in-Some : goal.frames-smaller-in_ok-draw_frame-in-Some
+frames-smaller-in_ok-draw_frame-in-Some g c =
+    shorter c.frames.decoder c.next.new.self c.in-Some.frame c.length_is_told.ensures
+    (takes_so c.frames.decoder c.next.new.self c.in_ok-frame.field-0 c.in-Some.frame c.in_ok-frame.ensures.answers c.in-Some.is)
+
+pub frames-preserved-in_ok-draw_frame-in-Some : goal.frames-preserved-in_ok-draw_frame-in-Some
+frames-preserved-in_ok-draw_frame-in-Some g c =
+    let sent = g.S.Streams.sent in
+    let view = g.S.Disk.view in
+    let inv = c.frames.invariant in
+    let made = c.in_ok-draw_frame-in-Some.ensures in
+    let takes = takes_so c.frames.decoder c.next.new.self c.in_ok-frame.field-0 c.in-Some.frame c.in_ok-frame.ensures.answers c.in-Some.is in
+    record {
+      drawn = drawn_frame c.args.decoder.now c.frames.decoder c.next.new.self c.in-Some.frame c.args.client.now c.frames.client c.draw_frame.new.client
+          (sent c.args.streams.now) (sent c.frames.streams) (sent c.draw_frame.new.streams) takes made.done inv.drawn;
+      send_faults = omega (arith, inv.send_faults, made.send_faults);
+      left = made.left ∙ inv.left;
+      read_faults = made.read_faults ∙ inv.read_faults;
+      disk = kept_then (view c.args.streams.now) (view c.frames.streams) (view c.draw_frame.new.streams) inv.disk made.disk;
+    }
+
+pub frames-smaller-in_ok-draw_frame-in-Some-2 : goal.frames-smaller-in_ok-draw_frame-in-Some-2
+frames-smaller-in_ok-draw_frame-in-Some-2 g c =
+    shorter c.frames.decoder c.next.new.self c.in-Some.frame c.length_is_told.ensures
+    (takes_so c.frames.decoder c.next.new.self c.in_ok-frame.field-0 c.in-Some.frame c.in_ok-frame.ensures.answers c.in-Some.is)
+
+pub frames-preserved-in_ok-draw_frame-in-Some-2 : goal.frames-preserved-in_ok-draw_frame-in-Some-2
+frames-preserved-in_ok-draw_frame-in-Some-2 g c =
+    let sent = g.S.Streams.sent in
+    let view = g.S.Disk.view in
+    let inv = c.frames.invariant in
+    let made = c.in_ok-draw_frame-in-Some.ensures in
+    let takes = takes_so c.frames.decoder c.next.new.self c.in_ok-frame.field-0 c.in-Some.frame c.in_ok-frame.ensures.answers c.in-Some.is in
+    record {
+      drawn = drawn_frame c.args.decoder.now c.frames.decoder c.next.new.self c.in-Some.frame c.args.client.now c.frames.client c.draw_frame.new.client
+          (sent c.args.streams.now) (sent c.frames.streams) (sent c.draw_frame.new.streams) takes made.done inv.drawn;
+      send_faults = omega (arith, inv.send_faults, made.send_faults);
+      left = made.left ∙ inv.left;
+      read_faults = made.read_faults ∙ inv.read_faults;
+      disk = kept_then (view c.args.streams.now) (view c.frames.streams) (view c.draw_frame.new.streams) inv.disk made.disk;
+    }
+
+pub frames-smaller : goal.frames-smaller
+frames-smaller g c =
+    shorter c.frames.decoder c.next.new.self c.in-Some.frame c.length_is_told.ensures
+    (takes_so c.frames.decoder c.next.new.self c.in_ok-frame.field-0 c.in-Some.frame c.in_ok-frame.ensures.answers c.in-Some.is)
+
+pub frames-preserved : goal.frames-preserved
+frames-preserved g c =
+    let sent = g.S.Streams.sent in
+    let view = g.S.Disk.view in
+    let inv = c.frames.invariant in
+    let made = c.in_ok-draw_frame-in-Some.ensures in
+    let takes = takes_so c.frames.decoder c.next.new.self c.in_ok-frame.field-0 c.in-Some.frame c.in_ok-frame.ensures.answers c.in-Some.is in
+    record {
+      drawn = drawn_frame c.args.decoder.now c.frames.decoder c.next.new.self c.in-Some.frame c.args.client.now c.frames.client c.draw_frame.new.client
+          (sent c.args.streams.now) (sent c.frames.streams) (sent c.draw_frame.new.streams) takes made.done inv.drawn;
+      send_faults = omega (arith, inv.send_faults, made.send_faults);
+      left = made.left ∙ inv.left;
+      read_faults = made.read_faults ∙ inv.read_faults;
+      disk = kept_then (view c.args.streams.now) (view c.frames.streams) (view c.draw_frame.new.streams) inv.disk made.disk;
+    }

@@ -1,0 +1,7 @@
+//! What a run takes.
+
+/// The most bytes of input that a run takes.
+pub(crate) const MOST_BYTES: u64 = 4_294_967_296;
+
+/// The pages that the book of a run may take.
+pub(crate) const BOOK_PAGES: u64 = 1_048_510;

@@ -1,0 +1,86 @@
+ghost use Rattle.std.specs.Prelude.{◌≡◌};
+ghost use Rattle.chart_service.specs.declared.failure.ServeEnd.TheVariants.{NoMemory};
+ghost use Rattle.chart_service.specs.Serving.{end_of};
+ghost use Rattle.chart_program.specs.declared.run_end.RunEnd.TheVariants.{Serve, Show};
+
+use chart_client::ClientError;
+use chart_service::ServeEnd;
+use chart_world::LineFault;
+use std::alloc::AllocError;
+use thiserror::Error;
+
+/// Why `run_on` didn't answer all lines of its input. What the lines before did stays, and what they
+/// were answered was sent.
+#[derive(Clone, Copy, Debug, PartialEq, Eq, Error)]
+pub enum RunEnd {
+    /// As the serving of lines ends.
+    #[error("{0}")]
+    Serve(ServeEnd),
+    /// The bytes of a reply's frame weren't shown, for this cause.
+    #[error("{0}")]
+    Show(ClientError),
+}
+
+impl From<ClientError> for RunEnd {
+    ghost from_gives = { λ e end. end ≡ Show e };
+
+    fn from(error: ClientError) -> RunEnd {
+        RunEnd::Show(error)
+    }
+}
+
+impl From<LineFault> for RunEnd {
+    ghost from_gives = { λ fault end. end ≡ Serve (end_of fault) };
+
+    fn from(fault: LineFault) -> RunEnd {
+        RunEnd::Serve(ServeEnd::from(fault))
+    }
+}
+
+impl From<chart_world::NoMemory> for RunEnd {
+    ghost from_gives = { λ _ end. end ≡ Serve NoMemory };
+
+    fn from(_error: chart_world::NoMemory) -> RunEnd {
+        RunEnd::Serve(ServeEnd::NoMemory)
+    }
+}
+
+impl From<chart_service::NoMemory> for RunEnd {
+    ghost from_gives = { λ _ end. end ≡ Serve NoMemory };
+
+    fn from(_error: chart_service::NoMemory) -> RunEnd {
+        RunEnd::Serve(ServeEnd::NoMemory)
+    }
+}
+
+impl From<chart_frames::NoMemory> for RunEnd {
+    ghost from_gives = { λ _ end. end ≡ Serve NoMemory };
+
+    fn from(_error: chart_frames::NoMemory) -> RunEnd {
+        RunEnd::Serve(ServeEnd::NoMemory)
+    }
+}
+
+impl From<pbm_writer::NoMemory> for RunEnd {
+    ghost from_gives = { λ _ end. end ≡ Serve NoMemory };
+
+    fn from(_error: pbm_writer::NoMemory) -> RunEnd {
+        RunEnd::Serve(ServeEnd::NoMemory)
+    }
+}
+
+impl From<AllocError> for RunEnd {
+    ghost from_gives = { λ _ end. end ≡ Serve NoMemory };
+
+    fn from(_error: AllocError) -> RunEnd {
+        RunEnd::Serve(ServeEnd::NoMemory)
+    }
+}
+
+impl From<chart_client::NoMemory> for RunEnd {
+    ghost from_gives = { λ _ end. end ≡ Serve NoMemory };
+
+    fn from(_error: chart_client::NoMemory) -> RunEnd {
+        RunEnd::Serve(ServeEnd::NoMemory)
+    }
+}

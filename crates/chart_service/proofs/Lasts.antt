@@ -1,0 +1,53 @@
+-- The last view of a session, or why there is none.
+use Rattle.std.proofs.Common.{◌≡◌, ℕ, true, false, ◌==◌, if◌then◌else◌, List, [], ◌∷◌, Option, None, Some, Ok, Err, refl, sym, subst}
+use Rattle.std.specs.Prelude.{◌||◌}
+use Rattle.series_book.specs.declared.one_series.Series.{Series}
+use Rattle.series_book.specs.declared.refusals.Refusal.TheVariants.{UnknownSession, NoView}
+use Rattle.zoom_session.specs.declared.session.Session.{Session}
+use Rattle.zoom_session.specs.declared.view_spec.ViewSpec.{ViewSpec}
+use Rattle.zoom_session.specs.Sessions.{is_open, session_of, last_of}
+use Rattle.chart_service.specs.State.{IsViewOf, HasViewOf, AreViewsOf}
+use Rattle.chart_service.specs.Planning.{IsLastOf}
+use Rattle.chart_service.proofs.Keeping.{view_of_session}
+
+nobody : (number : ℕ) (ss : List Session) → is_open number ss ≡ false → session_of number ss ≡ None
+nobody number [] none = refl
+nobody number (s ∷ ss) none = (elim (s.number == number) as (λ b. (b || is_open number ss) ≡ false → (if b then Some s else session_of number ss) ≡ None) [
+  | true ↦ λ h. cc
+  | false ↦ λ h. nobody number ss h
+]) none
+
+somebody : (number : ℕ) (ss : List Session) → is_open number ss ≡ true → (s : Session) × (session_of number ss ≡ Some s)
+somebody number [] there = cc
+somebody number (s ∷ ss) there = (elim (s.number == number) as (λ b. (b || is_open number ss) ≡ true → (t : Session) × ((if b then Some s else session_of number ss) ≡ Some t)) [
+  | true ↦ λ h. (s, refl)
+  | false ↦ λ h. somebody number ss h
+]) there
+
+-- the session isn't open
+pub none_of : (number : ℕ) (ss : List Session) → is_open number ss ≡ false → IsLastOf (session_of number ss) (Err UnknownSession)
+none_of number ss none = let P : Option Session → Type 0 = λ o. IsLastOf o (Err UnknownSession) in subst P (sym (nobody number ss none)) refl
+
+no_last_of : (o : Option Session) (s : Session) → o ≡ Some s → None ≡ last_of o → IsLastOf o (Err NoView)
+no_last_of None s is none = cc
+no_last_of (Some t) s is none = let P : Option ViewSpec → Type 0 = λ l. IsLastOf (Some (record t { last = l })) (Err NoView) in subst P none refl
+
+-- it has had no view
+pub no_last : (number : ℕ) (ss : List Session) → is_open number ss ≡ true → None ≡ last_of (session_of number ss) → IsLastOf (session_of number ss) (Err NoView)
+no_last number ss there none = let one = somebody number ss there in no_last_of (session_of number ss) one.0 one.1 none
+
+last_is : (o : Option Session) (spec : ViewSpec) → Some spec ≡ last_of o → IsLastOf o (Ok spec)
+last_is None spec is = cc
+last_is (Some t) spec is = let P : Option ViewSpec → Type 0 = λ l. IsLastOf (Some (record t { last = l })) (Ok spec) in subst P is refl
+
+-- it has had one
+pub last_so : (number : ℕ) (ss : List Session) (spec : ViewSpec) → Some spec ≡ last_of (session_of number ss) → IsLastOf (session_of number ss) (Ok spec)
+last_so number ss spec is = last_is (session_of number ss) spec is
+
+view_in : (book : List Series) (o : Option Session) (spec : ViewSpec) → ((s : Session) → o ≡ Some s → HasViewOf book s.last) → Some spec ≡ last_of o → IsViewOf book spec
+view_in book None spec views is = cc
+view_in book (Some s) spec views is = let P : Option ViewSpec → Type 0 = λ l. HasViewOf book l in subst P (sym is) (views s refl)
+
+-- which is of a series of the book
+pub view_so : (book : List Series) (number : ℕ) (ss : List Session) (spec : ViewSpec) → AreViewsOf book ss → Some spec ≡ last_of (session_of number ss) → IsViewOf book spec
+view_so book number ss spec views is = view_in book (session_of number ss) spec (λ s there. view_of_session book number ss s there views) is

@@ -1,0 +1,226 @@
+-- Each line has one reply, and there is one state after it.
+use Rattle.std.proofs.Common.{◌≡◌, ℕ, ℤ, ◌+ℤ◌, ◌⊎◌, inl, inr, Bool, true, false, List, [], ◌∷◌, length, Option, None, Some, Result, Ok, Err, refl, ap, sym, ◌∙◌, subst, arith}
+use Rattle.std.specs.Prelude.{◌≤ℤ◌, slice_get}
+use Rattle.std.proofs.lemmas.Int.{ints}
+use Rattle.std.proofs.lemmas.List.Elements.{All-contains}
+use Rattle.chart_grid.specs.declared.grid.Grid.{Grid}
+use Rattle.chart_grid.specs.Limits.{IsWindow, IsSide, IsBadWindow, IsBadSide}
+use Rattle.om3_coeff.specs.declared.key.Key.{Key}
+use Rattle.om3_coeff.specs.declared.coef.Coef.{Coef}
+use Rattle.om3_coeff.specs.Coefs.{coef}
+use Rattle.coefficient_cache.specs.Views.{to_send}
+use Rattle.view_keys.specs.Needed.{IsNeeded}
+use Rattle.plain_chart.specs.declared.value_range.ValueRange.{ValueRange}
+use Rattle.plain_chart.specs.Samples.{Spans, IsRange, kept, values_of}
+use Rattle.request_lines.specs.declared.ranges.RangeWord.{RangeWord}
+use Rattle.request_lines.specs.declared.ranges.RangeWord.TheVariants as word
+use Rattle.request_lines.specs.declared.requests.Request.{Request}
+use Rattle.request_lines.specs.declared.requests.Request.TheVariants as request
+use Rattle.request_lines.specs.Requests.{read_line}
+use Rattle.series_book.specs.declared.one_series.Series.{Series}
+use Rattle.series_book.specs.declared.refusals.Refusal.{Refusal}
+use Rattle.series_book.specs.declared.refusals.Refusal.TheVariants.{ViewTooLarge, BadWindow}
+use Rattle.series_book.specs.Edits.{Edited, apply, id_of}
+use Rattle.zoom_session.specs.declared.session.Session.{Session}
+use Rattle.zoom_session.specs.declared.view_spec.ViewSpec.{ViewSpec}
+use Rattle.zoom_session.specs.declared.view_spec.RangeSpec.{RangeSpec}
+use Rattle.zoom_session.specs.declared.view_spec.RangeSpec.TheVariants.{Auto, Fixed}
+use Rattle.zoom_session.specs.Sessions.{is_open, session_of, open_refusal, viewed}
+use Rattle.chart_frames.specs.declared.frame.Frame.{Frame}
+use Rattle.chart_frames.specs.declared.frame.Frame.TheVariants.{View}
+use Rattle.chart_service.specs.State.{State}
+use Rattle.chart_service.specs.Viewing.{ShowsRange, AreNeeded, Answers, axis_of, range_spec, view_frame, IsGoodRange, IsBadRange}
+use Rattle.chart_service.specs.Replies.{refused, Refuses, Edits, Opens, Closes, NeedsTooMany, AnswersView, Views, ViewsSeries, ViewsId, RepliesToView, Moves, MovesLast, MovesIn, Replies, RepliesTo, RepliesToLine, cache_of}
+use Rattle.chart_service.specs.Serving.{RepliesToAll}
+use Rattle.chart_service.specs.Alone.{alone, own_lines, own_frames, NeverCrowded}
+use Rattle.chart_service.proofs.Standing.{stands_alone}
+use Rattle.chart_service.proofs.OneList.{one_list}
+use Rattle.chart_service.proofs.OneGrid.{grid_same}
+
+-- two frames are one, and so are the states behind them
+abbrev Same : Frame → Frame → State → State → Type 0
+Same f g s t = (f ≡ g) × (s ≡ t)
+
+some_one : {A : Type 0} {a b : A} → Some a ≡ Some b → a ≡ b
+some_one h = cc
+
+refuses_one : (r : Refusal) (f g : Frame) (old s t : State) → Refuses r f old s → Refuses r g old t → Same f g s t
+refuses_one r f g old s t a b = (a.reply ∙ sym b.reply, a.state ∙ sym b.state)
+
+edits_one : (e : Result Edited Refusal) (f g : Frame) (old s t : State) → Edits e f old s → Edits e g old t → Same f g s t
+edits_one (Err r) f g old s t a b = refuses_one r f g old s t a b
+edits_one (Ok e) f g old s t a b = (a.0 ∙ sym b.0, a.1 ∙ sym b.1)
+
+opens_one : (o : Option Refusal) (number cache : ℕ) (f g : Frame) (old s t : State) → Opens o number cache f old s → Opens o number cache g old t → Same f g s t
+opens_one (Some r) number cache f g old s t a b = refuses_one r f g old s t a b
+opens_one None number cache f g old s t a b = (a.0 ∙ sym b.0, a.1 ∙ sym b.1)
+
+closes_one : (there : Bool) (number : ℕ) (f g : Frame) (old s t : State) → Closes there number f old s → Closes there number g old t → Same f g s t
+closes_one false number f g old s t a b = refuses_one _ f g old s t a b
+closes_one true number f g old s t a b = (a.0 ∙ sym b.0, a.1 ∙ sym b.1)
+
+-- a least value and a greatest one are one
+both_ways : (a b : ℤ) → a ≤ℤ b → b ≤ℤ a → a ≡ b
+both_ways a b up down = grind (arith, ints)
+
+spans_one : (values : List ℤ) (r q : ValueRange) → Spans values r → Spans values q → r ≡ q
+spans_one values r q a b =
+    let lo : r.lo ≡ q.lo = both_ways r.lo q.lo (All-contains (λ v. r.lo ≤ℤ v) values q.lo a.none_below b.least) (All-contains (λ v. q.lo ≤ℤ v) values r.lo b.none_below a.least) in
+    let hi : r.hi ≡ q.hi = both_ways r.hi q.hi (All-contains (λ v. v ≤ℤ q.hi) values r.hi b.none_above a.greatest) (All-contains (λ v. v ≤ℤ r.hi) values q.hi a.none_above b.greatest) in
+    λ i. record { lo = lo i; hi = hi i }
+
+kept_one : (values : List ℤ) (r q : ValueRange) → IsRange values r → IsRange values q → r ≡ q
+kept_one [] r q a b = λ i. record { lo = (a.0 ∙ sym b.0) i; hi = (a.1 ∙ sym b.1) i }
+kept_one (v ∷ vs) r q a b = spans_one (v ∷ vs) r q a b
+
+range_one : (spec : RangeSpec) (values : List ℤ) (r q : ValueRange) → ShowsRange spec values r → ShowsRange spec values q → r ≡ q
+range_one Auto values r q a b = kept_one values r q a b
+range_one (Fixed lo hi) values r q a b = λ i. record { lo = (a.0 ∙ sym b.0) i; hi = (a.1 ∙ sym b.1) i }
+
+needed_one : (series : Series) (grid : Grid) (a b : List (Key × Coef)) → AreNeeded series grid a → AreNeeded series grid b → a ≡ b
+needed_one series grid a b la lb = one_list (IsNeeded series.slots (axis_of series) grid) (λ k. Some (coef series.slots k)) a b la lb
+
+answers_one : (series : Series) (spec : ViewSpec) (number : ℕ) (f g : Frame) (old s t : State) → Answers series spec number f old s → Answers series spec number g old t → Same f g s t
+answers_one series spec number f g old s t a b =
+    let session : a.session ≡ b.session = some_one (sym a.open_is ∙ b.open_is) in
+    let needed : a.needed ≡ b.needed = needed_one series spec.grid a.needed b.needed a.are_needed b.are_needed in
+    let range : a.range ≡ b.range = range_one spec.range (values_of (kept spec.grid (axis_of series) series.slots)) a.range b.range a.shown b.shown in
+    let frames : View (view_frame number spec a.range series (to_send a.session.cache.pairs spec.series a.needed)) ≡ View (view_frame number spec b.range series (to_send b.session.cache.pairs spec.series b.needed)) =
+    λ i. View (view_frame number spec (range i) series (to_send ((session i).cache.pairs) spec.series (needed i))) in
+    let states : record old { sessions = viewed number spec a.needed old.sessions } ≡ record old { sessions = viewed number spec b.needed old.sessions } =
+    λ i. record old { sessions = viewed number spec (needed i) old.sessions } in
+    (a.frame_is ∙ frames ∙ sym b.frame_is, a.state ∙ states ∙ sym b.state)
+
+too_many_one : (series : Series) (grid : Grid) (number : ℕ) (f g : Frame) (old s t : State) → NeedsTooMany series grid number f old s → NeedsTooMany series grid number g old t → Same f g s t
+too_many_one series grid number f g old s t a b =
+    let session : a.session ≡ b.session = some_one (sym a.open_is ∙ b.open_is) in
+    let needed : a.needed ≡ b.needed = needed_one series grid a.needed b.needed a.are_needed b.are_needed in
+    let frames : refused (ViewTooLarge (length a.needed) a.session.cache.capacity) ≡ refused (ViewTooLarge (length b.needed) b.session.cache.capacity) =
+    λ i. refused (ViewTooLarge (length (needed i)) ((session i).cache.capacity)) in
+    (a.refuses.reply ∙ frames ∙ sym b.refuses.reply, a.refuses.state ∙ sym b.refuses.state)
+
+-- a view isn't both answered and too large
+not_both : (series : Series) (spec : ViewSpec) (number : ℕ) (f g : Frame) (old s t : State) → NeedsTooMany series spec.grid number f old s → Answers series spec number g old t → ⊥
+not_both series spec number f g old s t a b =
+    let session : a.session ≡ b.session = some_one (sym a.open_is ∙ b.open_is) in
+    let needed : a.needed ≡ b.needed = needed_one series spec.grid a.needed b.needed a.are_needed b.are_needed in
+    absurd (omega (arith, a.passes, b.room, ap length needed, ap (λ s. s.cache.capacity) session))
+
+view_one : (series : Series) (spec : ViewSpec) (number : ℕ) (f g : Frame) (old s t : State) → AnswersView series spec number f old s → AnswersView series spec number g old t → Same f g s t
+view_one series spec number f g old s t (inl a) (inl b) = too_many_one series spec.grid number f g old s t a b
+view_one series spec number f g old s t (inl a) (inr b) = absurd (not_both series spec number f g old s t a b)
+view_one series spec number f g old s t (inr a) (inl b) = absurd (not_both series spec number g f old t s b a)
+view_one series spec number f g old s t (inr a) (inr b) = answers_one series spec number f g old s t a b
+
+views_one : (series : Series) (id number w h : ℕ) (t0 t1 : ℤ) (range : RangeSpec) (f g : Frame) (old s t : State) → Views series id number w h t0 t1 range f old s → Views series id number w h t0 t1 range g old t → Same f g s t
+views_one series id number w h t0 t1 range f g old s t a b =
+    let grids : b.grid ≡ a.grid = grid_same b.grid a.grid (b.window.from ∙ sym a.window.from) (b.window.to ∙ sym a.window.to) (b.canvas.columns ∙ sym a.canvas.columns) (b.canvas.rows ∙ sym a.canvas.rows) in
+    let P : Grid → Type 0 = λ x. AnswersView series (record { series = id; grid = x; range = range }) number g old t in
+    view_one series (record { series = id; grid = a.grid; range = range }) number f g old s t a.view (subst P grids b.view)
+
+-- what is in range isn't out of it
+no_window : (t0 t1 : ℤ) → IsWindow t0 t1 → IsBadWindow t0 t1 → ⊥
+no_window t0 t1 is (inl turned) = let up = is.rising in grind (arith, ints)
+no_window t0 t1 is (inr (inl far)) = absurd (omega (arith, is.from_size, far))
+no_window t0 t1 is (inr (inr far)) = absurd (omega (arith, is.to_size, far))
+
+no_side : (n : ℕ) → IsSide n → IsBadSide n → ⊥
+no_side n is (inl none) = absurd (omega (arith, is.some, none))
+no_side n is (inr many) = absurd (omega (arith, is.most, many))
+
+no_sides : (w h : ℕ) → IsSide w → IsSide h → (IsBadSide w ⊎ IsBadSide h) → ⊥
+no_sides w h wide high (inl bad) = no_side w wide bad
+no_sides w h wide high (inr bad) = no_side h high bad
+
+no_range : (r : RangeWord) → IsGoodRange r → IsBadRange r → ⊥
+no_range word.Auto good bad = bad
+no_range (word.Fixed lo hi) good (inl turned) = let up = good.0 in grind (arith, ints)
+no_range (word.Fixed lo hi) good (inr (inl far)) = absurd (omega (arith, good.1, far))
+no_range (word.Fixed lo hi) good (inr (inr far)) = absurd (omega (arith, good.2, far))
+
+series_one : (o : Option Series) (id number w h : ℕ) (t0 t1 : ℤ) (r : RangeWord) (f g : Frame) (old s t : State) → ViewsSeries o id number w h t0 t1 r f old s → ViewsSeries o id number w h t0 t1 r g old t → Same f g s t
+series_one None id number w h t0 t1 r f g old s t a b = refuses_one _ f g old s t a b
+series_one (Some x) id number w h t0 t1 r f g old s t (inl a) (inl b) = refuses_one _ f g old s t a.1 b.1
+series_one (Some x) id number w h t0 t1 r f g old s t (inl a) (inr (inl b)) = absurd (no_window t0 t1 b.0 a.0)
+series_one (Some x) id number w h t0 t1 r f g old s t (inl a) (inr (inr (inl b))) = absurd (no_window t0 t1 b.0 a.0)
+series_one (Some x) id number w h t0 t1 r f g old s t (inl a) (inr (inr (inr b))) = absurd (no_window t0 t1 b.0 a.0)
+series_one (Some x) id number w h t0 t1 r f g old s t (inr (inl a)) (inl b) = absurd (no_window t0 t1 a.0 b.0)
+series_one (Some x) id number w h t0 t1 r f g old s t (inr (inl a)) (inr (inl b)) = refuses_one _ f g old s t a.2 b.2
+series_one (Some x) id number w h t0 t1 r f g old s t (inr (inl a)) (inr (inr (inl b))) = absurd (no_sides w h b.1 b.2 a.1)
+series_one (Some x) id number w h t0 t1 r f g old s t (inr (inl a)) (inr (inr (inr b))) = absurd (no_sides w h b.1 b.2 a.1)
+series_one (Some x) id number w h t0 t1 r f g old s t (inr (inr (inl a))) (inl b) = absurd (no_window t0 t1 a.0 b.0)
+series_one (Some x) id number w h t0 t1 r f g old s t (inr (inr (inl a))) (inr (inl b)) = absurd (no_sides w h a.1 a.2 b.1)
+series_one (Some x) id number w h t0 t1 r f g old s t (inr (inr (inl a))) (inr (inr (inl b))) = refuses_one _ f g old s t a.4 b.4
+series_one (Some x) id number w h t0 t1 r f g old s t (inr (inr (inl a))) (inr (inr (inr b))) = absurd (no_range r b.3 a.3)
+series_one (Some x) id number w h t0 t1 r f g old s t (inr (inr (inr a))) (inl b) = absurd (no_window t0 t1 a.0 b.0)
+series_one (Some x) id number w h t0 t1 r f g old s t (inr (inr (inr a))) (inr (inl b)) = absurd (no_sides w h a.1 a.2 b.1)
+series_one (Some x) id number w h t0 t1 r f g old s t (inr (inr (inr a))) (inr (inr (inl b))) = absurd (no_range r a.3 b.3)
+series_one (Some x) id number w h t0 t1 r f g old s t (inr (inr (inr a))) (inr (inr (inr b))) = views_one x id number w h t0 t1 (range_spec r) f g old s t a.4 b.4
+
+id_one : (o : Option ℕ) (number w h : ℕ) (t0 t1 : ℤ) (r : RangeWord) (f g : Frame) (old s t : State) → ViewsId o number w h t0 t1 r f old s → ViewsId o number w h t0 t1 r g old t → Same f g s t
+id_one None number w h t0 t1 r f g old s t a b = refuses_one _ f g old s t a b
+id_one (Some id) number w h t0 t1 r f g old s t a b = series_one (slice_get old.book id) id number w h t0 t1 r f g old s t a b
+
+open_one : (there : Bool) (number : ℕ) (name : List ℕ) (w h : ℕ) (t0 t1 : ℤ) (r : RangeWord) (f g : Frame) (old s t : State) → RepliesToView there number name w h t0 t1 r f old s → RepliesToView there number name w h t0 t1 r g old t → Same f g s t
+open_one false number name w h t0 t1 r f g old s t a b = refuses_one _ f g old s t a b
+open_one true number name w h t0 t1 r f g old s t a b = id_one (id_of name old.book) number w h t0 t1 r f g old s t a b
+
+abbrev Moved : Series → ViewSpec → ℕ → ℤ → ℤ → Frame → State → State → Type 0
+Moved x last number t0 t1 f old s =
+    (IsBadWindow t0 t1 × Refuses BadWindow f old s) ⊎ (IsWindow t0 t1 × Views x last.series number last.grid.w last.grid.h t0 t1 last.range f old s)
+
+moved_one : (x : Series) (last : ViewSpec) (number : ℕ) (t0 t1 : ℤ) (f g : Frame) (old s t : State) → Moved x last number t0 t1 f old s → Moved x last number t0 t1 g old t → Same f g s t
+moved_one x last number t0 t1 f g old s t (inl a) (inl b) = refuses_one _ f g old s t a.1 b.1
+moved_one x last number t0 t1 f g old s t (inl a) (inr b) = absurd (no_window t0 t1 b.0 a.0)
+moved_one x last number t0 t1 f g old s t (inr a) (inl b) = absurd (no_window t0 t1 a.0 b.0)
+moved_one x last number t0 t1 f g old s t (inr a) (inr b) = views_one x last.series number last.grid.w last.grid.h t0 t1 last.range f g old s t a.1 b.1
+
+moves_one : (last : ViewSpec) (number : ℕ) (t0 t1 : ℤ) (f g : Frame) (old s t : State) → Moves last number t0 t1 f old s → Moves last number t0 t1 g old t → Same f g s t
+moves_one last number t0 t1 f g old s t a b =
+    let same : b.series ≡ a.series = some_one (sym b.there ∙ a.there) in
+    let P : Series → Type 0 = λ x. Moved x last number t0 t1 g old t in
+    moved_one a.series last number t0 t1 f g old s t a.reply (subst P same b.reply)
+
+last_one : (o : Option ViewSpec) (number : ℕ) (window : ViewSpec → ℤ × ℤ) (f g : Frame) (old s t : State) → MovesLast o number window f old s → MovesLast o number window g old t → Same f g s t
+last_one None number window f g old s t a b = refuses_one _ f g old s t a b
+last_one (Some last) number window f g old s t a b = moves_one last number (window last).0 (window last).1 f g old s t a b
+
+session_one : (o : Option Session) (number : ℕ) (window : ViewSpec → ℤ × ℤ) (f g : Frame) (old s t : State) → MovesIn o number window f old s → MovesIn o number window g old t → Same f g s t
+session_one None number window f g old s t a b = refuses_one _ f g old s t a b
+session_one (Some x) number window f g old s t a b = last_one x.last number window f g old s t a b
+
+request_one : (r : Request) (f g : Frame) (old s t : State) → Replies r f old s → Replies r g old t → Same f g s t
+request_one (request.Edit e) f g old s t a b = edits_one (apply old.book old.total e) f g old s t a b
+request_one (request.Open number cache) f g old s t a b = opens_one (open_refusal old.sessions number (cache_of cache)) number (cache_of cache) f g old s t a b
+request_one (request.View number name w h t0 t1 r) f g old s t a b = open_one (is_open number old.sessions) number name w h t0 t1 r f g old s t a b
+request_one (request.Zoom number t0 t1) f g old s t a b = session_one (session_of number old.sessions) number (λ last. (t0, t1)) f g old s t a b
+request_one (request.Pan number by) f g old s t a b = session_one (session_of number old.sessions) number (λ last. (last.grid.t0 +ℤ by, last.grid.t1 +ℤ by)) f g old s t a b
+request_one (request.Close number) f g old s t a b = closes_one (is_open number old.sessions) number f g old s t a b
+
+read_one : (r : Result Request ℕ) (f g : Frame) (old s t : State) → RepliesTo r f old s → RepliesTo r g old t → Same f g s t
+read_one (Err at) f g old s t a b = refuses_one _ f g old s t a b
+read_one (Ok r) f g old s t a b = request_one r f g old s t a b
+
+pub line_one : (line : Option (List ℕ)) (f g : Frame) (old s t : State) → RepliesToLine line f old s → RepliesToLine line g old t → Same f g s t
+line_one None f g old s t a b = refuses_one _ f g old s t a b
+line_one (Some text) f g old s t a b = read_one (read_line text) f g old s t a b
+
+pub lines_one : (lines : List (Option (List ℕ))) (fs gs : List Frame) (old s t : State) → RepliesToAll old lines fs s → RepliesToAll old lines gs t → (fs ≡ gs) × (s ≡ t)
+lines_one [] [] [] old s t a b = (refl, a ∙ sym b)
+lines_one [] [] (g ∷ gs) old s t a b = absurd b
+lines_one [] (f ∷ fs) gs old s t a b = absurd a
+lines_one (l ∷ ls) [] gs old s t a b = absurd a
+lines_one (l ∷ ls) (f ∷ fs) [] old s t a b = absurd b
+lines_one (l ∷ ls) (f ∷ fs) (g ∷ gs) old s t a b =
+    let first = line_one l f g old a.0 b.0 a.1.0 b.1.0 in
+    let P : State → Type 0 = λ x. RepliesToAll x ls gs t in
+    let later = lines_one ls fs gs a.0 s t a.2 (subst P (sym first.1) b.2) in
+    (λ i. first.0 i ∷ later.0 i, later.1)
+
+-- the frames of a session are the same, whatever lines of others stand between
+pub same_alone : (n : ℕ) (lines others : List (Option (List ℕ))) (frames answers : List Frame) (old new behind : State) → RepliesToAll old lines frames new → RepliesToAll old others answers behind → NeverCrowded (own_frames n lines frames) → NeverCrowded (own_frames n others answers) → own_lines n lines ≡ own_lines n others → own_frames n lines frames ≡ own_frames n others answers
+same_alone n lines others frames answers old new behind a b room space same =
+    let P : List (Option (List ℕ)) → Type 0 = λ l. RepliesToAll (alone n old) l (own_frames n others answers) (alone n behind) in
+    (lines_one (own_lines n lines) (own_frames n lines frames) (own_frames n others answers) (alone n old) (alone n new) (alone n behind)
+    (stands_alone n lines frames old new a room)
+    (subst P (sym same) (stands_alone n others answers old behind b space))).0

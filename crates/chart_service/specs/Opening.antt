@@ -1,0 +1,35 @@
+-- Which sessions are open before and after a frame, and after want of memory.
+use Rattle.std.specs.Prelude.{ℕ, ◌≡◌, ◌⊎◌, Bool, not, ◌==◌, ◌&&◌, ◌||◌, List, Option, None, Some, IsTrue, ⊤}
+use Rattle.chart_frames.specs.declared.frame.Frame.{Frame}
+use Rattle.chart_frames.specs.declared.frame.Frame.TheVariants.{Done, Refused, Opened, Closed, View, Rows}
+use Rattle.zoom_session.specs.declared.session.Session.{Session}
+use Rattle.zoom_session.specs.Sessions.{is_open, without}
+
+-- whether the session n is open after a frame, where it was or wasn't before it
+abbrev pub opens : Frame → ℕ → Bool → Bool
+opens (Done slots) n was = was
+opens (Refused number a b) n was = was
+opens (Opened session cache) n was = session == n || was
+opens (Closed session) n was = not (session == n) && was
+opens (View view) n was = was
+opens (Rows rows) n was = was
+
+-- a frame that answers in a session names one that is open
+abbrev pub NamesOpen : Frame → List Session → Type 0
+NamesOpen (Done slots) sessions = ⊤
+NamesOpen (Refused number a b) sessions = ⊤
+NamesOpen (Opened session cache) sessions = ⊤
+NamesOpen (Closed session) sessions = IsTrue (is_open session sessions)
+NamesOpen (View view) sessions = IsTrue (is_open view.session sessions)
+NamesOpen (Rows rows) sessions = IsTrue (is_open rows.session sessions)
+
+-- An Opened frame opens its session, a Closed one closes it, and no other frame changes which sessions
+-- are open; one that closes a session or answers in it names an open one.
+pub record OpensBy (frame : Frame) (old new : List Session) : Type 0 where
+  pub named : NamesOpen frame old
+  pub after : (n : ℕ) → is_open n new ≡ opens frame n (is_open n old)
+
+-- the sessions are as they were, or the one that a request names is closed
+abbrev pub LosesAtMost : Option ℕ → List Session → List Session → Type 0
+LosesAtMost None old new = new ≡ old
+LosesAtMost (Some number) old new = (new ≡ old) ⊎ (new ≡ without number old)

@@ -1,0 +1,31 @@
+//! What follows from the definitions. The functions do nothing: their contracts are the laws.
+
+ghost use Rattle.std.specs.Prelude.{◌≡◌, ℕ, List, Option};
+ghost use Rattle.chart_frames.specs.declared.frame.Frame.{Frame};
+ghost use Rattle.chart_service.specs.State.{State};
+ghost use Rattle.chart_service.specs.Alone.{alone, own_lines, own_frames, NeverCrowded};
+ghost use Rattle.chart_service.specs.Replies.{RepliesToLine};
+ghost use Rattle.chart_service.specs.Serving.{RepliesToAll};
+
+/// The frames of a session depend on the edits and on its own lines alone: a service without the
+/// other sessions, which gets no line of theirs, answers these lines by the same frames. So they are
+/// the same whatever lines of other sessions stand between. Only where 16 sessions are open do other
+/// sessions keep one from being opened.
+pub fn sessions_stand_alone()
+    ensures alone { (n : ℕ) (lines : List (Option (List ℕ))) (frames : List Frame) (old new : State) →
+        RepliesToAll old lines frames new → NeverCrowded (own_frames n lines frames) →
+        RepliesToAll (alone n old) (own_lines n lines) (own_frames n lines frames) (alone n new) }
+    ensures same { (n : ℕ) (lines others : List (Option (List ℕ))) (frames answers : List Frame) (old new behind : State) →
+        RepliesToAll old lines frames new → RepliesToAll old others answers behind →
+        NeverCrowded (own_frames n lines frames) → NeverCrowded (own_frames n others answers) →
+        own_lines n lines ≡ own_lines n others → own_frames n lines frames ≡ own_frames n others answers }
+{}
+
+/// Each line has one reply: what is answered, and the state after it, is determined by the state
+/// before it. So are all frames of an input's lines.
+pub fn replies_are_one()
+    ensures line { (line : Option (List ℕ)) (frame other : Frame) (old new behind : State) →
+        RepliesToLine line frame old new → RepliesToLine line other old behind → (frame ≡ other) × (new ≡ behind) }
+    ensures lines { (lines : List (Option (List ℕ))) (frames others : List Frame) (old new behind : State) →
+        RepliesToAll old lines frames new → RepliesToAll old lines others behind → (frames ≡ others) × (new ≡ behind) }
+{}

@@ -1,0 +1,9 @@
+mod Grids
+mod Holders
+mod Orders
+mod Agreement
+mod Steps
+mod Mirroring
+mod Tops
+mod Following
+mod OneSession

@@ -1,0 +1,266 @@
+-- What a client does with the frame of a reply, where it mirrors the service's sessions.
+use Rattle.std.proofs.Common.{ℕ, zero, suc, ◌≡◌, ◌≢◌, ◌<◌, ◌++◌, ◌⊎◌, inl, inr, true, false, List, [], ◌∷◌, length, map, All, AllPairs, Option, None, Some, IsSome, slice_get, refl, sym, ap, ◌∙◌, subst, arith}
+use Rattle.std.specs.Option.{option_map}
+use Rattle.std.proofs.lemmas.List.Kept.{AllPairs-cons}
+use Rattle.std.proofs.lemmas.Option.{slice_get_within, slice_get-get_or}
+use Rattle.line_raster.specs.Canvas.{Canvas}
+use Rattle.chart_grid.specs.declared.grid.Grid.{Grid}
+use Rattle.om3_coeff.specs.declared.key.Key.{Key}
+use Rattle.om3_coeff.specs.declared.coef.Coef.{Coef}
+use Rattle.view_keys.specs.Wanted.{Seen, IsWanted}
+use Rattle.view_keys.specs.Listed.{ComesBefore, AreInOrder, IsListOf}
+use Rattle.coefficient_cache.specs.Caches.{Cache}
+use Rattle.coefficient_cache.specs.Views.{AreDistinct, to_send}
+use Rattle.series_book.specs.declared.one_series.Series.{Series}
+use Rattle.series_book.specs.Books.{IsSeries, IsBook}
+use Rattle.zoom_session.specs.declared.session.Session.{Session}
+use Rattle.zoom_session.specs.declared.view_spec.ViewSpec.{ViewSpec}
+use Rattle.zoom_session.specs.Sessions.{is_open, session_of, fresh_session, without as sessions_without, after_view, viewed}
+use Rattle.chart_frames.specs.declared.frame.Frame.{Frame}
+use Rattle.chart_frames.specs.declared.frame.Frame.TheVariants.{Done, Refused, Opened, Closed, View as ViewFrameOf, Rows}
+use Rattle.chart_frames.specs.declared.frame.ViewFrame.{ViewFrame}
+use Rattle.chart_service.specs.State.{State, IsSound}
+use Rattle.chart_service.specs.Viewing.{Answers, ShowsView, view_frame, axis_of}
+use Rattle.chart_service.specs.Replies.{RepliesToLine}
+use Rattle.chart_client.specs.declared.holding.Holding.{Holding}
+use Rattle.chart_client.specs.declared.errors.ClientError.{ClientError}
+use Rattle.chart_client.specs.declared.errors.ClientError.TheVariants.{Missing, BadCoefficient, UnknownSession, NoMemory}
+use Rattle.chart_client.specs.Holdings.{holding_of, opened as client_opened, without as client_without, with_cache, axis_of as client_axis, told_by, seen_by}
+use Rattle.chart_client.specs.Agreeing.{IsGridOf}
+use Rattle.chart_client.specs.Failing.{IsMissing, IsMisfit, Fails, IsFirstFailing}
+use Rattle.chart_client.specs.Accepting.{Accepts, AcceptsView, DrawsView, viewed as client_viewed, Rejects, FailsView, session_in}
+use Rattle.drawn_replies.specs.Mirrors.{mirrored, Mirrors, IsPictureOf, DrawsTheBook, OnlyLacksMemory}
+use Rattle.drawn_replies.proofs.Grids.{grid-same}
+use Rattle.drawn_replies.proofs.Holders.{mirror, held, closed, there, opened-same, viewed-same}
+use Rattle.drawn_replies.proofs.Agreement.{Laws, View, frame_of, agrees, none-fails, wanted-same}
+use Rattle.drawn_replies.proofs.Steps.{IsQuiet, QuietStep, OpenStep, CloseStep, ViewStep, Step, step-of}
+
+-- a frame that isn't a view's fails no view
+no-view : (frame : Frame) → ((view : ViewFrame) → frame ≡ ViewFrameOf view → ⊥) → (How : Seen → ℕ → Key → Type 0) (key : Key) (h : List Holding)
+    → FailsView How key frame h → ⊥
+no-view frame none How key h f = none f.view f.is
+
+lacks-by : (frame : Frame) (h : List Holding) → ((view : ViewFrame) → frame ≡ ViewFrameOf view → ⊥)
+    → ((n : ℕ) → session_in frame ≡ Some n → holding_of n h ≡ None → ⊥) → OnlyLacksMemory frame h
+lacks-by frame h none held_by (Missing key) r = absurd (no-view frame none _ key h r)
+lacks-by frame h none held_by (BadCoefficient key) r = absurd (no-view frame none _ key h r)
+lacks-by frame h none held_by (UnknownSession n) r = absurd (held_by n r.0 r.1)
+lacks-by frame h none held_by NoMemory r = refl
+
+refused-no-view : {number a b : ℕ} {view : ViewFrame} → ◌≡◌ {A = Frame} (Refused number a b) (ViewFrameOf view) → ⊥
+refused-no-view h = cc
+
+done-no-view : {slots : ℕ} {view : ViewFrame} → ◌≡◌ {A = Frame} (Done slots) (ViewFrameOf view) → ⊥
+done-no-view h = cc
+
+opened-no-view : {number size : ℕ} {view : ViewFrame} → ◌≡◌ {A = Frame} (Opened number size) (ViewFrameOf view) → ⊥
+opened-no-view h = cc
+
+closed-no-view : {number : ℕ} {view : ViewFrame} → ◌≡◌ {A = Frame} (Closed number) (ViewFrameOf view) → ⊥
+closed-no-view h = cc
+
+none-some : {n : ℕ} → ◌≡◌ {A = Option ℕ} None (Some n) → ⊥
+none-some h = cc
+
+some-number : {a b : ℕ} → ◌≡◌ {A = Option ℕ} (Some a) (Some b) → a ≡ b
+some-number h = cc
+
+some-none : {a : Holding} → ◌≡◌ {A = Option Holding} (Some a) None → ⊥
+some-none h = cc
+
+some-holding : {a b : Holding} → ◌≡◌ {A = Option Holding} (Some a) (Some b) → a ≡ b
+some-holding h = cc
+
+view-same : {a b : ViewFrame} → ◌≡◌ {A = Frame} (ViewFrameOf a) (ViewFrameOf b) → a ≡ b
+view-same h = cc
+
+-- a session's holding
+holding-there : (n : ℕ) (ss : List Session) (s : Session) (h : List Holding) → session_of n ss ≡ Some s → Mirrors ss h → holding_of n h ≡ Some (mirrored s)
+holding-there n ss s h found m = ap (λ hs. holding_of n hs) m ∙ held n ss ∙ ap (option_map mirrored) found
+
+quiet-follows : (frame : Frame) (old new : State) (h : List Holding) → IsQuiet frame → new.sessions ≡ old.sessions → Mirrors old.sessions h
+    → DrawsTheBook frame old new h × OnlyLacksMemory frame h
+quiet-follows frame old new h (inl q) same m =
+    let P : Frame → Type 0 = λ f. DrawsTheBook f old new h × OnlyLacksMemory f h in
+    subst P (sym q.3) (
+      λ drawing now a. (a.1 ∙ m ∙ ap mirror (sym same), a.0),
+      lacks-by (Refused q.0 q.1 q.2) h (λ view e. refused-no-view e) (λ n e gone. none-some e),
+    )
+quiet-follows frame old new h (inr q) same m =
+    let P : Frame → Type 0 = λ f. DrawsTheBook f old new h × OnlyLacksMemory f h in
+    subst P (sym q.1) (
+      λ drawing now a. (a.1 ∙ m ∙ ap mirror (sym same), a.0),
+      lacks-by (Done q.0) h (λ view e. done-no-view e) (λ n e gone. none-some e),
+    )
+
+open-follows : (frame : Frame) (old new : State) (h : List Holding) → OpenStep frame old new → Mirrors old.sessions h
+    → DrawsTheBook frame old new h × OnlyLacksMemory frame h
+open-follows frame old new h o m =
+    let P : Frame → Type 0 = λ f. DrawsTheBook f old new h × OnlyLacksMemory f h in
+    subst P (sym o.is) (
+      λ drawing now a. (
+        a.1 ∙ ap (λ hs. client_opened o.number o.size hs) m ∙ opened-same o.number o.size old.sessions o.absent ∙ ap mirror (sym o.sessions),
+        a.0,
+      ),
+      lacks-by (Opened o.number o.size) h (λ view e. opened-no-view e) (λ n e gone. none-some e),
+    )
+
+close-follows : (frame : Frame) (old new : State) (h : List Holding) → AllPairs (λ a b. a.number ≢ b.number) old.sessions
+    → CloseStep frame old new → Mirrors old.sessions h → DrawsTheBook frame old new h × OnlyLacksMemory frame h
+close-follows frame old new h distinct c m =
+    let P : Frame → Type 0 = λ f. DrawsTheBook f old new h × OnlyLacksMemory f h in
+    let t = there c.number old.sessions c.there in
+    subst P (sym c.is) (
+      λ drawing now a. (
+        a.2 ∙ ap (λ hs. client_without c.number hs) m ∙ closed c.number old.sessions distinct ∙ ap mirror (sym c.sessions),
+        a.0,
+      ),
+      lacks-by (Closed c.number) h (λ view e. closed-no-view e)
+          (λ n e gone. some-none (sym (holding-there c.number old.sessions t.0 h t.1 m) ∙ ap (λ i. holding_of i h) (some-number e) ∙ gone)),
+    )
+
+-- no two keys of an ordered list are the same
+never : (k : Key) → ComesBefore k k → ⊥
+never k (inl g) = absurd (omega (arith, g))
+never k (inr g) = absurd (omega (arith, g.1))
+
+apart : (e : Key × Coef) (es : List (Key × Coef)) → All (λ later. ComesBefore e.0 later.0) es → All (λ f. e.0 ≢ f.0) es
+apart e es all i d low = λ (same : e.0 ≡ _). never e.0 (subst (λ (k : Key). ComesBefore e.0 k) (sym same) (all i d low))
+
+order-distinct : (es : List (Key × Coef)) → AreInOrder es → AreDistinct es
+order-distinct [] order = λ i j d low high. absurd (omega (arith, high))
+order-distinct (e ∷ es) order =
+    AllPairs-cons (λ a b. a.0 ≢ b.0) e es (apart e es order.0) (order-distinct es order.1)
+
+some-series : {a b : Series} → ◌≡◌ {A = Option Series} (Some a) (Some b) → a ≡ b
+some-series h = cc
+
+-- a series of a book is in range
+book-series : (book : List Series) (id : ℕ) (series : Series) → IsBook book → slice_get book id ≡ Some series → IsSeries series
+book-series book id series good stored =
+    let low = slice_get_within book id series stored in
+    subst (λ (s : Series). IsSeries s) (some-series (sym (slice_get-get_or book id series low) ∙ stored)) (good.all_in_range id series low)
+
+-- the view that is answered
+abbrev view-of : (laws : Laws) (frame : Frame) (old new : State) → IsBook old.book → (s : ViewStep frame old new) → View
+view-of laws frame old new good s = record {
+  laws = laws;
+  series = s.series;
+  good = book-series old.book s.spec.series s.series good s.stored;
+  spec = s.spec;
+  number = s.number;
+  range = s.answers.range;
+  cache = s.answers.session.cache;
+  needed = s.answers.needed;
+  are_needed = s.answers.are_needed;
+  distinct = order-distinct s.answers.needed s.answers.are_needed.order;
+}
+
+grid-is : (v : View) (grid : Grid) → IsGridOf (frame_of v) grid → grid ≡ v.spec.grid
+grid-is v grid is = grid-same grid v.spec.grid is.window.from is.window.to is.canvas.columns is.canvas.rows
+
+view-accepted : (v : View) (session : Session) (old new : State) (h now : List Holding) (drawing : Canvas)
+    → session_of v.number old.sessions ≡ Some session → session.cache ≡ v.cache → slice_get old.book v.spec.series ≡ Some v.series
+    → new.sessions ≡ viewed v.number v.spec v.needed old.sessions → Mirrors old.sessions h
+    → AcceptsView (frame_of v) v.cache drawing h now
+    → Mirrors new.sessions now × IsPictureOf old (ViewFrameOf (frame_of v)) (Some drawing)
+view-accepted v session old new h now drawing found cached stored after m a =
+    let g = grid-is v a.grid a.grid_is in
+    let wanted : a.wanted ≡ v.needed =
+    wanted-same v a.wanted
+    (subst (λ (grid : Grid). IsListOf (IsWanted (seen_by (frame_of v) v.cache) (axis_of v.series) grid) (told_by (frame_of v) v.cache) a.wanted) g a.all_wanted) in (
+      a.holdings
+          ∙ ap (λ es. with_cache v.number (client_viewed (frame_of v) v.cache es) h) wanted
+          ∙ ap (λ c. with_cache v.number (client_viewed (frame_of v) c v.needed) h) (sym cached)
+          ∙ ap (λ hs. with_cache v.number (after_view v.spec v.needed session).cache hs) m
+          ∙ viewed-same v.number v.spec v.needed session old.sessions found
+          ∙ ap mirror (sym after),
+      (
+        v.series,
+        stored,
+        record {
+          grid = v.spec.grid;
+          from = refl;
+          to = refl;
+          columns = refl;
+          rows = refl;
+          chart = (subst (λ (grid : Grid). DrawsView (frame_of v) v.cache grid drawing) g a.draws) v.series.slots (agrees v);
+        },
+      ),
+    )
+
+-- the holding of the session has the session's list
+cache-same : (number : ℕ) (session : Session) (old : State) (h : List Holding) (holding : Holding) → session_of number old.sessions ≡ Some session
+    → Mirrors old.sessions h → holding_of number h ≡ Some holding → holding.cache ≡ session.cache
+cache-same number session old h holding found m is =
+    ap (λ x. x.cache) (some-holding (sym is ∙ holding-there number old.sessions session h found m))
+
+-- the same as FailsView, of this view's frame
+record FailsAt (v : View) (How : Seen → ℕ → Key → Type 0) (key : Key) (h : List Holding) (view : ViewFrame) : Type 0 where
+  pub holding : Holding
+  pub open_is : holding_of view.session h ≡ Some holding
+  pub grid : Grid
+  pub grid_is : IsGridOf view grid
+  pub first : IsFirstFailing (seen_by view holding.cache) (client_axis view) grid key
+
+-- a wanted key of the view that fails
+view-fails : (v : View) (How : Seen → ℕ → Key → Type 0) (key : Key) (session : Session) (old : State) (h : List Holding)
+    → session_of v.number old.sessions ≡ Some session → session.cache ≡ v.cache → Mirrors old.sessions h
+    → FailsView How key (ViewFrameOf (frame_of v)) h → ⊥
+view-fails v How key session old h found cached m f =
+    let same : frame_of v ≡ f.view = view-same f.is in
+    let P : ViewFrame → Type 0 = λ view. FailsAt v How key h view in
+    let at : FailsAt v How key h (frame_of v) = subst P (sym same) (record { holding = f.holding; open_is = f.open_is; grid = f.grid; grid_is = f.grid_is; first = f.first }) in
+    let cache : at.holding.cache ≡ v.cache = cache-same v.number session old h at.holding found m at.open_is ∙ cached in
+    let first = subst (λ (c : Cache). IsFirstFailing (seen_by (frame_of v) c) (axis_of v.series) at.grid key) cache at.first in
+    let here = subst (λ (grid : Grid). IsFirstFailing (seen_by (frame_of v) v.cache) (axis_of v.series) grid key) (grid-is v at.grid at.grid_is) first in
+    none-fails v key here.wanted here.fails
+
+view-lacks : (v : View) (session : Session) (old : State) (h : List Holding) → session_of v.number old.sessions ≡ Some session
+    → session.cache ≡ v.cache → Mirrors old.sessions h → OnlyLacksMemory (ViewFrameOf (frame_of v)) h
+view-lacks v session old h found cached m (Missing key) r = absurd (view-fails v _ key session old h found cached m r)
+view-lacks v session old h found cached m (BadCoefficient key) r = absurd (view-fails v _ key session old h found cached m r)
+view-lacks v session old h found cached m (UnknownSession n) r =
+    absurd (some-none (sym (holding-there v.number old.sessions session h found m) ∙ ap (λ i. holding_of i h) (some-number r.0) ∙ r.1))
+view-lacks v session old h found cached m NoMemory r = refl
+
+view-drawn : (v : View) (session : Session) (old new : State) (h : List Holding) → session_of v.number old.sessions ≡ Some session
+    → session.cache ≡ v.cache → slice_get old.book v.spec.series ≡ Some v.series
+    → new.sessions ≡ viewed v.number v.spec v.needed old.sessions → Mirrors old.sessions h → DrawsTheBook (ViewFrameOf (frame_of v)) old new h
+view-drawn v session old new h found cached stored after m None now a = absurd a
+view-drawn v session old new h found cached stored after m (Some drawing) now a =
+    let cache : a.0.cache ≡ v.cache = cache-same v.number session old h a.0 found m a.1 ∙ cached in
+    view-accepted v session old new h now drawing found cached stored after m
+    (subst (λ (c : Cache). AcceptsView (frame_of v) c drawing h now) cache a.2)
+
+view-follows : (laws : Laws) (frame : Frame) (old new : State) (h : List Holding) → IsBook old.book → ViewStep frame old new → Mirrors old.sessions h
+    → DrawsTheBook frame old new h × OnlyLacksMemory frame h
+view-follows laws frame old new h good s m =
+    let v = view-of laws frame old new good s in
+    let P : Frame → Type 0 = λ f. DrawsTheBook f old new h × OnlyLacksMemory f h in
+    subst P (sym s.answers.frame_is) (
+      view-drawn v s.answers.session old new h s.answers.open_is refl s.stored (ap (λ x. x.sessions) s.answers.state) m,
+      view-lacks v s.answers.session old h s.answers.open_is refl m,
+    )
+
+-- what a client does with the frame of a step: its sessions go on mirroring the service's, it draws the
+-- picture of the series, and nothing but want of memory comes in its way
+pub follows-step : (laws : Laws) (frame : Frame) (old new : State) (h : List Holding) → IsSound old → Step frame old new → Mirrors old.sessions h
+    → DrawsTheBook frame old new h × OnlyLacksMemory frame h
+follows-step laws frame old new h sound step m =
+    elim step [
+      | inl quiet ↦ quiet-follows frame old new h quiet.quiet quiet.sessions m
+      | inr later ↦ elim later [
+        | inl opening ↦ open-follows frame old new h opening m
+        | inr more ↦ elim more [
+          | inl closing ↦ close-follows frame old new h sound.sessions.distinct closing m
+          | inr view ↦ view-follows laws frame old new h sound.book view m
+        ]
+      ]
+    ]
+
+-- the same of the frame of a reply
+pub follows : (laws : Laws) (line : Option (List ℕ)) (frame : Frame) (old new : State) (h : List Holding) → IsSound old
+    → RepliesToLine line frame old new → Mirrors old.sessions h
+    → DrawsTheBook frame old new h × OnlyLacksMemory frame h
+follows laws line frame old new h sound replied m = follows-step laws frame old new h sound (step-of line frame old new replied) m

@@ -1,0 +1,64 @@
+//! What a client draws of a service's replies. The functions do nothing: their contracts are the laws.
+
+ghost use Rattle.std.specs.Prelude.{ℕ, ◌≡◌, List, [], Option};
+ghost use Rattle.std.specs.List.{filter};
+ghost use Rattle.line_raster.specs.Canvas.{Canvas};
+ghost use Rattle.chart_client.specs.declared.holding.Holding.{Holding};
+ghost use Rattle.chart_frames.specs.declared.frame.Frame.{Frame};
+ghost use Rattle.chart_service.specs.State.{State, IsSound};
+ghost use Rattle.chart_service.specs.Replies.{RepliesToLine};
+ghost use Rattle.chart_service.specs.Serving.{RepliesToAll};
+ghost use Rattle.chart_service.specs.Alone.{only};
+ghost use Rattle.drawn_replies.specs.Mirrors.{Mirrors, DrawsTheBook, OnlyLacksMemory};
+ghost use Rattle.drawn_replies.specs.Pictures.{AcceptsAll, ArePictured, AreOwnPictured, NoneRejected, names};
+
+use coefficient_cache::laws::sent_and_held_give_the_needed;
+use om3_coeff::laws::{spans_add_up, split_and_join_undo_each_other};
+use view_keys::laws::wanted_keys_are_needed;
+
+/// A client that holds the list of each open session as the service keeps it, and gets the frame of the
+/// next reply, draws of a view the chart of the series as it is in the book, and holds each session's
+/// list as the service does after the reply. Nothing but want of memory can come in its way.
+pub fn clients_draw_the_book()
+    ensures draws { (line : Option (List ℕ)) (frame : Frame) (old new : State) (holdings : List Holding) →
+        IsSound old → RepliesToLine line frame old new → Mirrors old.sessions holdings → DrawsTheBook frame old new holdings }
+    ensures accepts { (line : Option (List ℕ)) (frame : Frame) (old new : State) (holdings : List Holding) →
+        IsSound old → RepliesToLine line frame old new → Mirrors old.sessions holdings → OnlyLacksMemory frame holdings }
+{
+    wanted_keys_are_needed();
+    sent_and_held_give_the_needed();
+    spans_add_up();
+    split_and_join_undo_each_other();
+}
+
+/// The same of all replies to lines: the client's drawings are the pictures of the book, each as the book
+/// is at its line.
+pub fn replies_draw_the_book()
+    ensures { (lines : List (Option (List ℕ))) (frames : List Frame) (drawings : List (Option Canvas)) (old new : State) (holdings now : List Holding) →
+        IsSound old → RepliesToAll old lines frames new → Mirrors old.sessions holdings → AcceptsAll holdings frames drawings now →
+        ArePictured old lines frames drawings new × Mirrors new.sessions now }
+{
+    clients_draw_the_book();
+}
+
+/// The same of a client that is sent the frames of one session alone, whatever other sessions' lines and
+/// edits stand between: it draws that session's pictures of the book.
+pub fn one_session_draws_the_book()
+    ensures { (n : ℕ) (lines : List (Option (List ℕ))) (frames : List Frame) (drawings : List (Option Canvas)) (old new : State) (holdings now : List Holding) →
+        IsSound old → RepliesToAll old lines frames new → Mirrors (only n old.sessions) holdings → AcceptsAll holdings (filter (names n) frames) drawings now →
+        AreOwnPictured n old lines frames drawings new × Mirrors (only n new.sessions) now }
+{
+    wanted_keys_are_needed();
+    sent_and_held_give_the_needed();
+    spans_add_up();
+    split_and_join_undo_each_other();
+}
+
+/// Where a client is sent all replies to lines, from the first one on, nothing but want of memory keeps it
+/// from accepting one.
+pub fn replies_are_accepted()
+    ensures { (lines : List (Option (List ℕ))) (frames : List Frame) (old new : State) →
+        IsSound old → old.sessions ≡ [] → RepliesToAll old lines frames new → NoneRejected frames }
+{
+    clients_draw_the_book();
+}

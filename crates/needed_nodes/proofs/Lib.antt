@@ -1,0 +1,14 @@
+pub mod Nesting
+pub mod RankLaws
+pub mod ServeLaws
+pub mod Times
+pub mod GatherLaws
+pub mod BlockLaws
+pub mod StepLaws
+pub mod FindLaws
+pub mod EndLaws
+pub mod ColumnLaws
+pub mod OrderLaws
+pub mod PickLaws
+pub mod PointLaws
+pub mod ExploreLaws

@@ -1,0 +1,43 @@
+use Rattle.std.proofs.Common.{◌≤◌, List, length, sym, subst}
+use Rattle.std.specs.Prelude.{Some, All}
+use Rattle.om3_coeff.specs.declared.key.Key.{Key}
+use Rattle.om3_coeff.specs.declared.coef.Coef.{Coef}
+use Rattle.om3_coeff.specs.Coefs.{coef}
+use Rattle.view_keys.specs.Needed.{IsNeeded}
+use Rattle.view_keys.specs.Wanted.{IsWanted}
+use Rattle.view_keys.specs.Listed.{IsListOf}
+use Rattle.needed_nodes.specs.Answers.{seen_of, IsEntry, most_needed}
+use Rattle.needed_nodes.proofs.ExploreLaws.{small_keys, sorted_list, sorted_few, sorted_entries}
+use Rattle.needed_nodes.proofs.surveying.needed.Goals as goal
+
+pub sort_keys-requires-clause-small : goal.sort_keys-requires-clause-small
+sort_keys-requires-clause-small g c = small_keys c.args.axis.slots c.in_ok-explored.explored.keys.items c.in_ok-explored.ensures.found.entries
+
+pub returns-clause-told : goal.returns-clause-told
+returns-clause-told g c = λ tells.
+    let P : List (Key × Coef) → Type 0 = λ es. IsListOf (IsWanted (seen_of (g.N.Nodes.view c.args.nodes.now)) c.args.axis c.args.grid) (g.N.Nodes.view c.args.nodes.now).told es in
+    subst P (sym c.from_vec.ensures)
+    (sorted_list (IsWanted (seen_of (g.N.Nodes.view c.args.nodes.now)) c.args.axis c.args.grid) (g.N.Nodes.view c.args.nodes.now).told
+    c.in_ok-explored.explored.keys.items c.sort_keys.new.keys.items c.in_ok-sort_keys.ensures.same c.in_ok-sort_keys.ensures.order
+    (c.in_ok-explored.ensures.found.told tells))
+
+pub returns-clause-list : goal.returns-clause-list
+returns-clause-list g c = λ list agrees.
+    let P : List (Key × Coef) → Type 0 = λ es. IsListOf (IsNeeded list c.args.axis c.args.grid) (λ k. Some (coef list k)) es in
+    subst P (sym c.from_vec.ensures)
+    (sorted_list (IsNeeded list c.args.axis c.args.grid) (λ k. Some (coef list k))
+    c.in_ok-explored.explored.keys.items c.sort_keys.new.keys.items c.in_ok-sort_keys.ensures.same c.in_ok-sort_keys.ensures.order
+    (c.in_ok-explored.ensures.found.of_list list agrees))
+
+pub returns-clause-entries : goal.returns-clause-entries
+returns-clause-entries g c =
+    let P : List (Key × Coef) → Type 0 = λ es. All (IsEntry c.args.axis.slots) es in
+    subst P (sym c.from_vec.ensures)
+    (sorted_entries c.args.axis.slots c.in_ok-explored.explored.keys.items c.sort_keys.new.keys.items c.in_ok-sort_keys.ensures.same c.in_ok-explored.ensures.found.entries)
+
+pub returns-clause-few : goal.returns-clause-few
+returns-clause-few g c =
+    let P : List (Key × Coef) → Type 0 = λ es. length es ≤ most_needed c.args.grid.w c.args.axis.slots in
+    subst P (sym c.from_vec.ensures)
+    (sorted_few c.in_ok-explored.explored.keys.items c.sort_keys.new.keys.items (most_needed c.args.grid.w c.args.axis.slots) c.in_ok-sort_keys.ensures.same
+    c.in_ok-explored.ensures.found.few)

@@ -1,0 +1,10 @@
+pub mod Answers
+pub mod Ranks
+pub mod Serving
+pub mod Gathering
+pub mod Blocks
+pub mod Entering
+pub mod Ends
+pub mod Columns
+pub mod Ordering
+pub mod Exploring

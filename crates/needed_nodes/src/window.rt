@@ -1,0 +1,108 @@
+ghost use Rattle.std.specs.Prelude.{◌≡◌, ◌<◌, ◌+ℤ◌, pos, FitsSigned};
+ghost use Rattle.std.specs.Int.{w64};
+ghost use Rattle.chart_grid.specs.Slots.{AreSlotsBefore};
+
+use chart_grid::laws::borders_part_columns;
+use chart_grid::{Axis, Grid};
+use om3_coeff::Key;
+
+/// The slots that a view shows: those from `from` on and below `end`, at least one.
+#[derive(Clone, Copy)]
+pub(crate) struct Window {
+    pub(crate) axis: Axis,
+    pub(crate) grid: Grid,
+    pub(crate) from: u64,
+    pub(crate) end: u64,
+    ghost step: { 0 < axis.step },
+    ghost start: { AreSlotsBefore axis grid.t0 from },
+    ghost stop: { AreSlotsBefore axis grid.t1 end },
+    ghost some: { from < end },
+}
+
+/// How a key's range lies to the columns of a window: it meets none, or it is within one, or a border
+/// of a column or an end of the window lies inside it.
+#[derive(Clone, Copy, Debug, PartialEq, Eq)]
+pub(crate) enum Place {
+    Outside,
+    Within(u16),
+    Cut,
+}
+
+impl Window {
+    ghost use Rattle.std.specs.Prelude.{◌≡◌, ℕ, ◌<◌, ◌≤◌, ◌^◌, IfSome, IfNone};
+    ghost use Rattle.chart_grid.specs.Projection.{InWindow};
+    ghost use Rattle.chart_grid.specs.Slots.{IsInColumn, slot_time};
+    ghost use Rattle.om3_coeff.specs.Keys.{end_slot};
+    ghost use Rattle.needed_nodes.specs.Ranks.{rank, IsPlace};
+
+    /// The window of a view, or nothing where it shows no slot.
+    pub(crate) fn of(axis: Axis, grid: Grid) -> Option<Window>
+        requires { 0 < axis.step }
+        ensures axis { IfSome result (λ w. w.axis ≡ axis) }
+        ensures grid { IfSome result (λ w. w.grid ≡ grid) }
+        ensures none { IfNone result ((c i : ℕ) → IsInColumn axis grid c i → ⊥) }
+    {
+        borders_part_columns();
+        let (from, _) = grid.slot_range(axis, 0);
+        let (_, end) = grid.slot_range(axis, grid.w() - 1);
+        if from < end {
+            Some(Window {
+                axis,
+                grid,
+                from,
+                end,
+            })
+        } else {
+            None
+        }
+    }
+
+    /// The time of a slot of the window.
+    fn time_of(&self, slot: u64) -> i64
+        requires from { self.now.from ≤ slot }
+        requires end { slot < self.now.end }
+        ensures time { result ≡ slot_time self.now.axis slot }
+        ensures shown { InWindow self.now.grid result }
+    {
+        let start = self.axis.start;
+        later(start, slot * u64::from(self.axis.step))
+    }
+
+    /// How many columns begin at or before a slot, and one more where it lies behind the window: 0
+    /// before the window, c + 1 in column c, w + 1 behind the window.
+    fn rank(&self, slot: u64) -> u16
+        ensures { result ≡ rank self.now slot }
+    {
+        if slot < self.from {
+            return 0;
+        }
+        if self.end <= slot {
+            return self.grid.w() + 1;
+        }
+        self.grid.column_of(self.time_of(slot)) + 1
+    }
+
+    /// The place of a key's range.
+    pub(crate) fn place_of(&self, key: Key) -> Place
+        requires { end_slot key < 2 ^ 63 }
+        ensures { IsPlace self.now key result }
+    {
+        let first = self.rank(key.first());
+        let last = self.rank(key.end() - 1);
+        if first != last {
+            return Place::Cut;
+        }
+        if first == 0 || first > self.grid.w() {
+            return Place::Outside;
+        }
+        Place::Within(first - 1)
+    }
+}
+
+/// The time so many steps after another one.
+fn later(start: i64, steps: u64) -> i64
+    requires { FitsSigned w64 (start +ℤ pos steps) }
+    ensures { result ≡ start +ℤ pos steps }
+{
+    (i128::from(start) + i128::from(steps)) as i64
+}

@@ -1,0 +1,48 @@
+use Rattle.std.proofs.Common.{◌∷◌, [], refl, ◌∙◌, arith}
+use Rattle.std.specs.Int.{w128}
+use Rattle.std.proofs.lemmas.Int.{to_z-of_z, fits_signed_from_abs}
+use Rattle.request_lines.specs.declared.places.Place.TheVariants.{Integer, Session}
+use Rattle.request_lines.specs.declared.line_kinds.LineKind.TheVariants.{Zoom}
+use Rattle.request_lines.specs.Grammar.{nothing}
+use Rattle.request_lines.proofs.GrammarLemmas.{fault-end}
+use Rattle.request_lines.proofs.RowLemmas.{passed-fault, reads-misses, reads-misses_end, reads-exit, zoom_is}
+use Rattle.request_lines.proofs.lines.zoom.Goals as goal
+
+pub returns-in_err-session-clause-reads : goal.returns-in_err-session-clause-reads
+returns-in_err-session-clause-reads c =
+    reads-exit Zoom c.args.reader.now _ _ c.from_residual.ensures.1
+    (reads-misses Zoom [] Session (Integer ∷ Integer ∷ []) _ _ _ refl
+    refl c.in_err-session.ensures.err)
+
+pub returns-in_err-t0-clause-reads : goal.returns-in_err-t0-clause-reads
+returns-in_err-t0-clause-reads c =
+    reads-exit Zoom c.args.reader.now _ _ c.from_residual-in_err-t0.ensures.1
+    (reads-misses Zoom (Session ∷ []) Integer (Integer ∷ []) _ _ _ refl
+    (_, c.in_ok-session.ensures.ok.0, refl) c.in_err-t0.ensures.err)
+
+pub returns-in_err-t1-clause-reads : goal.returns-in_err-t1-clause-reads
+returns-in_err-t1-clause-reads c =
+    reads-exit Zoom c.args.reader.now _ _ c.from_residual-in_err-t1.ensures.1
+    (reads-misses Zoom (Session ∷ Integer ∷ []) Integer [] _ _ _ refl
+    (_, c.in_ok-session.ensures.ok.0, (_, c.in_ok-t0.ensures.ok.0, refl)) c.in_err-t1.ensures.err)
+
+pub returns-in_err-end-clause-reads : goal.returns-in_err-end-clause-reads
+returns-in_err-end-clause-reads c =
+    reads-exit Zoom c.args.reader.now _ _ c.from_residual-in_err-end.ensures.1
+    (reads-misses_end Zoom (Session ∷ Integer ∷ Integer ∷ []) nothing _ _ _ refl refl
+    (_, c.in_ok-session.ensures.ok.0, (_, c.in_ok-t0.ensures.ok.0, (_, c.in_ok-t1.ensures.ok.0, refl))) c.in_err-end.ensures.err)
+
+pub returns-clause-reads : goal.returns-clause-reads
+returns-clause-reads c = (
+  passed-fault _ (Session ∷ Integer ∷ Integer ∷ []) [] nothing _ _
+      (_, c.in_ok-session.ensures.ok.0, (_, c.in_ok-t0.ensures.ok.0, (_, c.in_ok-t1.ensures.ok.0, refl)))
+      ∙ fault-end _ _ c.in_ok-end.ensures.ok,
+  zoom_is _ _ _ _ _ _ _ _ _
+      c.in_ok-session.ensures.ok.0 c.in_ok-t0.ensures.ok.0 c.in_ok-t1.ensures.ok.0
+      c.in_ok-end.ensures.ok
+      c.in_ok-session.ensures.ok.1
+      c.in_ok-t0.ensures.ok.1
+      (to_z-of_z w128 c.in_ok-t0.t0 (fits_signed_from_abs w128 c.in_ok-t0.t0 (omega (arith, c.in_ok-t0.ensures.ok.2))))
+      c.in_ok-t1.ensures.ok.1
+      (to_z-of_z w128 c.in_ok-t1.t1 (fits_signed_from_abs w128 c.in_ok-t1.t1 (omega (arith, c.in_ok-t1.ensures.ok.2)))),
+)

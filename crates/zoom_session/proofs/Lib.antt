@@ -1,0 +1,4 @@
+pub mod Found
+pub mod Valid
+pub mod Ordered
+pub mod Planning

@@ -1,0 +1,50 @@
+-- What a plan of the session of a number is, from what the plan of its keys is.
+use Rattle.std.proofs.Common.{◌≡◌, ℕ, ℤ, List, Option, Some, subst, sym}
+use Rattle.std.specs.Prelude.{All, Result, Ok, Err, IfOk, IfErr}
+use Rattle.chart_grid.specs.declared.axis.Axis.{Axis}
+use Rattle.chart_grid.specs.declared.grid.Grid.{Grid}
+use Rattle.om3_coeff.specs.declared.key.Key.{Key}
+use Rattle.om3_coeff.specs.declared.coef.Coef.{Coef}
+use Rattle.om3_coeff.specs.View.{NodesView}
+use Rattle.view_keys.specs.Listed.{AreInOrder}
+use Rattle.needed_nodes.specs.Answers.{IsEntry, IsCauseFor}
+use Rattle.needed_nodes.specs.declared.scan_of.ScanOf.{ScanOf}
+use Rattle.needed_nodes.specs.declared.scan_of.ScanOf.TheVariants as scan
+use Rattle.zoom_session.specs.Planned.{Plan}
+use Rattle.zoom_session.specs.Plans.{AreNeeded, IsPlan, PlansIn, HasEntries, IsTooLarge, RefusesPlan, CountsNeeded, plan_error_of}
+use Rattle.zoom_session.specs.declared.session.Session.{Session}
+use Rattle.zoom_session.specs.declared.errors.PlanError.{PlanError}
+use Rattle.zoom_session.specs.declared.errors.PlanError.TheVariants.{TooLarge, Node, NoMemory}
+use Rattle.zoom_session.proofs.Ordered.{entries_so}
+
+pub plans_in : (o : Option Session) (s : Session) (series : ℕ) (r : Result Plan PlanError) → o ≡ Some s → IfOk r (IsPlan s series) → IfOk r (PlansIn o series)
+plans_in o s series r same planned = subst (λ o. IfOk r (PlansIn o series)) (sym same) planned
+
+pub have_entries : (s : Session) (series slots : ℕ) (keys : List (Key × Coef)) (r : Result Plan PlanError) → AreInOrder keys → All (IsEntry slots) keys → IfOk r (λ plan. plan.needed ≡ keys) → IfOk r (IsPlan s series) → IfOk r (HasEntries slots)
+have_entries s series slots keys (Ok plan) order entries needed planned =
+    entries_so s series slots plan (subst AreInOrder (sym needed) order) (subst (All (IsEntry slots)) (sym needed) entries) planned
+have_entries s series slots keys (Err error) order entries needed planned = tt
+
+-- why the walk gave no keys is why there is no plan
+pub walk_stops : (o : Option Session) (s : Session) (old new : NodesView) (axis : Axis) (grid : Grid) (error : ScanOf) → o ≡ Some s → IsCauseFor old new axis grid error → RefusesPlan o old new axis grid (plan_error_of error)
+walk_stops o s old new axis grid (scan.Node error) same cause = subst (λ o. RefusesPlan o old new axis grid (Node error)) (sym same) cause
+walk_stops o s old new axis grid scan.NoMemory same cause = subst (λ o. RefusesPlan o old new axis grid NoMemory) (sym same) tt
+
+-- too many keys are why there is no plan
+too_many : (s : Session) (old new : NodesView) (axis : Axis) (grid : Grid) (keys : List (Key × Coef)) (error : PlanError) → IsTooLarge s keys error → RefusesPlan (Some s) old new axis grid error
+too_many s old new axis grid keys (TooLarge needed cache) large = large.0
+too_many s old new axis grid keys (Node error) large = absurd large
+too_many s old new axis grid keys NoMemory large = tt
+
+pub keys_stop : (o : Option Session) (s : Session) (old new : NodesView) (axis : Axis) (grid : Grid) (keys : List (Key × Coef)) (r : Result Plan PlanError) → o ≡ Some s → IfErr r (IsTooLarge s keys) → IfErr r (RefusesPlan o old new axis grid)
+keys_stop o s old new axis grid keys (Ok plan) same large = tt
+keys_stop o s old new axis grid keys (Err error) same large = subst (λ o. RefusesPlan o old new axis grid error) (sym same) (too_many s old new axis grid keys error large)
+
+counted : (s : Session) (list : List (Option ℤ)) (axis : Axis) (grid : Grid) (keys : List (Key × Coef)) (error : PlanError) → AreNeeded list axis grid keys → IsTooLarge s keys error → CountsNeeded list axis grid error
+counted s list axis grid keys (TooLarge needed cache) each large = (keys, each, sym large.1)
+counted s list axis grid keys (Node error) each large = tt
+counted s list axis grid keys NoMemory each large = tt
+
+pub counts_needed : (s : Session) (list : List (Option ℤ)) (axis : Axis) (grid : Grid) (keys : List (Key × Coef)) (r : Result Plan PlanError) → AreNeeded list axis grid keys → IfErr r (IsTooLarge s keys) → IfErr r (CountsNeeded list axis grid)
+counts_needed s list axis grid keys (Ok plan) each large = tt
+counts_needed s list axis grid keys (Err error) each large = counted s list axis grid keys error each large

@@ -1,0 +1,71 @@
+ghost use Rattle.std.specs.Prelude.{◌≡◌, IfOk, IfErr, OnOk};
+ghost use Rattle.coefficient_cache.specs.Views.{AreDistinct};
+ghost use Rattle.view_keys.specs.Listed.{AreInOrder};
+ghost use Rattle.zoom_session.specs.Planned.{IsInBounds};
+ghost use Rattle.zoom_session.specs.Plans.{IsPlan, IsTooLarge};
+ghost use Rattle.zoom_session.specs.Sessions.{after_view};
+
+use crate::errors::{NoMemory, PlanError};
+use crate::plan::ViewPlan;
+use crate::view_spec::ViewSpec;
+use coefficient_cache::CoefficientCache;
+use om3_coeff::{Coef, Coefs, Key};
+use std::alloc::Global;
+
+/// A session that is open.
+#[derive(Drop)]
+pub struct Session {
+    /// Its number, at least 1.
+    pub(crate) number: u32,
+    /// The coefficients that its client keeps.
+    pub(crate) cache: CoefficientCache,
+    /// The view that it was answered last, if any was.
+    pub(crate) last: Option<ViewSpec>,
+}
+
+impl Session {
+    // The plan of a view of a series that needs these keys. It is `TooLarge` exactly where they are
+    // more than the client keeps.
+    #[tactic(auto, using(crate::proofs::Ordered::bounds_so))]
+    pub(crate) fn plan(
+        &self,
+        alloc: Global,
+        series: u16,
+        needed: Coefs,
+    ) -> Result<ViewPlan, PlanError>
+        requires { AreInOrder needed }
+        ensures needed { IfOk result (λ plan. plan.needed ≡ needed) }
+        ensures planned { IfOk result (IsPlan self.now series) }
+        ensures bounds { IfOk result IsInBounds }
+        ensures too_large { IfErr result (IsTooLarge self.now needed) }
+    {
+        let capacity = self.cache.capacity();
+        let count = needed.as_slice().len();
+        if count > capacity as usize {
+            return Err(PlanError::TooLarge {
+                needed: count as u64,
+                cache: u64::from(capacity),
+            });
+        }
+        let send = self.cache.to_send(alloc, series, needed.as_slice())?;
+        Ok(ViewPlan { needed, send })
+    }
+
+    // Keeps an answered view as the last one, and changes the list by the keys that it needs. After
+    // `NoMemory` the session is of no further use.
+    pub(crate) fn keep_view(
+        &mut self,
+        alloc: Global,
+        spec: ViewSpec,
+        needed: &[(Key, Coef)],
+    ) -> Result<(), NoMemory>
+        requires { AreDistinct needed.now }
+        ensures kept { OnOk result (self.new ≡ after_view spec needed.now self.old) }
+        ensures number { self.new.number ≡ self.old.number }
+        ensures capacity { self.new.cache.capacity ≡ self.old.cache.capacity }
+    {
+        self.last = Some(spec);
+        self.cache.renew(alloc, spec.series, needed)?;
+        Ok(())
+    }
+}
