@@ -16,7 +16,7 @@ use Rattle.chart_program.proofs.Joined.{lines_joined}
 use Rattle.chart_program.proofs.Ending.{says_true}
 
 -- the codes of a plot are codes of a run
-pub plot_codes : (code : ℕ) → Contains (0 ∷ 3 ∷ 4 ∷ 5 ∷ 8 ∷ 9 ∷ []) code → Contains (0 ∷ 2 ∷ 3 ∷ 4 ∷ 5 ∷ 8 ∷ 9 ∷ 10 ∷ 11 ∷ 15 ∷ []) code
+pub plot_codes : (code : ℕ) → Contains (0 ∷ 3 ∷ 4 ∷ 5 ∷ 8 ∷ 9 ∷ []) code → Contains (0 ∷ 2 ∷ 3 ∷ 4 ∷ 5 ∷ 8 ∷ 9 ∷ 10 ∷ 11 ∷ 15 ∷ 6 ∷ 12 ∷ 13 ∷ []) code
 plot_codes code (zero, inside, is) = (0, omega arith, is)
 plot_codes code (suc zero, inside, is) = (2, omega arith, is)
 plot_codes code (suc (suc zero), inside, is) = (3, omega arith, is)
@@ -104,14 +104,18 @@ complete_so (Some input) code place w h words command R S W is spells codes read
     completed code R S (FirstBad input place) (HasTooMuch input place) codes read send bad much no_read no_send (no_bad input place slots) (no_much input place slots)
 
 -- the codes of a run of lines are codes of a run
-pub run_codes : (code : ℕ) → Contains (0 ∷ 3 ∷ 4 ∷ 5 ∷ 9 ∷ 10 ∷ 11 ∷ 15 ∷ []) code → Contains (0 ∷ 2 ∷ 3 ∷ 4 ∷ 5 ∷ 8 ∷ 9 ∷ 10 ∷ 11 ∷ 15 ∷ []) code
+pub run_codes : (code : ℕ) → Contains (0 ∷ 3 ∷ 4 ∷ 5 ∷ 9 ∷ 10 ∷ 11 ∷ 15 ∷ []) code → Contains (0 ∷ 2 ∷ 3 ∷ 4 ∷ 5 ∷ 8 ∷ 9 ∷ 10 ∷ 11 ∷ 15 ∷ 6 ∷ 12 ∷ 13 ∷ []) code
 run_codes code (zero, inside, is) = (0, omega arith, is)
 run_codes code (suc zero, inside, is) = (2, omega arith, is)
 run_codes code (suc (suc zero), inside, is) = (3, omega arith, is)
 run_codes code (suc (suc (suc zero)), inside, is) = (4, omega arith, is)
-run_codes code (suc (suc (suc (suc k))), inside, is) = (suc (suc (suc (suc (suc (suc k))))), omega (arith, inside), is)
+run_codes code (suc (suc (suc (suc zero))), inside, is) = (6, omega arith, is)
+run_codes code (suc (suc (suc (suc (suc zero)))), inside, is) = (7, omega arith, is)
+run_codes code (suc (suc (suc (suc (suc (suc zero))))), inside, is) = (8, omega arith, is)
+run_codes code (suc (suc (suc (suc (suc (suc (suc zero)))))), inside, is) = (9, omega arith, is)
+run_codes code (suc (suc (suc (suc (suc (suc (suc (suc k))))))), inside, is) = absurd (omega (arith, inside))
 
-pub serve_codes : (code : ℕ) → Contains (0 ∷ 3 ∷ 4 ∷ 5 ∷ 9 ∷ []) code → Contains (0 ∷ 2 ∷ 3 ∷ 4 ∷ 5 ∷ 8 ∷ 9 ∷ 10 ∷ 11 ∷ 15 ∷ []) code
+pub serve_codes : (code : ℕ) → Contains (0 ∷ 3 ∷ 4 ∷ 5 ∷ 9 ∷ []) code → Contains (0 ∷ 2 ∷ 3 ∷ 4 ∷ 5 ∷ 8 ∷ 9 ∷ 10 ∷ 11 ∷ 15 ∷ 6 ∷ 12 ∷ 13 ∷ []) code
 serve_codes code (zero, inside, is) = (0, omega arith, is)
 serve_codes code (suc zero, inside, is) = (2, omega arith, is)
 serve_codes code (suc (suc zero), inside, is) = (3, omega arith, is)
@@ -161,9 +165,17 @@ serve_complete T o before now code words command R S W is spells codes read send
     lines_complete o code words command (λ input. AnswersWithin T input before now) R S W (λ input good. let P : Command → Type 0 = λ c. IsInput c input in subst P is good) (λ input m. m.1.past) spells codes read send much
 
 -- the codes of a drawing are codes of a run
-pub draw_codes : (code : ℕ) → Contains (0 ∷ 3 ∷ 4 ∷ 5 ∷ 8 ∷ 9 ∷ 10 ∷ 11 ∷ 15 ∷ []) code → Contains (0 ∷ 2 ∷ 3 ∷ 4 ∷ 5 ∷ 8 ∷ 9 ∷ 10 ∷ 11 ∷ 15 ∷ []) code
+pub draw_codes : (code : ℕ) → Contains (0 ∷ 3 ∷ 4 ∷ 5 ∷ 8 ∷ 9 ∷ 10 ∷ 11 ∷ 15 ∷ []) code → Contains (0 ∷ 2 ∷ 3 ∷ 4 ∷ 5 ∷ 8 ∷ 9 ∷ 10 ∷ 11 ∷ 15 ∷ 6 ∷ 12 ∷ 13 ∷ []) code
 draw_codes code (zero, inside, is) = (0, omega arith, is)
-draw_codes code (suc k, inside, is) = (suc (suc k), omega (arith, inside), is)
+draw_codes code (suc zero, inside, is) = (2, omega arith, is)
+draw_codes code (suc (suc zero), inside, is) = (3, omega arith, is)
+draw_codes code (suc (suc (suc zero)), inside, is) = (4, omega arith, is)
+draw_codes code (suc (suc (suc (suc zero))), inside, is) = (5, omega arith, is)
+draw_codes code (suc (suc (suc (suc (suc zero)))), inside, is) = (6, omega arith, is)
+draw_codes code (suc (suc (suc (suc (suc (suc zero))))), inside, is) = (7, omega arith, is)
+draw_codes code (suc (suc (suc (suc (suc (suc (suc zero)))))), inside, is) = (8, omega arith, is)
+draw_codes code (suc (suc (suc (suc (suc (suc (suc (suc zero))))))), inside, is) = (9, omega arith, is)
+draw_codes code (suc (suc (suc (suc (suc (suc (suc (suc (suc k)))))))), inside, is) = absurd (omega (arith, inside))
 
 draw_completed : (code : ℕ) (R S : Type 0) → Contains (0 ∷ 3 ∷ 4 ∷ 5 ∷ []) code → (code ≡ 4 → R) → (code ≡ 5 → S) → (R → ⊥) → (S → ⊥) → (code ≡ 0) ⊎ (code ≡ 3)
 draw_completed code R S (zero, inside, is) read send no_read no_send = inl (sym is)
@@ -201,3 +213,12 @@ told_all (Some input) P holds = holds
 pub told_both : (o : Option (List ℕ)) (P : Type 0) (Q : List ℕ → Type 0) → P → IfSome o Q → IfSome o (λ input. P × Q input)
 told_both None P Q first second = tt
 told_both (Some input) P Q first second = (first, second)
+
+-- the codes of a store's making are codes of a run
+pub init_codes : (code : ℕ) → Contains (0 ∷ 3 ∷ 6 ∷ 12 ∷ 13 ∷ []) code → Contains (0 ∷ 2 ∷ 3 ∷ 4 ∷ 5 ∷ 8 ∷ 9 ∷ 10 ∷ 11 ∷ 15 ∷ 6 ∷ 12 ∷ 13 ∷ []) code
+init_codes code (zero, inside, is) = (0, omega arith, is)
+init_codes code (suc zero, inside, is) = (2, omega arith, is)
+init_codes code (suc (suc zero), inside, is) = (10, omega arith, is)
+init_codes code (suc (suc (suc zero)), inside, is) = (11, omega arith, is)
+init_codes code (suc (suc (suc (suc zero))), inside, is) = (12, omega arith, is)
+init_codes code (suc (suc (suc (suc (suc k)))), inside, is) = absurd (omega (arith, inside))

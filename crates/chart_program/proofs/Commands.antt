@@ -6,7 +6,7 @@ use Rattle.chart_grid.specs.Limits.{IsSide}
 use Rattle.whole_number.specs.Spelling.{SpellsNatural}
 use Rattle.whole_number.proofs.Digits.{one_natural}
 use Rattle.chart_program.specs.declared.words.Command.{Command}
-use Rattle.chart_program.specs.declared.words.Command.TheVariants.{Plot, Run, Serve, Draw}
+use Rattle.chart_program.specs.declared.words.Command.TheVariants.{Plot, Run, Serve, Draw, Init}
 use Rattle.chart_program.specs.Words.{Spells, Begins, IsWrongAt, IsSingle, word_of}
 
 one : IsSide 1
@@ -87,6 +87,7 @@ begins_single count (Plot w h) words none same = absurd none
 begins_single count Run words is same = record { command = Run; spelling = single Run; spells = refl; same = same }
 begins_single count Serve words is same = record { command = Serve; spelling = single Serve; spells = refl; same = same }
 begins_single count Draw words is same = record { command = Draw; spelling = single Draw; spells = refl; same = same }
+begins_single count Init words is same = record { command = Init; spelling = single Init; spells = refl; same = same }
 
 -- a command's first word
 first_of_spelling : (spelling : List (List ℕ)) (command : Command) → Spells command spelling → slice_get spelling 0 ≡ Some (word_of command)
@@ -94,6 +95,7 @@ first_of_spelling spelling (Plot w h) spells = ap (λ l. slice_get l 0) spells.0
 first_of_spelling spelling Run spells = ap (λ l. slice_get l 0) spells
 first_of_spelling spelling Serve spells = ap (λ l. slice_get l 0) spells
 first_of_spelling spelling Draw spells = ap (λ l. slice_get l 0) spells
+first_of_spelling spelling Init spells = ap (λ l. slice_get l 0) spells
 
 first_of_command : (words spelling : List (List ℕ)) (command : Command) → Spells command spelling → take 1 words ≡ take 1 spelling → slice_get words 0 ≡ Some (word_of command)
 first_of_command words spelling command spells same = get_first words spelling same ∙ first_of_spelling spelling command spells
@@ -107,6 +109,7 @@ not_plot (Plot w h) none same = none
 not_plot Run is same = let letters : 114 ≡ 112 = ap (λ l. get_or l 0 0) same in absurd (omega (arith, letters))
 not_plot Serve is same = let letters : 115 ≡ 112 = ap (λ l. get_or l 0 0) same in absurd (omega (arith, letters))
 not_plot Draw is same = let letters : 100 ≡ 112 = ap (λ l. get_or l 0 0) same in absurd (omega (arith, letters))
+not_plot Init is same = let letters : 105 ≡ 112 = ap (λ l. get_or l 0 0) same in absurd (omega (arith, letters))
 
 -- these words don't begin a plot and another command
 plot_or_single : (words spelling : List (List ℕ)) (command : Command) → IsSingle command → slice_get words 0 ≡ Some (codes "plot") → slice_get words 0 ≡ slice_get spelling 0 → Spells command spelling → ⊥
@@ -127,12 +130,14 @@ second_of_command words spelling (Plot w h) spells first same = (w, spells.1, ge
 second_of_command words spelling Run spells first same = absurd (plot_or_single words spelling Run tt first (get_first words spelling (one_of words spelling same)) spells)
 second_of_command words spelling Serve spells first same = absurd (plot_or_single words spelling Serve tt first (get_first words spelling (one_of words spelling same)) spells)
 second_of_command words spelling Draw spells first same = absurd (plot_or_single words spelling Draw tt first (get_first words spelling (one_of words spelling same)) spells)
+second_of_command words spelling Init spells first same = absurd (plot_or_single words spelling Init tt first (get_first words spelling (one_of words spelling same)) spells)
 
 third_of_command : (words spelling : List (List ℕ)) (command : Command) → Spells command spelling → slice_get words 0 ≡ Some (codes "plot") → take 3 words ≡ take 3 spelling → (side : ℕ) × IsSide side × (slice_get words 2 ≡ Some (decimal side))
 third_of_command words spelling (Plot w h) spells first same = (h, spells.2, get_third words spelling same ∙ ap (λ l. slice_get l 2) spells.0)
 third_of_command words spelling Run spells first same = absurd (plot_or_single words spelling Run tt first (get_first words spelling (one_of_three words spelling same)) spells)
 third_of_command words spelling Serve spells first same = absurd (plot_or_single words spelling Serve tt first (get_first words spelling (one_of_three words spelling same)) spells)
 third_of_command words spelling Draw spells first same = absurd (plot_or_single words spelling Draw tt first (get_first words spelling (one_of_three words spelling same)) spells)
+third_of_command words spelling Init spells first same = absurd (plot_or_single words spelling Init tt first (get_first words spelling (one_of_three words spelling same)) spells)
 
 fourth_of_command : (words spelling : List (List ℕ)) (command : Command) → Spells command spelling → slice_get words 0 ≡ Some (codes "plot") → take 4 words ≡ take 4 spelling → length words ≤ 3
 fourth_of_command words spelling (Plot w h) spells first same =
@@ -142,6 +147,7 @@ fourth_of_command words spelling (Plot w h) spells first same =
 fourth_of_command words spelling Run spells first same = absurd (plot_or_single words spelling Run tt first (get_first words spelling (one_of_four words spelling same)) spells)
 fourth_of_command words spelling Serve spells first same = absurd (plot_or_single words spelling Serve tt first (get_first words spelling (one_of_four words spelling same)) spells)
 fourth_of_command words spelling Draw spells first same = absurd (plot_or_single words spelling Draw tt first (get_first words spelling (one_of_four words spelling same)) spells)
+fourth_of_command words spelling Init spells first same = absurd (plot_or_single words spelling Init tt first (get_first words spelling (one_of_four words spelling same)) spells)
 
 -- the first word is no command
 no_first : (words : List (List ℕ)) (command : Command) → (slice_get words 0 ≡ Some (codes "plot") → ⊥) → ((command : Command) → IsSingle command → slice_get words 0 ≡ Some (word_of command) → ⊥)
@@ -150,6 +156,7 @@ no_first words (Plot w h) no_plot none first = no_plot first
 no_first words Run no_plot none first = none Run tt first
 no_first words Serve no_plot none first = none Serve tt first
 no_first words Draw no_plot none first = none Draw tt first
+no_first words Init no_plot none first = none Init tt first
 
 pub wrong_first : (words : List (List ℕ)) → (slice_get words 0 ≡ Some (codes "plot") → ⊥) → ((command : Command) → IsSingle command → slice_get words 0 ≡ Some (word_of command) → ⊥) → IsWrongAt 0 words
 wrong_first words no_plot none = record {
@@ -170,6 +177,7 @@ length_two words spelling command (Plot w h) is spells first same =
 length_two words spelling command Run is spells first same = short_words words spelling Run spells same
 length_two words spelling command Serve is spells first same = short_words words spelling Serve spells same
 length_two words spelling command Draw is spells first same = short_words words spelling Draw spells same
+length_two words spelling command Init is spells first same = short_words words spelling Init spells same
 
 pub wrong_behind : (words : List (List ℕ)) (command : Command) → IsSingle command → slice_get words 0 ≡ Some (word_of command) → 1 < length words → IsWrongAt 1 words
 wrong_behind words command is first many = record {
@@ -188,6 +196,7 @@ right_single words (Plot w h) none first few = absurd none
 right_single words Run is first few = sym (all_one words few) ∙ first_one words (word_of Run) first
 right_single words Serve is first few = sym (all_one words few) ∙ first_one words (word_of Serve) first
 right_single words Draw is first few = sym (all_one words few) ∙ first_one words (word_of Draw) first
+right_single words Init is first few = sym (all_one words few) ∙ first_one words (word_of Init) first
 
 -- the width, or the height, is missing or wrong
 pub wrong_second : (words : List (List ℕ)) → slice_get words 0 ≡ Some (codes "plot") → ((side : ℕ) → IsSide side → slice_get words 1 ≡ Some (decimal side) → ⊥) → IsWrongAt 1 words

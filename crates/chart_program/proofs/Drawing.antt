@@ -1,5 +1,5 @@
 -- How far the frames of an input are drawn.
-use Rattle.std.proofs.Common.{◌≡◌, ℕ, ◌+◌, ◌<◌, ◌≤◌, List, [], ◌∷◌, ◌++◌, length, take, drop, ◌-◌, ◌^◌, inl, inr, Option, None, Some, Result, Ok, Err, IfSome, IfErr, refl, ap, sym, subst, ◌∙◌, arith, append_assoc, length-append}
+use Rattle.std.proofs.Common.{◌≡◌, ℕ, ◌+◌, ◌<◌, ◌≤◌, List, [], ◌∷◌, ◌++◌, length, take, drop, ◌-◌, ◌^◌, inl, inr, Option, None, Some, Result, Ok, Err, IfSome, IfErr, OnOk, refl, ap, sym, subst, ◌∙◌, arith, append_assoc, length-append}
 use Rattle.std.specs.Prelude.{flat_map, IsErrAnd}
 use Rattle.std.proofs.lemmas.List.Elements.{All-nil, All-cons, All-append}
 use Rattle.std.proofs.lemmas.List.{take-take, take-append-drop, length-drop}
@@ -180,6 +180,10 @@ pub if_err : {T E : Type 0} (P Q : E → Type 0) (r : Result T E) → IfErr r P 
 if_err P Q (Ok v) is more = tt
 if_err P Q (Err e) is more = more e is
 
+pub on_ok : {T E : Type 0} (P Q : Type 0) (r : Result T E) → OnOk r P → (P → Q) → OnOk r Q
+on_ok P Q (Ok v) is more = more is
+on_ok P Q (Err e) is more = tt
+
 pub no_memory_first : (o left before : Option (List ℕ)) (end : DrawEnd) → end ≡ NoMemory → IfSome o (λ input. EndsDraw input left before before end)
 no_memory_first None left before end is = tt
 no_memory_first (Some input) left before end is =
@@ -210,6 +214,29 @@ pub drawn_all : (o left : Option (List ℕ)) (count : ℕ) (buffer : List ℕ) (
 drawn_all None left count buffer at h before now given none empty drawn = tt
 drawn_all (Some input) left count buffer at h before now given none empty drawn =
     drawn_all_at input drawn.0 at h before now (none_left count drawn.0 buffer left given drawn.1 none) empty drawn.2
+
+-- the bytes of all frames, where so many were taken
+read_all_at : (input bytes : List ℕ) (at : Pending) (h : List Holding) (taken most : ℕ) (before now : Option (List ℕ)) → bytes ≡ [] → at.rest ≡ []
+    → taken ≡ at.given + length at.rest → taken ≤ most → DrawsFirst input (held at.given (at.rest ++ bytes)) h before now → length input ≤ most
+read_all_at input bytes at h taken most before now none empty counted few first =
+    omega (
+      arith,
+      few,
+      counted,
+      first.given,
+      ap length first.split,
+      ap length none,
+      ap length empty,
+      length-append (flat_map spelling first.frames) (at.rest ++ bytes),
+      length-append at.rest bytes,
+    )
+
+pub read_all : (o left : Option (List ℕ)) (count : ℕ) (buffer : List ℕ) (at : Pending) (h : List Holding) (taken most : ℕ) (before now : Option (List ℕ))
+    → IfSome left (λ told. Given count told buffer) → count ≡ 0 → at.rest ≡ [] → taken ≡ at.given + length at.rest → taken ≤ most → DrawnOf o left at h before now
+    → IfSome o (λ input. length input ≤ most)
+read_all None left count buffer at h taken most before now given none empty counted few drawn = tt
+read_all (Some input) left count buffer at h taken most before now given none empty counted few drawn =
+    read_all_at input drawn.0 at h taken most before now (none_left count drawn.0 buffer left given drawn.1 none) empty counted few drawn.2
 
 cut_at : (input bytes : List ℕ) (at : Pending) (h : List Holding) (taken : ℕ) (before now : Option (List ℕ)) → bytes ≡ [] → 0 < length at.rest
     → IsPartial at → taken ≡ at.given + length at.rest → DrawsFirst input (held at.given (at.rest ++ bytes)) h before now → IsCut input taken before now

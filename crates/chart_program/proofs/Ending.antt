@@ -58,9 +58,20 @@ end_at input bytes given slots none p =
     let Q : List ℕ → Type 0 = λ i. SpellsAll i slots in
     subst Q all p.behind.spells
 
+read_all_at : (input : List ℕ) (bytes : Option (List ℕ)) (given most : ℕ) (slots : List (Option ℤ)) → IfSome (told_lines bytes) (λ all. all ≡ []) → given ≤ most → Progress input bytes given slots → length input ≤ most
+read_all_at input bytes given most slots none few p =
+    let P : Option (List ℕ) → Type 0 = λ b. IfSome (told_lines b) (λ all. all ≡ []) in
+    let rest_none : p.rest ≡ [] = no_rest p.rest (subst P p.told none) in
+    omega (arith, few, p.behind.counted, ap length p.behind.split, length-append p.behind.front p.rest, ap length rest_none)
+
 -- behind the last line
 pub end_so : (o bytes : Option (List ℕ)) (given : ℕ) (slots : List (Option ℤ)) → IfSome (told_lines bytes) (λ all. all ≡ []) → IfSome o (λ input. Progress input bytes given slots) → IfSome o (λ input. SpellsAll input slots)
 end_so o bytes given slots none = told_so (λ input. Progress input bytes given slots) (λ input. SpellsAll input slots) o (λ input. end_at input bytes given slots none)
+
+-- then the input has no more bytes than the lines that were given
+pub read_all : (o bytes : Option (List ℕ)) (given most : ℕ) (slots : List (Option ℤ)) → IfSome (told_lines bytes) (λ all. all ≡ []) → given ≤ most → IfSome o (λ input. Progress input bytes given slots) → IfSome o (λ input. length input ≤ most)
+read_all o bytes given most slots none few =
+    told_so (λ input. Progress input bytes given slots) (λ input. length input ≤ most) o (λ input. read_all_at input bytes given most slots none few)
 
 -- the first of the lines that are left, where they are told
 record FirstLine (bytes : List ℕ) (line : Option (List ℕ)) : Type 0 where

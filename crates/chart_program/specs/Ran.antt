@@ -1,7 +1,10 @@
 -- What a run of a command does.
-use Rattle.std.specs.Prelude.{◌≡◌, ℕ, ℤ, ◌≤◌, ◌^◌, ◌⊎◌, List, [], ◌∷◌, length, All, flat_map, Option, IfSome, codes, ⊤}
+use Rattle.std.specs.Prelude.{◌≡◌, ℕ, ℤ, ◌<◌, ◌≤◌, ◌^◌, ◌⊎◌, List, [], ◌∷◌, length, All, flat_map, Option, IfSome, codes, ⊤}
 use Rattle.std.specs.List.{filter}
 use Rattle.block_disk.specs.Streams.{sent_after}
+use Rattle.block_disk.specs.View.{View, DiskKept, Honest, Now, Only}
+use Rattle.gate_pages.specs.Journal.{page_count}
+use Rattle.store_init.specs.Stores.{HasStore, IsNewStore, LeavesNew}
 use Rattle.line_raster.specs.Canvas.{Canvas}
 use Rattle.om3_coeff.specs.declared.key.Key.{Key}
 use Rattle.chart_frames.specs.declared.frame.Frame.{Frame}
@@ -16,7 +19,7 @@ use Rattle.chart_service.specs.Serving.{AreSpelled, RepliesToAll, SendsText, Sen
 use Rattle.chart_client.specs.Accepting.{HasNumber}
 use Rattle.drawn_replies.specs.Pictures.{ArePictured, AreOwnPictured, NoneRejected, names}
 use Rattle.chart_program.specs.declared.words.Command.{Command}
-use Rattle.chart_program.specs.declared.words.Command.TheVariants.{Plot, Run, Serve, Draw}
+use Rattle.chart_program.specs.declared.words.Command.TheVariants.{Plot, Run, Serve, Draw, Init}
 use Rattle.chart_program.specs.declared.draw_end.DrawEnd.TheVariants as draw_end
 use Rattle.chart_program.specs.Words.{Spells}
 use Rattle.chart_program.specs.Slots.{SpellsAll, FirstBad, HasTooMany, IsTooLong, StoppedBefore, most_slots}
@@ -73,12 +76,13 @@ EndsLines IsText input left before now (run_end.Serve end) = EndsServing IsText 
 EndsLines IsText input left before now (run_end.Show client.NoMemory) = AnswersSome IsText input before now
 EndsLines IsText input left before now (run_end.Show e) = ⊥
 
--- the command's output for this input was sent, the whole of it
+-- the command's output for this input was sent, the whole of it; `init` sends nothing
 abbrev pub SendsAll : Command → List ℕ → Option (List ℕ) → Option (List ℕ) → Type 0
 SendsAll (Plot w h) input before now = SendsPlot w h input before now
 SendsAll Run input before now = AnswersAll AreTexts input before now
 SendsAll Serve input before now = AnswersAll AreSpelled input before now
 SendsAll Draw input before now = DrawsAll input before now
+SendsAll Init input before now = now ≡ before
 
 -- the first bytes of the command's output for this input were sent
 abbrev pub SendsPart : Command → List ℕ → Option (List ℕ) → Option (List ℕ) → Type 0
@@ -86,6 +90,7 @@ SendsPart (Plot w h) input before now = SendsFront w h input before now
 SendsPart Run input before now = AnswersFront AreTexts input before now
 SendsPart Serve input before now = AnswersFront AreSpelled input before now
 SendsPart Draw input before now = StopsAtFrame input before now draw_end.SendFault
+SendsPart Init input before now = ⊥
 
 -- A take failed, where these bytes were left. A plot has sent nothing, a serving command what answers the
 -- lines taken, and `draw` the pictures of the frames taken.
@@ -94,6 +99,7 @@ StopsBefore (Plot w h) input before now bytes = StoppedBefore input bytes
 StopsBefore Run input before now bytes = AnswersTaken AreTexts input bytes before now
 StopsBefore Serve input before now bytes = AnswersTaken AreSpelled input bytes before now
 StopsBefore Draw input before now bytes = DrawsTaken input bytes before now
+StopsBefore Init input before now bytes = ⊥
 
 -- There was no memory. A plot has sent nothing, a serving command what answers some first lines, and `draw` the
 -- pictures of some first frames.
@@ -102,6 +108,7 @@ IsCutShort (Plot w h) input before now = now ≡ before
 IsCutShort Run input before now = AnswersSome AreTexts input before now
 IsCutShort Serve input before now = AnswersSome AreSpelled input before now
 IsCutShort Draw input before now = StopsAtFrame input before now draw_end.NoMemory
+IsCutShort Init input before now = now ≡ before
 
 -- The line or the field at this place is the first that isn't in the command's grammar, or the input ends there
 -- within a frame; a serving command answers each line. `draw` has sent the pictures of the frames before.
@@ -110,6 +117,7 @@ IsBadInput (Plot w h) input place before now = FirstBad input place
 IsBadInput Run input place before now = ⊥
 IsBadInput Serve input place before now = ⊥
 IsBadInput Draw input place before now = IsCut input place before now ⊎ StopsAtFrame input before now (draw_end.BadFrame place)
+IsBadInput Init input place before now = ⊥
 
 -- a frame's first wanted key that can't be used has no coefficient
 abbrev pub Lacks : Command → List ℕ → ℕ → Option (List ℕ) → Option (List ℕ) → Type 0
@@ -125,6 +133,37 @@ Misfits command input place before now = ⊥
 abbrev pub NamesUnopened : Command → List ℕ → ℕ → Option (List ℕ) → Option (List ℕ) → Type 0
 NamesUnopened Draw input place before now = StopsAtFrame input before now (draw_end.UnknownSession place)
 NamesUnopened command input place before now = ⊥
+
+-- What a command leaves of the disk. All but `init` leave it alone. What `init` leaves at each moment is what stood
+-- there before, or an empty store; it takes no input and sends nothing.
+abbrev pub LeavesDisk : Command → View → View → Type 0
+LeavesDisk (Plot w h) old new = DiskKept old new
+LeavesDisk Run old new = DiskKept old new
+LeavesDisk Serve old new = DiskKept old new
+LeavesDisk Draw old new = DiskKept old new
+LeavesDisk Init old new = (new.beside ≡ old.beside) × (Honest old → LeavesNew (page_count old.size) old new)
+
+-- an empty store was made where none was, and a crash now leaves it
+pub record MakesStore (old new : View) : Type 0 where
+  pub large : 128 ≤ old.size
+  pub fresh : Honest old → HasStore (page_count old.size) old.image → ⊥
+  pub store : Honest old → IsNewStore (page_count old.size) new.image
+  pub rests : Only new.image (Now new)
+
+-- the command did what it does to the disk
+abbrev pub IsMade : Command → View → View → Type 0
+IsMade Init old new = MakesStore old new
+IsMade command old new = ⊤
+
+-- the disk has too few blocks for a store: this many
+abbrev pub IsTooSmall : Command → View → ℕ → Type 0
+IsTooSmall Init old place = (place ≡ old.size) × (old.size < 128)
+IsTooSmall command old place = ⊥
+
+-- there is a store already, in whose page 0 this block is
+abbrev pub IsThere : Command → View → ℕ → Type 0
+IsThere Init old place = (place ≡ 66) × ((128 ≤ old.size) × (Honest old → HasStore (page_count old.size) old.image))
+IsThere command old place = ⊥
 
 -- the words are those of a command, and this holds of it
 pub record OfCommand (words : List (List ℕ)) (P : Command → Type 0) : Type 0 where
@@ -142,6 +181,7 @@ IsTooMuch (Plot w h) input place before now = HasTooMuch input place
 IsTooMuch Run input place before now = (place ≡ 2 ^ 32) × AnswersWithin AreTexts input before now
 IsTooMuch Serve input place before now = (place ≡ 2 ^ 32) × AnswersWithin AreSpelled input before now
 IsTooMuch Draw input place before now = (place ≡ 2 ^ 32) × DrawsWithin input before now
+IsTooMuch Init input place before now = ⊥
 
 -- the input is slots, and no more than a plot takes
 pub record IsSlots (input : List ℕ) : Type 0 where
@@ -158,12 +198,21 @@ pub record IsFrames (input : List ℕ) : Type 0 where
   pub accepted : NoneRejected frames
   pub short : length input ≤ 2 ^ 32
 
--- the input is in the command's grammar, and no more than it takes
+-- the input is no more than the command takes; `init` takes none
+abbrev pub IsWithin : Command → List ℕ → Type 0
+IsWithin (Plot w h) input = length input ≤ 2 ^ 32
+IsWithin Run input = length input ≤ 2 ^ 32
+IsWithin Serve input = length input ≤ 2 ^ 32
+IsWithin Draw input = length input ≤ 2 ^ 32
+IsWithin Init input = ⊤
+
+-- the input is in the grammar of a command that takes one, and no more than it takes
 abbrev pub IsInput : Command → List ℕ → Type 0
 IsInput (Plot w h) input = IsSlots input
 IsInput Run input = length input ≤ 2 ^ 32
 IsInput Serve input = length input ≤ 2 ^ 32
 IsInput Draw input = IsFrames input
+IsInput Init input = ⊥
 
 -- a key that the end names has a number
 abbrev pub IsNumbered : RunEnd → Type 0

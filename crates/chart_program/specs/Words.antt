@@ -3,7 +3,7 @@ use Rattle.std.specs.Prelude.{◌≡◌, ℕ, ◌+◌, List, [], ◌∷◌, take
 use Rattle.std.specs.Fmt.{decimal}
 use Rattle.chart_grid.specs.Limits.{IsSide}
 use Rattle.chart_program.specs.declared.words.Command.{Command}
-use Rattle.chart_program.specs.declared.words.Command.TheVariants.{Plot, Run, Serve, Draw}
+use Rattle.chart_program.specs.declared.words.Command.TheVariants.{Plot, Run, Serve, Draw, Init}
 
 -- the first word of a command
 abbrev pub word_of : Command → List ℕ
@@ -11,6 +11,7 @@ word_of (Plot w h) = codes "plot"
 word_of Run = codes "run"
 word_of Serve = codes "serve"
 word_of Draw = codes "draw"
+word_of Init = codes "init"
 
 -- a command of one word
 abbrev pub IsSingle : Command → Type 0
@@ -18,13 +19,15 @@ IsSingle (Plot w h) = ⊥
 IsSingle Run = ⊤
 IsSingle Serve = ⊤
 IsSingle Draw = ⊤
+IsSingle Init = ⊤
 
--- the words spell the command: `plot W H`, two numbers from 1 to 4,096, or `run`, `serve` or `draw`
+-- the words spell the command: `plot W H`, two numbers from 1 to 4,096, or `run`, `serve`, `draw` or `init`
 abbrev pub Spells : Command → List (List ℕ) → Type 0
 Spells (Plot w h) words = (words ≡ codes "plot" ∷ decimal w ∷ decimal h ∷ []) × IsSide w × IsSide h
 Spells Run words = words ≡ codes "run" ∷ []
 Spells Serve words = words ≡ codes "serve" ∷ []
 Spells Draw words = words ≡ codes "draw" ∷ []
+Spells Init words = words ≡ codes "init" ∷ []
 
 -- the first words, so many of them, are those that some command begins with
 pub record Begins (count : ℕ) (words : List (List ℕ)) : Type 0 where

@@ -1,4 +1,4 @@
-ghost use Rattle.std.specs.Prelude.{◌≡◌, ◌≤◌, ◌<◌, [], length, IfErr, IfOk, IfSome, OnErr, OnOk};
+ghost use Rattle.std.specs.Prelude.{◌≡◌, ◌≤◌, ◌<◌, ◌^◌, [], length, IfErr, IfOk, IfSome, OnErr, OnOk};
 ghost use Rattle.block_disk.specs.Counts.{HasRisen};
 ghost use Rattle.block_disk.specs.Streams.{Given, left_after};
 ghost use Rattle.block_disk.specs.View.{View, DiskKept};
@@ -24,6 +24,7 @@ const PIECE: usize = 16_384;
 /// Draws the frames of the input, as they come, and sends the picture of each View and Rows frame.
 pub fn draw<S: World>(alloc: Global, streams: &mut S) -> Result<(), DrawEnd>
     ensures done { OnOk result (IfSome (S.left streams.old) (λ input. DrawsAll input (S.sent streams.old) (S.sent streams.new))) }
+    ensures within { OnOk result (IfSome (S.left streams.old) (λ input. length input ≤ 2 ^ 32)) }
     ensures ends { IfErr result (λ end. IfSome (S.left streams.old) (λ input. EndsDraw input (S.left streams.new) (S.sent streams.old) (S.sent streams.new) end)) }
     ensures read { result ≡ Err DrawEnd.ReadFault → HasRisen (S.read_faults streams.old) (S.read_faults streams.new) }
     ensures numbered { IfErr result IsNumbered }
@@ -54,6 +55,7 @@ fn draw_pieces<S: World>(
     requires client { client.old ≡ [] }
     requires sized { length buffer.old ≡ 16384 }
     ensures done { OnOk result (IfSome (S.left streams.old) (λ input. DrawsAll input (S.sent streams.old) (S.sent streams.new))) }
+    ensures within { OnOk result (IfSome (S.left streams.old) (λ input. length input ≤ 2 ^ 32)) }
     ensures ends { IfErr result (λ end. IfSome (S.left streams.old) (λ input. EndsDraw input (S.left streams.new) (S.sent streams.old) (S.sent streams.new) end)) }
     ensures read { result ≡ Err DrawEnd.ReadFault → HasRisen (S.read_faults streams.old) (S.read_faults streams.new) }
     ensures numbered { IfErr result IsNumbered }

@@ -6,7 +6,7 @@
 //! frames of `draw` pictures, and what the frames of `run` show becomes text.
 //!
 //! `main` opens the file that the first word names as a disk, and gives `chart` the words after it
-//! and a world of this disk, standard input and standard output. No command calls the disk yet.
+//! and a world of this disk, standard input and standard output. `init` alone calls the disk yet.
 //! Nothing is claimed of `main` but that it is safe and ends.
 #![tactic(auto)]
 

@@ -1,4 +1,4 @@
-ghost use Rattle.std.specs.Prelude.{◌≡◌, ◌≤◌, ◌≢◌, pos, max, length, All, IfOk, IfErr, IfSome, OnOk};
+ghost use Rattle.std.specs.Prelude.{◌≡◌, ◌≤◌, ◌≢◌, ◌^◌, pos, max, length, All, IfOk, IfErr, IfSome, OnOk};
 ghost use Rattle.block_disk.specs.Counts.{HasRisen};
 ghost use Rattle.block_disk.specs.View.{View, DiskKept};
 ghost use Rattle.chart_grid.specs.Limits.{IsSide};
@@ -39,6 +39,7 @@ pub fn plot<S: World>(alloc: Global, w: u16, h: u16, streams: &mut S) -> Result<
     requires wide { IsSide w }
     requires high { IsSide h }
     ensures done { OnOk result (IfSome (S.left streams.old) (λ input. SendsPlot w h input (S.sent streams.old) (S.sent streams.new))) }
+    ensures within { OnOk result (IfSome (S.left streams.old) (λ input. length input ≤ 2 ^ 32)) }
     ensures ends { IfErr result (λ end. IfSome (S.left streams.old) (λ input. EndsPlot w h input (S.left streams.new) (S.sent streams.old) (S.sent streams.new) end)) }
     ensures unsent { IfErr result (λ end. end ≢ PlotEnd.SendFault → S.sent streams.new ≡ S.sent streams.old) }
     ensures read { result ≡ Err (PlotEnd.Input InputEnd.ReadFault) → HasRisen (S.read_faults streams.old) (S.read_faults streams.new) }

@@ -4,7 +4,7 @@
 pub struct Status {
     /// One of the codes of this module.
     pub code: u8,
-    /// What the code says of the words or of the input, else 0.
+    /// What the code says of the words, of the input or of the disk, else 0.
     pub place: u64,
 }
 
@@ -24,6 +24,9 @@ pub const READ_FAULT: u8 = 4;
 /// The output could not be sent.
 pub const SEND_FAULT: u8 = 5;
 
+/// A call of the disk failed.
+pub const DISK_FAULT: u8 = 6;
+
 /// A line or a frame of the input isn't in the grammar, and the place is the offset of the line or of the
 /// field. Where the input ends within a frame, the place is its length.
 pub const BAD_INPUT: u8 = 8;
@@ -38,6 +41,12 @@ pub const MISSING: u8 = 10;
 /// The first coefficient that a view wants and can't use doesn't fit. The place is the number of its
 /// key.
 pub const BAD_COEFFICIENT: u8 = 11;
+
+/// The disk has too few blocks for a store. The place is their number.
+pub const TOO_SMALL: u8 = 12;
+
+/// There is a store already. The place is the block of its page 0.
+pub const IS_STORE: u8 = 13;
 
 /// A frame names a session that isn't open. The place is the session's number.
 pub const UNKNOWN_SESSION: u8 = 15;

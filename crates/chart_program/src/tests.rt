@@ -1,5 +1,7 @@
 use crate::{Status, chart};
+use block_disk::MemDisk;
 use chart_world::MemWorld;
+use std::alloc::Global;
 use std::test::Fail;
 
 /// A run over a world in memory: its words, its input, the takes and sends that fail, and what is
@@ -118,5 +120,40 @@ fn runs_in_memory(rt: HostRuntime) -> Result<(), Fail> {
         assert_eq!(rt; status, Status { code, place });
         assert_eq!(rt; world.sent(), case.sent);
     }
+    Ok(())
+}
+
+/// Runs `init` over a disk of so many blocks, of which these calls fail, and again over what it left: how
+/// both ended, and how many bytes were sent.
+fn init_twice(
+    alloc: Global,
+    blocks: u32,
+    fails: &[u64],
+) -> Result<((u8, u64), (u8, u64), usize), Fail> {
+    let mut words = Vec::new(alloc);
+    words.push(String::from_str(alloc, "init")?)?;
+    let world = MemWorld::new(
+        alloc,
+        MemDisk::new(alloc, blocks, Vec::from_slice(alloc, fails)?)?,
+        Vec::from_slice(alloc, b"no line of this is read\n")?,
+        Vec::new(alloc),
+        Vec::new(alloc),
+    )?;
+    let (first, world) = chart(alloc, words.as_slice(), world);
+    let (second, world) = chart(alloc, words.as_slice(), world);
+    Ok((
+        (first.code, first.place),
+        (second.code, second.place),
+        world.sent().len(),
+    ))
+}
+
+#[test]
+fn init_makes_one_store(rt: HostRuntime) -> Result<(), Fail> {
+    let alloc = rt.alloc();
+    assert_eq!(rt; init_twice(alloc, 128, &[])?, ((0, 0), (13, 66), 0));
+    assert_eq!(rt; init_twice(alloc, 127, &[])?, ((12, 127), (12, 127), 0));
+    assert_eq!(rt; init_twice(alloc, 128, &[0])?, ((6, 0), (0, 0), 0));
+    assert_eq!(rt; init_twice(alloc, 128, &[30])?, ((6, 0), (13, 66), 0));
     Ok(())
 }

@@ -1,30 +1,32 @@
 ghost use Rattle.std.specs.Prelude.{◌≡◌, ◌≢◌, ◌⊎◌, ◌≤◌, ◌^◌, [], ◌∷◌, length, map, Contains, string_bytes, IfSome};
 ghost use Rattle.block_disk.specs.Counts.{HasRisen};
-ghost use Rattle.block_disk.specs.View.{View, DiskKept};
+ghost use Rattle.block_disk.specs.View.{View, DiskKept, Honest};
+ghost use Rattle.gate_pages.specs.Journal.{page_count};
+ghost use Rattle.store_init.specs.Stores.{HasStore};
 ghost use Rattle.chart_grid.specs.Limits.{IsSide};
 ghost use Rattle.chart_service.specs.Serving.{AreSpelled};
 ghost use Rattle.chart_program.specs.declared.words.Command.{Command};
-ghost use Rattle.chart_program.specs.declared.words.Command.TheVariants.{Run, Draw};
+ghost use Rattle.chart_program.specs.declared.words.Command.TheVariants.{Run, Draw, Init};
 ghost use Rattle.chart_program.specs.declared.draw_end.DrawEnd.TheVariants as draw_end;
 ghost use Rattle.chart_program.specs.Words.{Spells, IsWrongAt};
 ghost use Rattle.chart_program.specs.Slots.{FirstBad, StoppedBefore};
 ghost use Rattle.chart_program.specs.Plotted.{SendsPlot, SendsFront};
 ghost use Rattle.chart_program.specs.Draws.{DrawsAll, DrawsTaken, DrawsWithin, StopsAtFrame};
-ghost use Rattle.chart_program.specs.Ran.{OfCommand, SendsAll, SendsPart, StopsBefore, IsBadInput, HasTooMuch, IsTooMuch, IsCutShort, IsInput, Lacks, Misfits, NamesUnopened, DrawsReplies, AreTexts, AnswersAll, AnswersFront, AnswersTaken, AnswersWithin, AnswersSome, IsFrames, stream_words};
+ghost use Rattle.chart_program.specs.Ran.{OfCommand, SendsAll, SendsPart, StopsBefore, IsBadInput, HasTooMuch, IsTooMuch, IsCutShort, IsInput, IsWithin, LeavesDisk, IsMade, IsTooSmall, IsThere, Lacks, Misfits, NamesUnopened, DrawsReplies, AreTexts, AnswersAll, AnswersFront, AnswersTaken, AnswersWithin, AnswersSome, IsFrames, stream_words};
 
 use crate::draw::draw;
 use crate::draw_end::DrawEnd;
 use crate::input::{InputEnd, MOST_SLOTS};
-use crate::limits::MOST_BYTES;
+use crate::limits::{FIRST_PAGE, MOST_BYTES};
 use crate::lines::{run_lines, serve_lines};
 use crate::plot::{PlotEnd, plot};
 use crate::run_end::RunEnd;
 use crate::status::{
-    BAD_COEFFICIENT, BAD_INPUT, DONE, MISSING, NO_MEMORY, READ_FAULT, SEND_FAULT, Status, TOO_MUCH,
-    UNKNOWN_SESSION, WRONG_WORDS,
+    BAD_COEFFICIENT, BAD_INPUT, DISK_FAULT, DONE, IS_STORE, MISSING, NO_MEMORY, READ_FAULT,
+    SEND_FAULT, Status, TOO_MUCH, TOO_SMALL, UNKNOWN_SESSION, WRONG_WORDS,
 };
 use crate::words::{Command, command_of};
-use block_disk::World;
+use block_disk::{Back, World};
 use chart_client::ClientError;
 use chart_frames::laws::{
     length_is_told, more_bytes_mend_nothing, one_frame_a_spelling, spellings_are_good,
@@ -32,13 +34,14 @@ use chart_frames::laws::{
 use chart_service::ServeEnd;
 use drawn_replies::laws::{one_session_draws_the_book, replies_draw_the_book};
 use std::alloc::Global;
+use store_init::{InitCause, make_store};
 
 /// Does the command of the words, with the world's input and output, and gives the world back.
 ///
 /// Only the input that is told is spoken of: a real stream tells none.
 pub fn chart<W: World>(alloc: Global, words: &[String], mut world: W) -> (Status, W)
     // each status comes exactly for its cause
-    ensures codes { Contains (DONE ∷ WRONG_WORDS ∷ NO_MEMORY ∷ READ_FAULT ∷ SEND_FAULT ∷ BAD_INPUT ∷ TOO_MUCH ∷ MISSING ∷ BAD_COEFFICIENT ∷ UNKNOWN_SESSION ∷ []) result.0.code }
+    ensures codes { Contains (DONE ∷ WRONG_WORDS ∷ NO_MEMORY ∷ READ_FAULT ∷ SEND_FAULT ∷ BAD_INPUT ∷ TOO_MUCH ∷ MISSING ∷ BAD_COEFFICIENT ∷ UNKNOWN_SESSION ∷ DISK_FAULT ∷ TOO_SMALL ∷ IS_STORE ∷ []) result.0.code }
     ensures wrong { result.0.code ≡ WRONG_WORDS → IsWrongAt result.0.place (map string_bytes words.now) }
     ensures command { result.0.code ≢ WRONG_WORDS → OfCommand (map string_bytes words.now) (λ command. Unit {0}) }
     ensures read { result.0.code ≡ READ_FAULT → HasRisen (W.read_faults world) (W.read_faults result.1) }
@@ -50,7 +53,11 @@ pub fn chart<W: World>(alloc: Global, words: &[String], mut world: W) -> (Status
     ensures misfit { result.0.code ≡ BAD_COEFFICIENT → OfCommand (map string_bytes words.now) (λ command. IfSome (W.left world) (λ input. Misfits command input result.0.place (W.sent world) (W.sent result.1))) }
     ensures unopened { result.0.code ≡ UNKNOWN_SESSION → OfCommand (map string_bytes words.now) (λ command. IfSome (W.left world) (λ input. NamesUnopened command input result.0.place (W.sent world) (W.sent result.1))) }
     ensures memory { result.0.code ≡ NO_MEMORY → OfCommand (map string_bytes words.now) (λ command. IfSome (W.left world) (λ input. IsCutShort command input (W.sent world) (W.sent result.1))) }
-    ensures place { Contains (DONE ∷ NO_MEMORY ∷ READ_FAULT ∷ SEND_FAULT ∷ []) result.0.code → result.0.place ≡ 0 }
+    ensures within { result.0.code ≡ DONE → OfCommand (map string_bytes words.now) (λ command. IfSome (W.left world) (IsWithin command)) }
+    ensures fault { result.0.code ≡ DISK_FAULT → HasRisen (W.view world).faults (W.view result.1).faults }
+    ensures small { result.0.code ≡ TOO_SMALL → OfCommand (map string_bytes words.now) (λ command. IsTooSmall command (W.view world) result.0.place) }
+    ensures there { result.0.code ≡ IS_STORE → OfCommand (map string_bytes words.now) (λ command. IsThere command (W.view world) result.0.place) }
+    ensures place { Contains (DONE ∷ NO_MEMORY ∷ READ_FAULT ∷ SEND_FAULT ∷ DISK_FAULT ∷ []) result.0.code → result.0.place ≡ 0 }
 
     // what was sent
     ensures done { result.0.code ≡ DONE → OfCommand (map string_bytes words.now) (λ command. IfSome (W.left world) (λ input. SendsAll command input (W.sent world) (W.sent result.1))) }
@@ -60,11 +67,14 @@ pub fn chart<W: World>(alloc: Global, words: &[String], mut world: W) -> (Status
     // of the frames that answer lines `draw` sends the pictures of the book
     ensures pictures { result.0.code ≡ DONE → Spells Draw (map string_bytes words.now) → IfSome (W.left world) (λ input. DrawsReplies input (W.sent world) (W.sent result.1)) }
 
-    // the disk isn't called
-    ensures disk { DiskKept (W.view world) (W.view result.1) }
+    // `init` alone calls the disk: a crash at any moment leaves the pages from before, or an empty store
+    ensures untouched { result.0.code ≡ WRONG_WORDS → DiskKept (W.view world) (W.view result.1) }
+    ensures disk { result.0.code ≢ WRONG_WORDS → OfCommand (map string_bytes words.now) (λ command. LeavesDisk command (W.view world) (W.view result.1)) }
+    ensures made { result.0.code ≡ DONE → OfCommand (map string_bytes words.now) (λ command. IsMade command (W.view world) (W.view result.1)) }
 
     // with good words, good input and no fault the command is done, or there is no memory
     ensures complete { IfSome (W.left world) (λ input. OfCommand (map string_bytes words.now) (λ command. Unit {0}) → ((command : Command) → Spells command (map string_bytes words.now) → IsInput command input) → (HasRisen (W.read_faults world) (W.read_faults result.1) → ⊥) → (HasRisen (W.send_faults world) (W.send_faults result.1) → ⊥) → (result.0.code ≡ DONE) ⊎ (result.0.code ≡ NO_MEMORY)) }
+    ensures ready { Spells Init (map string_bytes words.now) → 128 ≤ (W.view world).size → Honest (W.view world) → (HasStore (page_count (W.view world).size) (W.view world).image → ⊥) → (HasRisen (W.view world).faults (W.view result.1).faults → ⊥) → (result.0.code ≡ DONE) ⊎ (result.0.code ≡ NO_MEMORY) }
 {
     match command_of(words) {
         Err(place) => (
@@ -90,6 +100,33 @@ pub fn chart<W: World>(alloc: Global, words: &[String], mut world: W) -> (Status
             let status = draw_status(alloc, &mut world);
             (status, world)
         }
+        Ok(Command::Init) => init_status(alloc, world),
+    }
+}
+
+/// Makes the disk an empty store, and says how that ended.
+fn init_status<W: World>(alloc: Global, world: W) -> (Status, W)
+    ensures codes { Contains (DONE ∷ NO_MEMORY ∷ DISK_FAULT ∷ TOO_SMALL ∷ IS_STORE ∷ []) result.0.code }
+    ensures fault { result.0.code ≡ DISK_FAULT → HasRisen (W.view world).faults (W.view result.1).faults }
+    ensures small { result.0.code ≡ TOO_SMALL → IsTooSmall Init (W.view world) result.0.place }
+    ensures there { result.0.code ≡ IS_STORE → IsThere Init (W.view world) result.0.place }
+    ensures place { Contains (DONE ∷ NO_MEMORY ∷ DISK_FAULT ∷ []) result.0.code → result.0.place ≡ 0 }
+    ensures sent { W.sent result.1 ≡ W.sent world }
+    ensures disk { LeavesDisk Init (W.view world) (W.view result.1) }
+    ensures made { result.0.code ≡ DONE → IsMade Init (W.view world) (W.view result.1) }
+    ensures ready { 128 ≤ (W.view world).size → Honest (W.view world) → (HasStore (page_count (W.view world).size) (W.view world).image → ⊥) → (HasRisen (W.view world).faults (W.view result.1).faults → ⊥) → (result.0.code ≡ DONE) ⊎ (result.0.code ≡ NO_MEMORY) }
+{
+    match make_store(alloc, world) {
+        Ok(world) => (ended(DONE, 0), world),
+        Err(Back { value, cause }) => {
+            let status = match cause {
+                InitCause::NoMemory => ended(NO_MEMORY, 0),
+                InitCause::DiskFault => ended(DISK_FAULT, 0),
+                InitCause::TooSmall(blocks) => ended(TOO_SMALL, u64::from(blocks)),
+                InitCause::IsStore => ended(IS_STORE, FIRST_PAGE),
+            };
+            (status, value)
+        }
     }
 }
 
@@ -105,6 +142,7 @@ fn plot_status<W: World>(alloc: Global, w: u16, h: u16, world: &mut W) -> Status
     ensures much { result.code ≡ TOO_MUCH → IfSome (W.left world.old) (λ input. HasTooMuch input result.place) }
     ensures place { result.code ≢ BAD_INPUT → result.code ≢ TOO_MUCH → result.place ≡ 0 }
     ensures done { result.code ≡ DONE → IfSome (W.left world.old) (λ input. SendsPlot w h input (W.sent world.old) (W.sent world.new)) }
+    ensures within { result.code ≡ DONE → IfSome (W.left world.old) (λ input. length input ≤ 2 ^ 32) }
     ensures part { result.code ≡ SEND_FAULT → IfSome (W.left world.old) (λ input. SendsFront w h input (W.sent world.old) (W.sent world.new)) }
     ensures nothing { result.code ≢ DONE → result.code ≢ SEND_FAULT → W.sent world.new ≡ W.sent world.old }
     ensures disk { DiskKept (W.view world.old) (W.view world.new) }
@@ -186,6 +224,7 @@ fn draw_status<W: World>(alloc: Global, world: &mut W) -> Status
     ensures send { result.code ≡ SEND_FAULT → HasRisen (W.send_faults world.old) (W.send_faults world.new) }
     ensures place { Contains (DONE ∷ NO_MEMORY ∷ READ_FAULT ∷ SEND_FAULT ∷ []) result.code → result.place ≡ 0 }
     ensures done { result.code ≡ DONE → IfSome (W.left world.old) (λ input. DrawsAll input (W.sent world.old) (W.sent world.new)) }
+    ensures within { result.code ≡ DONE → IfSome (W.left world.old) (λ input. length input ≤ 2 ^ 32) }
     ensures pictures { result.code ≡ DONE → IfSome (W.left world.old) (λ input. DrawsReplies input (W.sent world.old) (W.sent world.new)) }
     ensures part { result.code ≡ SEND_FAULT → IfSome (W.left world.old) (λ input. StopsAtFrame input (W.sent world.old) (W.sent world.new) draw_end.SendFault) }
     ensures stopped { result.code ≡ READ_FAULT → IfSome (W.left world.old) (λ input. IfSome (W.left world.new) (λ bytes. DrawsTaken input bytes (W.sent world.old) (W.sent world.new))) }

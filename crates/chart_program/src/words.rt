@@ -17,6 +17,8 @@ pub enum Command {
     Serve,
     /// The pictures of the input's frames.
     Draw,
+    /// An empty store on the disk.
+    Init,
 }
 
 /// The command that the words spell, or the place of the first wrong word: the number of words, where
@@ -46,6 +48,8 @@ fn single_word(words: &[String]) -> Result<Command, u64>
         Ok(Command::Serve)
     } else if is_word(words, 0, "draw") {
         Ok(Command::Draw)
+    } else if is_word(words, 0, "init") {
+        Ok(Command::Init)
     } else {
         Err(0)
     }

@@ -4,7 +4,7 @@ use Rattle.block_disk.specs.View.{Image, View, Now, Honest, Passes, Moves, Nowhe
 use Rattle.block_disk.proofs.Passing.{passes_weaker}
 use Rattle.gate_pages.specs.Batch.{Entry, put_all, numbers, AllBelow}
 use Rattle.gate_pages.specs.GateLaws.{pages_passes, passes_pages}
-use Rattle.gate_pages.specs.GatePages.{pages_view, IsClosed}
+use Rattle.gate_pages.specs.GatePages.{pages_view, IsClosed, IsReadable}
 use Rattle.gate_pages.specs.Journal.{home, pages_of}
 use Rattle.gate_pages.specs.Pages.{Quiet, Reads, Commits, BeforeOrAfter}
 use Rattle.gate_pages.specs.Steps.{Anywhere, LiesWithin}
@@ -35,7 +35,7 @@ page_read count disk p page closed honest is =
     is ∙ ap disk.image turned ∙ ap (λ (i : Image). i p) (sym (closed_pages count disk.image (closed.gate honest)))
 
 pub commits_batch : (count : ℕ) (sound sound' : Bool) (batch : List Entry) (old new : View) → Moves Anywhere 0 4 (2 * length batch + 3) old new
-    → Passes old new (λ image. BeforeOrAfter batch (pages_of count old.image) (pages_of count image)) (Quiet old)
+    → Passes old new (λ image. IsReadable count image × BeforeOrAfter batch (pages_of count old.image) (pages_of count image)) (Quiet old)
     → Commits batch (Honest old) (Honest new) (pages_view count sound old) (pages_view count sound' new)
 commits_batch count sound sound' batch old new moves passes = record {
   time = pages_passes count sound sound' old new (BeforeOrAfter batch (pages_of count old.image)) (Quiet old) passes;

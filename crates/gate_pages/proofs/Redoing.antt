@@ -2,12 +2,12 @@
 use Rattle.std.proofs.Common.{◌≡◌, ℕ, ◌+◌, ◌≤◌, true, false, List, length, ap, arith, inl, inr, ◌∙◌, IsTrue}
 use Rattle.block_disk.specs.View.{Image, View, Now, Honest, Only, Passes, Moves, At}
 use Rattle.gate_pages.specs.Batch.{Entry, put_all, numbers, all_below}
-use Rattle.gate_pages.specs.GatePages.{IsClosed}
+use Rattle.gate_pages.specs.GatePages.{IsClosed, IsReadable}
 use Rattle.gate_pages.specs.Journal.{home, is_open, pages_of}
 use Rattle.gate_pages.specs.Pages.{BeforeOrAfter, Quiet}
 use Rattle.gate_pages.specs.Steps.{Anywhere, IsJournal, IsHome, HoldsBatch}
 use Rattle.gate_pages.proofs.Moving.{Rests, time_then, moments_from, rested, moves_then, moves_weaker}
-use Rattle.gate_pages.proofs.States.{Staged, closed_pages, in_stage, stage_home, in_gate, in_closing, in_home, staged_gate, staged_home, gate_kept, before_or_after}
+use Rattle.gate_pages.proofs.States.{Staged, Gives, closed_pages, in_stage, stage_home, in_gate, in_closing, in_home, staged_gate, staged_home, gate_kept, before_or_after}
 
 -- any calls, and one more
 pub way : (touched : ℕ → Type 0) (reads syncs writes reads' syncs' writes' : ℕ) (old mid new : View) → Moves Anywhere reads syncs writes old mid → Moves touched reads' syncs' writes' mid new → Moves Anywhere (reads + reads') (syncs + syncs') (writes + writes') old new
@@ -35,9 +35,9 @@ module _ (count : ℕ) (batch : List Entry) (few : length batch ≤ 64) (start :
     pub back : Honest view → Honest start
     pub rests : Rests property view
 
-  module _ (after : (image : Image) → Honest start → pages_of count image ≡ put_all batch pages → images image) where
+  module _ (after : (image : Image) → Honest start → Gives count image (put_all batch pages) → images image) where
     -- the gate is written, open
-    pub gate_time : (before : (image : Image) → Honest start → pages_of count image ≡ pages → images image) (reads syncs writes : ℕ) (view view' : View) → Way (Staged count batch pages) view → Moves (At 0) reads syncs writes view view' → Passes start view' images (Quiet start)
+    pub gate_time : (before : (image : Image) → Honest start → Gives count image pages → images image) (reads syncs writes : ℕ) (view view' : View) → Way (Staged count batch pages) view → Moves (At 0) reads syncs writes view view' → Passes start view' images (Quiet start)
     gate_time before reads syncs writes view view' at moves =
         time_then start view view' images at.time
         (moments_from (At 0) reads syncs writes view view' images moves at.rests.only
@@ -46,7 +46,7 @@ module _ (count : ℕ) (batch : List Entry) (few : length batch ≤ 64) (start :
           | inr new ↦ after image (at.back honest) new
         ]))
 
-    pub gate_way : (before : (image : Image) → Honest start → pages_of count image ≡ pages → images image) (view view' : View) → Way (Staged count batch pages) view → Moves (At 0) 0 1 1 view view' → Only view'.image (Now view')
+    pub gate_way : (before : (image : Image) → Honest start → Gives count image pages → images image) (view view' : View) → Way (Staged count batch pages) view → Moves (At 0) 0 1 1 view view' → Only view'.image (Now view')
         → (Honest view → is_open (view'.image 0) ≡ true) → Way (Opened count batch pages) view'
     gate_way before view view' at moves only opened = record {
       time = gate_time before 0 1 1 view view' at moves;
@@ -92,19 +92,19 @@ module _ (count : ℕ) (batch : List Entry) (few : length batch ≤ 64) (start :
           (λ honest. record { gate = shut honest; lies = (staged_gate count batch few (put_all batch pages) view.image view'.image (at.rests.is honest).staged (moves.off honest)).lies });
     }
 
--- The moments of a commit are those with the pages from before it or after it.
+-- The moments of a commit are those with the pages from before it or after it, and a journal that can be read.
 abbrev pub Moment : ℕ → List Entry → View → Image → Type 0
-Moment count batch start image = BeforeOrAfter batch (pages_of count start.image) (pages_of count image)
+Moment count batch start image = IsReadable count image × BeforeOrAfter batch (pages_of count start.image) (pages_of count image)
 
 module _ (count : ℕ) (batch : List Entry) (start : View) (closed : IsClosed start) where
-  pub possible : (image : Image) → Honest start → BeforeOrAfter batch (home start.image) (pages_of count image) → Moment count batch start image
-  possible image honest which = before_or_after batch (home start.image) (pages_of count start.image) (pages_of count image) (closed_pages count start.image (closed.gate honest)) which
+  pub possible : (image : Image) → Honest start → IsReadable count image → BeforeOrAfter batch (home start.image) (pages_of count image) → Moment count batch start image
+  possible image honest readable which = (readable, before_or_after batch (home start.image) (pages_of count start.image) (pages_of count image) (closed_pages count start.image (closed.gate honest)) which)
 
   -- the journal is written
   pub stage_time : (reads syncs writes : ℕ) (view' : View) → Moves IsJournal reads syncs writes start view' → Passes start view' (Moment count batch start) (Quiet start)
   stage_time reads syncs writes view' moves =
       moments_from IsJournal reads syncs writes start view' (Moment count batch start) moves closed.only
-      (λ image same honest. possible image honest (inl (in_stage count start.image image (closed.gate honest) same)))
+      (λ image same honest. let gives = in_stage count start.image image (closed.gate honest) same in possible image honest gives.readable (inl gives.stands))
 
   pub stage_way : (few : length batch ≤ 64) (writes : ℕ) (view' : View) → IsTrue (all_below count (numbers batch)) → Moves IsJournal 0 1 writes start view' → Only view'.image (Now view')
       → (Honest start → HoldsBatch batch view'.image) → Way count batch few start (Moment count batch start) (home start.image) (Staged count batch (home start.image)) view'

@@ -4,12 +4,12 @@ use Rattle.block_disk.specs.View.{Image, View, Now, Honest, Only, Passes, Moves,
 use Rattle.block_disk.proofs.Passing.{passes_none, passes_weaker}
 use Rattle.gate_pages.specs.Batch.{Entry, put_all, numbers}
 use Rattle.gate_pages.specs.GatePages.{StandsAsBefore}
-use Rattle.gate_pages.specs.Journal.{home, is_open, directory, images, pages_of}
+use Rattle.gate_pages.specs.Journal.{home, is_open, directory, images}
 use Rattle.gate_pages.specs.Pages.{Quiet}
 use Rattle.gate_pages.specs.Steps.{IsHome}
 use Rattle.gate_pages.proofs.Moving.{moves_now, nothing_torn}
 use Rattle.gate_pages.proofs.Redoing.{Way, Opened}
-use Rattle.gate_pages.proofs.States.{Staged, staged_open, numbers_images}
+use Rattle.gate_pages.proofs.States.{Staged, Gives, staged_open, numbers_images}
 
 module _ (count : ℕ) (ns : List ℕ) (start : View) (is_opened : Honest start → is_open (start.image 0) ≡ true) (listed : Honest start → directory count (start.image 1) ≡ Some ns) where
   -- the batch that the journal tells of
@@ -25,11 +25,12 @@ module _ (count : ℕ) (ns : List ℕ) (start : View) (is_opened : Honest start 
         lies = refl;
       }
 
-  pub told : (few : length (images ns 2 start.image) ≤ 64) → Honest start → pages_of count start.image ≡ put_all (images ns 2 start.image) (home start.image)
+  pub told : (few : length (images ns 2 start.image) ≤ 64) → Honest start → Gives count start.image (put_all (images ns 2 start.image) (home start.image))
   told few honest = staged_open count (images ns 2 start.image) few (home start.image) start.image (staged honest) (is_opened honest)
 
-  pub after : (few : length (images ns 2 start.image) ≤ 64) (image : Image) → Honest start → pages_of count image ≡ put_all (images ns 2 start.image) (home start.image) → StandsAsBefore count start image
-  after few image honest is = record { from = start.image; was = honest; same = is ∙ sym (told few honest) }
+  pub after : (few : length (images ns 2 start.image) ≤ 64) (image : Image) → Honest start → Gives count image (put_all (images ns 2 start.image) (home start.image)) → StandsAsBefore count start image
+  after few image honest gives =
+      record { from = start.image; was = honest; same = gives.stands ∙ sym (told few honest).stands; readable = λ any. gives.readable }
 
   pub begun : (few : length (images ns 2 start.image) ≤ 64) → Only start.image (Now start) → Way count (images ns 2 start.image) few start (StandsAsBefore count start) (home start.image) (Opened count (images ns 2 start.image) (home start.image)) start
   begun few only = record {
@@ -48,7 +49,7 @@ same_homes ns image reads syncs writes old new moves =
 pub stands_quiet : (count reads syncs writes : ℕ) (old new : View) → Moves Nowhere reads syncs writes old new → Passes old new (StandsAsBefore count old) (Quiet old)
 stands_quiet count reads syncs writes old new moves =
     passes_weaker old new _ (StandsAsBefore count old) (Quiet old) (Quiet old)
-    (λ image torn. record { from = image; was = nothing_torn (Now old) image torn; same = refl })
+    (λ image torn. record { from = image; was = nothing_torn (Now old) image torn; same = refl; readable = λ is. is })
     (λ sent quiet. quiet) moves.time
 
 -- and what stood as after them stood as before them
@@ -57,4 +58,5 @@ stands_back count reads syncs writes old mid image moves stands = record {
   from = stands.from;
   was = nothing_torn (Now old) stands.from (moves_now Nowhere reads syncs writes old mid stands.from moves stands.was);
   same = stands.same;
+  readable = stands.readable;
 }

@@ -3,11 +3,19 @@ use Rattle.std.specs.Prelude.{ℕ, ◌≡◌, Bool, true, false, IsTrue, None}
 use Rattle.block_disk.specs.View.{Image, View, Now, Honest, Only}
 use Rattle.gate_pages.specs.Journal.{pages_of, is_open, directory}
 
--- the pages of one of these images
+-- the gate is open, and the directory breaks its layout
+pub record IsBroken (count : ℕ) (image : Image) : Type 0 where
+  pub gate : is_open (image 0) ≡ true
+  pub layout : directory count (image 1) ≡ None
+
+abbrev pub IsReadable : ℕ → Image → Type 0
+IsReadable count image = IsBroken count image → ⊥
+
+-- The pages of one of these images. Where its journal can't be read, they may be any.
 pub record PagesOf (count : ℕ) (images : Image → Type 0) (pages : Image) : Type 0 where
   pub from : Image
   pub was : images from
-  pub same : pages ≡ pages_of count from
+  pub same : IsReadable count from → pages ≡ pages_of count from
 
 -- so many pages on a disk
 abbrev pub pages_view : ℕ → Bool → View → View
@@ -30,13 +38,10 @@ pub record IsClosed (disk : View) : Type 0 where
   pub only : Only disk.image (Now disk)
   pub gate : Honest disk → is_open (disk.image 0) ≡ false
 
--- the image stands for pages that one of the images stood for which a crash might leave before
+-- The image stands for pages that one of the images stood for which a crash might leave before, and its journal
+-- can be read where that one's could.
 pub record StandsAsBefore (count : ℕ) (before : View) (image : Image) : Type 0 where
   pub from : Image
   pub was : Now before from
   pub same : pages_of count image ≡ pages_of count from
-
--- the gate is open, and the directory breaks its layout
-pub record IsBroken (count : ℕ) (image : Image) : Type 0 where
-  pub gate : is_open (image 0) ≡ true
-  pub layout : directory count (image 1) ≡ None
+  pub readable : IsReadable count from → IsReadable count image

@@ -11,6 +11,13 @@ Quiet view count = count ≡ sent_now view
 abbrev pub BeforeOrAfter : List Entry → Image → Image → Type 0
 BeforeOrAfter batch before pages = (pages ≡ before) ⊎ (pages ≡ put_all batch before)
 
+-- time goes on from old to new: what was possible at the moments of old stays as it was
+pub record GoesOn (old new : View) : Type 0 where
+  pub later : old.clock ≤ new.clock
+  pub past : (at : ℕ) (image : Image) → at ≤ old.clock → new.crash at image → old.crash at image
+  pub kept : (at : ℕ) (image : Image) → at ≤ old.clock → old.crash at image → new.crash at image
+  pub sent_past : (at : ℕ) → at ≤ old.clock → new.sent_by at ≡ old.sent_by at
+
 -- One block is read at most, and nothing else changes. At each moment a crash leaves what it might have left before.
 pub record Reads (told_old told_new : Type 0) (old new : View) : Type 0 where
   pub time : Passes old new (Now old) (Quiet old)

@@ -4,7 +4,7 @@ ghost use Rattle.block_disk.specs.Counts.{HasRisen};
 ghost use Rattle.block_disk.specs.View.{View, Image, Now, Honest, Only, Passes, Moves, At};
 ghost use Rattle.gate_pages.specs.Batch.{put_all, numbers, all_below};
 ghost use Rattle.gate_pages.specs.Entries.{entries};
-ghost use Rattle.gate_pages.specs.GatePages.{IsClosed};
+ghost use Rattle.gate_pages.specs.GatePages.{IsClosed, IsReadable};
 ghost use Rattle.gate_pages.specs.Journal.{home, is_open, pages_of};
 ghost use Rattle.gate_pages.specs.Pages.{BeforeOrAfter, Quiet};
 ghost use Rattle.gate_pages.specs.Steps.{Anywhere, IsJournal, IsHome, LiesWithin, HoldsBatch};
@@ -118,7 +118,7 @@ pub(crate) fn redo<D: Disk>(disk: &mut D, buffer: &mut [u8], batch: &Batch) -> R
     requires within { LiesWithin (D.view disk.old).size (numbers (entries batch.now)) }
     requires closed { IsClosed (D.view disk.old) }
     ensures moves { Moves Anywhere 0 4 (2 * length (entries batch.now) + 3) (D.view disk.old) (D.view disk.new) }
-    ensures moments { (count : ℕ) → IsTrue (all_below count (numbers (entries batch.now))) → Passes (D.view disk.old) (D.view disk.new) (λ image. BeforeOrAfter (entries batch.now) (pages_of count (D.view disk.old).image) (pages_of count image)) (Quiet (D.view disk.old)) }
+    ensures moments { (count : ℕ) → IsTrue (all_below count (numbers (entries batch.now))) → Passes (D.view disk.old) (D.view disk.new) (λ image. IsReadable count image × BeforeOrAfter (entries batch.now) (pages_of count (D.view disk.old).image) (pages_of count image)) (Quiet (D.view disk.old)) }
     ensures closed { OnOk result (IsClosed (D.view disk.new)) }
     ensures done { Honest (D.view disk.old) → OnOk result (home (D.view disk.new).image ≡ put_all (entries batch.now) (home (D.view disk.old).image)) }
     ensures cause { OnErr result (HasRisen (D.view disk.old).faults (D.view disk.new).faults) }

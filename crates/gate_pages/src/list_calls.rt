@@ -36,6 +36,8 @@ impl Pages for ListPages {
 
     ghost told = { λ pages. Unit {0} };
 
+    ghost under = { λ pages. list_view pages.count pages.bytes.items };
+
     fn count(&self) -> u32 {
         self.count
     }

@@ -22,7 +22,7 @@ impl<D: Disk> GatePages<D> {
         ensures left { IfErr result (λ back. Leaves back.cause (D.view disk) (D.view back.value)) }
         ensures large { IfOk result (λ pages. 128 ≤ (D.view disk).size) }
         ensures journal { IfOk result (λ pages. Honest (D.view disk) → IsBroken (page_count (D.view disk).size) (D.view disk).image → ⊥) }
-        // a crash at any moment leaves the pages that the disk stood for
+        // a crash at any moment leaves the pages that the disk stood for, and a journal that can be read where it could
         ensures moments { Passes (D.view disk) (D.view (disk_in result)) (StandsAsBefore (page_count (D.view disk).size) (D.view disk)) (Quiet (D.view disk)) }
         ensures moves { Moves Anywhere 66 3 65 (D.view disk) (D.view (disk_in result)) }
         // the pages are sound, and those that the disk stood for
@@ -65,9 +65,10 @@ impl<D: Disk> GatePages<D> {
         }
     }
 
-    /// The disk.
+    /// The disk. Nothing is pending on it where the pages were sound.
     pub fn into_disk(self) -> D
-        ensures { result ≡ self.disk }
+        ensures disk { result ≡ self.disk }
+        ensures rests { IsTrue self.sound → IsClosed (D.view result) }
     {
         self.disk
     }

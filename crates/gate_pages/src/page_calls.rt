@@ -17,6 +17,8 @@ impl<D: Disk> Pages for GatePages<D> {
 
     ghost told = { λ pages. Honest (D.view pages.disk) };
 
+    ghost under = { λ pages. D.view pages.disk };
+
     fn count(&self) -> u32 {
         self.count
     }
@@ -40,7 +42,7 @@ impl<D: Disk> Pages for GatePages<D> {
         Ok(())
     }
 
-    ghost rests = { λ pages sound other left. gate_rests pages.count (D.view pages.disk) (pages.at_rest sound).only other left };
+    ghost rests = { λ pages sound other left. gate_rests pages.count (D.view pages.disk) (pages.at_rest sound) other left };
 
     ghost tells = { λ pages sound honest. gate_tells pages.count (D.view pages.disk) (pages.at_rest sound).only honest };
 }

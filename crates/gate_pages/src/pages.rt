@@ -4,7 +4,7 @@ ghost use Rattle.block_disk.specs.Counts.{HasRisen};
 ghost use Rattle.block_disk.specs.View.{View, Now, Honest, Only};
 ghost use Rattle.gate_pages.specs.Batch.{AllBelow, put_all};
 ghost use Rattle.gate_pages.specs.Entries.{entries};
-ghost use Rattle.gate_pages.specs.Pages.{Reads, Commits};
+ghost use Rattle.gate_pages.specs.Pages.{Reads, Commits, GoesOn};
 
 use crate::batch::Batch;
 use crate::errors::DiskFault;
@@ -19,6 +19,9 @@ pub trait Pages: Drop {
 
     /// Reads give what the pages are.
     ghost told: { Self → Type 0 };
+
+    /// What the pages lie on.
+    ghost under: { Self → View };
 
     /// The number of pages. It never changes.
     fn count(&self) -> u32
@@ -35,6 +38,7 @@ pub trait Pages: Drop {
         requires sound { (view self.old).fit }
         ensures page { told self.old → OnOk result (out.new ≡ (view self.old).image p) }
         ensures reads { Reads (told self.old) (told self.new) (view self.old) (view self.new) }
+        ensures goes_on { GoesOn (under self.old) (under self.new) }
         ensures cause { OnErr result (HasRisen (view self.old).faults (view self.new).faults) };
 
     /// Commits a batch. After `DiskFault` the pages aren't sound, and have to be opened again.
@@ -47,6 +51,7 @@ pub trait Pages: Drop {
         ensures done { told self.old → OnOk result ((view self.new).image ≡ put_all (entries batch.now) (view self.old).image) }
         ensures sound { OnOk result (view self.new).fit }
         ensures unsound { OnErr result ((view self.new).fit → ⊥) }
+        ensures goes_on { GoesOn (under self.old) (under self.new) }
         // an empty commit does nothing
         ensures empty_ok { entries batch.now ≡ [] → IsOk result }
         ensures empty { entries batch.now ≡ [] → self.new ≡ self.old }

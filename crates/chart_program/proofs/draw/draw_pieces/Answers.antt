@@ -1,9 +1,9 @@
-use Rattle.std.proofs.Common.{◌≡◌, IfSome, take, length, refl, sym, subst, ◌∙◌, arith}
+use Rattle.std.proofs.Common.{◌≡◌, ◌^◌, IfSome, take, length, refl, sym, subst, ◌∙◌, arith}
 use Rattle.std.proofs.lemmas.List.{length-take}
 use Rattle.chart_program.specs.declared.draw_end.DrawEnd.{DrawEnd}
 use Rattle.chart_program.specs.Draws.{EndsDraw}
 use Rattle.chart_program.proofs.DiskKept.{kept_none, kept_then}
-use Rattle.chart_program.proofs.Drawing.{drawn_start, start_partial, start_counted, error_so, if_err, cut_so, stopped_so, within_so, drawn_piece, drawn_sent, counted_more}
+use Rattle.chart_program.proofs.Drawing.{drawn_start, start_partial, start_counted, error_so, if_err, on_ok, read_all, cut_so, stopped_so, within_so, drawn_piece, drawn_sent, counted_more}
 use Rattle.chart_program.proofs.draw.draw_pieces.Goals as goal
 
 pub pieces-init : goal.pieces-init
@@ -17,6 +17,15 @@ pieces-init g c = record {
   send_faults = omega arith;
   disk = kept_none (g.S.Disk.view c.args.streams.now);
 }
+
+pub returns-then-count-eq0-clause-within : goal.returns-then-count-eq0-clause-within
+returns-then-count-eq0-clause-within g c =
+    let left = g.S.Streams.left in
+    let sent = g.S.Streams.sent in
+    let inv = c.pieces.invariant in
+    on_ok _ _ c.ended.result c.ended.ensures.done
+    (λ empty. read_all (left c.args.streams.now) (left c.pieces.streams) c.in_ok-count.count c.take_piece.new.buffer c.pieces.decoder c.pieces.client c.pieces.taken (2 ^ 32)
+    (sent c.args.streams.now) (sent c.pieces.streams) c.in_ok-count.ensures.given c.if-count-eq0.true empty inv.counted inv.within inv.drawn)
 
 pub returns-then-count-eq0-clause-ends : goal.returns-then-count-eq0-clause-ends
 returns-then-count-eq0-clause-ends g c =

@@ -1,11 +1,11 @@
-use Rattle.std.proofs.Common.{ℤ, List, Option, Ok, Err, IsTrue, IfSome, All, length, refl, ap, sym, subst, ◌∙◌, arith}
+use Rattle.std.proofs.Common.{ℤ, ◌^◌, List, Option, Ok, Err, IsTrue, IfSome, All, length, refl, ap, sym, subst, ◌∙◌, arith}
 use Rattle.std.proofs.lemmas.List.Elements.{All-nil}
 use Rattle.chart_world.specs.Reading.{Reading, unread}
 use Rattle.plain_chart.specs.Samples.{IsSlot}
 use Rattle.chart_program.specs.declared.input.InputEnd.{InputEnd}
 use Rattle.chart_program.specs.Reads.{Stops}
 use Rattle.chart_program.proofs.Progress.{same_line}
-use Rattle.chart_program.proofs.Ending.{start_so, end_so, bad_so, too_long_bad, not_added_so, fault_so, error_so, line_so, values_so, few_so}
+use Rattle.chart_program.proofs.Ending.{start_so, end_so, read_all, bad_so, too_long_bad, not_added_so, fault_so, error_so, line_so, values_so, few_so}
 use Rattle.chart_program.proofs.input.read_slots.Goals as goal
 
 pub lines-init : goal.lines-init
@@ -31,6 +31,11 @@ pub returns-in-End-clause-all : goal.returns-in-End-clause-all
 returns-in-End-clause-all g c =
     end_so (g.S.Streams.left c.args.from.now) (unread c.lines.lines (g.S.Streams.left c.lines.from)) c.lines.lines.given c.lines.slots.items
     (c.in_ok-next.ensures.end (ap Ok c.in-End.is)) c.lines.invariant.progress
+
+pub returns-in-End-clause-within : goal.returns-in-End-clause-within
+returns-in-End-clause-within g c =
+    read_all (g.S.Streams.left c.args.from.now) (unread c.lines.lines (g.S.Streams.left c.lines.from)) c.lines.lines.given (2 ^ 32) c.lines.slots.items
+    (c.in_ok-next.ensures.end (ap Ok c.in-End.is)) c.lines.invariant.within c.lines.invariant.progress
 
 pub returns-in-TooLong-clause-ends : goal.returns-in-TooLong-clause-ends
 returns-in-TooLong-clause-ends g c =

@@ -1,7 +1,7 @@
 use Rattle.std.proofs.Common.{arith, refl}
 use Rattle.chart_service.specs.Serving.{AreSpelled}
 use Rattle.chart_program.specs.Ran.{AreTexts}
-use Rattle.chart_program.proofs.Codes.{plot_codes, complete_so, run_codes, run_complete, serve_codes, serve_complete, draw_codes, draw_complete}
+use Rattle.chart_program.proofs.Codes.{plot_codes, complete_so, run_codes, run_complete, serve_codes, serve_complete, draw_codes, draw_complete, init_codes}
 use Rattle.chart_program.proofs.top.chart.Goals as goal
 
 pub returns-in-Err-clause-codes : goal.returns-in-Err-clause-codes
@@ -38,3 +38,6 @@ pub returns-in-Ok-Draw-clause-complete : goal.returns-in-Ok-Draw-clause-complete
 returns-in-Ok-Draw-clause-complete g c =
     let e = c.draw_status-status.ensures in
     draw_complete (g.W.Streams.left c.args.world) c.draw_status-status.result.code _ c.in-Ok-Draw.field-0 _ _ _ c.in-Ok-Draw.field-0-is c.in-Ok-Draw.ensures.command e.read e.send e.good
+
+pub returns-in-Ok-Init-clause-codes : goal.returns-in-Ok-Init-clause-codes
+returns-in-Ok-Init-clause-codes g c = init_codes c.init_status.result.0.code c.init_status.ensures.codes

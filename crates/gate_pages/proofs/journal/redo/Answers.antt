@@ -1,12 +1,13 @@
-use Rattle.std.proofs.Common.{◌≡◌, ◌+◌, ◌*◌, length, inl, inr, arith}
+use Rattle.std.proofs.Common.{◌+◌, ◌*◌, length, inl, inr, arith}
 use Rattle.block_disk.specs.View.{Image, Honest, At}
 use Rattle.gate_pages.specs.Batch.{numbers, put_all}
 use Rattle.gate_pages.specs.Entries.{entries}
-use Rattle.gate_pages.specs.Journal.{home, pages_of}
+use Rattle.gate_pages.specs.Journal.{home}
 use Rattle.gate_pages.specs.Steps.{Anywhere, IsJournal, IsHome}
 use Rattle.gate_pages.proofs.BatchLemmas.{few_entries}
 use Rattle.gate_pages.proofs.Moving.{moves_weaker}
 use Rattle.gate_pages.proofs.Puts.{all_below_from}
+use Rattle.gate_pages.proofs.States.{Gives}
 use Rattle.gate_pages.proofs.Redoing.{way, Moment, possible, stage_time, stage_way, gate_time, gate_way, home_time, home_way, close_time, close_way}
 use Rattle.gate_pages.proofs.journal.redo.Goals as goal
 
@@ -51,8 +52,8 @@ returns-in_err-set_gate-clause-moments g c count below =
     let view0 = view c.args.disk.now in
     let view1 = view c.stage.new.disk in
     let view2 = view c.set_gate.new.disk in
-    let after = λ (image : Image) (honest : Honest view0) (is : pages_of count image ≡ put_all batch (home view0.image)). possible count batch view0 c.requires.closed image honest (inr is) in
-    let before = λ (image : Image) (honest : Honest view0) (is : pages_of count image ≡ home view0.image). possible count batch view0 c.requires.closed image honest (inl is) in
+    let after = λ (image : Image) (honest : Honest view0) (gives : Gives count image (put_all batch (home view0.image))). possible count batch view0 c.requires.closed image honest gives.readable (inr gives.stands) in
+    let before = λ (image : Image) (honest : Honest view0) (gives : Gives count image (home view0.image)). possible count batch view0 c.requires.closed image honest gives.readable (inl gives.stands) in
     let at1 = stage_way count batch view0 c.requires.closed few (many + 1) view1 below c.stage.ensures.moves c.in_ok-stage.ensures.durable c.in_ok-stage.ensures.holds in
     gate_time count batch few view0 (Moment count batch view0) (home view0.image) after before 0 1 1 view1 view2 at1 c.set_gate.ensures.moves
 
@@ -80,8 +81,8 @@ returns-in_err-bring_home-clause-moments g c count below =
     let view1 = view c.stage.new.disk in
     let view2 = view c.set_gate.new.disk in
     let view3 = view c.bring_home.new.disk in
-    let after = λ (image : Image) (honest : Honest view0) (is : pages_of count image ≡ put_all batch (home view0.image)). possible count batch view0 c.requires.closed image honest (inr is) in
-    let before = λ (image : Image) (honest : Honest view0) (is : pages_of count image ≡ home view0.image). possible count batch view0 c.requires.closed image honest (inl is) in
+    let after = λ (image : Image) (honest : Honest view0) (gives : Gives count image (put_all batch (home view0.image))). possible count batch view0 c.requires.closed image honest gives.readable (inr gives.stands) in
+    let before = λ (image : Image) (honest : Honest view0) (gives : Gives count image (home view0.image)). possible count batch view0 c.requires.closed image honest gives.readable (inl gives.stands) in
     let at1 = stage_way count batch view0 c.requires.closed few (many + 1) view1 below c.stage.ensures.moves c.in_ok-stage.ensures.durable c.in_ok-stage.ensures.holds in
     let at2 = gate_way count batch few view0 (Moment count batch view0) (home view0.image) after before view1 view2 at1 c.set_gate.ensures.moves c.in_ok-set_gate.ensures.durable c.in_ok-set_gate.ensures.gate in
     home_time count batch few view0 (Moment count batch view0) (home view0.image) after 0 1 many view2 view3 at2 c.bring_home.ensures.moves
@@ -113,8 +114,8 @@ returns-in_err-set_gate-2-clause-moments g c count below =
     let view2 = view c.set_gate.new.disk in
     let view3 = view c.bring_home.new.disk in
     let view4 = view c.set_gate-2.new.disk in
-    let after = λ (image : Image) (honest : Honest view0) (is : pages_of count image ≡ put_all batch (home view0.image)). possible count batch view0 c.requires.closed image honest (inr is) in
-    let before = λ (image : Image) (honest : Honest view0) (is : pages_of count image ≡ home view0.image). possible count batch view0 c.requires.closed image honest (inl is) in
+    let after = λ (image : Image) (honest : Honest view0) (gives : Gives count image (put_all batch (home view0.image))). possible count batch view0 c.requires.closed image honest gives.readable (inr gives.stands) in
+    let before = λ (image : Image) (honest : Honest view0) (gives : Gives count image (home view0.image)). possible count batch view0 c.requires.closed image honest gives.readable (inl gives.stands) in
     let at1 = stage_way count batch view0 c.requires.closed few (many + 1) view1 below c.stage.ensures.moves c.in_ok-stage.ensures.durable c.in_ok-stage.ensures.holds in
     let at2 = gate_way count batch few view0 (Moment count batch view0) (home view0.image) after before view1 view2 at1 c.set_gate.ensures.moves c.in_ok-set_gate.ensures.durable c.in_ok-set_gate.ensures.gate in
     let at3 = home_way count batch few view0 (Moment count batch view0) (home view0.image) after 0 many view2 view3 at2 c.bring_home.ensures.moves c.in_ok-bring_home.ensures.durable c.in_ok-bring_home.ensures.home in
@@ -147,8 +148,8 @@ returns-clause-moments g c count below =
     let view2 = view c.set_gate.new.disk in
     let view3 = view c.bring_home.new.disk in
     let view4 = view c.set_gate-2.new.disk in
-    let after = λ (image : Image) (honest : Honest view0) (is : pages_of count image ≡ put_all batch (home view0.image)). possible count batch view0 c.requires.closed image honest (inr is) in
-    let before = λ (image : Image) (honest : Honest view0) (is : pages_of count image ≡ home view0.image). possible count batch view0 c.requires.closed image honest (inl is) in
+    let after = λ (image : Image) (honest : Honest view0) (gives : Gives count image (put_all batch (home view0.image))). possible count batch view0 c.requires.closed image honest gives.readable (inr gives.stands) in
+    let before = λ (image : Image) (honest : Honest view0) (gives : Gives count image (home view0.image)). possible count batch view0 c.requires.closed image honest gives.readable (inl gives.stands) in
     let at1 = stage_way count batch view0 c.requires.closed few (many + 1) view1 below c.stage.ensures.moves c.in_ok-stage.ensures.durable c.in_ok-stage.ensures.holds in
     let at2 = gate_way count batch few view0 (Moment count batch view0) (home view0.image) after before view1 view2 at1 c.set_gate.ensures.moves c.in_ok-set_gate.ensures.durable c.in_ok-set_gate.ensures.gate in
     let at3 = home_way count batch few view0 (Moment count batch view0) (home view0.image) after 0 many view2 view3 at2 c.bring_home.ensures.moves c.in_ok-bring_home.ensures.durable c.in_ok-bring_home.ensures.home in
@@ -168,8 +169,8 @@ returns-clause-done g c honest =
     let view4 = view c.set_gate-2.new.disk in
     let count = view0.size in
     let below = all_below_from count (numbers batch) (λ n is. omega (arith, c.requires.within n is)) in
-    let after = λ (image : Image) (honest : Honest view0) (is : pages_of count image ≡ put_all batch (home view0.image)). possible count batch view0 c.requires.closed image honest (inr is) in
-    let before = λ (image : Image) (honest : Honest view0) (is : pages_of count image ≡ home view0.image). possible count batch view0 c.requires.closed image honest (inl is) in
+    let after = λ (image : Image) (honest : Honest view0) (gives : Gives count image (put_all batch (home view0.image))). possible count batch view0 c.requires.closed image honest gives.readable (inr gives.stands) in
+    let before = λ (image : Image) (honest : Honest view0) (gives : Gives count image (home view0.image)). possible count batch view0 c.requires.closed image honest gives.readable (inl gives.stands) in
     let at1 = stage_way count batch view0 c.requires.closed few (many + 1) view1 below c.stage.ensures.moves c.in_ok-stage.ensures.durable c.in_ok-stage.ensures.holds in
     let at2 = gate_way count batch few view0 (Moment count batch view0) (home view0.image) after before view1 view2 at1 c.set_gate.ensures.moves c.in_ok-set_gate.ensures.durable c.in_ok-set_gate.ensures.gate in
     let at3 = home_way count batch few view0 (Moment count batch view0) (home view0.image) after 0 many view2 view3 at2 c.bring_home.ensures.moves c.in_ok-bring_home.ensures.durable c.in_ok-bring_home.ensures.home in

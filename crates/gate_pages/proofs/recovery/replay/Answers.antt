@@ -74,7 +74,7 @@ returns-clause-done g c count honest listed =
     let at2 = close_way count batch few view0 (StandsAsBefore count view0) (home view0.image) from view1 view2 at1 c.set_gate.ensures.moves c.in_ok-set_gate.ensures.durable c.in_ok-set_gate.ensures.gate in
     let moves1 = moves_weaker (IsHome (numbers batch)) Anywhere many 1 many many 1 many view0 view1 (λ number is. tt) (omega arith) (omega arith) (omega arith) copied in
     let moves2 = way (At 0) many 1 many 0 1 1 view0 view1 view2 moves1 c.set_gate.ensures.moves in
-    (at2.rests.is (moves2.honest honest)).lies ∙ sym (told count ns view0 c.requires.opened (λ any. listed) few honest)
+    (at2.rests.is (moves2.honest honest)).lies ∙ sym (told count ns view0 c.requires.opened (λ any. listed) few honest).stands
 
 pub returns-clause-moves : goal.returns-clause-moves
 returns-clause-moves g c =

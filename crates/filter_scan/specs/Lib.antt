@@ -1,0 +1,6 @@
+pub mod Table
+pub mod Taken
+pub mod Shares
+pub mod Ends
+pub mod Answers
+pub mod Asks

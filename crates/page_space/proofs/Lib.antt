@@ -1,0 +1,11 @@
+mod Words
+mod Layouts
+pub mod Counting
+pub mod Spacing
+mod Writing
+mod Leaving
+mod Starting
+mod Taken
+mod Changing
+mod Reading
+pub mod Apart

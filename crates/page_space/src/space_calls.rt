@@ -1,0 +1,192 @@
+//! The calls of a space, but those that take a page.
+ghost use Rattle.std.specs.Prelude.{◌≡◌, ◌≢◌, ◌≤◌, ◌<◌, ◌+◌, ◌==◌, ◌↔◌, ℕ, List, Some, None, ◌∷◌, is_some, length, if◌then◌else◌, IfOk, OnOk, OnErr, IsOk, IsTrue};
+ghost use Rattle.block_disk.specs.Counts.{HasRisen};
+ghost use Rattle.block_disk.specs.View.{View, Image};
+ghost use Rattle.gate_pages.specs.Pages.{Reads, Commits, GoesOn};
+ghost use Rattle.page_space.specs.Layout.{superblock_page, freed_page, IsGiven, in_use, with_head, with_series};
+ghost use Rattle.page_space.specs.Spaces.{times, Stands};
+ghost use Rattle.page_space.specs.Transactions.{held, held_page, left_by, HasRoom, OnlyFirst};
+
+use crate::errors::NoMemory;
+use crate::freed_page::write_freed;
+use crate::layout::FIRST;
+use crate::space::Space;
+use crate::superblock::Superblock;
+use crate::txn::Txn;
+use block_disk::BLOCK;
+use gate_pages::{DiskFault, Pages};
+use std::alloc::Global;
+
+impl<P: Pages> Space<P> {
+    /// The number of pages of the store. It never changes.
+    pub fn total(&self) -> u32
+        ensures total { result ≡ self.now.superblock.total }
+        ensures within { (62 ≤ result) × (result ≤ (P.view self.now.pages).size) }
+    {
+        self.superblock.total
+    }
+
+    /// How many pages are in use, page 0 and the catalog among them.
+    pub fn used(&self) -> u32
+        ensures used { result ≡ in_use self.now.superblock }
+        // where the pages stand, page 0 and the catalog, and those behind it that are in use
+        ensures counts { (count : ℕ) (image : Image) (taken freed : List ℕ) → Stands count image self.now.superblock taken freed → result ≡ 17 + length taken }
+    {
+        self.superblock.used()
+    }
+
+    /// How many series the catalog has.
+    pub fn series(&self) -> u32
+        ensures series { result ≡ self.now.superblock.series }
+        ensures most { result ≤ 512 }
+    {
+        self.superblock.series
+    }
+
+    /// Whether more calls may be made. After a fault in a commit they may not.
+    pub fn is_sound(&self) -> bool
+        ensures { IsTrue result ↔ (P.view self.now.pages).fit }
+    {
+        self.pages.is_sound()
+    }
+
+    /// Whether a transaction is over a store of as many pages. It is where it was begun over this space.
+    pub fn fits(&self, txn: &Txn) -> bool
+        ensures { IsTrue result ↔ (txn.now.superblock.total ≡ self.now.superblock.total) }
+    {
+        txn.superblock.total == self.superblock.total
+    }
+
+    /// The pages.
+    pub fn into_pages(self) -> P
+        ensures { result ≡ self.pages }
+    {
+        self.pages
+    }
+
+    /// Reads a page. After `DiskFault`, `out` may hold anything.
+    pub fn get(&mut self, p: u32, out: &mut [u8]) -> Result<(), DiskFault>
+        requires sound { (P.view self.old.pages).fit }
+        requires p_in_total { p < self.old.superblock.total }
+        requires whole { length out.old ≡ 4096 }
+        ensures page { P.told self.old.pages → OnOk result (out.new ≡ (P.view self.old.pages).image p) }
+        ensures reads { Reads (P.told self.old.pages) (P.told self.new.pages) (P.view self.old.pages) (P.view self.new.pages) }
+        ensures goes_on { GoesOn (P.under self.old.pages) (P.under self.new.pages) }
+        ensures superblock { self.new.superblock ≡ self.old.superblock }
+        ensures cause { OnErr result (HasRisen (P.view self.old.pages).faults (P.view self.new.pages).faults) }
+    {
+        self.pages.get(p, out)
+    }
+
+    /// A transaction over the pages as they are. It holds page 0 alone.
+    pub fn begin(&mut self, alloc: Global) -> Result<Txn, NoMemory>
+        ensures same { self.new ≡ self.old }
+        ensures superblock { IfOk result (λ txn. txn.superblock ≡ self.old.superblock) }
+        ensures len { IfOk result (λ txn. length (held txn) ≡ 1) }
+        ensures pages { IfOk result (λ txn. (p : ℕ) → held_page txn p ≡ (if p == 0 then Some (superblock_page self.old.superblock) else None)) }
+        ensures stands { IfOk result (λ txn. (count : ℕ) (image : Image) (taken freed : List ℕ) → Stands count image self.old.superblock taken freed → Stands count (left_by txn image) txn.superblock taken freed) }
+        // it would leave the pages as they are
+        ensures left { IfOk result (λ txn. (P.view self.old.pages).fit → P.told self.old.pages → (p : ℕ) → left_by txn (P.view self.old.pages).image p ≡ (P.view self.old.pages).image p) }
+    {
+        Txn::new(alloc, self.superblock)
+    }
+
+    /// Reads a page as a transaction would leave it. One that it holds is read without the disk.
+    pub fn read(&mut self, txn: &Txn, p: u32, out: &mut [u8]) -> Result<(), DiskFault>
+        requires sound { (P.view self.old.pages).fit }
+        requires p_in_total { p < self.old.superblock.total }
+        requires whole { length out.old ≡ 4096 }
+        ensures page { P.told self.old.pages → OnOk result (out.new ≡ left_by txn.now (P.view self.old.pages).image p) }
+        ensures held { IsTrue (is_some (held_page txn.now p)) → IsOk result × ((self.new ≡ self.old) × (held_page txn.now p ≡ Some out.new)) }
+        ensures reads { Reads (P.told self.old.pages) (P.told self.new.pages) (P.view self.old.pages) (P.view self.new.pages) }
+        ensures goes_on { GoesOn (P.under self.old.pages) (P.under self.new.pages) }
+        ensures superblock { self.new.superblock ≡ self.old.superblock }
+        ensures cause { OnErr result (HasRisen (P.view self.old.pages).faults (P.view self.new.pages).faults) }
+    {
+        match txn.batch.get(p) {
+            Some(page) => {
+                out.copy_from_slice(page);
+                Ok(())
+            }
+            None => self.pages.get(p, out),
+        }
+    }
+
+    /// Sets how many series the catalog has.
+    pub fn set_series(&self, txn: &mut Txn, n: u32)
+        requires few { n ≤ 512 }
+        ensures superblock { txn.new.superblock ≡ with_series txn.old.superblock n }
+        ensures pages { OnlyFirst txn.old txn.new }
+        ensures stands { (count : ℕ) (image : Image) (taken freed : List ℕ) → Stands count (left_by txn.old image) txn.old.superblock taken freed → Stands count (left_by txn.new image) txn.new.superblock taken freed }
+    {
+        txn.settle(Superblock {
+            series: n,
+            ..txn.superblock
+        });
+    }
+
+    /// Gives a page back: it becomes the head of the chain.
+    ///
+    /// Nothing changes where the page is none of 17 to fresh - 1, or all of them are in the chain.
+    pub fn free(&mut self, txn: &mut Txn, p: u32)
+        requires room { HasRoom txn.old p }
+        ensures same { self.new ≡ self.old }
+        ensures nothing { (IsGiven txn.old.superblock.fresh p × (txn.old.superblock.chain + 17 < txn.old.superblock.fresh) → ⊥) → txn.new ≡ txn.old }
+        ensures superblock { IsGiven txn.old.superblock.fresh p → txn.old.superblock.chain + 17 < txn.old.superblock.fresh → txn.new.superblock ≡ with_head txn.old.superblock p }
+        ensures same_total { txn.new.superblock.total ≡ txn.old.superblock.total }
+        ensures page { IsGiven txn.old.superblock.fresh p → txn.old.superblock.chain + 17 < txn.old.superblock.fresh → held_page txn.new p ≡ Some (freed_page txn.old.superblock.head) }
+        ensures others { (number : ℕ) → 0 < number → number ≢ p → held_page txn.new number ≡ held_page txn.old number }
+        ensures len { length (held txn.new) ≤ (if is_some (held_page txn.old p) then length (held txn.old) else length (held txn.old) + 1) }
+        // where the page is in use, it is freed, and the others stay
+        ensures stands { (count : ℕ) (image : Image) (taken rest freed : List ℕ) → Stands count (left_by txn.old image) txn.old.superblock taken freed → ((q : ℕ) → times q taken ≡ times q (p ∷ rest)) → Stands count (left_by txn.new image) txn.new.superblock rest (p ∷ freed) }
+    {
+        let superblock = txn.superblock;
+        if p < FIRST || p >= superblock.fresh || superblock.chain >= superblock.fresh - FIRST {
+            return;
+        }
+        let mut page = [0; BLOCK];
+        write_freed(&mut page, superblock.head);
+        txn.put(p, &page);
+        txn.settle(Superblock {
+            head: p,
+            chain: superblock.chain + 1,
+            ..superblock
+        });
+    }
+
+    /// Replaces a page other than page 0 in a transaction.
+    pub fn put(&mut self, txn: &mut Txn, p: u32, bytes: &[u8])
+        requires whole { length bytes.now ≡ 4096 }
+        requires first { 1 ≤ p }
+        requires below { p < txn.old.superblock.total }
+        requires room { HasRoom txn.old p }
+        ensures same { self.new ≡ self.old }
+        ensures superblock { txn.new.superblock ≡ txn.old.superblock }
+        ensures page { (number : ℕ) → held_page txn.new number ≡ (if number == p then Some bytes.now else held_page txn.old number) }
+        ensures len { length (held txn.new) ≡ (if is_some (held_page txn.old p) then length (held txn.old) else length (held txn.old) + 1) }
+        // which pages are in use and which are freed stays, where it is none of the freed ones
+        ensures stands { (count : ℕ) (image : Image) (taken freed : List ℕ) → Stands count (left_by txn.old image) txn.old.superblock taken freed → times p freed ≡ 0 → Stands count (left_by txn.new image) txn.new.superblock taken freed }
+    {
+        txn.put(p, bytes);
+    }
+
+    /// Commits a transaction. After `DiskFault` the pages aren't sound, and have to be opened again.
+    pub fn commit(&mut self, txn: Txn) -> Result<(), DiskFault>
+        requires sound { (P.view self.old.pages).fit }
+        requires total { txn.superblock.total ≡ self.old.superblock.total }
+        // whole or absent at every moment
+        ensures commits { Commits (held txn) (P.told self.old.pages) (P.told self.new.pages) (P.view self.old.pages) (P.view self.new.pages) }
+        ensures goes_on { GoesOn (P.under self.old.pages) (P.under self.new.pages) }
+        ensures done { P.told self.old.pages → OnOk result ((P.view self.new.pages).image ≡ left_by txn (P.view self.old.pages).image) }
+        ensures superblock { OnOk result (self.new.superblock ≡ txn.superblock) }
+        ensures stands { P.told self.old.pages → OnOk result ((count : ℕ) (taken freed : List ℕ) → Stands count (left_by txn (P.view self.old.pages).image) txn.superblock taken freed → Stands count (P.view self.new.pages).image self.new.superblock taken freed) }
+        ensures old_superblock { OnErr result (self.new.superblock ≡ self.old.superblock) }
+        ensures sound { OnOk result (P.view self.new.pages).fit }
+        ensures unsound { OnErr result ((P.view self.new.pages).fit → ⊥) }
+        ensures cause { OnErr result (HasRisen (P.view self.old.pages).faults (P.view self.new.pages).faults) }
+    {
+        self.pages.commit(&txn.batch)?;
+        self.superblock = txn.superblock;
+        Ok(())
+    }
+}

@@ -1,0 +1,4 @@
+pub mod Heaps
+pub mod Failing
+pub mod Lists
+pub mod Seen

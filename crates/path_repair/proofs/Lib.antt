@@ -1,0 +1,13 @@
+pub mod SumLemmas
+pub mod TreeLemmas
+pub mod ListLemmas
+pub mod StayLemmas
+pub mod CountLemmas
+pub mod PartLemmas
+pub mod OpenLemmas
+pub mod CloseLemmas
+pub mod FormLemmas
+pub mod MoveLemmas
+pub mod RepairLemmas
+pub mod SeenLemmas
+pub mod EditLemmas

@@ -1,0 +1,52 @@
+use Rattle.std.proofs.Common.{◌≡◌, ◌≤◌, ◌+◌, ◌*◌, ◌^◌, ℕ, [], refl, sym, ap, subst, arith, ◌∙◌}
+use Rattle.om3_coeff.specs.Keys.{page_levels, end_slot}
+use Rattle.page_space.specs.Transactions.{left_by}
+use Rattle.tree_walk.proofs.StepLemmas.{error_so}
+use Rattle.tree_walk.specs.Trees.{top_of_page}
+use Rattle.path_repair.specs.Costs.{touch}
+use Rattle.path_repair.specs.Standing.{IsPlaced, IsRepaired}
+use Rattle.path_repair.proofs.EditLemmas.{top_small, lists_of, cleared_for, cleared_fewer, edited_for}
+use Rattle.path_repair.proofs.MoveLemmas.{moved_more}
+use Rattle.path_repair.proofs.calls.clear_run.Goals as goal
+
+pub repair-requires-clause-small : goal.repair-requires-clause-small
+repair-requires-clause-small g c =
+    let levels_is : c.page_levels-levels.result ≡ page_levels c.args.tree.slots = c.page_levels-levels.ensures.levels in
+    subst (λ l. end_slot (top_of_page l 0) ≤ 2 ^ 35) (sym levels_is) (top_small c.args.tree.slots)
+
+pub repair-requires-clause-room : goal.repair-requires-clause-room
+repair-requires-clause-room g c =
+    let levels_is : c.page_levels-levels.result ≡ page_levels c.args.tree.slots = c.page_levels-levels.ensures.levels in
+    let cost : touch c.args.slot (c.args.slot + c.args.count) c.page_levels-levels.result c.page_levels-levels.result 0 ≡ touch c.args.slot (c.args.slot + c.args.count) (page_levels c.args.tree.slots) (page_levels c.args.tree.slots) 0 = ap (λ l. touch c.args.slot (c.args.slot + c.args.count) l l 0) levels_is in
+    omega (arith, cost, c.requires.room)
+
+pub returns-in_err-next-clause-moved : goal.returns-in_err-next-clause-moved
+returns-in_err-next-clause-moved g c =
+    let levels_is : c.page_levels-levels.result ≡ page_levels c.args.tree.slots = c.page_levels-levels.ensures.levels in
+    let cost : touch c.args.slot (c.args.slot + c.args.count) c.page_levels-levels.result c.page_levels-levels.result 0 ≡ touch c.args.slot (c.args.slot + c.args.count) (page_levels c.args.tree.slots) (page_levels c.args.tree.slots) 0 = ap (λ l. touch c.args.slot (c.args.slot + c.args.count) l l 0) levels_is in
+    moved_more (touch c.args.slot (c.args.slot + c.args.count) c.page_levels-levels.result c.page_levels-levels.result 0) (1 * touch c.args.slot (c.args.slot + c.args.count) (page_levels c.args.tree.slots) (page_levels c.args.tree.slots) 0) (touch c.args.slot (c.args.slot + c.args.count) c.page_levels-levels.result c.page_levels-levels.result 0) (touch c.args.slot (c.args.slot + c.args.count) (page_levels c.args.tree.slots) (page_levels c.args.tree.slots) 0) (g.P.Pages.told c.args.space.now.pages) (g.P.Pages.told c.repair.new.space.pages) (g.P.Pages.view c.args.space.now.pages) (g.P.Pages.view c.repair.new.space.pages) (g.P.Pages.under c.args.space.now.pages) (g.P.Pages.under c.repair.new.space.pages) c.args.space.now.superblock c.repair.new.space.superblock c.args.txn.now c.repair.new.txn (omega (arith, cost)) (omega (arith, cost)) c.repair.ensures.moved
+
+pub returns-in_err-next-clause-errors : goal.returns-in_err-next-clause-errors
+returns-in_err-next-clause-errors g c = λ base size list list' others told holds edited.
+    let levels_is : c.page_levels-levels.result ≡ page_levels c.args.tree.slots = c.page_levels-levels.ensures.levels in
+    let lists = lists_of c.args.slot (c.args.slot + c.args.count) c.args.tree.slots [] list list' edited in
+    let place = cleared_for size (left_by c.args.txn.now base) c.args.txn.now.superblock c.args.tree c.args.slot (c.args.slot + c.args.count) list list' others holds edited c.requires.few (cleared_fewer c.args.slot (c.args.slot + c.args.count) list list' edited.slots_are) in
+    let P : ℕ → Type 0 = λ l. IsPlaced size (left_by c.args.txn.now base) c.args.txn.now.superblock list list' l l 0 c.args.tree.root c.args.tree.span others in
+    let placed = subst P (sym levels_is) place in
+    error_so _ _ c.from_residual.result c.from_residual.ensures.1 (λ e same. same ∙ c.in_err-next.ensures.only_faults base size list list' others told lists placed)
+
+pub returns-clause-moved : goal.returns-clause-moved
+returns-clause-moved g c =
+    let levels_is : c.page_levels-levels.result ≡ page_levels c.args.tree.slots = c.page_levels-levels.ensures.levels in
+    let cost : touch c.args.slot (c.args.slot + c.args.count) c.page_levels-levels.result c.page_levels-levels.result 0 ≡ touch c.args.slot (c.args.slot + c.args.count) (page_levels c.args.tree.slots) (page_levels c.args.tree.slots) 0 = ap (λ l. touch c.args.slot (c.args.slot + c.args.count) l l 0) levels_is in
+    moved_more (touch c.args.slot (c.args.slot + c.args.count) c.page_levels-levels.result c.page_levels-levels.result 0) (1 * touch c.args.slot (c.args.slot + c.args.count) (page_levels c.args.tree.slots) (page_levels c.args.tree.slots) 0) (touch c.args.slot (c.args.slot + c.args.count) c.page_levels-levels.result c.page_levels-levels.result 0) (touch c.args.slot (c.args.slot + c.args.count) (page_levels c.args.tree.slots) (page_levels c.args.tree.slots) 0) (g.P.Pages.told c.args.space.now.pages) (g.P.Pages.told c.repair.new.space.pages) (g.P.Pages.view c.args.space.now.pages) (g.P.Pages.view c.repair.new.space.pages) (g.P.Pages.under c.args.space.now.pages) (g.P.Pages.under c.repair.new.space.pages) c.args.space.now.superblock c.repair.new.space.superblock c.args.txn.now c.repair.new.txn (omega (arith, cost)) (omega (arith, cost)) c.repair.ensures.moved
+
+pub returns-clause-edited : goal.returns-clause-edited
+returns-clause-edited g c = λ base size list list' others told holds edited.
+    let levels_is : c.page_levels-levels.result ≡ page_levels c.args.tree.slots = c.page_levels-levels.ensures.levels in
+    let lists = lists_of c.args.slot (c.args.slot + c.args.count) c.args.tree.slots [] list list' edited in
+    let place = cleared_for size (left_by c.args.txn.now base) c.args.txn.now.superblock c.args.tree c.args.slot (c.args.slot + c.args.count) list list' others holds edited c.requires.few (cleared_fewer c.args.slot (c.args.slot + c.args.count) list list' edited.slots_are) in
+    let P : ℕ → Type 0 = λ l. IsPlaced size (left_by c.args.txn.now base) c.args.txn.now.superblock list list' l l 0 c.args.tree.root c.args.tree.span others in
+    let placed = subst P (sym levels_is) place in
+    let done = c.in_ok-next.ensures.repaired base size list list' others told lists placed in
+    edited_for size (left_by c.args.txn.now base) (left_by c.repair.new.txn base) c.repair.new.txn.superblock c.args.slot (c.args.slot + c.args.count) c.args.tree.slots c.in_ok-next.next.page c.in_ok-next.next.span _ [] list list' others edited c.requires.few (subst (λ l. IsRepaired size (left_by c.args.txn.now base) (left_by c.repair.new.txn base) c.repair.new.txn.superblock list' l 0 c.in_ok-next.next.page c.in_ok-next.next.span others) levels_is done) refl refl refl

@@ -1,0 +1,138 @@
+use Rattle.std.proofs.Common.{◌≡◌, ◌≤◌, ◌+◌, ◌*◌, ◌^◌, ℕ, length, refl, sym, ap, subst, arith, ◌∙◌}
+use Rattle.om3_coeff.specs.Keys.{page_levels, end_slot}
+use Rattle.page_space.specs.declared.superblock.Superblock.{Superblock}
+use Rattle.page_space.specs.Transactions.{left_by}
+use Rattle.page_space.specs.Layout.{in_use}
+use Rattle.tree_walk.proofs.StepLemmas.{error_so}
+use Rattle.tree_walk.specs.Trees.{top_of_page}
+use Rattle.path_repair.specs.Costs.{touch}
+use Rattle.path_repair.specs.TreePages.{tree_pages, low, page_count, IsRooted}
+use Rattle.path_repair.specs.Standing.{IsPlaced, IsRepaired}
+use Rattle.path_repair.proofs.EditLemmas.{top_small, root_for, lists_of, placed_for, edited_for, full_for, disk_error}
+use Rattle.path_repair.proofs.MoveLemmas.{moved_then, moved_more, told_on}
+use Rattle.path_repair.proofs.calls.fill.Goals as goal
+
+pub new_pages-requires-clause-small : goal.new_pages-requires-clause-small
+new_pages-requires-clause-small g c =
+    let height_is : c.page_levels-height.result ≡ page_levels c.args.tree.slots = c.page_levels-height.ensures.levels in
+    let level_is : c.page_levels-level.result ≡ page_levels c.args.len = c.page_levels-level.ensures.levels in
+    subst (λ l. end_slot (top_of_page l 0) ≤ 2 ^ 35) (sym level_is) (top_small c.args.len)
+
+pub new_pages-requires-clause-room : goal.new_pages-requires-clause-room
+new_pages-requires-clause-room g c =
+    let height_is : c.page_levels-height.result ≡ page_levels c.args.tree.slots = c.page_levels-height.ensures.levels in
+    let level_is : c.page_levels-level.result ≡ page_levels c.args.len = c.page_levels-level.ensures.levels in
+    let cost : touch c.args.slots.first c.args.slots.end c.page_levels-height.result c.page_levels-level.result 0 ≡ touch c.args.slots.first c.args.slots.end (page_levels c.args.tree.slots) (page_levels c.args.len) 0 = ap (λ h. touch c.args.slots.first c.args.slots.end h c.page_levels-level.result 0) height_is ∙ ap (λ l. touch c.args.slots.first c.args.slots.end (page_levels c.args.tree.slots) l 0) level_is in
+    omega (arith, cost, c.requires.room)
+
+pub returns-in_err-more-clause-moved : goal.returns-in_err-more-clause-moved
+returns-in_err-more-clause-moved g c =
+    let height_is : c.page_levels-height.result ≡ page_levels c.args.tree.slots = c.page_levels-height.ensures.levels in
+    let level_is : c.page_levels-level.result ≡ page_levels c.args.len = c.page_levels-level.ensures.levels in
+    let cost : touch c.args.slots.first c.args.slots.end c.page_levels-height.result c.page_levels-level.result 0 ≡ touch c.args.slots.first c.args.slots.end (page_levels c.args.tree.slots) (page_levels c.args.len) 0 = ap (λ h. touch c.args.slots.first c.args.slots.end h c.page_levels-level.result 0) height_is ∙ ap (λ l. touch c.args.slots.first c.args.slots.end (page_levels c.args.tree.slots) l 0) level_is in
+    moved_more (touch c.args.slots.first c.args.slots.end c.page_levels-height.result c.page_levels-level.result 0) (2 * touch c.args.slots.first c.args.slots.end (page_levels c.args.tree.slots) (page_levels c.args.len) 0) 0 (touch c.args.slots.first c.args.slots.end (page_levels c.args.tree.slots) (page_levels c.args.len) 0) (g.P.Pages.told c.args.space.now.pages) (g.P.Pages.told c.new_pages.new.space.pages) (g.P.Pages.view c.args.space.now.pages) (g.P.Pages.view c.new_pages.new.space.pages) (g.P.Pages.under c.args.space.now.pages) (g.P.Pages.under c.new_pages.new.space.pages) c.args.space.now.superblock c.new_pages.new.space.superblock c.args.txn.now c.args.txn.now (omega (arith, cost)) (omega arith) c.new_pages.ensures.moved
+
+pub returns-in_err-more-clause-errors : goal.returns-in_err-more-clause-errors
+returns-in_err-more-clause-errors g c = λ base count list list' others told holds edited.
+    let height_is : c.page_levels-height.result ≡ page_levels c.args.tree.slots = c.page_levels-height.ensures.levels in
+    let level_is : c.page_levels-level.result ≡ page_levels c.args.len = c.page_levels-level.ensures.levels in
+    let root_is = root_for (left_by c.args.txn.now base) c.args.txn.now.superblock.total c.args.tree list c.args.len holds.is_tree c.requires.longer c.requires.few_new in
+    let RH : ℕ → Type 0 = λ h. IsRooted (left_by c.args.txn.now base) c.args.txn.now.superblock.total list h (page_levels c.args.len) 0 c.args.tree.root in
+    let RL : ℕ → Type 0 = λ l. IsRooted (left_by c.args.txn.now base) c.args.txn.now.superblock.total list c.page_levels-height.result l 0 c.args.tree.root in
+    let RT : ℕ → Type 0 = λ t. IsRooted (left_by c.args.txn.now base) t list c.page_levels-height.result c.page_levels-level.result 0 c.args.tree.root in
+    let rooted = subst RT c.requires.total (subst RL (sym level_is) (subst RH (sym height_is) root_is)) in
+    let lists = lists_of c.args.slots.first c.args.slots.end c.args.len c.args.values.now list list' edited in
+    error_so _ _ c.from_residual.result c.from_residual.ensures.1
+    (λ e same. disk_error c.args.txn.now _ list list' e (same ∙ c.in_err-more.ensures.only_faults base list list' told lists c.requires.fills rooted))
+
+pub returns-then-needed-have-clause-errors : goal.returns-then-needed-have-clause-errors
+returns-then-needed-have-clause-errors g c = λ base count list list' others told holds edited.
+    let height_is : c.page_levels-height.result ≡ page_levels c.args.tree.slots = c.page_levels-height.ensures.levels in
+    let level_is : c.page_levels-level.result ≡ page_levels c.args.len = c.page_levels-level.ensures.levels in
+    let root_is = root_for (left_by c.args.txn.now base) c.args.txn.now.superblock.total c.args.tree list c.args.len holds.is_tree c.requires.longer c.requires.few_new in
+    let RH : ℕ → Type 0 = λ h. IsRooted (left_by c.args.txn.now base) c.args.txn.now.superblock.total list h (page_levels c.args.len) 0 c.args.tree.root in
+    let RL : ℕ → Type 0 = λ l. IsRooted (left_by c.args.txn.now base) c.args.txn.now.superblock.total list c.page_levels-height.result l 0 c.args.tree.root in
+    let RT : ℕ → Type 0 = λ t. IsRooted (left_by c.args.txn.now base) t list c.page_levels-height.result c.page_levels-level.result 0 c.args.tree.root in
+    let rooted = subst RT c.requires.total (subst RL (sym level_is) (subst RH (sym height_is) root_is)) in
+    let lists = lists_of c.args.slots.first c.args.slots.end c.args.len c.args.values.now list list' edited in
+    let CH : ℕ → Type 0 = λ h. c.in_ok-more.more + length (tree_pages (left_by c.args.txn.now base) (low h c.page_levels-level.result) c.args.tree.root) ≡ page_count list' c.page_levels-level.result 0 in
+    let CL : ℕ → Type 0 = λ l. c.in_ok-more.more + length (tree_pages (left_by c.args.txn.now base) (low (page_levels c.args.tree.slots) l) c.args.tree.root) ≡ page_count list' l 0 in
+    let counted = subst CL level_is (subst CH height_is (c.in_ok-more.ensures.counts base list list' told lists c.requires.fills rooted)) in
+    let used : c.from.result ≡ in_use c.args.txn.now.superblock = c.from.ensures ∙ c.used.ensures.used in (
+      full_for count (left_by c.args.txn.now base) c.args.txn.now.superblock c.args.tree c.args.slots.first c.args.slots.end c.args.len c.in_ok-more.more (c.from.result + c.in_ok-more.more) c.from-have.result c.args.values.now list list' others holds edited c.requires.longer counted
+          (omega (arith, used)) (omega (arith, c.from-have.ensures, c.total.ensures.total, c.requires.total, ap (λ (s : Superblock). s.total) c.new_pages.ensures.moved.over.superblock)) c.if-needed-have.true,
+      refl,
+    )
+
+pub repair-requires-clause-small : goal.repair-requires-clause-small
+repair-requires-clause-small g c =
+    let height_is : c.page_levels-height.result ≡ page_levels c.args.tree.slots = c.page_levels-height.ensures.levels in
+    let level_is : c.page_levels-level.result ≡ page_levels c.args.len = c.page_levels-level.ensures.levels in
+    subst (λ l. end_slot (top_of_page l 0) ≤ 2 ^ 35) (sym level_is) (top_small c.args.len)
+
+pub repair-requires-clause-room : goal.repair-requires-clause-room
+repair-requires-clause-room g c =
+    let height_is : c.page_levels-height.result ≡ page_levels c.args.tree.slots = c.page_levels-height.ensures.levels in
+    let level_is : c.page_levels-level.result ≡ page_levels c.args.len = c.page_levels-level.ensures.levels in
+    let cost : touch c.args.slots.first c.args.slots.end c.page_levels-height.result c.page_levels-level.result 0 ≡ touch c.args.slots.first c.args.slots.end (page_levels c.args.tree.slots) (page_levels c.args.len) 0 = ap (λ h. touch c.args.slots.first c.args.slots.end h c.page_levels-level.result 0) height_is ∙ ap (λ l. touch c.args.slots.first c.args.slots.end (page_levels c.args.tree.slots) l 0) level_is in
+    omega (arith, cost, c.requires.room)
+
+pub returns-in_err-next-clause-moved : goal.returns-in_err-next-clause-moved
+returns-in_err-next-clause-moved g c =
+    let height_is : c.page_levels-height.result ≡ page_levels c.args.tree.slots = c.page_levels-height.ensures.levels in
+    let level_is : c.page_levels-level.result ≡ page_levels c.args.len = c.page_levels-level.ensures.levels in
+    let cost : touch c.args.slots.first c.args.slots.end c.page_levels-height.result c.page_levels-level.result 0 ≡ touch c.args.slots.first c.args.slots.end (page_levels c.args.tree.slots) (page_levels c.args.len) 0 = ap (λ h. touch c.args.slots.first c.args.slots.end h c.page_levels-level.result 0) height_is ∙ ap (λ l. touch c.args.slots.first c.args.slots.end (page_levels c.args.tree.slots) l 0) level_is in
+    moved_more (touch c.args.slots.first c.args.slots.end c.page_levels-height.result c.page_levels-level.result 0 + touch c.args.slots.first c.args.slots.end c.page_levels-height.result c.page_levels-level.result 0) (2 * touch c.args.slots.first c.args.slots.end (page_levels c.args.tree.slots) (page_levels c.args.len) 0) (0 + touch c.args.slots.first c.args.slots.end c.page_levels-height.result c.page_levels-level.result 0) (touch c.args.slots.first c.args.slots.end (page_levels c.args.tree.slots) (page_levels c.args.len) 0) (g.P.Pages.told c.args.space.now.pages) (g.P.Pages.told c.repair.new.space.pages) (g.P.Pages.view c.args.space.now.pages) (g.P.Pages.view c.repair.new.space.pages) (g.P.Pages.under c.args.space.now.pages) (g.P.Pages.under c.repair.new.space.pages) c.args.space.now.superblock c.repair.new.space.superblock c.args.txn.now c.repair.new.txn (omega (arith, cost)) (omega (arith, cost)) (moved_then (touch c.args.slots.first c.args.slots.end c.page_levels-height.result c.page_levels-level.result 0) (touch c.args.slots.first c.args.slots.end c.page_levels-height.result c.page_levels-level.result 0) 0 (touch c.args.slots.first c.args.slots.end c.page_levels-height.result c.page_levels-level.result 0) (g.P.Pages.told c.args.space.now.pages) (g.P.Pages.told c.new_pages.new.space.pages) (g.P.Pages.told c.repair.new.space.pages) (g.P.Pages.view c.args.space.now.pages) (g.P.Pages.view c.new_pages.new.space.pages) (g.P.Pages.view c.repair.new.space.pages) (g.P.Pages.under c.args.space.now.pages) (g.P.Pages.under c.new_pages.new.space.pages) (g.P.Pages.under c.repair.new.space.pages) c.args.space.now.superblock c.new_pages.new.space.superblock c.repair.new.space.superblock c.args.txn.now c.args.txn.now c.repair.new.txn c.new_pages.ensures.moved c.repair.ensures.moved)
+
+pub returns-in_err-next-clause-errors : goal.returns-in_err-next-clause-errors
+returns-in_err-next-clause-errors g c = λ base count list list' others told holds edited.
+    let height_is : c.page_levels-height.result ≡ page_levels c.args.tree.slots = c.page_levels-height.ensures.levels in
+    let level_is : c.page_levels-level.result ≡ page_levels c.args.len = c.page_levels-level.ensures.levels in
+    let root_is = root_for (left_by c.args.txn.now base) c.args.txn.now.superblock.total c.args.tree list c.args.len holds.is_tree c.requires.longer c.requires.few_new in
+    let RH : ℕ → Type 0 = λ h. IsRooted (left_by c.args.txn.now base) c.args.txn.now.superblock.total list h (page_levels c.args.len) 0 c.args.tree.root in
+    let RL : ℕ → Type 0 = λ l. IsRooted (left_by c.args.txn.now base) c.args.txn.now.superblock.total list c.page_levels-height.result l 0 c.args.tree.root in
+    let RT : ℕ → Type 0 = λ t. IsRooted (left_by c.args.txn.now base) t list c.page_levels-height.result c.page_levels-level.result 0 c.args.tree.root in
+    let rooted = subst RT c.requires.total (subst RL (sym level_is) (subst RH (sym height_is) root_is)) in
+    let lists = lists_of c.args.slots.first c.args.slots.end c.args.len c.args.values.now list list' edited in
+    let CH : ℕ → Type 0 = λ h. c.in_ok-more.more + length (tree_pages (left_by c.args.txn.now base) (low h c.page_levels-level.result) c.args.tree.root) ≡ page_count list' c.page_levels-level.result 0 in
+    let CL : ℕ → Type 0 = λ l. c.in_ok-more.more + length (tree_pages (left_by c.args.txn.now base) (low (page_levels c.args.tree.slots) l) c.args.tree.root) ≡ page_count list' l 0 in
+    let counted = subst CL level_is (subst CH height_is (c.in_ok-more.ensures.counts base list list' told lists c.requires.fills rooted)) in
+    let used : c.from.result ≡ in_use c.args.txn.now.superblock = c.from.ensures ∙ c.used.ensures.used in
+    let room : in_use c.args.txn.now.superblock + c.in_ok-more.more ≤ c.args.txn.now.superblock.total = omega (arith, c.if-needed-have.false, used, c.from-have.ensures, c.total.ensures.total, c.requires.total, ap (λ (s : Superblock). s.total) c.new_pages.ensures.moved.over.superblock) in
+    let place = placed_for count (left_by c.args.txn.now base) c.args.txn.now.superblock c.args.tree c.args.slots.first c.args.slots.end c.args.len c.in_ok-more.more c.args.values.now list list' others holds edited c.requires.longer c.requires.few_new c.requires.fills counted room in
+    let PH : ℕ → Type 0 = λ h. IsPlaced count (left_by c.args.txn.now base) c.args.txn.now.superblock list list' h (page_levels c.args.len) 0 c.args.tree.root c.args.tree.span others in
+    let PL : ℕ → Type 0 = λ l. IsPlaced count (left_by c.args.txn.now base) c.args.txn.now.superblock list list' c.page_levels-height.result l 0 c.args.tree.root c.args.tree.span others in
+    let placed = subst PL (sym level_is) (subst PH (sym height_is) place) in
+    let told' = told_on (touch c.args.slots.first c.args.slots.end c.page_levels-height.result c.page_levels-level.result 0) (g.P.Pages.told c.args.space.now.pages) (g.P.Pages.told c.new_pages.new.space.pages) (g.P.Pages.view c.args.space.now.pages) (g.P.Pages.view c.new_pages.new.space.pages) base c.new_pages.ensures.moved.reads told in
+    error_so _ _ c.from_residual-in_err-next.result c.from_residual-in_err-next.ensures.1
+    (λ e same. disk_error c.args.txn.now _ list list' e (same ∙ c.in_err-next.ensures.only_faults base count list list' others told' lists placed))
+
+pub returns-clause-moved : goal.returns-clause-moved
+returns-clause-moved g c =
+    let height_is : c.page_levels-height.result ≡ page_levels c.args.tree.slots = c.page_levels-height.ensures.levels in
+    let level_is : c.page_levels-level.result ≡ page_levels c.args.len = c.page_levels-level.ensures.levels in
+    let cost : touch c.args.slots.first c.args.slots.end c.page_levels-height.result c.page_levels-level.result 0 ≡ touch c.args.slots.first c.args.slots.end (page_levels c.args.tree.slots) (page_levels c.args.len) 0 = ap (λ h. touch c.args.slots.first c.args.slots.end h c.page_levels-level.result 0) height_is ∙ ap (λ l. touch c.args.slots.first c.args.slots.end (page_levels c.args.tree.slots) l 0) level_is in
+    moved_more (touch c.args.slots.first c.args.slots.end c.page_levels-height.result c.page_levels-level.result 0 + touch c.args.slots.first c.args.slots.end c.page_levels-height.result c.page_levels-level.result 0) (2 * touch c.args.slots.first c.args.slots.end (page_levels c.args.tree.slots) (page_levels c.args.len) 0) (0 + touch c.args.slots.first c.args.slots.end c.page_levels-height.result c.page_levels-level.result 0) (touch c.args.slots.first c.args.slots.end (page_levels c.args.tree.slots) (page_levels c.args.len) 0) (g.P.Pages.told c.args.space.now.pages) (g.P.Pages.told c.repair.new.space.pages) (g.P.Pages.view c.args.space.now.pages) (g.P.Pages.view c.repair.new.space.pages) (g.P.Pages.under c.args.space.now.pages) (g.P.Pages.under c.repair.new.space.pages) c.args.space.now.superblock c.repair.new.space.superblock c.args.txn.now c.repair.new.txn (omega (arith, cost)) (omega (arith, cost)) (moved_then (touch c.args.slots.first c.args.slots.end c.page_levels-height.result c.page_levels-level.result 0) (touch c.args.slots.first c.args.slots.end c.page_levels-height.result c.page_levels-level.result 0) 0 (touch c.args.slots.first c.args.slots.end c.page_levels-height.result c.page_levels-level.result 0) (g.P.Pages.told c.args.space.now.pages) (g.P.Pages.told c.new_pages.new.space.pages) (g.P.Pages.told c.repair.new.space.pages) (g.P.Pages.view c.args.space.now.pages) (g.P.Pages.view c.new_pages.new.space.pages) (g.P.Pages.view c.repair.new.space.pages) (g.P.Pages.under c.args.space.now.pages) (g.P.Pages.under c.new_pages.new.space.pages) (g.P.Pages.under c.repair.new.space.pages) c.args.space.now.superblock c.new_pages.new.space.superblock c.repair.new.space.superblock c.args.txn.now c.args.txn.now c.repair.new.txn c.new_pages.ensures.moved c.repair.ensures.moved)
+
+pub returns-clause-edited : goal.returns-clause-edited
+returns-clause-edited g c = λ base count list list' others told holds edited.
+    let height_is : c.page_levels-height.result ≡ page_levels c.args.tree.slots = c.page_levels-height.ensures.levels in
+    let level_is : c.page_levels-level.result ≡ page_levels c.args.len = c.page_levels-level.ensures.levels in
+    let root_is = root_for (left_by c.args.txn.now base) c.args.txn.now.superblock.total c.args.tree list c.args.len holds.is_tree c.requires.longer c.requires.few_new in
+    let RH : ℕ → Type 0 = λ h. IsRooted (left_by c.args.txn.now base) c.args.txn.now.superblock.total list h (page_levels c.args.len) 0 c.args.tree.root in
+    let RL : ℕ → Type 0 = λ l. IsRooted (left_by c.args.txn.now base) c.args.txn.now.superblock.total list c.page_levels-height.result l 0 c.args.tree.root in
+    let RT : ℕ → Type 0 = λ t. IsRooted (left_by c.args.txn.now base) t list c.page_levels-height.result c.page_levels-level.result 0 c.args.tree.root in
+    let rooted = subst RT c.requires.total (subst RL (sym level_is) (subst RH (sym height_is) root_is)) in
+    let lists = lists_of c.args.slots.first c.args.slots.end c.args.len c.args.values.now list list' edited in
+    let CH : ℕ → Type 0 = λ h. c.in_ok-more.more + length (tree_pages (left_by c.args.txn.now base) (low h c.page_levels-level.result) c.args.tree.root) ≡ page_count list' c.page_levels-level.result 0 in
+    let CL : ℕ → Type 0 = λ l. c.in_ok-more.more + length (tree_pages (left_by c.args.txn.now base) (low (page_levels c.args.tree.slots) l) c.args.tree.root) ≡ page_count list' l 0 in
+    let counted = subst CL level_is (subst CH height_is (c.in_ok-more.ensures.counts base list list' told lists c.requires.fills rooted)) in
+    let used : c.from.result ≡ in_use c.args.txn.now.superblock = c.from.ensures ∙ c.used.ensures.used in
+    let room : in_use c.args.txn.now.superblock + c.in_ok-more.more ≤ c.args.txn.now.superblock.total = omega (arith, c.if-needed-have.false, used, c.from-have.ensures, c.total.ensures.total, c.requires.total, ap (λ (s : Superblock). s.total) c.new_pages.ensures.moved.over.superblock) in
+    let place = placed_for count (left_by c.args.txn.now base) c.args.txn.now.superblock c.args.tree c.args.slots.first c.args.slots.end c.args.len c.in_ok-more.more c.args.values.now list list' others holds edited c.requires.longer c.requires.few_new c.requires.fills counted room in
+    let PH : ℕ → Type 0 = λ h. IsPlaced count (left_by c.args.txn.now base) c.args.txn.now.superblock list list' h (page_levels c.args.len) 0 c.args.tree.root c.args.tree.span others in
+    let PL : ℕ → Type 0 = λ l. IsPlaced count (left_by c.args.txn.now base) c.args.txn.now.superblock list list' c.page_levels-height.result l 0 c.args.tree.root c.args.tree.span others in
+    let placed = subst PL (sym level_is) (subst PH (sym height_is) place) in
+    let told' = told_on (touch c.args.slots.first c.args.slots.end c.page_levels-height.result c.page_levels-level.result 0) (g.P.Pages.told c.args.space.now.pages) (g.P.Pages.told c.new_pages.new.space.pages) (g.P.Pages.view c.args.space.now.pages) (g.P.Pages.view c.new_pages.new.space.pages) base c.new_pages.ensures.moved.reads told in
+    let done = c.in_ok-next.ensures.repaired base count list list' others told' lists placed in
+    edited_for count (left_by c.args.txn.now base) (left_by c.repair.new.txn base) c.repair.new.txn.superblock c.args.slots.first c.args.slots.end c.args.len c.in_ok-next.next.page c.in_ok-next.next.span _ c.args.values.now list list' others edited c.requires.few_new (subst (λ l. IsRepaired count (left_by c.args.txn.now base) (left_by c.repair.new.txn base) c.repair.new.txn.superblock list' l 0 c.in_ok-next.next.page c.in_ok-next.next.span others) level_is done) refl refl refl

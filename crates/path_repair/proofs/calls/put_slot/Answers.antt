@@ -1,0 +1,32 @@
+use Rattle.std.proofs.Common.{◌≡◌, ◌+◌, ◌∷◌, ℕ, ℤ, List, [], Option, Some, max, sym, ap, subst, arith, to_z, of_z, w64, ◌∙◌}
+use Rattle.std.proofs.lemmas.Int.{ints}
+use Rattle.path_repair.specs.Changes.{IsEdited}
+use Rattle.om3_coeff.specs.Spans.{IsValue}
+use Rattle.std.proofs.Common.{slice_get}
+use Rattle.path_repair.proofs.EditLemmas.{one_value}
+use Rattle.path_repair.proofs.calls.put_slot.Goals as goal
+
+pub fill-requires-clause-values : goal.fill-requires-clause-values
+fill-requires-clause-values g c =
+    let is_value : to_z w64 (of_z w64 c.args.value) ≡ c.args.value = omega (arith, ints) in
+    let only : c.only.result ≡ Some c.args.value ∷ [] = c.only.ensures ∙ ap (λ (v : ℤ). Some v ∷ []) is_value in
+    let P : List (Option ℤ) → Type 0 = λ values. (i : ℕ) (value : ℤ) → slice_get values i ≡ Some (Some value) → IsValue value in
+    subst P (sym only) (λ i v is. one_value c.args.value i v c.requires.value is)
+
+pub returns-clause-edited : goal.returns-clause-edited
+returns-clause-edited g c = λ base count list list' others told holds edited.
+    let is_value : to_z w64 (of_z w64 c.args.value) ≡ c.args.value = omega (arith, ints) in
+    let only : c.only.result ≡ Some c.args.value ∷ [] = c.only.ensures ∙ ap (λ (v : ℤ). Some v ∷ []) is_value in
+    let most : c.max.result ≡ max c.args.tree.slots (c.args.slot + 1) = c.max.ensures in
+    let P : ℕ → Type 0 = λ n. IsEdited c.args.slot (c.args.slot + 1) n (Some c.args.value ∷ []) list list' in
+    let V : List (Option ℤ) → Type 0 = λ values. IsEdited c.args.slot (c.args.slot + 1) c.max.result values list list' in
+    c.fill.ensures.edited base count list list' others told holds (subst V (sym only) (subst P (sym most) edited))
+
+pub returns-clause-errors : goal.returns-clause-errors
+returns-clause-errors g c = λ base count list list' others told holds edited.
+    let is_value : to_z w64 (of_z w64 c.args.value) ≡ c.args.value = omega (arith, ints) in
+    let only : c.only.result ≡ Some c.args.value ∷ [] = c.only.ensures ∙ ap (λ (v : ℤ). Some v ∷ []) is_value in
+    let most : c.max.result ≡ max c.args.tree.slots (c.args.slot + 1) = c.max.ensures in
+    let P : ℕ → Type 0 = λ n. IsEdited c.args.slot (c.args.slot + 1) n (Some c.args.value ∷ []) list list' in
+    let V : List (Option ℤ) → Type 0 = λ values. IsEdited c.args.slot (c.args.slot + 1) c.max.result values list list' in
+    c.fill.ensures.errors base count list list' others told holds (subst V (sym only) (subst P (sym most) edited))

@@ -1,0 +1,41 @@
+use Rattle.std.proofs.Common.{◌≡◌, ◌⊎◌, ◌+◌, ◌++◌, true, sym, arith, inl, inr, ◌∙◌}
+use Rattle.page_space.specs.Transactions.{left_by}
+use Rattle.page_spans.specs.Heaps.{span_at}
+use Rattle.path_repair.specs.TreePages.{tree_pages, low}
+use Rattle.tree_walk.proofs.StepLemmas.{error_so}
+use Rattle.path_repair.specs.Costs.{is_new_root}
+use Rattle.path_repair.proofs.OpenLemmas.{open_read_at, open_new_at, readable_at, room_at}
+use Rattle.path_repair.proofs.opening.open_page.Goals.{else-root-ne0-via-then-root-ne0+else-not-is_new_root, else-root-ne0-via-else-root-ne0}
+use Rattle.path_repair.proofs.opening.open_page.Goals as goal
+
+pub returns-in_err-read_page-clause-only_faults : goal.returns-in_err-read_page-clause-only_faults
+returns-in_err-read_page-clause-only_faults g c = λ base count list list' others below told is slots placed gives.
+    let readable = readable_at count (left_by c.args.txn.now base) c.args.txn.now.superblock list list' c.args.at.height c.args.at.level below c.args.at.index c.args.root.page c.args.root.span others
+    is c.if-root-ne0.true (sym c.if-not-is_new_root.ensures) (omega (arith, c.requires.total, c.requires.page)) placed in
+    error_so _ _ c.from_residual.result c.from_residual.ensures.1
+    (λ e same. same ∙ c.in_err-read_page.ensures.sound base list below told is slots readable.nodes readable.top_is readable.some (λ child within. omega (arith, readable.below child within, c.requires.total)))
+
+pub returns-then-not-is_new_root-clause-part : goal.returns-then-not-is_new_root-clause-part
+returns-then-not-is_new_root-clause-part g c = λ base count list list' others below told is slots placed gives.
+    open_read_at count (left_by c.args.txn.now base) c.args.txn.now.superblock list list' c.args.at.height c.args.at.level below c.args.at.index c.args.root.page c.args.root.span (λ child. span_at c.read_page.new.spans (127 + child)) others c.read_page.new.bytes
+    is c.if-root-ne0.true (sym c.if-not-is_new_root.ensures) placed (c.in_ok-read_page.ensures.bytes base told) (c.in_ok-read_page.ensures.tops base list below told is slots)
+
+pub returns-in_err-number-clause-only_faults : goal.returns-in_err-number-clause-only_faults
+returns-in_err-number-clause-only_faults g c = λ base count list list' others below told is slots placed gives.
+    let new : (c.args.root.page ≡ 0) ⊎ (is_new_root c.args.at.height c.args.at.level c.args.at.index ≡ true) = elim c.else-root-ne0.branch [
+      | else-root-ne0-via-then-root-ne0+else-not-is_new_root w ↦ inr (sym w.if-not-is_new_root.ensures)
+      | else-root-ne0-via-else-root-ne0 w ↦ inl w.if-root-ne0.false
+    ] in
+    error_so _ _ c.from_residual-in_err-number.result c.from_residual-in_err-number.ensures.1
+    (λ e same. same ∙ c.in_err-number.ensures.sound base count (tree_pages (left_by c.args.txn.now base) (low c.args.at.height c.args.at.level) c.args.root.page ++ others) placed.freed told placed.stands
+    (room_at count (left_by c.args.txn.now base) c.args.txn.now.superblock list list' c.args.at.height c.args.at.level below c.args.at.index c.args.root.page c.args.root.span others is placed new gives))
+
+pub returns-clause-part : goal.returns-clause-part
+returns-clause-part g c = λ base count list list' others below told is slots placed gives.
+    let new : (c.args.root.page ≡ 0) ⊎ (is_new_root c.args.at.height c.args.at.level c.args.at.index ≡ true) = elim c.else-root-ne0.branch [
+      | else-root-ne0-via-then-root-ne0+else-not-is_new_root w ↦ inr (sym w.if-not-is_new_root.ensures)
+      | else-root-ne0-via-else-root-ne0 w ↦ inl w.if-root-ne0.false
+    ] in
+    open_new_at count (left_by c.args.txn.now base) (left_by c.take.new.txn base) c.args.txn.now.superblock c.take.new.txn.superblock list list' c.args.at.height c.args.at.level below c.args.at.index c.args.root.page c.in_ok-number.number c.args.root.span (λ child. span_at c.start.new.spans (127 + child)) others c.start.new.bytes
+    is placed new gives c.take.ensures.moved.total (c.in_ok-number.ensures.taken base count (tree_pages (left_by c.args.txn.now base) (low c.args.at.height c.args.at.level) c.args.root.page ++ others) placed.freed told placed.stands)
+    c.start.ensures.first c.start.ensures.none c.start.ensures.top c.start.ensures.no_tops

@@ -1,0 +1,31 @@
+use Rattle.std.proofs.Common.{◌∷◌, drop, unwrap_or, sym, ap, subst, arith}
+use Rattle.block_disk.specs.View.{Image}
+use Rattle.page_space.specs.Spaces.{Stands}
+use Rattle.page_space.specs.Transactions.{left_by}
+use Rattle.page_space.proofs.Spacing.{stands_counts}
+use Rattle.page_space.specs.Causes.{Refuses}
+use Rattle.page_space.specs.declared.errors.SpaceError.{SpaceError}
+use Rattle.page_space.specs.declared.errors.SpaceError.TheVariants.{Full}
+use Rattle.path_repair.proofs.opening.take.Goals as goal
+
+pub returns-in-Ok-clause-taken : goal.returns-in-Ok-clause-taken
+returns-in-Ok-clause-taken g c = λ base count used freed told stands.
+    let before : Image → Type 0 = λ image. Stands count (left_by c.args.txn.now image) c.args.txn.now.superblock used freed in
+    let after : Image → Type 0 = λ image. Stands count (left_by c.alloc.new.txn image) c.alloc.new.txn.superblock (c.in-Ok.page ∷ used) (drop 1 freed) in
+    record {
+      freed = drop 1 freed;
+      stands = subst after told.are (c.in-Ok.ensures.stands told.are_told count used freed (subst before (sym told.are) stands));
+      same = λ q some. ap (λ page. unwrap_or page (base q)) (c.alloc.ensures.pages.others q some);
+    }
+
+pub returns-in-Err-Full-clause-sound : goal.returns-in-Err-Full-clause-sound
+returns-in-Err-Full-clause-sound g c = λ base count used freed told stands room.
+    let P : SpaceError → Type 0 = λ e. Refuses e (g.P.Pages.told c.args.space.now.pages) (left_by c.args.txn.now (g.P.Pages.view c.args.space.now.pages).image) c.args.txn.now.superblock (g.P.Pages.view c.args.space.now.pages).faults (g.P.Pages.view c.alloc.new.self.pages).faults in
+    let refused : P (Full c.in-Err-Full.needed c.in-Err-Full.have) = subst P c.in-Err-Full.field-0-is c.in-Err-Full.ensures.cause in
+    let full = refused.0 in
+    absurd (omega (arith, room, full.0, full.1, stands.chain_is, stands_counts count (left_by c.args.txn.now base) c.args.txn.now.superblock used freed stands))
+
+pub returns-in-Err-Damaged-clause-sound : goal.returns-in-Err-Damaged-clause-sound
+returns-in-Err-Damaged-clause-sound g c = λ base count used freed told stands room.
+    let before : Image → Type 0 = λ image. Stands count (left_by c.args.txn.now image) c.args.txn.now.superblock used freed in
+    absurd (c.in-Err-Damaged.ensures.undamaged told.are_told count c.in-Err-Damaged.page used freed (subst before (sym told.are) stands) c.in-Err-Damaged.field-0-is)

@@ -1,0 +1,26 @@
+use Rattle.std.proofs.Common.{◌≡◌, ◌<◌, ℕ, List, sym, ap, subst, arith}
+use Rattle.block_disk.specs.View.{Image}
+use Rattle.node_page.specs.Fields.{child_at}
+use Rattle.page_space.specs.declared.superblock.Superblock.{Superblock}
+use Rattle.page_space.specs.Transactions.{left_by}
+use Rattle.tree_walk.specs.Trees.{HoldsNodes}
+use Rattle.path_repair.specs.declared.errors.RepairError.TheVariants.{DiskFault}
+use Rattle.path_repair.proofs.FormLemmas.{ok_no_err}
+use Rattle.path_repair.proofs.reading.read_page.Goals as goal
+
+pub returns-clause-tops : goal.returns-clause-tops
+returns-clause-tops g c = λ base list below told is slots holds top.
+    let R : Image → Type 0 = λ image. c.read.new.out ≡ left_by c.args.txn.now image c.args.root.page in
+    let read : c.read.new.out ≡ left_by c.args.txn.now base c.args.root.page = subst R told.are (c.in-Ok.ensures.page told.are_told) in
+    let H : List ℕ → Type 0 = λ page. HoldsNodes list c.args.at.level c.args.at.index page in
+    c.spread.ensures.tops list below c.args.at.index is slots (subst H (sym read) holds) top
+
+pub returns-clause-sound : goal.returns-clause-sound
+returns-clause-sound g c = λ base list below told is slots holds top some children.
+    let R : Image → Type 0 = λ image. c.read.new.out ≡ left_by c.args.txn.now image c.args.root.page in
+    let read : c.read.new.out ≡ left_by c.args.txn.now base c.args.root.page = subst R told.are (c.in-Ok.ensures.page told.are_told) in
+    let H : List ℕ → Type 0 = λ page. HoldsNodes list c.args.at.level c.args.at.index page in
+    let C : List ℕ → Type 0 = λ page. (child : ℕ) → child < 128 → child_at page child < c.args.space.now.superblock.total in
+    let within = subst C (sym read) children in
+    let same : c.read.new.self.superblock ≡ c.args.space.now.superblock = c.read.ensures.superblock in
+    ok_no_err c.spread.result (λ e. e ≡ DiskFault) (c.spread.ensures.sound list below c.args.at.index is slots (subst H (sym read) holds) top some (λ child low. omega (arith, within child low, c.total.ensures.total, ap (λ (one : Superblock). one.total) same)))

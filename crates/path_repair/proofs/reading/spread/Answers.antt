@@ -1,0 +1,30 @@
+use Rattle.std.proofs.Common.{◌<◌, ℕ, List, sym, ap, subst, refl, arith, ◌∙◌}
+use Rattle.node_page.specs.Fields.{level_at, child_at}
+use Rattle.page_spans.specs.Heaps.{span_at}
+use Rattle.page_spans.specs.Lists.{AreNodesOf}
+use Rattle.path_repair.proofs.FormLemmas.{kept_form, tops_of, never_err}
+use Rattle.path_repair.proofs.reading.spread.Goals.{then-level-via-then-level, then-level-via-else-level+then-not-names_within}
+use Rattle.path_repair.proofs.reading.spread.Goals as goal
+
+pub returns-then-level-clause-sound : goal.returns-then-level-clause-sound
+returns-then-level-clause-sound c = λ list below index is slots holds top some children. elim c.then-level.branch [
+  | then-level-via-then-level w ↦ absurd (w.if-level.true (c.level.ensures.level ∙ ap (λ b. level_at b) c.in-Ok.ensures.bytes ∙ holds.level_is))
+  | then-level-via-else-level+then-not-names_within w ↦
+      let P : List ℕ → Type 0 = λ page. (child : ℕ) → child < 128 → child_at page child < c.args.total in
+      w.if-not-names_within.ensures.all (subst P (sym c.in-Ok.ensures.bytes) children)
+]
+
+pub returns-then-is_err-clause-sound : goal.returns-then-is_err-clause-sound
+returns-then-is_err-clause-sound c = λ list below index is slots holds top some children.
+    let P : List ℕ → Type 0 = λ page. AreNodesOf list c.args.level index page in
+    absurd (never_err c.spread.result (c.spread.ensures.split list c.args.level index slots (omega (arith, is)) (subst P (sym c.in-Ok.ensures.bytes) holds.nodes) (sym c.in-Some.is ∙ top)) c.if-is_err.ensures.value)
+
+pub returns-clause-form : goal.returns-clause-form
+returns-clause-form c =
+    kept_form c.args.level c.args.total c.in-Ok.page.bytes.now c.args.bytes.now c.in-Ok.ensures.bytes c.requires.whole c.in-Ok.ensures.keeps (sym c.level.ensures.level ∙ c.if-level.false) (c.if-not-names_within.ensures.within refl)
+
+pub returns-clause-tops : goal.returns-clause-tops
+returns-clause-tops c = λ list below index is slots holds top.
+    let P : List ℕ → Type 0 = λ page. AreNodesOf list c.args.level index page in
+    tops_of list c.args.level below index (span_at c.spread.new.self) is
+    (c.spread.ensures.leaves list c.args.level index slots (omega (arith, is)) (subst P (sym c.in-Ok.ensures.bytes) holds.nodes) (sym c.in-Some.is ∙ top))

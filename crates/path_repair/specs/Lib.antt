@@ -1,0 +1,7 @@
+pub mod Sums
+pub mod TreePages
+pub mod Changes
+pub mod Standing
+pub mod Costs
+pub mod Forms
+pub mod Edited

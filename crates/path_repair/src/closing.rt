@@ -1,0 +1,46 @@
+//! A page that was changed is put, or given back where nothing is stored below it.
+ghost use Rattle.std.specs.Prelude.{◌≡◌, ◌≢◌, ◌<◌, ◌≤◌, ◌+◌, ◌^◌, ℕ, ℤ, suc, Some, Option, List, length, IsTrue, IsSome};
+ghost use Rattle.block_disk.specs.View.{View, Image};
+ghost use Rattle.om3_coeff.specs.Spans.{IsProperIfAny, AreSlots};
+ghost use Rattle.page_space.specs.Transactions.{left_by, held};
+ghost use Rattle.page_spans.specs.Heaps.{span_at};
+ghost use Rattle.path_repair.specs.Forms.{IsForm};
+ghost use Rattle.path_repair.specs.Standing.{Moved, IsPartWay, IsRepaired};
+
+use crate::change::{Place, Root};
+use gate_pages::Pages;
+use page_space::{Space, Txn};
+use page_spans::PageSpans;
+
+/// Puts a page whose children and leaves are set, or gives it back where no leaf has a span.
+pub(crate) fn close_page<P: Pages>(
+    space: &mut Space<P>,
+    txn: &mut Txn,
+    at: Place,
+    number: u32,
+    bytes: &mut [u8],
+    spans: &mut PageSpans,
+) -> Root
+    requires total { txn.old.superblock.total ≡ space.old.superblock.total }
+    requires level { (1 ≤ at.level) × (at.level ≤ 5) }
+    requires first { 1 ≤ number }
+    requires below { number < space.old.superblock.total }
+    requires form { IsForm at.level space.old.superblock.total bytes.old }
+    requires room { length (held txn.old) < 64 }
+    ensures moved { Moved 0 1 (P.told space.old.pages) (P.told space.new.pages) (P.view space.old.pages) (P.view space.new.pages) (P.under space.old.pages) (P.under space.new.pages) space.old.superblock space.new.superblock txn.old txn.new }
+    ensures same { space.new ≡ space.old }
+    ensures page { result.page < space.old.superblock.total }
+    ensures proper { IsProperIfAny result.span }
+    ensures repaired { (base before : Image) (count : ℕ) (list list' : List (Option ℤ)) (others : List ℕ) (below : ℕ) → at.level ≡ suc below → AreSlots list'
+        → IsPartWay count before (left_by txn.old base) txn.old.superblock list list' at.height below at.index number bytes.old (λ child. span_at spans.old (127 + child)) 128 others
+        → IsRepaired count before (left_by txn.new base) txn.new.superblock list' at.level at.index result.page result.span others }
+{
+    spans.gather(bytes);
+    let span = spans.top();
+    if span.is_none() {
+        space.free(txn, number);
+        return Root { page: 0, span };
+    }
+    space.put(txn, number, bytes);
+    Root { page: number, span }
+}

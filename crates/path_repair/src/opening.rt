@@ -1,0 +1,110 @@
+//! A page is opened to be changed: it is read, or a new one is taken.
+ghost use Rattle.std.specs.Prelude.{◌≡◌, ◌≢◌, ◌<◌, ◌≤◌, ◌+◌, ◌^◌, ℕ, ℤ, suc, Some, Option, List, None, true, false, length, slice_index, IsTrue, IsSome, IsOk, IfOk, IfErr, OnOk};
+ghost use Rattle.block_disk.specs.View.{View, Image};
+ghost use Rattle.om3_coeff.specs.Spans.{IsProperIfAny, AreSlots};
+ghost use Rattle.node_page.specs.Fields.{child_at};
+ghost use Rattle.page_space.specs.Spaces.{Stands};
+ghost use Rattle.page_space.specs.Transactions.{left_by, held};
+ghost use Rattle.page_spans.specs.Heaps.{span_at};
+ghost use Rattle.path_repair.specs.Forms.{IsForm};
+ghost use Rattle.path_repair.specs.TreePages.{is_stored};
+ghost use Rattle.path_repair.specs.Standing.{AreTold, Moved, IsCause, IsPlaced, IsPartWay, SameOn, IsTaken};
+ghost use Rattle.path_repair.specs.declared.errors.RepairError.{RepairError};
+
+use crate::change::{Place, Root};
+use crate::errors::RepairError;
+use crate::reading::read_page;
+use gate_pages::Pages;
+use node_page::{set_child, set_level};
+use page_space::{Space, SpaceError, Txn};
+use page_spans::PageSpans;
+
+/// Takes a page.
+fn take<P: Pages>(space: &mut Space<P>, txn: &mut Txn) -> Result<u32, RepairError>
+    requires sound { (P.view space.old.pages).fit }
+    requires total { txn.old.superblock.total ≡ space.old.superblock.total }
+    ensures moved { Moved 1 0 (P.told space.old.pages) (P.told space.new.pages) (P.view space.old.pages) (P.view space.new.pages) (P.under space.old.pages) (P.under space.new.pages) space.old.superblock space.new.superblock txn.old txn.new }
+    ensures cause { IfErr result (λ e. IsCause e (P.view space.old.pages).faults (P.view space.new.pages).faults) }
+    ensures given { IfOk result (λ p. (1 ≤ p) × (p < txn.new.superblock.total)) }
+    ensures taken { (base : Image) (count : ℕ) (used freed : List ℕ) → AreTold (P.told space.old.pages) (P.view space.old.pages) base → Stands count (left_by txn.old base) txn.old.superblock used freed
+        → IfOk result (λ p. IsTaken count (left_by txn.old base) (left_by txn.new base) txn.new.superblock used p) }
+    ensures sound { (base : Image) (count : ℕ) (used freed : List ℕ) → AreTold (P.told space.old.pages) (P.view space.old.pages) base → Stands count (left_by txn.old base) txn.old.superblock used freed
+        → 18 + length used ≤ txn.old.superblock.total → IfErr result (λ e. e ≡ RepairError.DiskFault) }
+{
+    match space.alloc(txn) {
+        Ok(page) => Ok(page),
+        Err(SpaceError::Full { needed, have }) => Err(RepairError::Full { needed, have }),
+        Err(SpaceError::DiskFault) => Err(RepairError::DiskFault),
+        Err(SpaceError::Damaged { page }) => Err(RepairError::Damaged { page }),
+        Err(SpaceError::NotAStore | SpaceError::NoMemory) => Err(RepairError::NoMemory),
+    }
+}
+
+/// Makes all bytes 0.
+fn blank(bytes: &mut [u8])
+    ensures whole { length bytes.new ≡ length bytes.old }
+    ensures zeros { (k : ℕ) → slice_index bytes.new k ≡ 0 }
+{
+    bytes.fill(0);
+}
+
+/// Makes the bytes a page of this page level whose first child is this page, and no other one is there.
+pub(crate) fn start_bytes(bytes: &mut [u8], level: u8, page: u32)
+    requires whole { length bytes.old ≡ 4096 }
+    ensures form { (total : ℕ) → page < total → IsForm level total bytes.new }
+    ensures first { child_at bytes.new 0 ≡ page }
+    ensures none { (child : ℕ) → 0 < child → child < 128 → child_at bytes.new child ≡ 0 }
+{
+    blank(bytes);
+    set_level(bytes, level);
+    set_child(bytes, 0, page);
+}
+
+/// The same, with the root's span at the first leaf, and no other one.
+fn start(bytes: &mut [u8], spans: &mut PageSpans, level: u8, root: Root)
+    requires whole { length bytes.old ≡ 4096 }
+    requires proper { IsProperIfAny root.span }
+    ensures form { (total : ℕ) → root.page < total → IsForm level total bytes.new }
+    ensures first { child_at bytes.new 0 ≡ root.page }
+    ensures none { (child : ℕ) → 0 < child → child < 128 → child_at bytes.new child ≡ 0 }
+    ensures top { span_at spans.new 127 ≡ root.span }
+    ensures no_tops { (child : ℕ) → 0 < child → span_at spans.new (127 + child) ≡ None }
+{
+    start_bytes(bytes, level, root.page);
+    spans.clear();
+    spans.set_leaf(0, root.span);
+}
+
+/// Opens the page of a place, and gives its number.
+pub(crate) fn open_page<P: Pages>(
+    space: &mut Space<P>,
+    txn: &mut Txn,
+    at: Place,
+    root: Root,
+    bytes: &mut [u8],
+    spans: &mut PageSpans,
+) -> Result<u32, RepairError>
+    requires sound { (P.view space.old.pages).fit }
+    requires total { txn.old.superblock.total ≡ space.old.superblock.total }
+    requires page { root.page < space.old.superblock.total }
+    requires proper { IsProperIfAny root.span }
+    requires whole { length bytes.old ≡ 4096 }
+    ensures moved { Moved 1 0 (P.told space.old.pages) (P.told space.new.pages) (P.view space.old.pages) (P.view space.new.pages) (P.under space.old.pages) (P.under space.new.pages) space.old.superblock space.new.superblock txn.old txn.new }
+    ensures cause { IfErr result (λ e. IsCause e (P.view space.old.pages).faults (P.view space.new.pages).faults) }
+    ensures form { OnOk result (IsForm at.level space.old.superblock.total bytes.new) }
+    ensures number { IfOk result (λ number. (1 ≤ number) × (number < space.old.superblock.total)) }
+    ensures part { (base : Image) (count : ℕ) (list list' : List (Option ℤ)) (others : List ℕ) (below : ℕ) → AreTold (P.told space.old.pages) (P.view space.old.pages) base → at.level ≡ suc below → AreSlots list
+        → IsPlaced count (left_by txn.old base) txn.old.superblock list list' at.height at.level at.index root.page root.span others → (root.page ≡ 0 → is_stored list' at.level at.index ≡ true)
+        → IfOk result (λ number. IsPartWay count (left_by txn.old base) (left_by txn.new base) txn.new.superblock list list' at.height below at.index number bytes.new (λ child. span_at spans.new (127 + child)) 0 others) }
+    ensures only_faults { (base : Image) (count : ℕ) (list list' : List (Option ℤ)) (others : List ℕ) (below : ℕ) → AreTold (P.told space.old.pages) (P.view space.old.pages) base → at.level ≡ suc below → AreSlots list
+        → IsPlaced count (left_by txn.old base) txn.old.superblock list list' at.height at.level at.index root.page root.span others → (root.page ≡ 0 → is_stored list' at.level at.index ≡ true)
+        → IfErr result (λ e. e ≡ RepairError.DiskFault) }
+{
+    if root.page != 0 && !at.is_new_root() {
+        read_page(space, txn, at, root, bytes, spans)?;
+        return Ok(root.page);
+    }
+    let number = take(space, txn)?;
+    start(bytes, spans, at.level, root);
+    Ok(number)
+}

@@ -1,0 +1,134 @@
+//! A page of a tree is read, and its spans with it.
+ghost use Rattle.std.specs.Prelude.{◌≡◌, ◌≢◌, ◌<◌, ◌≤◌, ◌+◌, ◌^◌, ℕ, ℤ, suc, Some, Option, List, false, length, slice_index, IsTrue, IsSome, IsOk, IfOk, IfErr, OnOk};
+ghost use Rattle.block_disk.specs.View.{View, Image};
+ghost use Rattle.om3_coeff.specs.Spans.{IsProperIfAny, AreSlots, span};
+ghost use Rattle.node_page.specs.Fields.{child_at, level_at};
+ghost use Rattle.node_page.specs.Layout.{KeepsLayout};
+ghost use Rattle.page_space.specs.Transactions.{left_by};
+ghost use Rattle.tree_walk.specs.Trees.{top_of_page, HoldsNodes};
+ghost use Rattle.page_spans.specs.Heaps.{span_at};
+ghost use Rattle.path_repair.specs.Forms.{IsForm, AreTops};
+ghost use Rattle.path_repair.specs.Standing.{AreTold, Moved, IsCause};
+ghost use Rattle.path_repair.specs.declared.errors.RepairError.{RepairError};
+
+use crate::change::{Place, Root};
+use crate::errors::RepairError;
+use gate_pages::Pages;
+use node_page::PageView;
+use page_space::{Space, Txn};
+use page_spans::PageSpans;
+
+/// Whether each child of a page is below the total.
+fn names_within(page: &PageView, total: u32) -> bool
+    ensures within { IsTrue result → (child : ℕ) → child < 128 → child_at page.now.bytes.now child < total }
+    ensures all { ((child : ℕ) → child < 128 → child_at page.now.bytes.now child < total) → IsTrue result }
+{
+    for child in 0..128 {
+        if page.child_at(child) >= total {
+            return false;
+        }
+    }
+    true
+}
+
+/// Whether the bytes are a page of this page level, whose children are below the total.
+fn is_page(bytes: &[u8], level: u8, total: u32) -> bool
+    requires whole { length bytes.now ≡ 4096 }
+    ensures form { IsTrue result → IsForm level total bytes.now }
+    ensures sound { KeepsLayout bytes.now → level_at bytes.now ≡ level → ((child : ℕ) → child < 128 → child_at bytes.now child < total) → IsTrue result }
+{
+    let Ok(page) = PageView::new(bytes) else {
+        return false;
+    };
+    page.level() == level && names_within(&page, total)
+}
+
+/// Reads a page of this place as the transaction would leave it.
+pub(crate) fn read_bytes<P: Pages>(
+    space: &mut Space<P>,
+    txn: &Txn,
+    at: Place,
+    page: u32,
+    bytes: &mut [u8],
+) -> Result<(), RepairError>
+    requires sound { (P.view space.old.pages).fit }
+    requires page { page < space.old.superblock.total }
+    requires whole { length bytes.old ≡ 4096 }
+    ensures moved { Moved 1 0 (P.told space.old.pages) (P.told space.new.pages) (P.view space.old.pages) (P.view space.new.pages) (P.under space.old.pages) (P.under space.new.pages) space.old.superblock space.new.superblock txn.now txn.now }
+    ensures cause { IfErr result (λ e. IsCause e (P.view space.old.pages).faults (P.view space.new.pages).faults) }
+    ensures form { OnOk result (IsForm at.level space.old.superblock.total bytes.new) }
+    ensures bytes { (base : Image) → AreTold (P.told space.old.pages) (P.view space.old.pages) base → OnOk result (bytes.new ≡ left_by txn.now base page) }
+    ensures sound { (base : Image) → AreTold (P.told space.old.pages) (P.view space.old.pages) base → KeepsLayout (left_by txn.now base page) → level_at (left_by txn.now base page) ≡ at.level
+        → ((child : ℕ) → child < 128 → child_at (left_by txn.now base page) child < space.old.superblock.total) → IfErr result (λ e. e ≡ RepairError.DiskFault) }
+{
+    let Ok(()) = space.read(txn, page, bytes) else {
+        return Err(RepairError::DiskFault);
+    };
+    if !is_page(bytes, at.level, space.total()) {
+        return Err(RepairError::Damaged { page });
+    }
+    Ok(())
+}
+
+/// The spans below a root, by a page that is to be one of this page level.
+fn spread(
+    bytes: &[u8],
+    level: u8,
+    total: u32,
+    root: Root,
+    spans: &mut PageSpans,
+) -> Result<(), RepairError>
+    requires whole { length bytes.now ≡ 4096 }
+    requires proper { IsProperIfAny root.span }
+    ensures form { OnOk result (IsForm level total bytes.now) }
+    ensures damaged { IfErr result (λ e. e ≡ RepairError.Damaged root.page) }
+    ensures tops { (list : List (Option ℤ)) (below index : ℕ) → level ≡ suc below → AreSlots list → HoldsNodes list level index bytes.now → root.span ≡ span list (top_of_page level index)
+        → OnOk result (AreTops list below index (λ child. span_at spans.new (127 + child))) }
+    ensures sound { (list : List (Option ℤ)) (below index : ℕ) → level ≡ suc below → AreSlots list → HoldsNodes list level index bytes.now → root.span ≡ span list (top_of_page level index)
+        → IsSome root.span → ((child : ℕ) → child < 128 → child_at bytes.now child < total) → IsOk result }
+{
+    let damaged = RepairError::Damaged { page: root.page };
+    let Some(span) = root.span else {
+        return Err(damaged);
+    };
+    let Ok(page) = PageView::new(bytes) else {
+        return Err(damaged);
+    };
+    if page.level() != level || !names_within(&page, total) {
+        return Err(damaged);
+    }
+    if spans.spread(&page, span).is_err() {
+        return Err(damaged);
+    }
+    Ok(())
+}
+
+/// Reads the root's page as the transaction would leave it, and the spans below it.
+pub(crate) fn read_page<P: Pages>(
+    space: &mut Space<P>,
+    txn: &Txn,
+    at: Place,
+    root: Root,
+    bytes: &mut [u8],
+    spans: &mut PageSpans,
+) -> Result<(), RepairError>
+    requires sound { (P.view space.old.pages).fit }
+    requires page { root.page < space.old.superblock.total }
+    requires proper { IsProperIfAny root.span }
+    requires whole { length bytes.old ≡ 4096 }
+    ensures moved { Moved 1 0 (P.told space.old.pages) (P.told space.new.pages) (P.view space.old.pages) (P.view space.new.pages) (P.under space.old.pages) (P.under space.new.pages) space.old.superblock space.new.superblock txn.now txn.now }
+    ensures cause { IfErr result (λ e. IsCause e (P.view space.old.pages).faults (P.view space.new.pages).faults) }
+    ensures form { OnOk result (IsForm at.level space.old.superblock.total bytes.new) }
+    ensures bytes { (base : Image) → AreTold (P.told space.old.pages) (P.view space.old.pages) base → OnOk result (bytes.new ≡ left_by txn.now base root.page) }
+    ensures tops { (base : Image) (list : List (Option ℤ)) (below : ℕ) → AreTold (P.told space.old.pages) (P.view space.old.pages) base → at.level ≡ suc below → AreSlots list
+        → HoldsNodes list at.level at.index (left_by txn.now base root.page) → root.span ≡ span list (top_of_page at.level at.index)
+        → OnOk result (AreTops list below at.index (λ child. span_at spans.new (127 + child))) }
+    ensures sound { (base : Image) (list : List (Option ℤ)) (below : ℕ) → AreTold (P.told space.old.pages) (P.view space.old.pages) base → at.level ≡ suc below → AreSlots list
+        → HoldsNodes list at.level at.index (left_by txn.now base root.page) → root.span ≡ span list (top_of_page at.level at.index) → IsSome root.span
+        → ((child : ℕ) → child < 128 → child_at (left_by txn.now base root.page) child < space.old.superblock.total) → IfErr result (λ e. e ≡ RepairError.DiskFault) }
+{
+    let Ok(()) = space.read(txn, root.page, bytes) else {
+        return Err(RepairError::DiskFault);
+    };
+    spread(bytes, at.level, space.total(), root, spans)
+}

@@ -1,0 +1,107 @@
+//! The change of a tree, page by page.
+ghost use Rattle.std.specs.Prelude.{◌≡◌, ◌≢◌, ◌<◌, ◌≤◌, ◌+◌, ◌*◌, ◌^◌, ℕ, ℤ, suc, Some, Option, List, length, slice_get, IfOk, IfErr, OnOk};
+ghost use Rattle.block_disk.specs.View.{View, Image};
+ghost use Rattle.om3_coeff.specs.Keys.{end_slot};
+ghost use Rattle.om3_coeff.specs.Spans.{IsProperIfAny, IsValue};
+ghost use Rattle.node_page.specs.Fields.{child_at};
+ghost use Rattle.page_space.specs.Transactions.{left_by, held};
+ghost use Rattle.tree_walk.specs.Trees.{top_of_page};
+ghost use Rattle.page_spans.specs.Heaps.{span_at};
+ghost use Rattle.path_repair.specs.Forms.{IsForm};
+ghost use Rattle.path_repair.specs.Costs.{touch};
+ghost use Rattle.path_repair.specs.Standing.{AreTold, AreLists, Moved, IsCause, IsPlaced, IsRepaired};
+ghost use Rattle.path_repair.specs.declared.errors.RepairError.{RepairError};
+
+use crate::change::{Place, Root, Slots, slot_after};
+use crate::closing::close_page;
+use crate::errors::RepairError;
+use crate::opening::open_page;
+use byteorder::{BigEndian, ByteOrder};
+use gate_pages::Pages;
+use node_page::set_child;
+use page_space::{Space, Txn};
+use page_spans::PageSpans;
+
+/// The number of a child's page.
+pub(crate) fn child_page(bytes: &[u8], child: u8) -> u32
+    requires whole { length bytes.now ≡ 4096 }
+    requires child { child < 128 }
+    ensures { result ≡ child_at bytes.now child }
+{
+    BigEndian::read_u32(&bytes[2072 + 4 * usize::from(child)..])
+}
+
+/// The root of a child of a page.
+fn child_root(bytes: &[u8], spans: &PageSpans, child: u8) -> Root
+    requires whole { length bytes.now ≡ 4096 }
+    requires child { child < 128 }
+    ensures page { result.page ≡ child_at bytes.now child }
+    ensures span { result.span ≡ span_at spans.now (127 + child) }
+    ensures proper { IsProperIfAny result.span }
+{
+    Root {
+        page: child_page(bytes, child),
+        span: spans.leaf(child),
+    }
+}
+
+/// Sets the root of a child of a page.
+fn set_root(bytes: &mut [u8], spans: &mut PageSpans, child: u8, root: Root)
+    requires whole { length bytes.old ≡ 4096 }
+    requires child { child < 128 }
+    requires proper { IsProperIfAny root.span }
+    ensures form { (level total : ℕ) → IsForm level total bytes.old → root.page < total → IsForm level total bytes.new }
+    ensures page { child_at bytes.new child ≡ root.page }
+    ensures pages { (c : ℕ) → c ≢ child → child_at bytes.new c ≡ child_at bytes.old c }
+    ensures span { span_at spans.new (127 + child) ≡ root.span }
+    ensures spans { (n : ℕ) → n ≢ 127 + child → span_at spans.new n ≡ span_at spans.old n }
+{
+    set_child(bytes, child, root.page);
+    spans.set_leaf(child, root.span);
+}
+
+/// Changes the slots in the range of a place, whose tree has this root, and gives the new root.
+pub(crate) fn repair<P: Pages>(
+    space: &mut Space<P>,
+    txn: &mut Txn,
+    at: Place,
+    root: Root,
+    slots: Slots,
+    values: &[Option<i64>],
+) -> Result<Root, RepairError>
+    requires sound { (P.view space.old.pages).fit }
+    requires total { txn.old.superblock.total ≡ space.old.superblock.total }
+    requires level { at.level ≤ 5 }
+    requires small { end_slot (top_of_page at.level at.index) ≤ 2 ^ 35 }
+    requires page { root.page < space.old.superblock.total }
+    requires proper { IsProperIfAny root.span }
+    requires values { (i : ℕ) (value : ℤ) → slice_get values.now i ≡ Some (Some value) → IsValue value }
+    requires room { length (held txn.old) + touch slots.first slots.end at.height at.level at.index ≤ 64 }
+    ensures moved { Moved (touch slots.first slots.end at.height at.level at.index) (touch slots.first slots.end at.height at.level at.index) (P.told space.old.pages) (P.told space.new.pages) (P.view space.old.pages) (P.view space.new.pages) (P.under space.old.pages) (P.under space.new.pages) space.old.superblock space.new.superblock txn.old txn.new }
+    ensures cause { IfErr result (λ e. IsCause e (P.view space.old.pages).faults (P.view space.new.pages).faults) }
+    ensures page { IfOk result (λ next. next.page < space.old.superblock.total) }
+    ensures proper { IfOk result (λ next. IsProperIfAny next.span) }
+    ensures repaired { (base : Image) (count : ℕ) (list list' : List (Option ℤ)) (others : List ℕ) → AreTold (P.told space.old.pages) (P.view space.old.pages) base
+        → AreLists slots.first slots.end values.now list list' → IsPlaced count (left_by txn.old base) txn.old.superblock list list' at.height at.level at.index root.page root.span others
+        → IfOk result (λ next. IsRepaired count (left_by txn.old base) (left_by txn.new base) txn.new.superblock list' at.level at.index next.page next.span others) }
+    ensures only_faults { (base : Image) (count : ℕ) (list list' : List (Option ℤ)) (others : List ℕ) → AreTold (P.told space.old.pages) (P.view space.old.pages) base
+        → AreLists slots.first slots.end values.now list list' → IsPlaced count (left_by txn.old base) txn.old.superblock list list' at.height at.level at.index root.page root.span others
+        → IfErr result (λ e. e ≡ RepairError.DiskFault) }
+{
+    if at.level == 0 {
+        let span = slot_after(root.span, at.index, slots, values);
+        return Ok(Root { page: 0, span });
+    }
+    if at.is_settled(root.page, slots, values) {
+        return Ok(root);
+    }
+    let mut bytes = [0; 4096];
+    let mut spans = PageSpans::new();
+    let number = open_page(space, txn, at, root, &mut bytes, &mut spans)?;
+    for child in 0..128 {
+        let old = child_root(&bytes, &spans, child);
+        let next = repair(space, txn, at.child(child), old, slots, values)?;
+        set_root(&mut bytes, &mut spans, child, next);
+    }
+    Ok(close_page(space, txn, at, number, &mut bytes, &mut spans))
+}

@@ -1,0 +1,3 @@
+pub mod Windows
+pub mod Answered
+pub mod Planned

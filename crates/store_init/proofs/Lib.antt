@@ -1,0 +1,3 @@
+pub mod PagesMade
+pub mod DisksMade
+pub mod Lowered

@@ -1,0 +1,9 @@
+pub mod PathLemmas
+pub mod SeenLemmas
+pub mod StandingLemmas
+pub mod TrailLemmas
+pub mod HoldLemmas
+pub mod StepLemmas
+pub mod WayLemmas
+pub mod AskLemmas
+pub mod SpaceLemmas

@@ -1,0 +1,61 @@
+//! The coefficient of a key, read from pages.
+ghost use Rattle.std.specs.Prelude.{◌≡◌, ◌≤◌, ◌+◌, None, Some, IfOk, IfErr, OnOk, OnErr, IsSome};
+ghost use Rattle.om3_coeff.specs.Keys.{page_levels, height, IsNode, MayFollow};
+ghost use Rattle.om3_coeff.specs.Spans.{IsProper};
+ghost use Rattle.om3_coeff.specs.Coefs.{parts};
+ghost use Rattle.om3_coeff.specs.View.{HasCause};
+ghost use Rattle.tree_walk.specs.Paths.{told_by_pages};
+ghost use Rattle.tree_walk.specs.SpaceViews.{space_view};
+ghost use Rattle.tree_walk.specs.PagedNodes.{IsFit, IsSeen, Keeps, ground, paged_view};
+
+use crate::paths::descend;
+use crate::trail::Trail;
+use crate::tree::Tree;
+use gate_pages::Pages;
+use node_page::{PageView, node_number};
+use om3_coeff::{Coef, Key, NodeError, Span, split};
+use page_space::Space;
+
+/// The coefficient of a key that has this span, by the pages on the way from the tree's root. The trail
+/// has to be empty or filled over this tree and this space.
+///
+/// `DiskFault` comes where a read failed. `Damaged` names a page of the way that breaks its layout, whose
+/// page level isn't the one of its place, that names a page past the last one, or whose coefficient of
+/// the key doesn't split the span. No other error comes. No memory is taken.
+pub fn coef_at<P: Pages>(
+    space: &mut Space<P>,
+    trail: &mut Trail,
+    tree: Tree,
+    key: Key,
+    span: Span,
+) -> Result<Coef, NodeError>
+    requires fit { IsFit (P.told space.old.pages) (space_view space.old.superblock (P.view space.old.pages)) tree trail.old }
+    requires key { IsNode (height tree.slots) key }
+    requires span { IsProper span }
+    requires seen { IsSeen (P.told space.old.pages) (space_view space.old.superblock (P.view space.old.pages)) tree key span }
+
+    ensures fit { IsFit (P.told space.new.pages) (space_view space.new.superblock (P.view space.new.pages)) tree trail.new }
+    ensures kept { Keeps (ground (P.told space.old.pages) (P.view space.old.pages) (P.under space.old.pages) space.old.superblock tree) (ground (P.told space.new.pages) (P.view space.new.pages) (P.under space.new.pages) space.new.superblock tree) }
+    ensures told { IfOk result (λ coef. P.told space.old.pages → told_by_pages (P.view space.old.pages).image tree key ≡ Some coef) }
+    ensures splits { IfOk result (λ coef. IsSome (parts span coef)) }
+
+    ensures asked { OnOk result (trail.new.asked ≡ Some key) }
+    ensures failed { OnErr result (trail.new.asked ≡ None) }
+
+    // an ask in tree order reads one page at most, another one a page a page level
+    ensures one_read { MayFollow (height tree.slots) trail.old.asked key → (P.view space.new.pages).reads ≤ (P.view space.old.pages).reads + 1 }
+    ensures reads { (P.view space.new.pages).reads ≤ (P.view space.old.pages).reads + page_levels tree.slots }
+
+    ensures faults { (P.view space.old.pages).faults ≤ (P.view space.new.pages).faults }
+    ensures cause { IfErr result (HasCause (paged_view (ground (P.told space.old.pages) (P.view space.old.pages) (P.under space.old.pages) space.old.superblock tree) trail.old) (paged_view (ground (P.told space.new.pages) (P.view space.new.pages) (P.under space.new.pages) space.new.superblock tree) trail.new)) }
+{
+    trail.asked = None;
+    let depth = descend(space, trail, tree, key)?;
+    let page = &trail.pages[depth];
+    let coef = PageView::of(page.bytes.as_slice()).coef_at(node_number(key));
+    if split(span, coef).is_err() {
+        return Err(NodeError::Damaged { page: page.number });
+    }
+    trail.asked = Some(key);
+    Ok(coef)
+}

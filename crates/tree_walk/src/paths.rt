@@ -1,0 +1,191 @@
+//! The way from the root to a key.
+ghost use Rattle.std.specs.Prelude.{◌≡◌, ◌≢◌, ◌≤◌, ◌<◌, ◌+◌, ◌-◌, ◌*◌, ◌^◌, ◌⊎◌, Some, false, length, IsTrue, IfOk, IfErr, OnOk, OnErr};
+ghost use Rattle.gate_pages.specs.Pages.{Reads};
+ghost use Rattle.om3_coeff.specs.declared.errors.NodeError.TheVariants.{Damaged};
+ghost use Rattle.om3_coeff.specs.Keys.{page_levels as levels_of, height, IsNode, MayFollow};
+ghost use Rattle.om3_coeff.specs.declared.key.Key.{Key};
+ghost use Rattle.node_page.specs.Fields.{level_at, child_at};
+ghost use Rattle.node_page.specs.Layout.{KeepsLayout};
+ghost use Rattle.node_page.specs.Places.{page_level as level_of_page};
+ghost use Rattle.tree_walk.specs.SpaceViews.{space_view, StaysOn};
+ghost use Rattle.tree_walk.specs.Paths.{path_child as child_on_path};
+ghost use Rattle.tree_walk.specs.Trails.{IsHeld, AreHeld, IsLinked, LeadsTo};
+ghost use Rattle.tree_walk.specs.Holding.{IsBadPage, IsHit, IsSameAbove, KeptWalking, IsHoldCause, IsStepCause, IsCauseOf};
+
+use crate::held_page::HeldPage;
+use crate::trail::Trail;
+use crate::tree::Tree;
+use gate_pages::Pages;
+use node_page::{PageView, page_level};
+use om3_coeff::{Key, NodeError, page_levels};
+use page_space::Space;
+
+/// Which child of the page of this page level is on the way to a key that stands below it.
+#[tactic(auto, unfolding(crate::specs::Paths::path_child, crate::specs::Paths::path_index))]
+fn path_child(key: Key, level: usize) -> u8
+    requires above { key.level ≤ 7 * (level - 1) }
+    requires some { 1 ≤ level }
+    requires few { level ≤ 5 }
+    ensures child { result ≡ child_on_path key level }
+    ensures within { result < 128 }
+{
+    ((key.index >> (7 * (level - 1) - usize::from(key.level))) % 128) as u8
+}
+
+/// The number of a child's page, which is there and below the total.
+fn next_page(page: &HeldPage, total: u32, child: u8) -> Result<u32, NodeError>
+    requires keeps { KeepsLayout page.now.bytes.items }
+    requires child { child < 128 }
+    ensures number { IfOk result (λ number. number ≡ child_at page.now.bytes.items child) }
+    ensures there { IfOk result (λ number. number ≢ 0) }
+    ensures below { IfOk result (λ number. number < total) }
+    ensures names { IfErr result (λ e. e ≡ Damaged page.now.number) }
+    ensures missing { OnErr result ((child_at page.now.bytes.items child ≡ 0) ⊎ (total ≤ child_at page.now.bytes.items child)) }
+{
+    let number = PageView::of(page.bytes.as_slice()).child_at(child);
+    if number == 0 {
+        return Err(NodeError::Damaged { page: page.number });
+    }
+    if number >= total {
+        return Err(NodeError::Damaged { page: page.number });
+    }
+    Ok(number)
+}
+
+/// Whether a page keeps its layout and is of this page level.
+fn is_sound(bytes: &[u8], level: usize) -> bool
+    requires whole { length bytes.now ≡ 4096 }
+    ensures keeps { IsTrue result → KeepsLayout bytes.now }
+    ensures level { IsTrue result → level_at bytes.now ≡ level }
+    ensures bad { result ≡ false → IsBadPage bytes.now level }
+{
+    match PageView::new(bytes) {
+        Ok(page) => usize::from(page.level()) == level,
+        Err(_) => false,
+    }
+}
+
+/// Reads a page of this page level into a buffer.
+fn read_page<P: Pages>(
+    space: &mut Space<P>,
+    page: &mut HeldPage,
+    number: u32,
+    level: usize,
+) -> Result<(), NodeError>
+    requires sound { (space_view space.old.superblock (P.view space.old.pages)).fit }
+    requires number { number < (space_view space.old.superblock (P.view space.old.pages)).size }
+    ensures reads { Reads (P.told space.old.pages) (P.told space.new.pages) (space_view space.old.superblock (P.view space.old.pages)) (space_view space.new.superblock (P.view space.new.pages)) }
+    ensures over { StaysOn space.old.superblock space.new.superblock (P.under space.old.pages) (P.under space.new.pages) }
+    ensures held { OnOk result (IsHeld (P.told space.new.pages) (space_view space.new.superblock (P.view space.new.pages)).image (space_view space.new.superblock (P.view space.new.pages)).size level page.new.number page.new.bytes.items) }
+    ensures number { OnOk result (page.new.number ≡ number) }
+    ensures cause { IfErr result (IsHoldCause (P.told space.old.pages) (space_view space.old.superblock (P.view space.old.pages)) (space_view space.new.superblock (P.view space.new.pages)) number level) }
+{
+    let Ok(()) = space.get(number, page.bytes.as_mut_slice()) else {
+        return Err(NodeError::DiskFault);
+    };
+    if !is_sound(page.bytes.as_slice(), level) {
+        return Err(NodeError::Damaged { page: number });
+    }
+    page.number = number;
+    Ok(())
+}
+
+/// Has the trail hold a page of this page level at a depth, and reads it where it isn't held there. What
+/// is held above it stays.
+fn hold<P: Pages>(
+    space: &mut Space<P>,
+    trail: &mut Trail,
+    levels: usize,
+    depth: usize,
+    number: u32,
+) -> Result<(), NodeError>
+    requires sound { (space_view space.old.superblock (P.view space.old.pages)).fit }
+    requires number { number < (space_view space.old.superblock (P.view space.old.pages)).size }
+    requires few { levels ≤ 5 }
+    requires deep { depth < levels }
+    requires reached { depth ≤ trail.old.len }
+    requires held { AreHeld (P.told space.old.pages) (space_view space.old.superblock (P.view space.old.pages)).image (space_view space.old.superblock (P.view space.old.pages)).size levels trail.old.pages.items trail.old.len }
+
+    ensures reads { Reads (P.told space.old.pages) (P.told space.new.pages) (space_view space.old.superblock (P.view space.old.pages)) (space_view space.new.superblock (P.view space.new.pages)) }
+    ensures over { StaysOn space.old.superblock space.new.superblock (P.under space.old.pages) (P.under space.new.pages) }
+    ensures hit { IsHit trail.old depth number → space.new ≡ space.old }
+    ensures still { IsHit trail.old depth number → trail.new ≡ trail.old }
+    ensures held { AreHeld (P.told space.new.pages) (space_view space.new.superblock (P.view space.new.pages)).image (space_view space.new.superblock (P.view space.new.pages)).size levels trail.new.pages.items trail.new.len }
+    ensures above { IsSameAbove depth trail.old.pages.items trail.new.pages.items }
+    ensures reached { OnOk result (IsHit trail.new depth number) }
+    ensures asked { trail.new.asked ≡ trail.old.asked }
+    ensures cause { IfErr result (IsHoldCause (P.told space.old.pages) (space_view space.old.superblock (P.view space.old.pages)) (space_view space.new.superblock (P.view space.new.pages)) number (levels - depth)) }
+{
+    if trail.holds(depth, number) {
+        return Ok(());
+    }
+    trail.len = depth;
+    read_page(space, &mut trail.pages[depth], number, levels - depth)?;
+    trail.len = depth + 1;
+    Ok(())
+}
+
+/// Has the trail hold the page below a depth on the way to a key.
+fn step<P: Pages>(
+    space: &mut Space<P>,
+    trail: &mut Trail,
+    levels: usize,
+    key: Key,
+    depth: usize,
+) -> Result<(), NodeError>
+    requires sound { (space_view space.old.superblock (P.view space.old.pages)).fit }
+    requires few { levels ≤ 5 }
+    requires deep { depth + 1 < levels }
+    requires above { key.level ≤ 7 * (levels - depth - 1) }
+    requires reached { depth < trail.old.len }
+    requires held { AreHeld (P.told space.old.pages) (space_view space.old.superblock (P.view space.old.pages)).image (space_view space.old.superblock (P.view space.old.pages)).size levels trail.old.pages.items trail.old.len }
+
+    ensures reads { Reads (P.told space.old.pages) (P.told space.new.pages) (space_view space.old.superblock (P.view space.old.pages)) (space_view space.new.superblock (P.view space.new.pages)) }
+    ensures over { StaysOn space.old.superblock space.new.superblock (P.under space.old.pages) (P.under space.new.pages) }
+    ensures hit { depth + 1 < trail.old.len → IsLinked trail.old.pages.items key levels depth → space.new ≡ space.old }
+    ensures still { depth + 1 < trail.old.len → IsLinked trail.old.pages.items key levels depth → trail.new ≡ trail.old }
+    ensures held { AreHeld (P.told space.new.pages) (space_view space.new.superblock (P.view space.new.pages)).image (space_view space.new.superblock (P.view space.new.pages)).size levels trail.new.pages.items trail.new.len }
+    ensures above { IsSameAbove (depth + 1) trail.old.pages.items trail.new.pages.items }
+    ensures reached { OnOk result (depth + 1 < trail.new.len) }
+    ensures linked { OnOk result (IsLinked trail.new.pages.items key levels depth) }
+    ensures asked { trail.new.asked ≡ trail.old.asked }
+    ensures cause { IfErr result (IsStepCause (P.told space.old.pages) (space_view space.old.superblock (P.view space.old.pages)) (space_view space.new.superblock (P.view space.new.pages)) trail.old.pages.items key levels depth) }
+{
+    let child = path_child(key, levels - depth);
+    let number = next_page(&trail.pages[depth], space.total(), child)?;
+    hold(space, trail, levels, depth + 1, number)
+}
+
+/// Has the trail hold the pages on the way to a key, and gives the depth of the page of its node.
+pub(crate) fn descend<P: Pages>(
+    space: &mut Space<P>,
+    trail: &mut Trail,
+    tree: Tree,
+    key: Key,
+) -> Result<usize, NodeError>
+    requires sound { (space_view space.old.superblock (P.view space.old.pages)).fit }
+    requires few { tree.slots ≤ 2 ^ 35 }
+    requires root { tree.root < (space_view space.old.superblock (P.view space.old.pages)).size }
+    requires key { IsNode (height tree.slots) key }
+    requires held { AreHeld (P.told space.old.pages) (space_view space.old.superblock (P.view space.old.pages)).image (space_view space.old.superblock (P.view space.old.pages)).size (levels_of tree.slots) trail.old.pages.items trail.old.len }
+
+    ensures kept { KeptWalking (P.told space.old.pages) (P.told space.new.pages) (space_view space.old.superblock (P.view space.old.pages)) (space_view space.new.superblock (P.view space.new.pages)) }
+    ensures over { StaysOn space.old.superblock space.new.superblock (P.under space.old.pages) (P.under space.new.pages) }
+    ensures held { AreHeld (P.told space.new.pages) (space_view space.new.superblock (P.view space.new.pages)).image (space_view space.new.superblock (P.view space.new.pages)).size (levels_of tree.slots) trail.new.pages.items trail.new.len }
+    ensures depth { IfOk result (λ depth. depth ≡ levels_of tree.slots - level_of_page key.level) }
+    ensures leads { OnOk result (LeadsTo tree trail.new.pages.items trail.new.len key) }
+    ensures asked { trail.new.asked ≡ trail.old.asked }
+    ensures one_read { (last : Key) → LeadsTo tree trail.old.pages.items trail.old.len last → MayFollow (height tree.slots) (Some last) key
+        → (space_view space.new.superblock (P.view space.new.pages)).reads ≤ (space_view space.old.superblock (P.view space.old.pages)).reads + 1 }
+    ensures top_read { key.level ≡ height tree.slots → (space_view space.new.superblock (P.view space.new.pages)).reads ≤ (space_view space.old.superblock (P.view space.old.pages)).reads + 1 }
+    ensures reads { (space_view space.new.superblock (P.view space.new.pages)).reads ≤ (space_view space.old.superblock (P.view space.old.pages)).reads + levels_of tree.slots }
+    ensures cause { IfErr result (IsCauseOf (P.told space.old.pages) (space_view space.old.superblock (P.view space.old.pages)) (space_view space.new.superblock (P.view space.new.pages)) tree key) }
+{
+    let levels = usize::from(page_levels(tree.slots));
+    let depth = levels - usize::from(page_level(key.level));
+    hold(space, trail, levels, 0, tree.root)?;
+    for above in 0..depth {
+        step(space, trail, levels, key, above)?;
+    }
+    Ok(depth)
+}
