@@ -1,0 +1,5 @@
+pub mod Fields
+pub mod Entries
+pub mod Layout
+pub mod Spelling
+pub mod Places
