@@ -1,9 +1,12 @@
 -- The words of the command line.
-use Rattle.std.specs.Prelude.{◌≡◌, ℕ, ◌+◌, List, [], ◌∷◌, take, codes, ⊤}
+use Rattle.std.specs.Prelude.{◌≡◌, ◌⊎◌, ℕ, ◌+◌, true, false, List, [], ◌∷◌, take, codes, ⊤}
 use Rattle.std.specs.Fmt.{decimal}
 use Rattle.chart_grid.specs.Limits.{IsSide}
+use Rattle.command_words.specs.Words.{plain_words, has_flag}
 use Rattle.chart_program.specs.declared.words.Command.{Command}
 use Rattle.chart_program.specs.declared.words.Command.TheVariants.{Plot, Run, Serve, Draw, Init}
+use Rattle.chart_program.specs.declared.words.WordsEnd.{WordsEnd}
+use Rattle.chart_program.specs.declared.words.WordsEnd.TheVariants.{Wrong, NoMemory}
 
 -- the first word of a command
 abbrev pub word_of : Command → List ℕ
@@ -41,3 +44,12 @@ pub record Begins (count : ℕ) (words : List (List ℕ)) : Type 0 where
 pub record IsWrongAt (place : ℕ) (words : List (List ℕ)) : Type 0 where
   pub before : Begins place words
   pub here : Begins (place + 1) words → ⊥
+
+-- a word is a flag, which is wrong at 0; or the command and its operands aren't those of a command
+abbrev pub IsWrong : ℕ → List (List ℕ) → Type 0
+IsWrong place words = ((has_flag words ≡ true) × (place ≡ 0)) ⊎ ((has_flag words ≡ false) × IsWrongAt place (plain_words words))
+
+-- why words aren't taken
+abbrev pub EndsWords : WordsEnd → List (List ℕ) → Type 0
+EndsWords (Wrong place) words = IsWrong place words
+EndsWords NoMemory words = ⊤

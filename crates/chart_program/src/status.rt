@@ -12,7 +12,7 @@ pub struct Status {
 pub const DONE: u8 = 0;
 
 /// The words aren't a command. The place is the index of the first wrong word, and the number of
-/// words where one is missing.
+/// words where one is missing; 0 where one is a flag.
 pub const WRONG_WORDS: u8 = 2;
 
 /// There was no memory.

@@ -1,14 +1,15 @@
-ghost use Rattle.std.specs.Prelude.{◌≡◌, ◌≢◌, ◌⊎◌, ◌≤◌, ◌^◌, [], ◌∷◌, length, map, Contains, string_bytes, IfSome};
+ghost use Rattle.std.specs.Prelude.{◌≡◌, ◌≢◌, ◌⊎◌, ◌≤◌, ◌^◌, false, [], ◌∷◌, length, map, Contains, string_bytes, IfSome};
 ghost use Rattle.block_disk.specs.Counts.{HasRisen};
 ghost use Rattle.block_disk.specs.View.{View, DiskKept, Honest};
 ghost use Rattle.gate_pages.specs.Journal.{page_count};
 ghost use Rattle.store_init.specs.Stores.{HasStore};
 ghost use Rattle.chart_grid.specs.Limits.{IsSide};
 ghost use Rattle.chart_service.specs.Serving.{AreSpelled};
+ghost use Rattle.command_words.specs.Words.{plain_words, has_flag};
 ghost use Rattle.chart_program.specs.declared.words.Command.{Command};
 ghost use Rattle.chart_program.specs.declared.words.Command.TheVariants.{Run, Draw, Init};
 ghost use Rattle.chart_program.specs.declared.draw_end.DrawEnd.TheVariants as draw_end;
-ghost use Rattle.chart_program.specs.Words.{Spells, IsWrongAt};
+ghost use Rattle.chart_program.specs.Words.{Spells, IsWrong};
 ghost use Rattle.chart_program.specs.Slots.{FirstBad, StoppedBefore};
 ghost use Rattle.chart_program.specs.Plotted.{SendsPlot, SendsFront};
 ghost use Rattle.chart_program.specs.Draws.{DrawsAll, DrawsTaken, DrawsWithin, StopsAtFrame};
@@ -25,7 +26,7 @@ use crate::status::{
     BAD_COEFFICIENT, BAD_INPUT, DISK_FAULT, DONE, IS_STORE, MISSING, NO_MEMORY, READ_FAULT,
     SEND_FAULT, Status, TOO_MUCH, TOO_SMALL, UNKNOWN_SESSION, WRONG_WORDS,
 };
-use crate::words::{Command, command_of};
+use crate::words::{Command, WordsEnd, command_of};
 use block_disk::{Back, World};
 use chart_client::ClientError;
 use chart_frames::laws::{
@@ -42,48 +43,43 @@ use store_init::{InitCause, make_store};
 pub fn chart<W: World>(alloc: Global, words: &[String], mut world: W) -> (Status, W)
     // each status comes exactly for its cause
     ensures codes { Contains (DONE ∷ WRONG_WORDS ∷ NO_MEMORY ∷ READ_FAULT ∷ SEND_FAULT ∷ BAD_INPUT ∷ TOO_MUCH ∷ MISSING ∷ BAD_COEFFICIENT ∷ UNKNOWN_SESSION ∷ DISK_FAULT ∷ TOO_SMALL ∷ IS_STORE ∷ []) result.0.code }
-    ensures wrong { result.0.code ≡ WRONG_WORDS → IsWrongAt result.0.place (map string_bytes words.now) }
-    ensures command { result.0.code ≢ WRONG_WORDS → OfCommand (map string_bytes words.now) (λ command. Unit {0}) }
+    ensures wrong { result.0.code ≡ WRONG_WORDS → IsWrong result.0.place (map string_bytes words.now) }
+    ensures command { result.0.code ≢ WRONG_WORDS → result.0.code ≢ NO_MEMORY → (has_flag (map string_bytes words.now) ≡ false) × OfCommand (plain_words (map string_bytes words.now)) (λ command. Unit {0}) }
     ensures read { result.0.code ≡ READ_FAULT → HasRisen (W.read_faults world) (W.read_faults result.1) }
-    ensures stopped { result.0.code ≡ READ_FAULT → OfCommand (map string_bytes words.now) (λ command. IfSome (W.left world) (λ input. IfSome (W.left result.1) (StopsBefore command input (W.sent world) (W.sent result.1)))) }
+    ensures stopped { result.0.code ≡ READ_FAULT → OfCommand (plain_words (map string_bytes words.now)) (λ command. IfSome (W.left world) (λ input. IfSome (W.left result.1) (StopsBefore command input (W.sent world) (W.sent result.1)))) }
     ensures send { result.0.code ≡ SEND_FAULT → HasRisen (W.send_faults world) (W.send_faults result.1) }
-    ensures bad { result.0.code ≡ BAD_INPUT → OfCommand (map string_bytes words.now) (λ command. IfSome (W.left world) (λ input. IsBadInput command input result.0.place (W.sent world) (W.sent result.1))) }
-    ensures much { result.0.code ≡ TOO_MUCH → OfCommand (map string_bytes words.now) (λ command. IfSome (W.left world) (λ input. IsTooMuch command input result.0.place (W.sent world) (W.sent result.1))) }
-    ensures missing { result.0.code ≡ MISSING → OfCommand (map string_bytes words.now) (λ command. IfSome (W.left world) (λ input. Lacks command input result.0.place (W.sent world) (W.sent result.1))) }
-    ensures misfit { result.0.code ≡ BAD_COEFFICIENT → OfCommand (map string_bytes words.now) (λ command. IfSome (W.left world) (λ input. Misfits command input result.0.place (W.sent world) (W.sent result.1))) }
-    ensures unopened { result.0.code ≡ UNKNOWN_SESSION → OfCommand (map string_bytes words.now) (λ command. IfSome (W.left world) (λ input. NamesUnopened command input result.0.place (W.sent world) (W.sent result.1))) }
-    ensures memory { result.0.code ≡ NO_MEMORY → OfCommand (map string_bytes words.now) (λ command. IfSome (W.left world) (λ input. IsCutShort command input (W.sent world) (W.sent result.1))) }
-    ensures within { result.0.code ≡ DONE → OfCommand (map string_bytes words.now) (λ command. IfSome (W.left world) (IsWithin command)) }
+    ensures bad { result.0.code ≡ BAD_INPUT → OfCommand (plain_words (map string_bytes words.now)) (λ command. IfSome (W.left world) (λ input. IsBadInput command input result.0.place (W.sent world) (W.sent result.1))) }
+    ensures much { result.0.code ≡ TOO_MUCH → OfCommand (plain_words (map string_bytes words.now)) (λ command. IfSome (W.left world) (λ input. IsTooMuch command input result.0.place (W.sent world) (W.sent result.1))) }
+    ensures missing { result.0.code ≡ MISSING → OfCommand (plain_words (map string_bytes words.now)) (λ command. IfSome (W.left world) (λ input. Lacks command input result.0.place (W.sent world) (W.sent result.1))) }
+    ensures misfit { result.0.code ≡ BAD_COEFFICIENT → OfCommand (plain_words (map string_bytes words.now)) (λ command. IfSome (W.left world) (λ input. Misfits command input result.0.place (W.sent world) (W.sent result.1))) }
+    ensures unopened { result.0.code ≡ UNKNOWN_SESSION → OfCommand (plain_words (map string_bytes words.now)) (λ command. IfSome (W.left world) (λ input. NamesUnopened command input result.0.place (W.sent world) (W.sent result.1))) }
+    ensures memory { result.0.code ≡ NO_MEMORY → (result.1 ≡ world) ⊎ OfCommand (plain_words (map string_bytes words.now)) (λ command. IfSome (W.left world) (λ input. IsCutShort command input (W.sent world) (W.sent result.1))) }
+    ensures within { result.0.code ≡ DONE → OfCommand (plain_words (map string_bytes words.now)) (λ command. IfSome (W.left world) (IsWithin command)) }
     ensures fault { result.0.code ≡ DISK_FAULT → HasRisen (W.view world).faults (W.view result.1).faults }
-    ensures small { result.0.code ≡ TOO_SMALL → OfCommand (map string_bytes words.now) (λ command. IsTooSmall command (W.view world) result.0.place) }
-    ensures there { result.0.code ≡ IS_STORE → OfCommand (map string_bytes words.now) (λ command. IsThere command (W.view world) result.0.place) }
+    ensures small { result.0.code ≡ TOO_SMALL → OfCommand (plain_words (map string_bytes words.now)) (λ command. IsTooSmall command (W.view world) result.0.place) }
+    ensures there { result.0.code ≡ IS_STORE → OfCommand (plain_words (map string_bytes words.now)) (λ command. IsThere command (W.view world) result.0.place) }
     ensures place { Contains (DONE ∷ NO_MEMORY ∷ READ_FAULT ∷ SEND_FAULT ∷ DISK_FAULT ∷ []) result.0.code → result.0.place ≡ 0 }
 
     // what was sent
-    ensures done { result.0.code ≡ DONE → OfCommand (map string_bytes words.now) (λ command. IfSome (W.left world) (λ input. SendsAll command input (W.sent world) (W.sent result.1))) }
-    ensures part { result.0.code ≡ SEND_FAULT → OfCommand (map string_bytes words.now) (λ command. IfSome (W.left world) (λ input. SendsPart command input (W.sent world) (W.sent result.1))) }
-    ensures nothing { result.0.code ≢ DONE → result.0.code ≢ SEND_FAULT → (Contains stream_words (map string_bytes words.now) → ⊥) → W.sent result.1 ≡ W.sent world }
+    ensures done { result.0.code ≡ DONE → OfCommand (plain_words (map string_bytes words.now)) (λ command. IfSome (W.left world) (λ input. SendsAll command input (W.sent world) (W.sent result.1))) }
+    ensures part { result.0.code ≡ SEND_FAULT → OfCommand (plain_words (map string_bytes words.now)) (λ command. IfSome (W.left world) (λ input. SendsPart command input (W.sent world) (W.sent result.1))) }
+    ensures nothing { result.0.code ≢ DONE → result.0.code ≢ SEND_FAULT → (Contains stream_words (plain_words (map string_bytes words.now)) → ⊥) → W.sent result.1 ≡ W.sent world }
 
     // of the frames that answer lines `draw` sends the pictures of the book
-    ensures pictures { result.0.code ≡ DONE → Spells Draw (map string_bytes words.now) → IfSome (W.left world) (λ input. DrawsReplies input (W.sent world) (W.sent result.1)) }
+    ensures pictures { result.0.code ≡ DONE → Spells Draw (plain_words (map string_bytes words.now)) → IfSome (W.left world) (λ input. DrawsReplies input (W.sent world) (W.sent result.1)) }
 
     // `init` alone calls the disk: a crash at any moment leaves the pages from before, or an empty store
-    ensures untouched { result.0.code ≡ WRONG_WORDS → DiskKept (W.view world) (W.view result.1) }
-    ensures disk { result.0.code ≢ WRONG_WORDS → OfCommand (map string_bytes words.now) (λ command. LeavesDisk command (W.view world) (W.view result.1)) }
-    ensures made { result.0.code ≡ DONE → OfCommand (map string_bytes words.now) (λ command. IsMade command (W.view world) (W.view result.1)) }
+    ensures untouched { result.0.code ≡ WRONG_WORDS → result.1 ≡ world }
+    ensures disk { result.0.code ≢ WRONG_WORDS → (result.1 ≡ world) ⊎ OfCommand (plain_words (map string_bytes words.now)) (λ command. LeavesDisk command (W.view world) (W.view result.1)) }
+    ensures made { result.0.code ≡ DONE → OfCommand (plain_words (map string_bytes words.now)) (λ command. IsMade command (W.view world) (W.view result.1)) }
 
     // with good words, good input and no fault the command is done, or there is no memory
-    ensures complete { IfSome (W.left world) (λ input. OfCommand (map string_bytes words.now) (λ command. Unit {0}) → ((command : Command) → Spells command (map string_bytes words.now) → IsInput command input) → (HasRisen (W.read_faults world) (W.read_faults result.1) → ⊥) → (HasRisen (W.send_faults world) (W.send_faults result.1) → ⊥) → (result.0.code ≡ DONE) ⊎ (result.0.code ≡ NO_MEMORY)) }
-    ensures ready { Spells Init (map string_bytes words.now) → 128 ≤ (W.view world).size → Honest (W.view world) → (HasStore (page_count (W.view world).size) (W.view world).image → ⊥) → (HasRisen (W.view world).faults (W.view result.1).faults → ⊥) → (result.0.code ≡ DONE) ⊎ (result.0.code ≡ NO_MEMORY) }
+    ensures complete { has_flag (map string_bytes words.now) ≡ false → IfSome (W.left world) (λ input. OfCommand (plain_words (map string_bytes words.now)) (λ command. Unit {0}) → ((command : Command) → Spells command (plain_words (map string_bytes words.now)) → IsInput command input) → (HasRisen (W.read_faults world) (W.read_faults result.1) → ⊥) → (HasRisen (W.send_faults world) (W.send_faults result.1) → ⊥) → (result.0.code ≡ DONE) ⊎ (result.0.code ≡ NO_MEMORY)) }
+    ensures ready { has_flag (map string_bytes words.now) ≡ false → Spells Init (plain_words (map string_bytes words.now)) → 128 ≤ (W.view world).size → Honest (W.view world) → (HasStore (page_count (W.view world).size) (W.view world).image → ⊥) → (HasRisen (W.view world).faults (W.view result.1).faults → ⊥) → (result.0.code ≡ DONE) ⊎ (result.0.code ≡ NO_MEMORY) }
 {
-    match command_of(words) {
-        Err(place) => (
-            Status {
-                code: WRONG_WORDS,
-                place,
-            },
-            world,
-        ),
+    match command_of(alloc, words) {
+        Err(WordsEnd::Wrong { place }) => (ended(WRONG_WORDS, place), world),
+        Err(WordsEnd::NoMemory) => (ended(NO_MEMORY, 0), world),
         Ok(Command::Plot { w, h }) => {
             let status = plot_status(alloc, w, h, &mut world);
             (status, world)

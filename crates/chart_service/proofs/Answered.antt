@@ -13,6 +13,7 @@ use Rattle.om3_coeff.specs.declared.errors.NodeError.TheVariants.{DiskFault, Dam
 use Rattle.om3_coeff.specs.View.{NodesView, Agrees, HasCause}
 use Rattle.om3_coeff.specs.ListNodes.{list_view}
 use Rattle.coefficient_cache.specs.Pairs.{series_key, holds}
+use Rattle.value_filter.specs.declared.steps.Step.{Step}
 use Rattle.request_lines.specs.declared.ranges.RangeWord.{RangeWord}
 use Rattle.series_book.specs.declared.one_series.Series.{Series}
 use Rattle.series_book.specs.declared.refusals.Refusal.{Refusal}
@@ -32,8 +33,8 @@ use Rattle.chart_frames.specs.declared.frame.Frame.TheVariants.{View}
 use Rattle.chart_frames.specs.declared.frame.ViewFrame.{ViewFrame}
 use Rattle.chart_frames.specs.Frames.{FitsView}
 use Rattle.chart_service.specs.State.{State}
-use Rattle.chart_service.specs.Viewing.{AreNeeded, Answers, axis_of, root_of, view_frame}
-use Rattle.chart_service.specs.Replies.{refused, Refuses, NeedsTooMany, AnswersView, ViewsSeries, ViewsId, RepliesToView, Moves, MovesLast, MovesIn}
+use Rattle.chart_service.specs.Viewing.{AreNeeded, Answers, axis_of, root_of, range_spec, view_frame}
+use Rattle.chart_service.specs.Replies.{refused, Refuses, NeedsTooMany, AnswersBy, AnswersView, ViewsSeries, ViewsId, RepliesToView, Moves, MovesLast, MovesIn}
 use Rattle.chart_service.specs.Planning.{TellsOf, AreInFrame, IsPlannedFor, RefusesView, StopsIn, PlansOrStops, IsSpec, RefusesSpec, IsMoved, IsLast, IsLastOf}
 use Rattle.chart_service.specs.declared.shown.Planned.{Planned}
 use Rattle.chart_service.specs.declared.viewport.Viewport.{Viewport}
@@ -92,13 +93,13 @@ too_many series spec number needed cache old (Some session) is stops =
       refuses = subst R (sym stops.counted) (subst C stops.capacity (record { reply = refl; state = refl }));
     }
 
-pub refused_too_large : (book : Option Series) (spec : ViewSpec) (number needed cache : ℕ) (old : State) (frame : Frame) → IsSomeAnd book (λ series. StopsIn series spec.grid (session_of number old.sessions) (TooLarge needed cache)) → frame ≡ refused (ViewTooLarge needed cache) → IsSomeAnd book (λ series. AnswersView series spec number frame old old)
+pub refused_too_large : (book : Option Series) (spec : ViewSpec) (number needed cache : ℕ) (old : State) (frame : Frame) → IsSomeAnd book (λ series. StopsIn series spec.grid (session_of number old.sessions) (TooLarge needed cache)) → frame ≡ refused (ViewTooLarge needed cache) → IsSomeAnd book (λ series. AnswersBy None series spec number frame old old)
 refused_too_large None spec number needed cache old frame stops is = stops
 refused_too_large (Some series) spec number needed cache old frame stops is =
-    let P : Frame → Type 0 = λ f. AnswersView series spec number f old old in
+    let P : Frame → Type 0 = λ f. AnswersBy None series spec number f old old in
     subst P (sym is) (inl (too_many series spec number needed cache old (session_of number old.sessions) refl stops))
 
-answers_in : (series : Series) (spec : ViewSpec) (number : ℕ) (p : Planned) (old new : State) (o : Option Session) → session_of number old.sessions ≡ o → IsPlannedFor series spec o p → new ≡ record old { sessions = viewed number spec p.plan.needed old.sessions } → Answers series spec number (View (view_frame number spec p.told.range series p.plan.send)) old new
+answers_in : (series : Series) (spec : ViewSpec) (number : ℕ) (p : Planned) (old new : State) (o : Option Session) → session_of number old.sessions ≡ o → IsPlannedFor series spec o p → new ≡ record old { sessions = viewed number spec (Some p.plan.needed) old.sessions } → Answers series spec number (View (view_frame number spec p.told.range series p.plan.send)) old new
 answers_in series spec number p old new None is planned state = absurd planned.plan
 answers_in series spec number p old new (Some session) is planned state = record {
   session = session;
@@ -113,10 +114,10 @@ answers_in series spec number p old new (Some session) is planned state = record
 }
 
 -- an answered view
-pub answered_view : (book : Option Series) (spec : ViewSpec) (number : ℕ) (p : Planned) (old new : State) (view : ViewFrame) → IsSomeAnd book (λ series. IsPlannedFor series spec (session_of number old.sessions) p) → ((series : Series) → p.told.axis ≡ axis_of series → p.told.root ≡ root_of series → view ≡ view_frame number spec p.told.range series p.plan.send) → new ≡ record old { sessions = viewed number spec p.plan.needed old.sessions } → IsSomeAnd book (λ series. AnswersView series spec number (View view) old new)
+pub answered_view : (book : Option Series) (spec : ViewSpec) (number : ℕ) (p : Planned) (old new : State) (view : ViewFrame) → IsSomeAnd book (λ series. IsPlannedFor series spec (session_of number old.sessions) p) → ((series : Series) → p.told.axis ≡ axis_of series → p.told.root ≡ root_of series → view ≡ view_frame number spec p.told.range series p.plan.send) → new ≡ record old { sessions = viewed number spec (Some p.plan.needed) old.sessions } → IsSomeAnd book (λ series. AnswersBy None series spec number (View view) old new)
 answered_view None spec number p old new view planned shows state = planned
 answered_view (Some series) spec number p old new view planned shows state =
-    let P : ViewFrame → Type 0 = λ v. AnswersView series spec number (View v) old new in
+    let P : ViewFrame → Type 0 = λ v. AnswersBy None series spec number (View v) old new in
     subst P (sym (shows series planned.told.axis_is planned.told.root)) (inr (answers_in series spec number p old new (session_of number old.sessions) refl planned state))
 
 fits_in : (series : Series) (spec : ViewSpec) (number : ℕ) (p : Planned) (o : Option Session) → IsPlannedFor series spec o p → 1 ≤ number → number < 2 ^ 32 → spec.series < 512 → window.IsWindow spec.grid.t0 spec.grid.t1 → window.IsSide spec.grid.w → window.IsSide spec.grid.h → IsSeries series → FitsView (view_frame number spec p.told.range series p.plan.send)
@@ -132,10 +133,11 @@ answered_fits None spec number p session view planned series shows low high few 
 answered_fits (Some series) spec number p session view planned is shows low high few shown wide tall =
     subst FitsView (sym (shows series planned.told.axis_is planned.told.root)) (fits_in series spec number p session planned low high few shown wide tall is)
 
-views_series : (series : Series) (id number : ℕ) (v : Viewport) (word : RangeWord) (spec : ViewSpec) (frame : Frame) (old new : State) → IsSpec id v word spec → AnswersView series spec number frame old new → ViewsSeries (Some series) id number v.w v.h v.t0 v.t1 word frame old new
-views_series series id number v word spec frame old new is answers =
-    let S : ℕ → Type 0 = λ n. AnswersView series (record { series = n; grid = spec.grid; range = spec.range }) number frame old new in
-    let R : RangeSpec → Type 0 = λ r. AnswersView series (record { series = id; grid = spec.grid; range = r }) number frame old new in
+views_series : (series : Series) (id number : ℕ) (v : Viewport) (word : RangeWord) (filter : Option (List Step)) (spec : ViewSpec) (frame : Frame) (old new : State) → IsSpec id v word filter spec → AnswersView series spec number frame old new → ViewsSeries (Some series) id number v.w v.h v.t0 v.t1 word filter frame old new
+views_series series id number v word filter spec frame old new is answers =
+    let S : ℕ → Type 0 = λ n. AnswersView series (record { series = n; grid = spec.grid; range = spec.range; filter = spec.filter }) number frame old new in
+    let R : RangeSpec → Type 0 = λ r. AnswersView series (record { series = id; grid = spec.grid; range = r; filter = spec.filter }) number frame old new in
+    let F : Option (List Step) → Type 0 = λ o. AnswersView series (record { series = id; grid = spec.grid; range = range_spec word; filter = o }) number frame old new in
     inr (inr (inr (
       is.grid.in_range,
       is.grid.wide,
@@ -145,27 +147,27 @@ views_series series id number v word spec frame old new is answers =
         grid = spec.grid;
         window = is.grid.window;
         canvas = is.grid.canvas;
-        view = subst R is.range (subst S is.of answers);
+        view = subst F is.filter_is (subst R is.range (subst S is.of answers));
       },
     )))
 
-views_at : (o : Option Series) (id number : ℕ) (v : Viewport) (word : RangeWord) (spec : ViewSpec) (frame : Frame) (old new : State) → IsSpec id v word spec → IsSomeAnd o (λ series. AnswersView series spec number frame old new) → ViewsSeries o id number v.w v.h v.t0 v.t1 word frame old new
-views_at None id number v word spec frame old new is answers = absurd answers
-views_at (Some series) id number v word spec frame old new is answers = views_series series id number v word spec frame old new is answers
+views_at : (o : Option Series) (id number : ℕ) (v : Viewport) (word : RangeWord) (filter : Option (List Step)) (spec : ViewSpec) (frame : Frame) (old new : State) → IsSpec id v word filter spec → IsSomeAnd o (λ series. AnswersView series spec number frame old new) → ViewsSeries o id number v.w v.h v.t0 v.t1 word filter frame old new
+views_at None id number v word filter spec frame old new is answers = absurd answers
+views_at (Some series) id number v word filter spec frame old new is answers = views_series series id number v word filter spec frame old new is answers
 
 -- an answered view of the series of an id
-pub views_id : (id number : ℕ) (v : Viewport) (word : RangeWord) (spec : ViewSpec) (frame : Frame) (old new : State) → IsSpec id v word spec → IsSomeAnd (slice_get old.book spec.series) (λ series. AnswersView series spec number frame old new) → ViewsId (Some id) number v.w v.h v.t0 v.t1 word frame old new
-views_id id number v word spec frame old new is answers =
+pub views_id : (id number : ℕ) (v : Viewport) (word : RangeWord) (filter : Option (List Step)) (spec : ViewSpec) (frame : Frame) (old new : State) → IsSpec id v word filter spec → IsSomeAnd (slice_get old.book spec.series) (λ series. AnswersView series spec number frame old new) → ViewsId (Some id) number v.w v.h v.t0 v.t1 word filter frame old new
+views_id id number v word filter spec frame old new is answers =
     let P : ℕ → Type 0 = λ n. IsSomeAnd (slice_get old.book n) (λ series. AnswersView series spec number frame old new) in
-    views_at (slice_get old.book id) id number v word spec frame old new is (subst P is.of answers)
+    views_at (slice_get old.book id) id number v word filter spec frame old new is (subst P is.of answers)
 
 refuses_frame : (why refusal : Refusal) (frame : Frame) (old : State) → why ≡ refusal → frame ≡ refused why → Refuses refusal frame old old
 refuses_frame why refusal frame old same is = record { reply = is ∙ ap refused same; state = refl }
 
-refuses_series : (series : Series) (id number : ℕ) (v : Viewport) (word : RangeWord) (refusal : Refusal) (frame : Frame) (old : State) → RefusesSpec v word refusal → frame ≡ refused refusal → ViewsSeries (Some series) id number v.w v.h v.t0 v.t1 word frame old old
-refuses_series series id number v word refusal frame old (inl bad) is = inl (bad.0, refuses_frame refusal BadWindow frame old bad.1 is)
-refuses_series series id number v word refusal frame old (inr (inl bad)) is = inr (inl (bad.0, bad.1, refuses_frame refusal BadCanvas frame old bad.2 is))
-refuses_series series id number v word refusal frame old (inr (inr bad)) is = inr (inr (inl (bad.0, bad.1, bad.2, bad.3, refuses_frame refusal BadRange frame old bad.4 is)))
+refuses_series : (series : Series) (id number : ℕ) (v : Viewport) (word : RangeWord) (filter : Option (List Step)) (refusal : Refusal) (frame : Frame) (old : State) → RefusesSpec v word refusal → frame ≡ refused refusal → ViewsSeries (Some series) id number v.w v.h v.t0 v.t1 word filter frame old old
+refuses_series series id number v word filter refusal frame old (inl bad) is = inl (bad.0, refuses_frame refusal BadWindow frame old bad.1 is)
+refuses_series series id number v word filter refusal frame old (inr (inl bad)) is = inr (inl (bad.0, bad.1, refuses_frame refusal BadCanvas frame old bad.2 is))
+refuses_series series id number v word filter refusal frame old (inr (inr bad)) is = inr (inr (inl (bad.0, bad.1, bad.2, bad.3, refuses_frame refusal BadRange frame old bad.4 is)))
 
 -- the series of an id that is there
 there_is : (P : Option Series → Type 0) (book : List Series) (id : ℕ) → id < length book → ((series : Series) → slice_get book id ≡ Some series → P (Some series)) → P (slice_get book id)
@@ -175,19 +177,19 @@ there_is P book id below holds = elim (slice_get_cases book id).1 [
 ]
 
 -- a refused one
-pub refuses_id : (id number : ℕ) (v : Viewport) (word : RangeWord) (refusal : Refusal) (frame : Frame) (old : State) → id < length old.book → RefusesSpec v word refusal → frame ≡ refused refusal → ViewsId (Some id) number v.w v.h v.t0 v.t1 word frame old old
-refuses_id id number v word refusal frame old below why is =
-    let P : Option Series → Type 0 = λ o. ViewsSeries o id number v.w v.h v.t0 v.t1 word frame old old in
-    there_is P old.book id below (λ series there. refuses_series series id number v word refusal frame old why is)
+pub refuses_id : (id number : ℕ) (v : Viewport) (word : RangeWord) (filter : Option (List Step)) (refusal : Refusal) (frame : Frame) (old : State) → id < length old.book → RefusesSpec v word refusal → frame ≡ refused refusal → ViewsId (Some id) number v.w v.h v.t0 v.t1 word filter frame old old
+refuses_id id number v word filter refusal frame old below why is =
+    let P : Option Series → Type 0 = λ o. ViewsSeries o id number v.w v.h v.t0 v.t1 word filter frame old old in
+    there_is P old.book id below (λ series there. refuses_series series id number v word filter refusal frame old why is)
 
 -- a view in an open session, of a series that is there
-pub replies_to_view : (number : ℕ) (name : List ℕ) (v : Viewport) (word : RangeWord) (id : ℕ) (frame : Frame) (old new : State) → is_open number old.sessions ≡ true → id_of name old.book ≡ Some id → ViewsId (Some id) number v.w v.h v.t0 v.t1 word frame old new → RepliesToView (is_open number old.sessions) number name v.w v.h v.t0 v.t1 word frame old new
-replies_to_view number name v word id frame old new there is views =
-    let B : Bool → Type 0 = λ b. RepliesToView b number name v.w v.h v.t0 v.t1 word frame old new in
-    let I : Option ℕ → Type 0 = λ o. ViewsId o number v.w v.h v.t0 v.t1 word frame old new in
+pub replies_to_view : (number : ℕ) (name : List ℕ) (v : Viewport) (word : RangeWord) (filter : Option (List Step)) (id : ℕ) (frame : Frame) (old new : State) → is_open number old.sessions ≡ true → id_of name old.book ≡ Some id → ViewsId (Some id) number v.w v.h v.t0 v.t1 word filter frame old new → RepliesToView (is_open number old.sessions) number name v.w v.h v.t0 v.t1 word filter frame old new
+replies_to_view number name v word filter id frame old new there is views =
+    let B : Bool → Type 0 = λ b. RepliesToView b number name v.w v.h v.t0 v.t1 word filter frame old new in
+    let I : Option ℕ → Type 0 = λ o. ViewsId o number v.w v.h v.t0 v.t1 word filter frame old new in
     subst B (sym there) (subst I (sym is) views)
 
-moves_at : (o : Option Series) (last : ViewSpec) (number : ℕ) (t0 t1 : ℤ) (g : Grid) (frame : Frame) (old new : State) → slice_get old.book last.series ≡ o → IsMoved last.grid t0 t1 (Ok g) → IsSomeAnd o (λ series. AnswersView series (record { series = last.series; grid = g; range = last.range }) number frame old new) → Moves last number t0 t1 frame old new
+moves_at : (o : Option Series) (last : ViewSpec) (number : ℕ) (t0 t1 : ℤ) (g : Grid) (frame : Frame) (old new : State) → slice_get old.book last.series ≡ o → IsMoved last.grid t0 t1 (Ok g) → IsSomeAnd o (λ series. AnswersView series (record { series = last.series; grid = g; range = last.range; filter = last.filter }) number frame old new) → Moves last number t0 t1 frame old new
 moves_at None last number t0 t1 g frame old new is moved answers = absurd answers
 moves_at (Some series) last number t0 t1 g frame old new is moved answers = record {
   series = series;
@@ -196,7 +198,7 @@ moves_at (Some series) last number t0 t1 g frame old new is moved answers = reco
 }
 
 -- the last view over another window is answered
-pub moves_answered : (last : ViewSpec) (number : ℕ) (t0 t1 : ℤ) (g : Grid) (frame : Frame) (old new : State) → IsMoved last.grid t0 t1 (Ok g) → IsSomeAnd (slice_get old.book last.series) (λ series. AnswersView series (record { series = last.series; grid = g; range = last.range }) number frame old new) → Moves last number t0 t1 frame old new
+pub moves_answered : (last : ViewSpec) (number : ℕ) (t0 t1 : ℤ) (g : Grid) (frame : Frame) (old new : State) → IsMoved last.grid t0 t1 (Ok g) → IsSomeAnd (slice_get old.book last.series) (λ series. AnswersView series (record { series = last.series; grid = g; range = last.range; filter = last.filter }) number frame old new) → Moves last number t0 t1 frame old new
 moves_answered last number t0 t1 g frame old new = moves_at (slice_get old.book last.series) last number t0 t1 g frame old new refl
 
 -- or refused

@@ -45,7 +45,7 @@ views_closed book number (s ∷ ss) all =
     ]
 
 -- behind an answered view
-pub views_viewed : (book : List Series) (number : ℕ) (spec : ViewSpec) (needed : List (Key × Coef)) (ss : List Session) → IsViewOf book spec → AreViewsOf book ss → AreViewsOf book (viewed number spec needed ss)
+pub views_viewed : (book : List Series) (number : ℕ) (spec : ViewSpec) (needed : Option (List (Key × Coef))) (ss : List Session) → IsViewOf book spec → AreViewsOf book ss → AreViewsOf book (viewed number spec needed ss)
 views_viewed book number spec needed [] view all = all
 views_viewed book number spec needed (s ∷ ss) view all =
     elim (s.number == number) as (λ b. AreViewsOf book (if b then after_view spec needed s ∷ ss else s ∷ viewed number spec needed ss)) [

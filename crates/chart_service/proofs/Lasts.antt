@@ -17,7 +17,8 @@ nobody number (s ∷ ss) none = (elim (s.number == number) as (λ b. (b || is_op
   | false ↦ λ h. nobody number ss h
 ]) none
 
-somebody : (number : ℕ) (ss : List Session) → is_open number ss ≡ true → (s : Session) × (session_of number ss ≡ Some s)
+-- a session that is open
+pub somebody : (number : ℕ) (ss : List Session) → is_open number ss ≡ true → (s : Session) × (session_of number ss ≡ Some s)
 somebody number [] there = cc
 somebody number (s ∷ ss) there = (elim (s.number == number) as (λ b. (b || is_open number ss) ≡ true → (t : Session) × ((if b then Some s else session_of number ss) ≡ Some t)) [
   | true ↦ λ h. (s, refl)

@@ -9,6 +9,7 @@ pub mod Keeping
 pub mod Lasts
 pub mod Showing
 pub mod Answered
+pub mod Filtered
 pub mod Openings
 pub mod Standing
 pub mod OneList

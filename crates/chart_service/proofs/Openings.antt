@@ -1,5 +1,5 @@
 -- Which sessions a reply opens and closes.
-use Rattle.std.proofs.Common.{◌≡◌, ◌≢◌, ℕ, suc, ◌<◌, Bool, true, false, ◌==◌, List, [], ◌∷◌, length, get_or, IsTrue, refl, ap, sym, ◌∙◌, subst, arith}
+use Rattle.std.proofs.Common.{◌≡◌, ◌≢◌, ℕ, suc, ◌<◌, Bool, true, false, ◌==◌, List, [], ◌∷◌, length, get_or, Option, IsTrue, refl, ap, sym, ◌∙◌, subst, arith}
 use Rattle.std.specs.Prelude.{AllPairs, not, ◌&&◌, ◌||◌, if◌then◌else◌}
 use Rattle.std.proofs.lemmas.Bool.{eqb-true}
 use Rattle.om3_coeff.specs.declared.key.Key.{Key}
@@ -7,15 +7,16 @@ use Rattle.om3_coeff.specs.declared.coef.Coef.{Coef}
 use Rattle.zoom_session.specs.declared.session.Session.{Session}
 use Rattle.zoom_session.specs.declared.view_spec.ViewSpec.{ViewSpec}
 use Rattle.zoom_session.specs.Sessions.{is_open, without, viewed, after_view, AreSessions}
-use Rattle.chart_frames.specs.declared.frame.Frame.TheVariants.{Done, Closed, View}
+use Rattle.chart_frames.specs.declared.frame.Frame.TheVariants.{Done, Closed, View, Rows}
 use Rattle.chart_frames.specs.declared.frame.ViewFrame.{ViewFrame}
+use Rattle.chart_frames.specs.declared.frame.RowsFrame.{RowsFrame}
 use Rattle.chart_service.specs.Opening.{OpensBy}
 
 pub opens_done : (slots : ℕ) (ss : List Session) → OpensBy (Done slots) ss ss
 opens_done slots ss = record { named = tt; after = λ n. refl }
 
 -- an answered view
-same_open : (number n : ℕ) (spec : ViewSpec) (needed : List (Key × Coef)) (ss : List Session) → is_open n (viewed number spec needed ss) ≡ is_open n ss
+same_open : (number n : ℕ) (spec : ViewSpec) (needed : Option (List (Key × Coef))) (ss : List Session) → is_open n (viewed number spec needed ss) ≡ is_open n ss
 same_open number n spec needed [] = refl
 same_open number n spec needed (s ∷ ss) =
     elim (s.number == number) as (λ b. is_open n (if b then after_view spec needed s ∷ ss else s ∷ viewed number spec needed ss) ≡ is_open n (s ∷ ss)) [
@@ -23,8 +24,15 @@ same_open number n spec needed (s ∷ ss) =
       | false ↦ ap (λ b. s.number == n || b) (same_open number n spec needed ss)
     ]
 
-pub opens_viewed : (number : ℕ) (spec : ViewSpec) (needed : List (Key × Coef)) (view : ViewFrame) (ss : List Session) → view.session ≡ number → IsTrue (is_open number ss) → OpensBy (View view) ss (viewed number spec needed ss)
+pub opens_viewed : (number : ℕ) (spec : ViewSpec) (needed : Option (List (Key × Coef))) (view : ViewFrame) (ss : List Session) → view.session ≡ number → IsTrue (is_open number ss) → OpensBy (View view) ss (viewed number spec needed ss)
 opens_viewed number spec needed view ss is there = record {
+  named = let P : ℕ → Type 0 = λ n. IsTrue (is_open n ss) in subst P (sym is) there;
+  after = λ n. same_open number n spec needed ss;
+}
+
+-- the same with a filter
+pub opens_rows : (number : ℕ) (spec : ViewSpec) (needed : Option (List (Key × Coef))) (rows : RowsFrame) (ss : List Session) → rows.session ≡ number → IsTrue (is_open number ss) → OpensBy (Rows rows) ss (viewed number spec needed ss)
+opens_rows number spec needed rows ss is there = record {
   named = let P : ℕ → Type 0 = λ n. IsTrue (is_open n ss) in subst P (sym is) there;
   after = λ n. same_open number n spec needed ss;
 }

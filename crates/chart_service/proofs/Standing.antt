@@ -15,6 +15,8 @@ use Rattle.series_book.specs.Edits.{Edited, apply, id_of}
 use Rattle.request_lines.specs.declared.requests.Request.{Request}
 use Rattle.request_lines.specs.declared.requests.Request.TheVariants.{Edit as EditRequest, Open, View, Zoom, Pan, Close}
 use Rattle.request_lines.specs.declared.ranges.RangeWord.{RangeWord}
+use Rattle.value_filter.specs.declared.steps.Step.{Step}
+use Rattle.value_filter.specs.Steps.{postfix}
 use Rattle.request_lines.specs.Requests.{read_line}
 use Rattle.zoom_session.specs.declared.session.Session.{Session}
 use Rattle.zoom_session.specs.declared.view_spec.ViewSpec.{ViewSpec}
@@ -23,8 +25,8 @@ use Rattle.zoom_session.specs.Sessions.{is_open, session_of, open_refusal, fresh
 use Rattle.chart_frames.specs.declared.frame.Frame.{Frame}
 use Rattle.chart_grid.specs.declared.grid.Grid.{Grid}
 use Rattle.chart_service.specs.State.{State, IsSound, HasViewOf}
-use Rattle.chart_service.specs.Viewing.{Answers, range_spec}
-use Rattle.chart_service.specs.Replies.{refused, Refuses, Edits, Opens, Closes, NeedsTooMany, AnswersView, Views, ViewsSeries, ViewsId, RepliesToView, Moves, MovesLast, MovesIn, Replies, RepliesTo, RepliesToLine, cache_of}
+use Rattle.chart_service.specs.Viewing.{Answers, AnswersRows, range_spec}
+use Rattle.chart_service.specs.Replies.{refused, Refuses, Edits, Opens, Closes, NeedsTooMany, AnswersBy, AnswersView, Views, ViewsSeries, ViewsId, RepliesToView, RepliesByText, Moves, MovesLast, MovesIn, Replies, RepliesTo, RepliesToLine, cache_of}
 use Rattle.chart_service.specs.Serving.{RepliesToAll}
 use Rattle.chart_service.specs.Alone.{session_read, is_own, concerns, own_lines, own_frames, only, alone, NeverCrowded}
 
@@ -38,7 +40,7 @@ only_open n (s ∷ ss) =
       | false ↦ λ h. only_open n ss
     ]) refl
 
-only_session : (n : ℕ) (ss : List Session) → session_of n (only n ss) ≡ session_of n ss
+pub only_session : (n : ℕ) (ss : List Session) → session_of n (only n ss) ≡ session_of n ss
 only_session n [] = refl
 only_session n (s ∷ ss) =
     (elim (s.number == n) as (λ b. (s.number == n) ≡ b → session_of n (if b then s ∷ only n ss else only n ss) ≡ (if b then Some s else session_of n ss)) [
@@ -54,7 +56,7 @@ only_without n (s ∷ ss) =
       | false ↦ λ h. ap (λ b. if b then s ∷ only n (without n ss) else only n (without n ss)) h ∙ only_without n ss
     ]) refl
 
-pub only_viewed : (n : ℕ) (spec : ViewSpec) (needed : List (Key × Coef)) (ss : List Session) → only n (viewed n spec needed ss) ≡ viewed n spec needed (only n ss)
+pub only_viewed : (n : ℕ) (spec : ViewSpec) (needed : Option (List (Key × Coef))) (ss : List Session) → only n (viewed n spec needed ss) ≡ viewed n spec needed (only n ss)
 only_viewed n spec needed [] = refl
 only_viewed n spec needed (s ∷ ss) =
     (elim (s.number == n) as (λ b. (s.number == n) ≡ b → only n (if b then after_view spec needed s ∷ ss else s ∷ viewed n spec needed ss) ≡ viewed n spec needed (if b then s ∷ only n ss else only n ss)) [
@@ -100,7 +102,7 @@ other_without n m (s ∷ ss) other =
       | false ↦ λ h. ap (λ l. if s.number == n then s ∷ l else l) (other_without n m ss other)
     ]) refl
 
-pub other_viewed : (n m : ℕ) (spec : ViewSpec) (needed : List (Key × Coef)) (ss : List Session) → (m == n) ≡ false → only n (viewed m spec needed ss) ≡ only n ss
+pub other_viewed : (n m : ℕ) (spec : ViewSpec) (needed : Option (List (Key × Coef))) (ss : List Session) → (m == n) ≡ false → only n (viewed m spec needed ss) ≡ only n ss
 other_viewed n m spec needed [] other = refl
 other_viewed n m spec needed (s ∷ ss) other =
     (elim (s.number == m) as (λ b. (s.number == m) ≡ b → only n (if b then after_view spec needed s ∷ ss else s ∷ viewed m spec needed ss) ≡ only n (s ∷ ss)) [
@@ -115,31 +117,42 @@ other_viewed n m spec needed (s ∷ ss) other =
 same_refused : (n : ℕ) (refusal : Refusal) (frame : Frame) (old new : State) → Refuses refusal frame old new → alone n new ≡ alone n old
 same_refused n refusal frame old new refuses = ap (alone n) refuses.state
 
+same_by : (n m : ℕ) (o : Option (List Step)) (series : Series) (spec : ViewSpec) (frame : Frame) (old new : State) → (m == n) ≡ false → AnswersBy o series spec m frame old new → alone n new ≡ alone n old
+same_by n m None series spec frame old new other (inl many) = ap (alone n) many.refuses.state
+same_by n m None series spec frame old new other (inr answers) =
+    ap (alone n) answers.state ∙ ap (λ l. record old { sessions = l }) (other_viewed n m spec (Some answers.needed) old.sessions other)
+same_by n m (Some steps) series spec frame old new other answers =
+    ap (alone n) answers.state ∙ ap (λ l. record old { sessions = l }) (other_viewed n m spec None old.sessions other)
+
 same_view : (n m : ℕ) (series : Series) (spec : ViewSpec) (frame : Frame) (old new : State) → (m == n) ≡ false → AnswersView series spec m frame old new → alone n new ≡ alone n old
-same_view n m series spec frame old new other (inl many) = ap (alone n) many.refuses.state
-same_view n m series spec frame old new other (inr answers) =
-    ap (alone n) answers.state ∙ ap (λ l. record old { sessions = l }) (other_viewed n m spec answers.needed old.sessions other)
+same_view n m series spec frame old new other answers = same_by n m spec.filter series spec frame old new other answers
 
-same_series : (n m : ℕ) (o : Option Series) (id w h : ℕ) (t0 t1 : ℤ) (word : RangeWord) (frame : Frame) (old new : State) → (m == n) ≡ false → ViewsSeries o id m w h t0 t1 word frame old new → alone n new ≡ alone n old
-same_series n m None id w h t0 t1 word frame old new other r = ap (alone n) r.state
-same_series n m (Some series) id w h t0 t1 word frame old new other (inl r) = ap (alone n) r.1.state
-same_series n m (Some series) id w h t0 t1 word frame old new other (inr (inl r)) = ap (alone n) r.2.state
-same_series n m (Some series) id w h t0 t1 word frame old new other (inr (inr (inl r))) = ap (alone n) r.4.state
-same_series n m (Some series) id w h t0 t1 word frame old new other (inr (inr (inr r))) =
-    same_view n m series (record { series = id; grid = r.4.grid; range = range_spec word }) frame old new other r.4.view
+same_series : (n m : ℕ) (o : Option Series) (id w h : ℕ) (t0 t1 : ℤ) (word : RangeWord) (filter : Option (List Step)) (frame : Frame) (old new : State) → (m == n) ≡ false → ViewsSeries o id m w h t0 t1 word filter frame old new → alone n new ≡ alone n old
+same_series n m None id w h t0 t1 word filter frame old new other r = ap (alone n) r.state
+same_series n m (Some series) id w h t0 t1 word filter frame old new other (inl r) = ap (alone n) r.1.state
+same_series n m (Some series) id w h t0 t1 word filter frame old new other (inr (inl r)) = ap (alone n) r.2.state
+same_series n m (Some series) id w h t0 t1 word filter frame old new other (inr (inr (inl r))) = ap (alone n) r.4.state
+same_series n m (Some series) id w h t0 t1 word filter frame old new other (inr (inr (inr r))) =
+    same_view n m series (record { series = id; grid = r.4.grid; range = range_spec word; filter = filter }) frame old new other r.4.view
 
-same_id : (n m : ℕ) (o : Option ℕ) (w h : ℕ) (t0 t1 : ℤ) (word : RangeWord) (frame : Frame) (old new : State) → (m == n) ≡ false → ViewsId o m w h t0 t1 word frame old new → alone n new ≡ alone n old
-same_id n m None w h t0 t1 word frame old new other r = ap (alone n) r.state
-same_id n m (Some id) w h t0 t1 word frame old new other r = same_series n m (slice_get old.book id) id w h t0 t1 word frame old new other r
+same_id : (n m : ℕ) (o : Option ℕ) (w h : ℕ) (t0 t1 : ℤ) (word : RangeWord) (filter : Option (List Step)) (frame : Frame) (old new : State) → (m == n) ≡ false → ViewsId o m w h t0 t1 word filter frame old new → alone n new ≡ alone n old
+same_id n m None w h t0 t1 word filter frame old new other r = ap (alone n) r.state
+same_id n m (Some id) w h t0 t1 word filter frame old new other r = same_series n m (slice_get old.book id) id w h t0 t1 word filter frame old new other r
 
-same_in : (n m : ℕ) (b : Bool) (name : List ℕ) (w h : ℕ) (t0 t1 : ℤ) (word : RangeWord) (frame : Frame) (old new : State) → (m == n) ≡ false → RepliesToView b m name w h t0 t1 word frame old new → alone n new ≡ alone n old
-same_in n m false name w h t0 t1 word frame old new other r = ap (alone n) r.state
-same_in n m true name w h t0 t1 word frame old new other r = same_id n m (id_of name old.book) w h t0 t1 word frame old new other r
+same_in : (n m : ℕ) (b : Bool) (name : List ℕ) (w h : ℕ) (t0 t1 : ℤ) (word : RangeWord) (filter : Option (List Step)) (frame : Frame) (old new : State) → (m == n) ≡ false → RepliesToView b m name w h t0 t1 word filter frame old new → alone n new ≡ alone n old
+same_in n m false name w h t0 t1 word filter frame old new other r = ap (alone n) r.state
+same_in n m true name w h t0 t1 word filter frame old new other r = same_id n m (id_of name old.book) w h t0 t1 word filter frame old new other r
+
+same_text : (n m : ℕ) (text : Option (List ℕ)) (b : Bool) (name : List ℕ) (w h : ℕ) (t0 t1 : ℤ) (word : RangeWord) (frame : Frame) (old new : State) → (m == n) ≡ false → RepliesByText text (λ filter. RepliesToView b m name w h t0 t1 word filter frame old new) frame old new → alone n new ≡ alone n old
+same_text n m None b name w h t0 t1 word frame old new other r = same_in n m b name w h t0 t1 word None frame old new other r
+same_text n m (Some text) b name w h t0 t1 word frame old new other (inl bad) = ap (alone n) bad.2.state
+same_text n m (Some text) b name w h t0 t1 word frame old new other (inr good) =
+    same_in n m b name w h t0 t1 word (Some (postfix good.0)) frame old new other good.2
 
 same_moves : (n m : ℕ) (last : ViewSpec) (t0 t1 : ℤ) (frame : Frame) (old new : State) → (m == n) ≡ false → Moves last m t0 t1 frame old new → alone n new ≡ alone n old
 same_moves n m last t0 t1 frame old new other moves = elim moves.reply [
   | inl bad ↦ ap (alone n) bad.1.state
-  | inr good ↦ same_view n m moves.series (record { series = last.series; grid = good.1.grid; range = last.range }) frame old new other good.1.view
+  | inr good ↦ same_view n m moves.series (record { series = last.series; grid = good.1.grid; range = last.range; filter = last.filter }) frame old new other good.1.view
 ]
 
 same_last : (n m : ℕ) (o : Option ViewSpec) (window : ViewSpec → ℤ × ℤ) (frame : Frame) (old new : State) → (m == n) ≡ false → MovesLast o m window frame old new → alone n new ≡ alone n old
@@ -163,7 +176,8 @@ same_closed n m true frame old new other r =
 same_request : (n : ℕ) (request : Request) (frame : Frame) (old new : State) → is_own n (session_read (Ok request)) ≡ false → Replies request frame old new → alone n new ≡ alone n old
 same_request n (EditRequest edit) frame old new other r = cc
 same_request n (Open m cache) frame old new other r = same_opened n m (cache_of cache) (open_refusal old.sessions m (cache_of cache)) frame old new other r
-same_request n (View m name w h t0 t1 word) frame old new other r = same_in n m (is_open m old.sessions) name w h t0 t1 word frame old new other r
+same_request n (View m name w h t0 t1 word text) frame old new other r =
+    same_text n m text (is_open m old.sessions) name w h t0 t1 word frame old new other r
 same_request n (Zoom m t0 t1) frame old new other r = same_moved n m (session_of m old.sessions) (λ last. (t0, t1)) frame old new other r
 same_request n (Pan m by) frame old new other r = same_moved n m (session_of m old.sessions) (λ last. (last.grid.t0 +ℤ by, last.grid.t1 +ℤ by)) frame old new other r
 same_request n (Close m) frame old new other r = same_closed n m (is_open m old.sessions) frame old new other r
@@ -233,36 +247,58 @@ own_answers n series spec frame old new a = record {
   range = a.range;
   shown = a.shown;
   frame_is = a.frame_is;
-  state = ap (alone n) a.state ∙ ap (λ l. record old { sessions = l }) (only_viewed n spec a.needed old.sessions);
+  state = ap (alone n) a.state ∙ ap (λ l. record old { sessions = l }) (only_viewed n spec (Some a.needed) old.sessions);
 }
 
-own_view : (n : ℕ) (series : Series) (spec : ViewSpec) (frame : Frame) (old new : State) → AnswersView series spec n frame old new → AnswersView series spec n frame (alone n old) (alone n new)
-own_view n series spec frame old new (inl many) = inl (own_many n series spec.grid frame old new many)
-own_view n series spec frame old new (inr a) = inr (own_answers n series spec frame old new a)
+pub own_rows : (n : ℕ) (series : Series) (spec : ViewSpec) (frame : Frame) (old new : State) → AnswersRows series spec n frame old new → AnswersRows series spec n frame (alone n old) (alone n new)
+own_rows n series spec frame old new a = record {
+  session = a.session;
+  open_is = only_session n old.sessions ∙ a.open_is;
+  range = a.range;
+  shown = a.shown;
+  rows = a.rows;
+  are_rows = a.are_rows;
+  frame_is = a.frame_is;
+  state = ap (alone n) a.state ∙ ap (λ l. record old { sessions = l }) (only_viewed n spec None old.sessions);
+}
 
-own_views : (n : ℕ) (series : Series) (id w h : ℕ) (t0 t1 : ℤ) (range : RangeSpec) (frame : Frame) (old new : State) → Views series id n w h t0 t1 range frame old new → Views series id n w h t0 t1 range frame (alone n old) (alone n new)
-own_views n series id w h t0 t1 range frame old new v = record {
+own_by : (n : ℕ) (o : Option (List Step)) (series : Series) (spec : ViewSpec) (frame : Frame) (old new : State) → AnswersBy o series spec n frame old new → AnswersBy o series spec n frame (alone n old) (alone n new)
+own_by n None series spec frame old new (inl many) = inl (own_many n series spec.grid frame old new many)
+own_by n None series spec frame old new (inr a) = inr (own_answers n series spec frame old new a)
+own_by n (Some steps) series spec frame old new a = own_rows n series spec frame old new a
+
+own_view : (n : ℕ) (series : Series) (spec : ViewSpec) (frame : Frame) (old new : State) → AnswersView series spec n frame old new → AnswersView series spec n frame (alone n old) (alone n new)
+own_view n series spec frame old new a = own_by n spec.filter series spec frame old new a
+
+own_views : (n : ℕ) (series : Series) (id w h : ℕ) (t0 t1 : ℤ) (range : RangeSpec) (filter : Option (List Step)) (frame : Frame) (old new : State) → Views series id n w h t0 t1 range filter frame old new → Views series id n w h t0 t1 range filter frame (alone n old) (alone n new)
+own_views n series id w h t0 t1 range filter frame old new v = record {
   grid = v.grid;
   window = v.window;
   canvas = v.canvas;
-  view = own_view n series (record { series = id; grid = v.grid; range = range }) frame old new v.view;
+  view = own_view n series (record { series = id; grid = v.grid; range = range; filter = filter }) frame old new v.view;
 }
 
-own_series : (n : ℕ) (o : Option Series) (id w h : ℕ) (t0 t1 : ℤ) (word : RangeWord) (frame : Frame) (old new : State) → ViewsSeries o id n w h t0 t1 word frame old new → ViewsSeries o id n w h t0 t1 word frame (alone n old) (alone n new)
-own_series n None id w h t0 t1 word frame old new r = own_refused n _ frame old new r
-own_series n (Some series) id w h t0 t1 word frame old new (inl r) = inl (r.0, own_refused n _ frame old new r.1)
-own_series n (Some series) id w h t0 t1 word frame old new (inr (inl r)) = inr (inl (r.0, r.1, own_refused n _ frame old new r.2))
-own_series n (Some series) id w h t0 t1 word frame old new (inr (inr (inl r))) = inr (inr (inl (r.0, r.1, r.2, r.3, own_refused n _ frame old new r.4)))
-own_series n (Some series) id w h t0 t1 word frame old new (inr (inr (inr r))) =
-    inr (inr (inr (r.0, r.1, r.2, r.3, own_views n series id w h t0 t1 (range_spec word) frame old new r.4)))
+own_series : (n : ℕ) (o : Option Series) (id w h : ℕ) (t0 t1 : ℤ) (word : RangeWord) (filter : Option (List Step)) (frame : Frame) (old new : State) → ViewsSeries o id n w h t0 t1 word filter frame old new → ViewsSeries o id n w h t0 t1 word filter frame (alone n old) (alone n new)
+own_series n None id w h t0 t1 word filter frame old new r = own_refused n _ frame old new r
+own_series n (Some series) id w h t0 t1 word filter frame old new (inl r) = inl (r.0, own_refused n _ frame old new r.1)
+own_series n (Some series) id w h t0 t1 word filter frame old new (inr (inl r)) = inr (inl (r.0, r.1, own_refused n _ frame old new r.2))
+own_series n (Some series) id w h t0 t1 word filter frame old new (inr (inr (inl r))) = inr (inr (inl (r.0, r.1, r.2, r.3, own_refused n _ frame old new r.4)))
+own_series n (Some series) id w h t0 t1 word filter frame old new (inr (inr (inr r))) =
+    inr (inr (inr (r.0, r.1, r.2, r.3, own_views n series id w h t0 t1 (range_spec word) filter frame old new r.4)))
 
-own_id : (n : ℕ) (o : Option ℕ) (w h : ℕ) (t0 t1 : ℤ) (word : RangeWord) (frame : Frame) (old new : State) → ViewsId o n w h t0 t1 word frame old new → ViewsId o n w h t0 t1 word frame (alone n old) (alone n new)
-own_id n None w h t0 t1 word frame old new r = own_refused n _ frame old new r
-own_id n (Some id) w h t0 t1 word frame old new r = own_series n (slice_get old.book id) id w h t0 t1 word frame old new r
+own_id : (n : ℕ) (o : Option ℕ) (w h : ℕ) (t0 t1 : ℤ) (word : RangeWord) (filter : Option (List Step)) (frame : Frame) (old new : State) → ViewsId o n w h t0 t1 word filter frame old new → ViewsId o n w h t0 t1 word filter frame (alone n old) (alone n new)
+own_id n None w h t0 t1 word filter frame old new r = own_refused n _ frame old new r
+own_id n (Some id) w h t0 t1 word filter frame old new r = own_series n (slice_get old.book id) id w h t0 t1 word filter frame old new r
 
-own_in : (n : ℕ) (b : Bool) (name : List ℕ) (w h : ℕ) (t0 t1 : ℤ) (word : RangeWord) (frame : Frame) (old new : State) → RepliesToView b n name w h t0 t1 word frame old new → RepliesToView b n name w h t0 t1 word frame (alone n old) (alone n new)
-own_in n false name w h t0 t1 word frame old new r = own_refused n _ frame old new r
-own_in n true name w h t0 t1 word frame old new r = own_id n (id_of name old.book) w h t0 t1 word frame old new r
+own_in : (n : ℕ) (b : Bool) (name : List ℕ) (w h : ℕ) (t0 t1 : ℤ) (word : RangeWord) (filter : Option (List Step)) (frame : Frame) (old new : State) → RepliesToView b n name w h t0 t1 word filter frame old new → RepliesToView b n name w h t0 t1 word filter frame (alone n old) (alone n new)
+own_in n false name w h t0 t1 word filter frame old new r = own_refused n _ frame old new r
+own_in n true name w h t0 t1 word filter frame old new r = own_id n (id_of name old.book) w h t0 t1 word filter frame old new r
+
+own_text : (n : ℕ) (text : Option (List ℕ)) (b : Bool) (name : List ℕ) (w h : ℕ) (t0 t1 : ℤ) (word : RangeWord) (frame : Frame) (old new : State) → RepliesByText text (λ filter. RepliesToView b n name w h t0 t1 word filter frame old new) frame old new → RepliesByText text (λ filter. RepliesToView b n name w h t0 t1 word filter frame (alone n old) (alone n new)) frame (alone n old) (alone n new)
+own_text n None b name w h t0 t1 word frame old new r = own_in n b name w h t0 t1 word None frame old new r
+own_text n (Some text) b name w h t0 t1 word frame old new (inl bad) = inl (bad.0, bad.1, own_refused n _ frame old new bad.2)
+own_text n (Some text) b name w h t0 t1 word frame old new (inr good) =
+    inr (good.0, good.1, own_in n b name w h t0 t1 word (Some (postfix good.0)) frame old new good.2)
 
 own_moves : (n : ℕ) (last : ViewSpec) (t0 t1 : ℤ) (frame : Frame) (old new : State) → Moves last n t0 t1 frame old new → Moves last n t0 t1 frame (alone n old) (alone n new)
 own_moves n last t0 t1 frame old new moves = record {
@@ -270,7 +306,7 @@ own_moves n last t0 t1 frame old new moves = record {
   there = moves.there;
   reply = elim moves.reply [
     | inl bad ↦ inl (bad.0, own_refused n _ frame old new bad.1)
-    | inr good ↦ inr (good.0, own_views n moves.series last.series last.grid.w last.grid.h t0 t1 last.range frame old new good.1)
+    | inr good ↦ inr (good.0, own_views n moves.series last.series last.grid.w last.grid.h t0 t1 last.range last.filter frame old new good.1)
   ];
 }
 
@@ -297,10 +333,10 @@ own_request n (EditRequest edit) frame old new not_full own r = own_edit n (appl
 own_request n (Open m cache) frame old new not_full own r =
     let P : ℕ → Type 0 = λ k. Replies (Open k cache) frame old new → Replies (Open k cache) frame (alone n old) (alone n new) in
     subst P (sym (eqb-true m n own)) (own_open_at n (cache_of cache) frame old new not_full (is_open n old.sessions) refl) r
-own_request n (View m name w h t0 t1 word) frame old new not_full own r =
-    let P : ℕ → Type 0 = λ k. Replies (View k name w h t0 t1 word) frame old new → Replies (View k name w h t0 t1 word) frame (alone n old) (alone n new) in
-    let Q : Bool → Type 0 = λ b. RepliesToView b n name w h t0 t1 word frame (alone n old) (alone n new) in
-    subst P (sym (eqb-true m n own)) (λ x. subst Q (sym (only_open n old.sessions)) (own_in n (is_open n old.sessions) name w h t0 t1 word frame old new x)) r
+own_request n (View m name w h t0 t1 word text) frame old new not_full own r =
+    let P : ℕ → Type 0 = λ k. Replies (View k name w h t0 t1 word text) frame old new → Replies (View k name w h t0 t1 word text) frame (alone n old) (alone n new) in
+    let Q : Bool → Type 0 = λ b. RepliesByText text (λ filter. RepliesToView b n name w h t0 t1 word filter frame (alone n old) (alone n new)) frame (alone n old) (alone n new) in
+    subst P (sym (eqb-true m n own)) (λ x. subst Q (sym (only_open n old.sessions)) (own_text n text (is_open n old.sessions) name w h t0 t1 word frame old new x)) r
 own_request n (Zoom m t0 t1) frame old new not_full own r =
     let P : ℕ → Type 0 = λ k. Replies (Zoom k t0 t1) frame old new → Replies (Zoom k t0 t1) frame (alone n old) (alone n new) in
     subst P (sym (eqb-true m n own)) (own_session n (λ last. (t0, t1)) frame old new) r

@@ -14,7 +14,7 @@ use Rattle.chart_service.specs.Replies.{refused}
 abbrev pub session_in : Request → Option ℕ
 session_in (EditRequest edit) = None
 session_in (Open number cache) = Some number
-session_in (View number name w h t0 t1 word) = Some number
+session_in (View number name w h t0 t1 word text) = Some number
 session_in (Zoom number t0 t1) = Some number
 session_in (Pan number by) = Some number
 session_in (Close number) = Some number

@@ -1,5 +1,5 @@
 -- How a view is planned, before it is answered. Private contracts are stated by these words.
-use Rattle.std.specs.Prelude.{ℕ, ℤ, ◌≡◌, ◌+◌, ◌*◌, ◌<◌, ◌⊎◌, List, length, Option, None, Some, Result, Ok, Err, ⊤}
+use Rattle.std.specs.Prelude.{ℕ, ℤ, ◌≡◌, ◌+◌, ◌*◌, ◌<◌, ◌⊎◌, List, length, All, Option, None, Some, Result, Ok, Err, ⊤}
 use Rattle.chart_grid.specs.declared.axis.Axis.{Axis}
 use Rattle.chart_grid.specs.declared.grid.Grid.{Grid}
 use Rattle.chart_grid.specs.declared.grid_error.GridError.{GridError}
@@ -13,6 +13,17 @@ use Rattle.om3_coeff.specs.Spans.{IsProperIfAny, span_over}
 use Rattle.om3_coeff.specs.View.{NodesView, HasCause}
 use Rattle.plain_chart.specs.Samples.{kept, values_of}
 use Rattle.request_lines.specs.declared.ranges.RangeWord.{RangeWord}
+use Rattle.value_filter.specs.declared.steps.Step.{Step}
+use Rattle.value_filter.specs.declared.faults.FilterFault.{FilterFault}
+use Rattle.value_filter.specs.declared.faults.FilterFault.TheVariants as filter_fault
+use Rattle.value_filter.specs.Expressions.{Expression}
+use Rattle.value_filter.specs.Steps.{postfix}
+use Rattle.value_filter.specs.Grammar.{IsFilter, LeavesAt}
+use Rattle.m4_groups.specs.Rows.{AreRising, AreRowsOf}
+use Rattle.needed_nodes.specs.Answers.{IsShownRow}
+use Rattle.filter_scan.specs.Answers.{points_of}
+use Rattle.filter_scan.specs.declared.scan_error.ScanError.{ScanError}
+use Rattle.filter_scan.specs.declared.scan_error.ScanError.TheVariants as scan
 use Rattle.series_book.specs.declared.one_series.Series.{Series}
 use Rattle.series_book.specs.declared.refusals.Refusal.{Refusal}
 use Rattle.series_book.specs.declared.refusals.Refusal.TheVariants.{UnknownSession, NoView, BadWindow, BadCanvas, BadRange}
@@ -23,8 +34,9 @@ use Rattle.zoom_session.specs.declared.errors.PlanError.TheVariants.{TooLarge, N
 use Rattle.zoom_session.specs.Plans.{PlansIn, IsTooMany}
 use Rattle.zoom_session.specs.Planned.{IsInBounds}
 use Rattle.chart_frames.specs.Frames.{IsRange}
-use Rattle.chart_service.specs.Viewing.{ShowsRange, AreNeeded, axis_of, range_spec, IsGoodRange, IsBadRange}
+use Rattle.chart_service.specs.Viewing.{ShowsRange, AreNeeded, axis_of, kept_of, range_spec, IsGoodRange, IsBadRange}
 use Rattle.chart_service.specs.declared.viewport.Viewport.{Viewport}
+use Rattle.chart_service.specs.declared.shown_rows.ShownRows.{ShownRows}
 use Rattle.chart_service.specs.declared.shown.Told.{Told}
 use Rattle.chart_service.specs.declared.shown.Planned.{Planned}
 
@@ -43,11 +55,12 @@ IsGridFor v (Err grid.BadWindow) = IsBadWindow v.t0 v.t1
 IsGridFor v (Err grid.BadCanvas) = IsWindow v.t0 v.t1 × (IsBadSide v.w ⊎ IsBadSide v.h)
 
 -- the view that is asked for
-pub record IsSpec (series : ℕ) (v : Viewport) (word : RangeWord) (spec : ViewSpec) : Type 0 where
+pub record IsSpec (series : ℕ) (v : Viewport) (word : RangeWord) (filter : Option (List Step)) (spec : ViewSpec) : Type 0 where
   pub of : spec.series ≡ series
   pub grid : ShowsViewport v spec.grid
   pub good : IsGoodRange word
   pub range : spec.range ≡ range_spec word
+  pub filter_is : spec.filter ≡ filter
 
 -- why there is none
 abbrev pub RefusesSpec : Viewport → RangeWord → Refusal → Type 0
@@ -56,9 +69,9 @@ RefusesSpec v word refusal =
     ⊎ ((IsWindow v.t0 v.t1 × (IsBadSide v.w ⊎ IsBadSide v.h) × (refusal ≡ BadCanvas))
     ⊎ (IsWindow v.t0 v.t1 × IsSide v.w × IsSide v.h × IsBadRange word × (refusal ≡ BadRange)))
 
-abbrev pub IsSpecFor : ℕ → Viewport → RangeWord → Result ViewSpec Refusal → Type 0
-IsSpecFor series v word (Ok spec) = IsSpec series v word spec
-IsSpecFor series v word (Err refusal) = RefusesSpec v word refusal
+abbrev pub IsSpecFor : ℕ → Viewport → RangeWord → Option (List Step) → Result ViewSpec Refusal → Type 0
+IsSpecFor series v word filter (Ok spec) = IsSpec series v word filter spec
+IsSpecFor series v word filter (Err refusal) = RefusesSpec v word refusal
 
 -- a grid of the same canvas over another window, or the window is bad
 abbrev pub IsMoved : Grid → ℤ → ℤ → Result Grid GridError → Type 0
@@ -87,6 +100,37 @@ pub record TellsOf (list : List (Option ℤ)) (axis : Axis) (spec : ViewSpec) (t
 pub record AreInFrame (told : Told) : Type 0 where
   pub root : IsProperIfAny told.root
   pub range : IsRange told.range.lo told.range.hi
+
+-- what a view's text spells, where it has one, or where it leaves the grammar of filters; want of memory is free
+abbrev pub IsFilterOf : Option (List ℕ) → Result (Option (List Step)) FilterFault → Type 0
+IsFilterOf None (Ok filter) = filter ≡ None
+IsFilterOf None (Err (filter_fault.At at)) = ⊥
+IsFilterOf None (Err filter_fault.NoMemory) = ⊤
+IsFilterOf (Some text) (Ok None) = ⊥
+IsFilterOf (Some text) (Ok (Some steps)) = (f : Expression) × IsFilter text f × (steps ≡ postfix f)
+IsFilterOf (Some text) (Err (filter_fault.At at)) = LeavesAt text at
+IsFilterOf (Some text) (Err filter_fault.NoMemory) = ⊤
+
+-- what a filtered view shows of a list of slots with these times
+pub record ShowsOf (list : List (Option ℤ)) (axis : Axis) (spec : ViewSpec) (shown : ShownRows) : Type 0 where
+  pub rows : AreRowsOf spec.grid (points_of (kept_of spec axis list)) shown.rows
+  pub range : ShowsRange spec.range (values_of (kept_of spec axis list)) shown.range
+
+-- the rows and the range are those that a frame for a canvas of w columns may have
+pub record FitInFrame (w : ℕ) (shown : ShownRows) : Type 0 where
+  pub rising : AreRising shown.rows
+  pub rows : All (IsShownRow w) shown.rows
+  pub range : IsRange shown.range.lo shown.range.hi
+
+-- what a filtered view of a series shows; nothing but want of memory keeps it from that
+pub record ShowsIn (series : Series) (spec : ViewSpec) (shown : ShownRows) : Type 0 where
+  pub of : ShowsOf series.slots (axis_of series) spec shown
+  pub fit : FitInFrame spec.grid.w shown
+
+abbrev pub ShowsOrStops : Series → ViewSpec → Result ShownRows ScanError → Type 0
+ShowsOrStops series spec (Ok shown) = ShowsIn series spec shown
+ShowsOrStops series spec (Err (scan.Node error)) = ⊥
+ShowsOrStops series spec (Err scan.NoMemory) = ⊤
 
 -- why a view isn't planned: its session's client keeps fewer keys than it needs; or the nodes gave this
 -- error, with its cause

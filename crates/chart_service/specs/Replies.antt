@@ -2,12 +2,16 @@
 use Rattle.std.specs.Prelude.{◌≡◌, ◌⊎◌, ℕ, ℤ, ◌+ℤ◌, ◌<◌, ◌++◌, [], ◌∷◌, Bool, true, false, List, length, Option, None, Some, Result, Ok, Err, slice_get, nat_lt, if◌then◌else◌}
 use Rattle.series_book.specs.declared.one_series.Series.{Series}
 use Rattle.series_book.specs.declared.refusals.Refusal.{Refusal}
-use Rattle.series_book.specs.declared.refusals.Refusal.TheVariants.{LineTooLong, BadLine, UnknownSession, UnknownSeries, NoView, BadWindow, BadCanvas, BadRange, ViewTooLarge}
+use Rattle.series_book.specs.declared.refusals.Refusal.TheVariants.{LineTooLong, BadLine, BadFilter, UnknownSession, UnknownSeries, NoView, BadWindow, BadCanvas, BadRange, ViewTooLarge}
 use Rattle.series_book.specs.Refusals.{number_of, pair_of}
 use Rattle.series_book.specs.Edits.{Edited, apply, id_of}
 use Rattle.request_lines.specs.declared.requests.Request.{Request}
 use Rattle.request_lines.specs.declared.requests.Request.TheVariants.{Edit as EditRequest, Open, View, Zoom, Pan, Close}
 use Rattle.request_lines.specs.declared.ranges.RangeWord.{RangeWord}
+use Rattle.value_filter.specs.declared.steps.Step.{Step}
+use Rattle.value_filter.specs.Expressions.{Expression}
+use Rattle.value_filter.specs.Steps.{postfix}
+use Rattle.value_filter.specs.Grammar.{IsFilter, LeavesAt}
 use Rattle.request_lines.specs.Requests.{read_line}
 use Rattle.chart_grid.specs.declared.grid.Grid.{Grid}
 use Rattle.chart_grid.specs.Limits.{IsWindow, IsSide, IsBadWindow, IsBadSide}
@@ -22,7 +26,7 @@ use Rattle.chart_frames.specs.declared.frame.Frame.{Frame}
 use Rattle.chart_frames.specs.declared.frame.Frame.TheVariants.{Done, Refused, Opened, Closed}
 use Rattle.chart_frames.specs.Frames.{Fits}
 use Rattle.chart_service.specs.State.{State, IsSound}
-use Rattle.chart_service.specs.Viewing.{IsGoodRange, IsBadRange, range_spec, AreNeeded, Answers}
+use Rattle.chart_service.specs.Viewing.{IsGoodRange, IsBadRange, range_spec, AreNeeded, Answers, AnswersRows}
 
 -- the frame of a refusal
 abbrev pub refused : Refusal → Frame
@@ -63,43 +67,56 @@ pub record NeedsTooMany (series : Series) (grid : Grid) (number : ℕ) (answer :
   pub passes : session.cache.capacity < length needed
   pub refuses : Refuses (ViewTooLarge (length needed) session.cache.capacity) answer old new
 
--- the reply to a view of a series that is in range
-abbrev pub AnswersView : Series → ViewSpec → ℕ → Frame → State → State → Type 0
-AnswersView series spec number answer old new =
+-- the reply to a view of a series that is in range, by its filter
+abbrev pub AnswersBy : Option (List Step) → Series → ViewSpec → ℕ → Frame → State → State → Type 0
+AnswersBy None series spec number answer old new =
     NeedsTooMany series spec.grid number answer old new ⊎ Answers series spec number answer old new
+AnswersBy (Some steps) series spec number answer old new = AnswersRows series spec number answer old new
+
+abbrev pub AnswersView : Series → ViewSpec → ℕ → Frame → State → State → Type 0
+AnswersView series spec number answer old new = AnswersBy spec.filter series spec number answer old new
 
 -- the reply to a view of the series of this id, over a window and on a canvas that are in range
-pub record Views (series : Series) (id number w h : ℕ) (t0 t1 : ℤ) (range : RangeSpec) (answer : Frame) (old new : State) : Type 0 where
+pub record Views (series : Series) (id number w h : ℕ) (t0 t1 : ℤ) (range : RangeSpec) (filter : Option (List Step)) (answer : Frame) (old new : State) : Type 0 where
   pub grid : Grid
   pub window : ShowsWindow grid t0 t1
   pub canvas : HasCanvas grid w h
-  pub view : AnswersView series (record { series = id; grid = grid; range = range }) number answer old new
+  pub view : AnswersView series (record { series = id; grid = grid; range = range; filter = filter }) number answer old new
 
 -- the reply to a view of a series, by its window, canvas and range
-abbrev pub ViewsSeries : Option Series → ℕ → ℕ → ℕ → ℕ → ℤ → ℤ → RangeWord → Frame → State → State → Type 0
-ViewsSeries None id number w h t0 t1 word answer old new = Refuses UnknownSeries answer old new
-ViewsSeries (Some series) id number w h t0 t1 word answer old new =
+abbrev pub ViewsSeries : Option Series → ℕ → ℕ → ℕ → ℕ → ℤ → ℤ → RangeWord → Option (List Step) → Frame → State → State → Type 0
+ViewsSeries None id number w h t0 t1 word filter answer old new = Refuses UnknownSeries answer old new
+ViewsSeries (Some series) id number w h t0 t1 word filter answer old new =
     (IsBadWindow t0 t1 × Refuses BadWindow answer old new)
     ⊎ ((IsWindow t0 t1 × (IsBadSide w ⊎ IsBadSide h) × Refuses BadCanvas answer old new)
     ⊎ ((IsWindow t0 t1 × IsSide w × IsSide h × IsBadRange word × Refuses BadRange answer old new)
-    ⊎ (IsWindow t0 t1 × IsSide w × IsSide h × IsGoodRange word × Views series id number w h t0 t1 (range_spec word) answer old new)))
+    ⊎ (IsWindow t0 t1 × IsSide w × IsSide h × IsGoodRange word × Views series id number w h t0 t1 (range_spec word) filter answer old new)))
 
 -- the same, by the series' id
-abbrev pub ViewsId : Option ℕ → ℕ → ℕ → ℕ → ℤ → ℤ → RangeWord → Frame → State → State → Type 0
-ViewsId None number w h t0 t1 word answer old new = Refuses UnknownSeries answer old new
-ViewsId (Some id) number w h t0 t1 word answer old new = ViewsSeries (slice_get old.book id) id number w h t0 t1 word answer old new
+abbrev pub ViewsId : Option ℕ → ℕ → ℕ → ℕ → ℤ → ℤ → RangeWord → Option (List Step) → Frame → State → State → Type 0
+ViewsId None number w h t0 t1 word filter answer old new = Refuses UnknownSeries answer old new
+ViewsId (Some id) number w h t0 t1 word filter answer old new =
+    ViewsSeries (slice_get old.book id) id number w h t0 t1 word filter answer old new
 
--- the reply to a view
-abbrev pub RepliesToView : Bool → ℕ → List ℕ → ℕ → ℕ → ℤ → ℤ → RangeWord → Frame → State → State → Type 0
-RepliesToView false number name w h t0 t1 word answer old new = Refuses UnknownSession answer old new
-RepliesToView true number name w h t0 t1 word answer old new = ViewsId (id_of name old.book) number w h t0 t1 word answer old new
+-- the reply to a view with this filter
+abbrev pub RepliesToView : Bool → ℕ → List ℕ → ℕ → ℕ → ℤ → ℤ → RangeWord → Option (List Step) → Frame → State → State → Type 0
+RepliesToView false number name w h t0 t1 word filter answer old new = Refuses UnknownSession answer old new
+RepliesToView true number name w h t0 t1 word filter answer old new = ViewsId (id_of name old.book) number w h t0 t1 word filter answer old new
+
+-- The reply to a view by its filter's text, where the view has one: a text that spells no filter is refused at the
+-- offset at which it leaves the grammar; else the reply is that to the view with the filter, kept as its steps.
+abbrev pub RepliesByText : Option (List ℕ) → (Option (List Step) → Type 0) → Frame → State → State → Type 0
+RepliesByText None Reply answer old new = Reply None
+RepliesByText (Some text) Reply answer old new =
+    ((at : ℕ) × LeavesAt text at × Refuses (BadFilter at) answer old new)
+    ⊎ ((f : Expression) × IsFilter text f × Reply (Some (postfix f)))
 
 -- the reply to the last view over another window
 pub record Moves (last : ViewSpec) (number : ℕ) (t0 t1 : ℤ) (answer : Frame) (old new : State) : Type 0 where
   pub series : Series
   pub there : slice_get old.book last.series ≡ Some series
   pub reply : (IsBadWindow t0 t1 × Refuses BadWindow answer old new)
-      ⊎ (IsWindow t0 t1 × Views series last.series number last.grid.w last.grid.h t0 t1 last.range answer old new)
+      ⊎ (IsWindow t0 t1 × Views series last.series number last.grid.w last.grid.h t0 t1 last.range last.filter answer old new)
 
 -- the reply to a zoom to a window, or to a pan by as much, by the session's last view
 abbrev pub MovesLast : Option ViewSpec → ℕ → (ViewSpec → ℤ × ℤ) → Frame → State → State → Type 0
@@ -115,8 +132,8 @@ abbrev pub Replies : Request → Frame → State → State → Type 0
 Replies (EditRequest edit) answer old new = Edits (apply old.book old.total edit) answer old new
 Replies (Open number cache) answer old new =
     Opens (open_refusal old.sessions number (cache_of cache)) number (cache_of cache) answer old new
-Replies (View number name w h t0 t1 word) answer old new =
-    RepliesToView (is_open number old.sessions) number name w h t0 t1 word answer old new
+Replies (View number name w h t0 t1 word text) answer old new =
+    RepliesByText text (λ filter. RepliesToView (is_open number old.sessions) number name w h t0 t1 word filter answer old new) answer old new
 Replies (Zoom number t0 t1) answer old new = MovesIn (session_of number old.sessions) number (λ last. (t0, t1)) answer old new
 Replies (Pan number by) answer old new =
     MovesIn (session_of number old.sessions) number (λ last. (last.grid.t0 +ℤ by, last.grid.t1 +ℤ by)) answer old new

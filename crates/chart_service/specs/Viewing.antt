@@ -1,5 +1,5 @@
 -- An answered view: its frame, and the chart that it stands for.
-use Rattle.std.specs.Prelude.{◌≡◌, ◌⊎◌, ℕ, ℤ, pos, ◌^◌, ◌<◌, ◌≤◌, ◌≤ℤ◌, ◌<ℤ◌, unsigned_abs, ⊤, List, length, Option, None, Some}
+use Rattle.std.specs.Prelude.{◌≡◌, ◌⊎◌, ℕ, ℤ, pos, ◌^◌, ◌<◌, ◌≤◌, ◌≤ℤ◌, ◌<ℤ◌, unsigned_abs, ⊤, List, length, filter, Option, None, Some}
 use Rattle.series_book.specs.declared.one_series.Series.{Series}
 use Rattle.request_lines.specs.declared.ranges.RangeWord.{RangeWord}
 use Rattle.request_lines.specs.declared.ranges.RangeWord.TheVariants as word
@@ -19,12 +19,18 @@ use Rattle.zoom_session.specs.declared.view_spec.RangeSpec.{RangeSpec}
 use Rattle.zoom_session.specs.declared.view_spec.RangeSpec.TheVariants.{Auto, Fixed}
 use Rattle.zoom_session.specs.Sessions.{session_of, viewed}
 use Rattle.plain_chart.specs.declared.value_range.ValueRange.{ValueRange}
+use Rattle.plain_chart.specs.declared.sample.Sample.{Sample}
 use Rattle.plain_chart.specs.Samples.{kept, values_of, IsRange, IsValue}
 use Rattle.line_raster.specs.Canvas.{Canvas}
 use Rattle.plain_chart.specs.Chart.{IsChart}
+use Rattle.m4_groups.specs.declared.row.Row.{Row}
+use Rattle.m4_groups.specs.Rows.{AreRowsOf}
+use Rattle.query_rewriter.specs.Kept.{passes}
+use Rattle.filter_scan.specs.Answers.{points_of}
 use Rattle.chart_frames.specs.declared.frame.Frame.{Frame}
-use Rattle.chart_frames.specs.declared.frame.Frame.TheVariants.{View}
+use Rattle.chart_frames.specs.declared.frame.Frame.TheVariants.{View, Rows}
 use Rattle.chart_frames.specs.declared.frame.ViewFrame.{ViewFrame}
+use Rattle.chart_frames.specs.declared.frame.RowsFrame.{RowsFrame}
 use Rattle.chart_service.specs.State.{State}
 
 -- the times of a series' slots
@@ -94,7 +100,7 @@ abbrev pub AreNeeded : Series → Grid → List (Key × Coef) → Type 0
 AreNeeded series grid needed =
     IsListOf (IsNeeded series.slots (axis_of series) grid) (λ k. Some (coef series.slots k)) needed
 
--- The view is answered: of the keys that it needs those are sent which the session's client lacks or
+-- The view, which has no filter, is answered: of the keys that it needs those are sent which the session's client lacks or
 -- holds with an old coefficient, and the session keeps the view and the client's list.
 pub record Answers (series : Series) (spec : ViewSpec) (number : ℕ) (answer : Frame) (old new : State) : Type 0 where
   pub session : Session
@@ -105,7 +111,40 @@ pub record Answers (series : Series) (spec : ViewSpec) (number : ℕ) (answer : 
   pub range : ValueRange
   pub shown : ShowsRange spec.range (values_of (kept spec.grid (axis_of series) series.slots)) range
   pub frame_is : answer ≡ View (view_frame number spec range series (to_send session.cache.pairs spec.series needed))
-  pub state : new ≡ record old { sessions = viewed number spec needed old.sessions }
+  pub state : new ≡ record old { sessions = viewed number spec (Some needed) old.sessions }
+
+-- the samples that a view keeps of a list of slots with these times: those of the stored slots in its window of
+-- which its filter holds, where it has one, in order of time
+abbrev pub kept_of : ViewSpec → Axis → List (Option ℤ) → List Sample
+kept_of spec axis slots = filter (passes spec.filter) (kept spec.grid axis slots)
+
+-- the samples that it keeps of a series
+abbrev pub kept_by : ViewSpec → Series → List Sample
+kept_by spec series = kept_of spec (axis_of series) series.slots
+
+-- the fields of a filtered view's frame: session, canvas, range, and the rows that are sent
+abbrev pub rows_frame : ℕ → ViewSpec → ValueRange → List Row → RowsFrame
+rows_frame number spec range rows = record {
+  session = number;
+  w = spec.grid.w;
+  h = spec.grid.h;
+  lo = range.lo;
+  hi = range.hi;
+  count = length rows;
+  rows = rows;
+}
+
+-- The filtered view is answered: the rows of the samples that it keeps are sent. The session keeps the view, and its
+-- client's list stays as it is.
+pub record AnswersRows (series : Series) (spec : ViewSpec) (number : ℕ) (answer : Frame) (old new : State) : Type 0 where
+  pub session : Session
+  pub open_is : session_of number old.sessions ≡ Some session
+  pub range : ValueRange
+  pub shown : ShowsRange spec.range (values_of (kept_by spec series)) range
+  pub rows : List Row
+  pub are_rows : AreRowsOf spec.grid (points_of (kept_by spec series)) rows
+  pub frame_is : answer ≡ Rows (rows_frame number spec range rows)
+  pub state : new ≡ record old { sessions = viewed number spec None old.sessions }
 
 -- the drawing is the chart of a series for a view's frame
 pub record ShowsView (series : Series) (view : ViewFrame) (drawing : Canvas) : Type 0 where
@@ -115,3 +154,9 @@ pub record ShowsView (series : Series) (view : ViewFrame) (drawing : Canvas) : T
   pub columns : grid.w ≡ view.w
   pub rows : grid.h ≡ view.h
   pub chart : IsChart grid (record { lo = view.lo; hi = view.hi }) (kept grid (axis_of series) series.slots) drawing
+
+-- the drawing is the chart of the samples that a filtered view keeps of a series, over the range that its frame tells
+pub record ShowsRows (series : Series) (spec : ViewSpec) (rows : RowsFrame) (drawing : Canvas) : Type 0 where
+  pub columns : spec.grid.w ≡ rows.w
+  pub height : spec.grid.h ≡ rows.h
+  pub chart : IsChart spec.grid (record { lo = rows.lo; hi = rows.hi }) (kept_by spec series) drawing

@@ -7,6 +7,9 @@ ghost use Rattle.chart_service.specs.Alone.{alone, own_lines, own_frames, NeverC
 ghost use Rattle.chart_service.specs.Replies.{RepliesToLine};
 ghost use Rattle.chart_service.specs.Serving.{RepliesToAll};
 
+use m4_groups::laws::rows_are_one;
+use value_filter::laws::a_text_is_read_in_one_way;
+
 /// The frames of a session depend on the edits and on its own lines alone: a service without the
 /// other sessions, which gets no line of theirs, answers these lines by the same frames. So they are
 /// the same whatever lines of other sessions stand between. Only where 16 sessions are open do other
@@ -19,7 +22,10 @@ pub fn sessions_stand_alone()
         RepliesToAll old lines frames new → RepliesToAll old others answers behind →
         NeverCrowded (own_frames n lines frames) → NeverCrowded (own_frames n others answers) →
         own_lines n lines ≡ own_lines n others → own_frames n lines frames ≡ own_frames n others answers }
-{}
+{
+    rows_are_one();
+    a_text_is_read_in_one_way();
+}
 
 /// Each line has one reply: what is answered, and the state after it, is determined by the state
 /// before it. So are all frames of an input's lines.
@@ -28,4 +34,7 @@ pub fn replies_are_one()
         RepliesToLine line frame old new → RepliesToLine line other old behind → (frame ≡ other) × (new ≡ behind) }
     ensures lines { (lines : List (Option (List ℕ))) (frames others : List Frame) (old new behind : State) →
         RepliesToAll old lines frames new → RepliesToAll old lines others behind → (frames ≡ others) × (new ≡ behind) }
-{}
+{
+    rows_are_one();
+    a_text_is_read_in_one_way();
+}

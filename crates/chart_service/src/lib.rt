@@ -4,14 +4,17 @@
 //!   open, each with the coefficients that its client keeps and the view that it was answered last.
 //! - It answers one request at a time. A refused request is answered by the first refusal that
 //!   stands, in the order of the refusals' numbers, and changes nothing.
-//! - A view, a zoom and a pan are answered by what the session's client lacks: of the coefficients
-//!   that the view needs, those which the client doesn't keep, or keeps with an old value.
+//! - A view, a zoom and a pan without a filter are answered by what the session's client lacks: of the
+//!   coefficients that the view needs, those which the client doesn't keep, or keeps with an old value.
+//! - A view with a filter, and a zoom or pan of one, is answered by the rows of the points that it
+//!   keeps, and leaves the list of coefficients that the client keeps.
 //!
 //! `serve` answers the lines of a stream, one frame a line. Where memory is wanting the book is as it
 //! was, and the session that the request names may be closed. Drawing is the client's.
 #![tactic(auto)]
 
 mod failure;
+mod filters;
 pub mod laws;
 mod ranges;
 mod refusals;
@@ -20,6 +23,7 @@ mod serving;
 #[cfg(test)]
 mod serving_tests;
 mod shown;
+mod shown_rows;
 #[cfg(test)]
 mod tests;
 mod viewport;

@@ -1,4 +1,4 @@
-ghost use Rattle.std.specs.Prelude.{◌≡◌, ◌≤◌, ◌<◌, ◌^◌, ◌+ℤ◌, [], length, slice_get, ℤ, Some, IfOk, IfErr, IfSome, OnErr, OnOk, IsTrue, IsSomeAnd};
+ghost use Rattle.std.specs.Prelude.{◌≡◌, ◌≤◌, ◌<◌, ◌^◌, ◌+ℤ◌, [], length, slice_get, ℤ, None, Some, IfOk, IfErr, IfSome, OnErr, OnOk, IsTrue, IsSome, IsSomeAnd, MatchResult, Ok, Err};
 ghost use Rattle.series_book.specs.Edits.{IsEdit, apply, id_of};
 ghost use Rattle.series_book.specs.Books.{IsSeries};
 ghost use Rattle.request_lines.specs.Requests.{IsInRange, read_line};
@@ -6,25 +6,29 @@ ghost use Rattle.chart_frames.specs.Frames.{Fits};
 ghost use Rattle.zoom_session.specs.Views.{IsRangeSpec};
 ghost use Rattle.zoom_session.specs.Sessions.{is_open, session_of, open_refusal};
 ghost use Rattle.chart_service.specs.State.{IsViewOf, IsSound};
-ghost use Rattle.chart_service.specs.Viewing.{axis_of};
-ghost use Rattle.chart_service.specs.Planning.{IsSpecFor, IsLastOf, IsMoved, PlansOrStops, IsGridFor};
+ghost use Rattle.chart_service.specs.Viewing.{axis_of, AnswersRows};
+ghost use Rattle.chart_service.specs.Planning.{IsSpecFor, IsLastOf, IsMoved, PlansOrStops, ShowsOrStops, IsGridFor};
 ghost use Rattle.chart_service.specs.Opening.{OpensBy, LosesAtMost};
 ghost use Rattle.chart_service.specs.Alone.{session_in, session_named};
 ghost use Rattle.chart_service.specs.Serving.{KeepsBook};
-ghost use Rattle.chart_service.specs.Replies.{Edits, Opens, Closes, AnswersView, RepliesToView, Moves, MovesIn, Replies, RepliesToLine, line_text, cache_of};
+ghost use Rattle.chart_service.specs.Replies.{Edits, Opens, Closes, AnswersBy, AnswersView, RepliesToView, RepliesByText, Moves, MovesIn, Replies, RepliesToLine, line_text, cache_of};
 
 use crate::failure::NoMemory;
+use crate::filters::filter_of;
 use crate::ranges::{is_bad_range, range_spec};
 use crate::refusals::refused;
 use crate::shown::{Planned, plan, view_frame};
+use crate::shown_rows::{ShownRows, rows_frame, shown_rows};
 use crate::viewport::Viewport;
 use chart_frames::Frame;
 use chart_grid::{Axis, Grid, GridError};
+use filter_scan::ScanError;
 use om3_coeff::ListNodes;
-use request_lines::{LineError, RangeWord, Request, parse_line};
+use request_lines::{FilterText, LineError, RangeWord, Request, parse_line};
 use series_book::{Book, BookError, Edit, ListBook, Name, Refusal, Series};
 use std::alloc::Global;
 use std::marker::Model;
+use value_filter::{Filter, FilterFault};
 use zoom_session::{DEFAULT_CACHE, PlanError, SessionError, Sessions, ViewSpec};
 
 /// The most bytes of a line.
@@ -105,6 +109,7 @@ impl Service {
                 t0,
                 t1,
                 range,
+                filter,
             } => {
                 let viewport = Viewport {
                     w: *w,
@@ -112,7 +117,7 @@ impl Service {
                     t0: *t0,
                     t1: *t1,
                 };
-                self.view(*session, name, viewport, *range)
+                self.view_by_text(*session, name, viewport, *range, filter)
             }
             Request::Zoom { session, t0, t1 } => self.zoom(*session, *t0, *t1),
             Request::Pan { session, by } => self.pan(*session, *by),
@@ -196,6 +201,31 @@ impl Service {
         Frame::Closed { session: number }
     }
 
+    /// Answers a view with the filter of this text, where it has one. A text that spells no filter is
+    /// refused before anything else is looked at.
+    fn view_by_text(
+        &mut self,
+        number: u32,
+        name: &Name,
+        viewport: Viewport,
+        word: RangeWord,
+        text: &Option<FilterText>,
+    ) -> Result<Frame, NoMemory>
+        requires number { 1 ≤ number }
+        requires short { IfSome text.now (λ text. length text ≤ 8192) }
+        ensures reply { IfOk result (λ frame. RepliesByText text.now (λ filter. RepliesToView (is_open number self.old.sessions) number name.now viewport.w viewport.h viewport.t0 viewport.t1 word filter frame self.old self.new) frame self.old self.new) }
+        ensures fits { IfOk result Fits }
+        ensures opens { IfOk result (λ frame. OpensBy frame self.old.sessions self.new.sessions) }
+        ensures kept { OnErr result (KeepsBook self.old self.new) }
+        ensures sessions { OnErr result (LosesAtMost (Some number) self.old.sessions self.new.sessions) }
+    {
+        match filter_of(self.alloc, text) {
+            Ok(filter) => self.view(number, name, viewport, word, filter),
+            Err(FilterFault::At { at }) => Ok(refused(Refusal::BadFilter { at })),
+            Err(FilterFault::NoMemory) => Err(NoMemory),
+        }
+    }
+
     /// Answers a view of the series of a name.
     fn view(
         &mut self,
@@ -203,9 +233,10 @@ impl Service {
         name: &Name,
         viewport: Viewport,
         word: RangeWord,
+        filter: Option<Filter>,
     ) -> Result<Frame, NoMemory>
         requires { 1 ≤ number }
-        ensures reply { IfOk result (λ frame. RepliesToView (is_open number self.old.sessions) number name.now viewport.w viewport.h viewport.t0 viewport.t1 word frame self.old self.new) }
+        ensures reply { IfOk result (λ frame. RepliesToView (is_open number self.old.sessions) number name.now viewport.w viewport.h viewport.t0 viewport.t1 word filter frame self.old self.new) }
         ensures fits { IfOk result Fits }
         ensures opens { IfOk result (λ frame. OpensBy frame self.old.sessions self.new.sessions) }
         ensures kept { OnErr result (KeepsBook self.old self.new) }
@@ -217,7 +248,7 @@ impl Service {
         let Some(series) = id_of(self.book.book(), name) else {
             return Ok(refused(Refusal::UnknownSeries));
         };
-        match spec_of(series, viewport, word) {
+        match spec_of(series, viewport, word, filter) {
             Ok(spec) => self.answer(number, spec),
             Err(refusal) => Ok(refused(refusal)),
         }
@@ -233,10 +264,12 @@ impl Service {
         ensures kept { OnErr result (KeepsBook self.old self.new) }
         ensures sessions { OnErr result (LosesAtMost (Some number) self.old.sessions self.new.sessions) }
     {
-        match self.last_view(number) {
-            Err(refusal) => Ok(refused(refusal)),
-            Ok(last) => self.answer_over(number, last, zoomed(last.grid, t0, t1)),
-        }
+        let last = match self.last_view(number) {
+            Ok(last) => last.copy()?,
+            Err(refusal) => return Ok(refused(refusal)),
+        };
+        let grid = zoomed(last.grid, t0, t1);
+        self.answer_over(number, last, grid)
     }
 
     /// Answers a session's last view, its window moved by this much.
@@ -249,10 +282,12 @@ impl Service {
         ensures kept { OnErr result (KeepsBook self.old self.new) }
         ensures sessions { OnErr result (LosesAtMost (Some number) self.old.sessions self.new.sessions) }
     {
-        match self.last_view(number) {
-            Err(refusal) => Ok(refused(refusal)),
-            Ok(last) => self.answer_over(number, last, panned(last.grid, by)),
-        }
+        let last = match self.last_view(number) {
+            Ok(last) => last.copy()?,
+            Err(refusal) => return Ok(refused(refusal)),
+        };
+        let grid = panned(last.grid, by);
+        self.answer_over(number, last, grid)
     }
 
     /// Answers a session's last view over another window, unless there is no grid for that.
@@ -278,6 +313,7 @@ impl Service {
                     series: last.series,
                     grid,
                     range: last.range,
+                    filter: last.filter,
                 },
             ),
             Err(_) => Ok(refused(Refusal::BadWindow)),
@@ -286,27 +322,80 @@ impl Service {
 
     /// The view that a session was answered last, or why there is none.
     #[tactic(auto, using(crate::proofs::Lasts::none_of, crate::proofs::Lasts::no_last, crate::proofs::Lasts::last_so, crate::proofs::Lasts::view_so))]
-    fn last_view(&self, number: u32) -> Result<ViewSpec, Refusal>
-        ensures last { IsLastOf (session_of number self.now.sessions) result }
-        ensures view { IfOk result (IsViewOf self.now.book) }
+    fn last_view(&self, number: u32) -> Result<&ViewSpec, Refusal>
+        ensures last { MatchResult result (λ last. IsLastOf (session_of number self.now.sessions) (Ok last.now)) (λ refusal. IsLastOf (session_of number self.now.sessions) (Err refusal)) }
+        ensures view { IfOk result (λ last. IsViewOf self.now.book last.now) }
         ensures answer { OnOk result (IsTrue (is_open number self.now.sessions)) }
     {
         if !self.sessions.is_open(number) {
             return Err(Refusal::UnknownSession);
         }
-        match self.sessions.last_view(number).copied() {
+        match self.sessions.last_view(number) {
             Some(last) => Ok(last),
             None => Err(Refusal::NoView),
         }
     }
 
     /// Answers a view of a series of the book in an open session.
-    #[tactic(auto, using(crate::proofs::Keeping::views_closed, crate::proofs::Keeping::views_viewed, crate::proofs::Openings::opens_viewed, crate::proofs::Answered::answered_fits, crate::proofs::Answered::answered_view, crate::proofs::Answered::refused_too_large))]
     fn answer(&mut self, number: u32, spec: ViewSpec) -> Result<Frame, NoMemory>
         requires number { 1 ≤ number }
         requires opened { IsTrue (is_open number self.old.sessions) }
         requires view { IsViewOf self.old.book spec }
         ensures reply { IfOk result (λ frame. IsSomeAnd (slice_get self.old.book spec.series) (λ series. AnswersView series spec number frame self.old self.new)) }
+        ensures fits { IfOk result Fits }
+        ensures opens { IfOk result (λ frame. OpensBy frame self.old.sessions self.new.sessions) }
+        ensures kept { OnErr result (KeepsBook self.old self.new) }
+        ensures sessions { OnErr result (LosesAtMost (Some number) self.old.sessions self.new.sessions) }
+    {
+        if spec.filter.is_none() {
+            self.answer_coefs(number, spec)
+        } else {
+            self.answer_rows(number, spec)
+        }
+    }
+
+    /// Answers a filtered view by the rows of what it keeps.
+    fn answer_rows(&mut self, number: u32, spec: ViewSpec) -> Result<Frame, NoMemory>
+        requires number { 1 ≤ number }
+        requires opened { IsTrue (is_open number self.old.sessions) }
+        requires view { IsViewOf self.old.book spec }
+        ensures reply { IfOk result (λ frame. IsSomeAnd (slice_get self.old.book spec.series) (λ series. AnswersRows series spec number frame self.old self.new)) }
+        ensures fits { IfOk result Fits }
+        ensures opens { IfOk result (λ frame. OpensBy frame self.old.sessions self.new.sessions) }
+        ensures kept { OnErr result (KeepsBook self.old self.new) }
+        ensures sessions { OnErr result (LosesAtMost (Some number) self.old.sessions self.new.sessions) }
+    {
+        let shown = match self.rows(&spec) {
+            Ok(shown) => shown,
+            Err(ScanError::Node(_)) => unreachable!(),
+            Err(ScanError::NoMemory) => return Err(NoMemory),
+        };
+        let frame = rows_frame(number, &spec, shown);
+        if self.sessions.apply(number, spec, None).is_err() {
+            return Err(NoMemory);
+        }
+        Ok(Frame::Rows(frame))
+    }
+
+    /// What a filtered view of a series of the book shows.
+    fn rows(&self, spec: &ViewSpec) -> Result<ShownRows, ScanError>
+        requires { IsViewOf self.now.book spec.now }
+        ensures shown { IsSomeAnd (slice_get self.now.book spec.now.series) (λ series. ShowsOrStops series spec.now result) }
+    {
+        let series = self.book.book().series(usize::from(spec.series));
+        let axis = axis_of(series);
+        let mut nodes = ListNodes::new(series.slots.as_slice());
+        shown_rows(self.alloc, spec, axis, &mut nodes)
+    }
+
+    /// Answers a view without a filter by the coefficients that it needs and the session's client lacks.
+    #[tactic(auto, using(crate::proofs::Keeping::views_closed, crate::proofs::Keeping::views_viewed, crate::proofs::Openings::opens_viewed, crate::proofs::Answered::answered_fits, crate::proofs::Answered::answered_view, crate::proofs::Answered::refused_too_large))]
+    fn answer_coefs(&mut self, number: u32, spec: ViewSpec) -> Result<Frame, NoMemory>
+        requires number { 1 ≤ number }
+        requires opened { IsTrue (is_open number self.old.sessions) }
+        requires view { IsViewOf self.old.book spec }
+        requires unfiltered { spec.filter ≡ None }
+        ensures reply { IfOk result (λ frame. IsSomeAnd (slice_get self.old.book spec.series) (λ series. AnswersBy None series spec number frame self.old self.new)) }
         ensures fits { IfOk result Fits }
         ensures opens { IfOk result (λ frame. OpensBy frame self.old.sessions self.new.sessions) }
         ensures kept { OnErr result (KeepsBook self.old self.new) }
@@ -320,16 +409,22 @@ impl Service {
             Err(PlanError::Node(_)) => unreachable!(),
             Err(PlanError::NoMemory) => return Err(NoMemory),
         };
-        if self.sessions.apply(number, spec, &planned.plan).is_err() {
+        let (series, grid) = (spec.series, spec.grid);
+        if self
+            .sessions
+            .apply(number, spec, Some(&planned.plan))
+            .is_err()
+        {
             return Err(NoMemory);
         }
-        Ok(Frame::View(view_frame(number, &spec, planned)))
+        Ok(Frame::View(view_frame(number, series, grid, planned)))
     }
 
     /// What a view of a series of the book takes and tells.
     fn plan(&self, number: u32, spec: &ViewSpec) -> Result<Planned, PlanError>
         requires opened { IsTrue (is_open number self.now.sessions) }
         requires view { IsViewOf self.now.book spec.now }
+        requires unfiltered { spec.now.filter ≡ None }
         ensures planned { IsSomeAnd (slice_get self.now.book spec.now.series) (λ series. PlansOrStops series spec.now (session_of number self.now.sessions) result) }
         ensures series { IsSomeAnd (slice_get self.now.book spec.now.series) IsSeries }
         ensures few { spec.now.series < 512 }
@@ -373,8 +468,13 @@ fn panned(grid: Grid, by: i128) -> Result<Grid, GridError>
 }
 
 /// The view of a series that is asked for, or the first refusal that stands against it.
-fn spec_of(series: u16, viewport: Viewport, word: RangeWord) -> Result<ViewSpec, Refusal>
-    ensures spec { IsSpecFor series viewport word result }
+fn spec_of(
+    series: u16,
+    viewport: Viewport,
+    word: RangeWord,
+    filter: Option<Filter>,
+) -> Result<ViewSpec, Refusal>
+    ensures spec { IsSpecFor series viewport word filter result }
     ensures range { IfOk result (λ spec. IsRangeSpec spec.range) }
 {
     let grid = match grid_of(viewport) {
@@ -389,6 +489,7 @@ fn spec_of(series: u16, viewport: Viewport, word: RangeWord) -> Result<ViewSpec,
         series,
         grid,
         range: range_spec(word),
+        filter,
     })
 }
 

@@ -1,4 +1,4 @@
-ghost use Rattle.std.specs.Prelude.{◌≡◌, ◌+◌, ◌*◌, ◌≤◌, ◌<◌, ◌^◌, ℤ, List, Option, Some, length, IsTrue, IfOk, IfErr, IsSome};
+ghost use Rattle.std.specs.Prelude.{◌≡◌, ◌+◌, ◌*◌, ◌≤◌, ◌<◌, ◌^◌, ℤ, List, Option, Some, length, IsTrue, IfOk, IfErr, IsSome, None};
 ghost use Rattle.om3_coeff.specs.Keys.{height};
 ghost use Rattle.om3_coeff.specs.Spans.{IsProperIfAny};
 ghost use Rattle.om3_coeff.specs.View.{Agrees, HasCause};
@@ -9,6 +9,7 @@ ghost use Rattle.zoom_session.specs.Sessions.{is_open, session_of};
 ghost use Rattle.zoom_session.specs.Views.{IsRangeSpec};
 ghost use Rattle.plain_chart.specs.Samples.{kept, values_of, IsRange as AreKeptIn};
 ghost use Rattle.series_book.specs.declared.one_series.Series.{Series};
+ghost use Rattle.zoom_session.specs.declared.view_spec.ViewSpec.{ViewSpec};
 ghost use Rattle.chart_frames.specs.Frames.{IsRange};
 ghost use Rattle.chart_service.specs.Viewing.{ShowsRange, axis_of, root_of, has_of, least_of, greatest_of, view_frame};
 ghost use Rattle.chart_service.specs.Planning.{TellsOf, AreInFrame, RefusesView, most_view_reads};
@@ -47,6 +48,7 @@ pub(crate) fn plan<N: Nodes>(
     nodes: &mut N,
 ) -> Result<Planned, PlanError>
     requires opened { IsTrue (is_open number sessions.now) }
+    requires unfiltered { spec.now.filter ≡ None }
     requires range { IsRangeSpec spec.now.range }
     requires fit { (N.view nodes.old).fit }
     requires slots { axis.slots ≡ (N.view nodes.old).slots }
@@ -161,23 +163,24 @@ fn stored_of(root: Option<Span>) -> Stored
     }
 }
 
-/// The frame of an answered view.
-pub(crate) fn view_frame(number: u32, spec: &ViewSpec, planned: Planned) -> ViewFrame
+/// The frame of an answered view of the series of this id on this grid.
+pub(crate) fn view_frame(number: u32, id: u16, grid: Grid, planned: Planned) -> ViewFrame
     requires { length planned.plan.send < 2 ^ 32 }
     ensures session { result.session ≡ number }
-    ensures frame { (series : Series) → planned.told.axis ≡ axis_of series → planned.told.root ≡ root_of series →
-        result ≡ view_frame number spec.now planned.told.range series planned.plan.send }
+    ensures frame { (spec : ViewSpec) (series : Series) → id ≡ spec.series → grid ≡ spec.grid →
+        planned.told.axis ≡ axis_of series → planned.told.root ≡ root_of series →
+        result ≡ view_frame number spec planned.told.range series planned.plan.send }
 {
     let told = planned.told;
     let coefs = planned.plan.into_send();
     let stored = stored_of(told.root);
     ViewFrame {
         session: number,
-        series: spec.series,
-        w: spec.grid.w(),
-        h: spec.grid.h(),
-        t0: spec.grid.t0(),
-        t1: spec.grid.t1(),
+        series: id,
+        w: grid.w(),
+        h: grid.h(),
+        t0: grid.t0(),
+        t1: grid.t1(),
         lo: told.range.lo,
         hi: told.range.hi,
         start: told.axis.start,

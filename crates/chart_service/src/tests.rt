@@ -9,7 +9,7 @@ use series_book::ListBook;
 use std::alloc::Global;
 use std::test::Fail;
 
-/// What a line is answered: of a view how many coefficients are sent, and its range of values.
+/// What a line is answered: of a view how many coefficients or rows are sent, and its range of values.
 #[derive(Clone, Copy, Debug, PartialEq, Eq)]
 enum Answer {
     Done(u64),
@@ -17,10 +17,11 @@ enum Answer {
     Opened(u32, u32),
     Closed(u32),
     Viewed(u32, i64, i64),
+    Filtered(u16, i64, i64),
     Nothing,
 }
 
-use Answer::{Closed, Done, Opened, Refused, Viewed};
+use Answer::{Closed, Done, Filtered, Opened, Refused, Viewed};
 
 fn service(alloc: Global, pages: u64) -> Result<Service, Fail>
     requires { FIXED_PAGES ≤ pages }
@@ -36,7 +37,7 @@ fn answer_of(frame: &Frame) -> Answer {
         Frame::Opened { session, cache } => Answer::Opened(*session, *cache),
         Frame::Closed { session } => Answer::Closed(*session),
         Frame::View(view) => Answer::Viewed(view.count, view.lo, view.hi),
-        Frame::Rows(_) => Answer::Nothing,
+        Frame::Rows(rows) => Answer::Filtered(rows.count, rows.lo, rows.hi),
     }
 }
 
@@ -65,6 +66,17 @@ fn replies_to_lines(rt: HostRuntime) -> Result<(), Fail> {
         ("zoom 9 0 1", Refused(4, 0, 0)),
         ("pan 9 1", Refused(4, 0, 0)),
         ("close 1", Closed(1)),
+        ("view 1 a 4 4 0 5 auto where t >", Refused(3, 3, 0)),
+        ("view 1 a 4 4 0 5 auto where", Refused(3, 0, 0)),
+        ("view 1 a 4 4 0 5 auto whereas", Refused(2, 22, 0)),
+        ("view 9 a 4 4 0 5 auto where v", Refused(3, 1, 0)),
+        ("view 9 b 0 4 5 5 auto where v>1", Refused(4, 0, 0)),
+        ("view 1 b 0 4 5 5 auto where v>1", Refused(8, 0, 0)),
+        ("view 1 a 0 4 5 5 auto where v>1", Refused(17, 0, 0)),
+        ("view 1 a 0 4 0 5 3..2 where v>1", Refused(18, 0, 0)),
+        ("view 1 a 4 4 0 5 3..2 where v>1", Refused(19, 0, 0)),
+        ("view 1 a 4 4 0 5 auto where v>1", Filtered(0, 0, 0)),
+        ("view 1 a 4 4 0 5 2..3 where v>1", Filtered(0, 2, 3)),
         ("view 1 a 4 4 0 5 3.2", Refused(2, 17, 0)),
         ("view 1 a 4 4 0 5 3..2", Refused(19, 0, 0)),
         ("view 1 a 4 4 0 5 2..2", Viewed(0, 2, 2)),
@@ -199,6 +211,48 @@ fn counts_what_is_sent(rt: HostRuntime) -> Result<(), Fail> {
         ("pan 2 1", Refused(16, 0, 0)),
     ] {
         assert_eq!(rt; answer_to(&mut service, line), want, "at {line}");
+    }
+    Ok(())
+}
+
+/// Filtered views by their rows and ranges, with zooms and pans of them, and views without a filter
+/// between them: the list is as it was.
+#[test]
+fn answers_filtered_views(rt: HostRuntime) -> Result<(), Fail> {
+    let mut service = service(rt.alloc(), 62)?;
+    let or = " where v > 10 or t >= 100 and not v = 12";
+    for (line, end, want) in [
+        ("create f 98 1 0", "", Done(0)),
+        ("append f 5 11 12 3 -", "", Done(5)),
+        ("open 1 7", "", Opened(1, 7)),
+        ("view 1 f 4 4 98 102 auto", or, Filtered(3, 3, 12)),
+        ("pan 1 0", "", Filtered(3, 3, 12)),
+        ("view 1 f 1 1 98 100 auto", "", Viewed(7, 5, 11)),
+        ("view 1 f 4 4 98 102 auto", or, Filtered(3, 3, 12)),
+        ("zoom 1 98 100", "", Filtered(1, 11, 11)),
+        ("pan 1 2", "", Filtered(2, 3, 12)),
+        ("pan 1 2", "", Filtered(0, 0, 0)),
+        ("zoom 1 5 5", "", Refused(17, 0, 0)),
+        ("zoom 1 98 102", "", Filtered(3, 3, 12)),
+        ("view 1 f 1 1 98 100 auto", "", Viewed(0, 5, 11)),
+        ("view 1 f 4 4 98 102 auto", "", Refused(20, 8, 7)),
+        (
+            "view 1 f 4 4 98 102 auto",
+            " where v != 4",
+            Filtered(4, 3, 12),
+        ),
+        (
+            "view 1 f 2 4 98 102 -1..5",
+            " where v < 12",
+            Filtered(2, -1, 5),
+        ),
+        ("set f 98 10", "", Done(5)),
+        ("zoom 1 98 99", "", Filtered(1, -1, 5)),
+        ("view 1 f 1 1 98 100 auto", "", Viewed(2, 10, 11)),
+        ("pan 1 0", "", Viewed(0, 10, 11)),
+    ] {
+        let line = format!(in rt.alloc(); "{line}{end}")?;
+        assert_eq!(rt; answer_to(&mut service, &line), want, "at {line}");
     }
     Ok(())
 }

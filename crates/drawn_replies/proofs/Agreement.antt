@@ -1,5 +1,5 @@
 -- What a client sees of a service's view: the series that the view is of, and no wanted key that fails.
-use Rattle.std.proofs.Common.{ℕ, ℤ, ◌≡◌, ◌==◌, ◌++◌, ◌^◌, ◌<◌, ◌≤◌, ◌⊎◌, inl, inr, false, if◌then◌else◌, List, length, All, Option, None, Some, IfSome, refl, sym, ap, ◌∙◌, subst, arith}
+use Rattle.std.proofs.Common.{ℕ, ℤ, ◌≡◌, ◌==◌, ◌++◌, ◌^◌, ◌<◌, ◌≤◌, inl, inr, false, if◌then◌else◌, List, length, Option, None, Some, refl, sym, ap, ◌∙◌, subst, arith}
 use Rattle.std.proofs.lemmas.Bool.Decides.{nat_tests}
 use Rattle.std.proofs.lemmas.Option.{slice_get_within, slice_get-get_or}
 use Rattle.chart_grid.specs.declared.axis.Axis.{Axis}
@@ -14,6 +14,8 @@ use Rattle.om3_coeff.specs.Known.{known}
 use Rattle.view_keys.specs.Needed.{IsNeeded}
 use Rattle.view_keys.specs.Wanted.{Seen, IsWanted}
 use Rattle.view_keys.specs.Listed.{IsListOf}
+use Rattle.m4_groups.specs.Points.{AreInOrder}
+use Rattle.needed_nodes.specs.Answers.{points_of}
 use Rattle.coefficient_cache.specs.declared.series_key.SeriesKey.{SeriesKey}
 use Rattle.coefficient_cache.specs.Caches.{Cache}
 use Rattle.coefficient_cache.specs.Pairs.{in_series}
@@ -27,7 +29,7 @@ use Rattle.chart_frames.specs.declared.frame.ViewFrame.{ViewFrame}
 use Rattle.chart_service.specs.Viewing.{axis_of, has_of, least_of, greatest_of, root_of as series_root, view_frame, AreNeeded}
 use Rattle.chart_client.specs.Holdings.{told_by, root_of, seen_by}
 use Rattle.chart_client.specs.Agreeing.{Agrees}
-use Rattle.chart_client.specs.Failing.{IsMissing, IsMisfit, Fails}
+use Rattle.chart_client.specs.Failing.{Fails}
 use Rattle.drawn_replies.proofs.Orders.{told-among, kinds-one}
 
 -- what is known of the layers below
@@ -42,6 +44,7 @@ pub record Laws : Type 0 where
       (k : Key) → IsWanted seen axis grid k → known seen.root seen.told (height axis.slots) k ≡ Some (span list k)
   pub gives : (pairs : List (SeriesKey × Coef)) (series : ℕ) (needed : List (Key × Coef)) →
       AreDistinct needed → Gives (in_series series (to_send pairs series needed) ++ pairs) series needed
+  pub order : (list : List (Option ℤ)) (axis : Axis) (grid : Grid) → 0 < axis.step → AreInOrder grid (points_of axis grid list)
   pub tops : (list : List (Option ℤ)) → length list ≤ 2 ^ 35 → span list (top_key (length list)) ≡ span_over list 0 (length list)
   pub splits : (list : List (Option ℤ)) (k : Key) (s : Span) → AreSlots list → 1 ≤ k.level → span list k ≡ Some s
       → parts s (coef list k) ≡ Some (span list (left_of k), span list (right_of k))

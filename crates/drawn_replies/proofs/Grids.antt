@@ -1,5 +1,5 @@
 -- Grids of the same window and canvas are one.
-use Rattle.std.proofs.Common.{ℕ, ℤ, ◌≡◌, refl, ap, ◌∙◌, subst, sym}
+use Rattle.std.proofs.Common.{ℕ, ℤ, ◌≡◌, ap, ◌∙◌, subst}
 use Rattle.std.proofs.Math.Bridge.{le_prop}
 use Rattle.std.proofs.Math.Dec.{T_prop}
 use Rattle.chart_grid.specs.declared.grid.Grid.{Grid}

@@ -1,18 +1,16 @@
 -- Holdings that mirror sessions: look-ups, closings and views at both ends.
-use Rattle.std.proofs.Common.{ℕ, ◌≡◌, ◌==◌, Bool, true, false, ◌||◌, ◌≢◌, if◌then◌else◌, All, AllPairs, length, get_or, ◌<◌, ◌+◌, suc, zero, List, [], ◌∷◌, ◌++◌, map, Option, None, Some, refl, sym, ap, ◌∙◌, arith, subst}
+use Rattle.std.proofs.Common.{ℕ, ◌≡◌, ◌==◌, Bool, true, false, ◌||◌, ◌≢◌, if◌then◌else◌, All, AllPairs, suc, List, [], ◌∷◌, ◌++◌, map, Option, None, Some, refl, sym, ap, ◌∙◌, arith, subst}
 use Rattle.std.specs.Option.{option_map}
-use Rattle.std.specs.List.{list_any}
 use Rattle.std.proofs.lemmas.Bool.Decides.{nat_tests}
 use Rattle.std.proofs.lemmas.List.Elements.{All-head, All-tail}
 use Rattle.om3_coeff.specs.declared.key.Key.{Key}
 use Rattle.om3_coeff.specs.declared.coef.Coef.{Coef}
-use Rattle.coefficient_cache.specs.Caches.{Cache}
 use Rattle.zoom_session.specs.declared.session.Session.{Session}
 use Rattle.zoom_session.specs.declared.view_spec.ViewSpec.{ViewSpec}
-use Rattle.zoom_session.specs.Sessions.{is_open, session_of, fresh_session, without as sessions_without, after_view, viewed}
+use Rattle.zoom_session.specs.Sessions.{is_open, session_of, last_of, fresh_session, without as sessions_without, after_view, viewed}
 use Rattle.chart_client.specs.declared.holding.Holding.{Holding}
 use Rattle.chart_client.specs.Holdings.{holding_of, without, with_cache, opened}
-use Rattle.drawn_replies.specs.Mirrors.{mirrored, Mirrors}
+use Rattle.drawn_replies.specs.Mirrors.{mirrored}
 
 abbrev pub mirror : List Session → List Holding
 mirror ss = map mirrored ss
@@ -118,7 +116,7 @@ cond-false : {X : Type 0} (x y : X) (b : Bool) → b ≡ false → (if b then x 
 cond-false x y true is = absurd (grind (arith, is))
 cond-false x y false is = refl
 
-viewed-at : (n : ℕ) (spec : ViewSpec) (needed : List (Key × Coef)) (s t : Session) (ss : List Session) → s.number ≡ n → s ≡ t
+viewed-at : (n : ℕ) (spec : ViewSpec) (needed : Option (List (Key × Coef))) (s t : Session) (ss : List Session) → s.number ≡ n → s ≡ t
     → record { number = n; cache = (after_view spec needed t).cache } ∷ mirror ss ≡ mirror (after_view spec needed s ∷ ss)
 viewed-at n spec needed s t ss is e =
     let P : ℕ → Type 0 = λ m. record { number = m; cache = (after_view spec needed s).cache } ∷ mirror ss ≡ mirror (after_view spec needed s ∷ ss) in
@@ -126,7 +124,7 @@ viewed-at n spec needed s t ss is e =
     subst Q e (subst P is refl)
 
 -- a view of a session changes its list at both ends
-viewed-by : (n : ℕ) (spec : ViewSpec) (needed : List (Key × Coef)) (s t : Session) (ss : List Session) (b : Bool) → (s.number == n) ≡ b
+viewed-by : (n : ℕ) (spec : ViewSpec) (needed : Option (List (Key × Coef))) (s t : Session) (ss : List Session) (b : Bool) → (s.number == n) ≡ b
     → session_of n (s ∷ ss) ≡ Some t
     → (session_of n ss ≡ Some t → with_cache n (after_view spec needed t).cache (mirror ss) ≡ mirror (viewed n spec needed ss))
     → with_cache n (after_view spec needed t).cache (mirror (s ∷ ss)) ≡ mirror (viewed n spec needed (s ∷ ss))
@@ -136,8 +134,37 @@ viewed-by n spec needed s t ss true is here ih =
 viewed-by n spec needed s t ss false is here ih =
     rw is (ap (λ hs. mirrored s ∷ hs) (ih (sym (cond-false (Some s) (session_of n ss) (s.number == n) is) ∙ here)))
 
-pub viewed-same : (n : ℕ) (spec : ViewSpec) (needed : List (Key × Coef)) (t : Session) (ss : List Session) → session_of n ss ≡ Some t
+pub viewed-same : (n : ℕ) (spec : ViewSpec) (needed : Option (List (Key × Coef))) (t : Session) (ss : List Session) → session_of n ss ≡ Some t
     → with_cache n (after_view spec needed t).cache (mirror ss) ≡ mirror (viewed n spec needed ss)
 viewed-same n spec needed t [] here = refl
 viewed-same n spec needed t (s ∷ ss) here =
     viewed-by n spec needed s t ss (s.number == n) refl here (viewed-same n spec needed t ss)
+
+unviewed-by : (n : ℕ) (spec : ViewSpec) (s : Session) (ss : List Session) (b : Bool) → (s.number == n) ≡ b
+    → mirror (viewed n spec None ss) ≡ mirror ss → mirror (viewed n spec None (s ∷ ss)) ≡ mirror (s ∷ ss)
+unviewed-by n spec s ss true is ih = rw is refl
+unviewed-by n spec s ss false is ih = rw is (ap (λ hs. mirrored s ∷ hs) ih)
+
+-- a filtered view of a session leaves what its client holds
+pub unviewed-same : (n : ℕ) (spec : ViewSpec) (ss : List Session) → mirror (viewed n spec None ss) ≡ mirror ss
+unviewed-same n spec [] = refl
+unviewed-same n spec (s ∷ ss) = unviewed-by n spec s ss (s.number == n) refl (unviewed-same n spec ss)
+
+last-by : (n : ℕ) (spec : ViewSpec) (needed : Option (List (Key × Coef))) (s t : Session) (ss : List Session) (b : Bool) → (s.number == n) ≡ b
+    → session_of n (s ∷ ss) ≡ Some t
+    → (session_of n ss ≡ Some t → last_of (session_of n (viewed n spec needed ss)) ≡ Some spec)
+    → last_of (session_of n (viewed n spec needed (s ∷ ss))) ≡ Some spec
+last-by n spec needed s t ss true is here ih =
+    ap (λ b. last_of (session_of n (if b then after_view spec needed s ∷ ss else s ∷ viewed n spec needed ss))) is
+    ∙ ap last_of (cond-true (Some (after_view spec needed s)) (session_of n ss) (s.number == n) is)
+last-by n spec needed s t ss false is here ih =
+    ap (λ b. last_of (session_of n (if b then after_view spec needed s ∷ ss else s ∷ viewed n spec needed ss))) is
+    ∙ ap last_of (cond-false (Some s) (session_of n (viewed n spec needed ss)) (s.number == n) is)
+    ∙ ih (sym (cond-false (Some s) (session_of n ss) (s.number == n) is) ∙ here)
+
+-- an answered view is its session's last one
+pub last-viewed : (n : ℕ) (spec : ViewSpec) (needed : Option (List (Key × Coef))) (t : Session) (ss : List Session) → session_of n ss ≡ Some t
+    → last_of (session_of n (viewed n spec needed ss)) ≡ Some spec
+last-viewed n spec needed t [] here = cc
+last-viewed n spec needed t (s ∷ ss) here =
+    last-by n spec needed s t ss (s.number == n) refl here (last-viewed n spec needed t ss)

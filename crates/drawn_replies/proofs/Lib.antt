@@ -1,6 +1,7 @@
 mod Grids
 mod Holders
 mod Orders
+mod Kept
 mod Agreement
 mod Steps
 mod Mirroring

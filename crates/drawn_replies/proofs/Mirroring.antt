@@ -1,39 +1,46 @@
 -- What a client does with the frame of a reply, where it mirrors the service's sessions.
-use Rattle.std.proofs.Common.{ℕ, zero, suc, ◌≡◌, ◌≢◌, ◌<◌, ◌++◌, ◌⊎◌, inl, inr, true, false, List, [], ◌∷◌, length, map, All, AllPairs, Option, None, Some, IsSome, slice_get, refl, sym, ap, ◌∙◌, subst, arith}
+use Rattle.std.specs.Prelude.{◌↔◌, IsTrue, pos}
+use Rattle.std.proofs.Common.{ℕ, ◌≡◌, ◌≢◌, ◌<◌, inl, inr, List, [], ◌∷◌, All, AllPairs, Option, None, Some, slice_get, refl, sym, ap, ◌∙◌, subst, arith}
 use Rattle.std.specs.Option.{option_map}
 use Rattle.std.proofs.lemmas.List.Kept.{AllPairs-cons}
 use Rattle.std.proofs.lemmas.Option.{slice_get_within, slice_get-get_or}
-use Rattle.line_raster.specs.Canvas.{Canvas}
+use Rattle.line_raster.specs.declared.position.Point.{Point}
+use Rattle.line_raster.specs.Canvas.{Canvas, black_at}
+use Rattle.line_raster.specs.Raster.{InRaster}
+use Rattle.plain_chart.specs.Samples.{kept}
+use Rattle.m4_groups.specs.Points.{AreInOrder as ArePointsInOrder}
+use Rattle.filter_scan.specs.Answers.{points_of}
+use Rattle.chart_client.specs.Drawing.{DrawsPoints}
 use Rattle.chart_grid.specs.declared.grid.Grid.{Grid}
 use Rattle.om3_coeff.specs.declared.key.Key.{Key}
 use Rattle.om3_coeff.specs.declared.coef.Coef.{Coef}
 use Rattle.view_keys.specs.Wanted.{Seen, IsWanted}
 use Rattle.view_keys.specs.Listed.{ComesBefore, AreInOrder, IsListOf}
 use Rattle.coefficient_cache.specs.Caches.{Cache}
-use Rattle.coefficient_cache.specs.Views.{AreDistinct, to_send}
+use Rattle.coefficient_cache.specs.Views.{AreDistinct}
 use Rattle.series_book.specs.declared.one_series.Series.{Series}
 use Rattle.series_book.specs.Books.{IsSeries, IsBook}
 use Rattle.zoom_session.specs.declared.session.Session.{Session}
-use Rattle.zoom_session.specs.declared.view_spec.ViewSpec.{ViewSpec}
-use Rattle.zoom_session.specs.Sessions.{is_open, session_of, fresh_session, without as sessions_without, after_view, viewed}
+use Rattle.zoom_session.specs.Sessions.{session_of, last_of, after_view, viewed}
 use Rattle.chart_frames.specs.declared.frame.Frame.{Frame}
 use Rattle.chart_frames.specs.declared.frame.Frame.TheVariants.{Done, Refused, Opened, Closed, View as ViewFrameOf, Rows}
 use Rattle.chart_frames.specs.declared.frame.ViewFrame.{ViewFrame}
+use Rattle.chart_frames.specs.declared.frame.RowsFrame.{RowsFrame}
 use Rattle.chart_service.specs.State.{State, IsSound}
-use Rattle.chart_service.specs.Viewing.{Answers, ShowsView, view_frame, axis_of}
+use Rattle.chart_service.specs.Viewing.{rows_frame, axis_of, kept_by}
 use Rattle.chart_service.specs.Replies.{RepliesToLine}
 use Rattle.chart_client.specs.declared.holding.Holding.{Holding}
-use Rattle.chart_client.specs.declared.errors.ClientError.{ClientError}
 use Rattle.chart_client.specs.declared.errors.ClientError.TheVariants.{Missing, BadCoefficient, UnknownSession, NoMemory}
 use Rattle.chart_client.specs.Holdings.{holding_of, opened as client_opened, without as client_without, with_cache, axis_of as client_axis, told_by, seen_by}
 use Rattle.chart_client.specs.Agreeing.{IsGridOf}
-use Rattle.chart_client.specs.Failing.{IsMissing, IsMisfit, Fails, IsFirstFailing}
-use Rattle.chart_client.specs.Accepting.{Accepts, AcceptsView, DrawsView, viewed as client_viewed, Rejects, FailsView, session_in}
-use Rattle.drawn_replies.specs.Mirrors.{mirrored, Mirrors, IsPictureOf, DrawsTheBook, OnlyLacksMemory}
+use Rattle.chart_client.specs.Failing.{IsFirstFailing}
+use Rattle.chart_client.specs.Accepting.{AcceptsView, AcceptsRows, DrawsView, viewed as client_viewed, FailsView, session_in}
+use Rattle.drawn_replies.specs.Mirrors.{mirrored, Mirrors, ShowsAnswered, IsPictureOf, DrawsTheBook, OnlyLacksMemory}
 use Rattle.drawn_replies.proofs.Grids.{grid-same}
-use Rattle.drawn_replies.proofs.Holders.{mirror, held, closed, there, opened-same, viewed-same}
+use Rattle.drawn_replies.proofs.Holders.{mirror, held, closed, there, opened-same, viewed-same, unviewed-same, last-viewed}
 use Rattle.drawn_replies.proofs.Agreement.{Laws, View, frame_of, agrees, none-fails, wanted-same}
-use Rattle.drawn_replies.proofs.Steps.{IsQuiet, QuietStep, OpenStep, CloseStep, ViewStep, Step, step-of}
+use Rattle.drawn_replies.proofs.Steps.{IsQuiet, OpenStep, CloseStep, ViewStep, RowsStep, Step, step-of}
+use Rattle.drawn_replies.proofs.Kept.{order-kept, placed}
 
 -- a frame that isn't a view's fails no view
 no-view : (frame : Frame) → ((view : ViewFrame) → frame ≡ ViewFrameOf view → ⊥) → (How : Seen → ℕ → Key → Type 0) (key : Key) (h : List Holding)
@@ -161,9 +168,9 @@ grid-is v grid is = grid-same grid v.spec.grid is.window.from is.window.to is.ca
 
 view-accepted : (v : View) (session : Session) (old new : State) (h now : List Holding) (drawing : Canvas)
     → session_of v.number old.sessions ≡ Some session → session.cache ≡ v.cache → slice_get old.book v.spec.series ≡ Some v.series
-    → new.sessions ≡ viewed v.number v.spec v.needed old.sessions → Mirrors old.sessions h
+    → new.sessions ≡ viewed v.number v.spec (Some v.needed) old.sessions → Mirrors old.sessions h
     → AcceptsView (frame_of v) v.cache drawing h now
-    → Mirrors new.sessions now × IsPictureOf old (ViewFrameOf (frame_of v)) (Some drawing)
+    → Mirrors new.sessions now × IsPictureOf old new (ViewFrameOf (frame_of v)) (Some drawing)
 view-accepted v session old new h now drawing found cached stored after m a =
     let g = grid-is v a.grid a.grid_is in
     let wanted : a.wanted ≡ v.needed =
@@ -172,8 +179,8 @@ view-accepted v session old new h now drawing found cached stored after m a =
       a.holdings
           ∙ ap (λ es. with_cache v.number (client_viewed (frame_of v) v.cache es) h) wanted
           ∙ ap (λ c. with_cache v.number (client_viewed (frame_of v) c v.needed) h) (sym cached)
-          ∙ ap (λ hs. with_cache v.number (after_view v.spec v.needed session).cache hs) m
-          ∙ viewed-same v.number v.spec v.needed session old.sessions found
+          ∙ ap (λ hs. with_cache v.number (after_view v.spec (Some v.needed) session).cache hs) m
+          ∙ viewed-same v.number v.spec (Some v.needed) session old.sessions found
           ∙ ap mirror (sym after),
       (
         v.series,
@@ -226,7 +233,7 @@ view-lacks v session old h found cached m NoMemory r = refl
 
 view-drawn : (v : View) (session : Session) (old new : State) (h : List Holding) → session_of v.number old.sessions ≡ Some session
     → session.cache ≡ v.cache → slice_get old.book v.spec.series ≡ Some v.series
-    → new.sessions ≡ viewed v.number v.spec v.needed old.sessions → Mirrors old.sessions h → DrawsTheBook (ViewFrameOf (frame_of v)) old new h
+    → new.sessions ≡ viewed v.number v.spec (Some v.needed) old.sessions → Mirrors old.sessions h → DrawsTheBook (ViewFrameOf (frame_of v)) old new h
 view-drawn v session old new h found cached stored after m None now a = absurd a
 view-drawn v session old new h found cached stored after m (Some drawing) now a =
     let cache : a.0.cache ≡ v.cache = cache-same v.number session old h a.0 found m a.1 ∙ cached in
@@ -243,6 +250,58 @@ view-follows laws frame old new h good s m =
       view-lacks v s.answers.session old h s.answers.open_is refl m,
     )
 
+rows-no-view : {rows : RowsFrame} {view : ViewFrame} → ◌≡◌ {A = Frame} (Rows rows) (ViewFrameOf view) → ⊥
+rows-no-view h = cc
+
+-- the picture of rows that a filtered view is answered
+rows-drawn : (laws : Laws) (frame : Frame) (old new : State) (h now : List Holding) (drawing : Canvas) → IsBook old.book → (s : RowsStep frame old new)
+    → AcceptsRows (rows_frame s.number s.spec s.answers.range s.answers.rows) drawing h now
+    → ShowsAnswered old new (rows_frame s.number s.spec s.answers.range s.answers.rows) drawing
+rows-drawn laws frame old new h now drawing good s a =
+    let axis = axis_of s.series in
+    let grid = s.spec.grid in
+    let range = s.answers.range in
+    let samples = kept grid axis s.series.slots in
+    let step : 0 < axis.step = (book-series old.book s.spec.series s.series good s.stored).step_above_zero in
+    let order : ArePointsInOrder grid (points_of (kept_by s.spec s.series)) = order-kept grid s.spec.filter samples (laws.order s.series.slots axis grid step) in
+    let draws : DrawsPoints grid range.lo range.hi (points_of (kept_by s.spec s.series)) drawing =
+    a.draws grid (points_of (kept_by s.spec s.series)) (record { columns = refl; rows = refl }) order s.answers.are_rows in
+    let P : List Point → Type 0 = λ ps. (x y : ℕ) → x < grid.w → y < grid.h → IsTrue (black_at drawing x y) ↔ InRaster ps x (pos y) in
+    record {
+      spec = s.spec;
+      answered = ap (λ (t : State). last_of (session_of s.number t.sessions)) s.answers.state
+          ∙ last-viewed s.number s.spec None s.answers.session old.sessions s.answers.open_is;
+      series = s.series;
+      stored = s.stored;
+      shows = record {
+        columns = refl;
+        height = refl;
+        chart = record { width = a.wide; height = a.high; pixels = subst P (placed grid range (kept_by s.spec s.series)) draws };
+      };
+    }
+
+rows-accepted : (laws : Laws) (frame : Frame) (old new : State) (h : List Holding) → IsBook old.book → (s : RowsStep frame old new) → Mirrors old.sessions h
+    → DrawsTheBook (Rows (rows_frame s.number s.spec s.answers.range s.answers.rows)) old new h
+rows-accepted laws frame old new h good s m None now a = absurd a
+rows-accepted laws frame old new h good s m (Some drawing) now a = (
+  a.1.holdings
+      ∙ m
+      ∙ sym (unviewed-same s.number s.spec old.sessions)
+      ∙ ap (λ (t : State). mirror t.sessions) (sym s.answers.state),
+  rows-drawn laws frame old new h now drawing good s a.1,
+)
+
+rows-follows : (laws : Laws) (frame : Frame) (old new : State) (h : List Holding) → IsBook old.book → RowsStep frame old new → Mirrors old.sessions h
+    → DrawsTheBook frame old new h × OnlyLacksMemory frame h
+rows-follows laws frame old new h good s m =
+    let P : Frame → Type 0 = λ f. DrawsTheBook f old new h × OnlyLacksMemory f h in
+    let rows = rows_frame s.number s.spec s.answers.range s.answers.rows in
+    subst P (sym s.answers.frame_is) (
+      rows-accepted laws frame old new h good s m,
+      lacks-by (Rows rows) h (λ view e. rows-no-view e)
+          (λ n e gone. some-none (sym (holding-there s.number old.sessions s.answers.session h s.answers.open_is m) ∙ ap (λ i. holding_of i h) (some-number e) ∙ gone)),
+    )
+
 -- what a client does with the frame of a step: its sessions go on mirroring the service's, it draws the
 -- picture of the series, and nothing but want of memory comes in its way
 pub follows-step : (laws : Laws) (frame : Frame) (old new : State) (h : List Holding) → IsSound old → Step frame old new → Mirrors old.sessions h
@@ -254,7 +313,10 @@ follows-step laws frame old new h sound step m =
         | inl opening ↦ open-follows frame old new h opening m
         | inr more ↦ elim more [
           | inl closing ↦ close-follows frame old new h sound.sessions.distinct closing m
-          | inr view ↦ view-follows laws frame old new h sound.book view m
+          | inr last ↦ elim last [
+            | inl view ↦ view-follows laws frame old new h sound.book view m
+            | inr rows ↦ rows-follows laws frame old new h sound.book rows m
+          ]
         ]
       ]
     ]

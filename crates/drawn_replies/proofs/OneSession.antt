@@ -1,24 +1,23 @@
 -- A client that is sent the frames of one session alone.
-use Rattle.std.proofs.Common.{ℕ, ◌≡◌, ◌==◌, ◌⊎◌, inl, inr, Bool, true, false, if◌then◌else◌, List, [], ◌∷◌, ◌++◌, Option, refl, sym, ap, ◌∙◌, subst}
+use Rattle.std.proofs.Common.{ℕ, ◌≡◌, inl, inr, Bool, true, false, if◌then◌else◌, List, [], ◌∷◌, ◌++◌, Option, None, Some, refl, sym, ap, ◌∙◌, subst}
 use Rattle.std.specs.List.{filter}
-use Rattle.std.proofs.lemmas.Bool.{eqb-true}
 use Rattle.line_raster.specs.Canvas.{Canvas}
 use Rattle.zoom_session.specs.declared.session.Session.{Session}
-use Rattle.zoom_session.specs.Sessions.{is_open, fresh_session, without as sessions_without}
+use Rattle.zoom_session.specs.Sessions.{is_open, session_of, last_of, fresh_session, without as sessions_without}
 use Rattle.chart_client.specs.declared.holding.Holding.{Holding}
 use Rattle.chart_frames.specs.declared.frame.Frame.{Frame}
 use Rattle.chart_frames.specs.declared.frame.Frame.TheVariants.{Done, Refused, Opened, Closed, View, Rows}
 use Rattle.chart_service.specs.State.{State, IsSound}
-use Rattle.chart_service.specs.Viewing.{Answers}
+use Rattle.chart_service.specs.Viewing.{Answers, AnswersRows}
 use Rattle.chart_service.specs.Serving.{RepliesToAll}
 use Rattle.chart_service.specs.Alone.{only, alone}
-use Rattle.chart_service.proofs.Standing.{only_open, only_without, only_viewed, only_more, other_more, other_without, other_viewed, own_answers, alone_sound}
+use Rattle.chart_service.proofs.Standing.{only_open, only_without, only_more, other_more, other_without, other_viewed, only_session, own_answers, own_rows, alone_sound}
 use Rattle.chart_client.specs.Accepting.{Accepts}
 use Rattle.drawn_replies.specs.Mirrors.{Mirrors, IsPictureOf}
 use Rattle.drawn_replies.specs.Pictures.{AcceptsAll, names, IsOwnPicture, AreOwnPictured}
 use Rattle.drawn_replies.proofs.Agreement.{Laws}
 use Rattle.drawn_replies.proofs.Holders.{same-number}
-use Rattle.drawn_replies.proofs.Steps.{IsQuiet, QuietStep, OpenStep, CloseStep, ViewStep, Step, step-of}
+use Rattle.drawn_replies.proofs.Steps.{IsQuiet, OpenStep, CloseStep, ViewStep, RowsStep, Step, step-of}
 use Rattle.drawn_replies.proofs.Mirroring.{follows-step}
 
 -- a frame that says nothing of sessions is of none
@@ -56,27 +55,61 @@ own-view n frame old new v same = record {
   answers = own_answers n v.series v.spec frame old new (subst (λ k. Answers v.series v.spec k frame old new) same v.answers);
 }
 
+own-rows : (n : ℕ) (frame : Frame) (old new : State) → (r : RowsStep frame old new) → r.number ≡ n → RowsStep frame (alone n old) (alone n new)
+own-rows n frame old new r same = record {
+  series = r.series;
+  spec = r.spec;
+  number = n;
+  stored = r.stored;
+  answers = own_rows n r.series r.spec frame old new (subst (λ k. AnswersRows r.series r.spec k frame old new) same r.answers);
+}
+
 own-step : (n : ℕ) (frame : Frame) (old new : State) → names n frame ≡ true → Step frame old new → Step frame (alone n old) (alone n new)
 own-step n frame old new named (inl quiet) = absurd (not-both (names n frame) named (quiet-unnamed n frame quiet.quiet))
 own-step n frame old new named (inr (inl o)) = inr (inl (own-open n frame old new o (same-number o.number n (ap (names n) (sym o.is) ∙ named))))
 own-step n frame old new named (inr (inr (inl c))) = inr (inr (inl (own-close n frame old new c (same-number c.number n (ap (names n) (sym c.is) ∙ named)))))
-own-step n frame old new named (inr (inr (inr v))) = inr (inr (inr (own-view n frame old new v (same-number v.number n (ap (names n) (sym v.answers.frame_is) ∙ named)))))
+own-step n frame old new named (inr (inr (inr (inl v)))) = inr (inr (inr (inl (own-view n frame old new v (same-number v.number n (ap (names n) (sym v.answers.frame_is) ∙ named))))))
+own-step n frame old new named (inr (inr (inr (inr r)))) = inr (inr (inr (inr (own-rows n frame old new r (same-number r.number n (ap (names n) (sym r.answers.frame_is) ∙ named))))))
 
 -- the step of another frame leaves the session
 other-step : (n : ℕ) (frame : Frame) (old new : State) → names n frame ≡ false → Step frame old new → only n new.sessions ≡ only n old.sessions
 other-step n frame old new other (inl quiet) = ap (only n) quiet.sessions
 other-step n frame old new other (inr (inl o)) = ap (only n) o.sessions ∙ other_more n o.number o.size old.sessions (ap (names n) (sym o.is) ∙ other)
 other-step n frame old new other (inr (inr (inl c))) = ap (only n) c.sessions ∙ other_without n c.number old.sessions (ap (names n) (sym c.is) ∙ other)
-other-step n frame old new other (inr (inr (inr v))) =
+other-step n frame old new other (inr (inr (inr (inl v)))) =
     ap (λ s. only n s.sessions) v.answers.state
-    ∙ other_viewed n v.number v.spec v.answers.needed old.sessions (ap (names n) (sym v.answers.frame_is) ∙ other)
+    ∙ other_viewed n v.number v.spec (Some v.answers.needed) old.sessions (ap (names n) (sym v.answers.frame_is) ∙ other)
+other-step n frame old new other (inr (inr (inr (inr r)))) =
+    ap (λ s. only n s.sessions) r.answers.state
+    ∙ other_viewed n r.number r.spec None old.sessions (ap (names n) (sym r.answers.frame_is) ∙ other)
+
+-- the picture of a frame of the session doesn't depend on the other sessions
+picture-alone : (n : ℕ) (f : Frame) (d : Option Canvas) (old new : State) → names n f ≡ true → IsPictureOf (alone n old) (alone n new) f d → IsPictureOf old new f d
+picture-alone n (Done slots) d old new named picture = picture
+picture-alone n (Refused number a b) d old new named picture = picture
+picture-alone n (Opened number size) d old new named picture = picture
+picture-alone n (Closed number) d old new named picture = picture
+picture-alone n (View view) None old new named picture = picture
+picture-alone n (View view) (Some drawing) old new named picture = picture
+picture-alone n (Rows rows) None old new named picture = picture
+picture-alone n (Rows rows) (Some drawing) old new named picture =
+    let is : rows.session ≡ n = same-number rows.session n named in
+    record {
+      spec = picture.spec;
+      answered = ap (λ k. last_of (session_of k new.sessions)) is ∙ ap last_of (sym (only_session n new.sessions))
+          ∙ ap (λ k. last_of (session_of k (only n new.sessions))) (sym is) ∙ picture.answered;
+      series = picture.series;
+      stored = picture.stored;
+      shows = picture.shows;
+    }
 
 -- behind a frame of the session
 own-mirrors : Laws → (n : ℕ) (f : Frame) (d : Option Canvas) (old between : State) (holdings next : List Holding) → IsSound old → names n f ≡ true
     → Step f old between → Mirrors (only n old.sessions) holdings → Accepts f d holdings next
-    → Mirrors (only n between.sessions) next × IsPictureOf old f d
+    → Mirrors (only n between.sessions) next × IsPictureOf old between f d
 own-mirrors laws n f d old between holdings next sound named step m a =
-    (follows-step laws f (alone n old) (alone n between) holdings (alone_sound n old sound) (own-step n f old between named step) m).0 d next a
+    let drawn = (follows-step laws f (alone n old) (alone n between) holdings (alone_sound n old sound) (own-step n f old between named step) m).0 d next a in
+    (drawn.0, picture-alone n f d old between named drawn.1)
 
 -- behind a frame of another session
 other-mirrors : (n : ℕ) (f : Frame) (old between : State) (holdings : List Holding) → names n f ≡ false → Step f old between
@@ -86,14 +119,14 @@ other-mirrors n f old between holdings other step m =
     subst P (sym (other-step n f old between other step)) m
 
 -- a frame of the session has one drawing, and another none
-one-own : (n : ℕ) (f : Frame) (d : Option Canvas) (old : State) → names n f ≡ true → IsPictureOf old f d → IsOwnPicture (names n f) old f (d ∷ [])
-one-own n f d old named picture =
-    let B : Bool → Type 0 = λ b. IsOwnPicture b old f (d ∷ []) in
+one-own : (n : ℕ) (f : Frame) (d : Option Canvas) (old new : State) → names n f ≡ true → IsPictureOf old new f d → IsOwnPicture (names n f) old new f (d ∷ [])
+one-own n f d old new named picture =
+    let B : Bool → Type 0 = λ b. IsOwnPicture b old new f (d ∷ []) in
     subst B (sym named) (d, refl, picture)
 
-none-own : (n : ℕ) (f : Frame) (old : State) → names n f ≡ false → IsOwnPicture (names n f) old f []
-none-own n f old other =
-    let B : Bool → Type 0 = λ b. IsOwnPicture b old f [] in
+none-own : (n : ℕ) (f : Frame) (old new : State) → names n f ≡ false → IsOwnPicture (names n f) old new f []
+none-own n f old new other =
+    let B : Bool → Type 0 = λ b. IsOwnPicture b old new f [] in
     subst B (sym other) refl
 
 abbrev Taken : ℕ → Bool → Frame → List Frame → List (Option Canvas) → List Holding → List Holding → Type 0
@@ -117,7 +150,7 @@ follows_own laws n (l ∷ ls) (f ∷ fs) [] old new holdings now sound all m a =
       | true ↦ λ named a'. absurd a'
       | false ↦ λ other a'.
           let later = follows_own laws n ls fs [] all.0 new holdings now all.1.2 all.2 (other-mirrors n f old all.0 holdings other step m) a' in
-          ((all.0, all.1.0, [], [], refl, none-own n f old other, later.0), later.1)
+          ((all.0, all.1.0, [], [], refl, none-own n f old all.0 other, later.0), later.1)
     ]) refl a
 follows_own laws n (l ∷ ls) (f ∷ fs) (d ∷ ds) old new holdings now sound all m a =
     let step = step-of l f old all.0 all.1.0 in
@@ -126,8 +159,8 @@ follows_own laws n (l ∷ ls) (f ∷ fs) (d ∷ ds) old new holdings now sound a
       | true ↦ λ named a'.
           let here = own-mirrors laws n f d old all.0 holdings a'.0 sound named step m a'.1 in
           let later = follows_own laws n ls fs ds all.0 new a'.0 now all.1.2 all.2 here.0 a'.2 in
-          ((all.0, all.1.0, d ∷ [], ds, refl, one-own n f d old named here.1, later.0), later.1)
+          ((all.0, all.1.0, d ∷ [], ds, refl, one-own n f d old all.0 named here.1, later.0), later.1)
       | false ↦ λ other a'.
           let later = follows_own laws n ls fs (d ∷ ds) all.0 new holdings now all.1.2 all.2 (other-mirrors n f old all.0 holdings other step m) a' in
-          ((all.0, all.1.0, [], d ∷ ds, refl, none-own n f old other, later.0), later.1)
+          ((all.0, all.1.0, [], d ∷ ds, refl, none-own n f old all.0 other, later.0), later.1)
     ]) refl a

@@ -1,7 +1,6 @@
 -- The span of the top key is that of all slots.
-use Rattle.std.proofs.Common.{ℕ, ℤ, ◌≡◌, ◌+◌, ◌*◌, ◌^◌, ◌≤◌, List, length, Option, refl, sym, ap, ◌∙◌, arith}
+use Rattle.std.proofs.Common.{ℕ, ℤ, ◌≡◌, ◌^◌, ◌≤◌, List, length, Option, sym, ap, ◌∙◌, arith}
 use Rattle.std.proofs.lemmas.Bool.Decides.{nat_tests}
-use Rattle.om3_coeff.specs.declared.span.Span.{Span}
 use Rattle.om3_coeff.specs.Keys.{height, top_key, page_levels, first_slot, end_slot}
 use Rattle.om3_coeff.specs.Spans.{span, span_of, span_over}
 

@@ -26,7 +26,7 @@ ArePictured old [] frames drawings new = (frames ≡ []) × (drawings ≡ []) ×
 ArePictured old (line ∷ lines) [] drawings new = ⊥
 ArePictured old (line ∷ lines) (frame ∷ frames) [] new = ⊥
 ArePictured old (line ∷ lines) (frame ∷ frames) (drawing ∷ drawings) new =
-    (between : State) × RepliesToLine line frame old between × IsPictureOf old frame drawing × ArePictured between lines frames drawings new
+    (between : State) × RepliesToLine line frame old between × IsPictureOf old between frame drawing × ArePictured between lines frames drawings new
 
 -- the frame is of the session n: it opens or closes it, or shows something in it
 abbrev pub names : ℕ → Frame → Bool
@@ -38,9 +38,9 @@ names n (View view) = view.session == n
 names n (Rows rows) = rows.session == n
 
 -- a frame of the session has one drawing, its picture of the book, and no other frame has one
-abbrev pub IsOwnPicture : Bool → State → Frame → List (Option Canvas) → Type 0
-IsOwnPicture true state frame drawings = (drawing : Option Canvas) × (drawings ≡ drawing ∷ []) × IsPictureOf state frame drawing
-IsOwnPicture false state frame drawings = drawings ≡ []
+abbrev pub IsOwnPicture : Bool → State → State → Frame → List (Option Canvas) → Type 0
+IsOwnPicture true old new frame drawings = (drawing : Option Canvas) × (drawings ≡ drawing ∷ []) × IsPictureOf old new frame drawing
+IsOwnPicture false old new frame drawings = drawings ≡ []
 
 -- The same as ArePictured of the frames of one session alone: each line is answered by its frame, and the
 -- drawings are those frames' pictures of the book as it is at that line.
@@ -50,7 +50,7 @@ AreOwnPictured n old (line ∷ lines) [] drawings new = ⊥
 AreOwnPictured n old (line ∷ lines) (frame ∷ frames) drawings new =
     (between : State) × RepliesToLine line frame old between
     × (own : List (Option Canvas)) × (later : List (Option Canvas)) × (drawings ≡ own ++ later)
-    × IsOwnPicture (names n frame) old frame own × AreOwnPictured n between lines frames later new
+    × IsOwnPicture (names n frame) old between frame own × AreOwnPictured n between lines frames later new
 
 -- A client accepts the frames one after the other, unless memory runs out: none of them is rejected after those
 -- before it.

@@ -13,12 +13,14 @@ ghost use Rattle.drawn_replies.specs.Mirrors.{Mirrors, DrawsTheBook, OnlyLacksMe
 ghost use Rattle.drawn_replies.specs.Pictures.{AcceptsAll, ArePictured, AreOwnPictured, NoneRejected, names};
 
 use coefficient_cache::laws::sent_and_held_give_the_needed;
+use needed_nodes::laws::points_are_the_samples;
 use om3_coeff::laws::{spans_add_up, split_and_join_undo_each_other};
 use view_keys::laws::wanted_keys_are_needed;
 
 /// A client that holds the list of each open session as the service keeps it, and gets the frame of the
-/// next reply, draws of a view the chart of the series as it is in the book, and holds each session's
-/// list as the service does after the reply. Nothing but want of memory can come in its way.
+/// next reply, draws of a view the chart of what the view keeps of its series as it is in the book, and
+/// holds each session's list as the service does after the reply. Nothing but want of memory can come in
+/// its way.
 pub fn clients_draw_the_book()
     ensures draws { (line : Option (List ℕ)) (frame : Frame) (old new : State) (holdings : List Holding) →
         IsSound old → RepliesToLine line frame old new → Mirrors old.sessions holdings → DrawsTheBook frame old new holdings }
@@ -28,6 +30,7 @@ pub fn clients_draw_the_book()
     wanted_keys_are_needed();
     sent_and_held_give_the_needed();
     spans_add_up();
+    points_are_the_samples();
     split_and_join_undo_each_other();
 }
 
@@ -51,6 +54,7 @@ pub fn one_session_draws_the_book()
     wanted_keys_are_needed();
     sent_and_held_give_the_needed();
     spans_add_up();
+    points_are_the_samples();
     split_and_join_undo_each_other();
 }
 

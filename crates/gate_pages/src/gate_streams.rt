@@ -1,7 +1,7 @@
 //! Pages on the disk of a world, with its streams beside them.
-ghost use Rattle.std.proofs.Common.{◌∙◌};
-ghost use Rattle.std.specs.Prelude.{◌≡◌, refl};
-ghost use Rattle.gate_pages.specs.GateLaws.{kept_pages, kept_told, kept_was_told, passes_pages};
+ghost use Rattle.std.proofs.Common.{◌∙◌, subst};
+ghost use Rattle.std.specs.Prelude.{◌≡◌, refl, IsTrue};
+ghost use Rattle.gate_pages.specs.GateLaws.{kept_pages, kept_told, kept_was_told, passes_pages, goes_by};
 
 use crate::gate_pages::GatePages;
 use crate::page_world::PageWorld;
@@ -60,6 +60,10 @@ impl<D: World> PageWorld for GatePages<D> {
 
     ghost take_was_told = { λ old new taken told. kept_was_told (D.view old.disk) (D.view new.disk) _ (D.take_keeps old.disk new.disk taken.0) (D.take_passes old.disk new.disk taken.0) told };
 
+    ghost take_was_fit = { λ old new taken fit. subst IsTrue taken.1.1 fit };
+
+    ghost take_goes_on = { λ old new taken. goes_by (D.view old.disk) (D.view new.disk) _ _ (D.take_passes old.disk new.disk taken.0) };
+
     ghost take_passes = { λ old new taken. passes_pages old.count new.count old.sound new.sound (D.view old.disk) (D.view new.disk) _ taken.1.0 (D.take_passes old.disk new.disk taken.0) };
 
     ghost send_keeps = { λ most old new sent. kept_pages old.count new.count old.sound new.sound (D.view old.disk) (D.view new.disk) sent.1.0 sent.1.1 (D.send_keeps most old.disk new.disk sent.0) };
@@ -67,6 +71,10 @@ impl<D: World> PageWorld for GatePages<D> {
     ghost send_told = { λ most old new sent told. kept_told (D.view old.disk) (D.view new.disk) (D.send_keeps most old.disk new.disk sent.0) told };
 
     ghost send_was_told = { λ most old new sent told. kept_was_told (D.view old.disk) (D.view new.disk) _ (D.send_keeps most old.disk new.disk sent.0) (D.send_passes most old.disk new.disk sent.0) told };
+
+    ghost send_was_fit = { λ most old new sent fit. subst IsTrue sent.1.1 fit };
+
+    ghost send_goes_on = { λ most old new sent. goes_by (D.view old.disk) (D.view new.disk) _ _ (D.send_passes most old.disk new.disk sent.0) };
 
     ghost send_passes = { λ most old new sent. passes_pages old.count new.count old.sound new.sound (D.view old.disk) (D.view new.disk) _ sent.1.0 (D.send_passes most old.disk new.disk sent.0) };
 

@@ -1,6 +1,7 @@
 //! Pages and two streams on one clock.
 ghost use Rattle.std.specs.Prelude.{◌≡◌, ◌≤◌, ◌+◌, ℕ, length, IfSome};
 ghost use Rattle.block_disk.specs.View.{View, Now, sent_now, DiskKept, Passes};
+ghost use Rattle.gate_pages.specs.Pages.{GoesOn};
 
 use crate::pages::Pages;
 use block_disk::Streams;
@@ -29,6 +30,11 @@ pub trait PageWorld: Pages + Streams {
 
     ghost take_was_told: { (old new : Self) → Self.takes old new → Self.told new → Self.told old };
 
+    /// Pages that are sound after takes were sound before them.
+    ghost take_was_fit: { (old new : Self) → Self.takes old new → (Self.view new).fit → (Self.view old).fit };
+
+    ghost take_goes_on: { (old new : Self) → Self.takes old new → GoesOn (Self.under old) (Self.under new) };
+
     ghost take_passes: { (old new : Self) → Self.takes old new → Passes (Self.view old) (Self.view new) (Now (Self.view old)) (λ count. count ≡ sent_now (Self.view old)) };
 
     /// A send leaves the pages, and the number of bytes sent rises on the way to what it is then.
@@ -37,6 +43,10 @@ pub trait PageWorld: Pages + Streams {
     ghost send_told: { (most : ℕ) (old new : Self) → Self.sends most old new → Self.told old → Self.told new };
 
     ghost send_was_told: { (most : ℕ) (old new : Self) → Self.sends most old new → Self.told new → Self.told old };
+
+    ghost send_was_fit: { (most : ℕ) (old new : Self) → Self.sends most old new → (Self.view new).fit → (Self.view old).fit };
+
+    ghost send_goes_on: { (most : ℕ) (old new : Self) → Self.sends most old new → GoesOn (Self.under old) (Self.under new) };
 
     ghost send_passes: { (most : ℕ) (old new : Self) → Self.sends most old new → Passes (Self.view old) (Self.view new) (Now (Self.view old)) (λ count. (sent_now (Self.view old) ≤ count) × (count ≤ sent_now (Self.view new))) };
 

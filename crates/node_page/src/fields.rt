@@ -42,9 +42,10 @@ pub(crate) fn coef_of(page: &[u8], node: u8) -> Coef
     }
 }
 
-/// The page of a child, 0 where there is none.
+/// The page of a child, 0 to 127, in a page of 4,096 bytes, which need not keep the layout. It is 0 where
+/// there is none.
 #[tactic(auto, unfolding(crate::specs::Fields::child_at))]
-pub(crate) fn child_of(page: &[u8], child: u8) -> u32
+pub fn child_of(page: &[u8], child: u8) -> u32
     requires whole { length page.now ≡ 4096 }
     requires child { child < 128 }
     ensures { result ≡ child_of_page page.now child }

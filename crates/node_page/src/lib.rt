@@ -22,6 +22,7 @@ mod setting;
 mod tests;
 
 pub use errors::BadPage;
+pub use fields::child_of;
 pub use page_view::PageView;
 pub use places::{node_number, page_index, page_level};
 pub use setting::{set_child, set_coef, set_level};

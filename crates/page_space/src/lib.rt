@@ -20,6 +20,7 @@ mod layout;
 mod opening;
 mod space;
 mod space_calls;
+mod space_streams;
 mod superblock;
 mod superblock_page;
 mod taking;

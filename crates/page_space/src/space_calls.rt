@@ -35,6 +35,14 @@ impl<P: Pages> Space<P> {
         self.superblock.used()
     }
 
+    /// The first page that was never used.
+    pub fn fresh(&self) -> u32
+        ensures fresh { result ≡ self.now.superblock.fresh }
+        ensures within { (17 ≤ result) × (result ≤ self.now.superblock.total) }
+    {
+        self.superblock.fresh
+    }
+
     /// How many series the catalog has.
     pub fn series(&self) -> u32
         ensures series { result ≡ self.now.superblock.series }

@@ -8,6 +8,8 @@ use Rattle.om3_coeff.specs.Spans.{span}
 use Rattle.node_page.specs.Fields.{level_at, child_at, flag_at}
 use Rattle.node_page.specs.Layout.{KeepsLayout, IsChild, AreFlags, AreDifferences, has_child}
 use Rattle.page_space.specs.declared.superblock.Superblock.{Superblock}
+use Rattle.page_space.specs.declared.txn.Txn.{Txn}
+use Rattle.page_space.specs.Layout.{IsGiven, with_head}
 use Rattle.page_space.specs.Spaces.{times, Stands}
 use Rattle.page_space.proofs.Counting.{times_here, times_more, times_append, once_low, once_most}
 use Rattle.tree_walk.specs.Trees.{top_of_page, IsTree, HoldsNodes}
@@ -183,3 +185,23 @@ close_some_at count before old new s s' list list' height level below index numb
     subst P (sym is) (close_some count before old new s s' list list' height below index number bytes bytes' (λ child. spans (127 + child)) top others way low high same
     (top_is ∙ gathered list' (suc below) index (omega arith) leaves) some (record { keeps = layout.0; level_is = layout.1; nodes = nodes list' (suc below) index (omega arith) leaves })
     kept.children puts here stays)
+
+-- what freeing a page does to the numbers of page 0
+pub free_numbers : (t t' : Txn) (p : ℕ) → ((IsGiven t.superblock.fresh p × (t.superblock.chain + 17 < t.superblock.fresh) → ⊥) → t' ≡ t)
+    → (IsGiven t.superblock.fresh p → t.superblock.chain + 17 < t.superblock.fresh → t'.superblock ≡ with_head t.superblock p)
+    → (t'.superblock.series ≡ t.superblock.series) × (t'.superblock.fresh ≡ t.superblock.fresh)
+free_numbers t t' p nothing freed = elim (cases_lt p 17) [
+  | inl low ↦ still t t' (nothing (λ is. omega (arith, low, is.0.0)))
+  | inr high ↦ elim (cases_lt p t.superblock.fresh) [
+    | inr past ↦ still t t' (nothing (λ is. omega (arith, past, is.0.1)))
+    | inl given ↦ elim (cases_lt (t.superblock.chain + 17) t.superblock.fresh) [
+      | inr full ↦ still t t' (nothing (λ is. omega (arith, full, is.1)))
+      | inl room ↦
+          let is = freed (high, given) room in
+          (ap (λ (s : Superblock). s.series) is, ap (λ (s : Superblock). s.fresh) is)
+    ]
+  ]
+]
+  where
+    still : (t t' : Txn) → t' ≡ t → (t'.superblock.series ≡ t.superblock.series) × (t'.superblock.fresh ≡ t.superblock.fresh)
+    still t t' same = (ap (λ (one : Txn). one.superblock.series) same, ap (λ (one : Txn). one.superblock.fresh) same)

@@ -1,6 +1,6 @@
 -- What a page has beside its nodes.
-use Rattle.std.proofs.Common.{◌≡◌, ◌≢◌, ℕ, ℤ, suc, ◌+◌, ◌-◌, ◌*◌, ◌/◌, ◌%◌, ◌<◌, ◌≤◌, ◌⊎◌, ◌==◌, true, List, length, slice_index, Option, sym, ap, subst, arith, inl, inr, ◌∙◌}
-use Rattle.std.specs.Prelude.{Result, Ok, Err, OnErr, IfErr, IsOk}
+use Rattle.std.proofs.Common.{◌≡◌, ◌≢◌, ℕ, ℤ, suc, ◌+◌, ◌-◌, ◌*◌, ◌/◌, ◌%◌, ◌<◌, ◌≤◌, ◌⊎◌, ◌==◌, true, false, List, length, slice_index, Option, sym, ap, subst, arith, inl, inr, ◌∙◌}
+use Rattle.std.specs.Prelude.{Result, Ok, Err, OnOk, OnErr, IfErr, IsOk}
 use Rattle.std.specs.Result.{is_err}
 use Rattle.std.specs.Int.{bit_at}
 use Rattle.std.proofs.lemmas.Bool.{cases_lt}
@@ -98,3 +98,7 @@ never_err (Err error) never is = never
 pub ok_no_err : {T E : Type 0} (r : Result T E) (P : E → Type 0) → IsOk r → IfErr r P
 ok_no_err (Ok value) P is = tt
 ok_no_err (Err error) P is = grind (arith, is)
+
+pub not_err : {T E : Type 0} (r : Result T E) (P : Type 0) → OnOk r P → false ≡ is_err r → P
+not_err (Ok value) P holds is = holds
+not_err (Err error) P holds is = absurd (grind (arith, is))

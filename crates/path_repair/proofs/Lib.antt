@@ -11,3 +11,9 @@ pub mod MoveLemmas
 pub mod RepairLemmas
 pub mod SeenLemmas
 pub mod EditLemmas
+pub mod KeepLemmas
+pub mod TouchLemmas
+pub mod ReadLemmas
+pub mod SpareLemmas
+pub mod CallLemmas
+pub mod DamageLemmas

@@ -71,6 +71,8 @@ moved_then a b p q told told' told'' old mid new under under' under'' s s' s'' t
   reads = reads_then a b told told' told'' old mid new first.reads second.reads;
   over = stays_then s s' s'' under under' under'' first.over second.over;
   total = second.total ∙ first.total;
+  series = second.series ∙ first.series;
+  fresh = omega (arith, first.fresh, second.fresh);
   held = omega (arith, first.held, second.held);
 }
 
@@ -78,13 +80,15 @@ stays_none : (superblock : Superblock) (at : View) → StaysOn superblock superb
 stays_none superblock at = record { superblock = refl; goes_on = goes_none at }
 
 pub moved_none : (told : Type 0) (at under : View) (s : Superblock) (t : Txn) → Moved 0 0 told told at at under under s s t t
-moved_none told at under s t = record { reads = reads_none told at; over = stays_none s under; total = refl; held = omega arith }
+moved_none told at under s t = record { reads = reads_none told at; over = stays_none s under; total = refl; series = refl; fresh = omega arith; held = omega arith }
 
 pub moved_more : (a b p q : ℕ) (told told' : Type 0) (old new under under' : View) (s s' : Superblock) (t t' : Txn) → a ≤ b → p ≤ q → Moved a p told told' old new under under' s s' t t' → Moved b q told told' old new under under' s s' t t'
 moved_more a b p q told told' old new under under' s s' t t' less fewer moved = record {
   reads = reads_more a b told told' old new less moved.reads;
   over = moved.over;
   total = moved.total;
+  series = moved.series;
+  fresh = moved.fresh;
   held = omega (arith, moved.held, fewer);
 }
 
@@ -95,13 +99,13 @@ risen_on : (old mid new : ℕ) → old ≤ mid → HasRisen mid new → HasRisen
 risen_on old mid new less (inl risen) = inl (omega (arith, less, risen))
 risen_on old mid new less (inr most) = inr most
 
-pub cause_on : (e : RepairError) (old mid new : ℕ) → old ≤ mid → IsCause e mid new → IsCause e old new
-cause_on (Full needed have) old mid new less cause = cause
-cause_on DiskFault old mid new less cause = risen_on old mid new less cause
-cause_on (Damaged page) old mid new less cause = cause
-cause_on NoMemory old mid new less cause = cause
+pub cause_on : (total total' : ℕ) (e : RepairError) (old mid new : ℕ) → total' ≡ total → old ≤ mid → IsCause total' e mid new → IsCause total e old new
+cause_on total total' (Full needed have) old mid new same less cause = (omega (arith, cause.0, same), omega (arith, cause.1, same))
+cause_on total total' DiskFault old mid new same less cause = risen_on old mid new less cause
+cause_on total total' (Damaged page) old mid new same less cause = omega (arith, cause, same)
+cause_on total total' NoMemory old mid new same less cause = cause
 
-touch_suc : (first end height level index : ℕ) → (is_touched first end (suc level) index || is_new_root height (suc level) index) ≡ true
+pub touch_suc : (first end height level index : ℕ) → (is_touched first end (suc level) index || is_new_root height (suc level) index) ≡ true
     → touch first end height (suc level) index ≡ suc (sum_below (λ child. touch first end height level (128 * index + child)) 128)
 unfolding touch
 touch_suc first end height level index passed = ap (λ b. cond b (suc (sum_below (λ child. touch first end height level (128 * index + child)) 128)) 0) passed

@@ -25,7 +25,9 @@ use Rattle.path_repair.proofs.StayLemmas.{value_none, slot_before, slot_behind, 
 use Rattle.path_repair.proofs.CountLemmas.{count_one, count_slots, truth, none_of, none_is, stored_is, pages_length, count_no, lower_up}
 use Rattle.path_repair.proofs.OpenLemmas.{IsFirst, there, child_below, first_none, first_lower, lower_of, root_above, none_rooted}
 use Rattle.path_repair.proofs.MoveLemmas.{moved_then, moved_more, told_on}
+use Rattle.path_repair.specs.Keeping.{look_most, count_most}
 use Rattle.path_repair.proofs.RepairLemmas.{passed_below, gives}
+use Rattle.path_repair.proofs.ReadLemmas.{counted_below}
 
 -- a page that is there
 pub record IsSound (image : Image) (total level page : ℕ) : Type 0 where
@@ -186,15 +188,24 @@ abbrev pub need : List (Option ℤ) → ℕ → ℕ → ℕ → ℕ
 need list' below index i = sum_below (λ child. page_count list' below (128 * index + child)) i
 
 pub record IsCounting (told told' : Type 0) (old new under under' : View) (s s' : Superblock) (t : Txn) (first end : ℕ) (values : List (Option ℤ)) (height level below index page : ℕ) (bytes : List ℕ) (start pages i : ℕ) : Type 0 where
-  pub moved : Moved (1 + passed_below first end height below index i) 0 told told' old new under under' s s' t t
+  pub moved : Moved (look_most height level index page + counted_below bytes first end height below index i) 0 told told' old new under under' s s' t t
   pub few : pages ≤ 1 + passed_below first end height below index i
   pub counts : (base : Image) (list list' : List (Option ℤ)) → AreTold told old base → AreLists first end values list list' → end ≤ first + length values → IsRooted (left_by t base) s.total list height level index page
       → pages + had (left_by t base) height below bytes i ≡ start + need list' below index i
 
-pub count_start : (told told' : Type 0) (old new under under' : View) (s s' : Superblock) (t : Txn) (first end : ℕ) (values : List (Option ℤ)) (height level below index page : ℕ) (bytes : List ℕ) (pages : ℕ) → Moved 1 0 told told' old new under under' s s' t t → pages ≤ 1
+-- the reads of one more child
+count_at : (first end height below index i child_height child_level child_index child_page : ℕ) (bytes : List ℕ) → child_height ≡ height → child_level ≡ below → child_index ≡ 128 * index + i → child_page ≡ child_at bytes i
+    → counted_below bytes first end height below index (i + 1) ≡ counted_below bytes first end height below index i + count_most child_page first end child_height child_level child_index
+count_at first end height below index i child_height child_level child_index child_page bytes is_height is_level is_index is_page =
+    let costs : count_most child_page first end child_height child_level child_index ≡ count_most (child_at bytes i) first end height below (128 * index + i)
+    = ap (λ p. count_most p first end child_height child_level child_index) is_page ∙ ap (λ h. count_most (child_at bytes i) first end h child_level child_index) is_height ∙ ap (λ l. count_most (child_at bytes i) first end height l child_index) is_level ∙ ap (λ q. count_most (child_at bytes i) first end height below q) is_index in
+    let next : i + 1 ≡ suc i = omega arith in
+    omega (arith, ap (λ n. counted_below bytes first end height below index n) next ∙ sum_suc (λ child. count_most (child_at bytes child) first end height below (128 * index + child)) i, costs)
+
+pub count_start : (told told' : Type 0) (old new under under' : View) (s s' : Superblock) (t : Txn) (first end : ℕ) (values : List (Option ℤ)) (height level below index page : ℕ) (bytes : List ℕ) (pages : ℕ) → Moved (look_most height level index page) 0 told told' old new under under' s s' t t → pages ≤ 1
     → IsCounting told told' old new under under' s s' t first end values height level below index page bytes pages pages 0
 count_start told told' old new under under' s s' t first end values height level below index page bytes pages moved few = record {
-  moved = moved_more 1 (1 + passed_below first end height below index 0) 0 0 told told' old new under under' s s' t t (omega arith) (omega arith) moved;
+  moved = moved_more (look_most height level index page) (look_most height level index page + counted_below bytes first end height below index 0) 0 0 told told' old new under under' s s' t t (omega arith) (omega arith) moved;
   few = omega (arith, few);
   counts = λ base list list' at lists fills rooted. omega (arith, sum_none (λ child. length (tree_pages (left_by t base) (low height below) (child_at bytes child))), sum_none (λ child. page_count list' below (128 * index + child)));
 }
@@ -202,7 +213,7 @@ count_start told told' old new under under' s s' t first end values height level
 pub count_on : (told told' told'' : Type 0) (old mid new under under' under'' : View) (s s' s'' : Superblock) (t : Txn) (first end : ℕ) (values : List (Option ℤ)) (height level below index page : ℕ) (bytes : List ℕ) (start pages more i child_height child_level child_index child_page : ℕ)
     → IsCounting told told' old mid under under' s s' t first end values height level below index page bytes start pages i → i < 128
     → child_height ≡ height → child_level ≡ below → child_index ≡ 128 * index + i → child_page ≡ child_at bytes i
-    → Moved (touch first end child_height child_level child_index) 0 told' told'' mid new under' under'' s' s'' t t
+    → Moved (count_most child_page first end child_height child_level child_index) 0 told' told'' mid new under' under'' s' s'' t t
     → more ≤ touch first end child_height child_level child_index
     → ((base : Image) (list list' : List (Option ℤ)) → AreTold told' mid base → AreLists first end values list list' → end ≤ first + length values → IsRooted (left_by t base) s'.total list child_height child_level child_index child_page
     → more + length (tree_pages (left_by t base) (low child_height child_level) child_page) ≡ page_count list' child_level child_index)
@@ -213,9 +224,11 @@ count_on told told' told'' old mid new under under' under'' s s' s'' t first end
     let costs : touch first end child_height child_level child_index ≡ cost = ap (λ h. touch first end h child_level child_index) is_height ∙ ap (λ l. touch first end height l child_index) is_level ∙ ap (λ q. touch first end height below q) is_index in
     let before = passed_below first end height below index i in
     let sum : passed_below first end height below index (i + 1) ≡ before + cost = ap (λ n. passed_below first end height below index n) (next i) ∙ sum_suc (λ child. touch first end height below (128 * index + child)) i in
+    let read = look_most height level index page + counted_below bytes first end height below index i in
+    let reads = count_at first end height below index i child_height child_level child_index child_page bytes is_height is_level is_index is_page in
     record {
-      moved = moved_more (1 + before + touch first end child_height child_level child_index) (1 + passed_below first end height below index (i + 1)) 0 0 told told'' old new under under'' s s'' t t (omega (arith, sum, costs)) (omega arith)
-          (moved_then (1 + before) (touch first end child_height child_level child_index) 0 0 told told' told'' old mid new under under' under'' s s' s'' t t t way.moved moved);
+      moved = moved_more (read + count_most child_page first end child_height child_level child_index) (look_most height level index page + counted_below bytes first end height below index (i + 1)) 0 0 told told'' old new under under'' s s'' t t (omega (arith, reads)) (omega arith)
+          (moved_then read (count_most child_page first end child_height child_level child_index) 0 0 told told' told'' old mid new under under' under'' s s' s'' t t t way.moved moved);
       few = omega (arith, way.few, fewer, sum, costs);
       counts = λ base list list' at lists fills rooted.
           let image = left_by t base in
@@ -226,7 +239,7 @@ count_on told told' told'' old mid new under under' under'' s s' s'' t first end
           let I : ℕ → Type 0 = λ q. IsRooted image s'.total list height below q child_page in
           let G : ℕ → Type 0 = λ p. IsRooted image s'.total list height below (128 * index + i) p in
           let same : s.total ≡ s'.total = sym (ap (λ (one : Superblock). one.total) way.moved.over.superblock) in
-          let one = counted base list list' (told_on (1 + before) told told' old mid base way.moved.reads at) lists fills (subst H (sym is_height) (subst L (sym is_level) (subst I (sym is_index) (subst G (sym is_page) (subst T same there_is))))) in
+          let one = counted base list list' (told_on read told told' old mid base way.moved.reads at) lists fills (subst H (sym is_height) (subst L (sym is_level) (subst I (sym is_index) (subst G (sym is_page) (subst T same there_is))))) in
           let own : length (tree_pages image (low child_height child_level) child_page) ≡ length (tree_pages image (low height below) (child_at bytes i))
           = ap (λ h. length (tree_pages image (low h child_level) child_page)) is_height ∙ ap (λ l. length (tree_pages image (low height l) child_page)) is_level ∙ ap (λ p. length (tree_pages image (low height below) p)) is_page in
           let needs : page_count list' child_level child_index ≡ page_count list' below (128 * index + i) = ap (λ l. page_count list' l child_index) is_level ∙ ap (λ q. page_count list' below q) is_index in
@@ -273,18 +286,21 @@ slots_count image list' height level index page is =
     subst G (sym is) (omega (arith, ap (λ l. length (tree_pages image l page)) (low_fits height 0 (omega arith)), ap (λ l. length l) (no_slots image page), count_slots (is_stored list') index))
 
 -- a count of a child failed
-pub count_moved : (told told' told'' : Type 0) (old mid new under under' under'' : View) (s s' s'' : Superblock) (t : Txn) (first end : ℕ) (values : List (Option ℤ)) (height level below index page : ℕ) (bytes : List ℕ) (start pages i child_height child_level child_index : ℕ)
+pub count_moved : (told told' told'' : Type 0) (old mid new under under' under'' : View) (s s' s'' : Superblock) (t : Txn) (first end : ℕ) (values : List (Option ℤ)) (height level below index page : ℕ) (bytes : List ℕ) (start pages i child_height child_level child_index child_page : ℕ)
     → IsCounting told told' old mid under under' s s' t first end values height level below index page bytes start pages i → i < 128
-    → child_height ≡ height → child_level ≡ below → child_index ≡ 128 * index + i
-    → Moved (touch first end child_height child_level child_index) 0 told' told'' mid new under' under'' s' s'' t t
-    → touch first end height level index ≡ 1 + passed_below first end height below index 128
-    → Moved (touch first end height level index) 0 told told'' old new under under'' s s'' t t
-count_moved told told' told'' old mid new under under' under'' s s' s'' t first end values height level below index page bytes start pages i child_height child_level child_index way within is_height is_level is_index moved whole =
-    let costs : touch first end child_height child_level child_index ≡ touch first end height below (128 * index + i) = ap (λ h. touch first end h child_level child_index) is_height ∙ ap (λ l. touch first end height l child_index) is_level ∙ ap (λ q. touch first end height below q) is_index in
-    let before = passed_below first end height below index i in
-    moved_more (1 + before + touch first end child_height child_level child_index) (touch first end height level index) 0 0 told told'' old new under under'' s s'' t t
-    (omega (arith, costs, sum_upto (λ child. touch first end height below (128 * index + child)) i 128 within, whole)) (omega arith)
-    (moved_then (1 + before) (touch first end child_height child_level child_index) 0 0 told told' told'' old mid new under under' under'' s s' s'' t t t way.moved moved)
+    → child_height ≡ height → child_level ≡ below → child_index ≡ 128 * index + i → child_page ≡ child_at bytes i
+    → Moved (count_most child_page first end child_height child_level child_index) 0 told' told'' mid new under' under'' s' s'' t t
+    → look_most height level index page + counted_below bytes first end height below index 128 ≤ count_most page first end height level index
+    → Moved (count_most page first end height level index) 0 told told'' old new under under'' s s'' t t
+count_moved told told' told'' old mid new under under' under'' s s' s'' t first end values height level below index page bytes start pages i child_height child_level child_index child_page way within is_height is_level is_index is_page moved most =
+    let read = look_most height level index page + counted_below bytes first end height below index i in
+    let reads = count_at first end height below index i child_height child_level child_index child_page bytes is_height is_level is_index is_page in
+    let next : i + 1 ≡ suc i = omega arith in
+    let all = sum_upto (λ child. count_most (child_at bytes child) first end height below (128 * index + child)) i 128 within in
+    let own = sum_suc (λ child. count_most (child_at bytes child) first end height below (128 * index + child)) i in
+    moved_more (read + count_most child_page first end child_height child_level child_index) (count_most page first end height level index) 0 0 told told'' old new under under'' s s'' t t
+    (omega (arith, reads, all, own, most, ap (λ n. counted_below bytes first end height below index n) next)) (omega arith)
+    (moved_then read (count_most child_page first end child_height child_level child_index) 0 0 told told' told'' old mid new under under' under'' s s' s'' t t t way.moved moved)
 
 pub count_room : (first end height level below index i child_height child_level child_index : ℕ) → i < 128 → child_height ≡ height → child_level ≡ below → child_index ≡ 128 * index + i
     → touch first end height level index ≡ 1 + passed_below first end height below index 128 → touch first end height level index ≤ 64

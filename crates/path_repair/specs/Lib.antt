@@ -5,3 +5,5 @@ pub mod Standing
 pub mod Costs
 pub mod Forms
 pub mod Edited
+pub mod Damage
+pub mod Keeping

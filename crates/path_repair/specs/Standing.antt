@@ -85,14 +85,16 @@ pub record Moved (most_reads most_puts : ℕ) (told_old told_new : Type 0) (old 
   pub reads : ReadsMost most_reads told_old told_new old new
   pub over : StaysOn before after under_old under_new
   pub total : txn_new.superblock.total ≡ txn_old.superblock.total
+  pub series : txn_new.superblock.series ≡ txn_old.superblock.series
+  pub fresh : txn_old.superblock.fresh ≤ txn_new.superblock.fresh
   pub held : length (held txn_new) ≤ length (held txn_old) + most_puts
 
--- why a page wasn't repaired, beside what the pages are
-abbrev pub IsCause : RepairError → ℕ → ℕ → Type 0
-IsCause (Full needed have) old new = Unit {0}
-IsCause DiskFault old new = HasRisen old new
-IsCause (Damaged page) old new = Unit {0}
-IsCause NoMemory old new = ⊥
+-- why a tree of so many pages in all wasn't changed, beside what the pages are
+abbrev pub IsCause : ℕ → RepairError → ℕ → ℕ → Type 0
+IsCause total (Full needed have) old new = (have ≡ total) × (total < needed)
+IsCause total DiskFault old new = HasRisen old new
+IsCause total (Damaged page) old new = page < total
+IsCause total NoMemory old new = ⊥
 
 -- a page was taken that was not in use, and no page but page 0 is another
 pub record IsTaken (count : ℕ) (before image : Image) (s : Superblock) (used : List ℕ) (p : ℕ) : Type 0 where

@@ -8,6 +8,8 @@ ghost use Rattle.page_space.specs.Transactions.{left_by, held};
 ghost use Rattle.tree_walk.specs.Trees.{StandsFor};
 ghost use Rattle.path_repair.specs.Changes.{IsEdited};
 ghost use Rattle.path_repair.specs.Costs.{touch};
+ghost use Rattle.path_repair.specs.Damage.{IsDamage};
+ghost use Rattle.path_repair.specs.Keeping.{KeepsCatalog, IsNewTree};
 ghost use Rattle.path_repair.specs.TreePages.{tree_pages};
 ghost use Rattle.path_repair.specs.Standing.{AreTold, Moved, IsCause};
 ghost use Rattle.path_repair.specs.Edited.{IsHeldTree, IsEditedTree, IsFullFor, IsErrorFor};
@@ -49,8 +51,11 @@ fn fill<P: Pages>(
     requires within { slots.end ≤ len }
     requires values { (i : ℕ) (value : ℤ) → slice_get values.now i ≡ Some (Some value) → IsValue value }
     requires room { length (held txn.old) + touch slots.first slots.end (levels_of tree.slots) (levels_of len) 0 ≤ 64 }
-    ensures moved { Moved (2 * touch slots.first slots.end (levels_of tree.slots) (levels_of len) 0) (touch slots.first slots.end (levels_of tree.slots) (levels_of len) 0) (P.told space.old.pages) (P.told space.new.pages) (P.view space.old.pages) (P.view space.new.pages) (P.under space.old.pages) (P.under space.new.pages) space.old.superblock space.new.superblock txn.old txn.new }
-    ensures cause { IfErr result (λ e. IsCause e (P.view space.old.pages).faults (P.view space.new.pages).faults) }
+    ensures moved { Moved (touch slots.first slots.end (levels_of tree.slots) (levels_of tree.slots) 0 + touch slots.first slots.end (levels_of tree.slots) (levels_of len) 0) (touch slots.first slots.end (levels_of tree.slots) (levels_of len) 0) (P.told space.old.pages) (P.told space.new.pages) (P.view space.old.pages) (P.view space.new.pages) (P.under space.old.pages) (P.under space.new.pages) space.old.superblock space.new.superblock txn.old txn.new }
+    ensures cause { IfErr result (λ e. IsCause space.old.superblock.total e (P.view space.old.pages).faults (P.view space.new.pages).faults) }
+    ensures catalog { (base : Image) → AreTold (P.told space.old.pages) (P.view space.old.pages) base → KeepsCatalog (left_by txn.old base) (left_by txn.new base) }
+    ensures tree { IfOk result (λ new. IsNewTree len txn.new.superblock tree new) }
+    ensures damaged { (base : Image) → AreTold (P.told space.old.pages) (P.view space.old.pages) base → IfErr result (λ e. IsDamage (left_by txn.new base) txn.old.superblock.fresh txn.new.superblock (levels_of tree.slots) tree.root tree.span e) }
     ensures edited { (base : Image) (count : ℕ) (list list' : List (Option ℤ)) (others : List ℕ) → AreTold (P.told space.old.pages) (P.view space.old.pages) base
         → IsHeldTree count (left_by txn.old base) txn.old.superblock tree list others → IsEdited slots.first slots.end len values.now list list'
         → IfOk result (λ new. IsEditedTree count (left_by txn.old base) (left_by txn.new base) txn.new.superblock new list' others) }
@@ -105,7 +110,11 @@ pub fn put_run<P: Pages>(
     requires values { (i : ℕ) (value : ℤ) → slice_get values.now i ≡ Some (Some value) → IsValue value }
     requires room { length (held txn.old) + touch slot (slot + length values.now) (levels_of tree.slots) (levels_of (max tree.slots (slot + length values.now))) 0 ≤ 64 }
     ensures moved { Moved (2 * touch slot (slot + length values.now) (levels_of tree.slots) (levels_of (max tree.slots (slot + length values.now))) 0) (touch slot (slot + length values.now) (levels_of tree.slots) (levels_of (max tree.slots (slot + length values.now))) 0) (P.told space.old.pages) (P.told space.new.pages) (P.view space.old.pages) (P.view space.new.pages) (P.under space.old.pages) (P.under space.new.pages) space.old.superblock space.new.superblock txn.old txn.new }
-    ensures cause { IfErr result (λ e. IsCause e (P.view space.old.pages).faults (P.view space.new.pages).faults) }
+    ensures cause { IfErr result (λ e. IsCause space.old.superblock.total e (P.view space.old.pages).faults (P.view space.new.pages).faults) }
+    ensures catalog { (base : Image) → AreTold (P.told space.old.pages) (P.view space.old.pages) base → KeepsCatalog (left_by txn.old base) (left_by txn.new base) }
+    ensures tree { IfOk result (λ new. IsNewTree (max tree.slots (slot + length values.now)) txn.new.superblock tree new) }
+    ensures damaged { (base : Image) → AreTold (P.told space.old.pages) (P.view space.old.pages) base → IfErr result (λ e. IsDamage (left_by txn.new base) txn.old.superblock.fresh txn.new.superblock (levels_of tree.slots) tree.root tree.span e) }
+    ensures few_puts { length values.now ≤ 256 → length (held txn.new) ≤ length (held txn.old) + (30 + 2 * levels_of (max tree.slots (slot + length values.now))) }
     ensures edited { (base : Image) (count : ℕ) (list list' : List (Option ℤ)) (others : List ℕ) → AreTold (P.told space.old.pages) (P.view space.old.pages) base
         → IsHeldTree count (left_by txn.old base) txn.old.superblock tree list others → IsEdited slot (slot + length values.now) (max tree.slots (slot + length values.now)) values.now list list'
         → IfOk result (λ new. IsEditedTree count (left_by txn.old base) (left_by txn.new base) txn.new.superblock new list' others) }
@@ -135,7 +144,12 @@ pub fn put_slot<P: Pages>(
     requires value { IsValue value }
     requires room { length (held txn.old) + touch slot (slot + 1) (levels_of tree.slots) (levels_of (max tree.slots (slot + 1))) 0 ≤ 64 }
     ensures moved { Moved (2 * touch slot (slot + 1) (levels_of tree.slots) (levels_of (max tree.slots (slot + 1))) 0) (touch slot (slot + 1) (levels_of tree.slots) (levels_of (max tree.slots (slot + 1))) 0) (P.told space.old.pages) (P.told space.new.pages) (P.view space.old.pages) (P.view space.new.pages) (P.under space.old.pages) (P.under space.new.pages) space.old.superblock space.new.superblock txn.old txn.new }
-    ensures cause { IfErr result (λ e. IsCause e (P.view space.old.pages).faults (P.view space.new.pages).faults) }
+    ensures cause { IfErr result (λ e. IsCause space.old.superblock.total e (P.view space.old.pages).faults (P.view space.new.pages).faults) }
+    ensures catalog { (base : Image) → AreTold (P.told space.old.pages) (P.view space.old.pages) base → KeepsCatalog (left_by txn.old base) (left_by txn.new base) }
+    ensures tree { IfOk result (λ new. IsNewTree (max tree.slots (slot + 1)) txn.new.superblock tree new) }
+    ensures damaged { (base : Image) → AreTold (P.told space.old.pages) (P.view space.old.pages) base → IfErr result (λ e. IsDamage (left_by txn.new base) txn.old.superblock.fresh txn.new.superblock (levels_of tree.slots) tree.root tree.span e) }
+    ensures few_reads { (P.view space.new.pages).reads ≤ (P.view space.old.pages).reads + 2 * levels_of (max tree.slots (slot + 1)) }
+    ensures few_puts { length (held txn.new) ≤ length (held txn.old) + 2 * levels_of (max tree.slots (slot + 1)) }
     ensures edited { (base : Image) (count : ℕ) (list list' : List (Option ℤ)) (others : List ℕ) → AreTold (P.told space.old.pages) (P.view space.old.pages) base
         → IsHeldTree count (left_by txn.old base) txn.old.superblock tree list others → IsEdited slot (slot + 1) (max tree.slots (slot + 1)) (Some value ∷ []) list list'
         → IfOk result (λ new. IsEditedTree count (left_by txn.old base) (left_by txn.new base) txn.new.superblock new list' others) }
@@ -165,7 +179,11 @@ pub fn grow<P: Pages>(
     requires longer { tree.slots ≤ slots }
     requires room { length (held txn.old) + touch 0 0 (levels_of tree.slots) (levels_of slots) 0 ≤ 64 }
     ensures moved { Moved (2 * touch 0 0 (levels_of tree.slots) (levels_of slots) 0) (touch 0 0 (levels_of tree.slots) (levels_of slots) 0) (P.told space.old.pages) (P.told space.new.pages) (P.view space.old.pages) (P.view space.new.pages) (P.under space.old.pages) (P.under space.new.pages) space.old.superblock space.new.superblock txn.old txn.new }
-    ensures cause { IfErr result (λ e. IsCause e (P.view space.old.pages).faults (P.view space.new.pages).faults) }
+    ensures cause { IfErr result (λ e. IsCause space.old.superblock.total e (P.view space.old.pages).faults (P.view space.new.pages).faults) }
+    ensures catalog { (base : Image) → AreTold (P.told space.old.pages) (P.view space.old.pages) base → KeepsCatalog (left_by txn.old base) (left_by txn.new base) }
+    ensures tree { IfOk result (λ new. IsNewTree slots txn.new.superblock tree new) }
+    ensures damaged { (base : Image) → AreTold (P.told space.old.pages) (P.view space.old.pages) base → IfErr result (λ e. IsDamage (left_by txn.new base) txn.old.superblock.fresh txn.new.superblock (levels_of tree.slots) tree.root tree.span e) }
+    ensures few_puts { length (held txn.new) ≤ length (held txn.old) + (levels_of slots - levels_of tree.slots) }
     ensures edited { (base : Image) (count : ℕ) (list list' : List (Option ℤ)) (others : List ℕ) → AreTold (P.told space.old.pages) (P.view space.old.pages) base
         → IsHeldTree count (left_by txn.old base) txn.old.superblock tree list others → IsEdited 0 0 slots [] list list'
         → IfOk result (λ new. IsEditedTree count (left_by txn.old base) (left_by txn.new base) txn.new.superblock new list' others) }
@@ -193,7 +211,11 @@ pub fn clear_run<P: Pages>(
     requires within { slot + count ≤ 2 ^ 35 }
     requires room { length (held txn.old) + touch slot (slot + count) (levels_of tree.slots) (levels_of tree.slots) 0 ≤ 64 }
     ensures moved { Moved (1 * touch slot (slot + count) (levels_of tree.slots) (levels_of tree.slots) 0) (touch slot (slot + count) (levels_of tree.slots) (levels_of tree.slots) 0) (P.told space.old.pages) (P.told space.new.pages) (P.view space.old.pages) (P.view space.new.pages) (P.under space.old.pages) (P.under space.new.pages) space.old.superblock space.new.superblock txn.old txn.new }
-    ensures cause { IfErr result (λ e. IsCause e (P.view space.old.pages).faults (P.view space.new.pages).faults) }
+    ensures cause { IfErr result (λ e. IsCause space.old.superblock.total e (P.view space.old.pages).faults (P.view space.new.pages).faults) }
+    ensures catalog { (base : Image) → AreTold (P.told space.old.pages) (P.view space.old.pages) base → KeepsCatalog (left_by txn.old base) (left_by txn.new base) }
+    ensures tree { IfOk result (λ new. IsNewTree tree.slots txn.new.superblock tree new) }
+    ensures damaged { (base : Image) → AreTold (P.told space.old.pages) (P.view space.old.pages) base → IfErr result (λ e. IsDamage (left_by txn.new base) txn.old.superblock.fresh txn.new.superblock (levels_of tree.slots) tree.root tree.span e) }
+    ensures few_puts { count ≤ 4096 → length (held txn.new) ≤ length (held txn.old) + (30 + 2 * levels_of tree.slots) }
     ensures edited { (base : Image) (size : ℕ) (list list' : List (Option ℤ)) (others : List ℕ) → AreTold (P.told space.old.pages) (P.view space.old.pages) base
         → IsHeldTree size (left_by txn.old base) txn.old.superblock tree list others → IsEdited slot (slot + count) tree.slots [] list list'
         → IfOk result (λ new. IsEditedTree size (left_by txn.old base) (left_by txn.new base) txn.new.superblock new list' others) }

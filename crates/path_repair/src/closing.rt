@@ -1,10 +1,11 @@
 //! A page that was changed is put, or given back where nothing is stored below it.
-ghost use Rattle.std.specs.Prelude.{◌≡◌, ◌≢◌, ◌<◌, ◌≤◌, ◌+◌, ◌^◌, ℕ, ℤ, suc, Some, Option, List, length, IsTrue, IsSome};
+ghost use Rattle.std.specs.Prelude.{◌≡◌, ◌≢◌, ◌<◌, ◌≤◌, ◌+◌, ◌^◌, ◌⊎◌, ℕ, ℤ, suc, Some, Option, List, length, IsTrue, IsSome};
 ghost use Rattle.block_disk.specs.View.{View, Image};
 ghost use Rattle.om3_coeff.specs.Spans.{IsProperIfAny, AreSlots};
-ghost use Rattle.page_space.specs.Transactions.{left_by, held};
+ghost use Rattle.page_space.specs.Transactions.{left_by, held, held_page};
 ghost use Rattle.page_spans.specs.Heaps.{span_at};
 ghost use Rattle.path_repair.specs.Forms.{IsForm};
+ghost use Rattle.path_repair.specs.Keeping.{IsMatched};
 ghost use Rattle.path_repair.specs.Standing.{Moved, IsPartWay, IsRepaired};
 
 use crate::change::{Place, Root};
@@ -31,6 +32,9 @@ pub(crate) fn close_page<P: Pages>(
     ensures same { space.new ≡ space.old }
     ensures page { result.page < space.old.superblock.total }
     ensures proper { IsProperIfAny result.span }
+    ensures root { (result.page ≡ 0) ⊎ (result.page ≡ number) }
+    ensures matched { IsMatched result.page result.span }
+    ensures others { (p : ℕ) → 1 ≤ p → p ≢ number → held_page txn.new p ≡ held_page txn.old p }
     ensures repaired { (base before : Image) (count : ℕ) (list list' : List (Option ℤ)) (others : List ℕ) (below : ℕ) → at.level ≡ suc below → AreSlots list'
         → IsPartWay count before (left_by txn.old base) txn.old.superblock list list' at.height below at.index number bytes.old (λ child. span_at spans.old (127 + child)) 128 others
         → IsRepaired count before (left_by txn.new base) txn.new.superblock list' at.level at.index result.page result.span others }

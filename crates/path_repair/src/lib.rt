@@ -15,6 +15,7 @@ mod change;
 mod closing;
 mod counting;
 mod errors;
+pub mod laws;
 mod opening;
 mod reading;
 mod repairing;

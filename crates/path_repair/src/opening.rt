@@ -1,14 +1,17 @@
 //! A page is opened to be changed: it is read, or a new one is taken.
-ghost use Rattle.std.specs.Prelude.{◌≡◌, ◌≢◌, ◌<◌, ◌≤◌, ◌+◌, ◌^◌, ℕ, ℤ, suc, Some, Option, List, None, true, false, length, slice_index, IsTrue, IsSome, IsOk, IfOk, IfErr, OnOk};
+ghost use Rattle.std.specs.Prelude.{◌≡◌, ◌≢◌, ◌<◌, ◌≤◌, ◌+◌, ◌^◌, ◌⊎◌, ℕ, ℤ, suc, Some, Option, List, None, true, false, length, slice_index, IsTrue, IsSome, IsOk, IfOk, IfErr, OnOk};
 ghost use Rattle.block_disk.specs.View.{View, Image};
 ghost use Rattle.om3_coeff.specs.Spans.{IsProperIfAny, AreSlots};
 ghost use Rattle.node_page.specs.Fields.{child_at};
 ghost use Rattle.page_space.specs.Spaces.{Stands};
-ghost use Rattle.page_space.specs.Transactions.{left_by, held};
+ghost use Rattle.page_space.specs.Layout.{IsGiven};
+ghost use Rattle.page_space.specs.Transactions.{left_by, held, OnlyFirst};
 ghost use Rattle.page_spans.specs.Heaps.{span_at};
 ghost use Rattle.path_repair.specs.Forms.{IsForm};
 ghost use Rattle.path_repair.specs.TreePages.{is_stored};
 ghost use Rattle.path_repair.specs.Standing.{AreTold, Moved, IsCause, IsPlaced, IsPartWay, SameOn, IsTaken};
+ghost use Rattle.path_repair.specs.Damage.{IsDamage, IsHeadCause};
+ghost use Rattle.path_repair.specs.Keeping.{IsOwn, IsOpened, IsAsTold, root_level};
 ghost use Rattle.path_repair.specs.declared.errors.RepairError.{RepairError};
 
 use crate::change::{Place, Root};
@@ -24,8 +27,12 @@ fn take<P: Pages>(space: &mut Space<P>, txn: &mut Txn) -> Result<u32, RepairErro
     requires sound { (P.view space.old.pages).fit }
     requires total { txn.old.superblock.total ≡ space.old.superblock.total }
     ensures moved { Moved 1 0 (P.told space.old.pages) (P.told space.new.pages) (P.view space.old.pages) (P.view space.new.pages) (P.under space.old.pages) (P.under space.new.pages) space.old.superblock space.new.superblock txn.old txn.new }
-    ensures cause { IfErr result (λ e. IsCause e (P.view space.old.pages).faults (P.view space.new.pages).faults) }
+    ensures cause { IfErr result (λ e. IsCause space.old.superblock.total e (P.view space.old.pages).faults (P.view space.new.pages).faults) }
     ensures given { IfOk result (λ p. (1 ≤ p) × (p < txn.new.superblock.total)) }
+    ensures first { OnlyFirst txn.old txn.new }
+    ensures behind { IfOk result (λ p. IsGiven txn.new.superblock.fresh p) }
+    ensures own { (base : Image) (level : ℕ) → AreTold (P.told space.old.pages) (P.view space.old.pages) base → IfOk result (λ p. IsOwn (left_by txn.old base) txn.old.superblock.fresh level p) }
+    ensures head { (base : Image) → AreTold (P.told space.old.pages) (P.view space.old.pages) base → IfErr result (λ e. IsHeadCause (left_by txn.new base) txn.new.superblock e) }
     ensures taken { (base : Image) (count : ℕ) (used freed : List ℕ) → AreTold (P.told space.old.pages) (P.view space.old.pages) base → Stands count (left_by txn.old base) txn.old.superblock used freed
         → IfOk result (λ p. IsTaken count (left_by txn.old base) (left_by txn.new base) txn.new.superblock used p) }
     ensures sound { (base : Image) (count : ℕ) (used freed : List ℕ) → AreTold (P.told space.old.pages) (P.view space.old.pages) base → Stands count (left_by txn.old base) txn.old.superblock used freed
@@ -90,9 +97,15 @@ pub(crate) fn open_page<P: Pages>(
     requires proper { IsProperIfAny root.span }
     requires whole { length bytes.old ≡ 4096 }
     ensures moved { Moved 1 0 (P.told space.old.pages) (P.told space.new.pages) (P.view space.old.pages) (P.view space.new.pages) (P.under space.old.pages) (P.under space.new.pages) space.old.superblock space.new.superblock txn.old txn.new }
-    ensures cause { IfErr result (λ e. IsCause e (P.view space.old.pages).faults (P.view space.new.pages).faults) }
+    ensures cause { IfErr result (λ e. IsCause space.old.superblock.total e (P.view space.old.pages).faults (P.view space.new.pages).faults) }
     ensures form { OnOk result (IsForm at.level space.old.superblock.total bytes.new) }
     ensures number { IfOk result (λ number. (1 ≤ number) × (number < space.old.superblock.total)) }
+    ensures first { OnlyFirst txn.old txn.new }
+    ensures root { IfOk result (λ number. (number ≡ root.page) ⊎ IsGiven txn.new.superblock.fresh number) }
+    ensures own { (base : Image) → AreTold (P.told space.old.pages) (P.view space.old.pages) base → IfOk result (λ number. IsOwn (left_by txn.old base) txn.old.superblock.fresh at.level number) }
+    ensures opened { OnOk result (IsOpened at.height at.level at.index root.page root.span bytes.new (span_at spans.new)) }
+    ensures as_told { (base : Image) → AreTold (P.told space.old.pages) (P.view space.old.pages) base → OnOk result (IsAsTold (left_by txn.old base) at.height at.level at.index root.page bytes.new) }
+    ensures damaged { (base : Image) (below : ℕ) → AreTold (P.told space.old.pages) (P.view space.old.pages) base → at.level ≡ suc below → IfErr result (λ e. IsDamage (left_by txn.new base) txn.old.superblock.fresh txn.new.superblock (root_level at.height at.level at.index) root.page root.span e) }
     ensures part { (base : Image) (count : ℕ) (list list' : List (Option ℤ)) (others : List ℕ) (below : ℕ) → AreTold (P.told space.old.pages) (P.view space.old.pages) base → at.level ≡ suc below → AreSlots list
         → IsPlaced count (left_by txn.old base) txn.old.superblock list list' at.height at.level at.index root.page root.span others → (root.page ≡ 0 → is_stored list' at.level at.index ≡ true)
         → IfOk result (λ number. IsPartWay count (left_by txn.old base) (left_by txn.new base) txn.new.superblock list list' at.height below at.index number bytes.new (λ child. span_at spans.new (127 + child)) 0 others) }

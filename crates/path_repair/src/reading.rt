@@ -1,5 +1,5 @@
 //! A page of a tree is read, and its spans with it.
-ghost use Rattle.std.specs.Prelude.{◌≡◌, ◌≢◌, ◌<◌, ◌≤◌, ◌+◌, ◌^◌, ℕ, ℤ, suc, Some, Option, List, false, length, slice_index, IsTrue, IsSome, IsOk, IfOk, IfErr, OnOk};
+ghost use Rattle.std.specs.Prelude.{◌≡◌, ◌≢◌, ◌<◌, ◌≤◌, ◌+◌, ◌^◌, ◌⊎◌, ℕ, ℤ, suc, Some, Option, List, false, length, slice_index, IsTrue, IsSome, IsOk, IfOk, IfErr, OnOk, OnErr};
 ghost use Rattle.block_disk.specs.View.{View, Image};
 ghost use Rattle.om3_coeff.specs.Spans.{IsProperIfAny, AreSlots, span};
 ghost use Rattle.node_page.specs.Fields.{child_at, level_at};
@@ -9,6 +9,8 @@ ghost use Rattle.tree_walk.specs.Trees.{top_of_page, HoldsNodes};
 ghost use Rattle.page_spans.specs.Heaps.{span_at};
 ghost use Rattle.path_repair.specs.Forms.{IsForm, AreTops};
 ghost use Rattle.path_repair.specs.Standing.{AreTold, Moved, IsCause};
+ghost use Rattle.tree_walk.specs.Paths.{NamesBeyond};
+ghost use Rattle.path_repair.specs.Damage.{IsUnfit, IsUnfitAt, IsBadAt, AreBelow, IsUnsplitPage};
 ghost use Rattle.path_repair.specs.declared.errors.RepairError.{RepairError};
 
 use crate::change::{Place, Root};
@@ -22,6 +24,7 @@ use page_spans::PageSpans;
 fn names_within(page: &PageView, total: u32) -> bool
     ensures within { IsTrue result → (child : ℕ) → child < 128 → child_at page.now.bytes.now child < total }
     ensures all { ((child : ℕ) → child < 128 → child_at page.now.bytes.now child < total) → IsTrue result }
+    ensures beyond { result ≡ false → NamesBeyond total page.now.bytes.now }
 {
     for child in 0..128 {
         if page.child_at(child) >= total {
@@ -36,6 +39,8 @@ fn is_page(bytes: &[u8], level: u8, total: u32) -> bool
     requires whole { length bytes.now ≡ 4096 }
     ensures form { IsTrue result → IsForm level total bytes.now }
     ensures sound { KeepsLayout bytes.now → level_at bytes.now ≡ level → ((child : ℕ) → child < 128 → child_at bytes.now child < total) → IsTrue result }
+    ensures keeps { IsTrue result → KeepsLayout bytes.now }
+    ensures unfit { result ≡ false → IsUnfit total level bytes.now }
 {
     let Ok(page) = PageView::new(bytes) else {
         return false;
@@ -55,11 +60,13 @@ pub(crate) fn read_bytes<P: Pages>(
     requires page { page < space.old.superblock.total }
     requires whole { length bytes.old ≡ 4096 }
     ensures moved { Moved 1 0 (P.told space.old.pages) (P.told space.new.pages) (P.view space.old.pages) (P.view space.new.pages) (P.under space.old.pages) (P.under space.new.pages) space.old.superblock space.new.superblock txn.now txn.now }
-    ensures cause { IfErr result (λ e. IsCause e (P.view space.old.pages).faults (P.view space.new.pages).faults) }
+    ensures cause { IfErr result (λ e. IsCause space.old.superblock.total e (P.view space.old.pages).faults (P.view space.new.pages).faults) }
     ensures form { OnOk result (IsForm at.level space.old.superblock.total bytes.new) }
     ensures bytes { (base : Image) → AreTold (P.told space.old.pages) (P.view space.old.pages) base → OnOk result (bytes.new ≡ left_by txn.now base page) }
     ensures sound { (base : Image) → AreTold (P.told space.old.pages) (P.view space.old.pages) base → KeepsLayout (left_by txn.now base page) → level_at (left_by txn.now base page) ≡ at.level
         → ((child : ℕ) → child < 128 → child_at (left_by txn.now base page) child < space.old.superblock.total) → IfErr result (λ e. e ≡ RepairError.DiskFault) }
+    ensures keeps { OnOk result (KeepsLayout bytes.new) }
+    ensures unfit { (base : Image) → AreTold (P.told space.old.pages) (P.view space.old.pages) base → IfErr result (λ e. IsUnfitAt (left_by txn.now base) space.old.superblock.total at.level page e) }
 {
     let Ok(()) = space.read(txn, page, bytes) else {
         return Err(RepairError::DiskFault);
@@ -86,6 +93,9 @@ fn spread(
         → OnOk result (AreTops list below index (λ child. span_at spans.new (127 + child))) }
     ensures sound { (list : List (Option ℤ)) (below index : ℕ) → level ≡ suc below → AreSlots list → HoldsNodes list level index bytes.now → root.span ≡ span list (top_of_page level index)
         → IsSome root.span → ((child : ℕ) → child < 128 → child_at bytes.now child < total) → IsOk result }
+    ensures keeps { OnOk result (KeepsLayout bytes.now) }
+    ensures below { OnOk result (AreBelow root.span bytes.now (span_at spans.new)) }
+    ensures bad { OnErr result (IsUnfit total level bytes.now ⊎ IsUnsplitPage root.span bytes.now) }
 {
     let damaged = RepairError::Damaged { page: root.page };
     let Some(span) = root.span else {
@@ -117,7 +127,7 @@ pub(crate) fn read_page<P: Pages>(
     requires proper { IsProperIfAny root.span }
     requires whole { length bytes.old ≡ 4096 }
     ensures moved { Moved 1 0 (P.told space.old.pages) (P.told space.new.pages) (P.view space.old.pages) (P.view space.new.pages) (P.under space.old.pages) (P.under space.new.pages) space.old.superblock space.new.superblock txn.now txn.now }
-    ensures cause { IfErr result (λ e. IsCause e (P.view space.old.pages).faults (P.view space.new.pages).faults) }
+    ensures cause { IfErr result (λ e. IsCause space.old.superblock.total e (P.view space.old.pages).faults (P.view space.new.pages).faults) }
     ensures form { OnOk result (IsForm at.level space.old.superblock.total bytes.new) }
     ensures bytes { (base : Image) → AreTold (P.told space.old.pages) (P.view space.old.pages) base → OnOk result (bytes.new ≡ left_by txn.now base root.page) }
     ensures tops { (base : Image) (list : List (Option ℤ)) (below : ℕ) → AreTold (P.told space.old.pages) (P.view space.old.pages) base → at.level ≡ suc below → AreSlots list
@@ -126,6 +136,9 @@ pub(crate) fn read_page<P: Pages>(
     ensures sound { (base : Image) (list : List (Option ℤ)) (below : ℕ) → AreTold (P.told space.old.pages) (P.view space.old.pages) base → at.level ≡ suc below → AreSlots list
         → HoldsNodes list at.level at.index (left_by txn.now base root.page) → root.span ≡ span list (top_of_page at.level at.index) → IsSome root.span
         → ((child : ℕ) → child < 128 → child_at (left_by txn.now base root.page) child < space.old.superblock.total) → IfErr result (λ e. e ≡ RepairError.DiskFault) }
+    ensures keeps { OnOk result (KeepsLayout bytes.new) }
+    ensures below { OnOk result (AreBelow root.span bytes.new (span_at spans.new)) }
+    ensures bad { (base : Image) → AreTold (P.told space.old.pages) (P.view space.old.pages) base → IfErr result (λ e. IsBadAt (left_by txn.now base) space.old.superblock.total at.level root.page root.span e) }
 {
     let Ok(()) = space.read(txn, root.page, bytes) else {
         return Err(RepairError::DiskFault);

@@ -10,26 +10,18 @@ ghost use Rattle.page_spans.specs.Heaps.{span_at};
 ghost use Rattle.path_repair.specs.Forms.{IsForm};
 ghost use Rattle.path_repair.specs.Costs.{touch};
 ghost use Rattle.path_repair.specs.Standing.{AreTold, AreLists, Moved, IsCause, IsPlaced, IsRepaired};
+ghost use Rattle.path_repair.specs.Damage.{IsDamage};
+ghost use Rattle.path_repair.specs.Keeping.{IsNewRoot, IsMatched, Spares, root_level};
 ghost use Rattle.path_repair.specs.declared.errors.RepairError.{RepairError};
 
 use crate::change::{Place, Root, Slots, slot_after};
 use crate::closing::close_page;
 use crate::errors::RepairError;
 use crate::opening::open_page;
-use byteorder::{BigEndian, ByteOrder};
 use gate_pages::Pages;
-use node_page::set_child;
+use node_page::{child_of, set_child};
 use page_space::{Space, Txn};
 use page_spans::PageSpans;
-
-/// The number of a child's page.
-pub(crate) fn child_page(bytes: &[u8], child: u8) -> u32
-    requires whole { length bytes.now ≡ 4096 }
-    requires child { child < 128 }
-    ensures { result ≡ child_at bytes.now child }
-{
-    BigEndian::read_u32(&bytes[2072 + 4 * usize::from(child)..])
-}
 
 /// The root of a child of a page.
 fn child_root(bytes: &[u8], spans: &PageSpans, child: u8) -> Root
@@ -40,7 +32,7 @@ fn child_root(bytes: &[u8], spans: &PageSpans, child: u8) -> Root
     ensures proper { IsProperIfAny result.span }
 {
     Root {
-        page: child_page(bytes, child),
+        page: child_of(bytes, child),
         span: spans.leaf(child),
     }
 }
@@ -78,9 +70,13 @@ pub(crate) fn repair<P: Pages>(
     requires values { (i : ℕ) (value : ℤ) → slice_get values.now i ≡ Some (Some value) → IsValue value }
     requires room { length (held txn.old) + touch slots.first slots.end at.height at.level at.index ≤ 64 }
     ensures moved { Moved (touch slots.first slots.end at.height at.level at.index) (touch slots.first slots.end at.height at.level at.index) (P.told space.old.pages) (P.told space.new.pages) (P.view space.old.pages) (P.view space.new.pages) (P.under space.old.pages) (P.under space.new.pages) space.old.superblock space.new.superblock txn.old txn.new }
-    ensures cause { IfErr result (λ e. IsCause e (P.view space.old.pages).faults (P.view space.new.pages).faults) }
+    ensures cause { IfErr result (λ e. IsCause space.old.superblock.total e (P.view space.old.pages).faults (P.view space.new.pages).faults) }
     ensures page { IfOk result (λ next. next.page < space.old.superblock.total) }
     ensures proper { IfOk result (λ next. IsProperIfAny next.span) }
+    ensures root { IfOk result (λ next. IsNewRoot txn.new.superblock.fresh root.page next.page) }
+    ensures matched { IfOk result (λ next. 1 ≤ at.level → IsMatched root.page root.span → IsMatched next.page next.span) }
+    ensures spares { (base : Image) → AreTold (P.told space.old.pages) (P.view space.old.pages) base → Spares at.level txn.old.superblock.fresh (left_by txn.old base) (left_by txn.new base) }
+    ensures damaged { (base : Image) → AreTold (P.told space.old.pages) (P.view space.old.pages) base → IfErr result (λ e. IsDamage (left_by txn.new base) txn.old.superblock.fresh txn.new.superblock (root_level at.height at.level at.index) root.page root.span e) }
     ensures repaired { (base : Image) (count : ℕ) (list list' : List (Option ℤ)) (others : List ℕ) → AreTold (P.told space.old.pages) (P.view space.old.pages) base
         → AreLists slots.first slots.end values.now list list' → IsPlaced count (left_by txn.old base) txn.old.superblock list list' at.height at.level at.index root.page root.span others
         → IfOk result (λ next. IsRepaired count (left_by txn.old base) (left_by txn.new base) txn.new.superblock list' at.level at.index next.page next.span others) }

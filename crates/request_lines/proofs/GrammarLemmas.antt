@@ -4,7 +4,7 @@ use Rattle.request_lines.specs.Tokens.{Cursor, tokens_left, next_token}
 use Rattle.request_lines.specs.declared.line_errors.LineError.{LineError}
 use Rattle.request_lines.specs.declared.line_errors.LineError.TheVariants.{BadLine, NoMemory}
 use Rattle.request_lines.specs.Requests.{value_of}
-use Rattle.request_lines.specs.Grammar.{Misses, MissesEnd, Ending, nothing, at_most_one, one_or_more, allows, fault, ending_fault, first_misfit, Takes}
+use Rattle.request_lines.specs.Grammar.{Misses, MissesEnd, Ending, nothing, at_most_one, one_or_more, any_behind, allows, fault, ending_fault, first_misfit, Takes}
 use Rattle.request_lines.proofs.TokenLemmas.{tokens_left-there, tokens_left-none}
 
 -- a token that its place allows is passed over
@@ -46,6 +46,30 @@ pub fault-one : (end : ℕ) (place : Place) (cursor : Cursor) → cursor.at ≤ 
     → fault end [] (at_most_one place) (tokens_left cursor) cursor.at ≡ fault end (place ∷ []) nothing (tokens_left cursor) cursor.at
 unfolding fault ending_fault
 fault-one end place cursor there = rw (tokens_left-there cursor there) refl
+
+-- no token is left where one may follow, with anything behind it
+pub fault-none_behind : (end : ℕ) (place : Place) (cursor : Cursor) → length cursor.line < cursor.at → fault end [] (any_behind place) (tokens_left cursor) cursor.at ≡ None
+unfolding fault ending_fault
+fault-none_behind end place cursor past = rw (tokens_left-none cursor past) refl
+
+-- a token that may follow is taken, and anything may stand behind it
+pub fault-behind : (end : ℕ) (place : Place) (old new : Cursor) → Takes place old new → fault end [] (any_behind place) (tokens_left old) old.at ≡ None
+unfolding fault ending_fault
+fault-behind end place old new takes = rw (tokens_left-there old takes.there, takes.allowed) refl
+
+-- another token is left than the one that may follow
+fault-other : (end : ℕ) (place : Place) (cursor : Cursor) → cursor.at ≤ length cursor.line → allows place (next_token cursor) ≡ false
+    → fault end [] (any_behind place) (tokens_left cursor) cursor.at ≡ Some cursor.at
+unfolding fault ending_fault
+fault-other end place cursor there wrong = rw (tokens_left-there cursor there, wrong) refl
+
+pub misses_behind : (place : Place) (old : Cursor) (error : LineError) → old.at ≤ length old.line → Misses place old error → MissesEnd (any_behind place) old error
+misses_behind place old (BadLine bad) there misses =
+    elim misses [
+      | inl missing ↦ absurd (omega (arith, missing.0))
+      | inr wrong ↦ fault-other (length old.line) place old wrong.0 wrong.1 ∙ ap Some (sym wrong.2)
+    ]
+misses_behind place old NoMemory there misses = tt
 
 -- where the next token is missing or wrong, it is at fault
 pub misses-fault : (place : Place) (places : List Place) (ending : Ending) (old : Cursor) (bad : ℕ)

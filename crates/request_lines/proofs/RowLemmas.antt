@@ -1,4 +1,4 @@
-use Rattle.std.proofs.Common.{◌≡◌, ℕ, ℤ, ◌+◌, ◌<◌, List, [], ◌∷◌, ◌++◌, map, length, Option, Some, None, Result, Ok, Err, refl, sym, ap, ◌∙◌, subst, arith}
+use Rattle.std.proofs.Common.{◌≡◌, ℕ, ℤ, ◌+◌, ◌<◌, List, [], ◌∷◌, ◌++◌, map, length, drop, Option, Some, None, Result, Ok, Err, refl, sym, ap, ◌∙◌, subst, arith}
 use Rattle.std.specs.Result.{IsErrAnd, IfOk, IfErr}
 use Rattle.std.proofs.lemmas.Result.{err_from_is_err_and}
 use Rattle.series_book.specs.declared.edits.Edit.TheVariants.{Create, Append, Set, Clear}
@@ -14,8 +14,8 @@ use Rattle.request_lines.specs.Numbers.{natural_value, integer_value}
 use Rattle.request_lines.specs.Ranges.{range_of}
 use Rattle.request_lines.specs.Tokens.{tokens, Cursor, tokens_left, next_token, past_token}
 use Rattle.request_lines.specs.Grammar.{Ending, kind_of, form_of, fault, tokens_fault, fault_of, Takes, Misses, MissesEnd}
-use Rattle.request_lines.specs.Requests.{value_of, create_of, append_of, set_of, clear_of, open_of, view_of, zoom_of, pan_of, close_of, request_of, named, Reads, IsRequest, RefusesLine, read_line, ReadsAs}
-use Rattle.request_lines.proofs.TokenLemmas.{tokens_left-within, tokens_left-there, tokens_left-none}
+use Rattle.request_lines.specs.Requests.{value_of, create_of, append_of, set_of, clear_of, open_of, view_of, filter_of, zoom_of, pan_of, close_of, request_of, named, Reads, IsRequest, RefusesLine, read_line, ReadsAs}
+use Rattle.request_lines.proofs.TokenLemmas.{tokens_left-within, tokens_left-there, tokens_left-none, joined-left}
 use Rattle.request_lines.proofs.GrammarLemmas.{fault-takes, misses-fault}
 
 -- a reader took tokens for these places, one after another
@@ -70,6 +70,18 @@ reads-exit kind start r error is reads =
 -- the tokens of a reader that took one
 pub takes-tokens : (place : Place) (old new : Cursor) → Takes place old new → tokens_left old ≡ next_token old ∷ tokens_left new
 takes-tokens place old new takes = rw (tokens_left-there old takes.there, takes.past) refl
+
+-- the filter's text where no token is left after the range
+pub no_filter : (cursor : Cursor) → length cursor.line < cursor.at → None ≡ filter_of (tokens_left cursor)
+unfolding filter_of
+no_filter cursor past = rw (tokens_left-none cursor past) refl
+
+-- and where the word stands there
+pub some_filter : (place : Place) (old new : Cursor) (text rest : List ℕ) → Takes place old new → rest ≡ drop new.at new.line → text ≡ rest
+    → Some text ≡ filter_of (tokens_left old)
+unfolding filter_of
+some_filter place old new text rest takes rest_is text_is =
+    rw (takes-tokens place old new takes) (ap Some (text_is ∙ rest_is ∙ sym (joined-left new)))
 
 -- the request that the tokens after `create` name, as the code reads it
 pub create_is : (c0 c1 c2 c3 c4 : Cursor) (name : List ℕ) (start begun : ℤ) (step scale : ℕ)
@@ -144,15 +156,15 @@ open_sized c0 c1 c2 session cache t0 t1 none session_is cache_is =
     rw (takes-tokens Session c0 c1 t0, takes-tokens Natural c1 c2 t1, none, session_is, cache_is) refl
 
 -- the same after `view`
-pub view_is : (c0 c1 c2 c3 c4 c5 c6 c7 : Cursor) (session : ℕ) (name : List ℕ) (w h : ℕ) (t0 t0' t1 t1' : ℤ) (range : RangeWord)
+pub view_is : (c0 c1 c2 c3 c4 c5 c6 c7 : Cursor) (session : ℕ) (name : List ℕ) (w h : ℕ) (t0 t0' t1 t1' : ℤ) (range : RangeWord) (filter : Option (List ℕ))
     → Takes Session c0 c1 → Takes Name c1 c2 → Takes Natural c2 c3 → Takes Natural c3 c4 → Takes Integer c4 c5 → Takes Integer c5 c6
-    → Takes Range c6 c7 → tokens_left c7 ≡ []
+    → Takes Range c6 c7 → filter ≡ filter_of (tokens_left c7)
     → session ≡ natural_value (next_token c0) → name ≡ next_token c1 → w ≡ natural_value (next_token c2) → h ≡ natural_value (next_token c3)
     → t0 ≡ integer_value (next_token c4) → t0' ≡ t0 → t1 ≡ integer_value (next_token c5) → t1' ≡ t1 → range ≡ range_of (next_token c6)
-    → view_of (tokens_left c0) ≡ Some (View session name w h t0' t1' range)
+    → view_of (tokens_left c0) ≡ Some (View session name w h t0' t1' range filter)
 unfolding view_of
-view_is c0 c1 c2 c3 c4 c5 c6 c7 session name w h t0 t0' t1 t1' range s0 s1 s2 s3 s4 s5 s6 none session_is name_is w_is h_is t0_is t0_told t1_is t1_told range_is =
-    rw (takes-tokens Session c0 c1 s0, takes-tokens Name c1 c2 s1, takes-tokens Natural c2 c3 s2, takes-tokens Natural c3 c4 s3, takes-tokens Integer c4 c5 s4, takes-tokens Integer c5 c6 s5, takes-tokens Range c6 c7 s6, none, session_is, name_is, w_is, h_is, t0_told, t0_is, t1_told, t1_is, range_is) refl
+view_is c0 c1 c2 c3 c4 c5 c6 c7 session name w h t0 t0' t1 t1' range filter s0 s1 s2 s3 s4 s5 s6 filter_is session_is name_is w_is h_is t0_is t0_told t1_is t1_told range_is =
+    rw (takes-tokens Session c0 c1 s0, takes-tokens Name c1 c2 s1, takes-tokens Natural c2 c3 s2, takes-tokens Natural c3 c4 s3, takes-tokens Integer c4 c5 s4, takes-tokens Integer c5 c6 s5, takes-tokens Range c6 c7 s6, filter_is, session_is, name_is, w_is, h_is, t0_told, t0_is, t1_told, t1_is, range_is) refl
 
 -- tokens that end a line after some places
 pub passed-ends : (passed : List Place) (ending : Ending) (start cursor : Cursor) → Passed passed start cursor

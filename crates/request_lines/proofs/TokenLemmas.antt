@@ -1,10 +1,10 @@
 use Rattle.std.proofs.Common.{◌≡◌, ℕ, ◌+◌, ◌<◌, ◌≤◌, Bool, true, false, cond, ltb, leb, List, [], ◌∷◌, length, drop, Some, None, refl, sym, ap, ◌∙◌, inl, inr, All, arith}
-use Rattle.std.specs.List.{slice_split, before_first, after_first, position_or_len}
+use Rattle.std.specs.List.{slice_split, before_first, after_first, position_or_len, join_with_byte}
 use Rattle.std.proofs.lemmas.Bool.Decides.{nat_tests}
 use Rattle.std.proofs.lemmas.Bool.{cases_lt}
-use Rattle.std.proofs.lemmas.List.{length-take, length-drop, drop-drop, take_all}
+use Rattle.std.proofs.lemmas.List.{length-take, length-drop, drop-drop, drop_all, take_all}
 use Rattle.std.proofs.lemmas.List.Sums.{fails_before_first}
-use Rattle.std.proofs.lemmas.List.Splits.{slice_split_first, slice_split_none}
+use Rattle.std.proofs.lemmas.List.Splits.{slice_split_first, slice_split_none, join_with_byte-slice_split}
 use Rattle.request_lines.specs.Tokens.{is_space, Cursor, tokens_left, next_token, past_token}
 
 -- a place that is found is the first one
@@ -64,6 +64,14 @@ tokens_left-there cursor there =
     elim (cases_lt (position_or_len is_space (drop cursor.at cursor.line)) (length (drop cursor.at cursor.line))) [
       | inl spaced ↦ split_at_space cursor.line cursor.at there spaced
       | inr spaceless ↦ split_none cursor.line cursor.at there spaceless
+    ]
+
+-- the tokens that are left, with a space between two of them, are the bytes that are left
+pub joined-left : (cursor : Cursor) → join_with_byte 32 (tokens_left cursor) ≡ drop cursor.at cursor.line
+joined-left cursor =
+    elim (cases_lt (length cursor.line) cursor.at) [
+      | inl past ↦ ap (join_with_byte 32) (tokens_left-none cursor past) ∙ sym (drop_all cursor.at cursor.line (omega (arith, past)))
+      | inr there ↦ ap (join_with_byte 32) (tokens_left-within cursor.line cursor.at there) ∙ join_with_byte-slice_split 32 (drop cursor.at cursor.line)
     ]
 
 -- a test that fails

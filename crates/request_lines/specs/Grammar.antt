@@ -4,7 +4,7 @@ use Rattle.std.specs.Char.{is_ascii_digit}
 use Rattle.series_book.specs.Names.{is_name}
 use Rattle.series_book.specs.declared.limits.TheConstants.{GREATEST_START, GREATEST_STEP}
 use Rattle.request_lines.specs.declared.places.Place.{Place}
-use Rattle.request_lines.specs.declared.places.Place.TheVariants.{Name, Start, Step, Scale, Integer, Value, Natural, Session, Range}
+use Rattle.request_lines.specs.declared.places.Place.TheVariants.{Name, Start, Step, Scale, Integer, Value, Natural, Session, Range, Where}
 use Rattle.request_lines.specs.declared.line_kinds.LineKind.{LineKind}
 use Rattle.request_lines.specs.declared.line_kinds.LineKind.TheVariants.{Create, Append, Set, Clear, Open, View, Zoom, Pan, Close}
 use Rattle.request_lines.specs.Numbers.{is_natural, natural_value, is_integer, integer_value}
@@ -30,12 +30,14 @@ allows Value token = is_integer token || bytes_eq token (codes "-")
 allows Natural token = is_natural token
 allows Session token = is_natural token && nat_le 1 (natural_value token) && nat_le (natural_value token) 4294967295
 allows Range token = is_range token
+allows Where token = bytes_eq token (codes "where")
 
--- what may follow the fixed places of a line
+-- what may follow the fixed places of a line; `any_behind` is nothing, or a token with anything behind it
 pub data Ending : Type 0 where
   nothing : Ending
   at_most_one : Place → Ending
   one_or_more : Place → Ending
+  any_behind : Place → Ending
 
 -- the places after the first word of a line
 pub record Form : Type 0 where
@@ -63,7 +65,7 @@ form_of Append = record { places = Name ∷ []; ending = one_or_more Value }
 form_of Set = record { places = Name ∷ Integer ∷ []; ending = one_or_more Integer }
 form_of Clear = record { places = Name ∷ Integer ∷ Natural ∷ []; ending = nothing }
 form_of Open = record { places = Session ∷ []; ending = at_most_one Natural }
-form_of View = record { places = Session ∷ Name ∷ Natural ∷ Natural ∷ Integer ∷ Integer ∷ Range ∷ []; ending = nothing }
+form_of View = record { places = Session ∷ Name ∷ Natural ∷ Natural ∷ Integer ∷ Integer ∷ Range ∷ []; ending = any_behind Where }
 form_of Zoom = record { places = Session ∷ Integer ∷ Integer ∷ []; ending = nothing }
 form_of Pan = record { places = Session ∷ Integer ∷ []; ending = nothing }
 form_of Close = record { places = Session ∷ []; ending = nothing }
@@ -83,6 +85,8 @@ ending_fault end (at_most_one place) (token ∷ others) at =
     if allows place token then ending_fault end nothing others (at + length token + 1) else Some at
 ending_fault end (one_or_more place) [] at = Some end
 ending_fault end (one_or_more place) (token ∷ others) at = first_misfit place (token ∷ others) at
+ending_fault end (any_behind place) [] at = None
+ending_fault end (any_behind place) (token ∷ others) at = if allows place token then None else Some at
 
 -- the offset of the first of these tokens that isn't what its place allows, or the line's end where
 -- a token is missing

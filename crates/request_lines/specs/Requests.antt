@@ -1,5 +1,6 @@
-use Rattle.std.specs.Prelude.{◌≡◌, ℕ, ℤ, ◌≤◌, if◌then◌else◌, List, [], ◌∷◌, map, length, Option, None, Some, Result, Ok, Err, IsTrue, codes, ⊤}
+use Rattle.std.specs.Prelude.{◌≡◌, ℕ, ℤ, ◌≤◌, if◌then◌else◌, List, [], ◌∷◌, map, length, Option, None, Some, IfSome, Result, Ok, Err, IsTrue, codes, ⊤}
 use Rattle.std.specs.Str.{bytes_eq}
+use Rattle.std.specs.List.{join_with_byte}
 use Rattle.series_book.specs.declared.edits.Edit.TheVariants.{Create, Append, Set, Clear}
 use Rattle.series_book.specs.Names.{is_name}
 use Rattle.series_book.specs.Edits.{IsEdit}
@@ -45,10 +46,16 @@ open_of (session ∷ []) = Some (Open (natural_value session) None)
 open_of (session ∷ cache ∷ []) = Some (Open (natural_value session) (Some (natural_value cache)))
 open_of _ = None
 
+-- the filter's text in the tokens after a view's range: all that stands behind the first of them, with the
+-- spaces between; there is none where no token is left
+unfoldable pub filter_of : List (List ℕ) → Option (List ℕ)
+filter_of [] = None
+filter_of (word ∷ others) = Some (join_with_byte 32 others)
+
 -- the request that the tokens after `view` name
 unfoldable pub view_of : List (List ℕ) → Option Request
-view_of (session ∷ name ∷ w ∷ h ∷ t0 ∷ t1 ∷ range ∷ []) =
-    Some (View (natural_value session) name (natural_value w) (natural_value h) (integer_value t0) (integer_value t1) (range_of range))
+view_of (session ∷ name ∷ w ∷ h ∷ t0 ∷ t1 ∷ range ∷ others) =
+    Some (View (natural_value session) name (natural_value w) (natural_value h) (integer_value t0) (integer_value t1) (range_of range) (filter_of others))
 view_of _ = None
 
 -- the request that the tokens after `zoom` name
@@ -127,7 +134,8 @@ Reads kind cursor (Err NoMemory) = ⊤
 abbrev pub IsInRange : Request → Type 0
 IsInRange (EditRequest edit) = IsEdit edit
 IsInRange (Open session cache) = (1 ≤ session) × (session ≤ 4294967295)
-IsInRange (View session name w h t0 t1 range) = (1 ≤ session) × (session ≤ 4294967295) × IsTrue (is_name name)
+IsInRange (View session name w h t0 t1 range filter) =
+    (1 ≤ session) × (session ≤ 4294967295) × IsTrue (is_name name) × IfSome filter (λ text. length text ≤ 8192)
 IsInRange (Zoom session t0 t1) = (1 ≤ session) × (session ≤ 4294967295)
 IsInRange (Pan session by) = (1 ≤ session) × (session ≤ 4294967295)
 IsInRange (Close session) = (1 ≤ session) × (session ≤ 4294967295)

@@ -6,12 +6,17 @@
 //!
 //!     create NAME START STEP SCALE        append NAME V V ..
 //!     set NAME T V V ..                   clear NAME T COUNT
-//!     open N [CACHE]                      view N NAME W H T0 T1 RANGE
+//!     open N [CACHE]                      zoom N T0 T1
+//!     pan N D                             close N
+//!     view N NAME W H T0 T1 RANGE [where TEXT]
 //!
+//! Behind `where` and one space stands the text of a filter: any bytes up to the line's end, none too.
 //! A line that isn't so is refused at the first token that its place doesn't allow. Lines of more
-//! than 8,192 bytes are left to the layer above, as is what a request does.
+//! than 8,192 bytes are left to the layer above, as are the filter that a text spells and what a
+//! request does.
 #![tactic(auto)]
 
+pub mod filter_texts;
 pub mod line_errors;
 pub mod line_kinds;
 pub mod lines;
@@ -21,6 +26,7 @@ pub mod ranges;
 mod readers;
 pub mod requests;
 
+pub use filter_texts::FilterText;
 pub use line_errors::LineError;
 pub use lines::parse_line;
 pub use ranges::RangeWord;

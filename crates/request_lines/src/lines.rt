@@ -121,7 +121,7 @@ fn view(alloc: Global, reader: &mut Reader) -> Result<Request, LineError>
     let t0 = reader.integer()?;
     let t1 = reader.integer()?;
     let range = reader.range()?;
-    reader.end()?;
+    let filter = reader.filter(alloc)?;
     Ok(Request::View {
         session,
         name,
@@ -130,6 +130,7 @@ fn view(alloc: Global, reader: &mut Reader) -> Result<Request, LineError>
         t0,
         t1,
         range,
+        filter,
     })
 }
 

@@ -28,6 +28,8 @@ pub enum Place {
     Session,
     /// The word `auto`, or an integer, two points and an integer.
     Range,
+    /// The word `where`.
+    Where,
 }
 
 impl Place {
@@ -47,6 +49,7 @@ impl Place {
             Place::Natural => is_natural(token),
             Place::Session => is_between(token, 1, u64::from(u32::MAX)),
             Place::Range => is_range(token),
+            Place::Where => token == b"where".as_slice(),
         }
     }
 }

@@ -1,15 +1,16 @@
-ghost use Rattle.std.specs.Prelude.{◌≡◌, ◌+◌, ◌^◌, ◌<◌, ◌≤◌, ◌++◌, length, map, IfOk, IfErr, ◌↔◌, ◌||◌, [], ◌∷◌, IsTrue, IsSome, IfSome, position, OnOk, All, None, false, unsigned_abs, codes};
+ghost use Rattle.std.specs.Prelude.{◌≡◌, ◌+◌, ◌^◌, ◌<◌, ◌≤◌, ◌++◌, length, map, IfOk, IfErr, ◌↔◌, ◌||◌, [], ◌∷◌, drop, IsTrue, IsSome, IfSome, position, OnOk, All, None, false, unsigned_abs, codes};
 ghost use Rattle.std.specs.Str.{bytes_eq};
 ghost use Rattle.std.specs.List.{before_first};
 ghost use Rattle.series_book.specs.Names.{is_name};
 ghost use Rattle.series_book.specs.declared.limits.TheConstants.{GREATEST_START, GREATEST_STEP, GREATEST_SCALE};
-ghost use Rattle.request_lines.specs.declared.places.Place.TheVariants.{Name as NamePlace, Start, Step, Scale, Integer, Value, Natural, Session, Range};
+ghost use Rattle.request_lines.specs.declared.places.Place.TheVariants.{Name as NamePlace, Start, Step, Scale, Integer, Value, Natural, Session, Range, Where};
 ghost use Rattle.request_lines.specs.Numbers.{is_integer, natural_value, integer_value};
 ghost use Rattle.request_lines.specs.Ranges.{range_of};
 ghost use Rattle.request_lines.specs.Tokens.{is_space, tokens_left, next_token, past_token};
-ghost use Rattle.request_lines.specs.Grammar.{fault, Takes, Misses, MissesEnd, nothing, one_or_more, value_place};
-ghost use Rattle.request_lines.specs.Requests.{value_of};
+ghost use Rattle.request_lines.specs.Grammar.{fault, Takes, Misses, MissesEnd, nothing, one_or_more, any_behind, value_place};
+ghost use Rattle.request_lines.specs.Requests.{value_of, filter_of};
 
+use crate::filter_texts::FilterText;
 use crate::line_errors::LineError;
 use crate::numbers::{integer_value, natural_value};
 use crate::places::Place;
@@ -197,6 +198,28 @@ impl<'a> Reader<'a> {
         let token = self.token(value_place(may_miss))?;
         values.push(named_value(token))?;
         Ok(())
+    }
+
+    /// Takes the word `where` and the filter's text behind it, where a token is left.
+    pub(crate) fn filter(&mut self, alloc: Global) -> Result<Option<FilterText>, LineError>
+        ensures ok { IfOk result (λ filter. (fault (length self.old.line) [] (any_behind Where) (tokens_left self.old) self.old.at ≡ None) × (filter ≡ filter_of (tokens_left self.old))) }
+        ensures short { IfOk result (λ filter. IfSome filter (λ text. length text ≤ 8192)) }
+        ensures err { IfErr result (MissesEnd (any_behind Where) self.old) }
+    {
+        if !self.has_token() {
+            return Ok(None);
+        }
+        self.token(Place::Where)?;
+        let text = FilterText::new(alloc, self.rest())?;
+        Ok(Some(text))
+    }
+
+    /// The bytes from the next token on.
+    fn rest(&self) -> &'a [u8]
+        ensures bytes { result.now ≡ drop self.now.at self.now.line }
+        ensures short { length result.now ≤ 8192 }
+    {
+        &self.line[self.at.min(self.line.len())..]
     }
 
     /// Tests that no token is left.

@@ -1,3 +1,4 @@
+use crate::filter_texts::FilterText;
 use crate::ranges::RangeWord;
 use series_book::{Edit, Name};
 
@@ -11,7 +12,8 @@ pub enum Request {
         session: u32,
         cache: Option<u64>,
     },
-    /// A view of one series on a canvas of w by h pixels over the window from t0 to t1.
+    /// A view of one series on a canvas of w by h pixels over the window from t0 to t1, of the points
+    /// that the filter of this text keeps, where there is one.
     View {
         session: u32,
         name: Name,
@@ -20,6 +22,7 @@ pub enum Request {
         t0: i128,
         t1: i128,
         range: RangeWord,
+        filter: Option<FilterText>,
     },
     /// The session's last view, over another window.
     Zoom {

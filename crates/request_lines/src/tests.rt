@@ -62,7 +62,17 @@ fn finds_faults(rt: HostRuntime) -> Result<(), Fail> {
         ("view 1 a 4 4 0 5 3..", Some(17)),
         ("view 1 a 4 4 0 5 -0..2", Some(17)),
         ("view 1 a 4 4 0 5 autos", Some(17)),
-        ("view 1 a 4 4 0 5 auto where t >", Some(22)),
+        ("view 1 a 4 4 0 5", Some(16)),
+        ("view 1 a 4 4 0 5 auto ", Some(22)),
+        ("view 1 a 4 4 0 5 auto where t >", None),
+        ("view 1 a 4 4 0 5 auto where", None),
+        ("view 1 a 4 4 0 5 auto where ", None),
+        ("view 1 a 4 4 0 5 auto whereas", Some(22)),
+        ("view 1 a 4 4 0 5 auto where\tt", Some(22)),
+        ("view 1 a 4 4 0 5 auto Where t", Some(22)),
+        ("view 1 a 4 4 0 5 auto  where t", Some(22)),
+        ("view 1 a 4 4 0 5 where t", Some(17)),
+        ("zoom 1 5 6 where t", Some(11)),
     ];
     for (text, want) in rows {
         let line = text.as_bytes();
@@ -103,5 +113,30 @@ fn reads_requests(rt: HostRuntime) -> Result<(), Fail> {
     };
     assert_eq!(rt; (session, w, h, t0, t1), (3, 675, 300, -5, 86_400));
     assert_eq!(rt; range, RangeWord::Fixed { lo: 0, hi: -10 });
+    Ok(())
+}
+
+#[test]
+fn reads_filters(rt: HostRuntime) -> Result<(), Fail> {
+    let rows = [
+        ("view 1 a 4 4 0 5 auto", None),
+        ("view 1 a 4 4 0 5 auto where", Some("")),
+        ("view 1 a 4 4 0 5 auto where ", Some("")),
+        ("view 1 a 4 4 0 5 auto where  ", Some(" ")),
+        ("view 1 a 4 4 0 5 auto where v > 10", Some("v > 10")),
+        (
+            "view 1 a 4 4 0 5 auto where  v>1 or\tt  <= -2 ",
+            Some(" v>1 or\tt  <= -2 "),
+        ),
+    ];
+    for (text, want) in rows {
+        let line = text.as_bytes();
+        assert!(rt; line.len() <= 8192);
+        let Request::View { filter, .. } = parse_line(rt.alloc(), line)? else {
+            return Err(Fail::from("view"));
+        };
+        let found = filter.as_ref().map(|filter| filter.as_slice());
+        assert_eq!(rt; found, want.map(|want| want.as_bytes()), "{text}");
+    }
     Ok(())
 }

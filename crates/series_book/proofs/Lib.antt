@@ -2,3 +2,4 @@ pub mod PageLemmas
 pub mod SlotLemmas
 pub mod BookLemmas
 pub mod EditLemmas
+pub mod LawLemmas

@@ -2,6 +2,8 @@ use Rattle.std.specs.Prelude.{◌≡◌, ◌≢◌, ℕ, ◌≤◌, false, List,
 use Rattle.series_book.specs.declared.limits.TheConstants.{MOST_SLOTS, MOST_SERIES, GREATEST_START, GREATEST_STEP, GREATEST_SCALE}
 use Rattle.series_book.specs.declared.one_series.Series.{Series}
 use Rattle.series_book.specs.Names.{is_name}
+use Rattle.series_book.specs.declared.edits.Edit.{Edit}
+use Rattle.series_book.specs.declared.edits.Edit.TheVariants.{Create, Append, Set, Clear}
 use Rattle.series_book.specs.Edits.{is_too_large}
 
 -- a series whose fields and stored values are in range
@@ -24,3 +26,10 @@ pub record IsBook (book : List Series) : Type 0 where
 pub record LimitedBook : Type 0 where
   pub book : List Series
   pub total : ℕ
+
+-- the name of a new series is one that a series may have
+abbrev pub IsNamed : Edit → Type 0
+IsNamed (Create name start step scale) = IsTrue (is_name name)
+IsNamed (Append name values) = Unit {0}
+IsNamed (Set name time values) = Unit {0}
+IsNamed (Clear name time count) = Unit {0}

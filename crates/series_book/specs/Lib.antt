@@ -3,3 +3,4 @@ pub mod Refusals
 pub mod Pages
 pub mod Edits
 pub mod Books
+pub mod Axes

@@ -1,20 +1,25 @@
-ghost use Rattle.std.specs.Prelude.{◌≡◌, ◌+◌, ◌≤◌, ◌++◌, Ok, Err, length, All, false, true, IfNone, MatchOption, unsigned_abs};
+//! Which refusal of an edit stands before the pages are counted. The clauses speak of every series with
+//! this start, this step and so many slots.
+ghost use Rattle.std.specs.Prelude.{◌≡◌, ◌+◌, ◌≤◌, Ok, Err, length, false, IfNone, MatchOption};
 ghost use Rattle.std.specs.List.{list_any};
-ghost use Rattle.series_book.specs.declared.limits.TheConstants.{MOST_SLOTS};
-ghost use Rattle.series_book.specs.Edits.{is_too_large, distance, place_of, overwritten, cleared, appended, set_at, cleared_at, IsOnGrid, RefusesTime};
+ghost use Rattle.series_book.specs.declared.limits.TheConstants.{MOST_SLOTS, MOST_CLEARED, MOST_VALUES};
+ghost use Rattle.series_book.specs.declared.one_series.Series.{Series};
+ghost use Rattle.series_book.specs.Edits.{is_too_large, place_of, distance, overwritten, cleared, appended, set_at, cleared_at, IsOnGrid, RefusesTime};
+ghost use Rattle.series_book.specs.Axes.{IsAxisOf};
 
+use crate::axis::Axis;
 use crate::limits::{GREATEST_VALUE, MOST_CLEARED, MOST_SLOTS, MOST_VALUES};
-use crate::one_series::Series;
 use crate::refusals::Refusal;
 use crate::value_list::Values;
 
-/// The refusal of an append to this series that stands before the pages are counted.
+/// The refusal of an append that stands before the pages are counted.
 #[tactic(auto, unfolding(crate::specs::Edits::appended))]
-pub(crate) fn append_refusal(series: &Series, values: &Values) -> Option<Refusal>
-    requires { length series.now.slots ≤ MOST_SLOTS }
-    ensures refusal { MatchOption result (appended series.now values.now ≡ Ok (overwritten series.now.slots (length series.now.slots) values.now)) (λ refusal. appended series.now values.now ≡ Err refusal) }
+pub fn append_refusal(axis: Axis, values: &Values) -> Option<Refusal>
+    requires slots { axis.slots ≤ MOST_SLOTS }
+    ensures refusal { (series : Series) → IsAxisOf series axis → MatchOption result (appended series values.now ≡ Ok (overwritten series.slots (length series.slots) values.now)) (λ refusal. appended series values.now ≡ Err refusal) }
     ensures in_range { IfNone result (list_any is_too_large values.now ≡ false) }
-    ensures room { IfNone result (length series.now.slots + length values.now ≤ MOST_SLOTS) }
+    ensures few { IfNone result (length values.now ≤ MOST_VALUES) }
+    ensures room { IfNone result (axis.slots + length values.now ≤ MOST_SLOTS) }
 {
     if has_too_large(values.as_slice()) {
         return Some(Refusal::ValueTooLarge);
@@ -22,22 +27,23 @@ pub(crate) fn append_refusal(series: &Series, values: &Values) -> Option<Refusal
     if values.as_slice().len() > MOST_VALUES {
         return Some(Refusal::RangeTooLong);
     }
-    if series.slots.as_slice().len() + values.as_slice().len() > MOST_SLOTS as usize {
+    if axis.slots + values.as_slice().len() as u64 > MOST_SLOTS {
         return Some(Refusal::SeriesFull);
     }
     None
 }
 
-/// The refusal of a set in this series that stands before the pages are counted.
+/// The refusal of a set that stands before the pages are counted.
 #[tactic(auto, unfolding(crate::specs::Edits::set_at))]
-pub(crate) fn set_refusal(series: &Series, time: i128, values: &Values) -> Option<Refusal>
-    requires slots { length series.now.slots ≤ MOST_SLOTS }
-    requires step { 1 ≤ series.now.step }
-    ensures refusal { MatchOption result (set_at series.now time values.now ≡ Ok (overwritten series.now.slots (place_of series.now time) values.now)) (λ refusal. set_at series.now time values.now ≡ Err refusal) }
+pub fn set_refusal(axis: Axis, time: i128, values: &Values) -> Option<Refusal>
+    requires slots { axis.slots ≤ MOST_SLOTS }
+    requires step { 1 ≤ axis.step }
+    ensures refusal { (series : Series) → IsAxisOf series axis → MatchOption result (set_at series time values.now ≡ Ok (overwritten series.slots (place_of series time) values.now)) (λ refusal. set_at series time values.now ≡ Err refusal) }
     ensures in_range { IfNone result (list_any is_too_large values.now ≡ false) }
-    ensures room { IfNone result (place_of series.now time + length values.now ≤ MOST_SLOTS) }
+    ensures few { IfNone result (length values.now ≤ MOST_VALUES) }
+    ensures room { (series : Series) → IsAxisOf series axis → IfNone result (place_of series time + length values.now ≤ MOST_SLOTS) }
 {
-    if let Some(refusal) = time_refusal(series, time) {
+    if let Some(refusal) = time_refusal(axis, time) {
         return Some(refusal);
     }
     if has_too_large(values.as_slice()) {
@@ -47,20 +53,20 @@ pub(crate) fn set_refusal(series: &Series, time: i128, values: &Values) -> Optio
     if count > MOST_VALUES {
         return Some(Refusal::RangeTooLong);
     }
-    if place_of(series, time) > u128::from(MOST_SLOTS) - count as u128 {
+    if place_of(axis, time) > u128::from(MOST_SLOTS) - count as u128 {
         return Some(Refusal::SeriesFull);
     }
     None
 }
 
-/// The refusal of a clear in this series.
+/// The refusal of a clear.
 #[tactic(auto, unfolding(crate::specs::Edits::cleared_at))]
-pub(crate) fn clear_refusal(series: &Series, time: i128, count: u64) -> Option<Refusal>
-    requires { 1 ≤ series.now.step }
-    ensures refusal { MatchOption result (cleared_at series.now time count ≡ Ok (cleared series.now.slots (place_of series.now time) count)) (λ refusal. cleared_at series.now time count ≡ Err refusal) }
+pub fn clear_refusal(axis: Axis, time: i128, count: u64) -> Option<Refusal>
+    requires { 1 ≤ axis.step }
+    ensures refusal { (series : Series) → IsAxisOf series axis → MatchOption result (cleared_at series time count ≡ Ok (cleared series.slots (place_of series time) count)) (λ refusal. cleared_at series time count ≡ Err refusal) }
     ensures few { IfNone result (count ≤ MOST_CLEARED) }
 {
-    if let Some(refusal) = time_refusal(series, time) {
+    if let Some(refusal) = time_refusal(axis, time) {
         return Some(refusal);
     }
     if count > MOST_CLEARED {
@@ -70,32 +76,32 @@ pub(crate) fn clear_refusal(series: &Series, time: i128, count: u64) -> Option<R
 }
 
 /// The refusal of a time that is no slot's.
-fn time_refusal(series: &Series, time: i128) -> Option<Refusal>
-    requires { 1 ≤ series.now.step }
-    ensures { MatchOption result (IsOnGrid series.now time) (RefusesTime series.now time) }
+fn time_refusal(axis: Axis, time: i128) -> Option<Refusal>
+    requires { 1 ≤ axis.step }
+    ensures { (series : Series) → IsAxisOf series axis → MatchOption result (IsOnGrid series time) (RefusesTime series time) }
 {
-    if distance(series, time) % u128::from(series.step) != 0 {
+    if distance(axis, time) % u128::from(axis.step) != 0 {
         return Some(Refusal::OffGrid);
     }
-    if time < i128::from(series.start) {
+    if time < i128::from(axis.start) {
         return Some(Refusal::BeforeStart);
     }
     None
 }
 
 /// The slot at a time of the grid that isn't before the start.
-pub(crate) fn place_of(series: &Series, time: i128) -> u128
-    requires { 1 ≤ series.now.step }
-    ensures { result ≡ place_of series.now time }
+pub fn place_of(axis: Axis, time: i128) -> u128
+    requires { 1 ≤ axis.step }
+    ensures { (series : Series) → IsAxisOf series axis → result ≡ place_of series time }
 {
-    distance(series, time) / u128::from(series.step)
+    distance(axis, time) / u128::from(axis.step)
 }
 
-/// How far a time is from the start of a series.
-fn distance(series: &Series, time: i128) -> u128
-    ensures { result ≡ distance series.now time }
+/// How far a time is from the start.
+fn distance(axis: Axis, time: i128) -> u128
+    ensures { (series : Series) → IsAxisOf series axis → result ≡ distance series time }
 {
-    time.abs_diff(i128::from(series.start))
+    time.abs_diff(i128::from(axis.start))
 }
 
 /// Whether a value passes 10^18 in size.

@@ -12,10 +12,12 @@
 //! its book takes. Sessions, views and lines are left to the crates above.
 #![tactic(auto)]
 
+pub mod axis;
 pub mod books;
-mod checks;
+pub mod checks;
 pub mod edits;
 pub mod errors;
+pub mod laws;
 pub mod limits;
 pub mod list_books;
 pub mod names;
@@ -26,6 +28,7 @@ pub mod refusals;
 pub mod slot_list;
 pub mod value_list;
 
+pub use axis::Axis;
 pub use books::Book;
 pub use edits::Edit;
 pub use errors::{BookError, NameError, NoMemory};

@@ -128,11 +128,11 @@ impl ListBook {
         let Some(id) = self.book.find(name) else {
             return Err(BookError::Refused(Refusal::UnknownSeries));
         };
-        let series = self.book.series(id);
-        if let Some(refusal) = append_refusal(series, values) {
+        let axis = self.book.series(id).axis();
+        if let Some(refusal) = append_refusal(axis, values) {
             return Err(BookError::Refused(refusal));
         }
-        let place = series.slots.as_slice().len();
+        let place = axis.slots as usize;
         let run = values.to_slots()?;
         self.put_within(id, place, &run)
     }
@@ -146,11 +146,11 @@ impl ListBook {
         let Some(id) = self.book.find(name) else {
             return Err(BookError::Refused(Refusal::UnknownSeries));
         };
-        let series = self.book.series(id);
-        if let Some(refusal) = set_refusal(series, time, values) {
+        let axis = self.book.series(id).axis();
+        if let Some(refusal) = set_refusal(axis, time, values) {
             return Err(BookError::Refused(refusal));
         }
-        let place = place_of(series, time) as usize;
+        let place = place_of(axis, time) as usize;
         let run = values.to_slots()?;
         self.put_within(id, place, &run)
     }
@@ -164,12 +164,12 @@ impl ListBook {
         let Some(id) = self.book.find(name) else {
             return Err(BookError::Refused(Refusal::UnknownSeries));
         };
-        let series = self.book.series(id);
-        if let Some(refusal) = clear_refusal(series, time, count) {
+        let axis = self.book.series(id).axis();
+        if let Some(refusal) = clear_refusal(axis, time, count) {
             return Err(BookError::Refused(refusal));
         }
-        let length = series.slots.as_slice().len();
-        let place = place_of(series, time).min(length as u128) as usize;
+        let length = axis.slots as usize;
+        let place = place_of(axis, time).min(length as u128) as usize;
         let end = (place + count as usize).min(length);
         let mut run = Vec::new(self.alloc);
         run.resize(end - place, None)?;

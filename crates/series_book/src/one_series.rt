@@ -1,5 +1,8 @@
-ghost use Rattle.std.specs.Prelude.{◌≡◌, []};
+ghost use Rattle.std.specs.Prelude.{◌≡◌, ◌≤◌, [], length};
+ghost use Rattle.series_book.specs.declared.limits.TheConstants.{MOST_SLOTS};
+ghost use Rattle.series_book.specs.Axes.{IsAxisOf};
 
+use crate::axis::Axis;
 use crate::names::Name;
 use crate::slot_list::Slots;
 use std::alloc::Global;
@@ -27,6 +30,18 @@ impl Series {
             step,
             scale,
             slots,
+        }
+    }
+
+    /// Where its slots stand in time.
+    pub fn axis(&self) -> Axis
+        requires { length self.now.slots ≤ MOST_SLOTS }
+        ensures { IsAxisOf self.now result }
+    {
+        Axis {
+            start: self.start,
+            step: self.step,
+            slots: self.slots.as_slice().len() as u64,
         }
     }
 }

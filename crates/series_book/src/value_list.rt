@@ -36,7 +36,7 @@ impl Values {
     }
 
     /// The values as slots.
-    pub(crate) fn to_slots(&self) -> Result<Vec<Option<i64>>, NoMemory>
+    pub fn to_slots(&self) -> Result<Vec<Option<i64>>, NoMemory>
         requires { list_any is_too_large self.now ≡ false }
         ensures slots { IfOk result (λ slots. slots.items ≡ self.now) }
         ensures in_range { IfOk result (λ slots. All (λ value. is_too_large value ≡ false) slots.items) }

@@ -178,6 +178,14 @@ finished-is_filter text rest state steps r end e =
     let P : Expression → Type 0 = λ f. AreFilter r.tokens f in
     record { tokens = r.tokens; rest = r.behind; begins = r.begins; blank = sym r.here ∙ end; derives = subst P (sym same) whole.1 }
 
+-- its steps are those of the filter
+pub finished-postfix : (text rest : List ℕ) (state : State) (steps : List Step) → IsRead text rest state → finished state ≡ Some steps
+    → steps ≡ postfix (expression_of steps)
+finished-postfix text rest state steps r e =
+    let whole = is_finished state steps r.tokens (reached_is r.tokens state r.reached) e in
+    let same : expression_of steps ≡ whole.0 = rebuilt-expression_of steps whole.0 (ap (λ ss. rebuilt ss []) whole.2 ∙ filter-rebuilt r.tokens whole.0 whole.1) in
+    whole.2 ∙ ap postfix (sym same)
+
 -- a text of a filter is read to its end, and gives its steps
 same_tokens : (behind : List Token) (rest blank : List ℕ) → Begins rest behind blank → past_spaces rest ≡ [] → behind ≡ []
 same_tokens [] rest blank b e = refl

@@ -1,6 +1,6 @@
 ghost use Rattle.std.specs.Prelude.{◌≡◌, ◌≤◌, ◌≤ℤ◌, length, IfOk, IfErr};
 ghost use Rattle.value_filter.specs.Expressions.{Expression, holds_at};
-ghost use Rattle.value_filter.specs.Steps.{expression_of};
+ghost use Rattle.value_filter.specs.Steps.{expression_of, postfix};
 ghost use Rattle.value_filter.specs.Boxes.{IsAnswer};
 ghost use Rattle.value_filter.specs.Grammar.{IsFilter, RefusesText, Gives};
 
@@ -40,6 +40,7 @@ impl Filter {
     pub fn parse(alloc: Global, text: &[u8]) -> Result<Filter, FilterFault>
         requires { length text.now ≤ 8192 }
         ensures ok { IfOk result (λ filter. IsFilter text.now (expression_of filter)) }
+        ensures steps { IfOk result (λ filter. filter ≡ postfix (expression_of filter)) }
         ensures reads { (f : Expression) → IsFilter text.now f → Gives f result }
         ensures err { IfErr result (RefusesText text.now) }
     {

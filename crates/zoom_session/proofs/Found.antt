@@ -51,7 +51,7 @@ without_at number (s ∷ ss) (suc i) d at =
     ap (λ b. if b then ss else s ∷ without number ss) (at.none_before 0 d (omega arith)) ∙ ap (λ l. s ∷ l) (without_at number ss i d (behind number s ss i at))
 
 -- after a view of it
-pub viewed_at : (number : ℕ) (spec : ViewSpec) (needed : List (Key × Coef)) (ss : List Session) (i : ℕ) (d : Session) → StandsAt number ss i → viewed number spec needed ss ≡ slice_set ss i (after_view spec needed (get_or ss i d))
+pub viewed_at : (number : ℕ) (spec : ViewSpec) (needed : Option (List (Key × Coef))) (ss : List Session) (i : ℕ) (d : Session) → StandsAt number ss i → viewed number spec needed ss ≡ slice_set ss i (after_view spec needed (get_or ss i d))
 viewed_at number spec needed [] i d at = let inside = at.inside in absurd (omega arith)
 viewed_at number spec needed (s ∷ ss) zero d at = ap (λ b. if b then after_view spec needed s ∷ ss else s ∷ viewed number spec needed ss) (at.here d)
 viewed_at number spec needed (s ∷ ss) (suc i) d at =

@@ -1,5 +1,5 @@
 -- Where the session of a number stands among those that are open.
-use Rattle.std.specs.Prelude.{ℕ, ◌≡◌, ◌<◌, true, false, List, length, get_or, slice_set, None, Some}
+use Rattle.std.specs.Prelude.{ℕ, ◌≡◌, ◌<◌, true, false, List, length, get_or, slice_set, Option, None, Some}
 use Rattle.std.specs.List.{remove}
 use Rattle.om3_coeff.specs.declared.key.Key.{Key}
 use Rattle.om3_coeff.specs.declared.coef.Coef.{Coef}
@@ -13,7 +13,7 @@ pub record IsPlaceOf (number : ℕ) (sessions : List Session) (place : ℕ) : Ty
   pub opened : is_open number sessions ≡ true
   pub session : (d : Session) → session_of number sessions ≡ Some (get_or sessions place d)
   pub removed : without number sessions ≡ remove sessions place
-  pub changed : (spec : ViewSpec) (needed : List (Key × Coef)) (d : Session) →
+  pub changed : (spec : ViewSpec) (needed : Option (List (Key × Coef))) (d : Session) →
       viewed number spec needed sessions ≡ slice_set sessions place (after_view spec needed (get_or sessions place d))
 
 -- no session has the number

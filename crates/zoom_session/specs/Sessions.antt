@@ -3,11 +3,12 @@ use Rattle.std.specs.Prelude.{ℕ, ◌≢◌, ◌≤◌, Bool, ◌==◌, ◌||�
 use Rattle.std.specs.List.{list_any}
 use Rattle.om3_coeff.specs.declared.key.Key.{Key}
 use Rattle.om3_coeff.specs.declared.coef.Coef.{Coef}
-use Rattle.coefficient_cache.specs.Caches.{IsCapacity}
+use Rattle.coefficient_cache.specs.Caches.{Cache, IsCapacity}
 use Rattle.coefficient_cache.specs.Pairs.{in_series}
 use Rattle.coefficient_cache.specs.Views.{renewed}
 use Rattle.series_book.specs.declared.refusals.Refusal.{Refusal}
 use Rattle.series_book.specs.declared.refusals.Refusal.TheVariants.{SessionOpen, TooManySessions, BadCache}
+use Rattle.zoom_session.specs.Planned.{Plan}
 use Rattle.zoom_session.specs.declared.view_spec.ViewSpec.{ViewSpec}
 use Rattle.zoom_session.specs.declared.session.Session.{Session}
 
@@ -46,16 +47,24 @@ abbrev pub without : ℕ → List Session → List Session
 without number [] = []
 without number (s ∷ ss) = if s.number == number then ss else s ∷ without number ss
 
--- a session after an answered view that needs these keys, with their present coefficients
-abbrev pub after_view : ViewSpec → List (Key × Coef) → Session → Session
-after_view spec needed s = record {
-  number = s.number;
-  cache = record { pairs = renewed s.cache.capacity s.cache.pairs (in_series spec.series needed); capacity = s.cache.capacity };
-  last = Some spec;
-}
+-- the keys of a view's plan, with their present coefficients; a filtered view has no plan
+abbrev pub needed_in : Option Plan → Option (List (Key × Coef))
+needed_in None = None
+needed_in (Some plan) = Some plan.needed
+
+-- a client's list after an answered view of a series: renewed by the keys of the view's plan, and as it was
+-- where it has none
+abbrev pub list_after : ℕ → Option (List (Key × Coef)) → Cache → Cache
+list_after series None cache = cache
+list_after series (Some needed) cache =
+    record { pairs = renewed cache.capacity cache.pairs (in_series series needed); capacity = cache.capacity }
+
+-- a session after an answered view, whose plan has these keys
+abbrev pub after_view : ViewSpec → Option (List (Key × Coef)) → Session → Session
+after_view spec needed s = record { number = s.number; cache = list_after spec.series needed s.cache; last = Some spec }
 
 -- the sessions after an answered view of the one of this number
-abbrev pub viewed : ℕ → ViewSpec → List (Key × Coef) → List Session → List Session
+abbrev pub viewed : ℕ → ViewSpec → Option (List (Key × Coef)) → List Session → List Session
 viewed number spec needed [] = []
 viewed number spec needed (s ∷ ss) =
     if s.number == number then after_view spec needed s ∷ ss else s ∷ viewed number spec needed ss

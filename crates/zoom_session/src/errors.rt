@@ -88,6 +88,12 @@ impl From<ScanOf> for PlanError {
     }
 }
 
+impl From<value_filter::NoMemory> for NoMemory {
+    fn from(_error: value_filter::NoMemory) -> NoMemory {
+        NoMemory
+    }
+}
+
 impl From<coefficient_cache::NoMemory> for NoMemory {
     fn from(_error: coefficient_cache::NoMemory) -> NoMemory {
         NoMemory

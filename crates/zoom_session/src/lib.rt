@@ -2,10 +2,10 @@
 //! and the view that it was answered last.
 //!
 //! At most 16 sessions are open, no two of one number. A session's list changes only with its own
-//! answered views, in two steps that its client takes too (see `coefficient_cache`), so both always
-//! hold the same list. A view is planned first, which changes nothing: the keys that it needs, and the
-//! part of them that the client lacks or holds with an old coefficient. Once it is answered the plan
-//! is applied.
+//! answered views without a filter, in two steps that its client takes too (see `coefficient_cache`),
+//! so both always hold the same list. Such a view is planned first, which changes nothing: the keys
+//! that it needs, and the part of them that the client lacks or holds with an old coefficient. Once it
+//! is answered the plan is applied. A filtered view has no plan and leaves the list alone.
 //!
 //! What the coefficients are, and the frames that carry them, are left to the layers around this one.
 #![tactic(auto)]

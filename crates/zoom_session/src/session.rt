@@ -1,16 +1,17 @@
 ghost use Rattle.std.specs.Prelude.{◌≡◌, IfOk, IfErr, OnOk};
-ghost use Rattle.coefficient_cache.specs.Views.{AreDistinct};
+ghost use Rattle.std.specs.Option.{option_copied};
 ghost use Rattle.view_keys.specs.Listed.{AreInOrder};
 ghost use Rattle.zoom_session.specs.Planned.{IsInBounds};
 ghost use Rattle.zoom_session.specs.Plans.{IsPlan, IsTooLarge};
-ghost use Rattle.zoom_session.specs.Sessions.{after_view};
+ghost use Rattle.zoom_session.specs.Sessions.{needed_in, after_view};
 
 use crate::errors::{NoMemory, PlanError};
 use crate::plan::ViewPlan;
 use crate::view_spec::ViewSpec;
 use coefficient_cache::CoefficientCache;
-use om3_coeff::{Coef, Coefs, Key};
+use om3_coeff::Coefs;
 use std::alloc::Global;
+use view_keys::laws::keys_in_order_are_distinct;
 
 /// A session that is open.
 #[derive(Drop)]
@@ -51,21 +52,24 @@ impl Session {
         Ok(ViewPlan { needed, send })
     }
 
-    // Keeps an answered view as the last one, and changes the list by the keys that it needs. After
-    // `NoMemory` the session is of no further use.
+    // Keeps an answered view as the last one, and changes the list by the keys of its plan, where it has
+    // one. After `NoMemory` the session is of no further use.
     pub(crate) fn keep_view(
         &mut self,
         alloc: Global,
         spec: ViewSpec,
-        needed: &[(Key, Coef)],
+        plan: Option<&ViewPlan>,
     ) -> Result<(), NoMemory>
-        requires { AreDistinct needed.now }
-        ensures kept { OnOk result (self.new ≡ after_view spec needed.now self.old) }
+        ensures kept { OnOk result (self.new ≡ after_view spec (needed_in (option_copied plan.entry)) self.old) }
         ensures number { self.new.number ≡ self.old.number }
         ensures capacity { self.new.cache.capacity ≡ self.old.cache.capacity }
     {
+        keys_in_order_are_distinct();
+        let series = spec.series;
         self.last = Some(spec);
-        self.cache.renew(alloc, spec.series, needed)?;
+        if let Some(plan) = plan {
+            self.cache.renew(alloc, series, plan.needed())?;
+        }
         Ok(())
     }
 }

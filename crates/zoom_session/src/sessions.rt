@@ -4,7 +4,7 @@ ghost use Rattle.needed_nodes.specs.Answers.{AgreesForView, most_needed, most_re
 ghost use Rattle.zoom_session.specs.Places.{IsPlaceOf, IsClosed};
 ghost use Rattle.zoom_session.specs.Planned.{IsInBounds};
 ghost use Rattle.zoom_session.specs.Plans.{AreNeeded, AreWanted, HasEntries, PlansIn, RefusesPlan, CountsNeeded};
-ghost use Rattle.zoom_session.specs.Sessions.{is_open, session_of, last_of, open_refusal, fresh_session, without, viewed, AreSessions};
+ghost use Rattle.zoom_session.specs.Sessions.{is_open, session_of, last_of, open_refusal, fresh_session, without, needed_in, viewed, AreSessions};
 ghost use Rattle.zoom_session.specs.declared.errors.SessionError.TheVariants.{Refused};
 ghost use Rattle.series_book.specs.declared.refusals.Refusal.{Refusal};
 ghost use Rattle.series_book.specs.declared.refusals.Refusal.TheVariants.{UnknownSession};
@@ -20,7 +20,6 @@ use om3_coeff::Nodes;
 use series_book::Refusal;
 use std::alloc::Global;
 use std::marker::Model;
-use view_keys::laws::keys_in_order_are_distinct;
 
 /// The most sessions that are open at once.
 pub const MOST_SESSIONS: usize = 16;
@@ -144,8 +143,8 @@ impl Sessions {
         self.sessions[place].last.as_ref()
     }
 
-    /// What a view takes: the keys that it needs, and those of them to send. Nothing changes but what
-    /// asks of the nodes keep. It is `TooLarge` exactly where the view needs more keys than the
+    /// What a view without a filter takes: the keys that it needs, and those of them to send. Nothing
+    /// changes but what asks of the nodes keep. It is `TooLarge` exactly where the view needs more keys than the
     /// session's client keeps, unless the nodes gave an error first.
     #[tactic(auto, using(crate::proofs::Planning::plans_in, crate::proofs::Planning::have_entries, crate::proofs::Planning::walk_stops, crate::proofs::Planning::keys_stop, crate::proofs::Planning::counts_needed))]
     pub fn plan_view<N: Nodes>(
@@ -156,6 +155,7 @@ impl Sessions {
         nodes: &mut N,
     ) -> Result<ViewPlan, PlanError>
         requires opened { IsTrue (is_open number self.now) }
+        requires unfiltered { spec.now.filter ≡ None }
         requires fit { (N.view nodes.old).fit }
         requires slots { axis.slots ≡ (N.view nodes.old).slots }
         requires step { 0 < axis.step }
@@ -190,19 +190,24 @@ impl Sessions {
     }
 
     /// Keeps an answered view as the session's last one, and changes its list by the plan that
-    /// `plan_view` gave for it. After `NoMemory` the session is closed.
+    /// `plan_view` gave for it; a filtered view has none, and leaves the list. After `NoMemory` the
+    /// session is closed.
     #[tactic(auto, using(crate::proofs::Valid::removed_valid, crate::proofs::Valid::removed_set))]
-    pub fn apply(&mut self, number: u32, spec: ViewSpec, plan: &ViewPlan) -> Result<(), NoMemory>
+    pub fn apply(
+        &mut self,
+        number: u32,
+        spec: ViewSpec,
+        plan: Option<&ViewPlan>,
+    ) -> Result<(), NoMemory>
         requires opened { IsTrue (is_open number self.old) }
-        ensures viewed { OnOk result (self.new ≡ viewed number spec plan.now.needed self.old) }
+        ensures viewed { OnOk result (self.new ≡ viewed number spec (needed_in (option_copied plan.entry)) self.old) }
         ensures closed { OnErr result (self.new ≡ without number self.old) }
     {
-        keys_in_order_are_distinct();
         let Some(place) = self.place_of(number) else {
             unreachable!()
         };
         let session = &mut self.sessions[place];
-        let kept = session.keep_view(self.alloc, spec, plan.needed());
+        let kept = session.keep_view(self.alloc, spec, plan);
         if kept.is_err() {
             self.sessions.remove(place);
         }

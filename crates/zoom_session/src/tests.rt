@@ -1,4 +1,4 @@
-ghost use Rattle.std.specs.Prelude.{IsTrue};
+ghost use Rattle.std.specs.Prelude.{◌≡◌, IsTrue, IfOk, None};
 ghost use Rattle.zoom_session.specs.Sessions.{is_open};
 
 use super::*;
@@ -6,6 +6,7 @@ use chart_grid::{Axis, Grid, GridError};
 use om3_coeff::ListNodes;
 use series_book::Refusal;
 use std::test::Fail;
+use value_filter::Filter;
 
 /// Why a session isn't opened.
 fn refusal_of(sessions: &mut Sessions, number: u32, cache: u64) -> Option<Refusal> {
@@ -45,11 +46,14 @@ fn opens_and_closes(rt: HostRuntime) -> Result<(), Fail> {
 }
 
 /// A view of series 0, four slots on four columns.
-fn spec() -> Result<ViewSpec, GridError> {
+fn spec() -> Result<ViewSpec, GridError>
+    ensures { IfOk result (λ spec. spec.filter ≡ None) }
+{
     Ok(ViewSpec {
         series: 0,
         grid: Grid::new(0, 4, 4, 4)?,
         range: RangeSpec::Auto,
+        filter: None,
     })
 }
 
@@ -60,7 +64,8 @@ fn planned(
     spec: &ViewSpec,
     third: i64,
 ) -> Result<ViewPlan, PlanError>
-    requires { IsTrue (is_open number sessions.now) }
+    requires opened { IsTrue (is_open number sessions.now) }
+    requires unfiltered { spec.now.filter ≡ None }
 {
     let slots = [Some(4), Some(7), Some(third.clamp(0, 9)), None];
     let axis = Axis {
@@ -74,7 +79,6 @@ fn planned(
 #[test]
 fn plans_and_keeps_views(rt: HostRuntime) -> Result<(), Fail> {
     let mut sessions = Sessions::new(rt.alloc())?;
-    let spec = spec()?;
     for (number, cache) in [(1, 8), (2, 7)] {
         assert_eq!(rt; refusal_of(&mut sessions, number, cache), None);
     }
@@ -82,14 +86,15 @@ fn plans_and_keeps_views(rt: HostRuntime) -> Result<(), Fail> {
     for (third, sent) in [(2, 8), (2, 0), (1, 1), (1, 0)] {
         assert!(rt; sessions.is_open(1));
         if sessions.is_open(1) {
+            let spec = spec()?;
             let plan = planned(&sessions, 1, &spec, third)?;
             assert_eq!(rt; (plan.needed().len(), plan.send().len()), (8, sent));
-            sessions.apply(1, spec, &plan)?;
+            sessions.apply(1, spec, Some(&plan))?;
             assert!(rt; sessions.last_view(1).is_some());
         }
     }
     if sessions.is_open(2) {
-        let refused = planned(&sessions, 2, &spec, 2).err();
+        let refused = planned(&sessions, 2, &spec()?, 2).err();
         assert_eq!(rt;
             refused,
             Some(PlanError::TooLarge {
@@ -99,5 +104,45 @@ fn plans_and_keeps_views(rt: HostRuntime) -> Result<(), Fail> {
         );
     }
     assert!(rt; sessions.last_view(2).is_none());
+    Ok(())
+}
+
+/// Whether the view that a session was answered last has a filter that holds of the value 5.
+fn keeps_five(sessions: &Sessions, number: u32) -> bool {
+    match sessions
+        .last_view(number)
+        .and_then(|last| last.filter.as_ref())
+    {
+        Some(filter) => filter.holds(0, 5),
+        None => false,
+    }
+}
+
+#[test]
+fn filtered_views_leave_the_list(rt: HostRuntime) -> Result<(), Fail> {
+    let mut sessions = Sessions::new(rt.alloc())?;
+    assert_eq!(rt; refusal_of(&mut sessions, 1, 8), None);
+    for (text, five) in [("v > 4", true), ("v > 5", false)] {
+        let unfiltered = spec()?;
+        let text = text.as_bytes();
+        assert!(rt; text.len() <= 8192 && sessions.is_open(1));
+        let filtered = ViewSpec {
+            series: 0,
+            grid: unfiltered.grid,
+            range: RangeSpec::Auto,
+            filter: Some(Filter::parse(rt.alloc(), text)?),
+        };
+        let copy = filtered.copy()?;
+        sessions.apply(1, filtered, None)?;
+        assert_eq!(rt; keeps_five(&sessions, 1), five);
+        if sessions.is_open(1) {
+            sessions.apply(1, copy, None)?;
+        }
+        assert_eq!(rt; keeps_five(&sessions, 1), five);
+        if sessions.is_open(1) {
+            let plan = planned(&sessions, 1, &unfiltered, 2)?;
+            assert_eq!(rt; plan.send().len(), 8);
+        }
+    }
     Ok(())
 }

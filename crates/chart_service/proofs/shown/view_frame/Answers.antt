@@ -4,7 +4,7 @@ use Rattle.chart_service.specs.Viewing.{has_of, least_of, greatest_of}
 use Rattle.chart_service.proofs.shown.view_frame.Goals as goal
 
 pub returns-clause-frame : goal.returns-clause-frame
-returns-clause-frame c = λ series axis root.
+returns-clause-frame c = λ spec series id_is grid_is axis root.
     let t0 : FitsSigned w64 c.t0.result = search rules in
     let t1 : FitsSigned w64 c.t1.result = search rules in
     let lo : FitsSigned w64 c.args.planned.told.range.lo = search rules in
@@ -14,11 +14,11 @@ returns-clause-frame c = λ series axis root.
     let greatest : FitsSigned w64 c.stored_of-stored.result.greatest = search rules in
     λ i. record {
       session = c.args.number;
-      series = c.args.spec.now.series;
-      w = c.w.ensures.value i;
-      h = c.h.ensures.value i;
-      t0 = (to_z-of_z w64 c.t0.result t0 ∙ c.t0.ensures.value) i;
-      t1 = (to_z-of_z w64 c.t1.result t1 ∙ c.t1.ensures.value) i;
+      series = id_is i;
+      w = (c.w.ensures.value ∙ ap (λ g. g.w) grid_is) i;
+      h = (c.h.ensures.value ∙ ap (λ g. g.h) grid_is) i;
+      t0 = (to_z-of_z w64 c.t0.result t0 ∙ c.t0.ensures.value ∙ ap (λ g. g.t0) grid_is) i;
+      t1 = (to_z-of_z w64 c.t1.result t1 ∙ c.t1.ensures.value ∙ ap (λ g. g.t1) grid_is) i;
       lo = to_z-of_z w64 c.args.planned.told.range.lo lo i;
       hi = to_z-of_z w64 c.args.planned.told.range.hi hi i;
       start = (to_z-of_z w64 c.args.planned.told.axis.start start ∙ ap (λ a. a.start) axis) i;

@@ -1,4 +1,4 @@
-use Rattle.std.proofs.Common.{ℕ, ℤ, ◌≡◌, List, Option, sym, ◌∙◌}
+use Rattle.std.proofs.Common.{sym, ◌∙◌}
 use Rattle.om3_coeff.specs.Keys.{left_of, right_of, first_slot, end_slot}
 use Rattle.om3_coeff.specs.Spans.{span}
 use Rattle.drawn_replies.proofs.Agreement.{Laws}
@@ -12,6 +12,7 @@ laws c = record {
   same = c.wanted_keys_are_needed.ensures.same;
   spans = c.wanted_keys_are_needed.ensures.spans;
   gives = c.sent_and_held_give_the_needed.ensures;
+  order = c.points_are_the_samples.ensures.order;
   tops = λ list few. top-span c.spans_add_up.ensures.all list few;
   splits = λ list k s values low is.
       c.split_and_join_undo_each_other.ensures.split (span list (left_of k)) (span list (right_of k)) s

@@ -5,6 +5,11 @@ use Rattle.tree_walk.proofs.StepLemmas.{error_so}
 use Rattle.tree_walk.specs.Trees.{top_of_page}
 use Rattle.path_repair.specs.Costs.{touch}
 use Rattle.path_repair.specs.Standing.{IsPlaced, IsRepaired}
+use Rattle.path_repair.specs.declared.errors.RepairError.{RepairError}
+use Rattle.path_repair.specs.Damage.{IsDamage}
+use Rattle.path_repair.specs.Keeping.{root_level}
+use Rattle.path_repair.proofs.CallLemmas.{same_touch, clear_puts}
+use Rattle.path_repair.proofs.DamageLemmas.{root_top}
 use Rattle.path_repair.proofs.EditLemmas.{top_small, lists_of, cleared_for, cleared_fewer, edited_for}
 use Rattle.path_repair.proofs.MoveLemmas.{moved_more}
 use Rattle.path_repair.proofs.calls.clear_run.Goals as goal
@@ -50,3 +55,24 @@ returns-clause-edited g c = λ base size list list' others told holds edited.
     let placed = subst P (sym levels_is) place in
     let done = c.in_ok-next.ensures.repaired base size list list' others told lists placed in
     edited_for size (left_by c.args.txn.now base) (left_by c.repair.new.txn base) c.repair.new.txn.superblock c.args.slot (c.args.slot + c.args.count) c.args.tree.slots c.in_ok-next.next.page c.in_ok-next.next.span _ [] list list' others edited c.requires.few (subst (λ l. IsRepaired size (left_by c.args.txn.now base) (left_by c.repair.new.txn base) c.repair.new.txn.superblock list' l 0 c.in_ok-next.next.page c.in_ok-next.next.span others) levels_is done) refl refl refl
+
+pub returns-in_err-next-clause-few_puts : goal.returns-in_err-next-clause-few_puts
+returns-in_err-next-clause-few_puts g c = λ few.
+    let levels_is : c.page_levels-levels.result ≡ page_levels c.args.tree.slots = c.page_levels-levels.ensures.levels in
+    let cost : touch c.args.slot (c.args.slot + c.args.count) c.page_levels-levels.result c.page_levels-levels.result 0 ≡ touch c.args.slot (c.args.slot + c.args.count) (page_levels c.args.tree.slots) (page_levels c.args.tree.slots) 0 = same_touch c.args.slot (c.args.slot + c.args.count) (page_levels c.args.tree.slots) (page_levels c.args.tree.slots) c.page_levels-levels.result c.page_levels-levels.result levels_is levels_is in
+    omega (arith, c.repair.ensures.moved.held, cost, clear_puts c.args.slot c.args.count c.args.tree.slots few)
+
+pub returns-clause-few_puts : goal.returns-clause-few_puts
+returns-clause-few_puts g c = λ few.
+    let levels_is : c.page_levels-levels.result ≡ page_levels c.args.tree.slots = c.page_levels-levels.ensures.levels in
+    let cost : touch c.args.slot (c.args.slot + c.args.count) c.page_levels-levels.result c.page_levels-levels.result 0 ≡ touch c.args.slot (c.args.slot + c.args.count) (page_levels c.args.tree.slots) (page_levels c.args.tree.slots) 0 = same_touch c.args.slot (c.args.slot + c.args.count) (page_levels c.args.tree.slots) (page_levels c.args.tree.slots) c.page_levels-levels.result c.page_levels-levels.result levels_is levels_is in
+    omega (arith, c.repair.ensures.moved.held, cost, clear_puts c.args.slot c.args.count c.args.tree.slots few)
+
+pub returns-in_err-next-clause-damaged : goal.returns-in_err-next-clause-damaged
+returns-in_err-next-clause-damaged g c = λ base told.
+    let levels_is : c.page_levels-levels.result ≡ page_levels c.args.tree.slots = c.page_levels-levels.ensures.levels in
+    let root_is : root_level c.page_levels-levels.result c.page_levels-levels.result 0 ≡ page_levels c.args.tree.slots = root_top c.page_levels-levels.result c.page_levels-levels.result (omega arith) ∙ levels_is in
+    let L : ℕ → Type 0 = λ l. IsDamage (left_by c.repair.new.txn base) c.args.txn.now.superblock.fresh c.repair.new.txn.superblock l c.args.tree.root c.args.tree.span c.in_err-next.field-0.0 in
+    let D : RepairError → Type 0 = λ e. IsDamage (left_by c.repair.new.txn base) c.args.txn.now.superblock.fresh c.repair.new.txn.superblock (page_levels c.args.tree.slots) c.args.tree.root c.args.tree.span e in
+    error_so _ D c.from_residual.result c.from_residual.ensures.1
+    (λ e same. subst D (sym same) (subst L root_is (c.in_err-next.ensures.damaged base told)))

@@ -1,10 +1,10 @@
-use Rattle.std.proofs.Common.{Some, cond, unwrap_or, ap, refl, arith, ◌∙◌}
+use Rattle.std.proofs.Common.{rules, Some, cond, unwrap_or, ap, refl, arith, ◌∙◌}
 use Rattle.std.proofs.lemmas.Bool.{ne_eqb, eq-eqb}
 use Rattle.page_space.specs.declared.superblock.Superblock.{Superblock}
 use Rattle.page_space.specs.Transactions.{left_by, held_page}
 use Rattle.page_spans.specs.Heaps.{span_at}
 use Rattle.path_repair.proofs.CountLemmas.{none_of}
-use Rattle.path_repair.proofs.CloseLemmas.{close_none_at, close_some_at}
+use Rattle.path_repair.proofs.CloseLemmas.{close_none_at, close_some_at, free_numbers}
 use Rattle.path_repair.proofs.closing.close_page.Goals as goal
 
 pub returns-then-is_none-clause-repaired : goal.returns-then-is_none-clause-repaired
@@ -19,3 +19,15 @@ returns-clause-repaired g c = λ base before count list list' others below is sl
     (λ taken freed. c.put.ensures.stands count base taken freed)
     (ap (λ page. unwrap_or page (base c.args.number)) (c.put.ensures.page c.args.number ∙ ap (λ b. cond b (Some c.gather.new.bytes) (held_page c.args.txn.now c.args.number)) (eq-eqb c.args.number c.args.number refl)))
     (λ p other. ap (λ page. unwrap_or page (base p)) (c.put.ensures.page p ∙ ap (λ b. cond b (Some c.gather.new.bytes) (held_page c.args.txn.now p)) (ne_eqb p c.args.number other)))
+
+pub returns-then-is_none-clause-moved : goal.returns-then-is_none-clause-moved
+returns-then-is_none-clause-moved g c =
+    let numbers = free_numbers c.args.txn.now c.free.new.txn c.args.number c.free.ensures.nothing c.free.ensures.superblock in
+    record {
+      reads = search rules;
+      over = search rules;
+      total = c.free.ensures.same_total;
+      series = numbers.0;
+      fresh = omega (arith, numbers.1);
+      held = search rules;
+    }

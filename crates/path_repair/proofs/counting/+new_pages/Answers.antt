@@ -1,11 +1,15 @@
-use Rattle.std.proofs.Common.{rules, ◌≡◌, ◌+◌, ◌-◌, ◌^◌, suc, refl, ap, arith, ◌∙◌}
+use Rattle.std.proofs.Common.{rules, ◌≡◌, ◌+◌, ◌-◌, ◌^◌, ℕ, suc, refl, sym, ap, subst, arith, ◌∙◌}
 use Rattle.page_space.specs.declared.superblock.Superblock.{Superblock}
 use Rattle.page_space.specs.Transactions.{left_by}
 use Rattle.tree_walk.proofs.StepLemmas.{error_so}
-use Rattle.path_repair.specs.Costs.{touch}
 use Rattle.path_repair.proofs.MoveLemmas.{moved_more, told_on, touch_level, child_small}
 use Rattle.path_repair.proofs.RepairLemmas.{passed_below}
 use Rattle.path_repair.proofs.SeenLemmas.{slots_count, settled_count, passed_stored, count_start, count_on, count_child, count_end, count_moved, count_room}
+use Rattle.path_repair.specs.declared.errors.RepairError.{RepairError}
+use Rattle.path_repair.specs.Damage.{IsUnfitBelow}
+use Rattle.path_repair.specs.Keeping.{look_most, count_most, root_level}
+use Rattle.path_repair.proofs.DamageLemmas.{unfit_up}
+use Rattle.path_repair.proofs.ReadLemmas.{counted_below, look_less, look_children}
 use Rattle.path_repair.proofs.counting.+new_pages.Goals as goal
 
 pub returns-then-at-eq0-clause-counts : goal.returns-then-at-eq0-clause-counts
@@ -19,9 +23,16 @@ returns-then-is_settled-clause-counts g t c = λ base list list' told lists fill
 
 pub returns-in_err-pages-clause-moved : goal.returns-in_err-pages-clause-moved
 returns-in_err-pages-clause-moved g t c =
-    let depth : (c.args.at.level - 1) + 1 ≡ c.args.at.level = omega (arith, c.if-at-eq0.false) in
-    let whole = touch_level c.args.slots.first c.args.slots.end c.args.at.height c.args.at.level (c.args.at.level - 1) c.args.at.index depth (c.if-is_settled.ensures.unsettled refl).passed in
-    moved_more 1 (touch c.args.slots.first c.args.slots.end c.args.at.height c.args.at.level c.args.at.index) 0 0 (g.P.Pages.told c.args.space.now.pages) (g.P.Pages.told c.look.new.space.pages) (g.P.Pages.view c.args.space.now.pages) (g.P.Pages.view c.look.new.space.pages) (g.P.Pages.under c.args.space.now.pages) (g.P.Pages.under c.look.new.space.pages) c.args.space.now.superblock c.look.new.space.superblock c.args.txn.now c.args.txn.now (omega (arith, whole)) (omega arith) c.look.ensures.moved
+    let is : c.args.at.level ≡ suc (c.args.at.level - 1) = omega (arith, c.if-at-eq0.false) in
+    let less = look_less c.args.slots.first c.args.slots.end c.args.at.height c.args.at.level (c.args.at.level - 1) c.args.at.index c.args.page is (c.if-is_settled.ensures.unsettled refl).passed in
+    moved_more (look_most c.args.at.height c.args.at.level c.args.at.index c.args.page) (count_most c.args.page c.args.slots.first c.args.slots.end c.args.at.height c.args.at.level c.args.at.index) 0 0 (g.P.Pages.told c.args.space.now.pages) (g.P.Pages.told c.look.new.space.pages) (g.P.Pages.view c.args.space.now.pages) (g.P.Pages.view c.look.new.space.pages) (g.P.Pages.under c.args.space.now.pages) (g.P.Pages.under c.look.new.space.pages) c.args.space.now.superblock c.look.new.space.superblock c.args.txn.now c.args.txn.now less (omega arith) c.look.ensures.moved
+
+pub returns-in_err-pages-clause-unfit : goal.returns-in_err-pages-clause-unfit
+returns-in_err-pages-clause-unfit g t c = λ base told.
+    let is : c.args.at.level ≡ suc (c.args.at.level - 1) = omega (arith, c.if-at-eq0.false) in
+    let U : RepairError → Type 0 = λ e. IsUnfitBelow (left_by c.args.txn.now base) c.args.txn.now.superblock.fresh c.args.space.now.superblock.total (root_level c.args.at.height c.args.at.level c.args.at.index) c.args.page e in
+    error_so _ U c.from_residual.result c.from_residual.ensures.1
+    (λ e same. subst U (sym same) (c.in_err-pages.ensures.unfit base (c.args.at.level - 1) told is))
 
 pub returns-in_err-pages-clause-only_faults : goal.returns-in_err-pages-clause-only_faults
 returns-in_err-pages-clause-only_faults g t c = λ base list list' told lists fills rooted.
@@ -49,7 +60,7 @@ new_pages-requires g t c κs within =
             (
               child_small c.args.at.level c.child.result.level c.args.at.index c.loop-child.child c.child.result.index (2 ^ 35) c.child.ensures.level c.child.ensures.index c.loop-child-test.true c.requires.small,
               (
-                omega (arith, c.child_page-below.ensures, c.in_ok-pages.ensures.form.below c.loop-child.child c.loop-child-test.true, ap (λ (s : Superblock). s.total) way.moved.over.superblock),
+                omega (arith, c.child_of-below.ensures, c.in_ok-pages.ensures.form.below c.loop-child.child c.loop-child-test.true, ap (λ (s : Superblock). s.total) way.moved.over.superblock),
                 omega (arith, count_room c.args.slots.first c.args.slots.end c.args.at.height c.args.at.level (c.args.at.level - 1) c.args.at.index c.loop-child.child c.child.result.height c.child.result.level c.child.result.index c.loop-child-test.true c.child.ensures.height child_level c.child.ensures.index whole c.requires.room),
               ),
             ),
@@ -60,10 +71,27 @@ new_pages-requires g t c κs within =
 
 pub returns-in_err-more-clause-moved : goal.returns-in_err-more-clause-moved
 returns-in_err-more-clause-moved g t c =
-    let depth : (c.args.at.level - 1) + 1 ≡ c.args.at.level = omega (arith, c.if-at-eq0.false) in
-    let whole = touch_level c.args.slots.first c.args.slots.end c.args.at.height c.args.at.level (c.args.at.level - 1) c.args.at.index depth (c.if-is_settled.ensures.unsettled refl).passed in
+    let is : c.args.at.level ≡ suc (c.args.at.level - 1) = omega (arith, c.if-at-eq0.false) in
     let child_level : c.child.result.level ≡ c.args.at.level - 1 = omega (arith, c.child.ensures.level) in
-    count_moved (g.P.Pages.told c.args.space.now.pages) (g.P.Pages.told c.loop-child.space.pages) (g.P.Pages.told c.new_pages.new.space.pages) (g.P.Pages.view c.args.space.now.pages) (g.P.Pages.view c.loop-child.space.pages) (g.P.Pages.view c.new_pages.new.space.pages) (g.P.Pages.under c.args.space.now.pages) (g.P.Pages.under c.loop-child.space.pages) (g.P.Pages.under c.new_pages.new.space.pages) c.args.space.now.superblock c.loop-child.space.superblock c.new_pages.new.space.superblock c.args.txn.now c.args.slots.first c.args.slots.end c.args.values.now c.args.at.height c.args.at.level (c.args.at.level - 1) c.args.at.index c.args.page c.look.new.bytes c.in_ok-pages.pages c.loop-child.pages c.loop-child.child c.child.result.height c.child.result.level c.child.result.index c.loop-child.invariant c.loop-child-test.true c.child.ensures.height child_level c.child.ensures.index c.new_pages.ensures.moved whole
+    let most = look_children c.args.slots.first c.args.slots.end c.args.at.height c.args.at.level (c.args.at.level - 1) c.args.at.index c.args.page c.look.new.bytes is (c.if-is_settled.ensures.unsettled refl).passed c.in_ok-pages.ensures.opened in
+    count_moved (g.P.Pages.told c.args.space.now.pages) (g.P.Pages.told c.loop-child.space.pages) (g.P.Pages.told c.new_pages.new.space.pages) (g.P.Pages.view c.args.space.now.pages) (g.P.Pages.view c.loop-child.space.pages) (g.P.Pages.view c.new_pages.new.space.pages) (g.P.Pages.under c.args.space.now.pages) (g.P.Pages.under c.loop-child.space.pages) (g.P.Pages.under c.new_pages.new.space.pages) c.args.space.now.superblock c.loop-child.space.superblock c.new_pages.new.space.superblock c.args.txn.now c.args.slots.first c.args.slots.end c.args.values.now c.args.at.height c.args.at.level (c.args.at.level - 1) c.args.at.index c.args.page c.look.new.bytes c.in_ok-pages.pages c.loop-child.pages c.loop-child.child c.child.result.height c.child.result.level c.child.result.index c.child_of-below.result
+    c.loop-child.invariant c.loop-child-test.true c.child.ensures.height child_level c.child.ensures.index c.child_of-below.ensures c.new_pages.ensures.moved most
+
+pub returns-in_err-more-clause-unfit : goal.returns-in_err-more-clause-unfit
+returns-in_err-more-clause-unfit g t c = λ base told.
+    let is : c.args.at.level ≡ suc (c.args.at.level - 1) = omega (arith, c.if-at-eq0.false) in
+    let child_level : c.child.result.level ≡ c.args.at.level - 1 = omega (arith, c.child.ensures.level) in
+    let way = c.loop-child.invariant in
+    let image = left_by c.args.txn.now base in
+    let total_is : c.loop-child.space.superblock.total ≡ c.args.space.now.superblock.total = ap (λ (s : Superblock). s.total) way.moved.over.superblock in
+    let T : ℕ → Type 0 = λ n. IsUnfitBelow image c.args.txn.now.superblock.fresh n (root_level c.child.result.height c.child.result.level c.child.result.index) c.child_of-below.result c.in_err-more.field-0.0 in
+    let U : RepairError → Type 0 = λ e. IsUnfitBelow image c.args.txn.now.superblock.fresh c.args.space.now.superblock.total (root_level c.args.at.height c.args.at.level c.args.at.index) c.args.page e in
+    error_so _ U c.from_residual-in_err-more.result c.from_residual-in_err-more.ensures.1
+    (λ e same. subst U (sym same)
+    (unfit_up image c.args.txn.now.superblock.fresh c.args.space.now.superblock.total c.args.at.height c.args.at.level (c.args.at.level - 1) c.args.at.index c.loop-child.child c.child.result.height c.child.result.level c.child.result.index c.args.page c.child_of-below.result c.look.new.bytes c.in_err-more.field-0.0 is c.loop-child-test.true c.child.ensures.height child_level c.child.ensures.index c.child_of-below.ensures
+    c.in_ok-pages.ensures.opened (c.in_ok-pages.ensures.as_told base told)
+    (subst T total_is (c.in_err-more.ensures.unfit base
+    (told_on (look_most c.args.at.height c.args.at.level c.args.at.index c.args.page + counted_below c.look.new.bytes c.args.slots.first c.args.slots.end c.args.at.height (c.args.at.level - 1) c.args.at.index c.loop-child.child) (g.P.Pages.told c.args.space.now.pages) (g.P.Pages.told c.loop-child.space.pages) (g.P.Pages.view c.args.space.now.pages) (g.P.Pages.view c.loop-child.space.pages) base way.moved.reads told)))))
 
 pub returns-in_err-more-clause-only_faults : goal.returns-in_err-more-clause-only_faults
 returns-in_err-more-clause-only_faults g t c = λ base list list' told lists fills rooted.
@@ -72,25 +100,25 @@ returns-in_err-more-clause-only_faults g t c = λ base list list' told lists fil
     let way = c.loop-child.invariant in
     error_so _ _ c.from_residual-in_err-more.result c.from_residual-in_err-more.ensures.1
     (λ e same. same ∙ c.in_err-more.ensures.only_faults base list list'
-    (told_on (1 + passed_below c.args.slots.first c.args.slots.end c.args.at.height (c.args.at.level - 1) c.args.at.index c.loop-child.child) (g.P.Pages.told c.args.space.now.pages) (g.P.Pages.told c.loop-child.space.pages) (g.P.Pages.view c.args.space.now.pages) (g.P.Pages.view c.loop-child.space.pages) base way.moved.reads told) lists fills
-    (count_child (g.P.Pages.told c.args.space.now.pages) (g.P.Pages.told c.loop-child.space.pages) (g.P.Pages.view c.args.space.now.pages) (g.P.Pages.view c.loop-child.space.pages) (g.P.Pages.under c.args.space.now.pages) (g.P.Pages.under c.loop-child.space.pages) c.args.space.now.superblock c.loop-child.space.superblock c.args.txn.now c.args.slots.first c.args.slots.end c.args.values.now c.args.at.height c.args.at.level (c.args.at.level - 1) c.args.at.index c.args.page c.look.new.bytes c.in_ok-pages.pages c.loop-child.pages c.loop-child.child c.child.result.height c.child.result.level c.child.result.index c.child_page-below.result way c.loop-child-test.true c.child.ensures.height child_level c.child.ensures.index c.child_page-below.ensures base list (c.in_ok-pages.ensures.seen base list (c.args.at.level - 1) told is rooted)))
+    (told_on (look_most c.args.at.height c.args.at.level c.args.at.index c.args.page + counted_below c.look.new.bytes c.args.slots.first c.args.slots.end c.args.at.height (c.args.at.level - 1) c.args.at.index c.loop-child.child) (g.P.Pages.told c.args.space.now.pages) (g.P.Pages.told c.loop-child.space.pages) (g.P.Pages.view c.args.space.now.pages) (g.P.Pages.view c.loop-child.space.pages) base way.moved.reads told) lists fills
+    (count_child (g.P.Pages.told c.args.space.now.pages) (g.P.Pages.told c.loop-child.space.pages) (g.P.Pages.view c.args.space.now.pages) (g.P.Pages.view c.loop-child.space.pages) (g.P.Pages.under c.args.space.now.pages) (g.P.Pages.under c.loop-child.space.pages) c.args.space.now.superblock c.loop-child.space.superblock c.args.txn.now c.args.slots.first c.args.slots.end c.args.values.now c.args.at.height c.args.at.level (c.args.at.level - 1) c.args.at.index c.args.page c.look.new.bytes c.in_ok-pages.pages c.loop-child.pages c.loop-child.child c.child.result.height c.child.result.level c.child.result.index c.child_of-below.result way c.loop-child-test.true c.child.ensures.height child_level c.child.ensures.index c.child_of-below.ensures base list (c.in_ok-pages.ensures.seen base list (c.args.at.level - 1) told is rooted)))
 
 pub loop-child-preserved : goal.loop-child-preserved
 loop-child-preserved g t c =
     let is : c.args.at.level ≡ suc (c.args.at.level - 1) = omega (arith, c.if-at-eq0.false) in
     let child_level : c.child.result.level ≡ c.args.at.level - 1 = omega (arith, c.child.ensures.level) in
-    count_on (g.P.Pages.told c.args.space.now.pages) (g.P.Pages.told c.loop-child.space.pages) (g.P.Pages.told c.new_pages.new.space.pages) (g.P.Pages.view c.args.space.now.pages) (g.P.Pages.view c.loop-child.space.pages) (g.P.Pages.view c.new_pages.new.space.pages) (g.P.Pages.under c.args.space.now.pages) (g.P.Pages.under c.loop-child.space.pages) (g.P.Pages.under c.new_pages.new.space.pages) c.args.space.now.superblock c.loop-child.space.superblock c.new_pages.new.space.superblock c.args.txn.now c.args.slots.first c.args.slots.end c.args.values.now c.args.at.height c.args.at.level (c.args.at.level - 1) c.args.at.index c.args.page c.look.new.bytes c.in_ok-pages.pages c.loop-child.pages c.in_ok-more.more c.loop-child.child c.child.result.height c.child.result.level c.child.result.index c.child_page-below.result
-    c.loop-child.invariant c.loop-child-test.true c.child.ensures.height child_level c.child.ensures.index c.child_page-below.ensures c.new_pages.ensures.moved c.in_ok-more.ensures.few
+    count_on (g.P.Pages.told c.args.space.now.pages) (g.P.Pages.told c.loop-child.space.pages) (g.P.Pages.told c.new_pages.new.space.pages) (g.P.Pages.view c.args.space.now.pages) (g.P.Pages.view c.loop-child.space.pages) (g.P.Pages.view c.new_pages.new.space.pages) (g.P.Pages.under c.args.space.now.pages) (g.P.Pages.under c.loop-child.space.pages) (g.P.Pages.under c.new_pages.new.space.pages) c.args.space.now.superblock c.loop-child.space.superblock c.new_pages.new.space.superblock c.args.txn.now c.args.slots.first c.args.slots.end c.args.values.now c.args.at.height c.args.at.level (c.args.at.level - 1) c.args.at.index c.args.page c.look.new.bytes c.in_ok-pages.pages c.loop-child.pages c.in_ok-more.more c.loop-child.child c.child.result.height c.child.result.level c.child.result.index c.child_of-below.result
+    c.loop-child.invariant c.loop-child-test.true c.child.ensures.height child_level c.child.ensures.index c.child_of-below.ensures c.new_pages.ensures.moved c.in_ok-more.ensures.few
     (λ base list list' told lists fills rooted. c.in_ok-more.ensures.counts base list list' told lists fills rooted)
     (λ base list told rooted. c.in_ok-pages.ensures.seen base list (c.args.at.level - 1) told is rooted)
 
 pub returns-clause-moved : goal.returns-clause-moved
 returns-clause-moved g t c =
-    let depth : (c.args.at.level - 1) + 1 ≡ c.args.at.level = omega (arith, c.if-at-eq0.false) in
-    let whole = touch_level c.args.slots.first c.args.slots.end c.args.at.height c.args.at.level (c.args.at.level - 1) c.args.at.index depth (c.if-is_settled.ensures.unsettled refl).passed in
+    let is : c.args.at.level ≡ suc (c.args.at.level - 1) = omega (arith, c.if-at-eq0.false) in
     let end : c.loop-child.child ≡ 128 = omega (arith, c.loop-child-test.false, c.loop-child.auto.child-end) in
-    moved_more (1 + passed_below c.args.slots.first c.args.slots.end c.args.at.height (c.args.at.level - 1) c.args.at.index c.loop-child.child) (touch c.args.slots.first c.args.slots.end c.args.at.height c.args.at.level c.args.at.index) 0 0 (g.P.Pages.told c.args.space.now.pages) (g.P.Pages.told c.loop-child.space.pages) (g.P.Pages.view c.args.space.now.pages) (g.P.Pages.view c.loop-child.space.pages) (g.P.Pages.under c.args.space.now.pages) (g.P.Pages.under c.loop-child.space.pages) c.args.space.now.superblock c.loop-child.space.superblock c.args.txn.now c.args.txn.now
-    (omega (arith, whole, ap (λ n. passed_below c.args.slots.first c.args.slots.end c.args.at.height (c.args.at.level - 1) c.args.at.index n) end)) (omega arith) c.loop-child.invariant.moved
+    let most = look_children c.args.slots.first c.args.slots.end c.args.at.height c.args.at.level (c.args.at.level - 1) c.args.at.index c.args.page c.look.new.bytes is (c.if-is_settled.ensures.unsettled refl).passed c.in_ok-pages.ensures.opened in
+    moved_more (look_most c.args.at.height c.args.at.level c.args.at.index c.args.page + counted_below c.look.new.bytes c.args.slots.first c.args.slots.end c.args.at.height (c.args.at.level - 1) c.args.at.index c.loop-child.child) (count_most c.args.page c.args.slots.first c.args.slots.end c.args.at.height c.args.at.level c.args.at.index) 0 0 (g.P.Pages.told c.args.space.now.pages) (g.P.Pages.told c.loop-child.space.pages) (g.P.Pages.view c.args.space.now.pages) (g.P.Pages.view c.loop-child.space.pages) (g.P.Pages.under c.args.space.now.pages) (g.P.Pages.under c.loop-child.space.pages) c.args.space.now.superblock c.loop-child.space.superblock c.args.txn.now c.args.txn.now
+    (omega (arith, most, ap (λ n. counted_below c.look.new.bytes c.args.slots.first c.args.slots.end c.args.at.height (c.args.at.level - 1) c.args.at.index n) end)) (omega arith) c.loop-child.invariant.moved
 
 pub returns-clause-few : goal.returns-clause-few
 returns-clause-few g t c =

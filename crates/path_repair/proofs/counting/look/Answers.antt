@@ -1,9 +1,15 @@
-use Rattle.std.proofs.Common.{◌≡◌, ◌⊎◌, true, sym, arith, inl, inr, ◌∙◌}
+use Rattle.std.proofs.Common.{◌≡◌, ◌⊎◌, true, sym, subst, arith, inl, inr, ◌∙◌}
 use Rattle.page_space.specs.Transactions.{left_by}
 use Rattle.tree_walk.proofs.StepLemmas.{error_so}
 use Rattle.path_repair.specs.Costs.{is_new_root}
 use Rattle.path_repair.proofs.SeenLemmas.{sound_at, seen_read, seen_new}
 use Rattle.path_repair.proofs.counting.look.Goals.{else-page-ne0-via-then-page-ne0+else-not-is_new_root, else-page-ne0-via-else-page-ne0}
+use Rattle.path_repair.specs.declared.errors.RepairError.{RepairError}
+use Rattle.path_repair.specs.Damage.{IsUnfitBelow}
+use Rattle.path_repair.specs.Keeping.{look_most, root_level}
+use Rattle.path_repair.proofs.MoveLemmas.{moved_more}
+use Rattle.path_repair.proofs.DamageLemmas.{unfit_here}
+use Rattle.path_repair.proofs.ReadLemmas.{look_page}
 use Rattle.path_repair.proofs.counting.look.Goals as goal
 
 pub returns-in_err-read_bytes-clause-only_faults : goal.returns-in_err-read_bytes-clause-only_faults
@@ -23,3 +29,22 @@ returns-clause-seen g c = λ base list below told is rooted.
       | else-page-ne0-via-else-page-ne0 w ↦ inl w.if-page-ne0.false
     ] in
     seen_new (left_by c.args.txn.now base) c.args.space.now.superblock.total list c.args.at.height c.args.at.level below c.args.at.index c.args.page c.start_bytes.new.bytes is new rooted c.start_bytes.ensures.first c.start_bytes.ensures.none
+
+pub returns-in_err-read_bytes-clause-moved : goal.returns-in_err-read_bytes-clause-moved
+returns-in_err-read_bytes-clause-moved g c =
+    let one = look_page c.args.at.height c.args.at.level c.args.at.index c.args.page c.if-page-ne0.true (sym c.if-not-is_new_root.ensures) in
+    moved_more 1 (look_most c.args.at.height c.args.at.level c.args.at.index c.args.page) 0 0 (g.P.Pages.told c.args.space.now.pages) (g.P.Pages.told c.read_bytes.new.space.pages) (g.P.Pages.view c.args.space.now.pages) (g.P.Pages.view c.read_bytes.new.space.pages) (g.P.Pages.under c.args.space.now.pages) (g.P.Pages.under c.read_bytes.new.space.pages) c.args.space.now.superblock c.read_bytes.new.space.superblock c.args.txn.now c.args.txn.now (omega (arith, one)) (omega arith) c.read_bytes.ensures.moved
+
+pub returns-then-not-is_new_root-clause-moved : goal.returns-then-not-is_new_root-clause-moved
+returns-then-not-is_new_root-clause-moved g c =
+    let one = look_page c.args.at.height c.args.at.level c.args.at.index c.args.page c.if-page-ne0.true (sym c.if-not-is_new_root.ensures) in
+    moved_more 1 (look_most c.args.at.height c.args.at.level c.args.at.index c.args.page) 0 0 (g.P.Pages.told c.args.space.now.pages) (g.P.Pages.told c.read_bytes.new.space.pages) (g.P.Pages.view c.args.space.now.pages) (g.P.Pages.view c.read_bytes.new.space.pages) (g.P.Pages.under c.args.space.now.pages) (g.P.Pages.under c.read_bytes.new.space.pages) c.args.space.now.superblock c.read_bytes.new.space.superblock c.args.txn.now c.args.txn.now (omega (arith, one)) (omega arith) c.read_bytes.ensures.moved
+
+pub returns-in_err-read_bytes-clause-unfit : goal.returns-in_err-read_bytes-clause-unfit
+returns-in_err-read_bytes-clause-unfit g c = λ base below told is.
+    let U : RepairError → Type 0 = λ e. IsUnfitBelow (left_by c.args.txn.now base) c.args.txn.now.superblock.fresh c.args.space.now.superblock.total (root_level c.args.at.height c.args.at.level c.args.at.index) c.args.page e in
+    error_so _ U c.from_residual.result c.from_residual.ensures.1
+    (λ e same. subst U (sym same) (unfit_here (left_by c.args.txn.now base) c.args.txn.now.superblock.fresh c.args.space.now.superblock.total c.args.at.height c.args.at.level below c.args.at.index c.args.page c.in_err-read_bytes.field-0.0 is c.if-page-ne0.true (sym c.if-not-is_new_root.ensures) (c.in_err-read_bytes.ensures.unfit base told)))
+
+pub returns-then-not-is_new_root-clause-as_told : goal.returns-then-not-is_new_root-clause-as_told
+returns-then-not-is_new_root-clause-as_told g c = λ base told some old. c.in_ok-read_bytes.ensures.bytes base told

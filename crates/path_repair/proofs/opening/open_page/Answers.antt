@@ -1,4 +1,4 @@
-use Rattle.std.proofs.Common.{◌≡◌, ◌⊎◌, ◌+◌, ◌++◌, true, sym, arith, inl, inr, ◌∙◌}
+use Rattle.std.proofs.Common.{◌≡◌, ◌⊎◌, ◌+◌, ◌++◌, true, sym, subst, arith, inl, inr, ◌∙◌}
 use Rattle.page_space.specs.Transactions.{left_by}
 use Rattle.page_spans.specs.Heaps.{span_at}
 use Rattle.path_repair.specs.TreePages.{tree_pages, low}
@@ -6,6 +6,10 @@ use Rattle.tree_walk.proofs.StepLemmas.{error_so}
 use Rattle.path_repair.specs.Costs.{is_new_root}
 use Rattle.path_repair.proofs.OpenLemmas.{open_read_at, open_new_at, readable_at, room_at}
 use Rattle.path_repair.proofs.opening.open_page.Goals.{else-root-ne0-via-then-root-ne0+else-not-is_new_root, else-root-ne0-via-else-root-ne0}
+use Rattle.path_repair.specs.declared.errors.RepairError.{RepairError}
+use Rattle.path_repair.specs.Damage.{IsDamage}
+use Rattle.path_repair.specs.Keeping.{root_level}
+use Rattle.path_repair.proofs.DamageLemmas.{damage_here}
 use Rattle.path_repair.proofs.opening.open_page.Goals as goal
 
 pub returns-in_err-read_page-clause-only_faults : goal.returns-in_err-read_page-clause-only_faults
@@ -39,3 +43,14 @@ returns-clause-part g c = λ base count list list' others below told is slots pl
     open_new_at count (left_by c.args.txn.now base) (left_by c.take.new.txn base) c.args.txn.now.superblock c.take.new.txn.superblock list list' c.args.at.height c.args.at.level below c.args.at.index c.args.root.page c.in_ok-number.number c.args.root.span (λ child. span_at c.start.new.spans (127 + child)) others c.start.new.bytes
     is placed new gives c.take.ensures.moved.total (c.in_ok-number.ensures.taken base count (tree_pages (left_by c.args.txn.now base) (low c.args.at.height c.args.at.level) c.args.root.page ++ others) placed.freed told placed.stands)
     c.start.ensures.first c.start.ensures.none c.start.ensures.top c.start.ensures.no_tops
+
+pub returns-in_err-read_page-clause-damaged : goal.returns-in_err-read_page-clause-damaged
+returns-in_err-read_page-clause-damaged g c = λ base below told is.
+    let image = left_by c.args.txn.now base in
+    let s = c.args.txn.now.superblock in
+    let D : RepairError → Type 0 = λ e. IsDamage image s.fresh s (root_level c.args.at.height c.args.at.level c.args.at.index) c.args.root.page c.args.root.span e in
+    error_so _ D c.from_residual.result c.from_residual.ensures.1
+    (λ e same. subst D (sym same) (damage_here image s.fresh s c.args.at.height c.args.at.level below c.args.at.index c.args.root.page c.args.space.now.superblock.total c.args.root.span c.in_err-read_page.field-0.0 is (sym c.requires.total) c.if-root-ne0.true (sym c.if-not-is_new_root.ensures) (c.in_err-read_page.ensures.bad base told)))
+
+pub returns-clause-own : goal.returns-clause-own
+returns-clause-own g c = λ base told. c.in_ok-number.ensures.own base c.args.at.level told

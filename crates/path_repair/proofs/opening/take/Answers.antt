@@ -6,6 +6,8 @@ use Rattle.page_space.proofs.Spacing.{stands_counts}
 use Rattle.page_space.specs.Causes.{Refuses}
 use Rattle.page_space.specs.declared.errors.SpaceError.{SpaceError}
 use Rattle.page_space.specs.declared.errors.SpaceError.TheVariants.{Full}
+use Rattle.path_repair.specs.Keeping.{IsOwn}
+use Rattle.path_repair.proofs.KeepLemmas.{taken_own}
 use Rattle.path_repair.proofs.opening.take.Goals as goal
 
 pub returns-in-Ok-clause-taken : goal.returns-in-Ok-clause-taken
@@ -29,3 +31,8 @@ pub returns-in-Err-Damaged-clause-sound : goal.returns-in-Err-Damaged-clause-sou
 returns-in-Err-Damaged-clause-sound g c = λ base count used freed told stands room.
     let before : Image → Type 0 = λ image. Stands count (left_by c.args.txn.now image) c.args.txn.now.superblock used freed in
     absurd (c.in-Err-Damaged.ensures.undamaged told.are_told count c.in-Err-Damaged.page used freed (subst before (sym told.are) stands) c.in-Err-Damaged.field-0-is)
+
+pub returns-in-Ok-clause-own : goal.returns-in-Ok-clause-own
+returns-in-Ok-clause-own g c = λ base level told.
+    let P : Image → Type 0 = λ image. IsOwn (left_by c.args.txn.now image) c.args.txn.now.superblock.fresh level c.in-Ok.page in
+    subst P told.are (taken_own (g.P.Pages.told c.args.space.now.pages) (left_by c.args.txn.now (g.P.Pages.view c.args.space.now.pages).image) c.args.txn.now.superblock c.alloc.new.txn.superblock level c.in-Ok.page told.are_told c.in-Ok.ensures.takes c.in-Ok.ensures.given)

@@ -1,4 +1,4 @@
-use Rattle.std.proofs.Common.{rules, ◌≡◌, ◌<◌, ◌+◌, ◌-◌, ◌^◌, ◌++◌, ◌∷◌, ℕ, suc, refl, ap, subst, arith, ◌∙◌}
+use Rattle.std.proofs.Common.{rules, ◌≡◌, ◌<◌, ◌+◌, ◌-◌, ◌^◌, ◌++◌, ◌∷◌, ℕ, suc, refl, sym, ap, subst, arith, ◌∙◌}
 use Rattle.page_space.specs.declared.superblock.Superblock.{Superblock}
 use Rattle.page_space.specs.Transactions.{left_by}
 use Rattle.page_spans.specs.Heaps.{span_at}
@@ -9,6 +9,11 @@ use Rattle.path_repair.proofs.StayLemmas.{settled_at, slot_repaired_at}
 use Rattle.path_repair.proofs.MoveLemmas.{moved_more, told_on, touch_level, child_small}
 use Rattle.path_repair.proofs.PartLemmas.{rest}
 use Rattle.path_repair.proofs.RepairLemmas.{way_start, way_child, way_on, way_moved, way_room, way_end, way_last, gives, passed_below}
+use Rattle.path_repair.specs.declared.errors.RepairError.{RepairError}
+use Rattle.path_repair.specs.Damage.{IsDamage}
+use Rattle.path_repair.specs.Keeping.{root_level}
+use Rattle.path_repair.proofs.KeepLemmas.{spares_up}
+use Rattle.path_repair.proofs.SpareLemmas.{first_spares, none_spares, spare_start, spare_child, spare_on, spare_damage, spare_end, new_root}
 use Rattle.path_repair.proofs.repairing.+repair.Goals as goal
 
 pub returns-then-at-eq0-clause-repaired : goal.returns-then-at-eq0-clause-repaired
@@ -37,17 +42,19 @@ returns-in_err-number-clause-only_faults g t c = λ base count list list' others
 
 pub loop-child-init : goal.loop-child-init
 loop-child-init g t c =
-    let is : c.args.at.level ≡ suc (c.args.at.level - 1) = omega (arith, c.if-at-eq0.false) in
-    way_start (g.P.Pages.told c.args.space.now.pages) (g.P.Pages.told c.open_page.new.space.pages) (g.P.Pages.view c.args.space.now.pages) (g.P.Pages.view c.open_page.new.space.pages) (g.P.Pages.under c.args.space.now.pages) (g.P.Pages.under c.open_page.new.space.pages) c.args.space.now.superblock c.open_page.new.space.superblock c.args.txn.now c.open_page.new.txn c.args.slots.first c.args.slots.end c.args.values.now c.args.at.height c.args.at.level (c.args.at.level - 1) c.args.at.index c.args.root.page c.args.root.span c.in_ok-number.number c.open_page.new.bytes (span_at c.open_page.new.spans)
-    c.open_page.ensures.moved c.in_ok-number.ensures.form
-    (λ base count list list' others told lists placed. c.in_ok-number.ensures.part base count list list' others (c.args.at.level - 1) told is lists.old_values placed (λ none. gives c.args.slots.first c.args.slots.end c.args.values.now list list' c.args.at.level c.args.at.index lists ((c.if-is_settled.ensures.unsettled refl).something none)))
+    let is : c.args.at.level ≡ suc (c.args.at.level - 1) = omega (arith, c.if-at-eq0.false) in (
+      way_start (g.P.Pages.told c.args.space.now.pages) (g.P.Pages.told c.open_page.new.space.pages) (g.P.Pages.view c.args.space.now.pages) (g.P.Pages.view c.open_page.new.space.pages) (g.P.Pages.under c.args.space.now.pages) (g.P.Pages.under c.open_page.new.space.pages) c.args.space.now.superblock c.open_page.new.space.superblock c.args.txn.now c.open_page.new.txn c.args.slots.first c.args.slots.end c.args.values.now c.args.at.height c.args.at.level (c.args.at.level - 1) c.args.at.index c.args.root.page c.args.root.span c.in_ok-number.number c.open_page.new.bytes (span_at c.open_page.new.spans)
+          c.open_page.ensures.moved c.in_ok-number.ensures.form
+          (λ base count list list' others told lists placed. c.in_ok-number.ensures.part base count list list' others (c.args.at.level - 1) told is lists.old_values placed (λ none. gives c.args.slots.first c.args.slots.end c.args.values.now list list' c.args.at.level c.args.at.index lists ((c.if-is_settled.ensures.unsettled refl).something none))),
+      spare_start (g.P.Pages.told c.args.space.now.pages) (g.P.Pages.view c.args.space.now.pages) c.args.txn.now c.open_page.new.txn (c.args.at.level - 1) c.open_page.new.bytes (span_at c.open_page.new.spans) c.open_page.ensures.first,
+    )
 
 pub repair-requires : goal.repair-requires
 repair-requires g t c κs within =
     let depth : (c.args.at.level - 1) + 1 ≡ c.args.at.level = omega (arith, c.if-at-eq0.false) in
     let whole = touch_level c.args.slots.first c.args.slots.end c.args.at.height c.args.at.level (c.args.at.level - 1) c.args.at.index depth (c.if-is_settled.ensures.unsettled refl).passed in
     let child_level : c.child.result.level ≡ c.args.at.level - 1 = omega (arith, c.child.ensures.level) in
-    let way = c.loop-child.invariant in (
+    let way = c.loop-child.invariant.0 in (
       omega (arith, c.child.ensures.level),
       (
         search rules,
@@ -83,12 +90,12 @@ returns-in_err-next-clause-moved g t c =
     let whole = touch_level c.args.slots.first c.args.slots.end c.args.at.height c.args.at.level (c.args.at.level - 1) c.args.at.index depth (c.if-is_settled.ensures.unsettled refl).passed in
     let child_level : c.child.result.level ≡ c.args.at.level - 1 = omega (arith, c.child.ensures.level) in
     way_moved (g.P.Pages.told c.args.space.now.pages) (g.P.Pages.told c.loop-child.space.pages) (g.P.Pages.told c.repair.new.space.pages) (g.P.Pages.view c.args.space.now.pages) (g.P.Pages.view c.loop-child.space.pages) (g.P.Pages.view c.repair.new.space.pages) (g.P.Pages.under c.args.space.now.pages) (g.P.Pages.under c.loop-child.space.pages) (g.P.Pages.under c.repair.new.space.pages) c.args.space.now.superblock c.loop-child.space.superblock c.repair.new.space.superblock c.args.txn.now c.loop-child.txn c.repair.new.txn c.args.slots.first c.args.slots.end c.args.values.now c.args.at.height c.args.at.level (c.args.at.level - 1) c.args.at.index c.args.root.page c.args.root.span c.in_ok-number.number c.loop-child.bytes (span_at c.loop-child.spans) c.loop-child.child c.child.result.height c.child.result.level c.child.result.index
-    c.loop-child.invariant c.loop-child-test.true c.child.ensures.height child_level c.child.ensures.index c.repair.ensures.moved whole
+    c.loop-child.invariant.0 c.loop-child-test.true c.child.ensures.height child_level c.child.ensures.index c.repair.ensures.moved whole
 
 pub returns-in_err-next-clause-only_faults : goal.returns-in_err-next-clause-only_faults
 returns-in_err-next-clause-only_faults g t c = λ base count list list' others told lists placed.
     let child_level : c.child.result.level ≡ c.args.at.level - 1 = omega (arith, c.child.ensures.level) in
-    let way = c.loop-child.invariant in
+    let way = c.loop-child.invariant.0 in
     error_so _ _ c.from_residual-in_err-next.result c.from_residual-in_err-next.ensures.1
     (λ e same. same ∙ c.in_err-next.ensures.only_faults base count list list' (c.in_ok-number.number ∷ (rest (left_by c.loop-child.txn base) c.args.at.height (c.args.at.level - 1) c.loop-child.bytes c.loop-child.child ++ others))
     (told_on (1 + passed_below c.args.slots.first c.args.slots.end c.args.at.height (c.args.at.level - 1) c.args.at.index c.loop-child.child) (g.P.Pages.told c.args.space.now.pages) (g.P.Pages.told c.loop-child.space.pages) (g.P.Pages.view c.args.space.now.pages) (g.P.Pages.view c.loop-child.space.pages) base way.moved.reads told) lists
@@ -97,28 +104,78 @@ returns-in_err-next-clause-only_faults g t c = λ base count list list' others t
 
 pub loop-child-preserved : goal.loop-child-preserved
 loop-child-preserved g t c =
-    let child_level : c.child.result.level ≡ c.args.at.level - 1 = omega (arith, c.child.ensures.level) in
-    way_on (g.P.Pages.told c.args.space.now.pages) (g.P.Pages.told c.loop-child.space.pages) (g.P.Pages.told c.repair.new.space.pages) (g.P.Pages.view c.args.space.now.pages) (g.P.Pages.view c.loop-child.space.pages) (g.P.Pages.view c.repair.new.space.pages) (g.P.Pages.under c.args.space.now.pages) (g.P.Pages.under c.loop-child.space.pages) (g.P.Pages.under c.repair.new.space.pages) c.args.space.now.superblock c.loop-child.space.superblock c.repair.new.space.superblock c.args.txn.now c.loop-child.txn c.repair.new.txn c.args.slots.first c.args.slots.end c.args.values.now c.args.at.height c.args.at.level (c.args.at.level - 1) c.args.at.index c.args.root.page c.args.root.span c.in_ok-number.number c.loop-child.bytes c.set_root.new.bytes (span_at c.loop-child.spans) (span_at c.set_root.new.spans) c.loop-child.child c.child.result.height c.child.result.level c.child.result.index c.child_root-old.result.page c.in_ok-next.next.page c.child_root-old.result.span c.in_ok-next.next.span
-    c.loop-child.invariant c.loop-child-test.true c.child.ensures.height child_level c.child.ensures.index c.child_root-old.ensures.page c.child_root-old.ensures.span c.repair.ensures.moved
-    (λ base count list list' others told lists placed. c.in_ok-next.ensures.repaired base count list list' others told lists placed)
-    (c.set_root.ensures.form c.args.at.level c.args.space.now.superblock.total c.loop-child.invariant.form (let page : c.in_ok-next.next.page < c.loop-child.space.superblock.total = c.in_ok-next.ensures.page in omega (arith, page, ap (λ (s : Superblock). s.total) c.loop-child.invariant.moved.over.superblock)))
-    c.set_root.ensures.page c.set_root.ensures.pages c.set_root.ensures.span c.set_root.ensures.spans
+    let child_level : c.child.result.level ≡ c.args.at.level - 1 = omega (arith, c.child.ensures.level) in (
+      way_on (g.P.Pages.told c.args.space.now.pages) (g.P.Pages.told c.loop-child.space.pages) (g.P.Pages.told c.repair.new.space.pages) (g.P.Pages.view c.args.space.now.pages) (g.P.Pages.view c.loop-child.space.pages) (g.P.Pages.view c.repair.new.space.pages) (g.P.Pages.under c.args.space.now.pages) (g.P.Pages.under c.loop-child.space.pages) (g.P.Pages.under c.repair.new.space.pages) c.args.space.now.superblock c.loop-child.space.superblock c.repair.new.space.superblock c.args.txn.now c.loop-child.txn c.repair.new.txn c.args.slots.first c.args.slots.end c.args.values.now c.args.at.height c.args.at.level (c.args.at.level - 1) c.args.at.index c.args.root.page c.args.root.span c.in_ok-number.number c.loop-child.bytes c.set_root.new.bytes (span_at c.loop-child.spans) (span_at c.set_root.new.spans) c.loop-child.child c.child.result.height c.child.result.level c.child.result.index c.child_root-old.result.page c.in_ok-next.next.page c.child_root-old.result.span c.in_ok-next.next.span
+          c.loop-child.invariant.0 c.loop-child-test.true c.child.ensures.height child_level c.child.ensures.index c.child_root-old.ensures.page c.child_root-old.ensures.span c.repair.ensures.moved
+          (λ base count list list' others told lists placed. c.in_ok-next.ensures.repaired base count list list' others told lists placed)
+          (c.set_root.ensures.form c.args.at.level c.args.space.now.superblock.total c.loop-child.invariant.0.form (let page : c.in_ok-next.next.page < c.loop-child.space.superblock.total = c.in_ok-next.ensures.page in omega (arith, page, ap (λ (s : Superblock). s.total) c.loop-child.invariant.0.moved.over.superblock)))
+          c.set_root.ensures.page c.set_root.ensures.pages c.set_root.ensures.span c.set_root.ensures.spans,
+      spare_on (g.P.Pages.told c.args.space.now.pages) (g.P.Pages.view c.args.space.now.pages) c.args.txn.now c.open_page.new.txn c.loop-child.txn c.repair.new.txn (c.args.at.level - 1) c.child.result.level c.open_page.new.bytes c.loop-child.bytes c.set_root.new.bytes (span_at c.open_page.new.spans) (span_at c.loop-child.spans) (span_at c.set_root.new.spans) c.loop-child.child c.loop-child.invariant.1 child_level c.loop-child.invariant.0.moved.fresh c.repair.ensures.moved.fresh
+          (λ base at. c.repair.ensures.spares base (told_on (1 + passed_below c.args.slots.first c.args.slots.end c.args.at.height (c.args.at.level - 1) c.args.at.index c.loop-child.child) (g.P.Pages.told c.args.space.now.pages) (g.P.Pages.told c.loop-child.space.pages) (g.P.Pages.view c.args.space.now.pages) (g.P.Pages.view c.loop-child.space.pages) base c.loop-child.invariant.0.moved.reads at))
+          c.set_root.ensures.pages c.set_root.ensures.spans,
+    )
 
 pub close_page-requires-clause-room : goal.close_page-requires-clause-room
 close_page-requires-clause-room g t c =
     let depth : (c.args.at.level - 1) + 1 ≡ c.args.at.level = omega (arith, c.if-at-eq0.false) in
     let whole = touch_level c.args.slots.first c.args.slots.end c.args.at.height c.args.at.level (c.args.at.level - 1) c.args.at.index depth (c.if-is_settled.ensures.unsettled refl).passed in
-    way_last (g.P.Pages.told c.args.space.now.pages) (g.P.Pages.told c.loop-child.space.pages) (g.P.Pages.view c.args.space.now.pages) (g.P.Pages.view c.loop-child.space.pages) (g.P.Pages.under c.args.space.now.pages) (g.P.Pages.under c.loop-child.space.pages) c.args.space.now.superblock c.loop-child.space.superblock c.args.txn.now c.loop-child.txn c.args.slots.first c.args.slots.end c.args.values.now c.args.at.height c.args.at.level (c.args.at.level - 1) c.args.at.index c.args.root.page c.args.root.span c.in_ok-number.number c.loop-child.bytes (span_at c.loop-child.spans) c.loop-child.child c.loop-child.invariant (omega (arith, c.loop-child-test.false, c.loop-child.auto.child-end)) whole c.requires.room
+    way_last (g.P.Pages.told c.args.space.now.pages) (g.P.Pages.told c.loop-child.space.pages) (g.P.Pages.view c.args.space.now.pages) (g.P.Pages.view c.loop-child.space.pages) (g.P.Pages.under c.args.space.now.pages) (g.P.Pages.under c.loop-child.space.pages) c.args.space.now.superblock c.loop-child.space.superblock c.args.txn.now c.loop-child.txn c.args.slots.first c.args.slots.end c.args.values.now c.args.at.height c.args.at.level (c.args.at.level - 1) c.args.at.index c.args.root.page c.args.root.span c.in_ok-number.number c.loop-child.bytes (span_at c.loop-child.spans) c.loop-child.child c.loop-child.invariant.0 (omega (arith, c.loop-child-test.false, c.loop-child.auto.child-end)) whole c.requires.room
 
 pub returns-clause-moved : goal.returns-clause-moved
 returns-clause-moved g t c =
     let depth : (c.args.at.level - 1) + 1 ≡ c.args.at.level = omega (arith, c.if-at-eq0.false) in
     let whole = touch_level c.args.slots.first c.args.slots.end c.args.at.height c.args.at.level (c.args.at.level - 1) c.args.at.index depth (c.if-is_settled.ensures.unsettled refl).passed in
-    way_end (g.P.Pages.told c.args.space.now.pages) (g.P.Pages.told c.loop-child.space.pages) (g.P.Pages.told c.close_page.new.space.pages) (g.P.Pages.view c.args.space.now.pages) (g.P.Pages.view c.loop-child.space.pages) (g.P.Pages.view c.close_page.new.space.pages) (g.P.Pages.under c.args.space.now.pages) (g.P.Pages.under c.loop-child.space.pages) (g.P.Pages.under c.close_page.new.space.pages) c.args.space.now.superblock c.loop-child.space.superblock c.close_page.new.space.superblock c.args.txn.now c.loop-child.txn c.close_page.new.txn c.args.slots.first c.args.slots.end c.args.values.now c.args.at.height c.args.at.level (c.args.at.level - 1) c.args.at.index c.args.root.page c.args.root.span c.in_ok-number.number c.loop-child.bytes (span_at c.loop-child.spans) c.loop-child.child c.loop-child.invariant (omega (arith, c.loop-child-test.false, c.loop-child.auto.child-end)) c.close_page.ensures.moved whole
+    way_end (g.P.Pages.told c.args.space.now.pages) (g.P.Pages.told c.loop-child.space.pages) (g.P.Pages.told c.close_page.new.space.pages) (g.P.Pages.view c.args.space.now.pages) (g.P.Pages.view c.loop-child.space.pages) (g.P.Pages.view c.close_page.new.space.pages) (g.P.Pages.under c.args.space.now.pages) (g.P.Pages.under c.loop-child.space.pages) (g.P.Pages.under c.close_page.new.space.pages) c.args.space.now.superblock c.loop-child.space.superblock c.close_page.new.space.superblock c.args.txn.now c.loop-child.txn c.close_page.new.txn c.args.slots.first c.args.slots.end c.args.values.now c.args.at.height c.args.at.level (c.args.at.level - 1) c.args.at.index c.args.root.page c.args.root.span c.in_ok-number.number c.loop-child.bytes (span_at c.loop-child.spans) c.loop-child.child c.loop-child.invariant.0 (omega (arith, c.loop-child-test.false, c.loop-child.auto.child-end)) c.close_page.ensures.moved whole
 
 pub returns-clause-repaired : goal.returns-clause-repaired
 returns-clause-repaired g t c = λ base count list list' others told lists placed.
     let is : c.args.at.level ≡ suc (c.args.at.level - 1) = omega (arith, c.if-at-eq0.false) in
     let end : c.loop-child.child ≡ 128 = omega (arith, c.loop-child-test.false, c.loop-child.auto.child-end) in
     let P : ℕ → Type 0 = λ i. IsPartWay count (left_by c.args.txn.now base) (left_by c.loop-child.txn base) c.loop-child.txn.superblock list list' c.args.at.height (c.args.at.level - 1) c.args.at.index c.in_ok-number.number c.loop-child.bytes (λ child. span_at c.loop-child.spans (127 + child)) i others in
-    c.close_page.ensures.repaired base (left_by c.args.txn.now base) count list list' others (c.args.at.level - 1) is lists.new_values (subst P end (c.loop-child.invariant.part base count list list' others told lists placed))
+    c.close_page.ensures.repaired base (left_by c.args.txn.now base) count list list' others (c.args.at.level - 1) is lists.new_values (subst P end (c.loop-child.invariant.0.part base count list list' others told lists placed))
+
+pub returns-then-at-eq0-clause-spares : goal.returns-then-at-eq0-clause-spares
+returns-then-at-eq0-clause-spares g t c = λ base at. none_spares c.args.txn.now base c.args.at.level
+
+pub returns-then-is_settled-clause-spares : goal.returns-then-is_settled-clause-spares
+returns-then-is_settled-clause-spares g t c = λ base at. none_spares c.args.txn.now base c.args.at.level
+
+pub returns-in_err-number-clause-spares : goal.returns-in_err-number-clause-spares
+returns-in_err-number-clause-spares g t c = λ base at. first_spares c.args.txn.now c.open_page.new.txn base c.args.at.level c.open_page.ensures.first
+
+pub returns-in_err-number-clause-damaged : goal.returns-in_err-number-clause-damaged
+returns-in_err-number-clause-damaged g t c = λ base at.
+    let is : c.args.at.level ≡ suc (c.args.at.level - 1) = omega (arith, c.if-at-eq0.false) in
+    let D : RepairError → Type 0 = λ e. IsDamage (left_by c.open_page.new.txn base) c.args.txn.now.superblock.fresh c.open_page.new.txn.superblock (root_level c.args.at.height c.args.at.level c.args.at.index) c.args.root.page c.args.root.span e in
+    error_so _ D c.from_residual.result c.from_residual.ensures.1
+    (λ e same. subst D (sym same) (c.in_err-number.ensures.damaged base (c.args.at.level - 1) at is))
+
+pub returns-in_err-next-clause-spares : goal.returns-in_err-next-clause-spares
+returns-in_err-next-clause-spares g t c = λ base at.
+    let child_level : c.child.result.level ≡ c.args.at.level - 1 = omega (arith, c.child.ensures.level) in
+    spares_up (c.args.at.level - 1) c.args.at.level c.args.txn.now.superblock.fresh (left_by c.args.txn.now base) (left_by c.repair.new.txn base) (omega arith)
+    (spare_child (g.P.Pages.told c.args.space.now.pages) (g.P.Pages.view c.args.space.now.pages) c.args.txn.now c.open_page.new.txn c.loop-child.txn c.repair.new.txn (c.args.at.level - 1) c.child.result.level c.open_page.new.bytes c.loop-child.bytes (span_at c.open_page.new.spans) (span_at c.loop-child.spans) c.loop-child.child c.loop-child.invariant.1 child_level c.loop-child.invariant.0.moved.fresh base at
+    (c.repair.ensures.spares base (told_on (1 + passed_below c.args.slots.first c.args.slots.end c.args.at.height (c.args.at.level - 1) c.args.at.index c.loop-child.child) (g.P.Pages.told c.args.space.now.pages) (g.P.Pages.told c.loop-child.space.pages) (g.P.Pages.view c.args.space.now.pages) (g.P.Pages.view c.loop-child.space.pages) base c.loop-child.invariant.0.moved.reads at)))
+
+pub returns-in_err-next-clause-damaged : goal.returns-in_err-next-clause-damaged
+returns-in_err-next-clause-damaged g t c = λ base at.
+    let is : c.args.at.level ≡ suc (c.args.at.level - 1) = omega (arith, c.if-at-eq0.false) in
+    let child_level : c.child.result.level ≡ c.args.at.level - 1 = omega (arith, c.child.ensures.level) in
+    let told = told_on (1 + passed_below c.args.slots.first c.args.slots.end c.args.at.height (c.args.at.level - 1) c.args.at.index c.loop-child.child) (g.P.Pages.told c.args.space.now.pages) (g.P.Pages.told c.loop-child.space.pages) (g.P.Pages.view c.args.space.now.pages) (g.P.Pages.view c.loop-child.space.pages) base c.loop-child.invariant.0.moved.reads at in
+    let D : RepairError → Type 0 = λ e. IsDamage (left_by c.repair.new.txn base) c.args.txn.now.superblock.fresh c.repair.new.txn.superblock (root_level c.args.at.height c.args.at.level c.args.at.index) c.args.root.page c.args.root.span e in
+    error_so _ D c.from_residual-in_err-next.result c.from_residual-in_err-next.ensures.1
+    (λ e same. subst D (sym same)
+    (spare_damage (g.P.Pages.told c.args.space.now.pages) (g.P.Pages.view c.args.space.now.pages) c.args.txn.now c.open_page.new.txn c.loop-child.txn c.repair.new.txn c.args.at.height c.args.at.level (c.args.at.level - 1) c.args.at.index c.args.root.page c.child.result.height c.child.result.level c.child.result.index c.child_root-old.result.page c.args.root.span c.child_root-old.result.span c.open_page.new.bytes c.loop-child.bytes (span_at c.open_page.new.spans) (span_at c.loop-child.spans) c.loop-child.child c.in_err-next.field-0.0
+    c.loop-child.invariant.1 is c.loop-child-test.true c.child.ensures.height child_level c.child.ensures.index c.child_root-old.ensures.page c.child_root-old.ensures.span c.loop-child.invariant.0.moved.fresh
+    c.in_ok-number.ensures.opened base at (c.in_ok-number.ensures.as_told base at) (c.repair.ensures.spares base told) (c.in_err-next.ensures.damaged base told)))
+
+pub returns-clause-root : goal.returns-clause-root
+returns-clause-root g t c =
+    new_root c.open_page.new.txn.superblock.fresh c.close_page.new.txn.superblock.fresh c.args.root.page c.in_ok-number.number c.close_page.result.page (omega (arith, c.loop-child.invariant.1.fresh, c.close_page.ensures.moved.fresh)) c.in_ok-number.ensures.root c.close_page.ensures.root
+
+pub returns-clause-matched : goal.returns-clause-matched
+returns-clause-matched g t c = λ some was. c.close_page.ensures.matched
+
+pub returns-clause-spares : goal.returns-clause-spares
+returns-clause-spares g t c = λ base at.
+    spare_end (g.P.Pages.told c.args.space.now.pages) (g.P.Pages.view c.args.space.now.pages) c.args.txn.now c.open_page.new.txn c.loop-child.txn c.close_page.new.txn c.args.at.level (c.args.at.level - 1) c.in_ok-number.number c.open_page.new.bytes c.loop-child.bytes (span_at c.open_page.new.spans) (span_at c.loop-child.spans) c.loop-child.child c.loop-child.invariant.1 (omega arith) base at (c.in_ok-number.ensures.own base at) c.close_page.ensures.others

@@ -1,11 +1,10 @@
 use Rattle.std.proofs.Common.{◌∷◌, [], refl, ◌∙◌, arith}
 use Rattle.std.specs.Int.{w128}
 use Rattle.std.proofs.lemmas.Int.{to_z-of_z, fits_signed_from_abs}
-use Rattle.request_lines.specs.declared.places.Place.TheVariants.{Integer, Name, Natural, Range, Session}
+use Rattle.request_lines.specs.declared.places.Place.TheVariants.{Integer, Name, Natural, Range, Session, Where}
 use Rattle.request_lines.specs.declared.line_kinds.LineKind.TheVariants.{View}
-use Rattle.request_lines.specs.Grammar.{nothing}
-use Rattle.request_lines.proofs.GrammarLemmas.{fault-end}
-use Rattle.request_lines.proofs.RowLemmas.{passed-fault, reads-misses, reads-misses_end, reads-exit, view_is}
+use Rattle.request_lines.specs.Grammar.{any_behind}
+use Rattle.request_lines.proofs.RowLemmas.{passed-ends, reads-misses, reads-misses_end, reads-exit, view_is}
 use Rattle.request_lines.proofs.lines.view.Goals as goal
 
 pub returns-in_err-session-clause-reads : goal.returns-in_err-session-clause-reads
@@ -50,20 +49,20 @@ returns-in_err-range-clause-reads c =
     (reads-misses View (Session ∷ Name ∷ Natural ∷ Natural ∷ Integer ∷ Integer ∷ []) Range [] _ _ _ refl
     (_, c.in_ok-session.ensures.ok.0, (_, c.in_ok-name.ensures.ok.0, (_, c.in_ok-w.ensures.ok.0, (_, c.in_ok-h.ensures.ok.0, (_, c.in_ok-t0.ensures.ok.0, (_, c.in_ok-t1.ensures.ok.0, refl)))))) c.in_err-range.ensures.err)
 
-pub returns-in_err-end-clause-reads : goal.returns-in_err-end-clause-reads
-returns-in_err-end-clause-reads c =
-    reads-exit View c.args.reader.now _ _ c.from_residual-in_err-end.ensures.1
-    (reads-misses_end View (Session ∷ Name ∷ Natural ∷ Natural ∷ Integer ∷ Integer ∷ Range ∷ []) nothing _ _ _ refl refl
-    (_, c.in_ok-session.ensures.ok.0, (_, c.in_ok-name.ensures.ok.0, (_, c.in_ok-w.ensures.ok.0, (_, c.in_ok-h.ensures.ok.0, (_, c.in_ok-t0.ensures.ok.0, (_, c.in_ok-t1.ensures.ok.0, (_, c.in_ok-range.ensures.ok.0, refl))))))) c.in_err-end.ensures.err)
+pub returns-in_err-filter-clause-reads : goal.returns-in_err-filter-clause-reads
+returns-in_err-filter-clause-reads c =
+    reads-exit View c.args.reader.now _ _ c.from_residual-in_err-filter.ensures.1
+    (reads-misses_end View (Session ∷ Name ∷ Natural ∷ Natural ∷ Integer ∷ Integer ∷ Range ∷ []) (any_behind Where) _ _ _ refl refl
+    (_, c.in_ok-session.ensures.ok.0, (_, c.in_ok-name.ensures.ok.0, (_, c.in_ok-w.ensures.ok.0, (_, c.in_ok-h.ensures.ok.0, (_, c.in_ok-t0.ensures.ok.0, (_, c.in_ok-t1.ensures.ok.0, (_, c.in_ok-range.ensures.ok.0, refl))))))) c.in_err-filter.ensures.err)
 
 pub returns-clause-reads : goal.returns-clause-reads
 returns-clause-reads c = (
-  passed-fault _ (Session ∷ Name ∷ Natural ∷ Natural ∷ Integer ∷ Integer ∷ Range ∷ []) [] nothing _ _
+  passed-ends (Session ∷ Name ∷ Natural ∷ Natural ∷ Integer ∷ Integer ∷ Range ∷ []) (any_behind Where) _ _
       (_, c.in_ok-session.ensures.ok.0, (_, c.in_ok-name.ensures.ok.0, (_, c.in_ok-w.ensures.ok.0, (_, c.in_ok-h.ensures.ok.0, (_, c.in_ok-t0.ensures.ok.0, (_, c.in_ok-t1.ensures.ok.0, (_, c.in_ok-range.ensures.ok.0, refl)))))))
-      ∙ fault-end _ _ c.in_ok-end.ensures.ok,
-  view_is _ _ _ _ _ _ _ _ _ _ _ _ _ _ _ _ _
+      c.in_ok-filter.ensures.ok.0,
+  view_is _ _ _ _ _ _ _ _ _ _ _ _ _ _ _ _ _ _
       c.in_ok-session.ensures.ok.0 c.in_ok-name.ensures.ok.0 c.in_ok-w.ensures.ok.0 c.in_ok-h.ensures.ok.0 c.in_ok-t0.ensures.ok.0 c.in_ok-t1.ensures.ok.0 c.in_ok-range.ensures.ok.0
-      c.in_ok-end.ensures.ok
+      c.in_ok-filter.ensures.ok.1
       c.in_ok-session.ensures.ok.1
       c.in_ok-name.ensures.ok.1
       c.in_ok-w.ensures.ok.1

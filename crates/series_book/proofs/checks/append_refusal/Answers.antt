@@ -5,4 +5,4 @@ use Rattle.series_book.proofs.checks.append_refusal.Goals as goal
 
 pub returns-clause-refusal : goal.returns-clause-refusal
 unfolding appended
-returns-clause-refusal c = rw overwritten-end (search rules)
+returns-clause-refusal c = λ series is. rw overwritten-end (search rules)

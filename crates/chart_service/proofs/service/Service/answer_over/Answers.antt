@@ -14,7 +14,7 @@ returns-in-Ok-clause-reply c = λ t0 t1 moved.
     let last = c.args.last in
     let grid = c.in-Ok.grid in
     let is : IsMoved last.grid t0 t1 (Ok grid) = subst (IsMoved last.grid t0 t1) c.in-Ok.is moved in
-    let P : Frame → Type 0 = λ frame. IsSomeAnd (slice_get old.book last.series) (λ series. AnswersView series (record { series = last.series; grid = grid; range = last.range }) c.args.number frame old new) in
+    let P : Frame → Type 0 = λ frame. IsSomeAnd (slice_get old.book last.series) (λ series. AnswersView series (record { series = last.series; grid = grid; range = last.range; filter = last.filter }) c.args.number frame old new) in
     let Q : Frame → Type 0 = λ frame. Moves last c.args.number t0 t1 frame old new in
     IfOk-weaker c.answer.result P Q (λ frame answers. moves_answered last c.args.number t0 t1 grid frame old new is answers) c.answer.ensures.reply
 

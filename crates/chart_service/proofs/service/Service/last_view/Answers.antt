@@ -9,5 +9,5 @@ returns-in-Some-clause-view c =
     let state = c.args.self.now in
     let V : State → Type 0 = λ s. AreViewsOf s.book s.sessions in
     let views : V state = subst V c.self.view_is c.self.invariant in
-    let is : Some c.in-Some.last ≡ last_of (session_of c.args.number state.sessions) = search rules in
-    view_so state.book c.args.number state.sessions c.in-Some.last views is
+    let is : Some c.in-Some.last.now ≡ last_of (session_of c.args.number state.sessions) = search rules in
+    view_so state.book c.args.number state.sessions c.in-Some.last.now views is

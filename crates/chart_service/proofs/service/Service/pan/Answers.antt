@@ -1,4 +1,4 @@
-use Rattle.std.proofs.Common.{rules, ℤ, ◌+ℤ◌, Ok, subst, FitsSigned}
+use Rattle.std.proofs.Common.{rules, ℤ, ◌+ℤ◌, Ok, sym, subst, FitsSigned}
 use Rattle.std.specs.Int.{w128}
 use Rattle.std.proofs.lemmas.Int.{to_z-of_z}
 use Rattle.std.proofs.lemmas.Result.{IfOk-weaker}
@@ -10,17 +10,18 @@ use Rattle.chart_service.specs.Replies.{Moves, MovesIn}
 use Rattle.chart_service.proofs.Answered.{move_answered}
 use Rattle.chart_service.proofs.service.Service.pan.Goals as goal
 
-pub returns-in-Ok-clause-reply : goal.returns-in-Ok-clause-reply
-returns-in-Ok-clause-reply c =
+pub returns-clause-reply : goal.returns-clause-reply
+returns-clause-reply c =
     let old = c.args.self.now in
     let new = c.answer_over.new.self in
     let session = session_of c.args.number old.sessions in
-    let last = c.in-Ok.last in
+    let last = c.in_ok-last-in-Ok.last in
     let window : ViewSpec → ℤ × ℤ = (λ last. (last.grid.t0 +ℤ c.args.by, last.grid.t1 +ℤ c.args.by)) in
-    let is : IsLastOf session (Ok last) = subst (IsLastOf session) c.in-Ok.is c.last_view.ensures.last in
+    let L : ViewSpec → Type 0 = λ l. IsLastOf session (Ok l) in
+    let is : IsLastOf session (Ok last) = subst L (sym c.in_ok-last-in-Ok.ensures) c.in-Ok.ensures.last in
     let by : FitsSigned w128 c.args.by = search rules in
-    let B : ℤ → Type 0 = λ by. IsMoved last.grid (last.grid.t0 +ℤ by) (last.grid.t1 +ℤ by) c.panned.result in
+    let B : ℤ → Type 0 = λ by. IsMoved last.grid (last.grid.t0 +ℤ by) (last.grid.t1 +ℤ by) c.panned-grid.result in
     let P : Frame → Type 0 = λ frame. Moves last c.args.number (last.grid.t0 +ℤ c.args.by) (last.grid.t1 +ℤ c.args.by) frame old new in
     let Q : Frame → Type 0 = λ frame. MovesIn session c.args.number window frame old new in
     IfOk-weaker c.answer_over.result P Q (λ frame moves. move_answered session last c.args.number window frame old new is moves)
-    (c.answer_over.ensures.reply (last.grid.t0 +ℤ c.args.by) (last.grid.t1 +ℤ c.args.by) (subst B (to_z-of_z w128 c.args.by by) c.panned.ensures))
+    (c.answer_over.ensures.reply (last.grid.t0 +ℤ c.args.by) (last.grid.t1 +ℤ c.args.by) (subst B (to_z-of_z w128 c.args.by by) c.panned-grid.ensures))

@@ -17,14 +17,15 @@ returns-in-Ok-clause-reply c =
     let name = c.args.name.now in
     let v = c.args.viewport in
     let id = c.in-Some.series in
+    let filter = c.args.filter in
     let spec = c.in-Ok.spec in
     let there : is_open number old.sessions ≡ true = search rules in
     let named : id_of name old.book ≡ Some id = search rules in
-    let is = subst (IsSpecFor id v c.args.word) c.in-Ok.is c.spec_of.ensures.spec in
+    let is = subst (IsSpecFor id v c.args.word filter) c.in-Ok.is c.spec_of.ensures.spec in
     let P : Frame → Type 0 = λ frame. IsSomeAnd (slice_get old.book spec.series) (λ series. AnswersView series spec number frame old new) in
-    let Q : Frame → Type 0 = λ frame. RepliesToView (is_open number old.sessions) number name v.w v.h v.t0 v.t1 c.args.word frame old new in
+    let Q : Frame → Type 0 = λ frame. RepliesToView (is_open number old.sessions) number name v.w v.h v.t0 v.t1 c.args.word filter frame old new in
     IfOk-weaker c.answer.result P Q
-    (λ frame answers. replies_to_view number name v c.args.word id frame old new there named (views_id id number v c.args.word spec frame old new is answers)) c.answer.ensures.reply
+    (λ frame answers. replies_to_view number name v c.args.word filter id frame old new there named (views_id id number v c.args.word filter spec frame old new is answers)) c.answer.ensures.reply
 
 pub returns-in-Err-clause-reply : goal.returns-in-Err-clause-reply
 returns-in-Err-clause-reply c =
@@ -33,8 +34,9 @@ returns-in-Err-clause-reply c =
     let name = c.args.name.now in
     let v = c.args.viewport in
     let id = c.in-Some.series in
+    let filter = c.args.filter in
     let there : is_open number old.sessions ≡ true = search rules in
     let named : id_of name old.book ≡ Some id = search rules in
-    let why = subst (IsSpecFor id v c.args.word) c.in-Err.is c.spec_of.ensures.spec in
-    replies_to_view number name v c.args.word id c.refused-in-Err.result old old there named
-    (refuses_id id number v c.args.word c.in-Err.refusal c.refused-in-Err.result old (search rules) why c.refused-in-Err.ensures.frame)
+    let why = subst (IsSpecFor id v c.args.word filter) c.in-Err.is c.spec_of.ensures.spec in
+    replies_to_view number name v c.args.word filter id c.refused-in-Err.result old old there named
+    (refuses_id id number v c.args.word filter c.in-Err.refusal c.refused-in-Err.result old (search rules) why c.refused-in-Err.ensures.frame)

@@ -3,7 +3,7 @@ use Rattle.std.proofs.lemmas.Grind.{common_steps}
 use Rattle.std.proofs.lemmas.List.{take_rest}
 use Rattle.std.proofs.lemmas.Result.{err_from_is_err_and}
 use Rattle.value_filter.specs.Pieces.{past_spaces, first_piece, Spells}
-use Rattle.value_filter.proofs.Texts.{IsRead, read_more, stops_at_piece, token_refused, end_refused, refused-gives, leaves-no_filter, finished-are_of, finished-is_filter, finished-one}
+use Rattle.value_filter.proofs.Texts.{IsRead, read_more, stops_at_piece, token_refused, end_refused, refused-gives, leaves-no_filter, finished-are_of, finished-is_filter, finished-postfix, finished-one}
 use Rattle.value_filter.proofs.filters.Filter.parse.Goals as goal
 
 -- the offset of the piece
@@ -83,3 +83,6 @@ pub returns-clause-reads : goal.returns-clause-reads
 returns-clause-reads c = λ f i.
     let end : c.pieces.rest.now ≡ [] = grind (arith, common_steps, c.pieces-test.ensures) in
     finished-one c.args.text.now c.pieces.rest.now c.pieces.parser c.in_ok-steps.steps.items c.pieces.invariant.read end c.in_ok-steps.ensures.ok f i
+
+pub returns-clause-steps : goal.returns-clause-steps
+returns-clause-steps c = finished-postfix c.args.text.now c.pieces.rest.now c.pieces.parser c.in_ok-steps.steps.items c.pieces.invariant.read c.in_ok-steps.ensures.ok

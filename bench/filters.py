@@ -1,0 +1,50 @@
+"""The seconds that a filtered view of a long series takes, by how much of the series its filter decides. See bench/run."""
+import random
+
+from measuring import HEIGHT, PROGRAM, WIDTH, least_seconds, measure_all
+
+COUNT, LINE, VIEWS, ROUNDS, RARE = 1000000, 256, 20, 5, 100000
+# Noise from 0 to 999, and one value in RARE far above it. Almost every two neighbours lie on both sides of 500.
+NOISE, HIGH, MIDDLE = 1000, 10**6, 500
+ROWS = (
+    ("no filter", ""),
+    ("one value in 100,000", f"v >= {HIGH}"),
+    ("true everywhere", "v >= 0"),
+    ("the middle half of the times", f"t >= {COUNT // 4} and t < {COUNT // 4 * 3}"),
+    ("each slot decides: a full scan", f"v < {MIDDLE} or v >= {MIDDLE}"),
+)
+
+
+def values():
+    chance = random.Random(1)
+    return [HIGH + i if i % RARE == RARE // 2 else chance.randrange(NOISE) for i in range(COUNT)]
+
+
+def view(text):
+    return f"view 1 s {WIDTH} {HEIGHT} 0 {COUNT} auto" + (f" where {text}" if text else "")
+
+
+def write_input(name, stored, asked):
+    with open(name, "w") as file:
+        file.write("create s 0 1 0\n")
+        for at in range(0, COUNT, LINE):
+            file.write(f"append s {' '.join(map(str, stored[at : at + LINE]))}\n")
+        # Each view is a session's first one, so that none is answered from what the client holds.
+        file.writelines(f"open 1\n{line}\nclose 1\n" for line in asked)
+
+
+def measure_filters():
+    stored = values()
+    write_input("without", stored, [])
+    rows = [("without", [PROGRAM, "-", "serve"], "without")]
+    for number, (name, text) in enumerate(ROWS):
+        write_input(f"filter{number}", stored, VIEWS * [view(text)])
+        rows.append((name, [PROGRAM, "-", "serve"], f"filter{number}"))
+    least = least_seconds(measure_all(rows, ROUNDS))
+    whole = least[ROWS[-1][0]] - least["without"]
+    print(f"seconds of a view of {COUNT} values, {WIDTH} by {HEIGHT} pixels, by its filter: the least of {ROUNDS} rounds of `serve` with")
+    print(f"{VIEWS} such views less that without, over {VIEWS}; and as a part of the full scan's")
+    print(f"{'filter':34}{'a view s':>12}{'of the scan':>12}")
+    for name, _ in ROWS:
+        seconds = least[name] - least["without"]
+        print(f"{name:34}{seconds / VIEWS:12.5f}{seconds / whole:12.3f}")

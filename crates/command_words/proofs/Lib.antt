@@ -1,0 +1,5 @@
+pub mod WalkLemmas
+pub mod FaultLemmas
+pub mod TurnLemmas
+pub mod ReadLemmas
+pub mod FoundLemmas
