@@ -19,6 +19,8 @@ pub mod laws;
 mod opening;
 mod reading;
 mod repairing;
+#[cfg(test)]
+mod tests;
 
 pub use calls::{clear_run, grow, put_run, put_slot};
 pub use errors::RepairError;

@@ -1,0 +1,111 @@
+-- The series of a name in the catalog and in the book, and what the book answers of it.
+use Rattle.std.proofs.Common.{◌≡◌, ℕ, ℤ, zero, suc, ◌+◌, ◌-◌, ◌<◌, ◌≤◌, ◌⊎◌, ◌^◌, min, List, [], ◌∷◌, length, replicate, slice_get, Option, None, Some, Result, Ok, Err, refl, sym, ap, subst, ◌∙◌, arith, inl, inr}
+use Rattle.std.proofs.lemmas.List.{length-replicate}
+use Rattle.std.proofs.lemmas.Option.{slice_get_within}
+use Rattle.block_disk.specs.View.{Image}
+use Rattle.page_space.specs.declared.superblock.Superblock.{Superblock}
+use Rattle.page_space.specs.Layout.{superblock_page, IsSuperblock}
+use Rattle.series_book.specs.declared.axis.Axis.{Axis}
+use Rattle.series_book.specs.declared.edits.Edit.TheVariants.{Append, Set, Clear}
+use Rattle.series_book.specs.declared.one_series.Series.{Series}
+use Rattle.series_book.specs.declared.refusals.Refusal.{Refusal}
+use Rattle.series_book.specs.declared.refusals.Refusal.TheVariants.{UnknownSeries}
+use Rattle.series_book.specs.Axes.{IsAxisOf}
+use Rattle.series_book.specs.Edits.{Edited, apply, id_of, place_of as slot_of, change_at, change_series, within, unbounded, appended, set_at, cleared_at, cleared, with_slots}
+use Rattle.store_catalog.specs.declared.stored_series.StoredSeries.{StoredSeries}
+use Rattle.store_catalog.specs.Catalogs.{place_of, AreAsTold}
+use Rattle.stored_book.specs.Standing.{IsStore, StandsForBook}
+use Rattle.series_store.proofs.AskLemmas.{own_store, as_many, same_id, kept_as}
+use Rattle.series_store.proofs.SlotLemmas.{cleared_there, cleared_nothing, length-cleared, same_slots}
+
+-- the book has the series of the catalog at its id
+pub record IsFound (book : List Series) (name : List ℕ) (id : ℕ) (one : StoredSeries) : Type 0 where
+  pub series : Series
+  pub there : slice_get book id ≡ Some series
+  pub is_id : id_of name book ≡ Some id
+  pub start : one.start ≡ series.start
+  pub step : one.step ≡ series.step
+  pub slots : one.tree.slots ≡ length series.slots
+
+there_is : {X : Type 0} (xs : List X) (i : ℕ) → i < length xs → (x : X) × (slice_get xs i ≡ Some x)
+there_is {X} [] i low = absurd (omega (arith, low))
+there_is {X} (x ∷ xs) zero low = (x, refl)
+there_is {X} (x ∷ xs) (suc i) low = there_is xs i (omega (arith, low))
+
+pub found : (size total : ℕ) (image : Image) (s : Superblock) (book : List Series) (items : List StoredSeries) (name : List ℕ) (id : ℕ) (one : StoredSeries) → IsSuperblock size s → s.total < 2 ^ 32 → image 0 ≡ superblock_page s → StandsForBook image total book
+    → length items ≡ s.series → AreAsTold image items → Some id ≡ place_of name items → slice_get items id ≡ Some one → IsFound book name id one
+found size total image s book items name id one rules small spelled stands count told at there =
+    let store : IsStore image s book = (own_store size total image book s rules small spelled stands).0 in
+    let many = as_many image s book items store count in
+    let it = there_is book id (omega (arith, many, slice_get_within items id one there)) in
+    let kept = kept_as image s book items id one it.0 store told there it.1 in
+    record {
+      series = it.0;
+      there = it.1;
+      is_id = sym (same_id image s book items name store count told) ∙ sym at;
+      start = kept.record_is.start;
+      step = kept.record_is.step;
+      slots = kept.tree.slots;
+    }
+
+pub unknown : (size total : ℕ) (image : Image) (s : Superblock) (book : List Series) (items : List StoredSeries) (name : List ℕ) → IsSuperblock size s → s.total < 2 ^ 32 → image 0 ≡ superblock_page s → StandsForBook image total book
+    → length items ≡ s.series → AreAsTold image items → None ≡ place_of name items → id_of name book ≡ None
+unknown size total image s book items name rules small spelled stands count told at =
+    let store : IsStore image s book = (own_store size total image book s rules small spelled stands).0 in
+    sym (same_id image s book items name store count told) ∙ sym at
+
+pub is_axis : (book : List Series) (name : List ℕ) (id : ℕ) (one : StoredSeries) (axis : Axis) (is : IsFound book name id one) → axis.start ≡ one.start → axis.step ≡ one.step → axis.slots ≡ one.tree.slots → IsAxisOf is.series axis
+is_axis book name id one axis is start step slots = record { start = start ∙ is.start; step = step ∙ is.step; slots = slots ∙ is.slots }
+
+-- there is a series with an axis
+pub a_series : (axis : Axis) → (series : Series) × IsAxisOf series axis
+a_series axis = (
+  record { name = []; start = axis.start; step = axis.step; scale = 0; slots = replicate axis.slots None },
+  record { start = refl; step = refl; slots = sym (length-replicate axis.slots None) },
+)
+
+-- the book has no series of the name
+pub change_unknown : (book : List Series) (found : Option ℕ) (change : ℕ → Series → Result Edited Refusal) → found ≡ None → change_at book found change ≡ Err UnknownSeries
+change_unknown book found change none = ap (λ (o : Option ℕ). change_at book o change) none
+
+change_found : (book : List Series) (found : Option ℕ) (id : ℕ) (series : Series) (change : ℕ → Series → Result Edited Refusal) → found ≡ Some id → slice_get book id ≡ Some series → change_at book found change ≡ change id series
+change_found book found id series change is there = ap (λ (o : Option ℕ). change_at book o change) is ∙ ap (λ (o : Option Series). change_series id o change) there
+
+pub append_answer : (book : List Series) (total : ℕ) (name : List ℕ) (values : List (Option ℤ)) (id : ℕ) (series : Series) (slots : Result (List (Option ℤ)) Refusal) → id_of name book ≡ Some id → slice_get book id ≡ Some series → appended series values ≡ slots
+    → apply book total (Append name values) ≡ within total book id series slots
+append_answer book total name values id series slots is there says =
+    change_found book (id_of name book) id series (λ id series. within total book id series (appended series values)) is there ∙ ap (λ (r : Result (List (Option ℤ)) Refusal). within total book id series r) says
+
+pub set_answer : (book : List Series) (total : ℕ) (name : List ℕ) (time : ℤ) (values : List (Option ℤ)) (id : ℕ) (series : Series) (slots : Result (List (Option ℤ)) Refusal) → id_of name book ≡ Some id → slice_get book id ≡ Some series
+    → set_at series time values ≡ slots → apply book total (Set name time values) ≡ within total book id series slots
+set_answer book total name time values id series slots is there says =
+    change_found book (id_of name book) id series (λ id series. within total book id series (set_at series time values)) is there ∙ ap (λ (r : Result (List (Option ℤ)) Refusal). within total book id series r) says
+
+pub clear_answer : (book : List Series) (total : ℕ) (name : List ℕ) (time : ℤ) (count id : ℕ) (series : Series) (slots : Result (List (Option ℤ)) Refusal) → id_of name book ≡ Some id → slice_get book id ≡ Some series → cleared_at series time count ≡ slots
+    → apply book total (Clear name time count) ≡ unbounded book id series slots
+clear_answer book total name time count id series slots is there says =
+    change_found book (id_of name book) id series (λ id series. unbounded book id series (cleared_at series time count)) is there ∙ ap (λ (r : Result (List (Option ℤ)) Refusal). unbounded book id series r) says
+
+abbrev with_clear : List Series → ℕ → Series → List (Option ℤ) → ℕ → Result Edited Refusal
+with_clear book id series slots n = Ok (record { book = with_slots book id series slots; slots = n })
+
+-- the slots that are there are cleared
+pub clear_there : (book : List Series) (total : ℕ) (name : List ℕ) (time : ℤ) (count id slot some : ℕ) (series : Series) → id_of name book ≡ Some id → slice_get book id ≡ Some series
+    → cleared_at series time count ≡ Ok (cleared series.slots (slot_of series time) count) → slot ≡ slot_of series time → slot < length series.slots → some ≡ min (slot + count) (length series.slots) - slot
+    → apply book total (Clear name time count) ≡ Ok (record { book = with_slots book id series (cleared series.slots slot some); slots = length series.slots })
+clear_there book total name time count id slot some series is there says at low so =
+    let same : cleared series.slots (slot_of series time) count ≡ cleared series.slots slot some =
+    ap (λ n. cleared series.slots n count) (sym at) ∙ cleared_there series.slots slot count low ∙ ap (λ n. cleared series.slots slot n) (sym so) in
+    clear_answer book total name time count id series (Ok (cleared series.slots (slot_of series time) count)) is there says
+    ∙ ap (λ (slots : List (Option ℤ)). with_clear book id series slots (length slots)) same
+    ∙ ap (λ n. with_clear book id series (cleared series.slots slot some) n) (length-cleared series.slots slot some (omega (arith, low, so)))
+
+-- none of them is there
+pub clear_none : (book : List Series) (total : ℕ) (name : List ℕ) (time : ℤ) (count id : ℕ) (series : Series) → id_of name book ≡ Some id → slice_get book id ≡ Some series
+    → cleared_at series time count ≡ Ok (cleared series.slots (slot_of series time) count) → ((length series.slots ≤ slot_of series time) ⊎ (count ≡ 0))
+    → apply book total (Clear name time count) ≡ Ok (record { book = book; slots = length series.slots })
+clear_none book total name time count id series is there says why =
+    let same : cleared series.slots (slot_of series time) count ≡ series.slots = cleared_nothing series.slots (slot_of series time) count why in
+    clear_answer book total name time count id series (Ok (cleared series.slots (slot_of series time) count)) is there says
+    ∙ ap (λ (slots : List (Option ℤ)). with_clear book id series slots (length slots)) same
+    ∙ ap (λ (b : List Series). Ok (record { book = b; slots = length series.slots })) (same_slots book id series series.slots there refl)

@@ -1,0 +1,15 @@
+pub mod SlotLemmas
+pub mod TimeLemmas
+pub mod RecordLemmas
+pub mod SaveLemmas
+pub mod AnswerLemmas
+pub mod CarryLemmas
+pub mod ChangeLemmas
+pub mod OpenLemmas
+pub mod AskLemmas
+pub mod StayLemmas
+pub mod CommitLemmas
+pub mod FindLemmas
+pub mod EditLemmas
+pub mod StoreLemmas
+pub mod CreateLemmas

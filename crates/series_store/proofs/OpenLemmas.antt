@@ -1,0 +1,229 @@
+-- A store is opened and made.
+use Rattle.std.proofs.Common.{cond, zero, suc, ◌≡◌, ◌≢◌, ℕ, ◌+◌, ◌^◌, ◌<◌, ◌≤◌, ◌⊎◌, List, [], length, map, get_or, AllPairs, Some, refl, sym, ap, subst, arith, inl, inr, ◌∙◌, ◌∷◌}
+use Rattle.std.specs.Prelude.{Result, Ok, Err, IfErr}
+use Rattle.std.proofs.Math.Path.{fun_ext}
+use Rattle.std.specs.List.{slice_get}
+use Rattle.std.proofs.lemmas.List.{length-map, get_or-map}
+use Rattle.std.proofs.lemmas.Option.{slice_get-get_or, get_or_from_slice_get}
+use Rattle.block_disk.specs.Counts.{HasRisen}
+use Rattle.block_disk.specs.View.{Image, View, Now}
+use Rattle.block_disk.proofs.Passing.{passes_weaker, now_back}
+use Rattle.gate_pages.specs.Batch.{put_all}
+use Rattle.gate_pages.specs.Pages.{Quiet, Reads, Commits, BeforeOrAfter}
+use Rattle.gate_pages.proofs.Moving.{time_then}
+use Rattle.catalog_page.specs.Layout.{KeepsLayout}
+use Rattle.catalog_page.specs.Places.{records_of}
+use Rattle.page_space.specs.Causes.{Unopened}
+use Rattle.page_space.specs.Firsts.{first_pages, empty_over}
+use Rattle.page_space.specs.Layout.{Keeps}
+use Rattle.page_space.specs.declared.superblock.Superblock.{Superblock}
+use Rattle.page_space.specs.declared.errors.SpaceError.{SpaceError}
+use Rattle.page_space.specs.declared.errors.SpaceError.TheVariants.{NotAStore as NoStore, Full, DiskFault as AtDisk, Damaged as AtPage, NoMemory as AtMemory}
+use Rattle.path_repair.specs.Standing.{ReadsMost}
+use Rattle.series_book.specs.declared.one_series.Series.{Series}
+use Rattle.series_store.specs.Opening.{IsOpenCause, IsReadCause, IsOutside, MakesStore, space_error_of, catalog_error_of}
+use Rattle.series_store.specs.declared.errors.StoreError.{StoreError}
+use Rattle.series_store.specs.declared.errors.StoreError.TheVariants.{Refused, NotAStore, DiskFault, Damaged, NoMemory}
+use Rattle.store_catalog.specs.Reading.{IsBadCatalog, IsCatalogCause}
+use Rattle.store_catalog.specs.declared.errors.CatalogError.{CatalogError}
+use Rattle.store_catalog.specs.declared.errors.CatalogError.TheVariants.{DiskFault as DiskCatalog, Damaged as BadPage, NoMemory as NoRoom}
+use Rattle.store_laws.proofs.EmptyLemmas.{first_book, empty_store}
+use Rattle.store_init.specs.Stores.{IsEmptyStore}
+use Rattle.stored_book.specs.Standing.{AreCatalog}
+use Rattle.page_space.specs.Layout.{empty_of, superblock_page, catalog_page}
+use Rattle.store_catalog.specs.Catalogs.{AreFit, AreAsTold}
+use Rattle.store_catalog.specs.declared.stored_series.StoredSeries.{StoredSeries}
+use Rattle.std.proofs.lemmas.Bool.{lt-ltb, ne_eqb}
+use Rattle.page_space.specs.Firsts.{first_page}
+use Rattle.stored_book.specs.Records.{entry}
+use Rattle.stored_book.specs.Standing.{IsStore, StandsForBook}
+
+pub read_once : (told told' : Type 0) (old new : View) → Reads told told' old new → ReadsMost 1 told told' old new
+read_once told told' old new reads = record {
+  time = reads.time;
+  told = reads.told;
+  was_told = reads.was_told;
+  image = reads.image;
+  size = reads.size;
+  beside = reads.beside;
+  fit = reads.fit;
+  faults = reads.faults;
+  reads = reads.reads;
+  syncs = reads.syncs;
+  writes = reads.writes;
+}
+
+pub reads_more : (most more : ℕ) (told told' : Type 0) (old new : View) → most ≤ more → ReadsMost most told told' old new → ReadsMost more told told' old new
+reads_more most more told told' old new less reads = record {
+  time = reads.time;
+  told = reads.told;
+  was_told = reads.was_told;
+  image = reads.image;
+  size = reads.size;
+  beside = reads.beside;
+  fit = reads.fit;
+  faults = reads.faults;
+  reads = record { low = reads.reads.low; high = omega (arith, reads.reads.high, less) };
+  syncs = reads.syncs;
+  writes = reads.writes;
+}
+
+pub reads_then : (a b most : ℕ) (told told' told'' : Type 0) (old mid new : View) → a + b ≡ most → ReadsMost a told told' old mid → ReadsMost b told' told'' mid new → ReadsMost most told told'' old new
+reads_then a b most told told' told'' old mid new sum first second = record {
+  time = time_then old mid new (Now old) first.time
+      (passes_weaker mid new (Now mid) (Now old) (Quiet mid) (Quiet mid) (now_back old mid (Quiet old) first.time) (λ count quiet. quiet) second.time);
+  told = λ t. second.told (first.told t);
+  was_told = λ t. first.was_told (second.was_told t);
+  image = λ t. second.image (first.told t) ∙ first.image t;
+  size = second.size ∙ first.size;
+  beside = second.beside ∙ first.beside;
+  fit = λ f. second.fit (first.fit f);
+  faults = omega (arith, first.faults, second.faults);
+  reads = record { low = omega (arith, first.reads.low, second.reads.low); high = omega (arith, sum, first.reads.high, second.reads.high) };
+  syncs = second.syncs ∙ first.syncs;
+  writes = second.writes ∙ first.writes;
+}
+
+pub err_so : {T E : Type 0} → (P Q : E → Type 0) (r : Result T E) → IfErr r P → ((e : E) → P e → Q e) → IfErr r Q
+err_so P Q (Ok v) is more = tt
+err_so P Q (Err e) is more = more e is
+
+-- why a space wasn't opened is why the store wasn't
+pub space_cause : (told : Type 0) (old new : View) (e : SpaceError) → Unopened e told old new → IsOpenCause (space_error_of e) told old new
+space_cause told old new NoStore cause = cause
+space_cause told old new (Full needed have) cause = tt
+space_cause told old new AtDisk cause = cause
+space_cause told old new (AtPage page) cause = λ t. inl (cause.0, (cause.1 t).0, (cause.1 t).1)
+space_cause told old new AtMemory cause = tt
+
+pub catalog_cause : (told : Type 0) (s : Superblock) (old new : View) (e : CatalogError) → IsCatalogCause e told s old new → IsReadCause (catalog_error_of e) told s old new
+catalog_cause told s old new DiskCatalog cause = cause
+catalog_cause told s old new (BadPage page) cause = cause
+catalog_cause told s old new NoRoom cause = tt
+
+risen_on : (old mid new : ℕ) → old ≤ mid → HasRisen mid new → HasRisen old new
+risen_on old mid new less (inl risen) = inl (omega (arith, less, risen))
+risen_on old mid new less (inr most) = inr most
+
+-- a bad page of the catalog, of the pages as they were before page 0 was read
+bad_then : (told told' : Type 0) (s : Superblock) (old mid : View) (page : ℕ) → ReadsMost 1 told told' old mid → (told' → IsBadCatalog mid.image s page) → told → IsBadCatalog old.image s page
+bad_then told told' s old mid page reads bad t =
+    let P : Image → Type 0 = λ image. IsBadCatalog image s page in
+    subst P (reads.image t) (bad (reads.told t))
+
+pub read_cause : (told told' : Type 0) (s : Superblock) (old mid new : View) (e : StoreError) → ReadsMost 1 told told' old mid → (told → Keeps old.size s (old.image 0)) → IsReadCause e told' s mid new → IsOpenCause e told old new
+read_cause told told' s old mid new (Refused refusal) reads keeps cause = cause
+read_cause told told' s old mid new NotAStore reads keeps cause = absurd cause
+read_cause told told' s old mid new DiskFault reads keeps cause = risen_on old.faults mid.faults new.faults reads.faults cause
+read_cause told told' s old mid new (Damaged page) reads keeps cause = λ t. inr (s, keeps t, bad_then told told' s old mid page reads cause t)
+read_cause told told' s old mid new NoMemory reads keeps cause = tt
+
+-- Where pages stand for a book, only the disk and the memory may fail.
+
+-- a series of a book, by its place
+at_place : (book : List Series) (id : ℕ) → id < length book → (series : Series) × (slice_get book id ≡ Some series)
+at_place [] id within = absurd (omega (arith, within))
+at_place (one ∷ book) id within = (get_or (one ∷ book) id one, slice_get-get_or (one ∷ book) id one within)
+
+two_names : (book : List Series) (first second : ℕ) (one other : Series) → AllPairs (λ a b. a ≢ b) (map (λ (s : Series). s.name) book) → first < second → second < length book → slice_get book first ≡ Some one → slice_get book second ≡ Some other → one.name ≢ other.name
+two_names book first second one other distinct before within there there' same =
+    let name : Series → List ℕ = λ s. s.name in
+    let apart : get_or (map name book) first [] ≢ get_or (map name book) second [] = distinct first second [] before (omega (arith, within, length-map book name)) in
+    let is : get_or (map name book) first [] ≡ one.name = get_or-map name book first one [] (omega (arith, before, within)) ∙ ap name (get_or_from_slice_get book first one one there) in
+    let is' : get_or (map name book) second [] ≡ other.name = get_or-map name book second one [] within ∙ ap name (get_or_from_slice_get book second other one there') in
+    apart (is ∙ same ∙ sym is')
+
+pub sound_catalog : (image : Image) (s : Superblock) (book : List Series) (page : ℕ) → IsStore image s book → IsBadCatalog image s page → ⊥
+sound_catalog image s book page store bad = elim bad.bad [
+  | inl broken ↦
+      let P : ℕ → Type 0 = λ n. KeepsLayout (records_of page n) s.fresh (image page) in
+      broken (subst P (sym store.series_are) (store.catalog page bad.low bad.high))
+  | inr twice ↦
+      let within : twice.second < length book = omega (arith, twice.within, store.series_are) in
+      let one = at_place book twice.first (omega (arith, twice.before, within)) in
+      let other = at_place book twice.second within in
+      let name_one : (entry image twice.first).name ≡ (one.0).name = (store.kept twice.first one.0 one.1).record_is.name in
+      let name_other : (entry image twice.second).name ≡ (other.0).name = (store.kept twice.second other.0 other.1).record_is.name in
+      two_names book twice.first twice.second one.0 other.0 store.is_book.distinct twice.before within one.1 other.1 (sym name_one ∙ twice.same ∙ name_other)
+]
+
+pub keeps_of : (size total : ℕ) (image : Image) (book : List Series) (stands : StandsForBook image total book) → total ≤ size → Keeps size stands.superblock (image 0)
+keeps_of size total image book stands within =
+    let is = stands.store.stands in
+    record {
+      spelled = is.spelled;
+      rules = record {
+        total_low = is.rules.total_low;
+        total_high = omega (arith, within, stands.total_is);
+        fresh_low = is.rules.fresh_low;
+        fresh_high = is.rules.fresh_high;
+        head_is = is.rules.head_is;
+        chain_high = is.rules.chain_high;
+        none = is.rules.none;
+        series_high = is.rules.series_high;
+      };
+    }
+
+pub space_outside : (e : SpaceError) → (e ≡ AtDisk) ⊎ (e ≡ AtMemory) → IsOutside (space_error_of e)
+space_outside e (inl is) = inl (ap (λ x. space_error_of x) is)
+space_outside e (inr is) = inr (ap (λ x. space_error_of x) is)
+
+-- a catalog that is bad in nothing is read, but for the disk and the memory
+pub read_outside : (told : Type 0) (s : Superblock) (old new : View) (e : StoreError) → told → ((page : ℕ) → IsBadCatalog old.image s page → ⊥) → IsReadCause e told s old new → IsOutside e
+read_outside told s old new (Refused refusal) t sound cause = absurd cause
+read_outside told s old new NotAStore t sound cause = absurd cause
+read_outside told s old new DiskFault t sound cause = inl refl
+read_outside told s old new (Damaged page) t sound cause = absurd (sound page (cause t))
+read_outside told s old new NoMemory t sound cause = inr refl
+
+-- The first pages of a store stand for a book without a series.
+pub made : (count : ℕ) (image : Image) → 62 ≤ count → count < 2 ^ 32 → ((p : ℕ) → put_all (first_pages count) image p ≡ empty_over count image p) → StandsForBook (put_all (first_pages count) image) count []
+made count image many small first =
+    let P : Image → Type 0 = λ i. StandsForBook i count [] in
+    subst P (sym (fun_ext first)) (first_book count image many small)
+
+pub making : (told told' : Type 0) (old new : View) → 62 ≤ old.size → old.size < 2 ^ 32 → ((p : ℕ) → put_all (first_pages old.size) old.image p ≡ empty_over old.size old.image p) → Commits (first_pages old.size) told told' old new → MakesStore old new
+making told told' old new many small first commits =
+    let P : Image → Type 0 = λ i. StandsForBook i old.size [] in
+    passes_weaker old new (BeforeOrAfter (first_pages old.size) old.image) (λ image. (image ≡ old.image) ⊎ StandsForBook image old.size []) (Quiet old) (Quiet old)
+    (either old.image (put_all (first_pages old.size) old.image) P (made old.size old.image many small first)) (λ count quiet. quiet) commits.time
+  where
+    either : (before after : Image) (P : Image → Type 0) → P after → (image : Image) → (image ≡ before) ⊎ (image ≡ after) → (image ≡ before) ⊎ P image
+    either before after P is image (inl same) = inl same
+    either before after P is image (inr same) = inr (subst P (sym same) is)
+
+first_over : (count : ℕ) (image : Image) → IsEmptyStore count (empty_over count image)
+first_over count image = record {
+  first = ap (λ b. cond b (first_page count 0) (image 0)) (lt-ltb 0 17 (omega arith));
+  catalog = λ p from to. ap (λ b. cond b (first_page count p) (image p)) (lt-ltb p 17 to)
+      ∙ ap (λ b. cond b (superblock_page (empty_of count)) catalog_page) (ne_eqb p 0 (λ none. omega (arith, none, from)));
+}
+
+-- and its catalog is whole
+pub made_whole : (count : ℕ) (image new : Image) (s : Superblock) → 62 ≤ count → count < 2 ^ 32 → ((p : ℕ) → put_all (first_pages count) image p ≡ empty_over count image p) → new ≡ put_all (first_pages count) image → s ≡ empty_of count → AreCatalog new s.fresh s.series
+made_whole count image new s many small first done is =
+    let P : Image → Type 0 = λ i. AreCatalog i 17 0 in
+    let Q : Superblock → Type 0 = λ one. AreCatalog new one.fresh one.series in
+    let store = empty_store count (empty_over count image) many small (first_over count image) in
+    subst Q (sym is) (subst P (sym (fun_ext first) ∙ sym done) store.catalog)
+
+nothing : (id : ℕ) (one : StoredSeries) → slice_get {X = StoredSeries} [] id ≡ Some one → ⊥
+nothing zero one there = cc
+nothing (suc id) one there = cc
+
+pub none_fit : (fresh : ℕ) (series : List StoredSeries) → series ≡ [] → AreFit fresh series
+none_fit fresh series none =
+    let P : List StoredSeries → Type 0 = λ l. AreFit fresh l in
+    subst P (sym none) (λ id one there. absurd (nothing id one there))
+
+pub none_told : (image : Image) (series : List StoredSeries) → series ≡ [] → AreAsTold image series
+none_told image series none =
+    let P : List StoredSeries → Type 0 = λ l. AreAsTold image l in
+    subst P (sym none) (λ id one there. absurd (nothing id one there))
+
+-- the pages stand for the book with the numbers of the space that was opened
+pub opened_store : (told told' : Type 0) (old new : View) (total : ℕ) (book : List Series) (s : Superblock) (stands : StandsForBook old.image total book) → Reads told told' old new → told → stands.superblock ≡ s → IsStore new.image s book
+opened_store told told' old new total book s stands reads t same =
+    let P : Superblock → Type 0 = λ one. IsStore old.image one book in
+    let Q : Image → Type 0 = λ image. IsStore image s book in
+    subst Q (sym (reads.image t)) (subst P same stands.store)

@@ -1,0 +1,28 @@
+use Rattle.std.proofs.Common.{◌≡◌, ◌<◌, ◌^◌, sym, ap, subst, ◌∙◌}
+use Rattle.page_space.specs.declared.superblock.Superblock.{Superblock}
+use Rattle.store_catalog.specs.Catalogs.{AreFit}
+use Rattle.series_store.proofs.StayLemmas.{Stay, told_on, whole_on}
+use Rattle.series_store.proofs.nodes.StoreNodes.coef.Goals as goal
+
+pub invariant_of-self : goal.invariant_of-self
+invariant_of-self g c =
+    let same : c.coef_at.new.space.superblock ≡ c.args.self.now.space.superblock = c.coef_at.ensures.kept.superblock in
+    let stay : Stay (g.P.Pages.told c.args.self.now.space.pages) (g.P.Pages.told c.coef_at.new.space.pages) (g.P.Pages.view c.args.self.now.space.pages) (g.P.Pages.view c.coef_at.new.space.pages) = record {
+      was_fit = λ fit. c.requires.fit.sound;
+      was_told = c.coef_at.ensures.kept.was_told;
+      image = c.coef_at.ensures.kept.image;
+    } in
+    let P : Superblock → Type 0 = λ s. s.total < 2 ^ 32 in
+    let F : Superblock → Type 0 = λ s. AreFit s.fresh c.args.self.now.catalog.series.items in
+    let R : Superblock → Type 0 = λ s. c.args.self.now.tree.root < s.total in
+    record {
+      small = subst P (sym same) c.args.self.now.small;
+      count = c.args.self.now.count ∙ ap (λ (s : Superblock). s.series) (sym same);
+      fits = subst F (sym same) c.args.self.now.fits;
+      told = told_on (g.P.Pages.told c.args.self.now.space.pages) (g.P.Pages.told c.coef_at.new.space.pages) (g.P.Pages.view c.args.self.now.space.pages) (g.P.Pages.view c.coef_at.new.space.pages) c.args.self.now.catalog.series.items stay c.args.self.now.told;
+      whole = whole_on (g.P.Pages.told c.args.self.now.space.pages) (g.P.Pages.told c.coef_at.new.space.pages) (g.P.Pages.view c.args.self.now.space.pages) (g.P.Pages.view c.coef_at.new.space.pages) c.args.self.now.space.superblock c.coef_at.new.space.superblock stay same c.args.self.now.whole;
+      few = c.args.self.now.few;
+      root = subst R (sym same) c.args.self.now.root;
+      proper = c.args.self.now.proper;
+      trail_is = c.coef_at.ensures.fit.trail_is;
+    }

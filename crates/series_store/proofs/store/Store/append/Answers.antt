@@ -1,0 +1,54 @@
+use Rattle.std.proofs.Common.{◌≡◌, ℕ, ℤ, List, length, slice_get, Option, Some, Ok, Err, Result, subst, sym, ap, refl, arith, ◌∙◌}
+use Rattle.block_disk.specs.View.{Image}
+use Rattle.series_book.specs.declared.edits.Edit.TheVariants.{Append}
+use Rattle.series_book.specs.declared.one_series.Series.{Series}
+use Rattle.series_book.specs.declared.refusals.Refusal.{Refusal}
+use Rattle.series_book.specs.declared.refusals.Refusal.TheVariants.{UnknownSeries}
+use Rattle.series_book.specs.Axes.{IsAxisOf}
+use Rattle.series_book.specs.Edits.{Edited, apply, id_of, within, appended, overwritten}
+use Rattle.store_catalog.specs.declared.stored_series.StoredSeries.{StoredSeries}
+use Rattle.series_store.specs.Changing.{IsAnswered}
+use Rattle.series_store.specs.declared.errors.StoreError.TheVariants.{Refused}
+use Rattle.series_store.proofs.AnswerLemmas.{answered_none}
+use Rattle.series_store.proofs.FindLemmas.{IsFound, found, unknown, is_axis, change_unknown, append_answer}
+use Rattle.series_store.proofs.store.Store.append.Goals as goal
+
+pub returns-in_default-clause-answered : goal.returns-in_default-clause-answered
+returns-in_default-clause-answered g c = λ total book told stands.
+    let store = c.args.self.now in
+    let view = g.P.Pages.view store.space.pages in
+    let none = unknown view.size total view.image store.space.superblock book store.catalog.series.items c.args.name.now store.space.rules store.small (store.space.spelled c.requires.sound told) stands store.count (store.told c.requires.sound told) c.in_default.ensures.id in
+    let change : ℕ → Series → Result Edited Refusal = λ id series. within total book id series (appended series c.args.values.now) in
+    answered_none (apply book total (Append c.args.name.now c.args.values.now)) total book (Err (Refused UnknownSeries)) (Refused UnknownSeries) view (change_unknown book (id_of c.args.name.now book) change none) refl
+
+pub append_refusal-requires : goal.append_refusal-requires
+append_refusal-requires g c = record { slots = omega (arith, c.axis-axis.ensures.slots, (c.args.self.now.fits c.in-Some.id c.series.result.now c.series.ensures).slots) }
+
+pub returns-in-Some-append_refusal-clause-answered : goal.returns-in-Some-append_refusal-clause-answered
+returns-in-Some-append_refusal-clause-answered g c = λ total book told stands.
+    let store = c.args.self.now in
+    let view = g.P.Pages.view store.space.pages in
+    let one : StoredSeries = c.series.result.now in
+    let is : IsFound book c.args.name.now c.in-Some.id one = found view.size total view.image store.space.superblock book store.catalog.series.items c.args.name.now c.in-Some.id one store.space.rules store.small (store.space.spelled c.requires.sound told) stands store.count (store.told c.requires.sound told) c.in-Some.ensures.id c.series.ensures in
+    let axis : IsAxisOf is.series c.axis-axis.result = is_axis book c.args.name.now c.in-Some.id one c.axis-axis.result is c.axis-axis.ensures.start c.axis-axis.ensures.step c.axis-axis.ensures.slots in
+    let refusal : Refusal = c.in-Some-append_refusal.refusal in
+    let says : appended is.series c.args.values.now ≡ Err refusal = c.in-Some-append_refusal.ensures.refusal is.series axis in
+    answered_none (apply book total (Append c.args.name.now c.args.values.now)) total book (Err (Refused refusal)) (Refused refusal) view
+    (append_answer book total c.args.name.now c.args.values.now c.in-Some.id is.series (Err refusal) is.is_id is.there says) refl
+
+pub returns-clause-answered : goal.returns-clause-answered
+returns-clause-answered g c = λ total book told stands.
+    let store = c.args.self.now in
+    let view = g.P.Pages.view store.space.pages in
+    let one : StoredSeries = c.series.result.now in
+    let is : IsFound book c.args.name.now c.in-Some.id one = found view.size total view.image store.space.superblock book store.catalog.series.items c.args.name.now c.in-Some.id one store.space.rules store.small (store.space.spelled c.requires.sound told) stands store.count (store.told c.requires.sound told) c.in-Some.ensures.id c.series.ensures in
+    let axis : IsAxisOf is.series c.axis-axis.result = is_axis book c.args.name.now c.in-Some.id one c.axis-axis.result is c.axis-axis.ensures.start c.axis-axis.ensures.step c.axis-axis.ensures.slots in
+    let says : appended is.series c.args.values.now ≡ Ok (overwritten is.series.slots (length is.series.slots) c.args.values.now) = c.in_default-append_refusal.ensures.refusal is.series axis in
+    let run : c.deref.result.now ≡ c.args.values.now = c.deref.ensures.value ∙ c.in_ok-run.ensures.slots in
+    let same : overwritten is.series.slots c.axis-axis.result.slots c.deref.result.now ≡ overwritten is.series.slots (length is.series.slots) c.args.values.now =
+    ap (λ n. overwritten is.series.slots n c.deref.result.now) axis.slots ∙ ap (λ values. overwritten is.series.slots (length is.series.slots) values) run in
+    let A : Result Edited Refusal → Type 0 = λ answer. IsAnswered answer total book c.put.result view (g.P.Pages.view c.put.new.self.space.pages) in
+    subst A
+    (ap (λ (slots : List (Option ℤ)). within total book c.in-Some.id is.series (Ok slots)) same
+    ∙ sym (append_answer book total c.args.name.now c.args.values.now c.in-Some.id is.series (Ok (overwritten is.series.slots (length is.series.slots) c.args.values.now)) is.is_id is.there says))
+    (c.put.ensures.answered total book is.series told stands is.there)

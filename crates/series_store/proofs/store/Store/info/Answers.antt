@@ -1,0 +1,31 @@
+use Rattle.std.proofs.Common.{◌≤◌, ◌^◌, ℤ, refl, sym, subst}
+use Rattle.std.specs.Prelude.{unsigned_abs}
+use Rattle.series_store.proofs.AskLemmas.{own_store, info_is, start_same}
+use Rattle.series_store.proofs.store.Store.info.Goals as goal
+
+pub returns-clause-step : goal.returns-clause-step
+returns-clause-step g c =
+    let is = (c.args.self.now.fits c.args.id c.series-series.result.now c.series-series.ensures) in
+    (is.step_low, is.step_high)
+
+pub returns-clause-start : goal.returns-clause-start
+returns-clause-start g c =
+    let few = (c.args.self.now.fits c.args.id c.series-series.result.now c.series-series.ensures).start in
+    let P : ℤ → Type 0 = λ z. unsigned_abs z ≤ 10 ^ 18 in
+    subst P (sym (start_same c.series-series.result.now.start few)) few
+
+pub returns-clause-scale : goal.returns-clause-scale
+returns-clause-scale g c = (c.args.self.now.fits c.args.id c.series-series.result.now c.series-series.ensures).scale
+
+pub returns-clause-slots : goal.returns-clause-slots
+returns-clause-slots g c = (c.args.self.now.fits c.args.id c.series-series.result.now c.series-series.ensures).slots
+
+pub returns-clause-none : goal.returns-clause-none
+returns-clause-none g c = λ none.
+    let is = (c.args.self.now.fits c.args.id c.series-series.result.now c.series-series.ensures) in
+    is.rooted.1 (is.root.none none)
+
+pub returns-clause-info : goal.returns-clause-info
+returns-clause-info g c = λ total book series fit told stands there.
+    let own = own_store (g.P.Pages.view c.args.self.now.space.pages).size total (g.P.Pages.view c.args.self.now.space.pages).image book c.args.self.now.space.superblock c.args.self.now.space.rules c.args.self.now.small (c.args.self.now.space.spelled fit told) stands in
+    info_is (g.P.Pages.view c.args.self.now.space.pages).image c.args.self.now.space.superblock book c.args.self.now.catalog.series.items c.args.id c.series-series.result.now series _ own.0 (c.args.self.now.told fit told) c.series-series.ensures there refl (start_same c.series-series.result.now.start (c.args.self.now.fits c.args.id c.series-series.result.now c.series-series.ensures).start) refl refl refl refl

@@ -1,0 +1,32 @@
+-- A store as the nodes of a series' tree, and what it tells of a series.
+use Rattle.std.specs.Prelude.{ℕ, ◌≡◌, length}
+use Rattle.om3_coeff.specs.Keys.{top_key}
+use Rattle.om3_coeff.specs.Spans.{span}
+use Rattle.series_book.specs.declared.one_series.Series.{Series}
+use Rattle.store_catalog.specs.declared.catalog.Catalog.{Catalog}
+use Rattle.tree_walk.specs.PagedNodes.{Ground, Keeps, pages_keep, pages_keep_on}
+use Rattle.std.proofs.Common.{refl, ◌∙◌}
+use Rattle.series_store.specs.declared.series_info.SeriesInfo.{SeriesInfo}
+
+-- what is told of a series is so
+pub record IsInfo (series : Series) (id : ℕ) (info : SeriesInfo) : Type 0 where
+  pub id_is : info.id ≡ id
+  pub start : info.start ≡ series.start
+  pub step : info.step ≡ series.step
+  pub scale : info.scale ≡ series.scale
+  pub slots : info.slots ≡ length series.slots
+  pub span_is : info.span ≡ span series.slots (top_key (length series.slots))
+
+-- asks keep the pages, the tree and the catalog
+pub record KeepsStore (old new : Ground) (before after : Catalog) : Type 0 where
+  pub pages : Keeps old new
+  pub catalog : after ≡ before
+
+pub store_keeps : (at : Ground) (catalog : Catalog) → KeepsStore at at catalog catalog
+store_keeps at catalog = record { pages = pages_keep at; catalog = refl }
+
+pub store_keeps_on : (old mid new : Ground) (before between after : Catalog) → KeepsStore old mid before between → KeepsStore mid new between after → KeepsStore old new before after
+store_keeps_on old mid new before between after first second = record {
+  pages = pages_keep_on old mid new first.pages second.pages;
+  catalog = second.catalog ∙ first.catalog;
+}

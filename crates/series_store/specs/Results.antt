@@ -1,0 +1,70 @@
+-- What an edit does.
+use Rattle.std.specs.Prelude.{ℕ, ◌≡◌, ◌<◌, ◌≤◌, ◌⊎◌, List, Ok, Err}
+use Rattle.block_disk.specs.Counts.{HasRisen}
+use Rattle.block_disk.specs.View.{Image, View, Rises}
+use Rattle.series_book.specs.declared.one_series.Series.{Series}
+use Rattle.series_book.specs.declared.edits.Edit.{Edit}
+use Rattle.series_book.specs.declared.outcomes.Outcome.{Outcome}
+use Rattle.series_book.specs.Edits.{Edited, apply}
+use Rattle.stored_book.specs.Standing.{StandsForBook}
+use Rattle.series_store.specs.declared.errors.StoreError.{StoreError}
+use Rattle.series_store.specs.declared.errors.StoreError.TheVariants.{Refused, NotAStore, DiskFault, Damaged, NoMemory}
+
+-- the edit was accepted, and the pages stand for the edited book
+pub record IsDone (total : ℕ) (book : List Series) (edit : Edit) (outcome : Outcome) (image : Image) : Type 0 where
+  pub edited : Edited
+  pub accepted : apply book total edit ≡ Ok edited
+  pub slots : outcome.slots ≡ edited.slots
+  pub stands : StandsForBook image total edited.book
+
+-- where pages stand for a book, an edit is refused so, or the disk or the memory failed
+abbrev pub IsRefusedWith : ℕ → List Series → Edit → StoreError → Type 0
+IsRefusedWith total book edit (Refused refusal) = apply book total edit ≡ Err refusal
+IsRefusedWith total book edit NotAStore = ⊥
+IsRefusedWith total book edit DiskFault = Unit {0}
+IsRefusedWith total book edit (Damaged page) = ⊥
+IsRefusedWith total book edit NoMemory = Unit {0}
+
+-- the pages of the accepted edit's book
+pub record IsAfter (total : ℕ) (book : List Series) (edit : Edit) (image : Image) : Type 0 where
+  pub edited : Edited
+  pub accepted : apply book total edit ≡ Ok edited
+  pub stands : StandsForBook image total edited.book
+
+-- pages that stand for the book from before the edit, or for the one after it
+abbrev pub IsBeforeOrAfter : ℕ → List Series → Edit → Image → Type 0
+IsBeforeOrAfter total book edit image = StandsForBook image total book ⊎ IsAfter total book edit image
+
+-- why an edit wasn't done, beside what the pages are
+abbrev pub IsEditCause : StoreError → ℕ → View → View → Type 0
+IsEditCause (Refused refusal) total old new = Unit {0}
+IsEditCause NotAStore total old new = ⊥
+IsEditCause DiskFault total old new = HasRisen old.faults new.faults
+IsEditCause (Damaged page) total old new = page < total
+IsEditCause NoMemory total old new = Unit {0}
+
+-- nothing was committed
+pub record IsUnchanged (told : Type 0) (old new : View) : Type 0 where
+  pub image : told → new.image ≡ old.image
+  pub fit : old.fit → new.fit
+  pub syncs : new.syncs ≡ old.syncs
+  pub writes : new.writes ≡ old.writes
+
+-- unless a call of the disk failed, nothing was committed
+abbrev pub IsUnchangedFor : StoreError → Type 0 → View → View → Type 0
+IsUnchangedFor (Refused refusal) told old new = IsUnchanged told old new
+IsUnchangedFor NotAStore told old new = ⊥
+IsUnchangedFor DiskFault told old new = Unit {0}
+IsUnchangedFor (Damaged page) told old new = IsUnchanged told old new
+IsUnchangedFor NoMemory told old new = IsUnchanged told old new
+
+-- what an edit moves, whatever the pages are
+pub record Moves (told_old told_new : Type 0) (old new : View) : Type 0 where
+  pub told : told_old → told_new
+  pub was_told : told_new → told_old
+  pub size : new.size ≡ old.size
+  pub beside : new.beside ≡ old.beside
+  pub faults : old.faults ≤ new.faults
+  pub reads : Rises 96 old.reads new.reads
+  pub syncs : Rises 4 old.syncs new.syncs
+  pub writes : Rises 83 old.writes new.writes

@@ -1,0 +1,58 @@
+//! What an edit makes of the errors of the layers below.
+ghost use Rattle.std.specs.Prelude.{◌≡◌};
+ghost use Rattle.path_repair.specs.declared.errors.RepairError.{RepairError};
+ghost use Rattle.series_store.specs.Errors.{error_of};
+ghost use Rattle.series_store.specs.declared.errors.StoreError.TheVariants.{DiskFault as AtDisk, NoMemory as AtMemory};
+
+use crate::errors::StoreError;
+use gate_pages::DiskFault;
+use path_repair::RepairError;
+use series_book::Refusal;
+
+impl From<DiskFault> for StoreError {
+    ghost from_gives = { λ _ e. e ≡ AtDisk };
+
+    fn from(_error: DiskFault) -> StoreError {
+        StoreError::DiskFault
+    }
+}
+
+impl From<page_space::NoMemory> for StoreError {
+    ghost from_gives = { λ _ e. e ≡ AtMemory };
+
+    fn from(_error: page_space::NoMemory) -> StoreError {
+        StoreError::NoMemory
+    }
+}
+
+impl From<series_book::NoMemory> for StoreError {
+    ghost from_gives = { λ _ e. e ≡ AtMemory };
+
+    fn from(_error: series_book::NoMemory) -> StoreError {
+        StoreError::NoMemory
+    }
+}
+
+impl From<store_catalog::NoMemory> for StoreError {
+    ghost from_gives = { λ _ e. e ≡ AtMemory };
+
+    fn from(_error: store_catalog::NoMemory) -> StoreError {
+        StoreError::NoMemory
+    }
+}
+
+impl From<RepairError> for StoreError {
+    ghost from_gives = { λ error e. e ≡ error_of error };
+
+    fn from(error: RepairError) -> StoreError {
+        match error {
+            RepairError::Full { needed, have } => StoreError::Refused(Refusal::Full {
+                needed,
+                have,
+            }),
+            RepairError::DiskFault => StoreError::DiskFault,
+            RepairError::Damaged { page } => StoreError::Damaged { page },
+            RepairError::NoMemory => StoreError::NoMemory,
+        }
+    }
+}

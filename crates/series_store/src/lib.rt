@@ -1,0 +1,31 @@
+//! A book of series on pages: opened, read and edited in commits.
+//!
+//! Page 0 and the 16 pages of the catalog are read when a store is opened, and kept in memory; of the
+//! trees of the series only the pages on the way to what is asked are read. An edit changes pages in a
+//! transaction, which is committed at once. So at each moment a crash leaves the pages of the book from
+//! before the edit or of the one after it.
+//!
+//! Invariant of a store: while its pages are sound, its numbers and its catalog are those of the pages.
+//! A store is the nodes of the series that is selected. Requests, sessions and streams are left to the
+//! layer above.
+#![tactic(auto)]
+
+mod creating;
+mod edit_errors;
+mod editing;
+mod errors;
+pub mod laws;
+mod nodes;
+mod opening;
+mod saving;
+mod series_info;
+mod store;
+mod store_calls;
+mod streams;
+
+pub use errors::StoreError;
+pub use series_info::SeriesInfo;
+pub use store::Store;
+
+#[cfg(test)]
+mod opening_tests;

@@ -1,0 +1,157 @@
+//! A store is made, and opened.
+ghost use Rattle.std.specs.Prelude.{◌≡◌, ◌≢◌, ◌≤◌, ◌<◌, ◌^◌, ℕ, List, [], IfOk, IfErr};
+ghost use Rattle.block_disk.specs.View.{View};
+ghost use Rattle.gate_pages.specs.Pages.{GoesOn};
+ghost use Rattle.path_repair.specs.Standing.{ReadsMost};
+ghost use Rattle.series_book.specs.declared.one_series.Series.{Series};
+ghost use Rattle.series_store.specs.Opening.{pages_in, IsOpenCause, IsReadCause, IsOutside, MakesStore, space_error_of, catalog_error_of};
+ghost use Rattle.stored_book.specs.Standing.{StandsForBook};
+ghost use Rattle.tree_walk.specs.Trails.{IsTrailOfAny};
+
+use crate::errors::StoreError;
+use crate::store::Store;
+use block_disk::Back;
+use gate_pages::Pages;
+use page_space::{Space, SpaceError};
+use std::alloc::Global;
+use store_catalog::{Catalog, CatalogError, read_catalog};
+use tree_walk::{Trail, Tree};
+
+/// No series is selected.
+pub(crate) const NO_TREE: Tree = Tree {
+    slots: 0,
+    root: 0,
+    span: None,
+};
+
+/// What an error of a space is in a store. `Full` comes from no opening.
+fn space_error(error: SpaceError) -> StoreError
+    ensures { result ≡ space_error_of error }
+{
+    match error {
+        SpaceError::NotAStore => StoreError::NotAStore,
+        SpaceError::Full { .. } | SpaceError::NoMemory => StoreError::NoMemory,
+        SpaceError::DiskFault => StoreError::DiskFault,
+        SpaceError::Damaged { page } => StoreError::Damaged { page },
+    }
+}
+
+fn catalog_error(error: CatalogError) -> StoreError
+    ensures { result ≡ catalog_error_of error }
+{
+    match error {
+        CatalogError::DiskFault => StoreError::DiskFault,
+        CatalogError::Damaged { page } => StoreError::Damaged { page },
+        CatalogError::NoMemory => StoreError::NoMemory,
+    }
+}
+
+/// A catalog without a series and an empty trail.
+fn parts(alloc: Global) -> Result<(Catalog, Trail), StoreError>
+    ensures catalog { IfOk result (λ parts. parts.0.series.items ≡ []) }
+    ensures trail { IfOk result (λ parts. IsTrailOfAny parts.1.pages.items parts.1.len parts.1.asked) }
+    ensures err { IfErr result (λ e. e ≡ StoreError.NoMemory) }
+{
+    let Ok(catalog) = Catalog::new(alloc) else {
+        return Err(StoreError::NoMemory);
+    };
+    let Ok(trail) = Trail::new(alloc) else {
+        return Err(StoreError::NoMemory);
+    };
+    Ok((catalog, trail))
+}
+
+impl<P: Pages> Store<P> {
+    /// Makes the pages a store without a series, in one commit, whatever they were. After `DiskFault` they
+    /// aren't sound.
+    pub fn init(alloc: Global, pages: P) -> Result<Store<P>, Back<P, StoreError>>
+        requires sound { (P.view pages).fit }
+        requires many { 62 ≤ (P.view pages).size }
+        ensures cause { IfErr result (λ back. IsOutside back.cause) }
+        ensures store { IfOk result (λ store. P.told pages → StandsForBook (P.view store.space.pages).image (P.view pages).size []) }
+        ensures sound { IfOk result (λ store. (P.view store.space.pages).fit) }
+        // a crash at any moment leaves the pages from before, or the store
+        ensures moments { MakesStore (P.view pages) (P.view (pages_in result)) }
+        ensures told { P.told pages → P.told (pages_in result) }
+        ensures goes_on { GoesOn (P.under pages) (P.under (pages_in result)) }
+        ensures size { (P.view (pages_in result)).size ≡ (P.view pages).size }
+        ensures beside { (P.view (pages_in result)).beside ≡ (P.view pages).beside }
+    {
+        let _count = pages.count();
+        let (catalog, trail) = match parts(alloc) {
+            Ok(parts) => parts,
+            Err(cause) => return Err(Back {
+                value: pages,
+                cause,
+            }),
+        };
+        match Space::init(alloc, pages) {
+            Ok(space) => Ok(Store {
+                alloc,
+                space,
+                catalog,
+                trail,
+                tree: NO_TREE,
+            }),
+            Err(Back { value, cause }) => Err(Back {
+                value,
+                cause: space_error(cause),
+            }),
+        }
+    }
+
+    /// The store that the pages hold. It reads page 0 and the catalog, 17 blocks at most, and writes nothing.
+    ///
+    /// `NotAStore` where page 0 lacks the magic, `Damaged` where it breaks its layout else, or a page of
+    /// the catalog does, or repeats a name.
+    pub fn open(alloc: Global, pages: P) -> Result<Store<P>, Back<P, StoreError>>
+        requires sound { (P.view pages).fit }
+        requires many { 62 ≤ (P.view pages).size }
+        ensures cause { IfErr result (λ back. IsOpenCause back.cause (P.told pages) (P.view pages) (P.view back.value)) }
+        ensures a_store { (total : ℕ) (book : List Series) → P.told pages → total ≤ (P.view pages).size → StandsForBook (P.view pages).image total book → IfErr result (λ back. IsOutside back.cause) }
+        ensures reads { ReadsMost 17 (P.told pages) (P.told (pages_in result)) (P.view pages) (P.view (pages_in result)) }
+        ensures goes_on { GoesOn (P.under pages) (P.under (pages_in result)) }
+    {
+        let Ok(trail) = Trail::new(alloc) else {
+            return Err(Back {
+                value: pages,
+                cause: StoreError::NoMemory,
+            });
+        };
+        match Space::open(alloc, pages) {
+            Ok(space) => Store::with_catalog(alloc, space, trail),
+            Err(Back { value, cause }) => Err(Back {
+                value,
+                cause: space_error(cause),
+            }),
+        }
+    }
+
+    /// The store of a space, whose catalog is read.
+    fn with_catalog(
+        alloc: Global,
+        mut space: Space<P>,
+        trail: Trail,
+    ) -> Result<Store<P>, Back<P, StoreError>>
+        requires sound { (P.view space.pages).fit }
+        requires trail { IsTrailOfAny trail.pages.items trail.len trail.asked }
+        ensures cause { IfErr result (λ back. IsReadCause back.cause (P.told space.pages) space.superblock (P.view space.pages) (P.view back.value)) }
+        ensures reads { ReadsMost 16 (P.told space.pages) (P.told (pages_in result)) (P.view space.pages) (P.view (pages_in result)) }
+        ensures goes_on { GoesOn (P.under space.pages) (P.under (pages_in result)) }
+    {
+        let _total = space.total();
+        match read_catalog(alloc, &mut space) {
+            Ok(catalog) => Ok(Store {
+                alloc,
+                space,
+                catalog,
+                trail,
+                tree: NO_TREE,
+            }),
+            Err(cause) => Err(Back {
+                value: space.into_pages(),
+                cause: catalog_error(cause),
+            }),
+        }
+    }
+}

@@ -1,0 +1,11 @@
+pub mod PageCounts
+pub mod PagesInUse
+pub mod TreesLemmas
+pub mod FrameLemmas
+pub mod NumberLemmas
+pub mod ChangedLemmas
+pub mod AddedLemmas
+pub mod EmptyLemmas
+pub mod OneBook
+pub mod TellingLemmas
+pub mod TrailLemmas

@@ -1,0 +1,4 @@
+pub mod Records
+pub mod Standing
+pub mod Changing
+pub mod Books
