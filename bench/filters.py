@@ -1,9 +1,10 @@
 """The seconds that a filtered view of a long series takes, by how much of the series its filter decides. See bench/run."""
 import random
 
-from measuring import HEIGHT, PROGRAM, WIDTH, least_seconds, measure_all
+from measuring import HEIGHT, PROGRAM, WIDTH, build_store, least_seconds, lines_of_series, measure_all
 
-COUNT, LINE, VIEWS, ROUNDS, RARE = 1000000, 256, 20, 5, 100000
+COUNT, VIEWS, ROUNDS, RARE = 1000000, 20, 5, 100000
+STORE, BLOCKS = "filters.store", 16384
 # Noise from 0 to 999, and one value in RARE far above it. Almost every two neighbours lie on both sides of 500.
 NOISE, HIGH, MIDDLE = 1000, 10**6, 500
 ROWS = (
@@ -24,22 +25,20 @@ def view(text):
     return f"view 1 s {WIDTH} {HEIGHT} 0 {COUNT} auto" + (f" where {text}" if text else "")
 
 
-def write_input(name, stored, asked):
+def write_input(name, asked):
+    # Each view is a session's first one, so that none is answered from what the client holds.
     with open(name, "w") as file:
-        file.write("create s 0 1 0\n")
-        for at in range(0, COUNT, LINE):
-            file.write(f"append s {' '.join(map(str, stored[at : at + LINE]))}\n")
-        # Each view is a session's first one, so that none is answered from what the client holds.
-        file.writelines(f"open 1\n{line}\nclose 1\n" for line in asked)
+        file.writelines(f"open 1\n{line}close 1\n" for line in asked)
 
 
 def measure_filters():
-    stored = values()
-    write_input("without", stored, [])
-    rows = [("without", [PROGRAM, "-", "serve"], "without")]
+    build_store(STORE, BLOCKS, lines_of_series(values()))
+    serve = [PROGRAM, STORE, "serve"]
+    write_input("without", VIEWS * [""])
+    rows = [("without", serve, "without")]
     for number, (name, text) in enumerate(ROWS):
-        write_input(f"filter{number}", stored, VIEWS * [view(text)])
-        rows.append((name, [PROGRAM, "-", "serve"], f"filter{number}"))
+        write_input(f"filter{number}", VIEWS * [view(text) + "\n"])
+        rows.append((name, serve, f"filter{number}"))
     least = least_seconds(measure_all(rows, ROUNDS))
     whole = least[ROWS[-1][0]] - least["without"]
     print(f"seconds of a view of {COUNT} values, {WIDTH} by {HEIGHT} pixels, by its filter: the least of {ROUNDS} rounds of `serve` with")

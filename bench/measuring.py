@@ -1,12 +1,16 @@
-"""What the benchmarks share: the built program, the values that they draw, and the seconds and the memory of a run."""
+"""What the benchmarks share: the built program, its stores, the values that they draw, and the seconds and the memory of a run."""
 import os
+import shutil
 import statistics
 import subprocess
+import tempfile
 import time
 
 ROOT = os.path.dirname(os.path.dirname(os.path.realpath(__file__)))
 PROGRAM = f"{ROOT}/crates/chart_program/out/chart_program"
 WIDTH, HEIGHT = 1000, 400
+BLOCK, LINE = 4096, 256  # bytes of a block; the most values of a line
+MEMORY = "/dev/shm"  # where Linux keeps files in memory, on which a sync costs nothing
 
 
 def walk(count):
@@ -22,6 +26,47 @@ def is_built():
     """Has ./chart build the program where it must, by a chart of nothing."""
     how = {"stdin": subprocess.DEVNULL, "stdout": subprocess.DEVNULL}
     return subprocess.run([f"{ROOT}/chart", "-", "plot", "1", "1"], **how).returncode == 0
+
+
+def make_store(path, blocks):
+    """Makes an empty store in a file."""
+    with open(path, "wb") as file:
+        file.truncate(BLOCK * blocks)
+    subprocess.run([PROGRAM, path, "init"], stdin=subprocess.DEVNULL, check=True)
+
+
+def build_store(path, blocks, lines):
+    """Makes a store of what these request lines do: in memory where that can be, since it isn't measured."""
+    with tempfile.TemporaryDirectory(dir=MEMORY if os.path.isdir(MEMORY) else None) as folder:
+        built = os.path.join(folder, "store")
+        make_store(built, blocks)
+        with open(os.path.join(folder, "replies"), "w+b") as replies:
+            with subprocess.Popen([PROGRAM, built, "run"], stdin=subprocess.PIPE, stdout=replies) as program:
+                program.stdin.writelines(f"{line}\n".encode() for line in lines)
+            replies.seek(0)
+            if program.returncode or b"refused" in replies.read():
+                raise subprocess.CalledProcessError(program.returncode, program.args)
+        # Without the part that was never written.
+        subprocess.run(["cp", "--sparse=always", built, path], check=True)
+
+
+def lines_of_series(values):
+    """The request lines that make the series `s` of these values."""
+    yield "create s 0 1 0"
+    for at in range(0, len(values), LINE):
+        yield f"append s {' '.join(map(str, values[at : at + LINE]))}"
+
+
+def counted_calls(words, given, calls):
+    """How often a run makes these calls of the system, or None where `strace` isn't installed."""
+    if not shutil.which("strace"):
+        return None
+    with open(given, "rb") as given:
+        traced = ["strace", "-f", "-c", "-o", "calls", "-e", f"trace={','.join(calls)}", *words]
+        subprocess.run(traced, stdin=given, stdout=subprocess.DEVNULL, check=True)
+    with open("calls") as counts:
+        rows = [line.split() for line in counts]
+    return sum(int(row[3]) for row in rows if row and row[-1] in calls)
 
 
 def measure(words, given):

@@ -4,19 +4,12 @@ import shlex
 import subprocess
 import sys
 
-from measuring import HEIGHT, PROGRAM, ROOT, WIDTH, least_seconds, measure_all, walk
+from measuring import HEIGHT, PROGRAM, ROOT, WIDTH, build_store, least_seconds, lines_of_series, measure_all, walk
 
-COUNT, LINE, VIEWS, ROUNDS = 1000000, 256, 20, 5
+COUNT, VIEWS, ROUNDS = 1000000, 20, 5
+STORE, BLOCKS = "views.store", 16384
 CLIENT = f"{ROOT}/clients/python/chart_client.py"
 POINT, ROWS_HEAD, ROW = 16, 31, 34  # bytes: a time and a value; of a Rows frame the fields before its rows, and a row
-
-
-def series():
-    """The request lines that make the series `s`, and its values."""
-    values = list(walk(COUNT))
-    lines = ["create s 0 1 0"]
-    lines += [f"append s {' '.join(map(str, values[at : at + LINE]))}" for at in range(0, COUNT, LINE)]
-    return lines, values
 
 
 def view():
@@ -55,10 +48,10 @@ def output_of(words, given):
         return subprocess.run(words, stdin=given, stdout=subprocess.PIPE, check=True).stdout
 
 
-def print_bytes(lines, values):
+def print_bytes(values):
     asked = list(steps(values))
-    write_lines("session", lines + [line for _, added, _ in asked for line in added])
-    sent = [sent for sent, _ in answers(output_of([PROGRAM, "-", "run"], "session"))]
+    write_lines("session", [line for _, added, _ in asked for line in added])
+    sent = [sent for sent, _ in answers(output_of([PROGRAM, STORE, "run"], "session"))]
     print(f"a session over {COUNT} values of a random walk, {WIDTH} by {HEIGHT} pixels: the bytes of each view's frame, and for")
     print(f"comparison a frame of the first, least, greatest and last value of each column, and {POINT} bytes for each point")
     print(f"{'request':26}{'sent':>12}{'columns':>12}{'points':>12}")
@@ -73,7 +66,7 @@ def piped(*programs):
 
 def ways():
     """The rows of the table of seconds: a name, the words, and whether it is given frames in place of lines."""
-    run, serve, draw = ([PROGRAM, "-", word] for word in ("run", "serve", "draw"))
+    run, serve, draw = ([PROGRAM, STORE, word] for word in ("run", "serve", "draw"))
     client = [sys.executable, CLIENT]
     yield "run", run, False
     yield "serve", serve, False
@@ -83,14 +76,14 @@ def ways():
     yield "client in Python", client, True
 
 
-def measure_ways(lines):
+def measure_ways():
     """The runs of each way without views, and with VIEWS sessions of one first view each."""
-    inputs = {"without": lines, "with": lines + VIEWS * ["open 1", view(), "close 1"]}
+    inputs = {"without": VIEWS * ["open 1", "close 1"], "with": VIEWS * ["open 1", view(), "close 1"]}
     rows = []
     for kind, asked in inputs.items():
         write_lines(f"{kind}.lines", asked)
         with open(f"{kind}.frames", "wb") as file:
-            file.write(output_of([PROGRAM, "-", "serve"], f"{kind}.lines"))
+            file.write(output_of([PROGRAM, STORE, "serve"], f"{kind}.lines"))
         for name, words, is_framed in ways():
             rows.append((f"{name}, {kind}", words, f"{kind}.{'frames' if is_framed else 'lines'}"))
     return measure_all(rows, ROUNDS)
@@ -103,8 +96,8 @@ def pictures_of(name, written):
     return None if name == "serve" else written
 
 
-def print_seconds(lines):
-    runs = measure_ways(lines)
+def print_seconds():
+    runs = measure_ways()
     least = least_seconds(runs)
     print(f"seconds of a first view: the least of {ROUNDS} rounds with {VIEWS} of them less that without, over {VIEWS}")
     print(f"{'program':26}{'a view s':>12}{'without s':>12}{'peak MiB':>12}")
@@ -118,6 +111,7 @@ def print_seconds(lines):
 
 
 def measure_views():
-    lines, values = series()
-    print_bytes(lines, values)
-    print_seconds(lines)
+    values = list(walk(COUNT))
+    build_store(STORE, BLOCKS, lines_of_series(values))
+    print_bytes(values)
+    print_seconds()

@@ -1,22 +1,23 @@
 -- The codes of a run, and when they can't come.
-use Rattle.std.proofs.Common.{◌≡◌, ℕ, ℤ, zero, suc, ◌^◌, ◌<◌, ◌≤◌, ◌⊎◌, List, [], ◌∷◌, ◌++◌, length, map, Option, Some, None, ap, subst, inl, inr, sym, ◌∙◌, arith, length-append}
+use Rattle.std.proofs.Common.{◌≡◌, ℕ, ℤ, zero, suc, ◌⊎◌, List, [], ◌∷◌, ◌++◌, length, map, Option, Some, None, ap, subst, inl, inr, sym, ◌∙◌, arith, length-append}
 use Rattle.std.specs.Prelude.{Contains, All, true, IfSome, if◌then◌else◌}
 use Rattle.std.specs.List.{filter}
 use Rattle.std.proofs.lemmas.List.{length-map}
 use Rattle.std.proofs.lemmas.List.Elements.{filter-append, All-head, All-tail}
 use Rattle.chart_world.specs.Lines.{lines}
 use Rattle.chart_world.proofs.LineLaws.{lines_none}
+use Rattle.block_disk.specs.View.{View}
 use Rattle.plain_chart.specs.Samples.{IsSlot}
 use Rattle.chart_program.specs.Slots.{says, spelling, SpellsSlot, IsWhole, Behind, FirstBad, HasTooMany}
 use Rattle.chart_program.specs.declared.words.Command.{Command}
-use Rattle.chart_program.specs.declared.words.Command.TheVariants.{Plot, Run, Serve, Draw}
+use Rattle.chart_program.specs.declared.words.Command.TheVariants.{Plot, Draw}
 use Rattle.chart_program.specs.Words.{Spells}
-use Rattle.chart_program.specs.Ran.{Says, HasTooMuch, IsSlots, IsFrames, IsInput, AnswersWithin}
+use Rattle.chart_program.specs.Ran.{HasTooMuch, IsSlots, IsFrames, IsInput}
 use Rattle.chart_program.proofs.Joined.{lines_joined}
 use Rattle.chart_program.proofs.Ending.{says_true}
 
 -- the codes of a plot are codes of a run
-pub plot_codes : (code : ℕ) → Contains (0 ∷ 3 ∷ 4 ∷ 5 ∷ 8 ∷ 9 ∷ []) code → Contains (0 ∷ 2 ∷ 3 ∷ 4 ∷ 5 ∷ 8 ∷ 9 ∷ 10 ∷ 11 ∷ 15 ∷ 6 ∷ 12 ∷ 13 ∷ []) code
+pub plot_codes : (code : ℕ) → Contains (0 ∷ 3 ∷ 4 ∷ 5 ∷ 8 ∷ 9 ∷ []) code → Contains (0 ∷ 2 ∷ 3 ∷ 4 ∷ 5 ∷ 8 ∷ 9 ∷ 10 ∷ 11 ∷ 15 ∷ 6 ∷ 12 ∷ 13 ∷ 7 ∷ []) code
 plot_codes code (zero, inside, is) = (0, omega arith, is)
 plot_codes code (suc zero, inside, is) = (2, omega arith, is)
 plot_codes code (suc (suc zero), inside, is) = (3, omega arith, is)
@@ -96,76 +97,15 @@ completed code R S B M (suc (suc (suc (suc (suc zero)))), inside, is) read send 
 completed code R S B M (suc (suc (suc (suc (suc (suc k))))), inside, is) read send bad much no_read no_send no_bad no_much = absurd (omega (arith, inside))
 
 -- where a plot's input is told
-pub complete_so : (o : Option (List ℕ)) (code place w h : ℕ) (words : List (List ℕ)) (command : Command) (R S W : Type 0) → command ≡ Plot w h → Spells command words → Contains (0 ∷ 3 ∷ 4 ∷ 5 ∷ 8 ∷ 9 ∷ []) code → (code ≡ 4 → R) → (code ≡ 5 → S) → (code ≡ 8 → IfSome o (λ input. FirstBad input place)) → (code ≡ 9 → IfSome o (λ input. HasTooMuch input place)) → IfSome o (λ input. W → ((command : Command) → Spells command words → IsInput command input) → (R → ⊥) → (S → ⊥) → (code ≡ 0) ⊎ (code ≡ 3))
-complete_so None code place w h words command R S W is spells codes read send bad much = tt
-complete_so (Some input) code place w h words command R S W is spells codes read send bad much = λ some good no_read no_send.
-    let P : Command → Type 0 = λ c. IsInput c input in
+pub complete_so : (old new : View) (o : Option (List ℕ)) (code place w h : ℕ) (words : List (List ℕ)) (command : Command) (R S W : Type 0) → command ≡ Plot w h → Spells command words → Contains (0 ∷ 3 ∷ 4 ∷ 5 ∷ 8 ∷ 9 ∷ []) code → (code ≡ 4 → R) → (code ≡ 5 → S) → (code ≡ 8 → IfSome o (λ input. FirstBad input place)) → (code ≡ 9 → IfSome o (λ input. HasTooMuch input place)) → IfSome o (λ input. W → ((command : Command) → Spells command words → IsInput command old new input) → (R → ⊥) → (S → ⊥) → (code ≡ 0) ⊎ (code ≡ 3))
+complete_so old new None code place w h words command R S W is spells codes read send bad much = tt
+complete_so old new (Some input) code place w h words command R S W is spells codes read send bad much = λ some good no_read no_send.
+    let P : Command → Type 0 = λ c. IsInput c old new input in
     let slots : IsSlots input = subst P is (good command spells) in
     completed code R S (FirstBad input place) (HasTooMuch input place) codes read send bad much no_read no_send (no_bad input place slots) (no_much input place slots)
 
--- the codes of a run of lines are codes of a run
-pub run_codes : (code : ℕ) → Contains (0 ∷ 3 ∷ 4 ∷ 5 ∷ 9 ∷ 10 ∷ 11 ∷ 15 ∷ []) code → Contains (0 ∷ 2 ∷ 3 ∷ 4 ∷ 5 ∷ 8 ∷ 9 ∷ 10 ∷ 11 ∷ 15 ∷ 6 ∷ 12 ∷ 13 ∷ []) code
-run_codes code (zero, inside, is) = (0, omega arith, is)
-run_codes code (suc zero, inside, is) = (2, omega arith, is)
-run_codes code (suc (suc zero), inside, is) = (3, omega arith, is)
-run_codes code (suc (suc (suc zero)), inside, is) = (4, omega arith, is)
-run_codes code (suc (suc (suc (suc zero))), inside, is) = (6, omega arith, is)
-run_codes code (suc (suc (suc (suc (suc zero)))), inside, is) = (7, omega arith, is)
-run_codes code (suc (suc (suc (suc (suc (suc zero))))), inside, is) = (8, omega arith, is)
-run_codes code (suc (suc (suc (suc (suc (suc (suc zero)))))), inside, is) = (9, omega arith, is)
-run_codes code (suc (suc (suc (suc (suc (suc (suc (suc k))))))), inside, is) = absurd (omega (arith, inside))
-
-pub serve_codes : (code : ℕ) → Contains (0 ∷ 3 ∷ 4 ∷ 5 ∷ 9 ∷ []) code → Contains (0 ∷ 2 ∷ 3 ∷ 4 ∷ 5 ∷ 8 ∷ 9 ∷ 10 ∷ 11 ∷ 15 ∷ 6 ∷ 12 ∷ 13 ∷ []) code
-serve_codes code (zero, inside, is) = (0, omega arith, is)
-serve_codes code (suc zero, inside, is) = (2, omega arith, is)
-serve_codes code (suc (suc zero), inside, is) = (3, omega arith, is)
-serve_codes code (suc (suc (suc zero)), inside, is) = (4, omega arith, is)
-serve_codes code (suc (suc (suc (suc zero))), inside, is) = (6, omega arith, is)
-serve_codes code (suc (suc (suc (suc (suc k)))), inside, is) = absurd (omega (arith, inside))
-
--- the codes of a run that ends by none of the last three
-told_codes : (code : ℕ) → Contains (0 ∷ 3 ∷ 4 ∷ 5 ∷ 9 ∷ 10 ∷ 11 ∷ 15 ∷ []) code → (code ≡ 10 → ⊥) → (code ≡ 11 → ⊥) → (code ≡ 15 → ⊥) → Contains (0 ∷ 3 ∷ 4 ∷ 5 ∷ 9 ∷ []) code
-told_codes code (zero, inside, is) a b c = (0, omega arith, is)
-told_codes code (suc zero, inside, is) a b c = (1, omega arith, is)
-told_codes code (suc (suc zero), inside, is) a b c = (2, omega arith, is)
-told_codes code (suc (suc (suc zero)), inside, is) a b c = (3, omega arith, is)
-told_codes code (suc (suc (suc (suc zero))), inside, is) a b c = (4, omega arith, is)
-told_codes code (suc (suc (suc (suc (suc zero)))), inside, is) a b c = absurd (a (sym is))
-told_codes code (suc (suc (suc (suc (suc (suc zero))))), inside, is) a b c = absurd (b (sym is))
-told_codes code (suc (suc (suc (suc (suc (suc (suc zero)))))), inside, is) a b c = absurd (c (sym is))
-told_codes code (suc (suc (suc (suc (suc (suc (suc (suc k))))))), inside, is) a b c = absurd (omega (arith, inside))
-
-pub run_completed : (code : ℕ) (R S M : Type 0) → Contains (0 ∷ 3 ∷ 4 ∷ 5 ∷ 9 ∷ []) code → (code ≡ 4 → R) → (code ≡ 5 → S) → (code ≡ 9 → M) → (R → ⊥) → (S → ⊥) → (M → ⊥) → (code ≡ 0) ⊎ (code ≡ 3)
-run_completed code R S M (zero, inside, is) read send much no_read no_send no_much = inl (sym is)
-run_completed code R S M (suc zero, inside, is) read send much no_read no_send no_much = inr (sym is)
-run_completed code R S M (suc (suc zero), inside, is) read send much no_read no_send no_much = absurd (no_read (read (sym is)))
-run_completed code R S M (suc (suc (suc zero)), inside, is) read send much no_read no_send no_much = absurd (no_send (send (sym is)))
-run_completed code R S M (suc (suc (suc (suc zero))), inside, is) read send much no_read no_send no_much = absurd (no_much (much (sym is)))
-run_completed code R S M (suc (suc (suc (suc (suc k)))), inside, is) read send much no_read no_send no_much = absurd (omega (arith, inside))
-
--- where the lines of a serving command are told
-pub lines_complete : (o : Option (List ℕ)) (code : ℕ) (words : List (List ℕ)) (command : Command) (T : List ℕ → Type 0) (R S W : Type 0) → ((input : List ℕ) → IsInput command input → length input ≤ 2 ^ 32) → ((input : List ℕ) → T input → 2 ^ 32 < length input)
-    → Spells command words → Contains (0 ∷ 3 ∷ 4 ∷ 5 ∷ 9 ∷ []) code → (code ≡ 4 → R) → (code ≡ 5 → S) → (code ≡ 9 → IfSome o T) → IfSome o (λ input. W → ((command : Command) → Spells command words → IsInput command input) → (R → ⊥) → (S → ⊥) → (code ≡ 0) ⊎ (code ≡ 3))
-lines_complete None code words command T R S W short long spells codes read send much = tt
-lines_complete (Some input) code words command T R S W short long spells codes read send much = λ some good no_read no_send.
-    let few : length input ≤ 2 ^ 32 = short input (good command spells) in
-    run_completed code R S (T input) codes read send much no_read no_send (λ m. omega (arith, few, long input m))
-
-pub run_complete : (T : Says) (o before now : Option (List ℕ)) (code : ℕ) (words : List (List ℕ)) (command : Command) (R S W : Type 0) → command ≡ Run → Spells command words → Contains (0 ∷ 3 ∷ 4 ∷ 5 ∷ 9 ∷ 10 ∷ 11 ∷ 15 ∷ []) code → (code ≡ 4 → R) → (code ≡ 5 → S)
-    → (code ≡ 9 → IfSome o (λ input. AnswersWithin T input before now)) → (code ≡ 10 → IfSome o (λ input. ⊥)) → (code ≡ 11 → IfSome o (λ input. ⊥)) → (code ≡ 15 → IfSome o (λ input. ⊥))
-    → IfSome o (λ input. W → ((command : Command) → Spells command words → IsInput command input) → (R → ⊥) → (S → ⊥) → (code ≡ 0) ⊎ (code ≡ 3))
-run_complete T None before now code words command R S W is spells codes read send much missing misfit unopened = tt
-run_complete T (Some input) before now code words command R S W is spells codes read send much missing misfit unopened =
-    lines_complete (Some input) code words command (λ input. AnswersWithin T input before now) R S W (λ input good. let P : Command → Type 0 = λ c. IsInput c input in subst P is good) (λ input m. m.1.past)
-    spells (told_codes code codes missing misfit unopened) read send much
-
-pub serve_complete : (T : Says) (o before now : Option (List ℕ)) (code : ℕ) (words : List (List ℕ)) (command : Command) (R S W : Type 0) → command ≡ Serve → Spells command words → Contains (0 ∷ 3 ∷ 4 ∷ 5 ∷ 9 ∷ []) code → (code ≡ 4 → R) → (code ≡ 5 → S)
-    → (code ≡ 9 → IfSome o (λ input. AnswersWithin T input before now)) → IfSome o (λ input. W → ((command : Command) → Spells command words → IsInput command input) → (R → ⊥) → (S → ⊥) → (code ≡ 0) ⊎ (code ≡ 3))
-serve_complete T o before now code words command R S W is spells codes read send much =
-    lines_complete o code words command (λ input. AnswersWithin T input before now) R S W (λ input good. let P : Command → Type 0 = λ c. IsInput c input in subst P is good) (λ input m. m.1.past) spells codes read send much
-
 -- the codes of a drawing are codes of a run
-pub draw_codes : (code : ℕ) → Contains (0 ∷ 3 ∷ 4 ∷ 5 ∷ 8 ∷ 9 ∷ 10 ∷ 11 ∷ 15 ∷ []) code → Contains (0 ∷ 2 ∷ 3 ∷ 4 ∷ 5 ∷ 8 ∷ 9 ∷ 10 ∷ 11 ∷ 15 ∷ 6 ∷ 12 ∷ 13 ∷ []) code
+pub draw_codes : (code : ℕ) → Contains (0 ∷ 3 ∷ 4 ∷ 5 ∷ 8 ∷ 9 ∷ 10 ∷ 11 ∷ 15 ∷ []) code → Contains (0 ∷ 2 ∷ 3 ∷ 4 ∷ 5 ∷ 8 ∷ 9 ∷ 10 ∷ 11 ∷ 15 ∷ 6 ∷ 12 ∷ 13 ∷ 7 ∷ []) code
 draw_codes code (zero, inside, is) = (0, omega arith, is)
 draw_codes code (suc zero, inside, is) = (2, omega arith, is)
 draw_codes code (suc (suc zero), inside, is) = (3, omega arith, is)
@@ -185,24 +125,12 @@ draw_completed code R S (suc (suc (suc zero)), inside, is) read send no_read no_
 draw_completed code R S (suc (suc (suc (suc k))), inside, is) read send no_read no_send = absurd (omega (arith, inside))
 
 -- where the frames of a drawing are told
-pub draw_complete : (o : Option (List ℕ)) (code : ℕ) (words : List (List ℕ)) (command : Command) (R S W : Type 0) → command ≡ Draw → Spells command words → (code ≡ 4 → R) → (code ≡ 5 → S)
-    → IfSome o (λ input. IsFrames input → Contains (0 ∷ 3 ∷ 4 ∷ 5 ∷ []) code) → IfSome o (λ input. W → ((command : Command) → Spells command words → IsInput command input) → (R → ⊥) → (S → ⊥) → (code ≡ 0) ⊎ (code ≡ 3))
-draw_complete None code words command R S W is spells read send good = tt
-draw_complete (Some input) code words command R S W is spells read send good = λ some fine no_read no_send.
-    let P : Command → Type 0 = λ c. IsInput c input in
+pub draw_complete : (old new : View) (o : Option (List ℕ)) (code : ℕ) (words : List (List ℕ)) (command : Command) (R S W : Type 0) → command ≡ Draw → Spells command words → (code ≡ 4 → R) → (code ≡ 5 → S)
+    → IfSome o (λ input. IsFrames input → Contains (0 ∷ 3 ∷ 4 ∷ 5 ∷ []) code) → IfSome o (λ input. W → ((command : Command) → Spells command words → IsInput command old new input) → (R → ⊥) → (S → ⊥) → (code ≡ 0) ⊎ (code ≡ 3))
+draw_complete old new None code words command R S W is spells read send good = tt
+draw_complete old new (Some input) code words command R S W is spells read send good = λ some fine no_read no_send.
+    let P : Command → Type 0 = λ c. IsInput c old new input in
     draw_completed code R S (good (subst P is (fine command spells))) read send no_read no_send
-
--- a serving command has no bad line
-pub run_not_bad : (code : ℕ) → Contains (0 ∷ 3 ∷ 4 ∷ 5 ∷ 9 ∷ 10 ∷ 11 ∷ 15 ∷ []) code → code ≡ 8 → ⊥
-run_not_bad code (zero, inside, is) eight = omega (arith, is, eight)
-run_not_bad code (suc zero, inside, is) eight = omega (arith, is, eight)
-run_not_bad code (suc (suc zero), inside, is) eight = omega (arith, is, eight)
-run_not_bad code (suc (suc (suc zero)), inside, is) eight = omega (arith, is, eight)
-run_not_bad code (suc (suc (suc (suc zero))), inside, is) eight = omega (arith, is, eight)
-run_not_bad code (suc (suc (suc (suc (suc zero)))), inside, is) eight = omega (arith, is, eight)
-run_not_bad code (suc (suc (suc (suc (suc (suc zero))))), inside, is) eight = omega (arith, is, eight)
-run_not_bad code (suc (suc (suc (suc (suc (suc (suc zero)))))), inside, is) eight = omega (arith, is, eight)
-run_not_bad code (suc (suc (suc (suc (suc (suc (suc (suc k))))))), inside, is) eight = absurd (omega (arith, inside))
 
 -- what holds at all holds where an input is told
 pub told_all : (o : Option (List ℕ)) (P : Type 0) → P → IfSome o (λ input. P)
@@ -215,7 +143,7 @@ told_both None P Q first second = tt
 told_both (Some input) P Q first second = (first, second)
 
 -- the codes of a store's making are codes of a run
-pub init_codes : (code : ℕ) → Contains (0 ∷ 3 ∷ 6 ∷ 12 ∷ 13 ∷ []) code → Contains (0 ∷ 2 ∷ 3 ∷ 4 ∷ 5 ∷ 8 ∷ 9 ∷ 10 ∷ 11 ∷ 15 ∷ 6 ∷ 12 ∷ 13 ∷ []) code
+pub init_codes : (code : ℕ) → Contains (0 ∷ 3 ∷ 6 ∷ 12 ∷ 13 ∷ []) code → Contains (0 ∷ 2 ∷ 3 ∷ 4 ∷ 5 ∷ 8 ∷ 9 ∷ 10 ∷ 11 ∷ 15 ∷ 6 ∷ 12 ∷ 13 ∷ 7 ∷ []) code
 init_codes code (zero, inside, is) = (0, omega arith, is)
 init_codes code (suc zero, inside, is) = (2, omega arith, is)
 init_codes code (suc (suc zero), inside, is) = (10, omega arith, is)

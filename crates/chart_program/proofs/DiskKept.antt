@@ -1,5 +1,6 @@
 -- Takes and sends in a row leave the disk.
-use Rattle.std.proofs.Common.{refl, ◌∙◌}
+use Rattle.std.proofs.Common.{ℕ, ◌≤◌, refl, inl, inr, arith, ◌∙◌}
+use Rattle.block_disk.specs.Counts.{HasRisen}
 use Rattle.block_disk.specs.View.{View, DiskKept}
 
 pub kept_none : (at : View) → DiskKept at at
@@ -25,3 +26,8 @@ kept_then old mid new first second = record {
   writes = second.writes ∙ first.writes;
   fit = λ fit. second.fit (first.fit fit);
 }
+
+-- a count that has risen since a later moment has risen
+pub risen_since : (old mid new : ℕ) → old ≤ mid → HasRisen mid new → HasRisen old new
+risen_since old mid new low (inl more) = inl (omega (arith, low, more))
+risen_since old mid new low (inr most) = inr most

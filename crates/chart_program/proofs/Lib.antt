@@ -6,6 +6,17 @@ pub mod Commands
 pub mod Codes
 pub mod DiskKept
 pub mod Drawing
+pub mod Answering
 pub mod Running
+pub mod Moments
+pub mod RunStands
 pub mod Telling
 pub mod Parsing
+pub mod Ended
+pub mod World
+pub mod Lowering
+pub mod Replying
+pub mod LinesServed
+pub mod Stores
+pub mod LineCodes
+pub mod LivesLemmas

@@ -6,26 +6,26 @@ use Rattle.block_disk.specs.Streams.{left_after}
 use Rattle.chart_world.specs.declared.line_answer.LineFault.{LineFault}
 use Rattle.chart_world.specs.declared.line_answer.LineFault.TheVariants as fault
 use Rattle.chart_world.specs.Lines.{is_line_feed, lines}
-use Rattle.chart_world.specs.Reading.{Reading, unread_input, unread, input_length, NoLineIn}
+use Rattle.chart_world.specs.Reading.{Reading, unread, input_length, NoLineIn}
 use Rattle.chart_frames.specs.declared.frame.Frame.{Frame}
 use Rattle.chart_frames.specs.Frames.{spelling}
 use Rattle.chart_client.specs.declared.errors.ClientError.{ClientError}
 use Rattle.chart_client.specs.declared.show.Shown.{Shown}
 use Rattle.chart_service.specs.State.{State}
 use Rattle.chart_service.specs.Replies.{Replied}
-use Rattle.chart_service.specs.declared.failure.ServeEnd.TheVariants.{ReadFault, SendFault, InputTooLong, NoMemory}
+use Rattle.chart_service.specs.declared.failure.ServeEnd.TheVariants.{ReadFault, SendFault, DiskFault, Damaged, InputTooLong, NoMemory}
 use Rattle.chart_service.specs.Serving.{says, SendsSome, KeepsBook, end_of}
-use Rattle.chart_service.proofs.Answering.{Progress, Gives, Grows, told_so, starts, answered, skipped, says_text, taken_at, within_at, parted, kept, unsent, first_at, passes}
+use Rattle.chart_program.proofs.Answering.{Progress, Gives, Grows, told_so, answered, skipped, says_text, taken_at, within_at, parted, kept, unsent, first_at, passes}
 use Rattle.chart_program.specs.declared.run_end.RunEnd.{RunEnd}
 use Rattle.chart_program.specs.declared.run_end.RunEnd.TheVariants.{Serve, Show}
 use Rattle.chart_program.specs.Texts.{text_of}
-use Rattle.chart_program.specs.Runs.{Gives as ShowGives, AreShown, ShowStops, ShowFails, EndsRun, LineDone, LineStops, LongLineDone, LongLineStops}
+use Rattle.chart_program.specs.Runs.{Gives as ShowGives, AreShown, ShowStops, ShowFails, EndsRunAt, LineDone, LineStopsAt, LongLineDone, LongLineStops}
 
 append_none : (xs : List ℕ) → xs ++ [] ≡ xs
 append_none [] = refl
 append_none (x ∷ xs) = ap (λ l. x ∷ l) (append_none xs)
 
-shown_more : {V : Type 0} (gives : ShowGives V) (v w x : V) (more : List (Option (List ℕ))) (frames : List Frame) (text : List ℕ) (lines : List (Option (List ℕ))) (frame : Frame) (shown : Shown)
+pub shown_more : {V : Type 0} (gives : ShowGives V) (v w x : V) (more : List (Option (List ℕ))) (frames : List Frame) (text : List ℕ) (lines : List (Option (List ℕ))) (frame : Frame) (shown : Shown)
     → gives w (spelling frame) (Ok shown) x → AreShown gives v w lines frames text
     → AreShown gives v x more (frames ++ frame ∷ []) (text ++ text_of shown.frame shown.bitmap (length (spelling frame)))
 shown_more {V} gives v w x more [] text lines frame shown given all =
@@ -83,30 +83,30 @@ pub lines_fault : {V : Type 0} (gives : ShowGives V) (o : Option (List ℕ)) (r 
     → (f ≡ fault.ReadFault → NoLineIn (r'.taken - r.given) (unread r left)) → (f ≡ fault.InputTooLong → NoLineIn (2 ^ 32 - r.given) (unread r left)) → (f ≡ fault.InputTooLong → 2 ^ 32 < r'.taken)
     → left' ≡ left_after (r'.taken - r.given) (unread r left) → r.taken ≡ r.given + length r.pending → input_length r'.taken left' ≡ input_length r.taken left
     → IfSome o (λ input. Progress (AreShown gives v w) input (unread r left) r.given old state before now)
-    → IfSome o (λ input. EndsRun gives v w input old state left' before now (Serve (end_of f)))
+    → IfSome o (λ input. EndsRunAt gives v w input old state left' before now (Serve (end_of f)))
 lines_fault gives o r r' left left' old state v w before now fault.ReadFault read far past after counted total =
-    told_so (λ input. Progress (AreShown gives v w) input (unread r left) r.given old state before now) (λ input. EndsRun gives v w input old state left' before now (Serve ReadFault)) o
+    told_so (λ input. Progress (AreShown gives v w) input (unread r left) r.given old state before now) (λ input. EndsRunAt gives v w input old state left' before now (Serve ReadFault)) o
     (λ input. taken_at (AreShown gives v w) input (unread r left) left' r.given (r'.taken - r.given) old state before now (read refl) after)
 lines_fault gives o r r' left left' old state v w before now fault.InputTooLong read far past after counted total =
-    told_so (λ input. Progress (AreShown gives v w) input (unread r left) r.given old state before now) (λ input. EndsRun gives v w input old state left' before now (Serve InputTooLong)) o
+    told_so (λ input. Progress (AreShown gives v w) input (unread r left) r.given old state before now) (λ input. EndsRunAt gives v w input old state left' before now (Serve InputTooLong)) o
     (λ input. within_at (AreShown gives v w) input r r' left left' old state before now (far refl) (past refl) counted total)
 
 -- want of memory, where nothing more was sent
 some_at : {V : Type 0} (gives : ShowGives V) (o : Option (List ℕ)) (old new : State) (v w : V) (left before now later : Option (List ℕ)) (w' : V) → later ≡ now
-    → IfSome o (λ input. SendsSome (AreShown gives v w) input old new before now) → IfSome o (λ input. EndsRun gives v w' input old new left before later (Serve NoMemory))
+    → IfSome o (λ input. SendsSome (AreShown gives v w) input old new before now) → IfSome o (λ input. EndsRunAt gives v w' input old new left before later (Serve NoMemory))
 some_at gives None old new v w left before now later w' same p = tt
 some_at gives (Some input) old new v w left before now later w' same p =
     let P : Option (List ℕ) → Type 0 = λ n. SendsSome (AreShown gives v w) input old new before n in
     (w, subst P (sym same) p)
 
 pub no_memory : {V : Type 0} (gives : ShowGives V) (o : Option (List ℕ)) (bytes : Option (List ℕ)) (given : ℕ) (old state new : State) (v w w' : V) (left before now later : Option (List ℕ)) → later ≡ now → KeepsBook state new
-    → IfSome o (λ input. Progress (AreShown gives v w) input bytes given old state before now) → IfSome o (λ input. EndsRun gives v w' input old new left before later (Serve NoMemory))
+    → IfSome o (λ input. Progress (AreShown gives v w) input bytes given old state before now) → IfSome o (λ input. EndsRunAt gives v w' input old new left before later (Serve NoMemory))
 no_memory gives o bytes given old state new v w w' left before now later same keeps p =
     some_at gives o old new v w left before now later w' same (kept (AreShown gives v w) o bytes given old state new before now keeps p)
 
 no_memory_next : {V : Type 0} (gives : ShowGives V) (o : Option (List ℕ)) (r r' : Reading) (left left' : Option (List ℕ)) (old state new : State) (v w w' : V) (before now later : Option (List ℕ)) (line : Option (List ℕ)) (frame : Frame)
     → later ≡ now → Gives r r' left left' line → Replied line frame state new
-    → IfSome o (λ input. Progress (AreShown gives v w) input (unread r left) r.given old state before now) → IfSome o (λ input. EndsRun gives v w' input old new left' before later (Serve NoMemory))
+    → IfSome o (λ input. Progress (AreShown gives v w) input (unread r left) r.given old state before now) → IfSome o (λ input. EndsRunAt gives v w' input old new left' before later (Serve NoMemory))
 no_memory_next gives o r r' left left' old state new v w w' before now later line frame same given next p =
     some_at gives o old new v w left' before now later w' same (unsent (AreShown gives v w) o r r' left left' old state new before now line frame given next p)
 
@@ -129,25 +129,29 @@ fails_at gives input r r' left left' old state new v w w' before now later line 
 -- at a frame whose text wasn't sent
 pub frame_stops : {V : Type 0} (gives : ShowGives V) (o : Option (List ℕ)) (r r' : Reading) (left left' : Option (List ℕ)) (old state new : State) (v w w' : V) (before now later : Option (List ℕ)) (line : Option (List ℕ)) (frame : Frame) (end : RunEnd)
     → Gives r r' left left' line → says line ≡ true → Replied line frame state new → ShowStops gives frame w w' now later end
-    → IfSome o (λ input. Progress (AreShown gives v w) input (unread r left) r.given old state before now) → IfSome o (λ input. EndsRun gives v w' input old new left' before later end)
+    → IfSome o (λ input. Progress (AreShown gives v w) input (unread r left) r.given old state before now) → IfSome o (λ input. EndsRunAt gives v w' input old new left' before later end)
 frame_stops gives o r r' left left' old state new v w w' before now later line frame (Serve ReadFault) given says_so next why p = absurd why
 frame_stops gives o r r' left left' old state new v w w' before now later line frame (Serve SendFault) given says_so next why p =
     parted (AreShown gives v w) (AreShown gives v w') o r r' left left' old state new before now later line frame (text_of why.0.frame why.0.bitmap (length (spelling frame)))
     given says_so next (shown_grows gives v w w' line frame why.0 why.1) why.2 p
+frame_stops gives o r r' left left' old state new v w w' before now later line frame (Serve DiskFault) given says_so next why p = absurd why
+frame_stops gives o r r' left left' old state new v w w' before now later line frame (Serve (Damaged page)) given says_so next why p = absurd why
 frame_stops gives o r r' left left' old state new v w w' before now later line frame (Serve InputTooLong) given says_so next why p = absurd why
 frame_stops gives o r r' left left' old state new v w w' before now later line frame (Serve NoMemory) given says_so next why p =
     no_memory_next gives o r r' left left' old state new v w w' before now later line frame why given next p
 frame_stops gives o r r' left left' old state new v w w' before now later line frame (Show e) given says_so next why p =
-    told_so (λ input. Progress (AreShown gives v w) input (unread r left) r.given old state before now) (λ input. EndsRun gives v w' input old new left' before later (Show e)) o
+    told_so (λ input. Progress (AreShown gives v w) input (unread r left) r.given old state before now) (λ input. EndsRunAt gives v w' input old new left' before later (Show e)) o
     (λ input. fails_at gives input r r' left left' old state new v w w' before now later line frame e why.0 given next why.1) p
 
 -- at a line that wasn't answered, or whose text wasn't sent
 pub line_stops : {V : Type 0} (gives : ShowGives V) (o : Option (List ℕ)) (r r' : Reading) (left left' : Option (List ℕ)) (old state new : State) (v w w' : V) (before now later : Option (List ℕ)) (text : List ℕ) (end : RunEnd)
-    → Gives r r' left left' (Some text) → LineStops gives text w w' state new now later end
-    → IfSome o (λ input. Progress (AreShown gives v w) input (unread r left) r.given old state before now) → IfSome o (λ input. EndsRun gives v w' input old new left' before later end)
+    → Gives r r' left left' (Some text) → LineStopsAt gives text w w' state new now later end
+    → IfSome o (λ input. Progress (AreShown gives v w) input (unread r left) r.given old state before now) → IfSome o (λ input. EndsRunAt gives v w' input old new left' before later end)
 line_stops gives o r r' left left' old state new v w w' before now later text (Serve ReadFault) given why p = absurd why.3
 line_stops gives o r r' left left' old state new v w w' before now later text (Serve SendFault) given why p =
     frame_stops gives o r r' left left' old state new v w w' before now later (Some text) why.1 (Serve SendFault) given (says_text text why.0) why.2 why.3 p
+line_stops gives o r r' left left' old state new v w w' before now later text (Serve DiskFault) given why p = absurd why.3
+line_stops gives o r r' left left' old state new v w w' before now later text (Serve (Damaged page)) given why p = absurd why.3
 line_stops gives o r r' left left' old state new v w w' before now later text (Serve InputTooLong) given why p = absurd why.3
 line_stops gives o r r' left left' old state new v w w' before now later text (Serve NoMemory) given why p =
     elim why.1 [
@@ -160,34 +164,6 @@ line_stops gives o r r' left left' old state new v w w' before now later text (S
 -- at a line that is too long, whose text wasn't sent
 pub long_line_stops : {V : Type 0} (gives : ShowGives V) (o : Option (List ℕ)) (r r' : Reading) (left left' : Option (List ℕ)) (old state : State) (v w w' : V) (before now later : Option (List ℕ)) (end : RunEnd)
     → Gives r r' left left' None → LongLineStops gives w w' state now later end
-    → IfSome o (λ input. Progress (AreShown gives v w) input (unread r left) r.given old state before now) → IfSome o (λ input. EndsRun gives v w' input old state left' before later end)
+    → IfSome o (λ input. Progress (AreShown gives v w) input (unread r left) r.given old state before now) → IfSome o (λ input. EndsRunAt gives v w' input old state left' before later end)
 long_line_stops gives o r r' left left' old state v w w' before now later end given why p =
     frame_stops gives o r r' left left' old state state v w w' before now later None why.0 end given refl why.1 why.2 p
-
--- want of memory before the first line
-pub no_memory_first : {V : Type 0} (gives : ShowGives V) (o left before : Option (List ℕ)) (old : State) (v : V) (end : RunEnd) → end ≡ Serve NoMemory
-    → IfSome o (λ input. EndsRun gives v v input old old left before before end)
-no_memory_first gives o left before old v end is =
-    let E : RunEnd → Type 0 = λ e. IfSome o (λ input. EndsRun gives v v input old old left before before e) in
-    subst E (sym is) (no_memory gives o (unread unread_input o) 0 old old old v v v left before before before refl (refl, refl) (starts (AreShown gives v v) o before unread_input old (refl, refl) refl))
-
--- the same, where equals stand for equals
-pub ends_moved : {V : Type 0} (gives : ShowGives V) (o left left' before now now' : Option (List ℕ)) (old new : State) (v w : V) (end end' : RunEnd) → left' ≡ left → now' ≡ now → end' ≡ end
-    → IfSome o (λ input. EndsRun gives v w input old new left before now end) → IfSome o (λ input. EndsRun gives v w input old new left' before now' end')
-ends_moved gives o left left' before now now' old new v w end end' same_left same_now same_end ends =
-    let L : Option (List ℕ) → Type 0 = λ x. IfSome o (λ input. EndsRun gives v w input old new x before now end) in
-    let N : Option (List ℕ) → Type 0 = λ x. IfSome o (λ input. EndsRun gives v w input old new left' before x end) in
-    let E : RunEnd → Type 0 = λ x. IfSome o (λ input. EndsRun gives v w input old new left' before now' x) in
-    subst E (sym same_end) (subst N (sym same_now) (subst L (sym same_left) ends))
-
-pub progress_now : (T : List (Option (List ℕ)) → List Frame → List ℕ → Type 0) (o bytes : Option (List ℕ)) (given : ℕ) (old state : State) (before now now' : Option (List ℕ)) → now' ≡ now
-    → IfSome o (λ input. Progress T input bytes given old state before now) → IfSome o (λ input. Progress T input bytes given old state before now')
-progress_now T o bytes given old state before now now' same =
-    let P : Option (List ℕ) → Type 0 = λ n. IfSome o (λ input. Progress T input bytes given old state before n) in
-    subst P (sym same)
-
-pub progress_left : (T : List (Option (List ℕ)) → List Frame → List ℕ → Type 0) (o : Option (List ℕ)) (r : Reading) (left left' : Option (List ℕ)) (old state : State) (before now : Option (List ℕ)) → left' ≡ left
-    → IfSome o (λ input. Progress T input (unread r left) r.given old state before now) → IfSome o (λ input. Progress T input (unread r left') r.given old state before now)
-progress_left T o r left left' old state before now same =
-    let P : Option (List ℕ) → Type 0 = λ l. IfSome o (λ input. Progress T input (unread r l) r.given old state before now) in
-    subst P (sym same)

@@ -5,5 +5,9 @@ pub mod Reads
 pub mod Plotted
 pub mod Texts
 pub mod Runs
+pub mod Sending
+pub mod Served
+pub mod Lives
+pub mod Ended
 pub mod Draws
 pub mod Ran

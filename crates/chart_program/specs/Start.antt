@@ -1,11 +1,8 @@
--- How the serving of lines begins.
-use Rattle.std.specs.Prelude.{ℕ, []}
+-- How a run begins.
+use Rattle.std.specs.Prelude.{ℕ, List, []}
+use Rattle.series_book.specs.declared.one_series.Series.{Series}
 use Rattle.chart_service.specs.State.{State}
 
--- the pages that the book of a run may take
-abbrev pub book_pages : ℕ
-book_pages = 1048510
-
--- a run begins with an empty book and no session
-abbrev pub start : State
-start = record { book = []; total = book_pages; sessions = [] }
+-- with the book that the disk holds, and no session
+abbrev pub begun : ℕ → List Series → State
+begun total book = record { book = book; total = total; sessions = [] }

@@ -3,8 +3,5 @@
 /// The most bytes of input that a run takes.
 pub(crate) const MOST_BYTES: u64 = 4_294_967_296;
 
-/// The pages that the book of a run may take.
-pub(crate) const BOOK_PAGES: u64 = 1_048_510;
-
 /// The block of page 0.
 pub(crate) const FIRST_PAGE: u64 = 66;

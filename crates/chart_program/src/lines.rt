@@ -1,62 +1,120 @@
-ghost use Rattle.std.specs.Prelude.{◌≡◌, ◌≤◌, ◌^◌, length, IfErr, IfOk, IfSome, OnOk};
-ghost use Rattle.block_disk.specs.Counts.{HasRisen};
-ghost use Rattle.block_disk.specs.View.{View, DiskKept};
-ghost use Rattle.chart_service.specs.Serving.{AreSpelled};
-ghost use Rattle.chart_program.specs.Start.{start};
-ghost use Rattle.chart_program.specs.Ran.{AreTexts, AnswersAll, EndsLines, EndsServing, IsNumbered};
+ghost use Rattle.std.specs.Prelude.{◌≡◌, [], IsTrue};
+ghost use Rattle.block_disk.specs.View.{View};
+ghost use Rattle.chart_program.specs.Served.{AreTexts, Spelled, faults_of, ServesLines, ServesWorld, served, in_world};
 
-use crate::limits::BOOK_PAGES;
+use crate::lines_end::LinesEnd;
 use crate::run::run_on;
 use crate::run_end::RunEnd;
-use block_disk::World;
+use block_disk::{Back, World};
 use chart_client::Screen;
 use chart_client::laws::frames_have_one_answer;
 use chart_frames::laws::one_frame_a_spelling;
-use chart_service::{NoMemory, ServeEnd, Service, serve};
+use chart_service::{ServeEnd, Service, serve};
 use drawn_replies::laws::{clients_draw_the_book, replies_draw_the_book};
-use series_book::ListBook;
+use gate_pages::GatePages;
+use series_store::Store;
 use std::alloc::Global;
+use store_open::{disk_of, open_store};
 
-/// A service over an empty book, with no session open.
-fn start_service(alloc: Global) -> Result<Service, NoMemory>
-    ensures { IfOk result (λ service. service ≡ start) }
+/// Opens the store of a world, sends the frames that answer the lines of the input, and gives the world
+/// back.
+pub fn serve_world<W: World>(alloc: Global, world: W) -> (Result<(), LinesEnd>, W)
+    ensures { ServesWorld Spelled ⊥ (W.view world) (W.view result.1) (W.left world) (W.left result.1) (W.sent world) (W.sent result.1) (faults_of (W.read_faults world) (W.read_faults result.1) (W.send_faults world) (W.send_faults result.1)) result.0 }
 {
-    let Ok(book) = ListBook::new(alloc, BOOK_PAGES) else {
-        return Err(NoMemory);
-    };
-    Service::new(alloc, book)
+    match open_store(alloc, world) {
+        Ok(store) => {
+            let (answer, world) = serve_lines(alloc, store);
+            (of_answering(answer), world)
+        }
+        Err(Back { value, cause }) => (Err(LinesEnd::Opening(cause)), value),
+    }
 }
 
-/// Sends the frames that answer the lines of the input, over a book that begins empty.
-pub fn serve_lines<S: World>(alloc: Global, streams: &mut S) -> Result<(), ServeEnd>
-    ensures done { OnOk result (IfSome (S.left streams.old) (λ input. AnswersAll AreSpelled input (S.sent streams.old) (S.sent streams.new))) }
-    ensures within { OnOk result (IfSome (S.left streams.old) (λ input. length input ≤ 2 ^ 32)) }
-    ensures ends { IfErr result (λ end. IfSome (S.left streams.old) (λ input. EndsServing AreSpelled input (S.left streams.new) (S.sent streams.old) (S.sent streams.new) end)) }
-    ensures read { result ≡ Err ServeEnd.ReadFault → HasRisen (S.read_faults streams.old) (S.read_faults streams.new) }
-    ensures send { result ≡ Err ServeEnd.SendFault → HasRisen (S.send_faults streams.old) (S.send_faults streams.new) }
-    ensures disk { DiskKept (S.view streams.old) (S.view streams.new) }
+/// Opens the store of a world, sends the texts that answer the lines of the input, each with the picture
+/// of what it shows, and gives the world back.
+pub fn run_world<W: World>(alloc: Global, world: W) -> (Result<(), LinesEnd>, W)
+    ensures { ServesWorld AreTexts (Unit {0}) (W.view world) (W.view result.1) (W.left world) (W.left result.1) (W.sent world) (W.sent result.1) (faults_of (W.read_faults world) (W.read_faults result.1) (W.send_faults world) (W.send_faults result.1)) result.0 }
 {
-    let mut service = start_service(alloc)?;
-    serve(&mut service, streams)
+    match open_store(alloc, world) {
+        Ok(store) => {
+            let (answer, world) = run_lines(alloc, store);
+            (of_answering(answer), world)
+        }
+        Err(Back { value, cause }) => (Err(LinesEnd::Opening(cause)), value),
+    }
 }
 
-/// Sends the texts that answer the lines of the input, each with the picture of what it shows, over a
-/// book that begins empty.
-pub fn run_lines<S: World>(alloc: Global, streams: &mut S) -> Result<(), RunEnd>
-    ensures done { OnOk result (IfSome (S.left streams.old) (λ input. AnswersAll AreTexts input (S.sent streams.old) (S.sent streams.new))) }
-    ensures within { OnOk result (IfSome (S.left streams.old) (λ input. length input ≤ 2 ^ 32)) }
-    ensures ends { IfErr result (λ end. IfSome (S.left streams.old) (λ input. EndsLines AreTexts input (S.left streams.new) (S.sent streams.old) (S.sent streams.new) end)) }
-    ensures read { result ≡ Err (RunEnd.Serve ServeEnd.ReadFault) → HasRisen (S.read_faults streams.old) (S.read_faults streams.new) }
-    ensures numbered { IfErr result IsNumbered }
-    ensures send { result ≡ Err (RunEnd.Serve ServeEnd.SendFault) → HasRisen (S.send_faults streams.old) (S.send_faults streams.new) }
-    ensures disk { DiskKept (S.view streams.old) (S.view streams.new) }
+/// The same over a store that is open.
+fn serve_lines<W: World>(alloc: Global, store: Store<GatePages<W>>) -> (Result<(), RunEnd>, W)
+    requires { IsTrue store.space.pages.sound }
+    ensures { ServesLines Spelled ⊥ store.space.pages.count (W.view store.space.pages.disk) (W.view result.1) (W.left store.space.pages.disk) (W.left result.1) (W.sent store.space.pages.disk) (W.sent result.1) (faults_of (W.read_faults store.space.pages.disk) (W.read_faults result.1) (W.send_faults store.space.pages.disk) (W.send_faults result.1)) result.0 }
+{
+    match Service::new(alloc, store) {
+        Ok(service) => serve_service(service),
+        Err(Back { value, cause: _ }) => (Err(RunEnd::Serve(ServeEnd::NoMemory)), disk_of(value)),
+    }
+}
+
+fn run_lines<W: World>(alloc: Global, store: Store<GatePages<W>>) -> (Result<(), RunEnd>, W)
+    requires { IsTrue store.space.pages.sound }
+    ensures { ServesLines AreTexts (Unit {0}) store.space.pages.count (W.view store.space.pages.disk) (W.view result.1) (W.left store.space.pages.disk) (W.left result.1) (W.sent store.space.pages.disk) (W.sent result.1) (faults_of (W.read_faults store.space.pages.disk) (W.read_faults result.1) (W.send_faults store.space.pages.disk) (W.send_faults result.1)) result.0 }
+{
+    match Service::new(alloc, store) {
+        Ok(service) => run_service(alloc, service),
+        Err(Back { value, cause: _ }) => (Err(RunEnd::Serve(ServeEnd::NoMemory)), disk_of(value)),
+    }
+}
+
+/// The same by a service with no session open.
+fn serve_service<W: World>(mut service: Service<GatePages<W>>) -> (Result<(), RunEnd>, W)
+    requires sound { IsTrue service.store.space.pages.sound }
+    requires alone { service.sessions ≡ [] }
+    ensures { ServesLines Spelled ⊥ service.store.space.pages.count (W.view service.store.space.pages.disk) (W.view result.1) (W.left service.store.space.pages.disk) (W.left result.1) (W.sent service.store.space.pages.disk) (W.sent result.1) (faults_of (W.read_faults service.store.space.pages.disk) (W.read_faults result.1) (W.send_faults service.store.space.pages.disk) (W.send_faults result.1)) result.0 }
+{
+    let answer = serve(&mut service);
+    (of_serving(answer), disk_of(service.into_store()))
+}
+
+fn run_service<W: World>(
+    alloc: Global,
+    mut service: Service<GatePages<W>>,
+) -> (Result<(), RunEnd>, W)
+    requires sound { IsTrue service.store.space.pages.sound }
+    requires alone { service.sessions ≡ [] }
+    ensures { ServesLines AreTexts (Unit {0}) service.store.space.pages.count (W.view service.store.space.pages.disk) (W.view result.1) (W.left service.store.space.pages.disk) (W.left result.1) (W.sent service.store.space.pages.disk) (W.sent result.1) (faults_of (W.read_faults service.store.space.pages.disk) (W.read_faults result.1) (W.send_faults service.store.space.pages.disk) (W.send_faults result.1)) result.0 }
 {
     one_frame_a_spelling();
     frames_have_one_answer();
     clients_draw_the_book();
     replies_draw_the_book();
-    let mut service = start_service(alloc)?;
     service.is_sound();
-    let mut screen = Screen::new(alloc)?;
-    run_on(alloc, &mut service, streams, &mut screen)
+    match Screen::new(alloc) {
+        Ok(mut screen) => {
+            let answer = run_on(alloc, &mut service, &mut screen);
+            (answer, disk_of(service.into_store()))
+        }
+        Err(_) => (
+            Err(RunEnd::Serve(ServeEnd::NoMemory)),
+            disk_of(service.into_store()),
+        ),
+    }
+}
+
+/// What the serving of lines answers, as the end of a run.
+fn of_serving(answer: Result<(), ServeEnd>) -> Result<(), RunEnd>
+    ensures { result ≡ served answer }
+{
+    match answer {
+        Ok(()) => Ok(()),
+        Err(end) => Err(RunEnd::Serve(end)),
+    }
+}
+
+fn of_answering(answer: Result<(), RunEnd>) -> Result<(), LinesEnd>
+    ensures { result ≡ in_world answer }
+{
+    match answer {
+        Ok(()) => Ok(()),
+        Err(end) => Err(LinesEnd::Answering(end)),
+    }
 }

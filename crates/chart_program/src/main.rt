@@ -6,23 +6,28 @@
 //! frames of `draw` pictures, and what the frames of `run` show becomes text.
 //!
 //! `main` opens the file that the first word names as a disk, and gives `chart` the words after it
-//! and a world of this disk, standard input and standard output. `init` alone calls the disk yet.
+//! and a world of this disk, standard input and standard output. `init`, `serve` and `run` call the disk.
 //! Nothing is claimed of `main` but that it is safe and ends.
 #![tactic(auto)]
 
 mod draw;
 mod draw_end;
 mod input;
+pub mod laws;
 mod limits;
 mod lines;
+mod lines_end;
 mod plot;
 mod reply_text;
 mod run;
 mod run_end;
+mod serving;
 #[cfg(test)]
 mod session_tests;
 mod slot;
 mod status;
+#[cfg(test)]
+mod store_tests;
 #[cfg(test)]
 mod tests;
 mod top;
@@ -34,15 +39,19 @@ pub use run::run_on;
 pub use run_end::RunEnd;
 pub use status::Status;
 use std::alloc::Global;
+use std::fs::OpenOptions;
 use std::process::ExitCode;
-use std::rt::Env;
+use std::rt::{Env, Files};
 use std::{env, io};
 pub use top::chart;
 
 fn main(rt: HostRuntime) -> ExitCode {
+    laws::books_outlive_their_runs();
     let status = match all_words(&rt) {
         Ok(words) => match words.as_slice() {
             [path, rest @ ..] => {
+                // A stream that is closed would leave its number to the store's file, and be written into it.
+                let _streams = (unwritable(&rt), unwritable(&rt), unwritable(&rt));
                 let world = StdWorld::new(&rt, FileDisk::at(&rt, path.as_str()));
                 chart(rt.alloc(), rest, world).0
             }
@@ -51,6 +60,11 @@ fn main(rt: HostRuntime) -> ExitCode {
         Err(error) => unread_words(error),
     };
     report(&rt, status)
+}
+
+/// A file that is open, and can neither be read nor written.
+fn unwritable<R: Files>(rt: &R) -> Option<R::File> {
+    OpenOptions::new().read(true).open(rt, "/").ok()
 }
 
 /// The words of the command line behind the program's name: the path, and the words of a command.

@@ -1,10 +1,10 @@
 ghost use Rattle.std.specs.Prelude.{◌≡◌};
 ghost use Rattle.chart_service.specs.declared.failure.ServeEnd.TheVariants.{NoMemory};
-ghost use Rattle.chart_service.specs.Serving.{end_of};
+ghost use Rattle.chart_service.specs.Serving.{end_of, end_of_step};
 ghost use Rattle.chart_program.specs.declared.run_end.RunEnd.TheVariants.{Serve, Show};
 
 use chart_client::ClientError;
-use chart_service::ServeEnd;
+use chart_service::{ServeEnd, ServiceError};
 use chart_world::LineFault;
 use std::alloc::AllocError;
 use thiserror::Error;
@@ -45,11 +45,11 @@ impl From<chart_world::NoMemory> for RunEnd {
     }
 }
 
-impl From<chart_service::NoMemory> for RunEnd {
-    ghost from_gives = { λ _ end. end ≡ Serve NoMemory };
+impl From<ServiceError> for RunEnd {
+    ghost from_gives = { λ error end. end ≡ Serve (end_of_step error) };
 
-    fn from(_error: chart_service::NoMemory) -> RunEnd {
-        RunEnd::Serve(ServeEnd::NoMemory)
+    fn from(error: ServiceError) -> RunEnd {
+        RunEnd::Serve(ServeEnd::from(error))
     }
 }
 

@@ -1,15 +1,17 @@
 ghost use Rattle.std.specs.Prelude.{◌≡◌, IfOk, vec_len};
 
 use crate::{RunEnd, Status, chart, run_on};
+use block_disk::MemDisk;
 use chart_client::{ClientError, Show, Shown};
 use chart_frames::{Decoder, Frame};
 use chart_service::Service;
 use chart_world::MemWorld;
 use line_raster::Bitmap;
-use series_book::ListBook;
 use std::alloc::Global;
 use std::process::Abort;
 use std::test::Fail;
+use store_init::make_store;
+use store_open::{disk_of, open_store};
 
 /// What a command sends for an input, and its status.
 #[derive(Drop)]
@@ -18,20 +20,27 @@ struct Outcome {
     sent: Vec<u8>,
 }
 
+/// A world of this input, whose disk of so many blocks has an empty store.
+fn fresh(alloc: Global, blocks: u32, input: &[u8]) -> Result<MemWorld<MemDisk>, Fail> {
+    let Ok(disk) = make_store(alloc, MemDisk::new(alloc, blocks, Vec::new(alloc))?) else {
+        return Err(Fail::new("no store was made"));
+    };
+    Ok(MemWorld::new(
+        alloc,
+        disk,
+        Vec::from_slice(alloc, input)?,
+        Vec::new(alloc),
+        Vec::new(alloc),
+    )?)
+}
+
 fn outcome_of(rt: &impl Alloc<A = Global>, words: &[&str], input: &[u8]) -> Result<Outcome, Fail> {
     let alloc = rt.alloc();
     let mut all = Vec::new(alloc);
     for word in words {
         all.push(String::from_str(alloc, word)?)?;
     }
-    let world = MemWorld::new(
-        alloc,
-        (),
-        Vec::from_slice(alloc, input)?,
-        Vec::new(alloc),
-        Vec::new(alloc),
-    )?;
-    let (status, world) = chart(alloc, all.as_slice(), world);
+    let (status, world) = chart(alloc, all.as_slice(), fresh(alloc, 128, input)?);
     let sent = Vec::from_slice(alloc, world.sent())?;
     Ok(Outcome { status, sent })
 }
@@ -263,16 +272,15 @@ impl Show for White {
 #[test]
 fn sends_what_is_shown(rt: HostRuntime) -> Result<(), Fail> {
     let alloc = rt.alloc();
-    let mut service = Service::new(alloc, ListBook::new(alloc, 62)?)?;
-    let mut world = MemWorld::new(
-        alloc,
-        (),
-        Vec::from_slice(alloc, FOUR)?,
-        Vec::new(alloc),
-        Vec::new(alloc),
-    )?;
-    let ended = run_on(alloc, &mut service, &mut world, &mut White { alloc });
+    let Ok(store) = open_store(alloc, fresh(alloc, 128, FOUR)?) else {
+        return Err(Fail::new("the store wasn't opened"));
+    };
+    let Ok(mut service) = Service::new(alloc, store) else {
+        return Err(Fail::new("no service"));
+    };
+    let ended = run_on(alloc, &mut service, &mut White { alloc });
     assert_eq!(rt; ended, Ok(()));
+    let world = disk_of(service.into_store());
     let texts = b"done 0\ndone 4\nopened 1 65536\nview 1 sent 288\nP4\n4 4\n\x00\x00\x00\x00";
     assert_eq!(rt; world.sent(), texts.as_slice());
     Ok(())

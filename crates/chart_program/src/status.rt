@@ -27,6 +27,10 @@ pub const SEND_FAULT: u8 = 5;
 /// A call of the disk failed.
 pub const DISK_FAULT: u8 = 6;
 
+/// A block breaks its layout, or there is no store, and the place is that block: page p of the store is block
+/// 66 + p.
+pub const DAMAGED: u8 = 7;
+
 /// A line or a frame of the input isn't in the grammar, and the place is the offset of the line or of the
 /// field. Where the input ends within a frame, the place is its length.
 pub const BAD_INPUT: u8 = 8;

@@ -3,6 +3,7 @@ use block_disk::MemDisk;
 use chart_world::MemWorld;
 use std::alloc::Global;
 use std::test::Fail;
+use store_init::make_store;
 
 /// A run over a world in memory: its words, its input, the takes and sends that fail, and what is
 /// wanted: the status and the bytes sent.
@@ -108,9 +109,12 @@ fn runs_in_memory(rt: HostRuntime) -> Result<(), Fail> {
         for word in case.words {
             words.push(String::from_str(alloc, word)?)?;
         }
+        let Ok(disk) = make_store(alloc, MemDisk::new(alloc, 128, Vec::new(alloc))?) else {
+            return Err(Fail::new("no store was made"));
+        };
         let world = MemWorld::new(
             alloc,
-            (),
+            disk,
             Vec::from_slice(alloc, case.input)?,
             Vec::from_slice(alloc, case.take_fails)?,
             Vec::from_slice(alloc, case.send_fails)?,

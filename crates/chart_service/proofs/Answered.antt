@@ -9,16 +9,13 @@ use Rattle.chart_grid.specs.Limits as window
 use Rattle.om3_coeff.specs.declared.key.Key.{Key}
 use Rattle.om3_coeff.specs.declared.coef.Coef.{Coef}
 use Rattle.om3_coeff.specs.declared.errors.NodeError.{NodeError}
-use Rattle.om3_coeff.specs.declared.errors.NodeError.TheVariants.{DiskFault, Damaged, Missing, BadCoefficient}
+use Rattle.om3_coeff.specs.declared.errors.NodeError.TheVariants.{DiskFault}
 use Rattle.om3_coeff.specs.View.{NodesView, Agrees, HasCause}
-use Rattle.om3_coeff.specs.ListNodes.{list_view}
-use Rattle.coefficient_cache.specs.Pairs.{series_key, holds}
 use Rattle.value_filter.specs.declared.steps.Step.{Step}
 use Rattle.request_lines.specs.declared.ranges.RangeWord.{RangeWord}
 use Rattle.series_book.specs.declared.one_series.Series.{Series}
 use Rattle.series_book.specs.declared.refusals.Refusal.{Refusal}
 use Rattle.series_book.specs.declared.refusals.Refusal.TheVariants.{BadWindow, BadCanvas, BadRange, ViewTooLarge, UnknownSession, NoView}
-use Rattle.series_book.specs.Books.{IsSeries}
 use Rattle.series_book.specs.Edits.{id_of}
 use Rattle.zoom_session.specs.declared.session.Session.{Session}
 use Rattle.zoom_session.specs.declared.view_spec.ViewSpec.{ViewSpec}
@@ -33,22 +30,16 @@ use Rattle.chart_frames.specs.declared.frame.Frame.TheVariants.{View}
 use Rattle.chart_frames.specs.declared.frame.ViewFrame.{ViewFrame}
 use Rattle.chart_frames.specs.Frames.{FitsView}
 use Rattle.chart_service.specs.State.{State}
-use Rattle.chart_service.specs.Viewing.{AreNeeded, Answers, axis_of, root_of, range_spec, view_frame}
+use Rattle.chart_service.specs.Viewing.{AreNeeded, Answers, axis_of, root_of, has_of, least_of, greatest_of, range_spec, view_frame}
 use Rattle.chart_service.specs.Replies.{refused, Refuses, NeedsTooMany, AnswersBy, AnswersView, ViewsSeries, ViewsId, RepliesToView, Moves, MovesLast, MovesIn}
-use Rattle.chart_service.specs.Planning.{TellsOf, AreInFrame, IsPlannedFor, RefusesView, StopsIn, PlansOrStops, IsSpec, RefusesSpec, IsMoved, IsLast, IsLastOf}
+use Rattle.chart_service.specs.Planning.{TellsOf, AreInFrame, planned_frame, IsPlannedFor, RefusesView, StopsIn, PlansOrStops, IsSpec, RefusesSpec, IsMoved, IsLast, IsLastOf}
 use Rattle.chart_service.specs.declared.shown.Planned.{Planned}
+use Rattle.chart_service.specs.declared.shown.Told.{Told}
+use Rattle.chart_service.specs.Looking.{IsGoodPlan}
 use Rattle.chart_service.specs.declared.viewport.Viewport.{Viewport}
-use Rattle.chart_service.proofs.Showing.{view_fits}
+use Rattle.chart_service.proofs.Showing.{plan_fits}
 
--- no error has a cause over a list
-pub no_cause : (list list' : List (Option ℤ)) (asked asked' : Option Key) (error : NodeError) → HasCause (list_view list asked) (list_view list' asked') error → ⊥
-no_cause list list' asked asked' DiskFault (inl risen) = omega (arith, risen)
-no_cause list list' asked asked' DiskFault (inr last) = omega (arith, last)
-no_cause list list' asked asked' (Damaged page) cause = cause
-no_cause list list' asked asked' (Missing key) cause = cause
-no_cause list list' asked asked' (BadCoefficient key) cause = cause
-
-stops_in : (series : Series) (grid : Grid) (session : Option Session) (old new : NodesView) (error : PlanError) → ((e : NodeError) → HasCause old new e → ⊥) → RefusesView session old new error → CountsNeeded series.slots (axis_of series) grid error → StopsIn series grid session error
+stops_in : (series : Series) (grid : Grid) (session : Option Session) (old new : NodesView) (error : PlanError) → ((e : NodeError) → HasCause old new e → e ≡ DiskFault) → RefusesView session old new error → CountsNeeded series.slots (axis_of series) grid error → StopsIn series grid session error
 stops_in series grid None old new error never refuses counts = refuses
 stops_in series grid (Some s) old new (TooLarge needed cache) never refuses counts = record {
   keys = counts.0;
@@ -61,14 +52,13 @@ stops_in series grid (Some s) old new (Node e) never refuses counts = never e re
 stops_in series grid (Some s) old new NoMemory never refuses counts = tt
 
 -- what is planned over the nodes of a series
-pub planned_so : (series : Series) (spec : ViewSpec) (session : Option Session) (old new : NodesView) (r : Result Planned PlanError) → ((e : NodeError) → HasCause old new e → ⊥) → IfOk r (λ p. AreNeeded series spec.grid p.plan.needed) → IfOk r (λ p. PlansIn session spec.series p.plan) → IfOk r (λ p. IsInBounds p.plan) → IfOk r (λ p. TellsOf series.slots (axis_of series) spec p.told) → IfOk r (λ p. AreInFrame p.told) → IfErr r (RefusesView session old new) → IfErr r (CountsNeeded series.slots (axis_of series) spec.grid) → PlansOrStops series spec session r
+pub planned_so : (series : Series) (spec : ViewSpec) (session : Option Session) (old new : NodesView) (r : Result Planned PlanError) → ((e : NodeError) → HasCause old new e → e ≡ DiskFault) → IfOk r (λ p. AreNeeded series spec.grid p.plan.needed) → IfOk r (λ p. PlansIn session spec.series p.plan) → IfOk r (λ p. IsInBounds p.plan) → IfOk r (λ p. TellsOf series.slots (axis_of series) spec p.told) → IfOk r (λ p. AreInFrame p.told) → IfErr r (RefusesView session old new) → IfErr r (CountsNeeded series.slots (axis_of series) spec.grid) → PlansOrStops series spec session r
 planned_so series spec session old new (Ok p) never needed plans bounds tells frame refuses counts = record { needed = needed; plan = plans; bounds = bounds; told = tells; in_frame = frame }
 planned_so series spec session old new (Err e) never needed plans bounds tells frame refuses counts = stops_in series spec.grid session old new e never refuses counts
 
--- the same, by the list below the nodes and its axis
-pub planned_over : (series : Series) (spec : ViewSpec) (session : Option Session) (list : List (Option ℤ)) (axis : Axis) (old new : NodesView) (r : Result Planned PlanError) → list ≡ series.slots → axis ≡ axis_of series → Agrees old list → ((e : NodeError) → HasCause old new e → ⊥) → ((l : List (Option ℤ)) → Agrees old l → IfOk r (λ p. NeededBy l axis spec.grid p.plan.needed)) → IfOk r (λ p. PlansIn session spec.series p.plan) → IfOk r (λ p. IsInBounds p.plan) → ((l : List (Option ℤ)) → Agrees old l → IfOk r (λ p. TellsOf l axis spec p.told)) → IfOk r (λ p. AreInFrame p.told) → IfErr r (RefusesView session old new) → ((l : List (Option ℤ)) → Agrees old l → IfErr r (CountsNeeded l axis spec.grid)) → PlansOrStops series spec session r
-planned_over series spec session list axis old new r same at agrees never needed plans bounds tells frame refuses counts =
-    let mine : Agrees old series.slots = subst (Agrees old) same agrees in
+-- the same, by what the nodes agree with
+pub planned_over : (series : Series) (spec : ViewSpec) (session : Option Session) (axis : Axis) (old new : NodesView) (r : Result Planned PlanError) → axis ≡ axis_of series → Agrees old series.slots → ((e : NodeError) → HasCause old new e → e ≡ DiskFault) → ((l : List (Option ℤ)) → Agrees old l → IfOk r (λ p. NeededBy l axis spec.grid p.plan.needed)) → IfOk r (λ p. PlansIn session spec.series p.plan) → IfOk r (λ p. IsInBounds p.plan) → ((l : List (Option ℤ)) → Agrees old l → IfOk r (λ p. TellsOf l axis spec p.told)) → IfOk r (λ p. AreInFrame p.told) → IfErr r (RefusesView session old new) → ((l : List (Option ℤ)) → Agrees old l → IfErr r (CountsNeeded l axis spec.grid)) → PlansOrStops series spec session r
+planned_over series spec session axis old new r at mine never needed plans bounds tells frame refuses counts =
     let N : Axis → Type 0 = λ a. IfOk r (λ p. NeededBy series.slots a spec.grid p.plan.needed) in
     let T : Axis → Type 0 = λ a. IfOk r (λ p. TellsOf series.slots a spec p.told) in
     let C : Axis → Type 0 = λ a. IfErr r (CountsNeeded series.slots a spec.grid) in
@@ -113,25 +103,38 @@ answers_in series spec number p old new (Some session) is planned state = record
   state = state;
 }
 
--- an answered view
-pub answered_view : (book : Option Series) (spec : ViewSpec) (number : ℕ) (p : Planned) (old new : State) (view : ViewFrame) → IsSomeAnd book (λ series. IsPlannedFor series spec (session_of number old.sessions) p) → ((series : Series) → p.told.axis ≡ axis_of series → p.told.root ≡ root_of series → view ≡ view_frame number spec p.told.range series p.plan.send) → new ≡ record old { sessions = viewed number spec (Some p.plan.needed) old.sessions } → IsSomeAnd book (λ series. AnswersBy None series spec number (View view) old new)
-answered_view None spec number p old new view planned shows state = planned
-answered_view (Some series) spec number p old new view planned shows state =
-    let P : ViewFrame → Type 0 = λ v. AnswersBy None series spec number (View v) old new in
-    subst P (sym (shows series planned.told.axis_is planned.told.root)) (inr (answers_in series spec number p old new (session_of number old.sessions) refl planned state))
+-- the frame of what is planned, by the series
+frame_as : (number id : ℕ) (grid : Grid) (spec : ViewSpec) (series : Series) (told : Told) (send : List (Key × Coef)) → id ≡ spec.series → grid ≡ spec.grid → told.axis ≡ axis_of series → told.root ≡ root_of series → planned_frame number id grid told send ≡ view_frame number spec told.range series send
+frame_as number id grid spec series told send id_is grid_is axis root = λ i. record {
+  session = number;
+  series = id_is i;
+  w = ap (λ (g : Grid). g.w) grid_is i;
+  h = ap (λ (g : Grid). g.h) grid_is i;
+  t0 = ap (λ (g : Grid). g.t0) grid_is i;
+  t1 = ap (λ (g : Grid). g.t1) grid_is i;
+  lo = told.range.lo;
+  hi = told.range.hi;
+  start = ap (λ (a : Axis). a.start) axis i;
+  step = ap (λ (a : Axis). a.step) axis i;
+  slots = ap (λ (a : Axis). a.slots) axis i;
+  has = ap has_of root i;
+  rmin = ap least_of root i;
+  rmax = ap greatest_of root i;
+  count = length send;
+  coefs = send;
+}
 
-fits_in : (series : Series) (spec : ViewSpec) (number : ℕ) (p : Planned) (o : Option Session) → IsPlannedFor series spec o p → 1 ≤ number → number < 2 ^ 32 → spec.series < 512 → window.IsWindow spec.grid.t0 spec.grid.t1 → window.IsSide spec.grid.w → window.IsSide spec.grid.h → IsSeries series → FitsView (view_frame number spec p.told.range series p.plan.send)
-fits_in series spec number p None planned low high few shown wide tall is = absurd planned.plan
-fits_in series spec number p (Some session) planned low high few shown wide tall is =
-    let P : List (Key × Coef) → Type 0 = λ send. FitsView (view_frame number spec p.told.range series send) in
-    let L : List (Key × Coef) → Type 0 = λ send. length send ≤ 131072 in
-    subst P (sym planned.plan.send) (view_fits number spec p.told.range series p.plan.needed (λ e. not (holds session.cache.pairs (series_key spec.series e.0, e.1))) low high few shown wide tall planned.in_frame.range is planned.needed (subst L planned.plan.send planned.bounds.fewer))
+-- an answered view
+pub answered_view : (book : Option Series) (spec : ViewSpec) (number : ℕ) (p : Planned) (old new : State) (view : ViewFrame) → IsSomeAnd book (λ series. IsPlannedFor series spec (session_of number old.sessions) p) → view ≡ planned_frame number spec.series spec.grid p.told p.plan.send → new ≡ record old { sessions = viewed number spec (Some p.plan.needed) old.sessions } → IsSomeAnd book (λ series. AnswersBy None series spec number (View view) old new)
+answered_view None spec number p old new view planned is state = planned
+answered_view (Some series) spec number p old new view planned is state =
+    let P : ViewFrame → Type 0 = λ v. AnswersBy None series spec number (View v) old new in
+    let shows = is ∙ frame_as number spec.series spec.grid spec series p.told p.plan.send refl refl planned.told.axis_is planned.told.root in
+    subst P (sym shows) (inr (answers_in series spec number p old new (session_of number old.sessions) refl planned state))
 
 -- its fields
-pub answered_fits : (book : Option Series) (spec : ViewSpec) (number : ℕ) (p : Planned) (session : Option Session) (view : ViewFrame) → IsSomeAnd book (λ series. IsPlannedFor series spec session p) → IsSomeAnd book IsSeries → ((series : Series) → p.told.axis ≡ axis_of series → p.told.root ≡ root_of series → view ≡ view_frame number spec p.told.range series p.plan.send) → 1 ≤ number → number < 2 ^ 32 → spec.series < 512 → window.IsWindow spec.grid.t0 spec.grid.t1 → window.IsSide spec.grid.w → window.IsSide spec.grid.h → FitsView view
-answered_fits None spec number p session view planned series shows low high few shown wide tall = absurd planned
-answered_fits (Some series) spec number p session view planned is shows low high few shown wide tall =
-    subst FitsView (sym (shows series planned.told.axis_is planned.told.root)) (fits_in series spec number p session planned low high few shown wide tall is)
+pub answered_fits : (number : ℕ) (spec : ViewSpec) (p : Planned) (view : ViewFrame) → IsGoodPlan p → view ≡ planned_frame number spec.series spec.grid p.told p.plan.send → 1 ≤ number → number < 2 ^ 32 → spec.series < 512 → window.IsWindow spec.grid.t0 spec.grid.t1 → window.IsSide spec.grid.w → window.IsSide spec.grid.h → FitsView view
+answered_fits number spec p view good is low high few shown wide tall = subst FitsView (sym is) (plan_fits number spec.series spec.grid p good low high few shown wide tall)
 
 views_series : (series : Series) (id number : ℕ) (v : Viewport) (word : RangeWord) (filter : Option (List Step)) (spec : ViewSpec) (frame : Frame) (old new : State) → IsSpec id v word filter spec → AnswersView series spec number frame old new → ViewsSeries (Some series) id number v.w v.h v.t0 v.t1 word filter frame old new
 views_series series id number v word filter spec frame old new is answers =

@@ -1,6 +1,9 @@
--- Takes and sends in a row leave the disk.
-use Rattle.std.proofs.Common.{refl, ◌∙◌}
+-- What calls in a row leave of the disk.
+use Rattle.std.proofs.Common.{◌≡◌, ◌≤◌, ℕ, refl, ◌∙◌, arith, inl, inr}
+use Rattle.block_disk.specs.Counts.{HasRisen}
 use Rattle.block_disk.specs.View.{View, DiskKept}
+use Rattle.chart_service.specs.Serving.{Serves}
+use Rattle.chart_service.specs.Stepping.{Steps}
 
 pub kept_none : (at : View) → DiskKept at at
 kept_none at = record {
@@ -14,14 +17,47 @@ kept_none at = record {
   fit = λ fit. fit;
 }
 
-pub kept_then : (old mid new : View) → DiskKept old mid → DiskKept mid new → DiskKept old new
-kept_then old mid new first second = record {
-  now = λ image left. second.now image (first.now image left);
-  size = second.size ∙ first.size;
-  image = second.image ∙ first.image;
-  faults = second.faults ∙ first.faults;
-  reads = second.reads ∙ first.reads;
-  syncs = second.syncs ∙ first.syncs;
-  writes = second.writes ∙ first.writes;
-  fit = λ fit. second.fit (first.fit fit);
+pub serves_none : (told : Type 0) (at : View) → Serves told told at at
+serves_none told at = record {
+  told = λ is. is;
+  was_told = λ is. is;
+  size = refl;
+  faults = omega arith;
+  syncs = omega arith;
+  writes = omega arith;
 }
+
+pub serves_then : (told between told' : Type 0) (old mid new : View) → Serves told between old mid → Serves between told' mid new → Serves told told' old new
+serves_then told between told' old mid new first second = record {
+  told = λ is. second.told (first.told is);
+  was_told = λ is. first.was_told (second.was_told is);
+  size = second.size ∙ first.size;
+  faults = omega (arith, first.faults, second.faults);
+  syncs = omega (arith, first.syncs, second.syncs);
+  writes = omega (arith, first.writes, second.writes);
+}
+
+pub serves_kept : (told told' : Type 0) (old new : View) → DiskKept old new → (told → told') → (told' → told) → Serves told told' old new
+serves_kept told told' old new kept more less = record {
+  told = more;
+  was_told = less;
+  size = kept.size;
+  faults = omega (arith, kept.faults);
+  syncs = omega (arith, kept.syncs);
+  writes = omega (arith, kept.writes);
+}
+
+pub serves_step : (told told' : Type 0) (old new : View) → Steps told told' old new → Serves told told' old new
+serves_step told told' old new steps = record {
+  told = steps.told;
+  was_told = steps.was_told;
+  size = steps.size;
+  faults = steps.faults;
+  syncs = steps.syncs.low;
+  writes = steps.writes.low;
+}
+
+-- a count that has risen since a later moment has risen
+pub risen_since : (old mid new : ℕ) → old ≤ mid → HasRisen mid new → HasRisen old new
+risen_since old mid new low (inl more) = inl (omega (arith, low, more))
+risen_since old mid new low (inr most) = inr most

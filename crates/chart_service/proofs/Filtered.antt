@@ -5,6 +5,7 @@ use Rattle.std.proofs.lemmas.List.Elements.{All-head, All-tail}
 use Rattle.chart_grid.specs.declared.axis.Axis.{Axis}
 use Rattle.chart_grid.specs.Limits as window
 use Rattle.om3_coeff.specs.declared.errors.NodeError.{NodeError}
+use Rattle.om3_coeff.specs.declared.errors.NodeError.TheVariants.{DiskFault}
 use Rattle.om3_coeff.specs.View.{NodesView, Agrees, HasCause}
 use Rattle.value_filter.specs.declared.steps.Step.{Step}
 use Rattle.value_filter.specs.declared.faults.FilterFault.{FilterFault}
@@ -143,16 +144,16 @@ pub fit_of : (book : Option Series) (spec : ViewSpec) (shown : ShownRows) → Is
 fit_of None spec shown is = absurd is
 fit_of (Some series) spec shown is = is.fit
 
-stops_by : (old new : NodesView) (e : ScanError) (series : Series) (spec : ViewSpec) → ((n : NodeError) → HasCause old new n → ⊥) → IsCauseOf old new e → ShowsOrStops series spec (Err e)
+stops_by : (old new : NodesView) (e : ScanError) (series : Series) (spec : ViewSpec) → ((n : NodeError) → HasCause old new n → n ≡ DiskFault) → IsCauseOf old new e → ShowsOrStops series spec (Err e)
 stops_by old new (scan.Node n) series spec never cause = never n cause
 stops_by old new scan.NoMemory series spec never cause = tt
 
-shows_so : (series : Series) (spec : ViewSpec) (old new : NodesView) (r : Result ShownRows ScanError) → ((n : NodeError) → HasCause old new n → ⊥) → IfOk r (ShowsOf series.slots (axis_of series) spec) → IfOk r (FitInFrame spec.grid.w) → IfErr r (IsCauseOf old new) → ShowsOrStops series spec r
+shows_so : (series : Series) (spec : ViewSpec) (old new : NodesView) (r : Result ShownRows ScanError) → ((n : NodeError) → HasCause old new n → n ≡ DiskFault) → IfOk r (ShowsOf series.slots (axis_of series) spec) → IfOk r (FitInFrame spec.grid.w) → IfErr r (IsCauseOf old new) → ShowsOrStops series spec r
 shows_so series spec old new (Ok shown) never of fit cause = record { of = of; fit = fit }
 shows_so series spec old new (Err e) never of fit cause = stops_by old new e series spec never cause
 
 -- what a filtered view shows over the nodes of a series
-pub shows_over : (series : Series) (spec : ViewSpec) (list : List (Option ℤ)) (axis : Axis) (old new : NodesView) (r : Result ShownRows ScanError) → list ≡ series.slots → axis ≡ axis_of series → Agrees old list → ((n : NodeError) → HasCause old new n → ⊥) → ((l : List (Option ℤ)) → Agrees old l → IfOk r (ShowsOf l axis spec)) → IfOk r (FitInFrame spec.grid.w) → IfErr r (IsCauseOf old new) → ShowsOrStops series spec r
-shows_over series spec list axis old new r same at agrees never of fit cause =
+pub shows_over : (series : Series) (spec : ViewSpec) (axis : Axis) (old new : NodesView) (r : Result ShownRows ScanError) → axis ≡ axis_of series → Agrees old series.slots → ((n : NodeError) → HasCause old new n → n ≡ DiskFault) → ((l : List (Option ℤ)) → Agrees old l → IfOk r (ShowsOf l axis spec)) → IfOk r (FitInFrame spec.grid.w) → IfErr r (IsCauseOf old new) → ShowsOrStops series spec r
+shows_over series spec axis old new r at mine never of fit cause =
     let S : Axis → Type 0 = λ a. IfOk r (ShowsOf series.slots a spec) in
-    shows_so series spec old new r never (subst S at (of series.slots (subst (Agrees old) same agrees))) fit cause
+    shows_so series spec old new r never (subst S at (of series.slots mine)) fit cause

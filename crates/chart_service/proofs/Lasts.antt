@@ -1,12 +1,11 @@
 -- The last view of a session, or why there is none.
 use Rattle.std.proofs.Common.{◌≡◌, ℕ, true, false, ◌==◌, if◌then◌else◌, List, [], ◌∷◌, Option, None, Some, Ok, Err, refl, sym, subst}
 use Rattle.std.specs.Prelude.{◌||◌}
-use Rattle.series_book.specs.declared.one_series.Series.{Series}
 use Rattle.series_book.specs.declared.refusals.Refusal.TheVariants.{UnknownSession, NoView}
 use Rattle.zoom_session.specs.declared.session.Session.{Session}
 use Rattle.zoom_session.specs.declared.view_spec.ViewSpec.{ViewSpec}
 use Rattle.zoom_session.specs.Sessions.{is_open, session_of, last_of}
-use Rattle.chart_service.specs.State.{IsViewOf, HasViewOf, AreViewsOf}
+use Rattle.chart_service.specs.Holding.{IsViewIn, HasViewIn, AreViewsIn}
 use Rattle.chart_service.specs.Planning.{IsLastOf}
 use Rattle.chart_service.proofs.Keeping.{view_of_session}
 
@@ -45,10 +44,10 @@ last_is (Some t) spec is = let P : Option ViewSpec → Type 0 = λ l. IsLastOf (
 pub last_so : (number : ℕ) (ss : List Session) (spec : ViewSpec) → Some spec ≡ last_of (session_of number ss) → IsLastOf (session_of number ss) (Ok spec)
 last_so number ss spec is = last_is (session_of number ss) spec is
 
-view_in : (book : List Series) (o : Option Session) (spec : ViewSpec) → ((s : Session) → o ≡ Some s → HasViewOf book s.last) → Some spec ≡ last_of o → IsViewOf book spec
-view_in book None spec views is = cc
-view_in book (Some s) spec views is = let P : Option ViewSpec → Type 0 = λ l. HasViewOf book l in subst P (sym is) (views s refl)
+view_in : (count : ℕ) (o : Option Session) (spec : ViewSpec) → ((s : Session) → o ≡ Some s → HasViewIn count s.last) → Some spec ≡ last_of o → IsViewIn count spec
+view_in count None spec views is = cc
+view_in count (Some s) spec views is = let P : Option ViewSpec → Type 0 = λ l. HasViewIn count l in subst P (sym is) (views s refl)
 
--- which is of a series of the book
-pub view_so : (book : List Series) (number : ℕ) (ss : List Session) (spec : ViewSpec) → AreViewsOf book ss → Some spec ≡ last_of (session_of number ss) → IsViewOf book spec
-view_so book number ss spec views is = view_in book (session_of number ss) spec (λ s there. view_of_session book number ss s there views) is
+-- which is of a series that is there
+pub view_so : (count : ℕ) (number : ℕ) (ss : List Session) (spec : ViewSpec) → AreViewsIn count ss → Some spec ≡ last_of (session_of number ss) → IsViewIn count spec
+view_so count number ss spec views is = view_in count (session_of number ss) spec (λ s there. view_of_session count number ss s there views) is

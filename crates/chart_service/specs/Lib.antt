@@ -4,4 +4,10 @@ pub mod Replies
 pub mod Opening
 pub mod Planning
 pub mod Alone
+pub mod Stepping
+pub mod Looking
 pub mod Serving
+pub mod Sending
+pub mod Moments
+pub mod Holding
+pub mod HoldingLaws

@@ -8,6 +8,7 @@ use Rattle.chart_grid.specs.Limits.{IsWindow, IsSide, IsBadWindow, IsBadSide}
 use Rattle.chart_grid.specs.Projection.{ShowsWindow, HasCanvas}
 use Rattle.om3_coeff.specs.declared.key.Key.{Key}
 use Rattle.om3_coeff.specs.declared.coef.Coef.{Coef}
+use Rattle.om3_coeff.specs.declared.errors.NodeError.TheVariants.{DiskFault as AtDisk}
 use Rattle.om3_coeff.specs.Keys.{height}
 use Rattle.om3_coeff.specs.Spans.{IsProperIfAny, span_over}
 use Rattle.om3_coeff.specs.View.{NodesView, HasCause}
@@ -34,7 +35,8 @@ use Rattle.zoom_session.specs.declared.errors.PlanError.TheVariants.{TooLarge, N
 use Rattle.zoom_session.specs.Plans.{PlansIn, IsTooMany}
 use Rattle.zoom_session.specs.Planned.{IsInBounds}
 use Rattle.chart_frames.specs.Frames.{IsRange}
-use Rattle.chart_service.specs.Viewing.{ShowsRange, AreNeeded, axis_of, kept_of, range_spec, IsGoodRange, IsBadRange}
+use Rattle.chart_frames.specs.declared.frame.ViewFrame.{ViewFrame}
+use Rattle.chart_service.specs.Viewing.{ShowsRange, AreNeeded, axis_of, kept_of, range_spec, has_of, least_of, greatest_of, IsGoodRange, IsBadRange}
 use Rattle.chart_service.specs.declared.viewport.Viewport.{Viewport}
 use Rattle.chart_service.specs.declared.shown_rows.ShownRows.{ShownRows}
 use Rattle.chart_service.specs.declared.shown.Told.{Told}
@@ -122,14 +124,14 @@ pub record FitInFrame (w : ℕ) (shown : ShownRows) : Type 0 where
   pub rows : All (IsShownRow w) shown.rows
   pub range : IsRange shown.range.lo shown.range.hi
 
--- what a filtered view of a series shows; nothing but want of memory keeps it from that
+-- what a filtered view of a series shows; nothing but a fault of the disk and want of memory keeps it from that
 pub record ShowsIn (series : Series) (spec : ViewSpec) (shown : ShownRows) : Type 0 where
   pub of : ShowsOf series.slots (axis_of series) spec shown
   pub fit : FitInFrame spec.grid.w shown
 
 abbrev pub ShowsOrStops : Series → ViewSpec → Result ShownRows ScanError → Type 0
 ShowsOrStops series spec (Ok shown) = ShowsIn series spec shown
-ShowsOrStops series spec (Err (scan.Node error)) = ⊥
+ShowsOrStops series spec (Err (scan.Node error)) = error ≡ AtDisk
 ShowsOrStops series spec (Err scan.NoMemory) = ⊤
 
 -- why a view isn't planned: its session's client keeps fewer keys than it needs; or the nodes gave this
@@ -152,7 +154,7 @@ pub record IsPlannedFor (series : Series) (spec : ViewSpec) (session : Option Se
   pub told : TellsOf series.slots (axis_of series) spec planned.told
   pub in_frame : AreInFrame planned.told
 
--- why it isn't planned: the view needs too many keys
+-- why it isn't planned: the view needs too many keys, or the disk failed
 pub record IsTooLarge (series : Series) (grid : Grid) (session : Session) (needed cache : ℕ) : Type 0 where
   pub keys : List (Key × Coef)
   pub are_needed : AreNeeded series grid keys
@@ -163,8 +165,29 @@ pub record IsTooLarge (series : Series) (grid : Grid) (session : Session) (neede
 abbrev pub StopsIn : Series → Grid → Option Session → PlanError → Type 0
 StopsIn series grid None error = ⊥
 StopsIn series grid (Some session) (TooLarge needed cache) = IsTooLarge series grid session needed cache
-StopsIn series grid (Some session) (Node error) = ⊥
+StopsIn series grid (Some session) (Node error) = error ≡ AtDisk
 StopsIn series grid (Some session) NoMemory = ⊤
+
+-- the fields of the frame of what is planned
+abbrev pub planned_frame : ℕ → ℕ → Grid → Told → List (Key × Coef) → ViewFrame
+planned_frame number id grid told send = record {
+  session = number;
+  series = id;
+  w = grid.w;
+  h = grid.h;
+  t0 = grid.t0;
+  t1 = grid.t1;
+  lo = told.range.lo;
+  hi = told.range.hi;
+  start = told.axis.start;
+  step = told.axis.step;
+  slots = told.axis.slots;
+  has = has_of told.root;
+  rmin = least_of told.root;
+  rmax = greatest_of told.root;
+  count = length send;
+  coefs = send;
+}
 
 abbrev pub PlansOrStops : Series → ViewSpec → Option Session → Result Planned PlanError → Type 0
 PlansOrStops series spec session (Ok planned) = IsPlannedFor series spec session planned

@@ -1,16 +1,23 @@
 -- What is sent for the lines of an input: the frames that answer those that aren't empty, as a text.
-use Rattle.std.specs.Prelude.{◌≡◌, ℕ, ◌-◌, ◌^◌, ◌<◌, ◌≤◌, ◌⊎◌, Bool, true, false, List, [], ◌∷◌, ◌++◌, length, take, flat_map, Option, None, Some, IfSome}
+use Rattle.std.specs.Prelude.{◌≡◌, ℕ, ◌-◌, ◌^◌, ◌<◌, ◌≤◌, ◌⊎◌, Bool, true, false, List, [], ◌∷◌, ◌++◌, length, take, flat_map, Option, None, Some, IfSome, ⊤}
 use Rattle.std.specs.List.{filter}
 use Rattle.block_disk.specs.Streams.{sent_after, PartSent}
+use Rattle.block_disk.specs.View.{Image, View}
 use Rattle.chart_world.specs.declared.line_answer.LineFault.{LineFault}
 use Rattle.chart_world.specs.declared.line_answer.LineFault.TheVariants as fault
 use Rattle.chart_world.specs.Lines.{lines, NoLineFeed}
 use Rattle.chart_frames.specs.declared.frame.Frame.{Frame}
 use Rattle.chart_frames.specs.Frames.{spelling}
+use Rattle.series_book.specs.declared.one_series.Series.{Series}
+use Rattle.store_catalog.specs.declared.stored_series.StoredSeries.{StoredSeries}
+use Rattle.zoom_session.specs.declared.session.Session.{Session}
 use Rattle.chart_service.specs.State.{State}
 use Rattle.chart_service.specs.Replies.{Replied}
+use Rattle.chart_service.specs.Stepping.{StandsAfter, IsBadPage}
+use Rattle.chart_service.specs.declared.failure.ServiceError.{ServiceError}
+use Rattle.chart_service.specs.declared.failure.ServiceError.TheVariants as step
 use Rattle.chart_service.specs.declared.failure.ServeEnd.{ServeEnd}
-use Rattle.chart_service.specs.declared.failure.ServeEnd.TheVariants.{ReadFault, SendFault, InputTooLong, NoMemory}
+use Rattle.chart_service.specs.declared.failure.ServeEnd.TheVariants.{ReadFault, SendFault, DiskFault, Damaged, InputTooLong, NoMemory}
 
 -- the line says something: it isn't empty, or it is too long
 abbrev pub says : Option (List ℕ) → Bool
@@ -110,45 +117,51 @@ pub record SendsSome (IsText : List (Option (List ℕ)) → List Frame → List 
 abbrev pub AreSpelled : List (Option (List ℕ)) → List Frame → List ℕ → Type 0
 AreSpelled lines frames text = text ≡ flat_map spelling frames
 
--- why not all lines of the input were answered, what was sent, and the state then
-abbrev pub EndsServe : List ℕ → State → State → Option (List ℕ) → Option (List ℕ) → Option (List ℕ) → ServeEnd → Type 0
-EndsServe input old new left before now ReadFault = IfSome left (λ bytes. SendsTaken AreSpelled input bytes old new before now)
-EndsServe input old new left before now SendFault = SendsFrontOf AreSpelled input old new before now
-EndsServe input old new left before now InputTooLong = SendsWithin AreSpelled input old new before now
-EndsServe input old new left before now NoMemory = SendsSome AreSpelled input old new before now
+-- some first lines were answered, and their text was sent
+pub record SendsLines (IsText : List (Option (List ℕ)) → List Frame → List ℕ → Type 0) (input : List ℕ) (old : State) (before now : Option (List ℕ)) : Type 0 where
+  pub rest : List ℕ
+  pub between : State
+  pub first : SendsFirst IsText input rest old between before now
 
--- a line is answered, and its frame's spelling is sent
-pub record AnswersLine (text : List ℕ) (old new : State) (before now : Option (List ℕ)) : Type 0 where
-  pub frame : Frame
-  pub replied : Replied (Some text) frame old new
-  pub sent : now ≡ sent_after (spelling frame) before
+-- Why not all lines of the input were answered, what was sent, and the book that the pages stand for then. After a
+-- fault of the disk the store has to be opened again. No page is damaged.
+abbrev pub EndsServe : List ℕ → State → Image → List Session → Option (List ℕ) → Option (List ℕ) → Option (List ℕ) → ServeEnd → Type 0
+EndsServe input old image sessions left before now ReadFault =
+    StandsAfter old.total image sessions (λ new. IfSome left (λ bytes. SendsTaken AreSpelled input bytes old new before now))
+EndsServe input old image sessions left before now SendFault =
+    StandsAfter old.total image sessions (λ new. SendsFrontOf AreSpelled input old new before now)
+EndsServe input old image sessions left before now DiskFault = SendsLines AreSpelled input old before now
+EndsServe input old image sessions left before now (Damaged page) = ⊥
+EndsServe input old image sessions left before now InputTooLong =
+    StandsAfter old.total image sessions (λ new. SendsWithin AreSpelled input old new before now)
+EndsServe input old image sessions left before now NoMemory =
+    StandsAfter old.total image sessions (λ new. SendsSome AreSpelled input old new before now)
 
--- an empty line is passed over, and every other is answered
-abbrev pub LineDone : List ℕ → State → State → Option (List ℕ) → Option (List ℕ) → Type 0
-LineDone text old new before now = ((text ≡ []) × (new ≡ old) × (now ≡ before)) ⊎ ((0 < length text) × AnswersLine text old new before now)
+-- a page that the end names is one of the store's, or damaged where reads give what the pages are
+abbrev pub EndsAtBad : Type 0 → List StoredSeries → Image → ℕ → ServeEnd → Type 0
+EndsAtBad told catalog image total ReadFault = ⊤
+EndsAtBad told catalog image total SendFault = ⊤
+EndsAtBad told catalog image total DiskFault = ⊤
+EndsAtBad told catalog image total (Damaged page) = IsBadPage told catalog image total page
+EndsAtBad told catalog image total InputTooLong = ⊤
+EndsAtBad told catalog image total NoMemory = ⊤
 
--- a line is answered, and a first part of its frame's spelling is sent
-pub record AnswersPart (text : List ℕ) (old new : State) (before now : Option (List ℕ)) : Type 0 where
-  pub some : 0 < length text
-  pub frame : Frame
-  pub replied : Replied (Some text) frame old new
-  pub part : PartSent (spelling frame) before now
-
--- why a line wasn't answered, or its answer not sent
-abbrev pub LineStops : List ℕ → State → State → Option (List ℕ) → Option (List ℕ) → ServeEnd → Type 0
-LineStops text old new before now ReadFault = ⊥
-LineStops text old new before now SendFault = AnswersPart text old new before now
-LineStops text old new before now InputTooLong = ⊥
-LineStops text old new before now NoMemory = (now ≡ before) × (KeepsBook old new ⊎ ((frame : Frame) × Replied (Some text) frame old new))
-
--- why a text wasn't sent
-abbrev pub SendStops : List ℕ → Option (List ℕ) → Option (List ℕ) → ServeEnd → Type 0
-SendStops text before now ReadFault = ⊥
-SendStops text before now SendFault = PartSent text before now
-SendStops text before now InputTooLong = ⊥
-SendStops text before now NoMemory = now ≡ before
+-- what a serving moves, whatever the pages are
+pub record Serves (told_old told_new : Type 0) (old new : View) : Type 0 where
+  pub told : told_old → told_new
+  pub was_told : told_new → told_old
+  pub size : new.size ≡ old.size
+  pub faults : old.faults ≤ new.faults
+  pub syncs : old.syncs ≤ new.syncs
+  pub writes : old.writes ≤ new.writes
 
 -- what a fault of the lines is for the serving
 abbrev pub end_of : LineFault → ServeEnd
 end_of fault.ReadFault = ReadFault
 end_of fault.InputTooLong = InputTooLong
+
+-- and what an error of a step is
+abbrev pub end_of_step : ServiceError → ServeEnd
+end_of_step step.DiskFault = DiskFault
+end_of_step (step.Damaged page) = Damaged page
+end_of_step step.NoMemory = NoMemory

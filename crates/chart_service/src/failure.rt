@@ -2,10 +2,24 @@ use chart_world::LineFault;
 use std::alloc::{AllocError, AllocFailed};
 use thiserror::Error;
 
-/// No memory was left for a request. The book is as it was before it.
+/// No memory was left.
 #[derive(Clone, Copy, Debug, PartialEq, Eq, Error)]
-#[error("no memory for the request")]
+#[error("out of memory")]
 pub struct NoMemory;
+
+/// Why a request wasn't answered.
+#[derive(Clone, Copy, Debug, PartialEq, Eq, Error)]
+pub enum ServiceError {
+    /// A call of the disk failed: its count of faults has risen.
+    #[error("a call of the disk failed")]
+    DiskFault,
+    /// This page is damaged.
+    #[error("page {page} is damaged")]
+    Damaged { page: u32 },
+    /// There was no memory. The book is as it was.
+    #[error("out of memory")]
+    NoMemory,
+}
 
 /// Why `serve` didn't answer all lines of its input. What the lines before did stays.
 #[derive(Clone, Copy, Debug, PartialEq, Eq, Error)]
@@ -16,6 +30,12 @@ pub enum ServeEnd {
     /// A send failed. The first bytes of the frames were sent.
     #[error("the frame could not be sent")]
     SendFault,
+    /// A call of the disk failed. The lines before were answered, and the store has to be opened again.
+    #[error("a call of the disk failed")]
+    DiskFault,
+    /// This page is damaged. The lines before were answered.
+    #[error("page {page} is damaged")]
+    Damaged { page: u32 },
     /// A byte past 2^32 was taken. Each line that ended before it was answered.
     #[error("the input has more than 2^32 bytes")]
     InputTooLong,
@@ -39,6 +59,17 @@ impl<T: Drop> From<AllocFailed<T>> for NoMemory {
 impl From<zoom_session::NoMemory> for NoMemory {
     fn from(_error: zoom_session::NoMemory) -> NoMemory {
         NoMemory
+    }
+}
+
+impl From<zoom_session::NoMemory> for ServiceError {
+    ghost use Rattle.std.specs.Prelude.{◌≡◌};
+    ghost use Rattle.chart_service.specs.declared.failure.ServiceError.TheVariants.{NoMemory};
+
+    ghost from_gives = { λ _ error. error ≡ NoMemory };
+
+    fn from(_error: zoom_session::NoMemory) -> ServiceError {
+        ServiceError::NoMemory
     }
 }
 
@@ -78,13 +109,17 @@ impl From<chart_frames::NoMemory> for ServeEnd {
     }
 }
 
-impl From<NoMemory> for ServeEnd {
+impl From<ServiceError> for ServeEnd {
     ghost use Rattle.std.specs.Prelude.{◌≡◌};
-    ghost use Rattle.chart_service.specs.declared.failure.ServeEnd.TheVariants.{NoMemory};
+    ghost use Rattle.chart_service.specs.Serving.{end_of_step};
 
-    ghost from_gives = { λ _ end. end ≡ NoMemory };
+    ghost from_gives = { λ error end. end ≡ end_of_step error };
 
-    fn from(_error: NoMemory) -> ServeEnd {
-        ServeEnd::NoMemory
+    fn from(error: ServiceError) -> ServeEnd {
+        match error {
+            ServiceError::DiskFault => ServeEnd::DiskFault,
+            ServiceError::Damaged { page } => ServeEnd::Damaged { page },
+            ServiceError::NoMemory => ServeEnd::NoMemory,
+        }
     }
 }

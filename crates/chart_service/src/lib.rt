@@ -1,34 +1,48 @@
-//! Request lines and the frames that answer them, over a book that is held as plain lists.
+//! Request lines and the frames that answer them, over a store.
 //!
-//! - A service holds a book, the number of pages that the book may take, and the sessions that are
-//!   open, each with the coefficients that its client keeps and the view that it was answered last.
+//! - A service holds a store, whose pages stand for a book, and the sessions that are open, each with the
+//!   coefficients that its client keeps and the view that it was answered last.
 //! - It answers one request at a time. A refused request is answered by the first refusal that
-//!   stands, in the order of the refusals' numbers, and changes nothing.
+//!   stands, in the order of the refusals' numbers, and changes nothing. An accepted edit is one commit,
+//!   and is answered behind it.
 //! - A view, a zoom and a pan without a filter are answered by what the session's client lacks: of the
 //!   coefficients that the view needs, those which the client doesn't keep, or keeps with an old value.
+//!   Only the pages on the way to them are read.
 //! - A view with a filter, and a zoom or pan of one, is answered by the rows of the points that it
 //!   keeps, and leaves the list of coefficients that the client keeps.
 //!
-//! `serve` answers the lines of a stream, one frame a line. Where memory is wanting the book is as it
-//! was, and the session that the request names may be closed. Drawing is the client's.
+//! `serve` answers the lines of the stream that stands beside the pages, one frame a line. After a fault
+//! of the disk the store has to be opened again; with every other error nothing was committed for the
+//! request, and its session may be closed. Invariant: the last view of each session is of a series that
+//! the store has. Drawing is the client's.
 #![tactic(auto)]
 
+mod answering;
+mod edits;
 mod failure;
 mod filters;
 pub mod laws;
+mod looking;
 mod ranges;
 mod refusals;
+mod selecting;
 mod service;
+mod service_calls;
 mod serving;
 #[cfg(test)]
 mod serving_tests;
 mod shown;
 mod shown_rows;
+mod stepping;
+#[cfg(test)]
+mod store_tests;
+mod streams;
 #[cfg(test)]
 mod tests;
+mod viewing;
 mod viewport;
 
-pub use failure::{NoMemory, ServeEnd};
+pub use failure::{NoMemory, ServeEnd, ServiceError};
 pub use refusals::refused;
 pub use service::Service;
 pub use serving::serve;

@@ -1,8 +1,12 @@
 //! Whole inputs, and the bytes of the frames that answer them.
 use super::*;
+use block_disk::MemDisk;
 use chart_world::MemWorld;
-use series_book::ListBook;
+use gate_pages::{GatePages, Pages};
+use series_store::Store;
+use std::alloc::Global;
 use std::test::Fail;
+use store_init::make_store;
 
 /// Two edits, an opening and a view of eight coefficients.
 const FIRST_VIEW: &[u8] =
@@ -20,6 +24,34 @@ const FIRST_VIEW: &[u8] =
     \x00\x00\x00\x00\x02\x00\x00\x00\x00\x00\x00\x00\x05\x00\x00\x01\x00\x00\x00\x00\x00\x03\xff\xff\
     \xff\xff\xff\xff\xff\xfd\xff\xff\xff\xff\xff\xff\xff\xfd\x00\x00\x01\x00\x00\x00\x00\x01\x01\x00\
     \x00\x00\x00\x00\x00\x00\x00\x00\x00\x00\x00\x00\x00\x00\x00";
+
+/// A service over an empty store of 62 pages, on the disk of a world with this input.
+fn served(alloc: Global, case: &Case) -> Result<Service<GatePages<MemWorld<MemDisk>>>, Fail> {
+    let disk = MemDisk::new(alloc, 128, Vec::new(alloc))?;
+    let Ok(disk) = make_store(alloc, disk) else {
+        return Err(ServeEnd::NoMemory.into());
+    };
+    let world = MemWorld::new(
+        alloc,
+        disk,
+        Vec::from_slice(alloc, case.input)?,
+        Vec::from_slice(alloc, case.take_fails)?,
+        Vec::from_slice(alloc, case.send_fails)?,
+    )?;
+    let Ok(pages) = GatePages::open(alloc, world) else {
+        return Err(ServeEnd::NoMemory.into());
+    };
+    if !pages.is_sound() || pages.count() < 62 {
+        return Err(ServeEnd::NoMemory.into());
+    }
+    let Ok(store) = Store::open(alloc, pages) else {
+        return Err(ServeEnd::NoMemory.into());
+    };
+    let Ok(service) = Service::new(alloc, store) else {
+        return Err(ServeEnd::NoMemory.into());
+    };
+    Ok(service)
+}
 
 /// An input, the takes and sends that fail, and what is wanted: how it ends and the bytes sent.
 #[derive(Drop)]
@@ -72,16 +104,12 @@ fn serves_inputs(rt: HostRuntime) -> Result<(), Fail> {
         },
     ];
     for case in &cases {
-        let alloc = rt.alloc();
-        let mut world = MemWorld::new(
-            alloc,
-            (),
-            Vec::from_slice(alloc, case.input)?,
-            Vec::from_slice(alloc, case.take_fails)?,
-            Vec::from_slice(alloc, case.send_fails)?,
-        )?;
-        let mut service = Service::new(alloc, ListBook::new(alloc, 62)?)?;
-        assert_eq!(rt; serve(&mut service, &mut world), case.end);
+        let mut service = served(rt.alloc(), case)?;
+        assert_eq!(rt; service.is_sound(), true);
+        if service.is_sound() {
+            assert_eq!(rt; serve(&mut service), case.end);
+        }
+        let world = service.into_store().into_pages().into_disk();
         assert_eq!(rt; world.sent(), case.sent);
     }
     Ok(())

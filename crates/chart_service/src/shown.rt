@@ -8,11 +8,9 @@ ghost use Rattle.zoom_session.specs.Plans.{AreNeeded, PlansIn, HasEntries, Count
 ghost use Rattle.zoom_session.specs.Sessions.{is_open, session_of};
 ghost use Rattle.zoom_session.specs.Views.{IsRangeSpec};
 ghost use Rattle.plain_chart.specs.Samples.{kept, values_of, IsRange as AreKeptIn};
-ghost use Rattle.series_book.specs.declared.one_series.Series.{Series};
-ghost use Rattle.zoom_session.specs.declared.view_spec.ViewSpec.{ViewSpec};
 ghost use Rattle.chart_frames.specs.Frames.{IsRange};
-ghost use Rattle.chart_service.specs.Viewing.{ShowsRange, axis_of, root_of, has_of, least_of, greatest_of, view_frame};
-ghost use Rattle.chart_service.specs.Planning.{TellsOf, AreInFrame, RefusesView, most_view_reads};
+ghost use Rattle.chart_service.specs.Viewing.{ShowsRange, has_of, least_of, greatest_of};
+ghost use Rattle.chart_service.specs.Planning.{TellsOf, AreInFrame, RefusesView, most_view_reads, planned_frame};
 
 use chart_frames::ViewFrame;
 use chart_grid::{Axis, Grid};
@@ -62,6 +60,8 @@ pub(crate) fn plan<N: Nodes>(
     ensures bounds { IfOk result (λ planned. IsInBounds planned.plan) }
     ensures entries { IfOk result (λ planned. HasEntries axis.slots planned.plan) }
     ensures in_frame { IfOk result (λ planned. AreInFrame planned.told) }
+    ensures axis { IfOk result (λ planned. planned.told.axis ≡ axis) }
+    ensures root { IfOk result (λ planned. planned.told.root ≡ (N.view nodes.old).root) }
 
     // why nothing is planned
     ensures refused { IfErr result (RefusesView (session_of number sessions.now) (N.view nodes.old) (N.view nodes.new)) }
@@ -167,9 +167,7 @@ fn stored_of(root: Option<Span>) -> Stored
 pub(crate) fn view_frame(number: u32, id: u16, grid: Grid, planned: Planned) -> ViewFrame
     requires { length planned.plan.send < 2 ^ 32 }
     ensures session { result.session ≡ number }
-    ensures frame { (spec : ViewSpec) (series : Series) → id ≡ spec.series → grid ≡ spec.grid →
-        planned.told.axis ≡ axis_of series → planned.told.root ≡ root_of series →
-        result ≡ view_frame number spec planned.told.range series planned.plan.send }
+    ensures fields { result ≡ planned_frame number id grid planned.told planned.plan.send }
 {
     let told = planned.told;
     let coefs = planned.plan.into_send();

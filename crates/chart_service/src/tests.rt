@@ -1,36 +1,47 @@
 //! Request lines and the frames that answer them.
-ghost use Rattle.std.specs.Prelude.{◌≤◌};
-ghost use Rattle.series_book.specs.declared.limits.TheConstants.{FIXED_PAGES};
-
 use super::*;
 use chart_frames::{Frame, ViewFrame};
+use gate_pages::{ListPages, Pages};
 use om3_coeff::{Coef, Key};
-use series_book::ListBook;
+use series_store::{Store, StoreError};
 use std::alloc::Global;
 use std::test::Fail;
 
 /// What a line is answered: of a view how many coefficients or rows are sent, and its range of values.
 #[derive(Clone, Copy, Debug, PartialEq, Eq)]
-enum Answer {
+pub(crate) enum Answer {
     Done(u64),
     Refused(u8, u64, u64),
     Opened(u32, u32),
     Closed(u32),
     Viewed(u32, i64, i64),
     Filtered(u16, i64, i64),
+    Damaged(u32),
     Nothing,
 }
 
 use Answer::{Closed, Done, Filtered, Opened, Refused, Viewed};
 
-fn service(alloc: Global, pages: u64) -> Result<Service, Fail>
-    requires { FIXED_PAGES ≤ pages }
-{
-    let book = ListBook::new(alloc, pages)?;
-    Ok(Service::new(alloc, book)?)
+/// A service over a new store of so many pages.
+pub(crate) fn service(alloc: Global, count: u32) -> Result<Service<ListPages>, Fail> {
+    let pages = ListPages::new(alloc, count)?;
+    if !pages.is_sound() || pages.count() < 62 {
+        return Err(StoreError::NotAStore.into());
+    }
+    match Store::init(alloc, pages) {
+        Ok(store) => served(alloc, store),
+        Err(back) => Err(back.cause.into()),
+    }
 }
 
-fn answer_of(frame: &Frame) -> Answer {
+pub(crate) fn served<P: Pages>(alloc: Global, store: Store<P>) -> Result<Service<P>, Fail> {
+    match Service::new(alloc, store) {
+        Ok(service) => Ok(service),
+        Err(back) => Err(back.cause.into()),
+    }
+}
+
+pub(crate) fn answer_of(frame: &Frame) -> Answer {
     match frame {
         Frame::Done { slots } => Answer::Done(*slots),
         Frame::Refused { number, a, b } => Answer::Refused(*number, *a, *b),
@@ -41,18 +52,25 @@ fn answer_of(frame: &Frame) -> Answer {
     }
 }
 
-fn answer_to(service: &mut Service, line: &str) -> Answer {
+pub(crate) fn answer_to<P: Pages>(service: &mut Service<P>, line: &str) -> Answer {
+    if !service.is_sound() {
+        return Answer::Nothing;
+    }
     match service.step_line(line.as_bytes()) {
         Ok(frame) => answer_of(&frame),
+        Err(ServiceError::Damaged { page }) => Answer::Damaged(page),
         Err(_) => Answer::Nothing,
     }
 }
 
 /// The frame of an answered view.
-fn view_of(service: &mut Service, line: &str) -> Result<ViewFrame, NoMemory> {
+fn view_of<P: Pages>(service: &mut Service<P>, line: &str) -> Result<ViewFrame, ServiceError> {
+    if !service.is_sound() {
+        return Err(ServiceError::DiskFault);
+    }
     match service.step_line(line.as_bytes())? {
         Frame::View(view) => Ok(view),
-        _ => Err(NoMemory),
+        _ => Err(ServiceError::NoMemory),
     }
 }
 
@@ -121,7 +139,7 @@ fn replies_to_lines(rt: HostRuntime) -> Result<(), Fail> {
         ),
         ("clear a 0 3", Done(0)),
     ] {
-        let mut service = service(rt.alloc(), 1_048_510)?;
+        let mut service = service(rt.alloc(), 62)?;
         assert_eq!(rt; answer_to(&mut service, "create a 0 10 0"), Done(0));
         assert_eq!(rt; answer_to(&mut service, "open 1"), Opened(1, 65_536));
         assert_eq!(rt; answer_to(&mut service, line), want, "at {line}");
@@ -299,7 +317,7 @@ fn numbered(alloc: Global, word: &str, number: u32, end: &str) -> Result<String,
 #[test]
 fn fills_the_service(rt: HostRuntime) -> Result<(), Fail> {
     let alloc = rt.alloc();
-    let mut service = service(alloc, 1_048_510)?;
+    let mut service = service(alloc, 62)?;
     for number in 1..18u32 {
         let line = numbered(alloc, "open ", number, "")?;
         let want = if number < 17 {

@@ -6,7 +6,7 @@ mod trying;
 use crate::RepairError;
 use crate::tests::listed::{Both, Edit};
 use crate::tests::trying::{
-    NO_TREE, Trouble, begin, commit, grow_to, init, open, page_of, put, put_all, put_page,
+    NO_TREE, Trouble, begin, commit, grow_to, init, open, page_of, put, put_page,
 };
 use block_disk::{FuseDisk, MemDisk};
 use gate_pages::{GatePages, ListPages};
@@ -15,7 +15,7 @@ use std::alloc::Global;
 use std::test::Fail;
 use tree_walk::Tree;
 
-/// Puts a value in each slot from the tree's end on and below `end`, one by one.
+/// Puts a value in each slot from the tree's end on and below `end`, each in a commit of its own.
 fn fill_to(
     alloc: Global,
     space: &mut Space<ListPages>,
@@ -23,28 +23,11 @@ fn fill_to(
     end: u64,
 ) -> Result<Tree, Trouble> {
     let mut tree = tree;
-    let mut txn = begin(alloc, space)?;
     for slot in tree.slots..end {
-        if txn.len() > 54 {
-            commit(space, txn)?;
-            txn = begin(alloc, space)?;
-        }
+        let mut txn = begin(alloc, space)?;
         tree = put(space, &mut txn, tree, slot, (slot % 1_000) as i64)?;
+        commit(space, txn)?;
     }
-    commit(space, txn)?;
-    Ok(tree)
-}
-
-/// Adds values behind a tree's end.
-fn add(
-    alloc: Global,
-    space: &mut Space<ListPages>,
-    tree: Tree,
-    values: &[Option<i64>],
-) -> Result<Tree, Trouble> {
-    let mut txn = begin(alloc, space)?;
-    let tree = put_all(space, &mut txn, tree, tree.slots, values)?;
-    commit(space, txn)?;
     Ok(tree)
 }
 
@@ -52,20 +35,14 @@ fn add(
 fn pages_of_full_trees(rt: HostRuntime) -> Result<(), Fail> {
     let alloc = rt.alloc();
     let mut space = init(alloc, ListPages::new(alloc, 200)?)?;
-    let tree = fill_to(alloc, &mut space, NO_TREE, 128)?;
-    assert_eq!(rt; (tree.slots, space.used()), (128, 17 + 1));
-    let mut tree = fill_to(alloc, &mut space, tree, 129)?;
-    assert_eq!(rt; (tree.slots, space.used()), (129, 17 + 3));
-    // 16,254 values in runs, and the last two one by one again
-    for _ in 0..63 {
-        tree = add(alloc, &mut space, tree, &[Some(-7); 256])?;
+    let mut tree = NO_TREE;
+    for (slots, pages) in [(128, 1), (129, 3), (16_384, 129), (16_385, 132)] {
+        tree = fill_to(alloc, &mut space, tree, slots)?;
+        assert_eq!(rt;
+            (tree.slots, space.used().saturating_sub(17)),
+            (slots, pages)
+        );
     }
-    tree = add(alloc, &mut space, tree, &[Some(7); 126])?;
-    assert_eq!(rt; tree.slots, 16_383);
-    tree = fill_to(alloc, &mut space, tree, 16_384)?;
-    assert_eq!(rt; (tree.slots, space.used()), (16_384, 17 + 129));
-    tree = fill_to(alloc, &mut space, tree, 16_385)?;
-    assert_eq!(rt; (tree.slots, space.used()), (16_385, 17 + 132));
     Ok(())
 }
 

@@ -13,3 +13,8 @@ pub mod FindLemmas
 pub mod EditLemmas
 pub mod StoreLemmas
 pub mod CreateLemmas
+pub mod LookLemmas
+pub mod ValueLemmas
+pub mod TreeCountLemmas
+pub mod ChainLemmas
+pub mod BookCountLemmas

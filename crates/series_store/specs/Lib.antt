@@ -5,3 +5,4 @@ pub mod Changing
 pub mod Errors
 pub mod Beside
 pub mod Creating
+pub mod Counting

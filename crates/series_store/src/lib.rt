@@ -10,6 +10,9 @@
 //! layer above.
 #![tactic(auto)]
 
+mod checking;
+mod counting;
+mod counts;
 mod creating;
 mod edit_errors;
 mod editing;
@@ -23,9 +26,14 @@ mod store;
 mod store_calls;
 mod streams;
 
+pub use counts::Counts;
 pub use errors::StoreError;
 pub use series_info::SeriesInfo;
 pub use store::Store;
 
+#[cfg(test)]
+mod checking_tests;
+#[cfg(test)]
+mod editing_tests;
 #[cfg(test)]
 mod opening_tests;

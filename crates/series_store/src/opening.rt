@@ -25,7 +25,7 @@ pub(crate) const NO_TREE: Tree = Tree {
 };
 
 /// What an error of a space is in a store. `Full` comes from no opening.
-fn space_error(error: SpaceError) -> StoreError
+pub(crate) fn space_error(error: SpaceError) -> StoreError
     ensures { result ≡ space_error_of error }
 {
     match error {

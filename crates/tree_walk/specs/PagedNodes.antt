@@ -41,17 +41,18 @@ IsPageError tells pages tree (Damaged page) = tells → IsDamaged pages.image pa
 IsPageError tells pages tree (Missing key) = ⊥
 IsPageError tells pages tree (BadCoefficient key) = ⊥
 
--- what nodes stand on: whether reads tell the pages, the pages of the space, what these lie on, the
--- numbers of page 0, and the tree
+-- what nodes stand on: whether reads tell the pages, the pages of the space, how many pages there are,
+-- what these lie on, the numbers of page 0, and the tree
 pub record Ground : Type 1 where
   pub told : Type 0
   pub view : View
+  pub count : ℕ
   pub under : View
   pub superblock : Superblock
   pub tree : Tree
 
 abbrev pub ground : Type 0 → View → View → Superblock → Tree → Ground
-ground told pages under superblock tree = record { told = told; view = space_view superblock pages; under = under; superblock = superblock; tree = tree }
+ground told pages under superblock tree = record { told = told; view = space_view superblock pages; count = pages.size; under = under; superblock = superblock; tree = tree }
 
 abbrev pub paged_view : Ground → Trail → NodesView
 paged_view at trail = record {
@@ -70,8 +71,8 @@ paged_view at trail = record {
 abbrev pub IsSeen : Type 0 → View → Tree → Key → Span → Type 0
 IsSeen tells pages tree k s = tells → known tree.span (told_by_pages pages.image tree) (height tree.slots) k ≡ Some (Some s)
 
--- What asks keep: the tree, the pages and the numbers of page 0, and all that a crash may leave, now and
--- at each moment since.
+-- What asks keep: the tree, the pages and the number of them, the numbers of page 0, and all that a crash
+-- may leave, now and at each moment since.
 pub record Keeps (old new : Ground) : Type 0 where
   pub tree : new.tree ≡ old.tree
   pub superblock : new.superblock ≡ old.superblock
@@ -81,6 +82,7 @@ pub record Keeps (old new : Ground) : Type 0 where
   pub was_told : new.told → old.told
   pub image : old.told → new.view.image ≡ old.view.image
   pub size : new.view.size ≡ old.view.size
+  pub count : new.count ≡ old.count
   pub beside : new.view.beside ≡ old.view.beside
   pub fit : old.view.fit → new.view.fit
   pub syncs : new.view.syncs ≡ old.view.syncs
@@ -96,6 +98,7 @@ pages_keep at = record {
   was_told = λ t. t;
   image = λ t. refl;
   size = refl;
+  count = refl;
   beside = refl;
   fit = λ f. f;
   syncs = refl;
@@ -113,6 +116,7 @@ pages_keep_on old mid new first second = record {
   was_told = λ t. first.was_told (second.was_told t);
   image = λ t. second.image (first.told t) ∙ first.image t;
   size = second.size ∙ first.size;
+  count = second.count ∙ first.count;
   beside = second.beside ∙ first.beside;
   fit = λ f. second.fit (first.fit f);
   syncs = second.syncs ∙ first.syncs;

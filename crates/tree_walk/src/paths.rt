@@ -76,6 +76,7 @@ fn read_page<P: Pages>(
     requires number { number < (space_view space.old.superblock (P.view space.old.pages)).size }
     ensures reads { Reads (P.told space.old.pages) (P.told space.new.pages) (space_view space.old.superblock (P.view space.old.pages)) (space_view space.new.superblock (P.view space.new.pages)) }
     ensures over { StaysOn space.old.superblock space.new.superblock (P.under space.old.pages) (P.under space.new.pages) }
+    ensures count { (P.view space.new.pages).size ≡ (P.view space.old.pages).size }
     ensures held { OnOk result (IsHeld (P.told space.new.pages) (space_view space.new.superblock (P.view space.new.pages)).image (space_view space.new.superblock (P.view space.new.pages)).size level page.new.number page.new.bytes.items) }
     ensures number { OnOk result (page.new.number ≡ number) }
     ensures cause { IfErr result (IsHoldCause (P.told space.old.pages) (space_view space.old.superblock (P.view space.old.pages)) (space_view space.new.superblock (P.view space.new.pages)) number level) }
@@ -108,6 +109,7 @@ fn hold<P: Pages>(
 
     ensures reads { Reads (P.told space.old.pages) (P.told space.new.pages) (space_view space.old.superblock (P.view space.old.pages)) (space_view space.new.superblock (P.view space.new.pages)) }
     ensures over { StaysOn space.old.superblock space.new.superblock (P.under space.old.pages) (P.under space.new.pages) }
+    ensures count { (P.view space.new.pages).size ≡ (P.view space.old.pages).size }
     ensures hit { IsHit trail.old depth number → space.new ≡ space.old }
     ensures still { IsHit trail.old depth number → trail.new ≡ trail.old }
     ensures held { AreHeld (P.told space.new.pages) (space_view space.new.superblock (P.view space.new.pages)).image (space_view space.new.superblock (P.view space.new.pages)).size levels trail.new.pages.items trail.new.len }
@@ -142,6 +144,7 @@ fn step<P: Pages>(
 
     ensures reads { Reads (P.told space.old.pages) (P.told space.new.pages) (space_view space.old.superblock (P.view space.old.pages)) (space_view space.new.superblock (P.view space.new.pages)) }
     ensures over { StaysOn space.old.superblock space.new.superblock (P.under space.old.pages) (P.under space.new.pages) }
+    ensures count { (P.view space.new.pages).size ≡ (P.view space.old.pages).size }
     ensures hit { depth + 1 < trail.old.len → IsLinked trail.old.pages.items key levels depth → space.new ≡ space.old }
     ensures still { depth + 1 < trail.old.len → IsLinked trail.old.pages.items key levels depth → trail.new ≡ trail.old }
     ensures held { AreHeld (P.told space.new.pages) (space_view space.new.superblock (P.view space.new.pages)).image (space_view space.new.superblock (P.view space.new.pages)).size levels trail.new.pages.items trail.new.len }
@@ -171,6 +174,7 @@ pub(crate) fn descend<P: Pages>(
 
     ensures kept { KeptWalking (P.told space.old.pages) (P.told space.new.pages) (space_view space.old.superblock (P.view space.old.pages)) (space_view space.new.superblock (P.view space.new.pages)) }
     ensures over { StaysOn space.old.superblock space.new.superblock (P.under space.old.pages) (P.under space.new.pages) }
+    ensures count { (P.view space.new.pages).size ≡ (P.view space.old.pages).size }
     ensures held { AreHeld (P.told space.new.pages) (space_view space.new.superblock (P.view space.new.pages)).image (space_view space.new.superblock (P.view space.new.pages)).size (levels_of tree.slots) trail.new.pages.items trail.new.len }
     ensures depth { IfOk result (λ depth. depth ≡ levels_of tree.slots - level_of_page key.level) }
     ensures leads { OnOk result (LeadsTo tree trail.new.pages.items trail.new.len key) }

@@ -1,33 +1,42 @@
-use Rattle.std.proofs.Common.{subst}
-use Rattle.chart_service.specs.State.{IsSound}
-use Rattle.chart_program.proofs.Drawing.{error_so}
-use Rattle.chart_program.proofs.Telling.{run_none, run_done, run_ends, ok_so, err_so, numbered_so}
+use Rattle.std.proofs.Common.{ℕ, Err, sym, subst, ◌∙◌}
+use Rattle.std.specs.Prelude.{IsTrue}
+use Rattle.chart_service.specs.declared.failure.ServeEnd.TheVariants.{NoMemory}
+use Rattle.chart_program.specs.declared.run_end.RunEnd.TheVariants.{Serve}
+use Rattle.chart_program.specs.Served.{AreTexts, faults_of, ServesLines}
+use Rattle.chart_program.proofs.Telling.{texts_none}
+use Rattle.chart_program.proofs.LinesServed.{made_none}
+use Rattle.chart_program.proofs.Stores.{store_disk, store_count, store_sound}
 use Rattle.chart_program.proofs.lines.run_lines.Goals as goal
 
-pub returns-in_err-service-clause-ends : goal.returns-in_err-service-clause-ends
-returns-in_err-service-clause-ends g c =
-    error_so _ _ c.from_residual.result c.from_residual.ensures.1
-    (λ e is. run_none (g.S.Streams.left c.args.streams.now) (g.S.Streams.left c.args.streams.now) (g.S.Streams.sent c.args.streams.now) e is)
+pub run_service-requires-clause-sound : goal.run_service-requires-clause-sound
+run_service-requires-clause-sound g c = subst IsTrue (sym (store_sound c.in-Ok.service.store c.args.store c.in-Ok.ensures.store)) c.requires
 
-pub returns-in_err-screen-clause-ends : goal.returns-in_err-screen-clause-ends
-returns-in_err-screen-clause-ends g c =
-    error_so _ _ c.from_residual-in_err-screen.result c.from_residual-in_err-screen.ensures.1
-    (λ e is. run_none (g.S.Streams.left c.args.streams.now) (g.S.Streams.left c.args.streams.now) (g.S.Streams.sent c.args.streams.now) e is)
+pub returns-in-Ok : goal.returns-in-Ok
+returns-in-Ok g c =
+    let view = g.W.Disk.view in
+    let left = g.W.Streams.left in
+    let sent = g.W.Streams.sent in
+    let reads = g.W.Streams.read_faults in
+    let sends = g.W.Streams.send_faults in
+    let store = c.args.store in
+    let made = c.in-Ok.service.store in
+    let disk = store.space.pages.disk in
+    let new = c.run_service.result.1 in
+    let answer = c.run_service.result.0 in
+    let D : g.row.W.Denot → Type 0 = λ d. ServesLines AreTexts (Unit {0}) made.space.pages.count (view d) (view new) (left d) (left new) (sent d) (sent new) (faults_of (reads d) (reads new) (sends d) (sends new)) answer in
+    let C : ℕ → Type 0 = λ n. ServesLines AreTexts (Unit {0}) n (view disk) (view new) (left disk) (left new) (sent disk) (sent new) (faults_of (reads disk) (reads new) (sends disk) (sends new)) answer in
+    subst C (store_count made store c.in-Ok.ensures.store) (subst D (store_disk made store c.in-Ok.ensures.store) c.run_service.ensures)
 
-pub returns-clause-done : goal.returns-clause-done
-returns-clause-done g c =
-    let sound = subst IsSound c.in_ok-service.ensures c.is_sound.ensures in
-    ok_so c.run_on.result _ _ c.run_on.ensures.done
-    (run_done c.one_frame_a_spelling.ensures c.replies_draw_the_book.ensures sound (g.S.Streams.left c.args.streams.now) c.in_ok-service.service c.run_on.new.service c.in_ok-screen.screen c.run_on.new.show
-    (g.S.Streams.sent c.args.streams.now) (g.S.Streams.sent c.run_on.new.streams) c.in_ok-service.ensures c.in_ok-screen.ensures)
-
-pub returns-clause-ends : goal.returns-clause-ends
-returns-clause-ends g c =
-    let sound = subst IsSound c.in_ok-service.ensures c.is_sound.ensures in
-    err_so c.run_on.result _ _ c.run_on.ensures.ends
-    (λ e. run_ends c.one_frame_a_spelling.ensures c.replies_draw_the_book.ensures c.clients_draw_the_book.ensures.accepts sound (g.S.Streams.left c.args.streams.now)
-    c.in_ok-service.service c.run_on.new.service c.in_ok-screen.screen c.run_on.new.show
-    (g.S.Streams.left c.run_on.new.streams) (g.S.Streams.sent c.args.streams.now) (g.S.Streams.sent c.run_on.new.streams) e c.in_ok-service.ensures c.in_ok-screen.ensures)
-
-pub returns-clause-numbered : goal.returns-clause-numbered
-returns-clause-numbered g c = err_so c.run_on.result _ _ c.run_on.ensures.shown (λ e. numbered_so c.frames_have_one_answer.ensures.numbered e)
+pub returns-in-Err : goal.returns-in-Err
+returns-in-Err g c =
+    let view = g.W.Disk.view in
+    let left = g.W.Streams.left in
+    let sent = g.W.Streams.sent in
+    let reads = g.W.Streams.read_faults in
+    let sends = g.W.Streams.send_faults in
+    let store = c.args.store in
+    let disk = store.space.pages.disk in
+    let back = c.in-Err.field-0.value in
+    let D : g.row.W.Denot → Type 0 = λ d. ServesLines AreTexts (Unit {0}) store.space.pages.count (view disk) (view d) (left disk) (left d) (sent disk) (sent d) (faults_of (reads disk) (reads d) (sends disk) (sends d)) (Err (Serve NoMemory)) in
+    subst D (sym (c.disk_of.ensures.disk ∙ store_disk back store c.in-Err.ensures.back))
+    (made_none AreTexts (Unit {0}) store.space.pages.count (view disk) (left disk) (sent disk) (faults_of (reads disk) (reads disk) (sends disk) (sends disk)) texts_none)

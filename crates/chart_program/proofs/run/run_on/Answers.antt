@@ -1,209 +1,428 @@
-use Rattle.std.proofs.Common.{◌^◌, None, Some, Ok, Err, IsTrue, length, refl, ap, sym, subst, arith}
-use Rattle.chart_world.specs.Reading.{Reading, unread}
+use Rattle.std.proofs.Common.{◌^◌, None, Some, Ok, Err, IsTrue, length, refl, ap, sym, subst, ◌∙◌, arith}
+use Rattle.chart_world.specs.Reading.{Reading, unread, unread_input, input_length}
+use Rattle.gate_pages.specs.GateLaws.{goes_none, goes_then}
+use Rattle.page_space.specs.declared.superblock.Superblock.{Superblock}
+use Rattle.chart_program.proofs.DiskKept.{risen_since}
 use Rattle.chart_service.specs.Serving.{end_of}
-use Rattle.chart_service.proofs.Passing.{same_line}
-use Rattle.chart_service.proofs.Answering.{Gives, read_all, starts, done}
+use Rattle.chart_service.specs.Stepping.{state_of}
+use Rattle.chart_service.specs.declared.failure.ServeEnd.TheVariants.{NoMemory}
 use Rattle.chart_program.specs.declared.run_end.RunEnd.TheVariants.{Serve}
-use Rattle.chart_program.specs.Runs.{AreShown}
-use Rattle.chart_program.proofs.DiskKept.{kept_none, kept_then}
-use Rattle.chart_program.proofs.Drawing.{error_so}
-use Rattle.chart_program.proofs.Running.{no_memory_first, line_done, long_line_done, lines_fault, line_stops, long_line_stops, ends_moved, progress_now, progress_left}
+use Rattle.chart_program.specs.Runs.{EndsRun}
+use Rattle.chart_program.specs.Sending.{Beside}
+use Rattle.chart_program.proofs.Progress.{same_line}
+use Rattle.chart_program.proofs.Answering.{Gives}
+use Rattle.chart_program.proofs.Replying.{serves_none, serves_then, serves_disk, serves_kept}
+use Rattle.chart_program.proofs.RunStands.{error_is, error_goes, read_whole, far_first, far_kept, far_line, far_long_line, all_done, run_ends, no_memory_first, ends_lines, ends_line, ends_long_line, lasts_first, lasts_take, lasts_line}
 use Rattle.chart_program.proofs.run.run_on.Goals as goal
 
 pub lines-init : goal.lines-init
 lines-init g c =
+    let view = g.P.Pages.view in
+    let pages = c.args.service.now.store.space.pages in
+    let o = g.P.Streams.left pages in
+    let before = g.P.Streams.sent pages in
+    let own = c.args.service.now.sessions in
     let fresh = c.in_ok-lines.ensures in
     let U : Reading → Type 0 = λ r. IsTrue r.usable in
     record {
       usable = subst U (sym fresh) refl;
       counted = omega (arith, ap (λ r. r.taken) fresh, ap (λ r. r.given) fresh, ap (λ r. length r.pending) fresh);
       within = omega (arith, ap (λ r. r.given) fresh);
-      progress = starts (AreShown g.V.Show.gives c.args.show.now c.args.show.now) (g.S.Streams.left c.args.streams.now) (g.S.Streams.sent c.args.streams.now) c.in_ok-lines.lines c.args.service.now (refl, refl) fresh;
+      whole = ap (λ r. input_length r.taken o) fresh;
+      fit = c.requires;
+      far = λ total book told stands. far_first g.V.Show.gives c.args.show.now o total book own before (view pages).image c.in_ok-lines.lines stands fresh;
+      lasts = λ total book told stands. lasts_first g.V.Show.gives c.args.show.now o before total book own (view pages) c.in_ok-lines.lines
+          (far_first g.V.Show.gives c.args.show.now o total book own before (view pages).image c.in_ok-lines.lines stands fresh) (g.met.P.Pages.rests pages c.requires) (g.met.P.PageWorld.counts_sent pages);
+      serves = serves_none (g.P.Pages.told pages) (view pages);
+      goes_on = goes_none (g.P.Pages.under pages);
+      total_is = refl;
       read_faults = omega arith;
       send_faults = omega arith;
-      disk = kept_none (g.S.Disk.view c.args.streams.now);
     }
 
 pub returns-in_err-lines-clause-ends : goal.returns-in_err-lines-clause-ends
 returns-in_err-lines-clause-ends g c =
-    let o = g.S.Streams.left c.args.streams.now in
-    let before = g.S.Streams.sent c.args.streams.now in
-    error_so _ _ c.from_residual.result c.from_residual.ensures.1 (λ e is. no_memory_first g.V.Show.gives o o before c.args.service.now c.args.show.now e is)
+    let view = g.P.Pages.view in
+    let pages = c.args.service.now.store.space.pages in
+    let o = g.P.Streams.left pages in
+    let before = g.P.Streams.sent pages in
+    let own = c.args.service.now.sessions in
+    λ total book told stands.
+    error_goes (λ end. EndsRun g.V.Show.gives c.args.show.now c.args.show.now o (state_of book total own) (view pages).image own o before before end) c.from_residual.result (Serve NoMemory) c.from_residual.ensures.1
+    (no_memory_first g.V.Show.gives c.args.show.now o total book own before (view pages).image o (Serve NoMemory) stands refl)
+
+pub returns-in_err-lines-clause-crash : goal.returns-in_err-lines-clause-crash
+returns-in_err-lines-clause-crash g c =
+    let view = g.P.Pages.view in
+    let pages = c.args.service.now.store.space.pages in
+    let o = g.P.Streams.left pages in
+    let before = g.P.Streams.sent pages in
+    let own = c.args.service.now.sessions in
+    λ total book told stands.
+    lasts_first g.V.Show.gives c.args.show.now o before total book own (view pages) unread_input
+    (far_first g.V.Show.gives c.args.show.now o total book own before (view pages).image unread_input stands refl) (g.met.P.Pages.rests pages c.requires) (g.met.P.PageWorld.counts_sent pages)
 
 pub returns-in_err-next-clause-ends : goal.returns-in_err-next-clause-ends
 returns-in_err-next-clause-ends g c =
-    let o = g.S.Streams.left c.args.streams.now in
-    let before = g.S.Streams.sent c.args.streams.now in
-    let left' = g.S.Streams.left c.next.new.from in
+    let view = g.P.Pages.view in
+    let pages = c.args.service.now.store.space.pages in
+    let mid = c.lines.service.store.space.pages in
+    let taken = c.next.new.from.store.space.pages in
+    let o = g.P.Streams.left pages in
+    let before = g.P.Streams.sent pages in
+    let own = c.args.service.now.sessions in
+    let inv = c.lines.invariant in
+    let beside = c.next.ensures.beside in
+    let takes = beside.store_is.pages_are in
+    let kept = g.met.P.PageWorld.take_keeps mid taken takes in
     let f = c.in_err-next.field-0.0 in
     let no = c.in_err-next.ensures in
-    let ends = lines_fault g.V.Show.gives o c.lines.lines c.next.new.self (g.S.Streams.left c.lines.streams) left' c.args.service.now c.lines.service c.args.show.now c.lines.show before (g.S.Streams.sent c.lines.streams) f
-    (λ h. no.read_before (ap Err h)) (λ h. no.past_before (ap Err h)) (λ h. no.past (ap Err h)) no.left_on_err c.lines.invariant.counted no.total c.lines.invariant.progress in
-    error_so _ _ c.from_residual-in_err-next.result c.from_residual-in_err-next.ensures.1
-    (λ e is. ends_moved g.V.Show.gives o left' left' before (g.S.Streams.sent c.lines.streams) (g.S.Streams.sent c.next.new.from) c.args.service.now c.lines.service c.args.show.now c.lines.show (Serve (end_of f)) e refl no.sent is ends)
+    λ total book told stands.
+    let far = far_kept g.V.Show.gives c.args.show.now o total book own before c.lines.show c.lines.lines (g.P.Streams.left mid) (g.P.Streams.sent mid) (g.P.Streams.sent taken) (view mid).image (view taken).image c.lines.service.sessions c.next.new.from.sessions kept.image beside.sessions c.next.ensures.sent (inv.far total book told stands) in
+    error_goes (λ end. EndsRun g.V.Show.gives c.args.show.now c.lines.show o (state_of book total own) (view taken).image c.next.new.from.sessions (g.P.Streams.left taken) before (g.P.Streams.sent taken) end) c.from_residual-in_err-next.result (Serve (end_of f)) c.from_residual-in_err-next.ensures.1
+    (ends_lines g.V.Show.gives c.args.show.now o total book own before c.lines.show c.lines.lines c.next.new.self (g.P.Streams.left mid) (g.P.Streams.left taken) (g.P.Streams.sent taken) (view taken).image c.next.new.from.sessions f
+    (λ h. no.read_before (ap Err h)) (λ h. no.past_before (ap Err h)) (λ h. no.past (ap Err h)) no.left_on_err inv.counted no.total far)
+
+pub returns-in_err-next-clause-crash : goal.returns-in_err-next-clause-crash
+returns-in_err-next-clause-crash g c =
+    let view = g.P.Pages.view in
+    let pages = c.args.service.now.store.space.pages in
+    let mid = c.lines.service.store.space.pages in
+    let taken = c.next.new.from.store.space.pages in
+    let o = g.P.Streams.left pages in
+    let before = g.P.Streams.sent pages in
+    let own = c.args.service.now.sessions in
+    let inv = c.lines.invariant in
+    let beside = c.next.ensures.beside in
+    let takes = beside.store_is.pages_are in
+    λ total book told stands. lasts_take g.V.Show.gives c.args.show.now c.lines.show o before (g.P.Streams.sent mid) total book own c.lines.service.sessions (view pages) (view mid) (view taken) c.lines.lines (g.P.Streams.left mid) (inv.far total book told stands) (g.met.P.Pages.rests mid inv.fit) (g.met.P.PageWorld.counts_sent pages) (g.met.P.PageWorld.counts_sent mid) (g.met.P.PageWorld.take_passes mid taken takes) (inv.lasts total book told stands)
+
+pub returns-in_err-next-clause-goes_on : goal.returns-in_err-next-clause-goes_on
+returns-in_err-next-clause-goes_on g c =
+    let pages = c.args.service.now.store.space.pages in
+    let mid = c.lines.service.store.space.pages in
+    let taken = c.next.new.from.store.space.pages in
+    let inv = c.lines.invariant in
+    let beside = c.next.ensures.beside in
+    let takes = beside.store_is.pages_are in
+    goes_then (g.P.Pages.under pages) (g.P.Pages.under mid) (g.P.Pages.under taken) inv.goes_on (g.met.P.PageWorld.take_goes_on mid taken takes)
 
 pub returns-in-End-clause-done : goal.returns-in-End-clause-done
 returns-in-End-clause-done g c =
-    let T = AreShown g.V.Show.gives c.args.show.now c.lines.show in
-    let o = g.S.Streams.left c.args.streams.now in
-    let before = g.S.Streams.sent c.args.streams.now in
-    let bytes = unread c.lines.lines (g.S.Streams.left c.lines.streams) in
-    let next = c.in_ok-next.ensures in
-    let p = progress_now T o bytes c.lines.lines.given c.args.service.now c.lines.service before (g.S.Streams.sent c.lines.streams) (g.S.Streams.sent c.next.new.from) next.sent c.lines.invariant.progress in
-    done T o bytes c.lines.lines.given c.args.service.now c.lines.service before (g.S.Streams.sent c.next.new.from) (next.end (ap Ok c.in-End.is)) p
+    let view = g.P.Pages.view in
+    let pages = c.args.service.now.store.space.pages in
+    let mid = c.lines.service.store.space.pages in
+    let taken = c.next.new.from.store.space.pages in
+    let o = g.P.Streams.left pages in
+    let before = g.P.Streams.sent pages in
+    let own = c.args.service.now.sessions in
+    let inv = c.lines.invariant in
+    let beside = c.next.ensures.beside in
+    let takes = beside.store_is.pages_are in
+    let kept = g.met.P.PageWorld.take_keeps mid taken takes in
+    λ total book told stands.
+    let far = far_kept g.V.Show.gives c.args.show.now o total book own before c.lines.show c.lines.lines (g.P.Streams.left mid) (g.P.Streams.sent mid) (g.P.Streams.sent taken) (view mid).image (view taken).image c.lines.service.sessions c.next.new.from.sessions kept.image beside.sessions c.next.ensures.sent (inv.far total book told stands) in
+    all_done g.V.Show.gives c.args.show.now o total book own before c.lines.show c.lines.lines (g.P.Streams.left mid) (g.P.Streams.sent taken) (view taken).image c.next.new.from.sessions (c.in_ok-next.ensures.end (ap Ok c.in-End.is)) far
 
 pub returns-in-End-clause-within : goal.returns-in-End-clause-within
 returns-in-End-clause-within g c =
-    let T = AreShown g.V.Show.gives c.args.show.now c.lines.show in
-    let o = g.S.Streams.left c.args.streams.now in
-    let before = g.S.Streams.sent c.args.streams.now in
-    let bytes = unread c.lines.lines (g.S.Streams.left c.lines.streams) in
-    read_all T o bytes c.lines.lines.given (2 ^ 32) c.args.service.now c.lines.service before (g.S.Streams.sent c.lines.streams) (c.in_ok-next.ensures.end (ap Ok c.in-End.is))
-    c.lines.invariant.within c.lines.invariant.progress
+    let mid = c.lines.service.store.space.pages in
+    let inv = c.lines.invariant in
+    read_whole (g.P.Streams.left c.args.service.now.store.space.pages) (g.P.Streams.left mid) c.lines.lines (2 ^ 32) (c.in_ok-next.ensures.end (ap Ok c.in-End.is)) inv.counted inv.within inv.whole
+
+pub returns-in-End-clause-crash : goal.returns-in-End-clause-crash
+returns-in-End-clause-crash g c =
+    let view = g.P.Pages.view in
+    let pages = c.args.service.now.store.space.pages in
+    let mid = c.lines.service.store.space.pages in
+    let taken = c.next.new.from.store.space.pages in
+    let o = g.P.Streams.left pages in
+    let before = g.P.Streams.sent pages in
+    let own = c.args.service.now.sessions in
+    let inv = c.lines.invariant in
+    let beside = c.next.ensures.beside in
+    let takes = beside.store_is.pages_are in
+    λ total book told stands. lasts_take g.V.Show.gives c.args.show.now c.lines.show o before (g.P.Streams.sent mid) total book own c.lines.service.sessions (view pages) (view mid) (view taken) c.lines.lines (g.P.Streams.left mid) (inv.far total book told stands) (g.met.P.Pages.rests mid inv.fit) (g.met.P.PageWorld.counts_sent pages) (g.met.P.PageWorld.counts_sent mid) (g.met.P.PageWorld.take_passes mid taken takes) (inv.lasts total book told stands)
+
+pub returns-in-End-clause-goes_on : goal.returns-in-End-clause-goes_on
+returns-in-End-clause-goes_on g c =
+    let pages = c.args.service.now.store.space.pages in
+    let mid = c.lines.service.store.space.pages in
+    let taken = c.next.new.from.store.space.pages in
+    let inv = c.lines.invariant in
+    let beside = c.next.ensures.beside in
+    let takes = beside.store_is.pages_are in
+    goes_then (g.P.Pages.under pages) (g.P.Pages.under mid) (g.P.Pages.under taken) inv.goes_on (g.met.P.PageWorld.take_goes_on mid taken takes)
 
 pub lines-preserved-in-Continue-branch-4 : goal.lines-preserved-in-Continue-branch-4
 lines-preserved-in-Continue-branch-4 g c =
-    let view = g.S.Disk.view in
-    let o = g.S.Streams.left c.args.streams.now in
-    let before = g.S.Streams.sent c.args.streams.now in
-    let left = g.S.Streams.left c.lines.streams in
-    let left' = g.S.Streams.left c.next.new.from in
-    let now = g.S.Streams.sent c.next.new.from in
-    let later = g.S.Streams.sent c.answer_long_line.new.streams in
-    let old = c.args.service.now in
-    let state = c.lines.service in
+    let view = g.P.Pages.view in
+    let pages = c.args.service.now.store.space.pages in
+    let mid = c.lines.service.store.space.pages in
+    let taken = c.next.new.from.store.space.pages in
+    let o = g.P.Streams.left pages in
+    let before = g.P.Streams.sent pages in
+    let own = c.args.service.now.sessions in
     let inv = c.lines.invariant in
+    let beside = c.next.ensures.beside in
+    let takes = beside.store_is.pages_are in
+    let kept = g.met.P.PageWorld.take_keeps mid taken takes in
     let next = c.in_ok-next.ensures in
-    let made = c.in_ok-answer_long_line-in-TooLong.ensures in
-    let gives : Gives c.lines.lines c.next.new.self left left' None = record {
+    let new = c.answer_long_line.new.service.store.space.pages in
+    let made = c.answer_long_line.ensures in
+    let told_in = g.P.Pages.told in
+    let gives : Gives c.lines.lines c.next.new.self (g.P.Streams.left mid) (g.P.Streams.left taken) (None) = record {
       first = next.too_long (ap Ok c.in-TooLong.is);
       rest = next.rest;
       counted = inv.counted;
       counted_new = next.given;
       total = next.total;
     } in
-    let p = progress_now (AreShown g.V.Show.gives c.args.show.now c.lines.show) o (unread c.lines.lines left) c.lines.lines.given old state before (g.S.Streams.sent c.lines.streams) now next.sent inv.progress in
-    let q = long_line_done g.V.Show.gives o c.lines.lines c.next.new.self left left' old state c.args.show.now c.lines.show c.answer_long_line.new.show before now later gives made.done p in
     record {
       usable = next.usable;
       counted = next.given;
       within = next.within;
-      progress = progress_left (AreShown g.V.Show.gives c.args.show.now c.answer_long_line.new.show) o c.next.new.self left' (g.S.Streams.left c.answer_long_line.new.streams) old state before later made.left q;
+      whole = ap (λ l. input_length c.next.new.self.taken l) made.left ∙ next.total ∙ inv.whole;
+      fit = made.kept.disk.fit (kept.fit inv.fit);
+      far = λ total book told stands.
+          let far = far_kept g.V.Show.gives c.args.show.now o total book own before c.lines.show c.lines.lines (g.P.Streams.left mid) (g.P.Streams.sent mid) (g.P.Streams.sent taken) (view mid).image (view taken).image c.lines.service.sessions c.next.new.from.sessions kept.image beside.sessions c.next.ensures.sent (inv.far total book told stands) in
+          let told' = g.met.P.PageWorld.take_told mid taken takes (inv.serves.told told) in
+          far_long_line g.V.Show.gives c.args.show.now o total book own before c.lines.show c.answer_long_line.new.show c.lines.lines c.next.new.self (g.P.Streams.left mid) (g.P.Streams.left taken) (g.P.Streams.left new) (g.P.Streams.sent taken) (g.P.Streams.sent new) (view taken).image (view new).image c.next.new.from.sessions c.answer_long_line.new.service.sessions gives made.left made.kept.disk.image (ap (λ (b : Beside). b.sessions) made.kept.same) far (c.in_ok-answer_long_line-in-TooLong.ensures.done total far.book told' far.stands);
+      lasts = λ total book told stands.
+          let far = far_kept g.V.Show.gives c.args.show.now o total book own before c.lines.show c.lines.lines (g.P.Streams.left mid) (g.P.Streams.sent mid) (g.P.Streams.sent taken) (view mid).image (view taken).image c.lines.service.sessions c.next.new.from.sessions kept.image beside.sessions c.next.ensures.sent (inv.far total book told stands) in
+          let told' = g.met.P.PageWorld.take_told mid taken takes (inv.serves.told told) in
+          lasts_line g.V.Show.gives c.args.show.now c.lines.show o before (g.P.Streams.sent taken) total book own c.next.new.from.sessions (view pages) (view taken) (view new) c.lines.lines c.next.new.self (g.P.Streams.left mid) (g.P.Streams.left taken) None far (g.met.P.PageWorld.counts_sent pages) (g.met.P.PageWorld.counts_sent taken) gives (made.moments total far.book told' far.stands) (lasts_take g.V.Show.gives c.args.show.now c.lines.show o before (g.P.Streams.sent mid) total book own c.lines.service.sessions (view pages) (view mid) (view taken) c.lines.lines (g.P.Streams.left mid) (inv.far total book told stands) (g.met.P.Pages.rests mid inv.fit) (g.met.P.PageWorld.counts_sent pages) (g.met.P.PageWorld.counts_sent mid) (g.met.P.PageWorld.take_passes mid taken takes) (inv.lasts total book told stands));
+      serves = serves_then (told_in pages) (told_in taken) (told_in new) (view pages) (view taken) (view new) (serves_then (told_in pages) (told_in mid) (told_in taken) (view pages) (view mid) (view taken) inv.serves (serves_disk (told_in mid) (told_in taken) (view mid) (view taken) kept (g.met.P.PageWorld.take_told mid taken takes) (g.met.P.PageWorld.take_was_told mid taken takes))) (serves_kept (told_in taken) (told_in new) (view taken) (view new) (g.P.Pages.under taken) (g.P.Pages.under new) _ _ made.kept);
+      goes_on = goes_then (g.P.Pages.under pages) (g.P.Pages.under taken) (g.P.Pages.under new) (goes_then (g.P.Pages.under pages) (g.P.Pages.under mid) (g.P.Pages.under taken) inv.goes_on (g.met.P.PageWorld.take_goes_on mid taken takes)) made.kept.under_goes;
+      total_is = ap (λ (b : Beside). b.total) made.kept.same ∙ ap (λ (s : Superblock). s.total) beside.store_is.superblock ∙ inv.total_is;
       read_faults = omega (arith, next.read_faults, inv.read_faults, made.read_faults);
       send_faults = omega (arith, next.send_faults, inv.send_faults, made.send_faults);
-      disk = kept_then (view c.args.streams.now) (view c.next.new.from) (view c.answer_long_line.new.streams) (kept_then (view c.args.streams.now) (view c.lines.streams) (view c.next.new.from) c.lines.invariant.disk (g.met.S.World.take_keeps c.lines.streams c.next.new.from next.beside)) made.disk;
     }
 
 pub returns-in_err-answer_long_line-in-TooLong-clause-ends : goal.returns-in_err-answer_long_line-in-TooLong-clause-ends
 returns-in_err-answer_long_line-in-TooLong-clause-ends g c =
-    let view = g.S.Disk.view in
-    let o = g.S.Streams.left c.args.streams.now in
-    let before = g.S.Streams.sent c.args.streams.now in
-    let left = g.S.Streams.left c.lines.streams in
-    let left' = g.S.Streams.left c.next.new.from in
-    let now = g.S.Streams.sent c.next.new.from in
-    let later = g.S.Streams.sent c.answer_long_line.new.streams in
-    let old = c.args.service.now in
-    let state = c.lines.service in
+    let view = g.P.Pages.view in
+    let pages = c.args.service.now.store.space.pages in
+    let mid = c.lines.service.store.space.pages in
+    let taken = c.next.new.from.store.space.pages in
+    let o = g.P.Streams.left pages in
+    let before = g.P.Streams.sent pages in
+    let own = c.args.service.now.sessions in
     let inv = c.lines.invariant in
+    let beside = c.next.ensures.beside in
+    let takes = beside.store_is.pages_are in
+    let kept = g.met.P.PageWorld.take_keeps mid taken takes in
     let next = c.in_ok-next.ensures in
-    let no = c.in_err-answer_long_line-in-TooLong.ensures in
-    let f = c.in_err-answer_long_line-in-TooLong.field-0.0 in
-    let gives : Gives c.lines.lines c.next.new.self left left' None = record {
+    let new = c.answer_long_line.new.service.store.space.pages in
+    let made = c.answer_long_line.ensures in
+    let gives : Gives c.lines.lines c.next.new.self (g.P.Streams.left mid) (g.P.Streams.left taken) (None) = record {
       first = next.too_long (ap Ok c.in-TooLong.is);
       rest = next.rest;
       counted = inv.counted;
       counted_new = next.given;
       total = next.total;
     } in
-    let p = progress_now (AreShown g.V.Show.gives c.args.show.now c.lines.show) o (unread c.lines.lines left) c.lines.lines.given old state before (g.S.Streams.sent c.lines.streams) now next.sent inv.progress in
-    let ends = long_line_stops g.V.Show.gives o c.lines.lines c.next.new.self left left' old state c.args.show.now c.lines.show c.answer_long_line.new.show before now later f gives no.stops p in
-    error_so _ _ c.from_residual-in_err-answer_long_line-in-TooLong.result c.from_residual-in_err-answer_long_line-in-TooLong.ensures.1
-    (λ e is. ends_moved g.V.Show.gives o left' (g.S.Streams.left c.answer_long_line.new.streams) before later later old state c.args.show.now c.answer_long_line.new.show f e no.left refl is ends)
+    λ total book told stands.
+    let far = far_kept g.V.Show.gives c.args.show.now o total book own before c.lines.show c.lines.lines (g.P.Streams.left mid) (g.P.Streams.sent mid) (g.P.Streams.sent taken) (view mid).image (view taken).image c.lines.service.sessions c.next.new.from.sessions kept.image beside.sessions c.next.ensures.sent (inv.far total book told stands) in
+    let told' = g.met.P.PageWorld.take_told mid taken takes (inv.serves.told told) in
+    error_goes (λ end. EndsRun g.V.Show.gives c.args.show.now c.answer_long_line.new.show o (state_of book total own) (view new).image c.answer_long_line.new.service.sessions (g.P.Streams.left new) before (g.P.Streams.sent new) end) c.from_residual-in_err-answer_long_line-in-TooLong.result c.in_err-answer_long_line-in-TooLong.field-0.0 c.from_residual-in_err-answer_long_line-in-TooLong.ensures.1
+    (run_ends g.V.Show.gives c.args.show.now o total book own before c.answer_long_line.new.show (view new).image c.answer_long_line.new.service.sessions (g.P.Streams.left taken) (g.P.Streams.left new) (g.P.Streams.sent new) (g.P.Streams.sent new) c.in_err-answer_long_line-in-TooLong.field-0.0 c.in_err-answer_long_line-in-TooLong.field-0.0 made.left refl refl
+    (ends_long_line g.V.Show.gives c.args.show.now o total book own before c.lines.show c.answer_long_line.new.show c.lines.lines c.next.new.self (g.P.Streams.left mid) (g.P.Streams.left taken) (g.P.Streams.sent taken) (g.P.Streams.sent new) (view taken).image (view new).image c.next.new.from.sessions c.answer_long_line.new.service.sessions far c.in_err-answer_long_line-in-TooLong.field-0.0 gives made.kept.disk.image (ap (λ (b : Beside). b.sessions) made.kept.same) (c.in_err-answer_long_line-in-TooLong.ensures.stops total far.book told' far.stands)))
 
-pub lines-preserved : goal.lines-preserved
-lines-preserved g c =
-    let view = g.S.Disk.view in
-    let o = g.S.Streams.left c.args.streams.now in
-    let before = g.S.Streams.sent c.args.streams.now in
-    let left = g.S.Streams.left c.lines.streams in
-    let left' = g.S.Streams.left c.next.new.from in
-    let now = g.S.Streams.sent c.next.new.from in
-    let later = g.S.Streams.sent c.answer_line.new.streams in
-    let old = c.args.service.now in
-    let state = c.lines.service in
+pub returns-in_err-answer_long_line-in-TooLong-clause-crash : goal.returns-in_err-answer_long_line-in-TooLong-clause-crash
+returns-in_err-answer_long_line-in-TooLong-clause-crash g c =
+    let view = g.P.Pages.view in
+    let pages = c.args.service.now.store.space.pages in
+    let mid = c.lines.service.store.space.pages in
+    let taken = c.next.new.from.store.space.pages in
+    let o = g.P.Streams.left pages in
+    let before = g.P.Streams.sent pages in
+    let own = c.args.service.now.sessions in
     let inv = c.lines.invariant in
+    let beside = c.next.ensures.beside in
+    let takes = beside.store_is.pages_are in
+    let kept = g.met.P.PageWorld.take_keeps mid taken takes in
     let next = c.in_ok-next.ensures in
-    let made = c.in_ok-answer_line-in-Line.ensures in
-    let told = same_line (unread c.lines.lines left) (unread c.next.new.self left') c.line.result.now c.next.new.self.line c.line.ensures.line (next.line (ap Ok c.in-Line.is)) in
-    let gives : Gives c.lines.lines c.next.new.self left left' (Some c.line.result.now) = record {
-      first = told;
+    let new = c.answer_long_line.new.service.store.space.pages in
+    let made = c.answer_long_line.ensures in
+    let gives : Gives c.lines.lines c.next.new.self (g.P.Streams.left mid) (g.P.Streams.left taken) (None) = record {
+      first = next.too_long (ap Ok c.in-TooLong.is);
       rest = next.rest;
       counted = inv.counted;
       counted_new = next.given;
       total = next.total;
     } in
-    let p = progress_now (AreShown g.V.Show.gives c.args.show.now c.lines.show) o (unread c.lines.lines left) c.lines.lines.given old state before (g.S.Streams.sent c.lines.streams) now next.sent inv.progress in
-    let q = line_done g.V.Show.gives o c.lines.lines c.next.new.self left left' old state c.answer_line.new.service c.args.show.now c.lines.show c.answer_line.new.show before now later c.line.result.now gives made.done p in
+    λ total book told stands.
+    let far = far_kept g.V.Show.gives c.args.show.now o total book own before c.lines.show c.lines.lines (g.P.Streams.left mid) (g.P.Streams.sent mid) (g.P.Streams.sent taken) (view mid).image (view taken).image c.lines.service.sessions c.next.new.from.sessions kept.image beside.sessions c.next.ensures.sent (inv.far total book told stands) in
+    let told' = g.met.P.PageWorld.take_told mid taken takes (inv.serves.told told) in
+    lasts_line g.V.Show.gives c.args.show.now c.lines.show o before (g.P.Streams.sent taken) total book own c.next.new.from.sessions (view pages) (view taken) (view new) c.lines.lines c.next.new.self (g.P.Streams.left mid) (g.P.Streams.left taken) None far (g.met.P.PageWorld.counts_sent pages) (g.met.P.PageWorld.counts_sent taken) gives (made.moments total far.book told' far.stands) (lasts_take g.V.Show.gives c.args.show.now c.lines.show o before (g.P.Streams.sent mid) total book own c.lines.service.sessions (view pages) (view mid) (view taken) c.lines.lines (g.P.Streams.left mid) (inv.far total book told stands) (g.met.P.Pages.rests mid inv.fit) (g.met.P.PageWorld.counts_sent pages) (g.met.P.PageWorld.counts_sent mid) (g.met.P.PageWorld.take_passes mid taken takes) (inv.lasts total book told stands))
+
+pub returns-in_err-answer_long_line-in-TooLong-clause-serves : goal.returns-in_err-answer_long_line-in-TooLong-clause-serves
+returns-in_err-answer_long_line-in-TooLong-clause-serves g c =
+    let view = g.P.Pages.view in
+    let pages = c.args.service.now.store.space.pages in
+    let mid = c.lines.service.store.space.pages in
+    let taken = c.next.new.from.store.space.pages in
+    let inv = c.lines.invariant in
+    let beside = c.next.ensures.beside in
+    let takes = beside.store_is.pages_are in
+    let kept = g.met.P.PageWorld.take_keeps mid taken takes in
+    let new = c.answer_long_line.new.service.store.space.pages in
+    let made = c.answer_long_line.ensures in
+    let told_in = g.P.Pages.told in
+    serves_then (told_in pages) (told_in taken) (told_in new) (view pages) (view taken) (view new) (serves_then (told_in pages) (told_in mid) (told_in taken) (view pages) (view mid) (view taken) inv.serves (serves_disk (told_in mid) (told_in taken) (view mid) (view taken) kept (g.met.P.PageWorld.take_told mid taken takes) (g.met.P.PageWorld.take_was_told mid taken takes))) (serves_kept (told_in taken) (told_in new) (view taken) (view new) (g.P.Pages.under taken) (g.P.Pages.under new) _ _ made.kept)
+
+pub returns-in_err-answer_long_line-in-TooLong-clause-goes_on : goal.returns-in_err-answer_long_line-in-TooLong-clause-goes_on
+returns-in_err-answer_long_line-in-TooLong-clause-goes_on g c =
+    let pages = c.args.service.now.store.space.pages in
+    let mid = c.lines.service.store.space.pages in
+    let taken = c.next.new.from.store.space.pages in
+    let inv = c.lines.invariant in
+    let beside = c.next.ensures.beside in
+    let takes = beside.store_is.pages_are in
+    let new = c.answer_long_line.new.service.store.space.pages in
+    let made = c.answer_long_line.ensures in
+    goes_then (g.P.Pages.under pages) (g.P.Pages.under taken) (g.P.Pages.under new) (goes_then (g.P.Pages.under pages) (g.P.Pages.under mid) (g.P.Pages.under taken) inv.goes_on (g.met.P.PageWorld.take_goes_on mid taken takes)) made.kept.under_goes
+
+pub lines-preserved : goal.lines-preserved
+lines-preserved g c =
+    let view = g.P.Pages.view in
+    let pages = c.args.service.now.store.space.pages in
+    let mid = c.lines.service.store.space.pages in
+    let taken = c.next.new.from.store.space.pages in
+    let o = g.P.Streams.left pages in
+    let before = g.P.Streams.sent pages in
+    let own = c.args.service.now.sessions in
+    let inv = c.lines.invariant in
+    let beside = c.next.ensures.beside in
+    let takes = beside.store_is.pages_are in
+    let kept = g.met.P.PageWorld.take_keeps mid taken takes in
+    let next = c.in_ok-next.ensures in
+    let new = c.answer_line.new.service.store.space.pages in
+    let made = c.answer_line.ensures in
+    let told_in = g.P.Pages.told in
+    let gives : Gives c.lines.lines c.next.new.self (g.P.Streams.left mid) (g.P.Streams.left taken) (Some c.line.result.now) = record {
+      first = same_line (unread c.lines.lines (g.P.Streams.left mid)) (unread c.next.new.self (g.P.Streams.left taken)) c.line.result.now c.next.new.self.line c.line.ensures.line (next.line (ap Ok c.in-Line.is));
+      rest = next.rest;
+      counted = inv.counted;
+      counted_new = next.given;
+      total = next.total;
+    } in
     record {
       usable = next.usable;
       counted = next.given;
       within = next.within;
-      progress = progress_left (AreShown g.V.Show.gives c.args.show.now c.answer_line.new.show) o c.next.new.self left' (g.S.Streams.left c.answer_line.new.streams) old c.answer_line.new.service before later made.left q;
+      whole = ap (λ l. input_length c.next.new.self.taken l) made.left ∙ next.total ∙ inv.whole;
+      fit = c.in_ok-answer_line-in-Line.ensures.sound (λ e. cc);
+      far = λ total book told stands.
+          let far = far_kept g.V.Show.gives c.args.show.now o total book own before c.lines.show c.lines.lines (g.P.Streams.left mid) (g.P.Streams.sent mid) (g.P.Streams.sent taken) (view mid).image (view taken).image c.lines.service.sessions c.next.new.from.sessions kept.image beside.sessions c.next.ensures.sent (inv.far total book told stands) in
+          let told' = g.met.P.PageWorld.take_told mid taken takes (inv.serves.told told) in
+          far_line g.V.Show.gives c.args.show.now o total book own before c.lines.show c.answer_line.new.show c.lines.lines c.next.new.self (g.P.Streams.left mid) (g.P.Streams.left taken) (g.P.Streams.left new) (g.P.Streams.sent taken) (g.P.Streams.sent new) c.line.result.now (view taken).image (view new).image c.next.new.from.sessions c.answer_line.new.service.sessions gives made.left far (c.in_ok-answer_line-in-Line.ensures.done total far.book told' far.stands);
+      lasts = λ total book told stands.
+          let far = far_kept g.V.Show.gives c.args.show.now o total book own before c.lines.show c.lines.lines (g.P.Streams.left mid) (g.P.Streams.sent mid) (g.P.Streams.sent taken) (view mid).image (view taken).image c.lines.service.sessions c.next.new.from.sessions kept.image beside.sessions c.next.ensures.sent (inv.far total book told stands) in
+          let told' = g.met.P.PageWorld.take_told mid taken takes (inv.serves.told told) in
+          lasts_line g.V.Show.gives c.args.show.now c.lines.show o before (g.P.Streams.sent taken) total book own c.next.new.from.sessions (view pages) (view taken) (view new) c.lines.lines c.next.new.self (g.P.Streams.left mid) (g.P.Streams.left taken) (Some c.line.result.now) far (g.met.P.PageWorld.counts_sent pages) (g.met.P.PageWorld.counts_sent taken) gives (made.moments total far.book told' far.stands) (lasts_take g.V.Show.gives c.args.show.now c.lines.show o before (g.P.Streams.sent mid) total book own c.lines.service.sessions (view pages) (view mid) (view taken) c.lines.lines (g.P.Streams.left mid) (inv.far total book told stands) (g.met.P.Pages.rests mid inv.fit) (g.met.P.PageWorld.counts_sent pages) (g.met.P.PageWorld.counts_sent mid) (g.met.P.PageWorld.take_passes mid taken takes) (inv.lasts total book told stands));
+      serves = serves_then (told_in pages) (told_in taken) (told_in new) (view pages) (view taken) (view new) (serves_then (told_in pages) (told_in mid) (told_in taken) (view pages) (view mid) (view taken) inv.serves (serves_disk (told_in mid) (told_in taken) (view mid) (view taken) kept (g.met.P.PageWorld.take_told mid taken takes) (g.met.P.PageWorld.take_was_told mid taken takes))) made.serves;
+      goes_on = goes_then (g.P.Pages.under pages) (g.P.Pages.under taken) (g.P.Pages.under new) (goes_then (g.P.Pages.under pages) (g.P.Pages.under mid) (g.P.Pages.under taken) inv.goes_on (g.met.P.PageWorld.take_goes_on mid taken takes)) made.goes_on;
+      total_is = made.total ∙ ap (λ (s : Superblock). s.total) beside.store_is.superblock ∙ inv.total_is;
       read_faults = omega (arith, next.read_faults, inv.read_faults, made.read_faults);
       send_faults = omega (arith, next.send_faults, inv.send_faults, made.send_faults);
-      disk = kept_then (view c.args.streams.now) (view c.next.new.from) (view c.answer_line.new.streams) (kept_then (view c.args.streams.now) (view c.lines.streams) (view c.next.new.from) c.lines.invariant.disk (g.met.S.World.take_keeps c.lines.streams c.next.new.from next.beside)) made.disk;
     }
 
 pub returns-in_err-answer_line-in-Line-clause-ends : goal.returns-in_err-answer_line-in-Line-clause-ends
 returns-in_err-answer_line-in-Line-clause-ends g c =
-    let view = g.S.Disk.view in
-    let o = g.S.Streams.left c.args.streams.now in
-    let before = g.S.Streams.sent c.args.streams.now in
-    let left = g.S.Streams.left c.lines.streams in
-    let left' = g.S.Streams.left c.next.new.from in
-    let now = g.S.Streams.sent c.next.new.from in
-    let later = g.S.Streams.sent c.answer_line.new.streams in
-    let old = c.args.service.now in
-    let state = c.lines.service in
+    let view = g.P.Pages.view in
+    let pages = c.args.service.now.store.space.pages in
+    let mid = c.lines.service.store.space.pages in
+    let taken = c.next.new.from.store.space.pages in
+    let o = g.P.Streams.left pages in
+    let before = g.P.Streams.sent pages in
+    let own = c.args.service.now.sessions in
     let inv = c.lines.invariant in
+    let beside = c.next.ensures.beside in
+    let takes = beside.store_is.pages_are in
+    let kept = g.met.P.PageWorld.take_keeps mid taken takes in
     let next = c.in_ok-next.ensures in
-    let no = c.in_err-answer_line-in-Line.ensures in
-    let f = c.in_err-answer_line-in-Line.field-0.0 in
-    let told = same_line (unread c.lines.lines left) (unread c.next.new.self left') c.line.result.now c.next.new.self.line c.line.ensures.line (next.line (ap Ok c.in-Line.is)) in
-    let gives : Gives c.lines.lines c.next.new.self left left' (Some c.line.result.now) = record {
-      first = told;
+    let new = c.answer_line.new.service.store.space.pages in
+    let made = c.answer_line.ensures in
+    let gives : Gives c.lines.lines c.next.new.self (g.P.Streams.left mid) (g.P.Streams.left taken) (Some c.line.result.now) = record {
+      first = same_line (unread c.lines.lines (g.P.Streams.left mid)) (unread c.next.new.self (g.P.Streams.left taken)) c.line.result.now c.next.new.self.line c.line.ensures.line (next.line (ap Ok c.in-Line.is));
       rest = next.rest;
       counted = inv.counted;
       counted_new = next.given;
       total = next.total;
     } in
-    let p = progress_now (AreShown g.V.Show.gives c.args.show.now c.lines.show) o (unread c.lines.lines left) c.lines.lines.given old state before (g.S.Streams.sent c.lines.streams) now next.sent inv.progress in
-    let ends = line_stops g.V.Show.gives o c.lines.lines c.next.new.self left left' old state c.answer_line.new.service c.args.show.now c.lines.show c.answer_line.new.show before now later c.line.result.now f gives no.stops p in
-    error_so _ _ c.from_residual-in_err-answer_line-in-Line.result c.from_residual-in_err-answer_line-in-Line.ensures.1
-    (λ e is. ends_moved g.V.Show.gives o left' (g.S.Streams.left c.answer_line.new.streams) before later later old c.answer_line.new.service c.args.show.now c.answer_line.new.show f e no.left refl is ends)
+    λ total book told stands.
+    let far = far_kept g.V.Show.gives c.args.show.now o total book own before c.lines.show c.lines.lines (g.P.Streams.left mid) (g.P.Streams.sent mid) (g.P.Streams.sent taken) (view mid).image (view taken).image c.lines.service.sessions c.next.new.from.sessions kept.image beside.sessions c.next.ensures.sent (inv.far total book told stands) in
+    let told' = g.met.P.PageWorld.take_told mid taken takes (inv.serves.told told) in
+    error_goes (λ end. EndsRun g.V.Show.gives c.args.show.now c.answer_line.new.show o (state_of book total own) (view new).image c.answer_line.new.service.sessions (g.P.Streams.left new) before (g.P.Streams.sent new) end) c.from_residual-in_err-answer_line-in-Line.result c.in_err-answer_line-in-Line.field-0.0 c.from_residual-in_err-answer_line-in-Line.ensures.1
+    (run_ends g.V.Show.gives c.args.show.now o total book own before c.answer_line.new.show (view new).image c.answer_line.new.service.sessions (g.P.Streams.left taken) (g.P.Streams.left new) (g.P.Streams.sent new) (g.P.Streams.sent new) c.in_err-answer_line-in-Line.field-0.0 c.in_err-answer_line-in-Line.field-0.0 made.left refl refl
+    (ends_line g.V.Show.gives c.args.show.now o total book own before c.lines.show c.answer_line.new.show c.lines.lines c.next.new.self (g.P.Streams.left mid) (g.P.Streams.left taken) (g.P.Streams.sent taken) (g.P.Streams.sent new) (view taken).image (view new).image c.next.new.from.sessions c.answer_line.new.service.sessions far c.line.result.now c.in_err-answer_line-in-Line.field-0.0 gives (c.in_err-answer_line-in-Line.ensures.stops total far.book told' far.stands)))
 
-pub returns-in_err-lines-clause-disk : goal.returns-in_err-lines-clause-disk
-returns-in_err-lines-clause-disk g c =
-    let view = g.S.Disk.view in
-    kept_none (view c.args.streams.now)
+pub returns-in_err-answer_line-in-Line-clause-crash : goal.returns-in_err-answer_line-in-Line-clause-crash
+returns-in_err-answer_line-in-Line-clause-crash g c =
+    let view = g.P.Pages.view in
+    let pages = c.args.service.now.store.space.pages in
+    let mid = c.lines.service.store.space.pages in
+    let taken = c.next.new.from.store.space.pages in
+    let o = g.P.Streams.left pages in
+    let before = g.P.Streams.sent pages in
+    let own = c.args.service.now.sessions in
+    let inv = c.lines.invariant in
+    let beside = c.next.ensures.beside in
+    let takes = beside.store_is.pages_are in
+    let kept = g.met.P.PageWorld.take_keeps mid taken takes in
+    let next = c.in_ok-next.ensures in
+    let new = c.answer_line.new.service.store.space.pages in
+    let made = c.answer_line.ensures in
+    let gives : Gives c.lines.lines c.next.new.self (g.P.Streams.left mid) (g.P.Streams.left taken) (Some c.line.result.now) = record {
+      first = same_line (unread c.lines.lines (g.P.Streams.left mid)) (unread c.next.new.self (g.P.Streams.left taken)) c.line.result.now c.next.new.self.line c.line.ensures.line (next.line (ap Ok c.in-Line.is));
+      rest = next.rest;
+      counted = inv.counted;
+      counted_new = next.given;
+      total = next.total;
+    } in
+    λ total book told stands.
+    let far = far_kept g.V.Show.gives c.args.show.now o total book own before c.lines.show c.lines.lines (g.P.Streams.left mid) (g.P.Streams.sent mid) (g.P.Streams.sent taken) (view mid).image (view taken).image c.lines.service.sessions c.next.new.from.sessions kept.image beside.sessions c.next.ensures.sent (inv.far total book told stands) in
+    let told' = g.met.P.PageWorld.take_told mid taken takes (inv.serves.told told) in
+    lasts_line g.V.Show.gives c.args.show.now c.lines.show o before (g.P.Streams.sent taken) total book own c.next.new.from.sessions (view pages) (view taken) (view new) c.lines.lines c.next.new.self (g.P.Streams.left mid) (g.P.Streams.left taken) (Some c.line.result.now) far (g.met.P.PageWorld.counts_sent pages) (g.met.P.PageWorld.counts_sent taken) gives (made.moments total far.book told' far.stands) (lasts_take g.V.Show.gives c.args.show.now c.lines.show o before (g.P.Streams.sent mid) total book own c.lines.service.sessions (view pages) (view mid) (view taken) c.lines.lines (g.P.Streams.left mid) (inv.far total book told stands) (g.met.P.Pages.rests mid inv.fit) (g.met.P.PageWorld.counts_sent pages) (g.met.P.PageWorld.counts_sent mid) (g.met.P.PageWorld.take_passes mid taken takes) (inv.lasts total book told stands))
 
-pub returns-in_err-next-clause-disk : goal.returns-in_err-next-clause-disk
-returns-in_err-next-clause-disk g c =
-    let view = g.S.Disk.view in
-    kept_then (view c.args.streams.now) (view c.lines.streams) (view c.next.new.from) c.lines.invariant.disk (g.met.S.World.take_keeps c.lines.streams c.next.new.from c.next.ensures.beside)
+pub returns-in_err-answer_line-in-Line-clause-serves : goal.returns-in_err-answer_line-in-Line-clause-serves
+returns-in_err-answer_line-in-Line-clause-serves g c =
+    let view = g.P.Pages.view in
+    let pages = c.args.service.now.store.space.pages in
+    let mid = c.lines.service.store.space.pages in
+    let taken = c.next.new.from.store.space.pages in
+    let inv = c.lines.invariant in
+    let beside = c.next.ensures.beside in
+    let takes = beside.store_is.pages_are in
+    let kept = g.met.P.PageWorld.take_keeps mid taken takes in
+    let new = c.answer_line.new.service.store.space.pages in
+    let made = c.answer_line.ensures in
+    let told_in = g.P.Pages.told in
+    serves_then (told_in pages) (told_in taken) (told_in new) (view pages) (view taken) (view new) (serves_then (told_in pages) (told_in mid) (told_in taken) (view pages) (view mid) (view taken) inv.serves (serves_disk (told_in mid) (told_in taken) (view mid) (view taken) kept (g.met.P.PageWorld.take_told mid taken takes) (g.met.P.PageWorld.take_was_told mid taken takes))) made.serves
 
-pub returns-in-End-clause-disk : goal.returns-in-End-clause-disk
-returns-in-End-clause-disk g c =
-    let view = g.S.Disk.view in
-    kept_then (view c.args.streams.now) (view c.lines.streams) (view c.next.new.from) c.lines.invariant.disk (g.met.S.World.take_keeps c.lines.streams c.next.new.from c.next.ensures.beside)
-
-pub returns-in_err-answer_long_line-in-TooLong-clause-disk : goal.returns-in_err-answer_long_line-in-TooLong-clause-disk
-returns-in_err-answer_long_line-in-TooLong-clause-disk g c =
-    let view = g.S.Disk.view in
-    kept_then (view c.args.streams.now) (view c.next.new.from) (view c.answer_long_line.new.streams) (kept_then (view c.args.streams.now) (view c.lines.streams) (view c.next.new.from) c.lines.invariant.disk (g.met.S.World.take_keeps c.lines.streams c.next.new.from c.next.ensures.beside)) c.answer_long_line.ensures.disk
+pub returns-in_err-answer_line-in-Line-clause-goes_on : goal.returns-in_err-answer_line-in-Line-clause-goes_on
+returns-in_err-answer_line-in-Line-clause-goes_on g c =
+    let pages = c.args.service.now.store.space.pages in
+    let mid = c.lines.service.store.space.pages in
+    let taken = c.next.new.from.store.space.pages in
+    let inv = c.lines.invariant in
+    let beside = c.next.ensures.beside in
+    let takes = beside.store_is.pages_are in
+    let new = c.answer_line.new.service.store.space.pages in
+    let made = c.answer_line.ensures in
+    goes_then (g.P.Pages.under pages) (g.P.Pages.under taken) (g.P.Pages.under new) (goes_then (g.P.Pages.under pages) (g.P.Pages.under mid) (g.P.Pages.under taken) inv.goes_on (g.met.P.PageWorld.take_goes_on mid taken takes)) made.goes_on
 
 pub returns-in_err-answer_line-in-Line-clause-disk : goal.returns-in_err-answer_line-in-Line-clause-disk
 returns-in_err-answer_line-in-Line-clause-disk g c =
-    let view = g.S.Disk.view in
-    kept_then (view c.args.streams.now) (view c.next.new.from) (view c.answer_line.new.streams) (kept_then (view c.args.streams.now) (view c.lines.streams) (view c.next.new.from) c.lines.invariant.disk (g.met.S.World.take_keeps c.lines.streams c.next.new.from c.next.ensures.beside)) c.answer_line.ensures.disk
+    let view = g.P.Pages.view in
+    let pages = c.args.service.now.store.space.pages in
+    let mid = c.lines.service.store.space.pages in
+    let taken = c.next.new.from.store.space.pages in
+    let inv = c.lines.invariant in
+    let beside = c.next.ensures.beside in
+    let takes = beside.store_is.pages_are in
+    let kept = g.met.P.PageWorld.take_keeps mid taken takes in
+    let new = c.answer_line.new.service.store.space.pages in
+    λ is. risen_since (view pages).faults (view taken).faults (view new).faults (omega (arith, inv.serves.faults, kept.faults)) (c.in_err-answer_line-in-Line.ensures.disk (sym (error_is c.from_residual-in_err-answer_line-in-Line.result c.in_err-answer_line-in-Line.field-0.0 c.from_residual-in_err-answer_line-in-Line.ensures.1) ∙ is))

@@ -1,21 +1,35 @@
-use Rattle.std.proofs.Common.{◌≡◌, ◌+◌, ◌-◌, ◌^◌, ◌≤◌, length, IsTrue, IfSome}
-use Rattle.block_disk.specs.View.{DiskKept}
-use Rattle.chart_world.specs.Reading.{unread}
-use Rattle.chart_service.proofs.Answering.{Progress}
-use Rattle.chart_program.specs.Runs.{AreShown}
+use Rattle.std.proofs.Common.{◌≡◌, ℕ, ◌+◌, ◌-◌, ◌^◌, ◌≤◌, List, length, IsTrue}
+use Rattle.chart_world.specs.Reading.{input_length}
+use Rattle.gate_pages.specs.Pages.{GoesOn}
+use Rattle.series_book.specs.declared.one_series.Series.{Series}
+use Rattle.stored_book.specs.Standing.{StandsForBook}
+use Rattle.chart_service.specs.Serving.{Serves}
+use Rattle.chart_program.proofs.RunStands.{IsFar, Lasts}
 use Rattle.chart_program.proofs.run.run_on.Given as goal
 
--- the lines given so far are answered
+-- the lines given so far are answered, and the pages stand for the book that they have left
 abbrev pub invariant-lines : goal.invariant-lines
-invariant-lines g l = record {
-  usable : IsTrue l.lines.usable;
-  counted : l.lines.taken ≡ l.lines.given + length l.lines.pending;
-  within : l.lines.given ≤ 2 ^ 32;
-  progress : IfSome (g.S.Streams.left l.initial.streams) (λ input. Progress (AreShown g.V.Show.gives l.initial.show l.show) input (unread l.lines (g.S.Streams.left l.streams)) l.lines.given l.initial.service l.service (g.S.Streams.sent l.initial.streams) (g.S.Streams.sent l.streams));
-  read_faults : g.S.Streams.read_faults l.initial.streams ≤ g.S.Streams.read_faults l.streams;
-  send_faults : g.S.Streams.send_faults l.initial.streams ≤ g.S.Streams.send_faults l.streams;
-  disk : DiskKept (g.S.Disk.view l.initial.streams) (g.S.Disk.view l.streams);
-}
+invariant-lines g l =
+    let view = g.P.Pages.view in
+    let told = g.P.Pages.told in
+    let first = l.initial.service.store.space.pages in
+    let pages = l.service.store.space.pages in
+    record {
+      usable : IsTrue l.lines.usable;
+      counted : l.lines.taken ≡ l.lines.given + length l.lines.pending;
+      within : l.lines.given ≤ 2 ^ 32;
+      whole : input_length l.lines.taken (g.P.Streams.left pages) ≡ input_length 0 (g.P.Streams.left first);
+      fit : (view pages).fit;
+      far : (total : ℕ) (book : List Series) → told first → StandsForBook (view first).image total book
+          → IsFar g.V.Show.gives l.initial.show (g.P.Streams.left first) total book l.initial.service.sessions (g.P.Streams.sent first) l.show l.lines (g.P.Streams.left pages) (g.P.Streams.sent pages) (view pages).image l.service.sessions;
+      lasts : (total : ℕ) (book : List Series) → told first → StandsForBook (view first).image total book
+          → Lasts g.V.Show.gives l.initial.show (g.P.Streams.left first) total book l.initial.service.sessions (g.P.Streams.sent first) (view first) (view pages);
+      serves : Serves (told first) (told pages) (view first) (view pages);
+      goes_on : GoesOn (g.P.Pages.under first) (g.P.Pages.under pages);
+      total_is : l.service.store.space.superblock.total ≡ l.initial.service.store.space.superblock.total;
+      read_faults : g.P.Streams.read_faults first ≤ g.P.Streams.read_faults pages;
+      send_faults : g.P.Streams.send_faults first ≤ g.P.Streams.send_faults pages;
+    }
 
 abbrev pub decreases-lines : goal.decreases-lines
 decreases-lines g l = 2 ^ 32 - l.lines.given

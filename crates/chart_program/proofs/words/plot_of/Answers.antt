@@ -1,5 +1,4 @@
 use Rattle.std.proofs.Common.{◌<◌, ◌≤◌, length, map, arith}
-use Rattle.std.specs.Prelude.{string_bytes}
 use Rattle.std.proofs.lemmas.List.{length-map}
 use Rattle.chart_program.proofs.Commands.{wrong_second, wrong_third, wrong_fourth, right}
 use Rattle.chart_program.proofs.words.plot_of.Goals as goal

@@ -1,5 +1,4 @@
 use Rattle.std.proofs.Common.{map, arith, sym, ◌∙◌}
-use Rattle.std.specs.Prelude.{string_bytes}
 use Rattle.chart_program.proofs.Commands.{no_side}
 use Rattle.chart_program.proofs.words.side_at.Goals as goal
 use Rattle.chart_program.proofs.words.side_at.Goals.{else-number-ge1-via-then-number-ge1+else-number-le4096, else-number-ge1-via-else-number-ge1}

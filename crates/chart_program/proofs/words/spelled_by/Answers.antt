@@ -1,5 +1,5 @@
 use Rattle.std.proofs.Common.{◌<◌, ◌≤◌, ℕ, length, map, sym, subst, ◌∙◌, arith}
-use Rattle.std.specs.Prelude.{Bool, true, false, string_bytes, ◌≡◌}
+use Rattle.std.specs.Prelude.{Bool, true, false, ◌≡◌}
 use Rattle.std.proofs.lemmas.List.{length-map}
 use Rattle.chart_program.specs.Words.{IsWrongAt}
 use Rattle.chart_program.proofs.Drawing.{error_so}

@@ -1,10 +1,9 @@
 use Rattle.std.proofs.Common.{rules, ◌∙◌, ap, length, FitsSigned, w64}
 use Rattle.std.proofs.lemmas.Int.{to_z-of_z}
-use Rattle.chart_service.specs.Viewing.{has_of, least_of, greatest_of}
 use Rattle.chart_service.proofs.shown.view_frame.Goals as goal
 
-pub returns-clause-frame : goal.returns-clause-frame
-returns-clause-frame c = λ spec series id_is grid_is axis root.
+pub returns-clause-fields : goal.returns-clause-fields
+returns-clause-fields c =
     let t0 : FitsSigned w64 c.t0.result = search rules in
     let t1 : FitsSigned w64 c.t1.result = search rules in
     let lo : FitsSigned w64 c.args.planned.told.range.lo = search rules in
@@ -14,19 +13,19 @@ returns-clause-frame c = λ spec series id_is grid_is axis root.
     let greatest : FitsSigned w64 c.stored_of-stored.result.greatest = search rules in
     λ i. record {
       session = c.args.number;
-      series = id_is i;
-      w = (c.w.ensures.value ∙ ap (λ g. g.w) grid_is) i;
-      h = (c.h.ensures.value ∙ ap (λ g. g.h) grid_is) i;
-      t0 = (to_z-of_z w64 c.t0.result t0 ∙ c.t0.ensures.value ∙ ap (λ g. g.t0) grid_is) i;
-      t1 = (to_z-of_z w64 c.t1.result t1 ∙ c.t1.ensures.value ∙ ap (λ g. g.t1) grid_is) i;
+      series = c.args.id;
+      w = c.w.ensures.value i;
+      h = c.h.ensures.value i;
+      t0 = (to_z-of_z w64 c.t0.result t0 ∙ c.t0.ensures.value) i;
+      t1 = (to_z-of_z w64 c.t1.result t1 ∙ c.t1.ensures.value) i;
       lo = to_z-of_z w64 c.args.planned.told.range.lo lo i;
       hi = to_z-of_z w64 c.args.planned.told.range.hi hi i;
-      start = (to_z-of_z w64 c.args.planned.told.axis.start start ∙ ap (λ a. a.start) axis) i;
-      step = ap (λ a. a.step) axis i;
-      slots = ap (λ a. a.slots) axis i;
-      has = (c.stored_of-stored.ensures.has ∙ ap has_of root) i;
-      rmin = (to_z-of_z w64 c.stored_of-stored.result.least least ∙ c.stored_of-stored.ensures.least ∙ ap least_of root) i;
-      rmax = (to_z-of_z w64 c.stored_of-stored.result.greatest greatest ∙ c.stored_of-stored.ensures.greatest ∙ ap greatest_of root) i;
+      start = to_z-of_z w64 c.args.planned.told.axis.start start i;
+      step = c.args.planned.told.axis.step;
+      slots = c.args.planned.told.axis.slots;
+      has = c.stored_of-stored.ensures.has i;
+      rmin = (to_z-of_z w64 c.stored_of-stored.result.least least ∙ c.stored_of-stored.ensures.least) i;
+      rmax = (to_z-of_z w64 c.stored_of-stored.result.greatest greatest ∙ c.stored_of-stored.ensures.greatest) i;
       count = ap length (c.as_slice.ensures ∙ c.into_send-coefs.ensures.send) i;
       coefs = c.into_send-coefs.ensures.send i;
     }

@@ -30,6 +30,7 @@ loop-above-init g c = record {
       c.hold.ensures.reads c.hold.ensures.held c.hold.ensures.asked c.in_ok-hold.ensures.reached
       (λ hit. ap (λ p. (g.P.Pages.view p.pages).reads) (c.hold.ensures.hit hit)) c.hold.ensures.still;
   over = c.hold.ensures.over;
+  count = c.hold.ensures.count;
 }
 
 pub step-requires-clause-sound : goal.step-requires-clause-sound
@@ -55,6 +56,7 @@ loop-above-preserved g c =
           (λ long linked. ap (λ p. (g.P.Pages.view p.pages).reads) (c.step.ensures.hit long linked)) c.step.ensures.still;
       over = stays_then c.args.space.now.superblock c.loop-above.space.superblock c.step.new.space.superblock (g.P.Pages.under c.args.space.now.pages) (g.P.Pages.under c.loop-above.space.pages) (g.P.Pages.under c.step.new.space.pages)
           c.loop-above.invariant.over c.step.ensures.over;
+      count = c.step.ensures.count ∙ c.loop-above.invariant.count;
     }
 
 pub returns-in_err-step-clause-kept : goal.returns-in_err-step-clause-kept

@@ -1,46 +1,74 @@
-use Rattle.std.proofs.Common.{rules, ◌≡◌, List, Option, Some, refl, sym, subst}
+use Rattle.std.proofs.Common.{◌≡◌, length, rules, None, Some, Option, List, subst}
 use Rattle.om3_coeff.specs.declared.key.Key.{Key}
 use Rattle.om3_coeff.specs.declared.coef.Coef.{Coef}
-use Rattle.std.specs.Prelude.{slice_get, IsSomeAnd}
-use Rattle.zoom_session.specs.Sessions.{without, viewed, session_of}
-use Rattle.series_book.specs.Books.{IsSeries}
+use Rattle.zoom_session.specs.Sessions.{session_of, viewed}
 use Rattle.chart_frames.specs.declared.frame.Frame.TheVariants.{View}
-use Rattle.chart_service.specs.State.{AreViewsOf}
-use Rattle.chart_service.specs.Opening.{OpensBy}
-use Rattle.chart_service.specs.Planning.{IsPlannedFor}
-use Rattle.chart_service.proofs.Keeping.{views_closed}
-use Rattle.chart_service.proofs.Openings.{opens_viewed}
-use Rattle.chart_service.proofs.Answered.{answered_view, answered_fits}
+use Rattle.std.proofs.Common.{Result}
+use Rattle.std.specs.Prelude.{IsSomeAnd, slice_get}
+use Rattle.zoom_session.specs.declared.errors.PlanError.{PlanError}
+use Rattle.chart_service.specs.declared.shown.Planned.{Planned}
+use Rattle.chart_service.specs.Looking.{IsGoodPlan}
+use Rattle.chart_service.specs.Planning.{PlansOrStops}
+use Rattle.chart_service.specs.Replies.{AnswersBy}
+use Rattle.chart_service.specs.Stepping.{ReadsFor}
+use Rattle.chart_service.proofs.Answered.{answered_fits}
+use Rattle.chart_service.proofs.Keeping.{views_after_view}
+use Rattle.chart_service.proofs.PlanLemmas.{replying_too_large, replying_node, replying_want, replying_view, looked_viewed, opens_view}
 use Rattle.chart_service.proofs.service.Service.answer_coefs.Goals as goal
 
-pub invariant_of-self : goal.invariant_of-self
-invariant_of-self c =
-    let closed : c.apply.new.self ≡ without c.args.number c.self.inside.sessions = search rules in
-    subst (AreViewsOf c.self.inside.book.book) (sym closed) (views_closed c.self.inside.book.book c.args.number c.self.inside.sessions c.self.invariant)
-
-pub returns-clause-reply : goal.returns-clause-reply
-returns-clause-reply c =
-    let state = c.args.self.now in
+pub returns-in-Err-TooLarge-clause-replying : goal.returns-in-Err-TooLarge-clause-replying
+returns-in-Err-TooLarge-clause-replying g c = λ total book told stands.
     let spec = c.args.spec in
-    let session = session_of c.args.number state.sessions in
-    let planned : IsSomeAnd (slice_get state.book spec.series) (λ series. IsPlannedFor series spec session c.in-Ok.planned) = search rules in
-    answered_view (slice_get state.book spec.series) spec c.args.number c.in-Ok.planned state _ c.view_frame.result planned
-    (λ series axis root. c.view_frame.ensures.frame spec series refl refl axis root) (search rules)
-
-pub returns-clause-fits : goal.returns-clause-fits
-returns-clause-fits c =
-    let state = c.args.self.now in
-    let spec = c.args.spec in
-    let session = session_of c.args.number state.sessions in
-    let planned : IsSomeAnd (slice_get state.book spec.series) (λ series. IsPlannedFor series spec session c.in-Ok.planned) = search rules in
-    let series : IsSomeAnd (slice_get state.book spec.series) IsSeries = search rules in
-    answered_fits (slice_get state.book spec.series) spec c.args.number c.in-Ok.planned session c.view_frame.result planned series (λ series axis root. c.view_frame.ensures.frame spec series refl refl axis root)
-    c.requires.number (search rules) (search rules) spec.grid.window spec.grid.wide spec.grid.high
-
-pub returns-clause-opens : goal.returns-clause-opens
-returns-clause-opens c =
     let ss = c.args.self.now.sessions in
-    let view = c.view_frame.result in
+    let R : Result Planned PlanError → Type 0 = λ r. IsSomeAnd (slice_get book spec.series) (λ series. PlansOrStops series spec (session_of c.args.number ss) r) in
+    replying_too_large book total spec c.args.number c.in-Err-TooLarge.needed c.in-Err-TooLarge.cache ss c.plan.new.self.sessions c.refused.result c.in-Err-TooLarge.field-0
+    (g.P.Pages.view c.args.self.now.store.space.pages) (g.P.Pages.view c.plan.new.self.store.space.pages) c.plan.ensures.sessions c.in-Err-TooLarge.field-0-is
+    (subst R c.in-Err-TooLarge.is (c.plan.ensures.planned total book told stands)) c.refused.ensures.frame (c.plan.ensures.reads total book told stands)
+
+pub returns-in-Err-Node-clause-replying : goal.returns-in-Err-Node-clause-replying
+returns-in-Err-Node-clause-replying g c = λ total book told stands.
+    let spec = c.args.spec in
+    let ss = c.args.self.now.sessions in
+    let R : Result Planned PlanError → Type 0 = λ r. IsSomeAnd (slice_get book spec.series) (λ series. PlansOrStops series spec (session_of c.args.number ss) r) in
+    replying_node (λ frame old new. IsSomeAnd (slice_get old.book spec.series) (λ series. AnswersBy None series spec c.args.number frame old new)) (ReadsFor spec.grid.w (slice_get book spec.series)) book total spec c.args.number ss c.plan.new.self.sessions c.in-Err-Node.error c.in-Err-Node.field-0 c.node_error.result
+    (g.P.Pages.view c.args.self.now.store.space.pages) (g.P.Pages.view c.plan.new.self.store.space.pages) c.in-Err-Node.field-0-is c.node_error.ensures
+    (subst R c.in-Err-Node.is (c.plan.ensures.planned total book told stands)) (c.plan.ensures.reads total book told stands)
+
+pub returns-in-Err-NoMemory-clause-replying : goal.returns-in-Err-NoMemory-clause-replying
+returns-in-Err-NoMemory-clause-replying g c = λ total book told stands.
+    let spec = c.args.spec in
+    replying_want (λ frame old new. IsSomeAnd (slice_get old.book spec.series) (λ series. AnswersBy None series spec c.args.number frame old new)) (ReadsFor spec.grid.w (slice_get book spec.series)) book total c.args.self.now.sessions c.plan.new.self.sessions
+    (g.P.Pages.view c.args.self.now.store.space.pages) (g.P.Pages.view c.plan.new.self.store.space.pages) (c.plan.ensures.reads total book told stands)
+
+pub invariant_of-self : goal.invariant_of-self
+invariant_of-self g c =
+    let count = length c.plan.new.self.store.catalog.series.items in
     let needed : Option (List (Key × Coef)) = Some c.in-Ok.planned.plan.needed in
-    let kept : c.apply.new.self ≡ viewed c.args.number c.args.spec needed ss = search rules in
-    subst (OpensBy (View view) ss) (sym kept) (opens_viewed c.args.number c.args.spec needed view ss c.view_frame.ensures.session c.requires.opened)
+    record { views = views_after_view c.apply.result count c.args.number c.args.spec needed c.plan.new.self.sessions c.apply.new.self c.apply.ensures.viewed c.apply.ensures.closed (rw c.plan.ensures.looks.catalog_is c.requires.view) c.plan.new.self.views }
+
+pub returns-then-is_err-clause-replying : goal.returns-then-is_err-clause-replying
+returns-then-is_err-clause-replying g c = λ total book told stands.
+    let spec = c.args.spec in
+    replying_want (λ frame old new. IsSomeAnd (slice_get old.book spec.series) (λ series. AnswersBy None series spec c.args.number frame old new)) (ReadsFor spec.grid.w (slice_get book spec.series)) book total c.args.self.now.sessions c.apply.new.self
+    (g.P.Pages.view c.args.self.now.store.space.pages) (g.P.Pages.view c.plan.new.self.store.space.pages) (c.plan.ensures.reads total book told stands)
+
+pub returns-clause-replying : goal.returns-clause-replying
+returns-clause-replying g c = λ total book told stands.
+    let spec = c.args.spec in
+    let ss = c.args.self.now.sessions in
+    let needed : Option (List (Key × Coef)) = Some c.in-Ok.planned.plan.needed in
+    let kept : c.apply.new.self ≡ viewed c.args.number spec needed c.plan.new.self.sessions = search rules in
+    replying_view book total spec c.args.number c.in-Ok.planned c.plan.result c.view_frame.result ss c.plan.new.self.sessions c.apply.new.self
+    (g.P.Pages.view c.args.self.now.store.space.pages) (g.P.Pages.view c.plan.new.self.store.space.pages) c.in-Ok.is (c.plan.ensures.planned total book told stands) c.view_frame.ensures.fields c.plan.ensures.sessions kept (c.plan.ensures.reads total book told stands)
+
+pub returns-clause-looked : goal.returns-clause-looked
+returns-clause-looked g c =
+    let spec = c.args.spec in
+    let ss = c.args.self.now.sessions in
+    let needed : Option (List (Key × Coef)) = Some c.in-Ok.planned.plan.needed in
+    let kept : c.apply.new.self ≡ viewed c.args.number spec needed c.plan.new.self.sessions = search rules in
+    let good : IsGoodPlan c.in-Ok.planned = c.in-Ok.ensures.good in
+    looked_viewed c.args.number (View c.view_frame.result) ss c.apply.new.self _ _ _ _ _ _ _ _ _ _
+    (answered_fits c.args.number spec c.in-Ok.planned c.view_frame.result good c.view_frame.ensures.fields c.requires.number (search rules) c.plan.ensures.few spec.grid.window spec.grid.wide spec.grid.high)
+    (opens_view c.args.number spec needed c.view_frame.result ss c.plan.new.self.sessions c.apply.new.self c.view_frame.ensures.session c.plan.ensures.sessions kept c.requires.opened)
+    c.plan.ensures.looks

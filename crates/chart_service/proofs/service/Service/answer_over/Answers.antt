@@ -1,24 +1,35 @@
-use Rattle.std.proofs.Common.{Ok, subst}
-use Rattle.std.specs.Prelude.{slice_get, IsSomeAnd}
-use Rattle.std.proofs.lemmas.Result.{IfOk-weaker}
-use Rattle.chart_frames.specs.declared.frame.Frame.{Frame}
+use Rattle.std.proofs.Common.{ℕ, Ok, Err, Some, subst, arith, refl}
+use Rattle.std.specs.Prelude.{IsSomeAnd, slice_get}
+use Rattle.chart_service.specs.Looking.{ReadsBy}
 use Rattle.chart_service.specs.Planning.{IsMoved}
 use Rattle.chart_service.specs.Replies.{AnswersView, Moves}
+use Rattle.chart_service.specs.Stepping.{state_of, ReadsLast}
 use Rattle.chart_service.proofs.Answered.{moves_answered, moves_refused}
+use Rattle.chart_service.proofs.LookLemmas.{replying_so, replying_refused}
+use Rattle.chart_service.proofs.ReadLemmas.{reads_last}
+use Rattle.chart_service.proofs.ViewLemmas.{reads_moved}
 use Rattle.chart_service.proofs.service.Service.answer_over.Goals as goal
 
-pub returns-in-Ok-clause-reply : goal.returns-in-Ok-clause-reply
-returns-in-Ok-clause-reply c = λ t0 t1 moved.
-    let old = c.args.self.now in
-    let new = c.answer.new.self in
+pub returns-in-Ok-clause-replying : goal.returns-in-Ok-clause-replying
+returns-in-Ok-clause-replying g c = λ total book t0 t1 told stands moved.
     let last = c.args.last in
+    let number = c.args.number in
     let grid = c.in-Ok.grid in
     let is : IsMoved last.grid t0 t1 (Ok grid) = subst (IsMoved last.grid t0 t1) c.in-Ok.is moved in
-    let P : Frame → Type 0 = λ frame. IsSomeAnd (slice_get old.book last.series) (λ series. AnswersView series (record { series = last.series; grid = grid; range = last.range; filter = last.filter }) c.args.number frame old new) in
-    let Q : Frame → Type 0 = λ frame. Moves last c.args.number t0 t1 frame old new in
-    IfOk-weaker c.answer.result P Q (λ frame answers. moves_answered last c.args.number t0 t1 grid frame old new is answers) c.answer.ensures.reply
+    let at = slice_get book last.series in
+    replying_so (λ frame old new. IsSomeAnd (slice_get old.book last.series) (λ series. AnswersView series (record { series = last.series; grid = grid; range = last.range; filter = last.filter }) number frame old new)) (λ frame old new. Moves last number t0 t1 frame old new)
+    (ReadsBy last.filter grid.w at) (ReadsLast book (Some last)) c.answer.result total book c.args.self.now.sessions c.answer.new.self.sessions
+    (g.P.Pages.view c.args.self.now.store.space.pages) (g.P.Pages.view c.answer.new.self.store.space.pages)
+    (λ frame. moves_answered last number t0 t1 grid frame (state_of book total c.args.self.now.sessions) (state_of book total c.answer.new.self.sessions) is)
+    (reads_moved book last grid t0 t1 _ _ is)
+    (c.answer.ensures.replying total book told stands)
 
-pub returns-in-Err-clause-reply : goal.returns-in-Err-clause-reply
-returns-in-Err-clause-reply c = λ t0 t1 moved.
+pub returns-in-Err-clause-replying : goal.returns-in-Err-clause-replying
+returns-in-Err-clause-replying g c = λ total book t0 t1 told stands moved.
     let last = c.args.last in
-    moves_refused last c.args.number t0 t1 c.in-Err.field-0 c.refused.result c.args.self.now (subst (IsMoved last.grid t0 t1) c.in-Err.is moved) c.requires.view.there c.refused.ensures.frame
+    let number = c.args.number in
+    let ss = c.args.self.now.sessions in
+    let view = g.P.Pages.view c.args.self.now.store.space.pages in
+    replying_refused (λ frame old new. Moves last number t0 t1 frame old new) (ReadsLast book (Some last)) c.refused.result total book ss view
+    (moves_refused last number t0 t1 c.in-Err.field-0 c.refused.result (state_of book total ss) (subst (IsMoved last.grid t0 t1) c.in-Err.is moved) (omega (arith, c.requires.view.there, c.len-count.ensures.count, c.len-count.ensures.books total book c.requires.sound told stands)) c.refused.ensures.frame)
+    (reads_last book view.reads (Some last))

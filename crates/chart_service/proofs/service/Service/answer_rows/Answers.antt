@@ -1,46 +1,45 @@
-use Rattle.std.proofs.Common.{rules, ◌≡◌, None, sym, subst}
-use Rattle.std.specs.Prelude.{slice_get, IsSomeAnd}
-use Rattle.zoom_session.specs.Sessions.{without, viewed}
-use Rattle.chart_frames.specs.Frames.{FitsRows}
+use Rattle.std.proofs.Common.{◌≡◌, length, rules, None, Result, sym, ap, subst}
+use Rattle.std.specs.Prelude.{IsSomeAnd, slice_get}
 use Rattle.chart_frames.specs.declared.frame.Frame.TheVariants.{Rows}
-use Rattle.chart_service.specs.State.{IsViewOf, AreViewsOf}
-use Rattle.chart_service.specs.Opening.{OpensBy}
-use Rattle.chart_service.specs.Planning.{ShowsIn}
-use Rattle.chart_service.proofs.Keeping.{views_closed, views_viewed}
-use Rattle.chart_service.proofs.Openings.{opens_rows}
-use Rattle.chart_service.proofs.Filtered.{fit_of, rows_fit, answered_rows}
+use Rattle.chart_frames.specs.declared.frame.RowsFrame.{RowsFrame}
+use Rattle.chart_frames.specs.Frames.{FitsRows}
+use Rattle.filter_scan.specs.declared.scan_error.ScanError.{ScanError}
+use Rattle.zoom_session.specs.Sessions.{viewed}
+use Rattle.chart_service.specs.declared.shown_rows.ShownRows.{ShownRows}
+use Rattle.chart_service.specs.Planning.{ShowsOrStops, FitInFrame}
+use Rattle.chart_service.specs.Viewing.{AnswersRows}
+use Rattle.chart_service.proofs.Filtered.{rows_fit}
+use Rattle.chart_service.proofs.Keeping.{views_after_view}
+use Rattle.chart_service.proofs.PlanLemmas.{replying_scan, replying_rows, looked_viewed, opens_rows_of}
 use Rattle.chart_service.proofs.service.Service.answer_rows.Goals as goal
 
+pub returns-in-Err-Node-clause-replying : goal.returns-in-Err-Node-clause-replying
+returns-in-Err-Node-clause-replying g c = λ total book told stands.
+    let spec = c.args.spec in
+    let R : Result ShownRows ScanError → Type 0 = λ r. IsSomeAnd (slice_get book spec.series) (λ series. ShowsOrStops series spec r) in
+    replying_scan (λ frame old new. IsSomeAnd (slice_get old.book spec.series) (λ series. AnswersRows series spec c.args.number frame old new)) (λ old new. Unit {0}) book total spec c.args.self.now.sessions c.rows.new.self.sessions c.in-Err-Node.error c.in-Err-Node.field-0 c.node_error.result
+    (g.P.Pages.view c.args.self.now.store.space.pages) (g.P.Pages.view c.rows.new.self.store.space.pages) c.in-Err-Node.field-0-is c.node_error.ensures
+    (subst R c.in-Err-Node.is (c.rows.ensures.shown total book told stands)) tt
+
 pub invariant_of-self : goal.invariant_of-self
-invariant_of-self c =
-    let closed : c.apply.new.self ≡ without c.args.number c.self.inside.sessions = search rules in
-    subst (AreViewsOf c.self.inside.book.book) (sym closed) (views_closed c.self.inside.book.book c.args.number c.self.inside.sessions c.self.invariant)
+invariant_of-self g c =
+    let count = length c.rows.new.self.store.catalog.series.items in
+    record { views = views_after_view c.apply.result count c.args.number c.args.spec None c.rows.new.self.sessions c.apply.new.self c.apply.ensures.viewed c.apply.ensures.closed (rw c.rows.ensures.looks.catalog_is c.requires.view) c.rows.new.self.views }
 
-pub invariant_of-self-2 : goal.invariant_of-self-2
-invariant_of-self-2 c =
-    let kept : c.apply.new.self ≡ viewed c.args.number c.args.spec None c.self.inside.sessions = search rules in
-    let view : IsViewOf c.self.inside.book.book c.args.spec = search rules in
-    subst (AreViewsOf c.self.inside.book.book) (sym kept) (views_viewed c.self.inside.book.book c.args.number c.args.spec None c.self.inside.sessions view c.self.invariant)
-
-pub returns-clause-reply : goal.returns-clause-reply
-returns-clause-reply c =
-    let state = c.args.self.now in
+pub returns-clause-replying : goal.returns-clause-replying
+returns-clause-replying g c = λ total book told stands.
     let spec = c.args.spec in
-    let shown : IsSomeAnd (slice_get state.book spec.series) (λ series. ShowsIn series spec c.in-Ok.shown) = search rules in
-    answered_rows (slice_get state.book spec.series) spec c.args.number c.in-Ok.shown c.rows_frame-frame.result state _ c.requires.opened shown c.rows_frame-frame.ensures (search rules)
+    let kept : c.apply.new.self ≡ viewed c.args.number spec None c.rows.new.self.sessions = search rules in
+    replying_rows book total spec c.args.number c.in-Ok.shown c.rows.result c.rows_frame-frame.result c.args.self.now.sessions c.rows.new.self.sessions c.apply.new.self
+    (g.P.Pages.view c.args.self.now.store.space.pages) (g.P.Pages.view c.rows.new.self.store.space.pages) c.in-Ok.is (c.rows.ensures.shown total book told stands) c.rows_frame-frame.ensures c.rows.ensures.sessions kept c.requires.opened
 
-pub returns-clause-fits : goal.returns-clause-fits
-returns-clause-fits c =
-    let state = c.args.self.now in
+pub returns-clause-looked : goal.returns-clause-looked
+returns-clause-looked g c =
     let spec = c.args.spec in
-    let shown : IsSomeAnd (slice_get state.book spec.series) (λ series. ShowsIn series spec c.in-Ok.shown) = search rules in
-    subst FitsRows (sym c.rows_frame-frame.ensures)
-    (rows_fit c.args.number spec c.in-Ok.shown c.requires.number (search rules) spec.grid.wide spec.grid.high
-    (fit_of (slice_get state.book spec.series) spec c.in-Ok.shown shown))
-
-pub returns-clause-opens : goal.returns-clause-opens
-returns-clause-opens c =
     let ss = c.args.self.now.sessions in
-    let rows = c.rows_frame-frame.result in
-    let kept : c.apply.new.self ≡ viewed c.args.number c.args.spec None ss = search rules in
-    subst (OpensBy (Rows rows) ss) (sym kept) (opens_rows c.args.number c.args.spec None rows ss (search rules) c.requires.opened)
+    let kept : c.apply.new.self ≡ viewed c.args.number spec None c.rows.new.self.sessions = search rules in
+    let fit : FitInFrame spec.grid.w c.in-Ok.shown = c.in-Ok.ensures.fit in
+    looked_viewed c.args.number (Rows c.rows_frame-frame.result) ss c.apply.new.self _ _ _ _ _ _ _ _ _ _
+    (subst FitsRows (sym c.rows_frame-frame.ensures) (rows_fit c.args.number spec c.in-Ok.shown c.requires.number (search rules) spec.grid.wide spec.grid.high fit))
+    (opens_rows_of c.args.number spec c.rows_frame-frame.result ss c.rows.new.self.sessions c.apply.new.self (ap (λ (r : RowsFrame). r.session) c.rows_frame-frame.ensures) c.rows.ensures.sessions kept c.requires.opened)
+    c.rows.ensures.looks

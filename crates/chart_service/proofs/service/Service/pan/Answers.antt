@@ -1,27 +1,31 @@
-use Rattle.std.proofs.Common.{rules, ℤ, ◌+ℤ◌, Ok, sym, subst, FitsSigned}
+use Rattle.std.proofs.Common.{◌+ℤ◌, ◌≡◌, ℕ, ℤ, Ok, Some, FitsSigned, rules, sym, subst}
 use Rattle.std.specs.Int.{w128}
 use Rattle.std.proofs.lemmas.Int.{to_z-of_z}
-use Rattle.std.proofs.lemmas.Result.{IfOk-weaker}
-use Rattle.chart_frames.specs.declared.frame.Frame.{Frame}
-use Rattle.zoom_session.specs.Sessions.{session_of}
 use Rattle.zoom_session.specs.declared.view_spec.ViewSpec.{ViewSpec}
-use Rattle.chart_service.specs.Planning.{IsLastOf, IsMoved}
+use Rattle.zoom_session.specs.Sessions.{session_of, last_of}
+use Rattle.chart_service.specs.Planning.{IsMoved, IsLastOf}
 use Rattle.chart_service.specs.Replies.{Moves, MovesIn}
+use Rattle.chart_service.specs.Stepping.{state_of, ReadsLast}
 use Rattle.chart_service.proofs.Answered.{move_answered}
+use Rattle.chart_service.proofs.LookLemmas.{replying_so}
+use Rattle.chart_service.proofs.ViewLemmas.{reads_of_last}
 use Rattle.chart_service.proofs.service.Service.pan.Goals as goal
 
-pub returns-clause-reply : goal.returns-clause-reply
-returns-clause-reply c =
-    let old = c.args.self.now in
-    let new = c.answer_over.new.self in
-    let session = session_of c.args.number old.sessions in
+pub returns-clause-replying : goal.returns-clause-replying
+returns-clause-replying g c = λ total book told stands.
+    let ss = c.args.self.now.sessions in
+    let number = c.args.number in
+    let session = session_of number ss in
     let last = c.in_ok-last-in-Ok.last in
     let window : ViewSpec → ℤ × ℤ = (λ last. (last.grid.t0 +ℤ c.args.by, last.grid.t1 +ℤ c.args.by)) in
     let L : ViewSpec → Type 0 = λ l. IsLastOf session (Ok l) in
     let is : IsLastOf session (Ok last) = subst L (sym c.in_ok-last-in-Ok.ensures) c.in-Ok.ensures.last in
     let by : FitsSigned w128 c.args.by = search rules in
     let B : ℤ → Type 0 = λ by. IsMoved last.grid (last.grid.t0 +ℤ by) (last.grid.t1 +ℤ by) c.panned-grid.result in
-    let P : Frame → Type 0 = λ frame. Moves last c.args.number (last.grid.t0 +ℤ c.args.by) (last.grid.t1 +ℤ c.args.by) frame old new in
-    let Q : Frame → Type 0 = λ frame. MovesIn session c.args.number window frame old new in
-    IfOk-weaker c.answer_over.result P Q (λ frame moves. move_answered session last c.args.number window frame old new is moves)
-    (c.answer_over.ensures.reply (last.grid.t0 +ℤ c.args.by) (last.grid.t1 +ℤ c.args.by) (subst B (to_z-of_z w128 c.args.by by) c.panned-grid.ensures))
+    let moved : IsMoved last.grid (last.grid.t0 +ℤ c.args.by) (last.grid.t1 +ℤ c.args.by) c.panned-grid.result = subst B (to_z-of_z w128 c.args.by by) c.panned-grid.ensures in
+    replying_so (λ frame old new. Moves last number (last.grid.t0 +ℤ c.args.by) (last.grid.t1 +ℤ c.args.by) frame old new) (λ frame old new. MovesIn (session_of number old.sessions) number window frame old new)
+    (ReadsLast book (Some last)) (ReadsLast book (last_of session)) c.answer_over.result total book ss c.answer_over.new.self.sessions
+    (g.P.Pages.view c.args.self.now.store.space.pages) (g.P.Pages.view c.answer_over.new.self.store.space.pages)
+    (λ frame. move_answered session last number window frame (state_of book total ss) (state_of book total c.answer_over.new.self.sessions) is)
+    (reads_of_last book session last _ _ is)
+    (c.answer_over.ensures.replying total book (last.grid.t0 +ℤ c.args.by) (last.grid.t1 +ℤ c.args.by) told stands moved)

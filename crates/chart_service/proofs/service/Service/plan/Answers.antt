@@ -1,30 +1,54 @@
-use Rattle.std.proofs.Common.{rules, ◌≡◌, ◌^◌, ◌≤◌, Some, subst, length}
-use Rattle.std.specs.Prelude.{slice_get, IfOk, IfErr}
-use Rattle.om3_coeff.specs.ListNodes.{list_view}
-use Rattle.om3_coeff.specs.View.{Agrees}
+use Rattle.std.proofs.Common.{◌≡◌, ℕ, length, Some, ap, refl, sym, subst}
+use Rattle.chart_grid.specs.declared.axis.Axis.{Axis}
+use Rattle.std.specs.Prelude.{slice_get}
+use Rattle.om3_coeff.specs.View.{NodesView}
+use Rattle.tree_walk.specs.PagedNodes.{ground, paged_view}
 use Rattle.zoom_session.specs.Sessions.{session_of}
-use Rattle.zoom_session.specs.Plans.{PlansIn}
-use Rattle.chart_service.specs.State.{State}
-use Rattle.chart_service.specs.Planning.{RefusesView, PlansOrStops}
-use Rattle.chart_service.proofs.Answered.{no_cause, some_and, planned_over}
+use Rattle.chart_service.specs.Planning.{PlansOrStops, RefusesView}
+use Rattle.chart_service.specs.Looking.{IsPlanCause}
+use Rattle.chart_service.proofs.Answered.{planned_over}
+use Rattle.chart_service.proofs.LookLemmas.{node_cause, disk_alone}
+use Rattle.chart_service.proofs.PlanLemmas.{plan_cause, if_err}
+use Rattle.chart_service.proofs.SelectLemmas.{there, some_there, reads_there}
 use Rattle.chart_service.proofs.service.Service.plan.Goals as goal
 
 pub returns-clause-planned : goal.returns-clause-planned
-returns-clause-planned c =
+returns-clause-planned g c = λ total book told stands.
     let spec = c.args.spec.now in
-    let series = c.series-series.result.now in
     let session = session_of c.args.number c.args.self.now.sessions in
-    let nodes = c.new-nodes.result in
+    let before = c.selected-axis.new.store in
     let after = c.plan.new.nodes in
-    let there : slice_get c.args.self.now.book spec.series ≡ Some series = search rules in
-    let same : nodes.slots.now ≡ series.slots = search rules in
-    let few : length nodes.slots.now ≤ 2 ^ 35 = search rules in
-    let agrees : Agrees (list_view nodes.slots.now nodes.asked) nodes.slots.now = search rules in
-    let before = list_view nodes.slots.now nodes.asked in
-    let behind = list_view after.slots.now after.asked in
-    let P : State → Type 0 = λ s. IfOk c.plan.result (λ p. PlansIn (session_of c.args.number s.sessions) spec.series p.plan) in
-    let R : State → Type 0 = λ s. IfErr c.plan.result (RefusesView (session_of c.args.number s.sessions) before behind) in
-    some_and (slice_get c.args.self.now.book spec.series) series (λ series. PlansOrStops series spec session c.plan.result) there
-    (planned_over series spec session nodes.slots.now c.axis_of-axis.result before behind c.plan.result
-    same c.axis_of-axis.ensures agrees (no_cause nodes.slots.now after.slots.now nodes.asked after.asked)
-    c.plan.ensures.needed (subst P c.self.view_is c.plan.ensures.planned) c.plan.ensures.bounds c.plan.ensures.told c.plan.ensures.in_frame (subst R c.self.view_is c.plan.ensures.refused) c.plan.ensures.counted)
+    let nodes : NodesView = paged_view (ground (g.P.Pages.told before.space.pages) (g.P.Pages.view before.space.pages) (g.P.Pages.under before.space.pages) before.space.superblock before.tree) before.trail in
+    let nodes' : NodesView = paged_view (ground (g.P.Pages.told after.space.pages) (g.P.Pages.view after.space.pages) (g.P.Pages.under after.space.pages) after.space.superblock after.tree) after.trail in
+    let fit = c.requires.sound in
+    some_there book spec.series (λ series. PlansOrStops series spec session c.plan.result) (c.selected-axis.ensures.there total book fit told stands) (λ series at.
+    planned_over series spec session c.selected-axis.result nodes nodes' c.plan.result
+    (c.selected-axis.ensures.axis_is total book series fit told stands at)
+    (c.selected-axis.ensures.agrees total book series fit told stands at)
+    (λ e cause. disk_alone (g.P.Pages.told before.space.pages) (g.P.Pages.view before.space.pages) (g.P.Pages.view after.space.pages) (g.P.Pages.under before.space.pages) (g.P.Pages.told after.space.pages) (g.P.Pages.under after.space.pages) before.space.superblock after.space.superblock before.tree after.tree before.trail after.trail e (rw c.selected-axis.ensures.space told) (λ page. c.selected-axis.ensures.whole total book series page fit told stands at) cause)
+    c.plan.ensures.needed c.plan.ensures.planned c.plan.ensures.bounds c.plan.ensures.told c.plan.ensures.in_frame c.plan.ensures.refused c.plan.ensures.counted)
+
+pub returns-clause-cause : goal.returns-clause-cause
+returns-clause-cause g c = rw (← c.selected-axis.ensures.space) (
+    let spec = c.args.spec.now in
+    let session = session_of c.args.number c.args.self.now.sessions in
+    let catalog = c.args.self.now.store.catalog.series.items in
+    let before = c.selected-axis.new.store in
+    let after = c.plan.new.nodes in
+    let nodes : NodesView = paged_view (ground (g.P.Pages.told before.space.pages) (g.P.Pages.view before.space.pages) (g.P.Pages.under before.space.pages) before.space.superblock before.tree) before.trail in
+    let nodes' : NodesView = paged_view (ground (g.P.Pages.told after.space.pages) (g.P.Pages.view after.space.pages) (g.P.Pages.under after.space.pages) after.space.superblock after.tree) after.trail in
+    let one = there catalog spec.series c.requires.view.there in
+    if_err c.plan.result (RefusesView session nodes nodes') (λ error. IsPlanCause error (g.P.Pages.told before.space.pages) catalog before.space.superblock.total (g.P.Pages.view before.space.pages) (g.P.Pages.view after.space.pages))
+    (λ error. plan_cause session nodes nodes' (g.P.Pages.told before.space.pages) catalog before.space.superblock.total (g.P.Pages.view before.space.pages) (g.P.Pages.view after.space.pages) error
+    (λ e. node_cause (g.P.Pages.told before.space.pages) (g.P.Pages.view before.space.pages) (g.P.Pages.view after.space.pages) (g.P.Pages.under before.space.pages) (g.P.Pages.told after.space.pages) (g.P.Pages.under after.space.pages) before.space.superblock after.space.superblock before.tree after.tree before.trail after.trail catalog spec.series one.0 e one.1 (c.selected-axis.ensures.tree one.0 one.1)))
+    c.plan.ensures.refused)
+
+pub returns-clause-reads : goal.returns-clause-reads
+returns-clause-reads g c = λ total book told stands.
+    let spec = c.args.spec.now in
+    let before = c.selected-axis.new.store in
+    let after = c.plan.new.nodes in
+    let few = rw c.selected-axis.ensures.space at c.plan.ensures.reads in
+    let fit = c.requires.sound in
+    reads_there spec.grid.w book spec.series c.selected-axis.result.slots (g.P.Pages.view c.args.self.now.store.space.pages).reads (g.P.Pages.view after.space.pages).reads (c.selected-axis.ensures.there total book fit told stands)
+    (λ series at. ap (λ (a : Axis). a.slots) (c.selected-axis.ensures.axis_is total book series fit told stands at)) few

@@ -1,26 +1,41 @@
-use Rattle.std.proofs.Common.{rules, ◌≡◌, ◌^◌, ◌≤◌, Some, length}
+use Rattle.std.proofs.Common.{◌≡◌, ℕ, length, Some, refl, sym, subst}
 use Rattle.std.specs.Prelude.{slice_get}
-use Rattle.om3_coeff.specs.ListNodes.{list_view}
-use Rattle.om3_coeff.specs.View.{Agrees}
+use Rattle.filter_scan.specs.Answers.{IsCauseOf}
+use Rattle.om3_coeff.specs.View.{NodesView}
+use Rattle.tree_walk.specs.PagedNodes.{ground, paged_view}
 use Rattle.chart_service.specs.Planning.{ShowsOrStops}
-use Rattle.chart_service.proofs.Answered.{no_cause, some_and}
+use Rattle.chart_service.specs.Looking.{IsScanCause}
 use Rattle.chart_service.proofs.Filtered.{shows_over}
+use Rattle.chart_service.proofs.LookLemmas.{node_cause, disk_alone}
+use Rattle.chart_service.proofs.PlanLemmas.{scan_cause, if_err}
+use Rattle.chart_service.proofs.SelectLemmas.{there, some_there}
 use Rattle.chart_service.proofs.service.Service.rows.Goals as goal
 
-pub returns : goal.returns
-returns c =
+pub returns-clause-shown : goal.returns-clause-shown
+returns-clause-shown g c = λ total book told stands.
     let spec = c.args.spec.now in
-    let series = c.series-series.result.now in
-    let nodes = c.new-nodes.result in
+    let before = c.selected-axis.new.store in
     let after = c.shown_rows.new.nodes in
-    let there : slice_get c.args.self.now.book spec.series ≡ Some series = search rules in
-    let same : nodes.slots.now ≡ series.slots = search rules in
-    let few : length nodes.slots.now ≤ 2 ^ 35 = search rules in
-    let before = list_view nodes.slots.now nodes.asked in
-    let behind = list_view after.slots.now after.asked in
-    let agrees : Agrees before nodes.slots.now = search rules in
-    let shown = some_and (slice_get c.args.self.now.book spec.series) series (λ series. ShowsOrStops series spec c.shown_rows.result) there
-    (shows_over series spec nodes.slots.now c.axis_of-axis.result before behind c.shown_rows.result
-    same c.axis_of-axis.ensures agrees (no_cause nodes.slots.now after.slots.now nodes.asked after.asked)
-    c.shown_rows.ensures.shown c.shown_rows.ensures.in_frame c.shown_rows.ensures.cause) in
-    record { shown = shown }
+    let nodes : NodesView = paged_view (ground (g.P.Pages.told before.space.pages) (g.P.Pages.view before.space.pages) (g.P.Pages.under before.space.pages) before.space.superblock before.tree) before.trail in
+    let nodes' : NodesView = paged_view (ground (g.P.Pages.told after.space.pages) (g.P.Pages.view after.space.pages) (g.P.Pages.under after.space.pages) after.space.superblock after.tree) after.trail in
+    let fit = c.requires.sound in
+    some_there book spec.series (λ series. ShowsOrStops series spec c.shown_rows.result) (c.selected-axis.ensures.there total book fit told stands) (λ series at.
+    shows_over series spec c.selected-axis.result nodes nodes' c.shown_rows.result
+    (c.selected-axis.ensures.axis_is total book series fit told stands at)
+    (c.selected-axis.ensures.agrees total book series fit told stands at)
+    (λ e cause. disk_alone (g.P.Pages.told before.space.pages) (g.P.Pages.view before.space.pages) (g.P.Pages.view after.space.pages) (g.P.Pages.under before.space.pages) (g.P.Pages.told after.space.pages) (g.P.Pages.under after.space.pages) before.space.superblock after.space.superblock before.tree after.tree before.trail after.trail e (rw c.selected-axis.ensures.space told) (λ page. c.selected-axis.ensures.whole total book series page fit told stands at) cause)
+    c.shown_rows.ensures.shown c.shown_rows.ensures.in_frame c.shown_rows.ensures.cause)
+
+pub returns-clause-cause : goal.returns-clause-cause
+returns-clause-cause g c = rw (← c.selected-axis.ensures.space) (
+    let spec = c.args.spec.now in
+    let catalog = c.args.self.now.store.catalog.series.items in
+    let before = c.selected-axis.new.store in
+    let after = c.shown_rows.new.nodes in
+    let nodes : NodesView = paged_view (ground (g.P.Pages.told before.space.pages) (g.P.Pages.view before.space.pages) (g.P.Pages.under before.space.pages) before.space.superblock before.tree) before.trail in
+    let nodes' : NodesView = paged_view (ground (g.P.Pages.told after.space.pages) (g.P.Pages.view after.space.pages) (g.P.Pages.under after.space.pages) after.space.superblock after.tree) after.trail in
+    let one = there catalog spec.series c.requires.view.there in
+    if_err c.shown_rows.result (IsCauseOf nodes nodes') (λ error. IsScanCause error (g.P.Pages.told before.space.pages) catalog before.space.superblock.total (g.P.Pages.view before.space.pages) (g.P.Pages.view after.space.pages))
+    (λ error. scan_cause nodes nodes' (g.P.Pages.told before.space.pages) catalog before.space.superblock.total (g.P.Pages.view before.space.pages) (g.P.Pages.view after.space.pages) error
+    (λ e. node_cause (g.P.Pages.told before.space.pages) (g.P.Pages.view before.space.pages) (g.P.Pages.view after.space.pages) (g.P.Pages.under before.space.pages) (g.P.Pages.told after.space.pages) (g.P.Pages.under after.space.pages) before.space.superblock after.space.superblock before.tree after.tree before.trail after.trail catalog spec.series one.0 e one.1 (c.selected-axis.ensures.tree one.0 one.1)))
+    c.shown_rows.ensures.cause)

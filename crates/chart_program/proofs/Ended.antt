@@ -1,0 +1,383 @@
+-- How a serving command ends, by its status.
+use Rattle.std.proofs.Common.{◌≡◌, ℕ, zero, suc, ◌^◌, ◌≤◌, List, [], ◌∷◌, Option, Some, None, Result, Ok, Err, IfSome, refl, sym, subst, inl, inr, arith}
+use Rattle.std.specs.Prelude.{Contains, IfErr}
+use Rattle.block_disk.specs.View.{View}
+use Rattle.chart_client.specs.declared.errors.ClientError.TheVariants as client
+use Rattle.store_open.specs.declared.causes.OpeningCause.TheVariants as opening
+use Rattle.chart_service.specs.declared.failure.ServeEnd.TheVariants as serve_end
+use Rattle.chart_program.specs.declared.lines_end.LinesEnd.{LinesEnd}
+use Rattle.chart_program.specs.declared.lines_end.LinesEnd.TheVariants as lines_end
+use Rattle.chart_program.specs.declared.run_end.RunEnd.TheVariants as run_end
+use Rattle.chart_program.specs.declared.status.Status.{Status}
+use Rattle.chart_program.specs.Ended.{EndsBy, HasNumberedKey, status_by}
+use Rattle.chart_program.specs.Served.{Says, Faults, IsWorldCause, ServesWorld}
+use Rattle.chart_program.proofs.Codes.{told_both}
+
+-- the first of two facts, where the input is told
+told_first : (o : Option (List ℕ)) (P Q : List ℕ → Type 0) → IfSome o (λ input. P input × Q input) → IfSome o P
+told_first None P Q both = tt
+told_first (Some input) P Q both = both.0
+
+-- a fact more
+told_with : (o : Option (List ℕ)) (P : List ℕ → Type 0) (Q : Type 0) → IfSome o P → Q → IfSome o (λ input. P input × Q)
+told_with None P Q first second = tt
+told_with (Some input) P Q first second = (first, second)
+
+-- the codes whose place is 0
+low_code : (code : ℕ) → Contains (0 ∷ 3 ∷ 4 ∷ 5 ∷ 6 ∷ []) code → code ≤ 6
+low_code code (zero, inside, is) = omega (arith, is)
+low_code code (suc zero, inside, is) = omega (arith, is)
+low_code code (suc (suc zero), inside, is) = omega (arith, is)
+low_code code (suc (suc (suc zero)), inside, is) = omega (arith, is)
+low_code code (suc (suc (suc (suc zero))), inside, is) = omega (arith, is)
+low_code code (suc (suc (suc (suc (suc k)))), inside, is) = absurd (omega (arith, inside))
+
+-- each code comes from its ends alone
+pub ends_by : {T : Type 0} (IsText : Says) (CanShow : Type 0) (old new : View) (left left' before now : Option (List ℕ)) (faults : Faults) (answer : Result T LinesEnd) → ServesWorld IsText CanShow old new left left' before now faults answer
+    → EndsBy IsText CanShow old new left left' before now faults (status_by answer).code (status_by answer).place
+ends_by IsText CanShow old new left left' before now faults (Ok u) s = record {
+  codes = (0, omega arith, refl);
+  done = λ is. s.done;
+  within = λ is. s.within;
+  memory = λ is. absurd (omega (arith, is));
+  read = λ is. absurd (omega (arith, is));
+  stopped = λ is. absurd (omega (arith, is));
+  send = λ is. absurd (omega (arith, is));
+  part = λ is. absurd (omega (arith, is));
+  fault = λ is. absurd (omega (arith, is));
+  faulted = λ is. absurd (omega (arith, is));
+  damaged = λ is. absurd (omega (arith, is));
+  undamaged = λ is. absurd (omega (arith, is));
+  much = λ is. absurd (omega (arith, is));
+  missing = λ is. absurd (omega (arith, is));
+  misfit = λ is. absurd (omega (arith, is));
+  small = λ is. absurd (omega (arith, is));
+  unopened = λ is. absurd (omega (arith, is));
+  zero_place = λ is. refl;
+  crash = s.crash;
+  goes_on = s.goes_on;
+}
+ends_by IsText CanShow old new left left' before now faults (Err (lines_end.Opening (opening.TooSmall size))) s = record {
+  codes = (9, omega arith, refl);
+  done = λ is. absurd (omega (arith, is));
+  within = λ is. absurd (omega (arith, is));
+  memory = λ is. absurd (omega (arith, is));
+  read = λ is. absurd (omega (arith, is));
+  stopped = λ is. absurd (omega (arith, is));
+  send = λ is. absurd (omega (arith, is));
+  part = λ is. absurd (omega (arith, is));
+  fault = λ is. absurd (omega (arith, is));
+  faulted = λ is. absurd (omega (arith, is));
+  damaged = λ is. absurd (omega (arith, is));
+  undamaged = λ is. absurd (omega (arith, is));
+  much = λ is. absurd (omega (arith, is));
+  missing = λ is. absurd (omega (arith, is));
+  misfit = λ is. absurd (omega (arith, is));
+  small = λ is. (s.cause.0, omega (arith, s.cause.0, s.cause.1));
+  unopened = λ is. absurd (omega (arith, is));
+  zero_place = λ is. absurd (omega (arith, low_code 12 is));
+  crash = s.crash;
+  goes_on = s.goes_on;
+}
+ends_by IsText CanShow old new left left' before now faults (Err (lines_end.Opening (opening.Damaged block))) s = record {
+  codes = (5, omega arith, refl);
+  done = λ is. absurd (omega (arith, is));
+  within = λ is. absurd (omega (arith, is));
+  memory = λ is. absurd (omega (arith, is));
+  read = λ is. absurd (omega (arith, is));
+  stopped = λ is. absurd (omega (arith, is));
+  send = λ is. absurd (omega (arith, is));
+  part = λ is. absurd (omega (arith, is));
+  fault = λ is. absurd (omega (arith, is));
+  faulted = λ is. absurd (omega (arith, is));
+  damaged = λ is. (s.cause.1.0, inl s.cause.1.1);
+  undamaged = λ is. told_first left _ _ s.ends;
+  much = λ is. absurd (omega (arith, is));
+  missing = λ is. absurd (omega (arith, is));
+  misfit = λ is. absurd (omega (arith, is));
+  small = λ is. absurd (omega (arith, is));
+  unopened = λ is. absurd (omega (arith, is));
+  zero_place = λ is. absurd (omega (arith, low_code 7 is));
+  crash = s.crash;
+  goes_on = s.goes_on;
+}
+ends_by IsText CanShow old new left left' before now faults (Err (lines_end.Opening opening.DiskFault)) s = record {
+  codes = (4, omega arith, refl);
+  done = λ is. absurd (omega (arith, is));
+  within = λ is. absurd (omega (arith, is));
+  memory = λ is. absurd (omega (arith, is));
+  read = λ is. absurd (omega (arith, is));
+  stopped = λ is. absurd (omega (arith, is));
+  send = λ is. absurd (omega (arith, is));
+  part = λ is. absurd (omega (arith, is));
+  fault = λ is. s.cause;
+  faulted = λ is. s.ends;
+  damaged = λ is. absurd (omega (arith, is));
+  undamaged = λ is. absurd (omega (arith, is));
+  much = λ is. absurd (omega (arith, is));
+  missing = λ is. absurd (omega (arith, is));
+  misfit = λ is. absurd (omega (arith, is));
+  small = λ is. absurd (omega (arith, is));
+  unopened = λ is. absurd (omega (arith, is));
+  zero_place = λ is. refl;
+  crash = s.crash;
+  goes_on = s.goes_on;
+}
+ends_by IsText CanShow old new left left' before now faults (Err (lines_end.Opening opening.NoMemory)) s = record {
+  codes = (1, omega arith, refl);
+  done = λ is. absurd (omega (arith, is));
+  within = λ is. absurd (omega (arith, is));
+  memory = λ is. s.ends;
+  read = λ is. absurd (omega (arith, is));
+  stopped = λ is. absurd (omega (arith, is));
+  send = λ is. absurd (omega (arith, is));
+  part = λ is. absurd (omega (arith, is));
+  fault = λ is. absurd (omega (arith, is));
+  faulted = λ is. absurd (omega (arith, is));
+  damaged = λ is. absurd (omega (arith, is));
+  undamaged = λ is. absurd (omega (arith, is));
+  much = λ is. absurd (omega (arith, is));
+  missing = λ is. absurd (omega (arith, is));
+  misfit = λ is. absurd (omega (arith, is));
+  small = λ is. absurd (omega (arith, is));
+  unopened = λ is. absurd (omega (arith, is));
+  zero_place = λ is. refl;
+  crash = s.crash;
+  goes_on = s.goes_on;
+}
+ends_by IsText CanShow old new left left' before now faults (Err (lines_end.Answering (run_end.Serve serve_end.ReadFault))) s = record {
+  codes = (2, omega arith, refl);
+  done = λ is. absurd (omega (arith, is));
+  within = λ is. absurd (omega (arith, is));
+  memory = λ is. absurd (omega (arith, is));
+  read = λ is. s.cause;
+  stopped = λ is. s.ends;
+  send = λ is. absurd (omega (arith, is));
+  part = λ is. absurd (omega (arith, is));
+  fault = λ is. absurd (omega (arith, is));
+  faulted = λ is. absurd (omega (arith, is));
+  damaged = λ is. absurd (omega (arith, is));
+  undamaged = λ is. absurd (omega (arith, is));
+  much = λ is. absurd (omega (arith, is));
+  missing = λ is. absurd (omega (arith, is));
+  misfit = λ is. absurd (omega (arith, is));
+  small = λ is. absurd (omega (arith, is));
+  unopened = λ is. absurd (omega (arith, is));
+  zero_place = λ is. refl;
+  crash = s.crash;
+  goes_on = s.goes_on;
+}
+ends_by IsText CanShow old new left left' before now faults (Err (lines_end.Answering (run_end.Serve serve_end.SendFault))) s = record {
+  codes = (3, omega arith, refl);
+  done = λ is. absurd (omega (arith, is));
+  within = λ is. absurd (omega (arith, is));
+  memory = λ is. absurd (omega (arith, is));
+  read = λ is. absurd (omega (arith, is));
+  stopped = λ is. absurd (omega (arith, is));
+  send = λ is. s.cause;
+  part = λ is. s.ends;
+  fault = λ is. absurd (omega (arith, is));
+  faulted = λ is. absurd (omega (arith, is));
+  damaged = λ is. absurd (omega (arith, is));
+  undamaged = λ is. absurd (omega (arith, is));
+  much = λ is. absurd (omega (arith, is));
+  missing = λ is. absurd (omega (arith, is));
+  misfit = λ is. absurd (omega (arith, is));
+  small = λ is. absurd (omega (arith, is));
+  unopened = λ is. absurd (omega (arith, is));
+  zero_place = λ is. refl;
+  crash = s.crash;
+  goes_on = s.goes_on;
+}
+ends_by IsText CanShow old new left left' before now faults (Err (lines_end.Answering (run_end.Serve serve_end.DiskFault))) s = record {
+  codes = (4, omega arith, refl);
+  done = λ is. absurd (omega (arith, is));
+  within = λ is. absurd (omega (arith, is));
+  memory = λ is. absurd (omega (arith, is));
+  read = λ is. absurd (omega (arith, is));
+  stopped = λ is. absurd (omega (arith, is));
+  send = λ is. absurd (omega (arith, is));
+  part = λ is. absurd (omega (arith, is));
+  fault = λ is. s.cause;
+  faulted = λ is. s.ends;
+  damaged = λ is. absurd (omega (arith, is));
+  undamaged = λ is. absurd (omega (arith, is));
+  much = λ is. absurd (omega (arith, is));
+  missing = λ is. absurd (omega (arith, is));
+  misfit = λ is. absurd (omega (arith, is));
+  small = λ is. absurd (omega (arith, is));
+  unopened = λ is. absurd (omega (arith, is));
+  zero_place = λ is. refl;
+  crash = s.crash;
+  goes_on = s.goes_on;
+}
+ends_by IsText CanShow old new left left' before now faults (Err (lines_end.Answering (run_end.Serve (serve_end.Damaged page)))) s = record {
+  codes = (5, omega arith, refl);
+  done = λ is. absurd (omega (arith, is));
+  within = λ is. absurd (omega (arith, is));
+  memory = λ is. absurd (omega (arith, is));
+  read = λ is. absurd (omega (arith, is));
+  stopped = λ is. absurd (omega (arith, is));
+  send = λ is. absurd (omega (arith, is));
+  part = λ is. absurd (omega (arith, is));
+  fault = λ is. absurd (omega (arith, is));
+  faulted = λ is. absurd (omega (arith, is));
+  damaged = λ is. (inr (omega arith), inr s.cause);
+  undamaged = λ is. s.ends;
+  much = λ is. absurd (omega (arith, is));
+  missing = λ is. absurd (omega (arith, is));
+  misfit = λ is. absurd (omega (arith, is));
+  small = λ is. absurd (omega (arith, is));
+  unopened = λ is. absurd (omega (arith, is));
+  zero_place = λ is. absurd (omega (arith, low_code 7 is));
+  crash = s.crash;
+  goes_on = s.goes_on;
+}
+ends_by IsText CanShow old new left left' before now faults (Err (lines_end.Answering (run_end.Serve serve_end.InputTooLong))) s = record {
+  codes = (6, omega arith, refl);
+  done = λ is. absurd (omega (arith, is));
+  within = λ is. absurd (omega (arith, is));
+  memory = λ is. absurd (omega (arith, is));
+  read = λ is. absurd (omega (arith, is));
+  stopped = λ is. absurd (omega (arith, is));
+  send = λ is. absurd (omega (arith, is));
+  part = λ is. absurd (omega (arith, is));
+  fault = λ is. absurd (omega (arith, is));
+  faulted = λ is. absurd (omega (arith, is));
+  damaged = λ is. absurd (omega (arith, is));
+  undamaged = λ is. absurd (omega (arith, is));
+  much = λ is. told_both left (2 ^ 32 ≡ 2 ^ 32) _ refl s.ends;
+  missing = λ is. absurd (omega (arith, is));
+  misfit = λ is. absurd (omega (arith, is));
+  small = λ is. absurd (omega (arith, is));
+  unopened = λ is. absurd (omega (arith, is));
+  zero_place = λ is. absurd (omega (arith, low_code 9 is));
+  crash = s.crash;
+  goes_on = s.goes_on;
+}
+ends_by IsText CanShow old new left left' before now faults (Err (lines_end.Answering (run_end.Serve serve_end.NoMemory))) s = record {
+  codes = (1, omega arith, refl);
+  done = λ is. absurd (omega (arith, is));
+  within = λ is. absurd (omega (arith, is));
+  memory = λ is. s.ends;
+  read = λ is. absurd (omega (arith, is));
+  stopped = λ is. absurd (omega (arith, is));
+  send = λ is. absurd (omega (arith, is));
+  part = λ is. absurd (omega (arith, is));
+  fault = λ is. absurd (omega (arith, is));
+  faulted = λ is. absurd (omega (arith, is));
+  damaged = λ is. absurd (omega (arith, is));
+  undamaged = λ is. absurd (omega (arith, is));
+  much = λ is. absurd (omega (arith, is));
+  missing = λ is. absurd (omega (arith, is));
+  misfit = λ is. absurd (omega (arith, is));
+  small = λ is. absurd (omega (arith, is));
+  unopened = λ is. absurd (omega (arith, is));
+  zero_place = λ is. refl;
+  crash = s.crash;
+  goes_on = s.goes_on;
+}
+ends_by IsText CanShow old new left left' before now faults (Err (lines_end.Answering (run_end.Show (client.Missing key)))) s = record {
+  codes = (7, omega arith, refl);
+  done = λ is. absurd (omega (arith, is));
+  within = λ is. absurd (omega (arith, is));
+  memory = λ is. absurd (omega (arith, is));
+  read = λ is. absurd (omega (arith, is));
+  stopped = λ is. absurd (omega (arith, is));
+  send = λ is. absurd (omega (arith, is));
+  part = λ is. absurd (omega (arith, is));
+  fault = λ is. absurd (omega (arith, is));
+  faulted = λ is. absurd (omega (arith, is));
+  damaged = λ is. absurd (omega (arith, is));
+  undamaged = λ is. absurd (omega (arith, is));
+  much = λ is. absurd (omega (arith, is));
+  missing = λ is. (s.cause.0, told_with left _ _ s.ends (key, refl, s.cause.2));
+  misfit = λ is. absurd (omega (arith, is));
+  small = λ is. absurd (omega (arith, is));
+  unopened = λ is. absurd (omega (arith, is));
+  zero_place = λ is. absurd (omega (arith, low_code 10 is));
+  crash = s.crash;
+  goes_on = s.goes_on;
+}
+ends_by IsText CanShow old new left left' before now faults (Err (lines_end.Answering (run_end.Show (client.BadCoefficient key)))) s = record {
+  codes = (8, omega arith, refl);
+  done = λ is. absurd (omega (arith, is));
+  within = λ is. absurd (omega (arith, is));
+  memory = λ is. absurd (omega (arith, is));
+  read = λ is. absurd (omega (arith, is));
+  stopped = λ is. absurd (omega (arith, is));
+  send = λ is. absurd (omega (arith, is));
+  part = λ is. absurd (omega (arith, is));
+  fault = λ is. absurd (omega (arith, is));
+  faulted = λ is. absurd (omega (arith, is));
+  damaged = λ is. absurd (omega (arith, is));
+  undamaged = λ is. absurd (omega (arith, is));
+  much = λ is. absurd (omega (arith, is));
+  missing = λ is. absurd (omega (arith, is));
+  misfit = λ is. (s.cause.0, told_with left _ _ s.ends (key, refl, s.cause.2));
+  small = λ is. absurd (omega (arith, is));
+  unopened = λ is. absurd (omega (arith, is));
+  zero_place = λ is. absurd (omega (arith, low_code 11 is));
+  crash = s.crash;
+  goes_on = s.goes_on;
+}
+ends_by IsText CanShow old new left left' before now faults (Err (lines_end.Answering (run_end.Show (client.UnknownSession number)))) s = record {
+  codes = (10, omega arith, refl);
+  done = λ is. absurd (omega (arith, is));
+  within = λ is. absurd (omega (arith, is));
+  memory = λ is. absurd (omega (arith, is));
+  read = λ is. absurd (omega (arith, is));
+  stopped = λ is. absurd (omega (arith, is));
+  send = λ is. absurd (omega (arith, is));
+  part = λ is. absurd (omega (arith, is));
+  fault = λ is. absurd (omega (arith, is));
+  faulted = λ is. absurd (omega (arith, is));
+  damaged = λ is. absurd (omega (arith, is));
+  undamaged = λ is. absurd (omega (arith, is));
+  much = λ is. absurd (omega (arith, is));
+  missing = λ is. absurd (omega (arith, is));
+  misfit = λ is. absurd (omega (arith, is));
+  small = λ is. absurd (omega (arith, is));
+  unopened = λ is. (s.cause.0, told_with left _ _ s.ends s.cause.1);
+  zero_place = λ is. absurd (omega (arith, low_code 15 is));
+  crash = s.crash;
+  goes_on = s.goes_on;
+}
+ends_by IsText CanShow old new left left' before now faults (Err (lines_end.Answering (run_end.Show client.NoMemory))) s = record {
+  codes = (1, omega arith, refl);
+  done = λ is. absurd (omega (arith, is));
+  within = λ is. absurd (omega (arith, is));
+  memory = λ is. s.ends;
+  read = λ is. absurd (omega (arith, is));
+  stopped = λ is. absurd (omega (arith, is));
+  send = λ is. absurd (omega (arith, is));
+  part = λ is. absurd (omega (arith, is));
+  fault = λ is. absurd (omega (arith, is));
+  faulted = λ is. absurd (omega (arith, is));
+  damaged = λ is. absurd (omega (arith, is));
+  undamaged = λ is. absurd (omega (arith, is));
+  much = λ is. absurd (omega (arith, is));
+  missing = λ is. absurd (omega (arith, is));
+  misfit = λ is. absurd (omega (arith, is));
+  small = λ is. absurd (omega (arith, is));
+  unopened = λ is. absurd (omega (arith, is));
+  zero_place = λ is. refl;
+  crash = s.crash;
+  goes_on = s.goes_on;
+}
+
+-- the keys of the ends have numbers
+pub numbered_by : {T : Type 0} (CanShow : Type 0) (old new : View) (faults : Faults) (answer : Result T LinesEnd) → IfErr answer (λ end. IsWorldCause CanShow old new faults end) → IfErr answer HasNumberedKey
+numbered_by CanShow old new faults (Ok u) is = tt
+numbered_by CanShow old new faults (Err (lines_end.Opening cause)) is = tt
+numbered_by CanShow old new faults (Err (lines_end.Answering (run_end.Serve end))) is = tt
+numbered_by CanShow old new faults (Err (lines_end.Answering (run_end.Show (client.Missing key)))) is = is.1
+numbered_by CanShow old new faults (Err (lines_end.Answering (run_end.Show (client.BadCoefficient key)))) is = is.1
+numbered_by CanShow old new faults (Err (lines_end.Answering (run_end.Show (client.UnknownSession number)))) is = tt
+numbered_by CanShow old new faults (Err (lines_end.Answering (run_end.Show client.NoMemory))) is = tt
+
+pub ends_so : {T : Type 0} (IsText : Says) (CanShow : Type 0) (old new : View) (left left' before now : Option (List ℕ)) (faults : Faults) (answer : Result T LinesEnd) (status : Status) → status ≡ status_by answer → ServesWorld IsText CanShow old new left left' before now faults answer
+    → EndsBy IsText CanShow old new left left' before now faults status.code status.place
+ends_so IsText CanShow old new left left' before now faults answer status is s =
+    let P : Status → Type 0 = λ x. EndsBy IsText CanShow old new left left' before now faults x.code x.place in
+    subst P (sym is) (ends_by IsText CanShow old new left left' before now faults answer s)

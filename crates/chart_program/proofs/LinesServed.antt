@@ -1,0 +1,251 @@
+-- What a service did over a disk is what a serving command does.
+use Rattle.std.proofs.Common.{◌≡◌, ℕ, ◌+◌, ◌≤◌, ◌^◌, Bool, List, [], length, Option, Some, None, Result, Ok, Err, IfSome, refl, sym, ap, subst, arith}
+use Rattle.std.specs.Prelude.{OnOk, IfErr}
+use Rattle.block_disk.specs.View.{View, Honest, sent_now}
+use Rattle.chart_client.specs.Showing.{ScreenGives}
+use Rattle.chart_client.specs.declared.errors.ClientError.TheVariants as client
+use Rattle.chart_client.specs.declared.holding.Holding.{Holding}
+use Rattle.gate_pages.specs.GatePages.{IsClosed, pages_view}
+use Rattle.gate_pages.specs.Journal.{pages_of}
+use Rattle.gate_pages.specs.Pages.{GoesOn}
+use Rattle.gate_pages.specs.GateLaws.{goes_none}
+use Rattle.series_book.specs.declared.one_series.Series.{Series}
+use Rattle.store_catalog.specs.declared.stored_series.StoredSeries.{StoredSeries}
+use Rattle.store_open.specs.Held.{HoldsBook}
+use Rattle.stored_book.specs.Standing.{StandsForBook}
+use Rattle.zoom_session.specs.declared.session.Session.{Session}
+use Rattle.chart_service.specs.State.{IsSound}
+use Rattle.chart_service.specs.Moments.{Since, IsAhead}
+use Rattle.chart_service.specs.Serving.{AreSpelled, SendsText, EndsServe}
+use Rattle.chart_service.specs.Serving as serving
+use Rattle.chart_service.specs.Stepping.{StandsAfter, state_of}
+use Rattle.chart_service.specs.declared.failure.ServeEnd.{ServeEnd}
+use Rattle.chart_service.specs.declared.failure.ServeEnd.TheVariants as serve_end
+use Rattle.chart_program.specs.declared.run_end.RunEnd.{RunEnd}
+use Rattle.chart_program.specs.declared.run_end.RunEnd.TheVariants as run_end
+use Rattle.chart_program.specs.Runs.{AreShown, AreShownFrom, EndsRun, EndsAtBad, IsShown}
+use Rattle.chart_program.specs.Served.{Says, Spelled, AreTexts, Faults, OfBook, AnswersAll, EndsServing, EndsLines, LeavesBooks, IsAheadOn, IsBadPlace, IsLinesCause, ServesLines, served}
+use Rattle.chart_program.specs.Start.{begun}
+use Rattle.chart_program.proofs.Lowering.{stands_held, crash_for, from_book, serve_ends, text_ends, leaves_lowered}
+use Rattle.chart_program.proofs.Answering.{told_so}
+use Rattle.chart_program.proofs.Moments.{since_none}
+use Rattle.chart_program.proofs.RunStands.{after_so}
+use Rattle.chart_program.proofs.Telling.{OneFrame, AllDraw, OneLacks, Numbered, ahead_told, any_texts, texts_all}
+use Rattle.chart_program.proofs.World.{SaysNothing, some_none, ahead_none}
+
+-- what is told
+both_so : (o b : Option (List ℕ)) (P Q : List ℕ → Type 0) → ((input : List ℕ) → P input → Q input) → IfSome o (λ input. IfSome b (λ bytes. P input)) → IfSome o (λ input. IfSome b (λ bytes. Q input))
+both_so None b P Q more is = tt
+both_so (Some input) None P Q more is = tt
+both_so (Some input) (Some bytes) P Q more is = more input is
+
+told_for : (o : Option (List ℕ)) (Pre : ℕ → List Series → Type 0) (X : ℕ → List Series → List ℕ → Type 0) → ((total : ℕ) (book : List Series) → Pre total book → IfSome o (λ input. X total book input)) → IfSome o (λ input. (total : ℕ) (book : List Series) → Pre total book → X total book input)
+told_for None Pre X all = tt
+told_for (Some input) Pre X all = all
+
+for_told : (o : Option (List ℕ)) (P : List ℕ → Type 0) → ((input : List ℕ) → o ≡ Some input → P input) → IfSome o P
+for_told None P all = tt
+for_told (Some input) P all = all input refl
+
+of_told : (o : Option (List ℕ)) (input : List ℕ) (P : List ℕ → Type 0) → o ≡ Some input → IfSome o P → P input
+of_told o input P is all = let Q : Option (List ℕ) → Type 0 = λ x. IfSome x P in subst Q is all
+
+-- a page that was found bad is a bad place
+pub bad_place : (count count' : ℕ) (new : View) (catalog : List StoredSeries) (total page : ℕ) → count' ≡ count → serving.EndsAtBad (Honest new) catalog (pages_of count' new.image) total (serve_end.Damaged page) → IsBadPlace count new (66 + page)
+bad_place count count' new catalog total page same bad =
+    let P : ℕ → Type 0 = λ c. serving.EndsAtBad (Honest new) catalog (pages_of c new.image) total (serve_end.Damaged page) in
+    record { page = page; place_is = refl; catalog = catalog; total = total; bad = subst P same bad }
+
+-- the causes of a serving
+pub serve_cause : (count count' : ℕ) (old new : View) (faults : Faults) (catalog : List StoredSeries) (total : ℕ) (CanShow : Type 0) (end : ServeEnd) → count' ≡ count
+    → (end ≡ serve_end.ReadFault → IsLinesCause CanShow count old new faults (run_end.Serve serve_end.ReadFault)) → (end ≡ serve_end.SendFault → IsLinesCause CanShow count old new faults (run_end.Serve serve_end.SendFault)) → (end ≡ serve_end.DiskFault → IsLinesCause CanShow count old new faults (run_end.Serve serve_end.DiskFault))
+    → serving.EndsAtBad (Honest new) catalog (pages_of count' new.image) total end → IsLinesCause CanShow count old new faults (run_end.Serve end)
+serve_cause count count' old new faults catalog total CanShow serve_end.ReadFault same read send disk bad = read refl
+serve_cause count count' old new faults catalog total CanShow serve_end.SendFault same read send disk bad = send refl
+serve_cause count count' old new faults catalog total CanShow serve_end.DiskFault same read send disk bad = disk refl
+serve_cause count count' old new faults catalog total CanShow (serve_end.Damaged page) same read send disk bad = bad_place count count' new catalog total page same bad
+serve_cause count count' old new faults catalog total CanShow serve_end.InputTooLong same read send disk bad = tt
+serve_cause count count' old new faults catalog total CanShow serve_end.NoMemory same read send disk bad = tt
+
+pub serve_causes : {T : Type 0} (count count' : ℕ) (old new : View) (faults : Faults) (catalog : List StoredSeries) (total : ℕ) (CanShow : Type 0) (answer : Result T ServeEnd) → count' ≡ count
+    → (answer ≡ Err serve_end.ReadFault → IsLinesCause CanShow count old new faults (run_end.Serve serve_end.ReadFault)) → (answer ≡ Err serve_end.SendFault → IsLinesCause CanShow count old new faults (run_end.Serve serve_end.SendFault)) → (answer ≡ Err serve_end.DiskFault → IsLinesCause CanShow count old new faults (run_end.Serve serve_end.DiskFault))
+    → IfErr answer (serving.EndsAtBad (Honest new) catalog (pages_of count' new.image) total) → IfErr answer (λ end. IsLinesCause CanShow count old new faults (run_end.Serve end))
+serve_causes count count' old new faults catalog total CanShow (Ok v) same read send disk bad = tt
+serve_causes count count' old new faults catalog total CanShow (Err end) same read send disk bad =
+    serve_cause count count' old new faults catalog total CanShow end same (λ is. read (ap Err is)) (λ is. send (ap Err is)) (λ is. disk (ap Err is)) bad
+
+-- what is known of a service over the pages of a disk
+module _ (count count' : ℕ) (sound sound' : Bool) (old new : View) (left left' before now : Option (List ℕ)) (faults : Faults) (sessions : List Session)
+    (same : count' ≡ count) (told : Honest old → Honest new) (goes : GoesOn old new) (risen : old.faults ≤ new.faults) where
+  -- ---- a serving with no session open
+
+  abbrev pub AllDone : {T : Type 0} → Result T ServeEnd → List Session → Type 0
+  AllDone answer own = (total : ℕ) (book : List Series) → Honest old → StandsForBook (pages_of count old.image) total book
+      → OnOk answer (IfSome left (λ input. StandsAfter total (pages_of count' new.image) sessions (λ state. SendsText AreSpelled input (state_of book total own) state before now)))
+
+  abbrev pub AllEnds : {T : Type 0} → Result T ServeEnd → List Session → Type 0
+  AllEnds answer own = (total : ℕ) (book : List Series) → Honest old → StandsForBook (pages_of count old.image) total book
+      → IfErr answer (λ end. IfSome left (λ input. EndsServe input (state_of book total own) (pages_of count' new.image) sessions left' before now end))
+
+  abbrev pub AllLasts : List Session → Type 0
+  AllLasts own = (total : ℕ) (book : List Series) → Honest old → StandsForBook (pages_of count old.image) total book
+      → IfSome left (λ input. IfSome before (λ bytes. Since (pages_view count sound old) (pages_view count' sound' new) (IsAhead AreSpelled input total (state_of book total own) (sent_now (pages_view count sound old)))))
+
+  serve_crash : AllLasts [] → IfSome left (λ input. IfSome before (λ bytes. LeavesBooks Spelled count input old new))
+  serve_crash lasts =
+      let X : ℕ → List Series → List ℕ → Type 0 = λ total book input. Since (pages_view count sound old) (pages_view count' sound' new) (IsAhead AreSpelled input total (begun total book) (sent_now (pages_view count sound old))) in
+      both_so left before (λ input. OfBook count old (λ total book. X total book input)) (λ input. LeavesBooks Spelled count input old new)
+      (λ input all. leaves_lowered Spelled count count' sound sound' old new input same goes all)
+      (crash_for left before (λ total book. HoldsBook count total book old) X (λ total book holds. lasts total book holds.honest (stands_held count total book old holds)))
+
+  serve_alone : {T : Type 0} (answer : Result T ServeEnd) → AllDone answer [] → OnOk answer (IfSome left (λ input. length input ≤ 2 ^ 32)) → AllEnds answer [] → AllLasts [] → ((answer ≡ Err serve_end.DiskFault → ⊥) → IsClosed new)
+      → IfErr answer (λ end. IsLinesCause ⊥ count old new faults (run_end.Serve end)) → ServesLines Spelled ⊥ count old new left left' before now faults (served answer)
+  serve_alone {T} (Ok v) done within ends lasts closed cause =
+      let X : ℕ → List Series → List ℕ → Type 0 = λ total book input. StandsAfter total (pages_of count' new.image) sessions (λ state. SendsText AreSpelled input (begun total book) state before now) in
+      record {
+        done = told_so (λ input. OfBook count old (λ total book. X total book input)) (λ input. AnswersAll Spelled count old new input before now) left
+            (λ input all. from_book count count' old new same told sessions (λ start state. SendsText AreSpelled input start state before now) (closed (λ e. cc)) all)
+            (told_for left (λ total book. HoldsBook count total book old) X (λ total book holds. done total book holds.honest (stands_held count total book old holds)));
+        within = within;
+        ends = tt;
+        crash = serve_crash lasts;
+        cause = tt;
+        goes_on = goes;
+        risen = risen;
+      }
+  serve_alone {T} (Err end) done within ends lasts closed cause =
+      let X : ℕ → List Series → List ℕ → Type 0 = λ total book input. EndsServe input (begun total book) (pages_of count' new.image) sessions left' before now end in
+      record {
+        done = tt;
+        within = tt;
+        ends = told_so (λ input. OfBook count old (λ total book. X total book input)) (λ input. EndsServing Spelled count old new input left' before now end) left
+            (λ input all. serve_ends count count' old new same told sessions input left' before now end (λ other. closed (λ e. other (cc))) all)
+            (told_for left (λ total book. HoldsBook count total book old) X (λ total book holds. ends total book holds.honest (stands_held count total book old holds)));
+        crash = serve_crash lasts;
+        cause = cause;
+        goes_on = goes;
+        risen = risen;
+      }
+
+  pub serve_made : {T : Type 0} (answer : Result T ServeEnd) (own : List Session) → own ≡ [] → AllDone answer own → OnOk answer (IfSome left (λ input. length input ≤ 2 ^ 32)) → AllEnds answer own → AllLasts own → ((answer ≡ Err serve_end.DiskFault → ⊥) → IsClosed new)
+      → IfErr answer (λ end. IsLinesCause ⊥ count old new faults (run_end.Serve end)) → ServesLines Spelled ⊥ count old new left left' before now faults (served answer)
+  serve_made {T} answer own alone done within ends lasts closed cause =
+      let D : List Session → Type 0 = λ s. AllDone answer s in
+      let E : List Session → Type 0 = λ s. AllEnds answer s in
+      let L : List Session → Type 0 = λ s. AllLasts s in
+      serve_alone answer (subst D alone done) within (subst E alone ends) (subst L alone lasts) closed cause
+
+  -- ---- a run over a screen that holds nothing yet
+
+  abbrev pub RunDone : {T : Type 0} → Result T RunEnd → List Holding → List Holding → List Session → Type 0
+  RunDone answer v h own = (total : ℕ) (book : List Series) → Honest old → StandsForBook (pages_of count old.image) total book
+      → OnOk answer (StandsAfter total (pages_of count' new.image) sessions (λ state. IfSome left (λ input. SendsText (AreShown ScreenGives v h) input (state_of book total own) state before now)))
+
+  abbrev pub RunEnds : {T : Type 0} → Result T RunEnd → List Holding → List Holding → List Session → Type 0
+  RunEnds answer v h own = (total : ℕ) (book : List Series) → Honest old → StandsForBook (pages_of count old.image) total book
+      → IfErr answer (λ end. EndsRun ScreenGives v h left (state_of book total own) (pages_of count' new.image) sessions left' before now end)
+
+  abbrev pub RunLasts : List Holding → List Session → Type 0
+  RunLasts v own = (total : ℕ) (book : List Series) → Honest old → StandsForBook (pages_of count old.image) total book
+      → IfSome left (λ input. IfSome before (λ bytes. Since (pages_view count sound old) (pages_view count' sound' new) (IsAhead (AreShownFrom ScreenGives v) input total (state_of book total own) (sent_now (pages_view count sound old)))))
+
+  abbrev pub AreSoundStarts : List Session → Type 0
+  AreSoundStarts own = (total : ℕ) (book : List Series) → Honest old → StandsForBook (pages_of count old.image) total book → IsSound (state_of book total own)
+
+  module _ (one : OneFrame) (draws : AllDraw) (lacks : OneLacks) where
+    started : AreSoundStarts [] → (total : ℕ) (book : List Series) → HoldsBook count total book old → IsSound (begun total book)
+    started starts total book holds = starts total book holds.honest (stands_held count total book old holds)
+
+    run_crash : AreSoundStarts [] → RunLasts [] [] → IfSome left (λ input. IfSome before (λ bytes. LeavesBooks AreTexts count input old new))
+    run_crash starts lasts =
+        let X : ℕ → List Series → List ℕ → Type 0 = λ total book input. Since (pages_view count sound old) (pages_view count' sound' new) (IsAhead (AreShownFrom ScreenGives []) input total (begun total book) (sent_now (pages_view count sound old))) in
+        both_so left before (λ input. OfBook count old (λ total book. X total book input)) (λ input. LeavesBooks AreTexts count input old new)
+        (λ input all. leaves_lowered AreTexts count count' sound sound' old new input same goes (λ total book holds.
+        let since = all total book holds in
+        record {
+          goes = since.goes;
+          here = λ at image low high left_by. ahead_told (AreShownFrom ScreenGives []) (AreTexts (begun total book)) input total (begun total book) (sent_now (pages_view count sound old)) image (new.sent_by at)
+              (any_texts one draws (begun total book) refl (started starts total book holds)) (since.here at image low high left_by);
+        }))
+        (crash_for left before (λ total book. HoldsBook count total book old) X (λ total book holds. lasts total book holds.honest (stands_held count total book old holds)))
+
+    run_alone : {T : Type 0} (answer : Result T RunEnd) (h : List Holding) → AreSoundStarts [] → RunDone answer [] h [] → OnOk answer (IfSome left (λ input. length input ≤ 2 ^ 32)) → RunEnds answer [] h [] → RunLasts [] [] → ((answer ≡ Err (run_end.Serve serve_end.DiskFault) → ⊥) → IsClosed new)
+        → IfErr answer (IsLinesCause (Unit {0}) count old new faults) → ServesLines AreTexts (Unit {0}) count old new left left' before now faults answer
+    run_alone {T} (Ok v) h starts done within ends lasts closed cause = record {
+      done = for_told left (λ input. AnswersAll AreTexts count old new input before now) (λ input is.
+          from_book count count' old new same told sessions (λ start state. SendsText (AreTexts start) input start state before now) (closed (λ e. cc)) (λ total book holds.
+          after_so total (pages_of count' new.image) (pages_of count' new.image) sessions sessions (λ state. IfSome left (λ given. SendsText (AreShown ScreenGives [] h) given (begun total book) state before now)) (λ state. SendsText (AreTexts (begun total book)) input (begun total book) state before now) refl refl
+          (λ state sends. texts_all one draws (begun total book) refl (started starts total book holds) input state h before now (of_told left input (λ given. SendsText (AreShown ScreenGives [] h) given (begun total book) state before now) is sends))
+          (done total book holds.honest (stands_held count total book old holds))));
+      within = within;
+      ends = tt;
+      crash = run_crash starts lasts;
+      cause = tt;
+      goes_on = goes;
+      risen = risen;
+    }
+    run_alone {T} (Err end) h starts done within ends lasts closed cause = record {
+      done = tt;
+      within = tt;
+      ends = for_told left (λ input. EndsLines AreTexts count old new input left' before now end) (λ input is.
+          text_ends count count' old new same told one draws lacks (started starts) h sessions input left' before now end (λ other. closed (λ e. other (cc))) (λ total book holds.
+          let O : Option (List ℕ) → Type 0 = λ o. EndsRun ScreenGives [] h o (begun total book) (pages_of count' new.image) sessions left' before now end in
+          subst O is (ends total book holds.honest (stands_held count total book old holds))));
+      crash = run_crash starts lasts;
+      cause = cause;
+      goes_on = goes;
+      risen = risen;
+    }
+
+    pub run_made : {T : Type 0} (answer : Result T RunEnd) (v h : List Holding) (own : List Session) → v ≡ [] → own ≡ [] → AreSoundStarts own → RunDone answer v h own → OnOk answer (IfSome left (λ input. length input ≤ 2 ^ 32)) → RunEnds answer v h own → RunLasts v own
+        → ((answer ≡ Err (run_end.Serve serve_end.DiskFault) → ⊥) → IsClosed new) → IfErr answer (IsLinesCause (Unit {0}) count old new faults) → ServesLines AreTexts (Unit {0}) count old new left left' before now faults answer
+    run_made {T} answer v h own none alone starts done within ends lasts closed cause =
+        let D : List Session → Type 0 = λ s. RunDone answer [] h s in
+        let E : List Session → Type 0 = λ s. RunEnds answer [] h s in
+        let L : List Session → Type 0 = λ s. RunLasts [] s in
+        let S : List Session → Type 0 = λ s. AreSoundStarts s in
+        let DV : List Holding → Type 0 = λ w. RunDone answer w h own in
+        let EV : List Holding → Type 0 = λ w. RunEnds answer w h own in
+        let LV : List Holding → Type 0 = λ w. RunLasts w own in
+        run_alone answer h (subst S alone starts) (subst D alone (subst DV none done)) within (subst E alone (subst EV none ends)) (subst L alone (subst LV none lasts)) closed cause
+
+-- the causes of a run over a screen
+pub run_cause : Numbered → (count count' : ℕ) (old new : View) (faults : Faults) (catalog : List StoredSeries) (total : ℕ) (end : RunEnd) → count' ≡ count
+    → (end ≡ run_end.Serve serve_end.ReadFault → IsLinesCause (Unit {0}) count old new faults (run_end.Serve serve_end.ReadFault)) → (end ≡ run_end.Serve serve_end.SendFault → IsLinesCause (Unit {0}) count old new faults (run_end.Serve serve_end.SendFault)) → (end ≡ run_end.Serve serve_end.DiskFault → IsLinesCause (Unit {0}) count old new faults (run_end.Serve serve_end.DiskFault))
+    → EndsAtBad (Honest new) catalog (pages_of count' new.image) total end → IsShown ScreenGives end → IsLinesCause (Unit {0}) count old new faults end
+run_cause law count count' old new faults catalog total (run_end.Serve end) same read send disk bad shown =
+    serve_cause count count' old new faults catalog total (Unit {0}) end same (λ e. read (ap run_end.Serve e)) (λ e. send (ap run_end.Serve e)) (λ e. disk (ap run_end.Serve e)) bad
+run_cause law count count' old new faults catalog total (run_end.Show (client.Missing key)) same read send disk bad shown =
+    (tt, law shown.3.0.frame shown.0 (client.Missing key) shown.3.0.rejects, record { frame = shown.3.0.frame; held = shown.0; rejects = shown.3.0.rejects })
+run_cause law count count' old new faults catalog total (run_end.Show (client.BadCoefficient key)) same read send disk bad shown =
+    (tt, law shown.3.0.frame shown.0 (client.BadCoefficient key) shown.3.0.rejects, record { frame = shown.3.0.frame; held = shown.0; rejects = shown.3.0.rejects })
+run_cause law count count' old new faults catalog total (run_end.Show (client.UnknownSession number)) same read send disk bad shown =
+    (tt, record { frame = shown.3.0.frame; held = shown.0; rejects = shown.3.0.rejects })
+run_cause law count count' old new faults catalog total (run_end.Show client.NoMemory) same read send disk bad shown = tt
+
+pub run_causes : {T : Type 0} → Numbered → (count count' : ℕ) (old new : View) (faults : Faults) (catalog : List StoredSeries) (total : ℕ) (answer : Result T RunEnd) → count' ≡ count
+    → (answer ≡ Err (run_end.Serve serve_end.ReadFault) → IsLinesCause (Unit {0}) count old new faults (run_end.Serve serve_end.ReadFault)) → (answer ≡ Err (run_end.Serve serve_end.SendFault) → IsLinesCause (Unit {0}) count old new faults (run_end.Serve serve_end.SendFault)) → (answer ≡ Err (run_end.Serve serve_end.DiskFault) → IsLinesCause (Unit {0}) count old new faults (run_end.Serve serve_end.DiskFault))
+    → IfErr answer (EndsAtBad (Honest new) catalog (pages_of count' new.image) total) → IfErr answer (IsShown ScreenGives) → IfErr answer (IsLinesCause (Unit {0}) count old new faults)
+run_causes law count count' old new faults catalog total (Ok v) same read send disk bad shown = tt
+run_causes law count count' old new faults catalog total (Err end) same read send disk bad shown =
+    run_cause law count count' old new faults catalog total end same (λ is. read (ap Err is)) (λ is. send (ap Err is)) (λ is. disk (ap Err is)) bad shown
+
+-- want of memory for a service or a screen
+pub made_none : {T : Type 0} (IsText : Says) (CanShow : Type 0) (count : ℕ) (at : View) (left before : Option (List ℕ)) (faults : Faults) → SaysNothing IsText → ServesLines {T = T} IsText CanShow count at at left left before before faults (Err (run_end.Serve serve_end.NoMemory))
+made_none {T} IsText CanShow count at left before faults none = record {
+  done = tt;
+  within = tt;
+  ends = for_told left (λ input. EndsLines IsText count at at input left before before (run_end.Serve serve_end.NoMemory)) (λ input is. some_none IsText count at at input before none (λ total book holds. holds));
+  crash = for_told left (λ input. IfSome before (λ bytes. LeavesBooks IsText count input at at)) (λ input is.
+      for_told before (λ bytes. LeavesBooks IsText count input at at) (λ bytes is_told total book holds.
+      since_none at (IsAheadOn (IsText (begun total book)) input count total (begun total book) (sent_now at)) (λ image left_by.
+      ahead_none IsText input count total book (sent_now at) image (sent_now at) none (holds.images image left_by) refl)));
+  cause = tt;
+  goes_on = goes_none at;
+  risen = omega arith;
+}
+
+pub same_answer : {T : Type 0} (IsText : Says) (CanShow : Type 0) (count : ℕ) (old new : View) (left left' before now : Option (List ℕ)) (faults : Faults) (answer answer' : Result T RunEnd) → answer' ≡ answer → ServesLines IsText CanShow count old new left left' before now faults answer → ServesLines IsText CanShow count old new left left' before now faults answer'
+same_answer {T} IsText CanShow count old new left left' before now faults answer answer' same s =
+    let A : Result T RunEnd → Type 0 = λ a. ServesLines IsText CanShow count old new left left' before now faults a in
+    subst A (sym same) s

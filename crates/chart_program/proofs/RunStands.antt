@@ -1,0 +1,219 @@
+-- How far `run_on` has come, over pages that stand for a book.
+use Rattle.std.proofs.Common.{◌≡◌, ℕ, ◌+◌, ◌-◌, ◌^◌, ◌<◌, ◌≤◌, List, [], ◌++◌, length, Option, Some, None, Result, Ok, Err, IfSome, length-append, refl, ap, subst, sym, ◌∙◌, arith}
+use Rattle.std.specs.Prelude.{IfErr, IsErrAnd}
+use Rattle.block_disk.specs.Streams.{left_after}
+use Rattle.block_disk.specs.View.{Image, View, Now, Only, Passes, sent_now}
+use Rattle.chart_world.specs.declared.line_answer.LineFault.{LineFault}
+use Rattle.chart_world.specs.declared.line_answer.LineFault.TheVariants as fault
+use Rattle.chart_world.specs.Reading.{Reading, unread_input, unread, told_lines, input_length, NoLineIn}
+use Rattle.series_book.specs.declared.one_series.Series.{Series}
+use Rattle.stored_book.specs.Standing.{StandsForBook}
+use Rattle.zoom_session.specs.declared.session.Session.{Session}
+use Rattle.chart_service.specs.State.{State}
+use Rattle.chart_service.specs.Moments.{Since, IsAhead}
+use Rattle.chart_service.specs.Serving.{SendsText, SendsLines, end_of}
+use Rattle.chart_service.specs.Stepping.{StandsAfter, state_of}
+use Rattle.chart_service.specs.declared.failure.ServeEnd.TheVariants.{ReadFault, SendFault, DiskFault, Damaged, InputTooLong, NoMemory}
+use Rattle.chart_program.specs.declared.run_end.RunEnd.{RunEnd}
+use Rattle.chart_program.specs.declared.run_end.RunEnd.TheVariants.{Serve, Show}
+use Rattle.chart_program.specs.Runs.{Gives as ShowGives, AreShown, AreShownFrom, EndsRunAt, EndsRun, LineDone, LineStopsAt, LineStops, LongLineDone, LongLineStops}
+use Rattle.chart_program.specs.Sending.{Through, LineMoments}
+use Rattle.chart_program.proofs.Answering.{Progress, Gives, starts, done, first_at, told_so, no_rest}
+use Rattle.chart_program.proofs.Moments.{through_by, through_so, since_then, since_none, sent_is, at_rest, at_line}
+use Rattle.chart_program.proofs.Running.{line_done, long_line_done, lines_fault, line_stops, long_line_stops, no_memory}
+
+-- an error that is passed on
+pub error_is : {T E : Type 0} (r : Result T E) (e : E) → IsErrAnd r (λ x. x ≡ e) → r ≡ Err e
+error_is (Ok v) e is = absurd is
+error_is (Err x) e is = ap Err is
+
+pub error_goes : {T E : Type 0} (Q : E → Type 0) (r : Result T E) (from : E) → IsErrAnd r (λ e. e ≡ from) → Q from → IfErr r Q
+error_goes Q (Ok v) from is so = tt
+error_goes Q (Err e) from is so = subst Q (sym is) so
+
+-- an input that was read to its end has no more bytes than the lines that were given
+pub read_whole : (o left : Option (List ℕ)) (r : Reading) (most : ℕ) → IfSome (told_lines (unread r left)) (λ all. all ≡ []) → r.taken ≡ r.given + length r.pending → r.given ≤ most → input_length r.taken left ≡ input_length 0 o → IfSome o (λ input. length input ≤ most)
+read_whole None left r most none counted few whole = tt
+read_whole (Some input) None r most none counted few whole = cc
+read_whole (Some input) (Some l) r most none counted few whole =
+    let sum : r.taken + length l ≡ 0 + length input = cc in
+    omega (arith, sum, counted, few, ap length (no_rest (r.pending ++ l) none), length-append r.pending l)
+
+-- what holds behind a call holds where equals stand for equals
+pub after_so : (total : ℕ) (image image' : Image) (sessions sessions' : List Session) (P Q : State → Type 0) → image' ≡ image → sessions' ≡ sessions → ((s : State) → P s → Q s) → StandsAfter total image sessions P → StandsAfter total image' sessions' Q
+after_so total image image' sessions sessions' P Q same same_sessions more after =
+    let I : Image → Type 0 = λ i. StandsForBook i total after.book in
+    let S : List Session → Type 0 = λ s. Q (state_of after.book total s) in
+    record { book = after.book; stands = subst I (sym same) after.stands; so = subst S (sym same_sessions) (more (state_of after.book total sessions) after.so) }
+
+-- a run from the book at its start, whose input may be told
+module _ {V : Type 0} (gives : ShowGives V) (v : V) (o : Option (List ℕ)) (total : ℕ) (book : List Series) (own : List Session) (before : Option (List ℕ)) where
+  abbrev first : State
+  first = state_of book total own
+
+  -- how far the lines are answered, in this state
+  abbrev pub Far : V → Reading → Option (List ℕ) → Option (List ℕ) → State → Type 0
+  Far w r left now state = IfSome o (λ input. Progress (AreShown gives v w) input (unread r left) r.given first state before now)
+
+  -- the pages stand for the book that the lines so far have left
+  abbrev pub IsFar : V → Reading → Option (List ℕ) → Option (List ℕ) → Image → List Session → Type 0
+  IsFar w r left now image sessions = StandsAfter total image sessions (Far w r left now)
+
+  -- before the first line
+  pub far_first : (image : Image) (r : Reading) → StandsForBook image total book → r ≡ unread_input → IsFar v r o before image own
+  far_first image r stands fresh = record { book = book; stands = stands; so = starts (AreShown gives v v) o before r first (refl, refl) fresh }
+
+  -- behind a call that leaves the pages and the sessions, and what was sent
+  pub far_kept : (w : V) (r : Reading) (left now now' : Option (List ℕ)) (image image' : Image) (sessions sessions' : List Session) → image' ≡ image → sessions' ≡ sessions → now' ≡ now → IsFar w r left now image sessions → IsFar w r left now' image' sessions'
+  far_kept w r left now now' image image' sessions sessions' same same_sessions same_now far =
+      let N : Option (List ℕ) → Type 0 = λ n. IsFar w r left n image' sessions' in
+      subst N (sym same_now) (after_so total image image' sessions sessions' (Far w r left now) (Far w r left now) same same_sessions (λ s is. is) far)
+
+  -- behind an answered line; later calls may not have taken more
+  pub far_line : (w w' : V) (r r' : Reading) (left left' left'' now later : Option (List ℕ)) (text : List ℕ) (image image' : Image) (sessions sessions' : List Session) → Gives r r' left left' (Some text) → left'' ≡ left'
+      → (far : IsFar w r left now image sessions) → StandsAfter total image' sessions' (λ new. LineDone gives text w w' (state_of far.book total sessions) new now later) → IsFar w' r' left'' later image' sessions'
+  far_line w w' r r' left left' left'' now later text image image' sessions sessions' given same far after =
+      let L : Option (List ℕ) → Type 0 = λ l. IsFar w' r' l later image' sessions' in
+      subst L (sym same) (after_so total image' image' sessions' sessions' (λ new. LineDone gives text w w' (state_of far.book total sessions) new now later) (Far w' r' left' later) refl refl
+      (λ new is. line_done gives o r r' left left' first (state_of far.book total sessions) new v w w' before now later text given is far.so) after)
+
+  pub far_long_line : (w w' : V) (r r' : Reading) (left left' left'' now later : Option (List ℕ)) (image image' : Image) (sessions sessions' : List Session) → Gives r r' left left' None → left'' ≡ left' → image' ≡ image → sessions' ≡ sessions
+      → (far : IsFar w r left now image sessions) → LongLineDone gives w w' (state_of far.book total sessions) now later → IsFar w' r' left'' later image' sessions'
+  far_long_line w w' r r' left left' left'' now later image image' sessions sessions' given same same_image same_sessions far is =
+      let L : Option (List ℕ) → Type 0 = λ l. IsFar w' r' l later image' sessions' in
+      let here : IsFar w' r' left' later image sessions = record {
+        book = far.book;
+        stands = far.stands;
+        so = long_line_done gives o r r' left left' first (state_of far.book total sessions) v w w' before now later given is far.so;
+      } in
+      subst L (sym same) (after_so total image image' sessions sessions' (Far w' r' left' later) (Far w' r' left' later) same_image same_sessions (λ s is. is) here)
+
+  -- ---- how the run ends
+
+  pub all_done : (w : V) (r : Reading) (left now : Option (List ℕ)) (image : Image) (sessions : List Session) → IfSome (told_lines (unread r left)) (λ all. all ≡ []) → IsFar w r left now image sessions
+      → StandsAfter total image sessions (λ new. IfSome o (λ input. SendsText (AreShown gives v w) input first new before now))
+  all_done w r left now image sessions none far =
+      after_so total image image sessions sessions (Far w r left now) (λ new. IfSome o (λ input. SendsText (AreShown gives v w) input first new before now)) refl refl
+      (λ new is. done (AreShown gives v w) o (unread r left) r.given first new before now none is) far
+
+  -- the same, where equals stand for equals
+  pub run_ends : (w : V) (image : Image) (sessions : List Session) (left left' now now' : Option (List ℕ)) (end end' : RunEnd) → left' ≡ left → now' ≡ now → end' ≡ end → EndsRun gives v w o first image sessions left before now end → EndsRun gives v w o first image sessions left' before now' end'
+  run_ends w image sessions left left' now now' end end' same_left same_now same_end ends =
+      let L : Option (List ℕ) → Type 0 = λ x. EndsRun gives v w o first image sessions x before now end in
+      let N : Option (List ℕ) → Type 0 = λ x. EndsRun gives v w o first image sessions left' before x end in
+      let E : RunEnd → Type 0 = λ x. EndsRun gives v w o first image sessions left' before now' x in
+      subst E (sym same_end) (subst N (sym same_now) (subst L (sym same_left) ends))
+
+  -- want of memory before the first line
+  pub no_memory_first : (image : Image) (left : Option (List ℕ)) (end : RunEnd) → StandsForBook image total book → end ≡ Serve NoMemory → EndsRun gives v v o first image own left before before end
+  no_memory_first image left end stands is =
+      let E : RunEnd → Type 0 = λ e. EndsRun gives v v o first image own left before before e in
+      subst E (sym is) (record {
+        book = book;
+        stands = stands;
+        so = no_memory gives o (unread unread_input o) 0 first first first v v v left before before before refl (refl, refl) (starts (AreShown gives v v) o before unread_input first (refl, refl) refl);
+      })
+
+  -- at a fault of the lines
+  pub ends_lines : (w : V) (r r' : Reading) (left left' now : Option (List ℕ)) (image : Image) (sessions : List Session) (f : LineFault)
+      → (f ≡ fault.ReadFault → NoLineIn (r'.taken - r.given) (unread r left)) → (f ≡ fault.InputTooLong → NoLineIn (2 ^ 32 - r.given) (unread r left)) → (f ≡ fault.InputTooLong → 2 ^ 32 < r'.taken)
+      → left' ≡ left_after (r'.taken - r.given) (unread r left) → r.taken ≡ r.given + length r.pending → input_length r'.taken left' ≡ input_length r.taken left
+      → IsFar w r left now image sessions → EndsRun gives v w o first image sessions left' before now (Serve (end_of f))
+  ends_lines w r r' left left' now image sessions fault.ReadFault read far past after counted sum is =
+      after_so total image image sessions sessions (Far w r left now) (λ new. IfSome o (λ input. EndsRunAt gives v w input first new left' before now (Serve ReadFault))) refl refl
+      (λ new so. lines_fault gives o r r' left left' first new v w before now fault.ReadFault read far past after counted sum so) is
+  ends_lines w r r' left left' now image sessions fault.InputTooLong read far past after counted sum is =
+      after_so total image image sessions sessions (Far w r left now) (λ new. IfSome o (λ input. EndsRunAt gives v w input first new left' before now (Serve InputTooLong))) refl refl
+      (λ new so. lines_fault gives o r r' left left' first new v w before now fault.InputTooLong read far past after counted sum so) is
+
+  -- at a line
+  module _ (w w' : V) (r r' : Reading) (left left' now later : Option (List ℕ)) (image image' : Image) (sessions sessions' : List Session) (far : IsFar w r left now image sessions) where
+    abbrev here : State
+    here = state_of far.book total sessions
+
+    lines_sent : later ≡ now → IfSome o (λ input. SendsLines (AreShown gives v w) input first before later)
+    lines_sent same =
+        let N : Option (List ℕ) → Type 0 = λ n. IfSome o (λ input. SendsLines (AreShown gives v w) input first before n) in
+        subst N (sym same) (told_so (λ input. Progress (AreShown gives v w) input (unread r left) r.given first here before now) (λ input. SendsLines (AreShown gives v w) input first before now) o
+        (λ input p. record { rest = p.rest; between = here; first = first_at (AreShown gives v w) input (unread r left) r.given first here before now p }) far.so)
+
+    stops_at : (text : List ℕ) (end : RunEnd) → Gives r r' left left' (Some text) → StandsAfter total image' sessions' (λ new. LineStopsAt gives text w w' here new now later end)
+        → StandsAfter total image' sessions' (λ new. IfSome o (λ input. EndsRunAt gives v w' input first new left' before later end))
+    stops_at text end given why =
+        after_so total image' image' sessions' sessions' (λ new. LineStopsAt gives text w w' here new now later end) (λ new. IfSome o (λ input. EndsRunAt gives v w' input first new left' before later end)) refl refl
+        (λ new is. line_stops gives o r r' left left' first here new v w w' before now later text end given is far.so) why
+
+    pub ends_line : (text : List ℕ) (end : RunEnd) → Gives r r' left left' (Some text) → LineStops gives text w w' here image' sessions' now later end → EndsRun gives v w' o first image' sessions' left' before later end
+    ends_line text (Serve ReadFault) given why = stops_at text (Serve ReadFault) given why
+    ends_line text (Serve SendFault) given why = stops_at text (Serve SendFault) given why
+    ends_line text (Serve DiskFault) given why = (w, lines_sent why)
+    ends_line text (Serve (Damaged page)) given why = absurd why
+    ends_line text (Serve InputTooLong) given why = stops_at text (Serve InputTooLong) given why
+    ends_line text (Serve NoMemory) given why = stops_at text (Serve NoMemory) given why
+    ends_line text (Show e) given why = stops_at text (Show e) given why
+
+    long_at : (end : RunEnd) → Gives r r' left left' None → image' ≡ image → sessions' ≡ sessions → LongLineStops gives w w' here now later end
+        → StandsAfter total image' sessions' (λ new. IfSome o (λ input. EndsRunAt gives v w' input first new left' before later end))
+    long_at end given same same_sessions why =
+        let Q : State → Type 0 = λ new. IfSome o (λ input. EndsRunAt gives v w' input first new left' before later end) in
+        let at : StandsAfter total image sessions Q = record {
+          book = far.book;
+          stands = far.stands;
+          so = long_line_stops gives o r r' left left' first here v w w' before now later end given why far.so;
+        } in
+        after_so total image image' sessions sessions' Q Q same same_sessions (λ new is. is) at
+
+    pub ends_long_line : (end : RunEnd) → Gives r r' left left' None → image' ≡ image → sessions' ≡ sessions → LongLineStops gives w w' here now later end → EndsRun gives v w' o first image' sessions' left' before later end
+    ends_long_line (Serve ReadFault) given same same_sessions why = long_at (Serve ReadFault) given same same_sessions why
+    ends_long_line (Serve SendFault) given same same_sessions why = long_at (Serve SendFault) given same same_sessions why
+    ends_long_line (Serve DiskFault) given same same_sessions why = absurd why.2
+    ends_long_line (Serve (Damaged page)) given same same_sessions why = absurd why.2
+    ends_long_line (Serve InputTooLong) given same same_sessions why = long_at (Serve InputTooLong) given same same_sessions why
+    ends_long_line (Serve NoMemory) given same same_sessions why = long_at (Serve NoMemory) given same same_sessions why
+    ends_long_line (Show e) given same same_sessions why = long_at (Show e) given same same_sessions why
+
+  -- ---- what a crash leaves
+
+  -- at each moment since the start a crash leaves a book with what was answered by then
+  abbrev pub Lasts : View → View → Type 0
+  Lasts old new = IfSome o (λ input. IfSome before (λ bytes. Since old new (IsAhead (AreShownFrom gives v) input total first (sent_now old))))
+
+-- before the first line
+pub lasts_first : {V : Type 0} (gives : ShowGives V) (v : V) (o before : Option (List ℕ)) (total : ℕ) (book : List Series) (own : List Session) (old : View) (r : Reading) → IsFar gives v o total book own before v r o before old.image own → Only old.image (Now old) → IfSome before (λ bytes. sent_now old ≡ length bytes)
+    → Lasts gives v o total book own before old old
+lasts_first gives v None before total book own old r far only counts = tt
+lasts_first gives v (Some input) None total book own old r far only counts = tt
+lasts_first gives v (Some input) (Some bytes) total book own old r far only counts =
+    let p = far.so in
+    let B : Image → Type 0 = λ image. StandsForBook image total far.book in
+    since_none old (IsAhead (AreShownFrom gives v) input total (state_of book total own) (sent_now old)) (λ image left.
+    at_rest gives v v input (unread r (Some input)) r.given total (sent_now old) (state_of book total own) (state_of far.book total own) (Some bytes) (Some bytes) p refl image (sent_now old)
+    (subst B (sym (only image left)) far.stands) (sent_is bytes p.text (Some bytes) (sent_now old) (sent_now old) counts p.sent counts))
+
+-- behind a take
+pub lasts_take : {V : Type 0} (gives : ShowGives V) (v w : V) (o before now : Option (List ℕ)) (total : ℕ) (book : List Series) (own sessions : List Session) (old mid new : View) (r : Reading) (left : Option (List ℕ)) → IsFar gives v o total book own before w r left now mid.image sessions → Only mid.image (Now mid)
+    → IfSome before (λ bytes. sent_now old ≡ length bytes) → IfSome now (λ bytes. sent_now mid ≡ length bytes) → Passes mid new (Now mid) (λ count. count ≡ sent_now mid) → Lasts gives v o total book own before old mid → Lasts gives v o total book own before old new
+lasts_take gives v w None before now total book own sessions old mid new r left far only counts counts_now passes lasts = tt
+lasts_take gives v w (Some input) None now total book own sessions old mid new r left far only counts counts_now passes lasts = tt
+lasts_take gives v w (Some input) (Some bytes) now total book own sessions old mid new r left far only counts counts_now passes lasts =
+    let p = far.so in
+    let IsSo : Image → ℕ → Type 0 = IsAhead (AreShownFrom gives v) input total (state_of book total own) (sent_now old) in
+    let B : Image → Type 0 = λ image. StandsForBook image total far.book in
+    let sent = sent_is bytes p.text now (sent_now old) (sent_now mid) counts p.sent counts_now in
+    since_then old mid new IsSo lasts (through_by mid new (Now mid) (λ count. count ≡ sent_now mid) IsSo passes (λ image count left_by same.
+    at_rest gives v w input (unread r left) r.given total (sent_now old) (state_of book total own) (state_of far.book total sessions) (Some bytes) now p refl image count
+    (subst B (sym (only image left_by)) far.stands) (same ∙ sent)))
+
+-- behind a line
+pub lasts_line : {V : Type 0} (gives : ShowGives V) (v w : V) (o before now : Option (List ℕ)) (total : ℕ) (book : List Series) (own sessions : List Session) (old mid new : View) (r r' : Reading) (left left' line : Option (List ℕ)) → (far : IsFar gives v o total book own before w r left now mid.image sessions)
+    → IfSome before (λ bytes. sent_now old ≡ length bytes) → IfSome now (λ bytes. sent_now mid ≡ length bytes) → Gives r r' left left' line
+    → Through mid new (LineMoments gives w line (state_of far.book total sessions) (sent_now mid)) → Lasts gives v o total book own before old mid → Lasts gives v o total book own before old new
+lasts_line gives v w None before now total book own sessions old mid new r r' left left' line far counts counts_now given through lasts = tt
+lasts_line gives v w (Some input) None now total book own sessions old mid new r r' left left' line far counts counts_now given through lasts = tt
+lasts_line gives v w (Some input) (Some bytes) now total book own sessions old mid new r r' left left' line far counts counts_now given through lasts =
+    let p = far.so in
+    let IsSo : Image → ℕ → Type 0 = IsAhead (AreShownFrom gives v) input total (state_of book total own) (sent_now old) in
+    let sent = sent_is bytes p.text now (sent_now old) (sent_now mid) counts p.sent counts_now in
+    since_then old mid new IsSo lasts
+    (through_so mid new (LineMoments gives w line (state_of far.book total sessions) (sent_now mid)) IsSo
+    (λ image count is. at_line gives v w input r r' left left' total (sent_now old) (state_of book total own) (state_of far.book total sessions) (Some bytes) now p refl line given image count (sent_now mid) sent is) through)

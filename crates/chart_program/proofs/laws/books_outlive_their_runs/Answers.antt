@@ -1,0 +1,5 @@
+use Rattle.chart_program.proofs.LivesLemmas.{lives_left}
+use Rattle.chart_program.proofs.laws.books_outlive_their_runs.Goals as goal
+
+pub returns : goal.returns
+returns c = lives_left

@@ -1,0 +1,52 @@
+use Rattle.std.proofs.Common.{◌≡◌, Err, sym, subst, ◌∙◌}
+use Rattle.std.specs.Prelude.{IsTrue}
+use Rattle.gate_pages.specs.GatePages.{IsClosed}
+use Rattle.chart_service.specs.declared.failure.ServeEnd.TheVariants.{DiskFault, NoMemory}
+use Rattle.chart_program.specs.declared.run_end.RunEnd.TheVariants.{Serve}
+use Rattle.chart_program.specs.Served.{AreTexts, faults_of, ServesLines}
+use Rattle.chart_program.proofs.LinesServed.{run_made, run_causes, made_none}
+use Rattle.chart_program.proofs.Telling.{texts_none}
+use Rattle.chart_program.proofs.Stores.{store_disk, store_sound}
+use Rattle.chart_program.proofs.lines.run_service.Goals as goal
+
+pub returns-in-Ok : goal.returns-in-Ok
+returns-in-Ok g c =
+    let view = g.W.Disk.view in
+    let left = g.W.Streams.left in
+    let sent = g.W.Streams.sent in
+    let reads = g.W.Streams.read_faults in
+    let sends = g.W.Streams.send_faults in
+    let pages = c.args.service.store.space.pages in
+    let after = c.run_on-answer.new.service in
+    let end_pages = after.store.space.pages in
+    let store = c.into_store.result in
+    let disk = pages.disk in
+    let new = end_pages.disk in
+    let own = c.args.service.sessions in
+    let made = c.run_on-answer.ensures in
+    let faults = faults_of (reads disk) (reads new) (sends disk) (sends new) in
+    let same_disk = c.disk_of.ensures.disk ∙ store_disk store after.store c.into_store.ensures in
+    let closed : (c.run_on-answer.result ≡ Err (Serve DiskFault) → ⊥) → IsClosed (view new) =
+    λ other.
+    let P : g.row.W.Denot → Type 0 = λ d. IsClosed (view d) in
+    subst P same_disk (c.disk_of.ensures.rests (subst IsTrue (sym (store_sound store after.store c.into_store.ensures)) (made.sound other))) in
+    let law = c.frames_have_one_answer.ensures in
+    let all = run_made pages.count end_pages.count pages.sound end_pages.sound (view disk) (view new) (left disk) (left new) (sent disk) (sent new) faults after.sessions made.serves.size made.serves.told made.goes_on made.serves.faults
+    c.one_frame_a_spelling.ensures c.replies_draw_the_book.ensures c.clients_draw_the_book.ensures.accepts c.run_on-answer.result c.in-Ok.screen c.run_on-answer.new.show own c.in-Ok.ensures c.requires.alone
+    (λ total book told stands. c.is_sound.ensures.state total book c.requires.sound told stands) made.done made.within made.ends made.crash closed
+    (run_causes law.numbered pages.count end_pages.count (view disk) (view new) faults after.store.catalog.series.items after.store.space.superblock.total c.run_on-answer.result made.serves.size made.read made.send made.disk made.bad made.shown) in
+    let D : g.row.W.Denot → Type 0 = λ d. ServesLines AreTexts (Unit {0}) pages.count (view disk) (view d) (left disk) (left d) (sent disk) (sent d) (faults_of (reads disk) (reads d) (sends disk) (sends d)) c.run_on-answer.result in
+    subst D (sym same_disk) all
+
+pub returns-in-Err : goal.returns-in-Err
+returns-in-Err g c =
+    let view = g.W.Disk.view in
+    let left = g.W.Streams.left in
+    let sent = g.W.Streams.sent in
+    let reads = g.W.Streams.read_faults in
+    let sends = g.W.Streams.send_faults in
+    let pages = c.args.service.store.space.pages in
+    let disk = pages.disk in
+    let D : g.row.W.Denot → Type 0 = λ d. ServesLines AreTexts (Unit {0}) pages.count (view disk) (view d) (left disk) (left d) (sent disk) (sent d) (faults_of (reads disk) (reads d) (sends disk) (sends d)) (Err (Serve NoMemory)) in
+    subst D (sym (c.disk_of-in-Err.ensures.disk ∙ store_disk c.into_store-in-Err.result c.args.service.store c.into_store-in-Err.ensures))
+    (made_none AreTexts (Unit {0}) pages.count (view disk) (left disk) (sent disk) (faults_of (reads disk) (reads disk) (sends disk) (sends disk)) texts_none)

@@ -1,0 +1,41 @@
+use Rattle.std.proofs.Common.{sym, ap, ◌∙◌}
+use Rattle.block_disk.specs.View.{Beside}
+use Rattle.chart_program.specs.Served.{AreTexts, faults_of}
+use Rattle.chart_program.proofs.Telling.{texts_none}
+use Rattle.chart_program.proofs.World.{serves_opened, serves_not, same_faults}
+use Rattle.chart_program.proofs.lines.run_world.Goals as goal
+
+pub returns-in-Ok : goal.returns-in-Ok
+returns-in-Ok g c =
+    let view = g.W.Disk.view in
+    let left = g.W.Streams.left in
+    let sent = g.W.Streams.sent in
+    let reads = g.W.Streams.read_faults in
+    let sends = g.W.Streams.send_faults in
+    let old = c.args.world in
+    let mid = c.in-Ok.store.space.pages.disk in
+    let new = c.run_lines-answer.result.1 in
+    let beside = c.in-Ok.ensures.opens.beside_is in
+    let w = g.met.W.World in
+    serves_opened AreTexts (Unit {0}) c.in-Ok.store.space.pages.count (view old) (view mid) (view new) (left mid) (left old) (left new) (sent mid) (sent old) (sent new)
+    (faults_of (reads mid) (reads new) (sends mid) (sends new)) (faults_of (reads old) (reads new) (sends old) (sends new)) c.run_lines-answer.result.0 c.of_answering.result texts_none c.in-Ok.ensures.opens c.in-Ok.ensures.count
+    (sym (w.beside_left mid) ∙ ap (λ (b : Beside). b.left) beside ∙ w.beside_left old)
+    (sym (w.beside_sent mid) ∙ ap (λ (b : Beside). b.sent) beside ∙ w.beside_sent old)
+    (same_faults (reads mid) (reads old) (reads new) (sends mid) (sends old) (sends new)
+    (sym (w.beside_read_faults mid) ∙ ap (λ (b : Beside). b.read_faults) beside ∙ w.beside_read_faults old)
+    (sym (w.beside_send_faults mid) ∙ ap (λ (b : Beside). b.send_faults) beside ∙ w.beside_send_faults old))
+    c.of_answering.ensures c.run_lines-answer.ensures
+
+pub returns-in-Err : goal.returns-in-Err
+returns-in-Err g c =
+    let view = g.W.Disk.view in
+    let left = g.W.Streams.left in
+    let sent = g.W.Streams.sent in
+    let reads = g.W.Streams.read_faults in
+    let sends = g.W.Streams.send_faults in
+    let old = c.args.world in
+    let new = c.in-Err.field-0.value in
+    let beside = c.in-Err.ensures.opens.beside_is in
+    let w = g.met.W.World in
+    serves_not AreTexts (Unit {0}) (view old) (view new) (left old) (left new) (sent old) (sent new) (faults_of (reads old) (reads new) (sends old) (sends new)) c.in-Err.field-0.cause texts_none c.in-Err.ensures.opens c.in-Err.ensures.cause c.in-Err.ensures.a_store
+    (sym (w.beside_sent new) ∙ ap (λ (b : Beside). b.sent) beside ∙ w.beside_sent old)

@@ -1,0 +1,17 @@
+use Rattle.chart_program.specs.Served.{AreTexts, faults_of}
+use Rattle.chart_program.proofs.Ended.{numbered_by, ends_so}
+use Rattle.chart_program.proofs.serving.run_status.Goals as goal
+
+pub status_of-requires : goal.status_of-requires
+status_of-requires g c =
+    let old = c.args.world in
+    let new = c.run_world-answer.result.1 in
+    let faults = faults_of (g.W.Streams.read_faults old) (g.W.Streams.read_faults new) (g.W.Streams.send_faults old) (g.W.Streams.send_faults new) in
+    numbered_by (Unit {0}) (g.W.Disk.view old) (g.W.Disk.view new) faults c.run_world-answer.result.0 c.run_world-answer.ensures.cause
+
+pub returns : goal.returns
+returns g c =
+    let old = c.args.world in
+    let new = c.run_world-answer.result.1 in
+    let faults = faults_of (g.W.Streams.read_faults old) (g.W.Streams.read_faults new) (g.W.Streams.send_faults old) (g.W.Streams.send_faults new) in
+    ends_so AreTexts (Unit {0}) (g.W.Disk.view old) (g.W.Disk.view new) (g.W.Streams.left old) (g.W.Streams.left new) (g.W.Streams.sent old) (g.W.Streams.sent new) faults c.run_world-answer.result.0 c.status_of.result c.status_of.ensures c.run_world-answer.ensures

@@ -1,0 +1,198 @@
+-- What a serving command says to the lines of its input, over the book that its disk holds, and what it leaves.
+use Rattle.std.specs.Prelude.{◌≡◌, ℕ, ◌+◌, ◌^◌, ◌<◌, ◌≤◌, List, length, Option, IfSome, Result, Ok, Err, OnOk, IfErr, ⊤}
+use Rattle.block_disk.specs.Counts.{HasRisen}
+use Rattle.block_disk.specs.View.{Image, View, Honest, sent_now}
+use Rattle.chart_client.specs.Accepting.{Rejects}
+use Rattle.chart_client.specs.declared.errors.ClientError.{ClientError}
+use Rattle.chart_client.specs.declared.errors.ClientError.TheVariants as client
+use Rattle.chart_client.specs.declared.holding.Holding.{Holding}
+use Rattle.chart_frames.specs.declared.frame.Frame.{Frame}
+use Rattle.gate_pages.specs.GatePages.{IsReadable}
+use Rattle.gate_pages.specs.Journal.{page_count, pages_of}
+use Rattle.gate_pages.specs.Pages.{GoesOn}
+use Rattle.line_raster.specs.Canvas.{Canvas}
+use Rattle.series_book.specs.declared.one_series.Series.{Series}
+use Rattle.store_catalog.specs.declared.stored_series.StoredSeries.{StoredSeries}
+use Rattle.store_open.specs.Held.{HoldsBook}
+use Rattle.store_open.specs.Openings.{Prevents}
+use Rattle.store_open.specs.declared.causes.OpeningCause.{OpeningCause}
+use Rattle.store_open.specs.declared.causes.OpeningCause.TheVariants as opening
+use Rattle.chart_service.specs.State.{State}
+use Rattle.chart_service.specs.Moments.{Since, IsAhead}
+use Rattle.chart_service.specs.Serving.{AreSpelled, SendsText, SendsFrontOf, SendsTaken, SendsWithin, SendsSome, SendsLines}
+use Rattle.chart_service.specs.Stepping.{IsBadPage}
+use Rattle.chart_service.specs.declared.failure.ServeEnd.{ServeEnd}
+use Rattle.chart_service.specs.declared.failure.ServeEnd.TheVariants as serve_end
+use Rattle.drawn_replies.specs.Pictures.{ArePictured}
+use Rattle.chart_program.specs.declared.lines_end.LinesEnd.{LinesEnd}
+use Rattle.chart_program.specs.declared.lines_end.LinesEnd.TheVariants as lines_end
+use Rattle.chart_program.specs.declared.run_end.RunEnd.{RunEnd}
+use Rattle.chart_program.specs.declared.run_end.RunEnd.TheVariants as run_end
+use Rattle.chart_program.specs.Start.{begun}
+use Rattle.chart_program.specs.Texts.{texts_of}
+
+-- what is said to lines by the frames that answer them from a state on
+abbrev pub Says : Type 1
+Says = State → List (Option (List ℕ)) → List Frame → List ℕ → Type 0
+
+-- the spellings of the frames
+abbrev pub Spelled : Says
+Spelled start = AreSpelled
+
+-- The text of a run: that of each line's frame, with the picture of the book as it is at that line.
+pub record AreTexts (start : State) (lines : List (Option (List ℕ))) (frames : List Frame) (text : List ℕ) : Type 0 where
+  pub drawings : List (Option Canvas)
+  pub state : State
+  pub pictured : ArePictured start lines frames drawings state
+  pub texts : text ≡ texts_of frames drawings
+
+-- this is so of the book that the disk holds
+abbrev pub OfBook : ℕ → View → (ℕ → List Series → Type 0) → Type 0
+OfBook count disk IsSo = (total : ℕ) (book : List Series) → HoldsBook count total book disk → IsSo total book
+
+-- From the book that the disk held this was done, and the disk holds the book that it left.
+abbrev pub FromBook : ℕ → View → View → (State → State → Type 0) → Type 0
+FromBook count old new Done =
+    OfBook count old (λ total book. (state : State) × Done (begun total book) state × HoldsBook count total state.book new)
+
+-- this doesn't come where the disk holds a book
+abbrev pub Never : ℕ → View → Type 0
+Never count disk = OfBook count disk (λ total book. ⊥)
+
+-- the lines of the whole input were answered so
+abbrev pub AnswersAll : Says → ℕ → View → View → List ℕ → Option (List ℕ) → Option (List ℕ) → Type 0
+AnswersAll IsText count old new input before now = FromBook count old new (λ start state. SendsText (IsText start) input start state before now)
+
+-- the first bytes of what answers the first lines were sent
+abbrev pub AnswersFront : Says → ℕ → View → View → List ℕ → Option (List ℕ) → Option (List ℕ) → Type 0
+AnswersFront IsText count old new input before now = FromBook count old new (λ start state. SendsFrontOf (IsText start) input start state before now)
+
+-- all lines that ended among the bytes taken were answered, and these bytes are left
+abbrev pub AnswersTaken : Says → ℕ → View → View → List ℕ → List ℕ → Option (List ℕ) → Option (List ℕ) → Type 0
+AnswersTaken IsText count old new input bytes before now = FromBook count old new (λ start state. SendsTaken (IsText start) input bytes start state before now)
+
+-- all lines that ended among the first 2^32 bytes were answered, and there is a byte more
+abbrev pub AnswersWithin : Says → ℕ → View → View → List ℕ → Option (List ℕ) → Option (List ℕ) → Type 0
+AnswersWithin IsText count old new input before now = FromBook count old new (λ start state. SendsWithin (IsText start) input start state before now)
+
+-- some first lines were answered; the line behind them may have been done too
+abbrev pub AnswersSome : Says → ℕ → View → View → List ℕ → Option (List ℕ) → Option (List ℕ) → Type 0
+AnswersSome IsText count old new input before now = FromBook count old new (λ start state. SendsSome (IsText start) input start state before now)
+
+-- some first lines were answered, at a fault of the disk: what it holds then is said by the moments of the run
+abbrev pub AnswersLines : Says → ℕ → View → List ℕ → Option (List ℕ) → Option (List ℕ) → Type 0
+AnswersLines IsText count old input before now = OfBook count old (λ total book. SendsLines (IsText (begun total book)) input (begun total book) before now)
+
+-- why not all lines were answered, and what was sent
+abbrev pub EndsServing : Says → ℕ → View → View → List ℕ → Option (List ℕ) → Option (List ℕ) → Option (List ℕ) → ServeEnd → Type 0
+EndsServing IsText count old new input left before now serve_end.ReadFault = IfSome left (λ bytes. AnswersTaken IsText count old new input bytes before now)
+EndsServing IsText count old new input left before now serve_end.SendFault = AnswersFront IsText count old new input before now
+EndsServing IsText count old new input left before now serve_end.DiskFault = AnswersLines IsText count old input before now
+EndsServing IsText count old new input left before now (serve_end.Damaged page) = Never count old
+EndsServing IsText count old new input left before now serve_end.InputTooLong = AnswersWithin IsText count old new input before now
+EndsServing IsText count old new input left before now serve_end.NoMemory = AnswersSome IsText count old new input before now
+
+-- the same, where each frame was shown: where the disk holds a book, nothing but want of memory keeps it from that
+abbrev pub EndsLines : Says → ℕ → View → View → List ℕ → Option (List ℕ) → Option (List ℕ) → Option (List ℕ) → RunEnd → Type 0
+EndsLines IsText count old new input left before now (run_end.Serve end) = EndsServing IsText count old new input left before now end
+EndsLines IsText count old new input left before now (run_end.Show client.NoMemory) = AnswersSome IsText count old new input before now
+EndsLines IsText count old new input left before now (run_end.Show e) = Never count old
+
+-- ---- crashes
+
+-- The image recovers to a book that is ahead of the start's: each edit whose answer was sent whole by then is in it, and
+-- at most one edit more.
+pub record IsAheadOn (IsText : List (Option (List ℕ)) → List Frame → List ℕ → Type 0) (input : List ℕ) (count total : ℕ) (start : State) (from : ℕ) (image : Image) (sent : ℕ) : Type 0 where
+  pub readable : IsReadable count image
+  pub within : total ≤ count
+  pub ahead : IsAhead IsText input total start from (pages_of count image) sent
+
+-- at each moment from old to new a crash leaves such an image
+abbrev pub LeavesBooks : Says → ℕ → List ℕ → View → View → Type 0
+LeavesBooks IsText count input old new =
+    OfBook count old (λ total book. Since old new (IsAheadOn (IsText (begun total book)) input count total (begun total book) (sent_now old)))
+
+-- ---- pages and frames that can't be used
+
+-- this block was found damaged while lines were answered: it is a page of the store, or breaks its layout as it is now
+pub record IsBadPlace (count : ℕ) (new : View) (place : ℕ) : Type 0 where
+  pub page : ℕ
+  pub place_is : place ≡ 66 + page
+  pub catalog : List StoredSeries
+  pub total : ℕ
+  pub bad : IsBadPage (Honest new) catalog (pages_of count new.image) total page
+
+-- a frame was given to a client that rejects it so
+pub record IsRejected (e : ClientError) : Type 0 where
+  pub frame : Frame
+  pub held : List Holding
+  pub rejects : Rejects frame e held
+
+-- ---- how a serving command ends
+
+-- the counts of the faults of the streams, before and now
+pub record Faults : Type 0 where
+  pub reads : ℕ
+  pub reads_now : ℕ
+  pub sends : ℕ
+  pub sends_now : ℕ
+
+abbrev pub faults_of : ℕ → ℕ → ℕ → ℕ → Faults
+faults_of reads reads_now sends sends_now = record { reads = reads; reads_now = reads_now; sends = sends; sends_now = sends_now }
+
+-- why not all lines were answered; a client can come in the way of a command that shows its frames alone
+abbrev pub IsLinesCause : Type 0 → ℕ → View → View → Faults → RunEnd → Type 0
+IsLinesCause CanShow count old new faults (run_end.Serve serve_end.ReadFault) = HasRisen faults.reads faults.reads_now
+IsLinesCause CanShow count old new faults (run_end.Serve serve_end.SendFault) = HasRisen faults.sends faults.sends_now
+IsLinesCause CanShow count old new faults (run_end.Serve serve_end.DiskFault) = HasRisen old.faults new.faults
+IsLinesCause CanShow count old new faults (run_end.Serve (serve_end.Damaged page)) = IsBadPlace count new (66 + page)
+IsLinesCause CanShow count old new faults (run_end.Serve serve_end.InputTooLong) = ⊤
+IsLinesCause CanShow count old new faults (run_end.Serve serve_end.NoMemory) = ⊤
+IsLinesCause CanShow count old new faults (run_end.Show (client.Missing key)) = CanShow × (key.index < 2 ^ 40) × IsRejected (client.Missing key)
+IsLinesCause CanShow count old new faults (run_end.Show (client.BadCoefficient key)) = CanShow × (key.index < 2 ^ 40) × IsRejected (client.BadCoefficient key)
+IsLinesCause CanShow count old new faults (run_end.Show (client.UnknownSession number)) = CanShow × IsRejected (client.UnknownSession number)
+IsLinesCause CanShow count old new faults (run_end.Show client.NoMemory) = ⊤
+
+-- What a command did that serves the lines of its input over a store: what it sent, what the disk holds then and held at
+-- each moment, and why it ended.
+pub record ServesLines {T : Type 0} (IsText : Says) (CanShow : Type 0) (count : ℕ) (old new : View) (left left' before now : Option (List ℕ)) (faults : Faults) (answer : Result T RunEnd) : Type 0 where
+  pub done : OnOk answer (IfSome left (λ input. AnswersAll IsText count old new input before now))
+  pub within : OnOk answer (IfSome left (λ input. length input ≤ 2 ^ 32))
+  pub ends : IfErr answer (λ end. IfSome left (λ input. EndsLines IsText count old new input left' before now end))
+  pub crash : IfSome left (λ input. IfSome before (λ bytes. LeavesBooks IsText count input old new))
+  pub cause : IfErr answer (λ end. IsLinesCause CanShow count old new faults end)
+  pub goes_on : GoesOn old new
+  pub risen : old.faults ≤ new.faults
+
+-- what a serving alone answers, as the end of a run
+abbrev pub served : {T : Type 0} → Result T ServeEnd → Result T RunEnd
+served (Ok done) = Ok done
+served (Err end) = Err (run_end.Serve end)
+
+-- why not all lines were answered, where the store is opened first
+abbrev pub IsWorldCause : Type 0 → View → View → Faults → LinesEnd → Type 0
+IsWorldCause CanShow old new faults (lines_end.Opening cause) = Prevents cause old new
+IsWorldCause CanShow old new faults (lines_end.Answering end) = IsLinesCause CanShow (page_count old.size) old new faults end
+
+abbrev pub EndsOpening : Says → View → View → List ℕ → Option (List ℕ) → Option (List ℕ) → OpeningCause → Type 0
+EndsOpening IsText old new input before now (opening.TooSmall size) = now ≡ before
+EndsOpening IsText old new input before now (opening.Damaged block) = Never (page_count old.size) old × (now ≡ before)
+EndsOpening IsText old new input before now opening.DiskFault = AnswersLines IsText (page_count old.size) old input before now
+EndsOpening IsText old new input before now opening.NoMemory = AnswersSome IsText (page_count old.size) old new input before now
+
+abbrev pub EndsWorld : Says → View → View → List ℕ → Option (List ℕ) → Option (List ℕ) → Option (List ℕ) → LinesEnd → Type 0
+EndsWorld IsText old new input left before now (lines_end.Opening cause) = EndsOpening IsText old new input before now cause
+EndsWorld IsText old new input left before now (lines_end.Answering end) = EndsLines IsText (page_count old.size) old new input left before now end
+
+-- the same of a command that opens the store of its disk and serves lines over it
+pub record ServesWorld {T : Type 0} (IsText : Says) (CanShow : Type 0) (old new : View) (left left' before now : Option (List ℕ)) (faults : Faults) (answer : Result T LinesEnd) : Type 0 where
+  pub done : OnOk answer (IfSome left (λ input. AnswersAll IsText (page_count old.size) old new input before now))
+  pub within : OnOk answer (IfSome left (λ input. length input ≤ 2 ^ 32))
+  pub ends : IfErr answer (λ end. IfSome left (λ input. EndsWorld IsText old new input left' before now end))
+  pub crash : IfSome left (λ input. IfSome before (λ bytes. LeavesBooks IsText (page_count old.size) input old new))
+  pub cause : IfErr answer (λ end. IsWorldCause CanShow old new faults end)
+  pub goes_on : GoesOn old new
+
+abbrev pub in_world : {T : Type 0} → Result T RunEnd → Result T LinesEnd
+in_world (Ok done) = Ok done
+in_world (Err end) = Err (lines_end.Answering end)

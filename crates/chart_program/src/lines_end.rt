@@ -1,0 +1,14 @@
+use crate::run_end::RunEnd;
+use store_open::OpeningCause;
+use thiserror::Error;
+
+/// Why a serving command didn't answer all lines of its input.
+#[derive(Clone, Copy, Debug, PartialEq, Eq, Error)]
+pub enum LinesEnd {
+    /// The store of its disk wasn't opened, for this cause.
+    #[error("{0}")]
+    Opening(OpeningCause),
+    /// The answering of lines ended so.
+    #[error("{0}")]
+    Answering(RunEnd),
+}

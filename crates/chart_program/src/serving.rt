@@ -1,0 +1,91 @@
+ghost use Rattle.std.specs.Prelude.{◌≡◌, IfErr};
+ghost use Rattle.block_disk.specs.View.{View};
+ghost use Rattle.chart_client.specs.Accepting.{HasNumber};
+ghost use Rattle.chart_program.specs.Ended.{EndsBy, HasNumberedKey, client_status, serve_end_status, status, status_by};
+ghost use Rattle.chart_program.specs.Served.{AreTexts, Spelled, faults_of};
+
+use crate::limits::{FIRST_PAGE, MOST_BYTES};
+use crate::lines::{run_world, serve_world};
+use crate::lines_end::LinesEnd;
+use crate::run_end::RunEnd;
+use crate::status::{
+    BAD_COEFFICIENT, DAMAGED, DISK_FAULT, DONE, MISSING, NO_MEMORY, READ_FAULT, SEND_FAULT, Status,
+    TOO_MUCH, TOO_SMALL, UNKNOWN_SESSION,
+};
+use block_disk::World;
+use chart_client::ClientError;
+use chart_service::ServeEnd;
+use std::alloc::Global;
+use store_open::OpeningCause;
+
+/// Sends the frames that answer the lines of the input, over the store of the world's disk, and says how
+/// that ended.
+pub(crate) fn serve_status<W: World>(alloc: Global, world: W) -> (Status, W)
+    ensures { EndsBy Spelled ⊥ (W.view world) (W.view result.1) (W.left world) (W.left result.1) (W.sent world) (W.sent result.1) (faults_of (W.read_faults world) (W.read_faults result.1) (W.send_faults world) (W.send_faults result.1)) result.0.code result.0.place }
+{
+    let (answer, world) = serve_world(alloc, world);
+    (status_of(answer), world)
+}
+
+/// Sends the texts that answer the lines of the input, each with the picture of what it shows, over the
+/// store of the world's disk, and says how that ended.
+pub(crate) fn run_status<W: World>(alloc: Global, world: W) -> (Status, W)
+    ensures { EndsBy AreTexts (Unit {0}) (W.view world) (W.view result.1) (W.left world) (W.left result.1) (W.sent world) (W.sent result.1) (faults_of (W.read_faults world) (W.read_faults result.1) (W.send_faults world) (W.send_faults result.1)) result.0.code result.0.place }
+{
+    let (answer, world) = run_world(alloc, world);
+    (status_of(answer), world)
+}
+
+/// The status of what a serving command answers.
+fn status_of(answer: Result<(), LinesEnd>) -> Status
+    requires { IfErr answer HasNumberedKey }
+    ensures { result ≡ status_by answer }
+{
+    match answer {
+        Ok(()) => ended(DONE, 0),
+        Err(LinesEnd::Opening(OpeningCause::TooSmall(blocks))) => {
+            ended(TOO_SMALL, u64::from(blocks))
+        }
+        Err(LinesEnd::Opening(OpeningCause::Damaged { block })) => ended(DAMAGED, block),
+        Err(LinesEnd::Opening(OpeningCause::DiskFault)) => ended(DISK_FAULT, 0),
+        Err(LinesEnd::Opening(OpeningCause::NoMemory)) => ended(NO_MEMORY, 0),
+        Err(LinesEnd::Answering(RunEnd::Serve(end))) => serve_end_status(end),
+        Err(LinesEnd::Answering(RunEnd::Show(error))) => client_status(error),
+    }
+}
+
+/// The status of why a serving ended.
+fn serve_end_status(end: ServeEnd) -> Status
+    ensures { result ≡ serve_end_status end }
+{
+    match end {
+        ServeEnd::ReadFault => ended(READ_FAULT, 0),
+        ServeEnd::SendFault => ended(SEND_FAULT, 0),
+        ServeEnd::DiskFault => ended(DISK_FAULT, 0),
+        ServeEnd::Damaged { page } => ended(DAMAGED, FIRST_PAGE + u64::from(page)),
+        ServeEnd::InputTooLong => ended(TOO_MUCH, MOST_BYTES),
+        ServeEnd::NoMemory => ended(NO_MEMORY, 0),
+    }
+}
+
+/// The status of why a client didn't show a frame.
+fn client_status(error: ClientError) -> Status
+    requires { HasNumber error }
+    ensures { result ≡ client_status error }
+{
+    match error {
+        ClientError::Missing { key } => ended(MISSING, key.number()),
+        ClientError::BadCoefficient { key } => ended(BAD_COEFFICIENT, key.number()),
+        ClientError::UnknownSession { session } => ended(UNKNOWN_SESSION, u64::from(session)),
+        ClientError::NoMemory => ended(NO_MEMORY, 0),
+    }
+}
+
+/// The status of this code and place.
+pub(crate) fn ended(code: u8, place: u64) -> Status
+    ensures code { result.code ≡ code }
+    ensures place { result.place ≡ place }
+    ensures status { result ≡ status code place }
+{
+    Status { code, place }
+}

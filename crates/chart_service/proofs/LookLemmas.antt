@@ -1,0 +1,193 @@
+-- Calls that leave the pages as they are.
+use Rattle.std.proofs.Common.{◌≡◌, ℕ, ◌+◌, ◌≤◌, List, [], ◌∷◌, length, Option, None, Some, Result, Ok, Err, IfOk, IfErr, refl, sym, ap, subst, inl, inr, ◌∙◌, arith}
+use Rattle.std.specs.Prelude.{OnErr, MatchResult, MatchOption, IsSomeAnd, slice_get}
+use Rattle.block_disk.specs.View.{Image, View, Now, Only, Passes}
+use Rattle.block_disk.proofs.Passing.{passes_none, passes_weaker}
+use Rattle.block_disk.specs.Counts.{HasRisen}
+use Rattle.chart_frames.specs.declared.frame.Frame.{Frame}
+use Rattle.chart_frames.specs.declared.frame.Frame.TheVariants.{Done, Refused, Opened, Closed, View as ViewFrame, Rows}
+use Rattle.chart_frames.specs.Frames.{Fits}
+use Rattle.gate_pages.specs.Pages.{GoesOn, Quiet}
+use Rattle.gate_pages.specs.GateLaws.{goes_none}
+use Rattle.om3_coeff.specs.declared.errors.NodeError.{NodeError}
+use Rattle.om3_coeff.specs.declared.errors.NodeError.TheVariants as node
+use Rattle.om3_coeff.specs.View.{NodesView, HasCause}
+use Rattle.page_space.specs.declared.superblock.Superblock.{Superblock}
+use Rattle.series_book.specs.declared.one_series.Series.{Series}
+use Rattle.series_book.specs.declared.refusals.Refusal.{Refusal}
+use Rattle.series_store.specs.Results.{IsUnchanged}
+use Rattle.store_catalog.specs.declared.stored_series.StoredSeries.{StoredSeries}
+use Rattle.stored_book.specs.Standing.{StandsForBook}
+use Rattle.tree_walk.specs.declared.tree.Tree.{Tree}
+use Rattle.tree_walk.specs.declared.trail.Trail.{Trail}
+use Rattle.tree_walk.specs.Paths.{IsDamaged}
+use Rattle.tree_walk.specs.PagedNodes.{Ground, Keeps, ground, paged_view}
+use Rattle.zoom_session.specs.declared.session.Session.{Session}
+use Rattle.chart_service.specs.Opening.{OpensBy, LosesAtMost}
+use Rattle.chart_service.specs.State.{State}
+use Rattle.chart_service.specs.Replies.{refused}
+use Rattle.chart_service.specs.Stepping.{state_of, IsAfterReply, IsBeforeOrAfter, IsDamagedIn, IsOutside, IsUnchangedBy, IsUnchangedFor, Steps}
+use Rattle.chart_service.specs.Looking.{Looks, Looked, Replying, IsNodeCause, IsOfPages, IsViewCause, error_of}
+use Rattle.chart_service.specs.declared.failure.ServiceError.{ServiceError}
+use Rattle.chart_service.specs.declared.failure.ServiceError.TheVariants.{DiskFault, Damaged, NoMemory}
+
+-- no call
+pub looks_none : (told : Type 0) (at under : View) (s : Superblock) (catalog : List StoredSeries) → Looks told told at at under under s s catalog catalog
+looks_none told at under s catalog = record {
+  time = passes_none at (Now at) (Quiet at);
+  goes_on = goes_none under;
+  told = λ t. t;
+  was_told = λ t. t;
+  image = λ t. refl;
+  size = refl;
+  beside = refl;
+  fit = λ f. f;
+  faults = omega arith;
+  syncs = refl;
+  writes = refl;
+  superblock = refl;
+  catalog_is = refl;
+}
+
+-- the moments of the first pages, as many as the numbers tell, are those of all
+all_pages : (told told' : Type 0) (old new under under' : View) (s s' : Superblock) (tree tree' : Tree) → Keeps (ground told old under s tree) (ground told' new under' s' tree') → Passes old new (Now old) (Quiet old)
+all_pages told told' old new under under' s s' tree tree' kept = record {
+  later = kept.time.later;
+  past = kept.time.past;
+  kept = kept.time.kept;
+  here = kept.time.here;
+  sent_past = kept.time.sent_past;
+  sent_here = kept.time.sent_here;
+}
+
+-- asks
+pub looks_by : (told told' : Type 0) (old new under under' : View) (s s' : Superblock) (tree tree' : Tree) (catalog catalog' : List StoredSeries) → Keeps (ground told old under s tree) (ground told' new under' s' tree') → catalog' ≡ catalog → old.faults ≤ new.faults → Looks told told' old new under under' s s' catalog catalog'
+looks_by told told' old new under under' s s' tree tree' catalog catalog' kept same faults = record {
+  time = all_pages told told' old new under under' s s' tree tree' kept;
+  goes_on = kept.goes_on;
+  told = kept.told;
+  was_told = kept.was_told;
+  image = kept.image;
+  size = kept.count;
+  beside = kept.beside;
+  fit = kept.fit;
+  faults = faults;
+  syncs = kept.syncs;
+  writes = kept.writes;
+  superblock = kept.superblock;
+  catalog_is = same;
+}
+
+-- ---- what is said of a step
+
+pub unchanged : (told told' : Type 0) (old new under under' : View) (s s' : Superblock) (catalog catalog' : List StoredSeries) → Looks told told' old new under under' s s' catalog catalog' → IsUnchanged told old new
+unchanged told told' old new under under' s s' catalog catalog' looks = record { image = looks.image; fit = looks.fit; syncs = looks.syncs; writes = looks.writes }
+
+by_frame : (frame : Frame) (told : Type 0) (old new : View) → IsUnchanged told old new → IsUnchangedBy frame told old new
+by_frame (Done slots) told old new is = tt
+by_frame (Refused number a b) told old new is = is
+by_frame (Opened session cache) told old new is = is
+by_frame (Closed session) told old new is = is
+by_frame (ViewFrame view) told old new is = is
+by_frame (Rows rows) told old new is = is
+
+for_error : (error : ServiceError) (told : Type 0) (old new : View) → IsUnchanged told old new → IsUnchangedFor error told old new
+for_error DiskFault told old new is = tt
+for_error (Damaged page) told old new is = is
+for_error NoMemory told old new is = is
+
+pub unchanged_so : (result : Result Frame ServiceError) (told : Type 0) (old new : View) → IsUnchanged told old new → MatchResult result (λ frame. IsUnchangedBy frame told old new) (λ error. IsUnchangedFor error told old new)
+unchanged_so (Ok frame) told old new is = by_frame frame told old new is
+unchanged_so (Err error) told old new is = for_error error told old new is
+
+pub steps_so : (told told' : Type 0) (old new under under' : View) (s s' : Superblock) (catalog catalog' : List StoredSeries) → Looks told told' old new under under' s s' catalog catalog' → Steps told told' old new
+steps_so told told' old new under under' s s' catalog catalog' looks = record {
+  told = looks.told;
+  was_told = looks.was_told;
+  size = looks.size;
+  beside = looks.beside;
+  faults = looks.faults;
+  syncs = record { low = omega (arith, looks.syncs); high = omega (arith, looks.syncs) };
+  writes = record { low = omega (arith, looks.writes); high = omega (arith, looks.writes) };
+}
+
+-- a crash leaves the book from before
+pub moments_so : (Reply : Frame → State → State → Type 0) (total : ℕ) (book : List Series) (sessions : List Session) (old new : View) → Only old.image (Now old) → StandsForBook old.image total book → Passes old new (Now old) (Quiet old) → Passes old new (IsBeforeOrAfter Reply total book sessions) (Quiet old)
+moments_so Reply total book sessions old new only stands passes =
+    let S : Image → Type 0 = λ image. StandsForBook image total book in
+    passes_weaker old new (Now old) (IsBeforeOrAfter Reply total book sessions) (Quiet old) (Quiet old) (λ image left. inl (subst S (sym (only image left)) stands)) (λ count quiet. quiet) passes
+
+-- ---- what comes of a request that is no edit
+
+-- it is refused
+pub looked_refused : (number : Option ℕ) (frame : Frame) (refusal : Refusal) (sessions : List Session) (told : Type 0) (at under : View) (s : Superblock) (catalog : List StoredSeries) → frame ≡ refused refusal → Fits frame → Looked number (Ok frame) sessions sessions told told at at under under s s catalog catalog
+looked_refused number frame refusal sessions told at under s catalog is fits = record {
+  fits = fits;
+  opens = let O : Frame → Type 0 = λ f. OpensBy f sessions sessions in subst O (sym is) (record { named = tt; after = λ n. refl });
+  lost = tt;
+  looks = looks_none told at under s catalog;
+  cause = tt;
+}
+
+pub replying_refused : (Reply : Frame → State → State → Type 0) (Reads : ℕ → ℕ → Type 0) (frame : Frame) (total : ℕ) (book : List Series) (sessions : List Session) (at : View) → Reply frame (state_of book total sessions) (state_of book total sessions) → Reads at.reads at.reads → Replying Reply Reads (Ok frame) total book sessions sessions at at
+replying_refused Reply Reads frame total book sessions at reply reads = record { reply = reply; standing = tt; reads = reads }
+
+-- no session is lost
+lost_none : (number : Option ℕ) (sessions : List Session) → LosesAtMost number sessions sessions
+lost_none None sessions = refl
+lost_none (Some number) sessions = inl refl
+
+-- there was no memory at once
+pub looked_no_memory : (number : Option ℕ) (sessions : List Session) (told : Type 0) (at under : View) (s : Superblock) (catalog : List StoredSeries) → Looked number (Err NoMemory) sessions sessions told told at at under under s s catalog catalog
+looked_no_memory number sessions told at under s catalog = record {
+  fits = tt;
+  opens = tt;
+  lost = lost_none number sessions;
+  looks = looks_none told at under s catalog;
+  cause = tt;
+}
+
+pub replying_no_memory : (Reply : Frame → State → State → Type 0) (Reads : ℕ → ℕ → Type 0) (total : ℕ) (book : List Series) (sessions : List Session) (at : View) → Reads at.reads at.reads → Replying Reply Reads (Err NoMemory) total book sessions sessions at at
+replying_no_memory Reply Reads total book sessions at reads = record { reply = tt; standing = inr refl; reads = reads }
+
+if_ok : {T E : Type 0} (r : Result T E) (P Q : T → Type 0) → ((t : T) → P t → Q t) → IfOk r P → IfOk r Q
+if_ok (Ok t) P Q more is = more t is
+if_ok (Err e) P Q more is = tt
+
+-- what a reply is for a request that asks for it
+pub replying_so : (Reply Reply' : Frame → State → State → Type 0) (Reads Reads' : ℕ → ℕ → Type 0) (result : Result Frame ServiceError) (total : ℕ) (book : List Series) (sessions sessions' : List Session) (old new : View) → ((frame : Frame) → Reply frame (state_of book total sessions) (state_of book total sessions') → Reply' frame (state_of book total sessions) (state_of book total sessions')) → (Reads old.reads new.reads → Reads' old.reads new.reads) → Replying Reply Reads result total book sessions sessions' old new → Replying Reply' Reads' result total book sessions sessions' old new
+replying_so Reply Reply' Reads Reads' result total book sessions sessions' old new more fewer is = record {
+  reply = if_ok result (λ frame. Reply frame (state_of book total sessions) (state_of book total sessions')) (λ frame. Reply' frame (state_of book total sessions) (state_of book total sessions')) more is.reply;
+  standing = is.standing;
+  reads = fewer is.reads;
+}
+
+-- ---- errors of nodes over pages
+
+-- the cause of an error of the selected series
+pub node_cause : (told : Type 0) (old new under : View) (told' : Type 0) (under' : View) (s s' : Superblock) (tree tree' : Tree) (trail trail' : Trail) (catalog : List StoredSeries) (id : ℕ) (series : StoredSeries) (error : NodeError) → slice_get catalog id ≡ Some series → tree ≡ series.tree → HasCause (paged_view (ground told old under s tree) trail) (paged_view (ground told' new under' s' tree') trail') error → IsNodeCause error told catalog s.total old new
+node_cause told old new under told' under' s s' tree tree' trail trail' catalog id series node.DiskFault there is cause = cause
+node_cause told old new under told' under' s s' tree tree' trail trail' catalog id series (node.Damaged page) there is cause =
+    let P : Tree → Type 0 = λ t. IsDamaged old.image s.total t page in
+    λ t. record { id = id; series = series; there = there; damaged = subst P is (cause t) }
+node_cause told old new under told' under' s s' tree tree' trail trail' catalog id series (node.Missing key) there is cause = cause
+node_cause told old new under told' under' s s' tree tree' trail trail' catalog id series (node.BadCoefficient key) there is cause = cause
+
+pub of_pages : (error : NodeError) (told : Type 0) (catalog : List StoredSeries) (total : ℕ) (old new : View) → IsNodeCause error told catalog total old new → IsOfPages error
+of_pages node.DiskFault told catalog total old new cause = tt
+of_pages (node.Damaged page) told catalog total old new cause = tt
+of_pages (node.Missing key) told catalog total old new cause = cause
+of_pages (node.BadCoefficient key) told catalog total old new cause = cause
+
+pub view_cause : (error : NodeError) (told : Type 0) (catalog : List StoredSeries) (total : ℕ) (old new : View) → IsNodeCause error told catalog total old new → IsViewCause (error_of error) told catalog total old new
+view_cause node.DiskFault told catalog total old new cause = cause
+view_cause (node.Damaged page) told catalog total old new cause = cause
+view_cause (node.Missing key) told catalog total old new cause = absurd cause
+view_cause (node.BadCoefficient key) told catalog total old new cause = absurd cause
+
+-- where no page is damaged, the disk failed
+pub disk_alone : (told : Type 0) (old new under : View) (told' : Type 0) (under' : View) (s s' : Superblock) (tree tree' : Tree) (trail trail' : Trail) (error : NodeError) → told → ((page : ℕ) → IsDamaged old.image s.total tree page → ⊥) → HasCause (paged_view (ground told old under s tree) trail) (paged_view (ground told' new under' s' tree') trail') error → error ≡ node.DiskFault
+disk_alone told old new under told' under' s s' tree tree' trail trail' node.DiskFault t whole cause = refl
+disk_alone told old new under told' under' s s' tree tree' trail trail' (node.Damaged page) t whole cause = absurd (whole page (cause t))
+disk_alone told old new under told' under' s s' tree tree' trail trail' (node.Missing key) t whole cause = absurd cause
+disk_alone told old new under told' under' s s' tree tree' trail trail' (node.BadCoefficient key) t whole cause = absurd cause

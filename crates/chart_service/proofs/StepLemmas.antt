@@ -1,0 +1,156 @@
+-- A step, and a line.
+use Rattle.std.proofs.Common.{◌≡◌, ℕ, ◌<◌, ◌≤◌, Bool, true, false, if◌then◌else◌, List, length, Option, None, Some, Result, Ok, Err, IfOk, IfErr, refl, sym, ap, subst, inl, inr, ◌∙◌, arith}
+use Rattle.std.specs.Prelude.{OnOk, nat_lt}
+use Rattle.std.proofs.lemmas.Bool.{ltb-true, false_from_ne_true}
+use Rattle.block_disk.specs.View.{Image, View, Passes}
+use Rattle.chart_frames.specs.declared.frame.Frame.{Frame}
+use Rattle.chart_frames.specs.Frames.{Fits}
+use Rattle.gate_pages.specs.Pages.{Quiet}
+use Rattle.page_space.specs.declared.superblock.Superblock.{Superblock}
+use Rattle.request_lines.specs.declared.requests.Request.{Request}
+use Rattle.request_lines.specs.declared.requests.Request.TheVariants.{Edit as EditRequest, Open, View as ViewRequest, Zoom, Pan, Close}
+use Rattle.request_lines.specs.Requests.{read_line}
+use Rattle.series_book.specs.declared.edits.Edit.{Edit}
+use Rattle.series_book.specs.declared.one_series.Series.{Series}
+use Rattle.series_book.specs.declared.refusals.Refusal.TheVariants.{BadLine}
+use Rattle.series_book.specs.Edits.{id_of}
+use Rattle.store_catalog.specs.declared.stored_series.StoredSeries.{StoredSeries}
+use Rattle.stored_book.specs.Standing.{StandsForBook}
+use Rattle.chart_grid.specs.declared.grid.Grid.{Grid}
+use Rattle.request_lines.specs.declared.ranges.RangeWord.{RangeWord}
+use Rattle.std.proofs.Common.{ℤ}
+use Rattle.zoom_session.specs.declared.session.Session.{Session}
+use Rattle.chart_service.specs.State.{State, IsSound}
+use Rattle.chart_service.specs.Replies.{refused, Replies, RepliesTo, RepliesToLine, Replied, line_text}
+use Rattle.chart_service.specs.Stepping.{StandsAfter, state_of, RepliedTo, IsAfterReply, IsBeforeOrAfter, IsDamagedIn, IsStepCause, NamesBad, IsOutside, series_at, ReadsFew}
+use Rattle.chart_service.specs.Looking.{Looks, Replying, IsNoEdit, IsViewCause, ReadsByText}
+use Rattle.chart_service.specs.declared.failure.ServiceError.{ServiceError}
+use Rattle.chart_service.specs.declared.failure.ServiceError.TheVariants.{DiskFault, Damaged, NoMemory}
+use Rattle.block_disk.proofs.Passing.{passes_weaker}
+
+-- ---- requests that are no edits
+
+pub not_edit : (request : Request) → ((edit : Edit) → request ≡ EditRequest edit → ⊥) → IsNoEdit request
+not_edit (EditRequest edit) not = not edit refl
+not_edit (Open number cache) not = tt
+not_edit (ViewRequest number name w h t0 t1 word text) not = tt
+not_edit (Zoom number t0 t1) not = tt
+not_edit (Pan number by) not = tt
+not_edit (Close number) not = tt
+
+pub few_by_text : (number : ℕ) (name : List ℕ) (w h : ℕ) (t0 t1 : ℤ) (word : RangeWord) (text : Option (List ℕ)) (book : List Series) (ss : List Session) (old new : ℕ) → ReadsByText text w (series_at book (id_of name book)) old new → ReadsFew (ViewRequest number name w h t0 t1 word text) book ss old new
+few_by_text number name w h t0 t1 word None book ss old new reads = reads
+few_by_text number name w h t0 t1 word (Some text) book ss old new reads = tt
+
+-- an opening stops for want of memory alone
+pub open_outside : (r : Result Frame ServiceError) → IfErr r (λ error. error ≡ NoMemory) → IfErr r IsOutside
+open_outside (Ok frame) is = tt
+open_outside (Err error) is = inr is
+
+pub open_cause : (r : Result Frame ServiceError) (number : ℕ) (cache : Option ℕ) (told : Type 0) (catalog : List StoredSeries) (total : ℕ) (old new : View) → IfErr r (λ error. error ≡ NoMemory) → IfErr r (λ error. IsStepCause (Open number cache) error told catalog total old new)
+open_cause (Ok frame) number cache told catalog total old new is = tt
+open_cause (Err error) number cache told catalog total old new is =
+    let P : ServiceError → Type 0 = λ e. IsStepCause (Open number cache) e told catalog total old new in
+    subst P (sym is) tt
+
+view_error : (error : ServiceError) (number : ℕ) (name : List ℕ) (w h : ℕ) (t0 t1 : ℤ) (word : RangeWord) (text : Option (List ℕ)) (told : Type 0) (catalog : List StoredSeries) (total : ℕ) (old new : View) → IsViewCause error told catalog total old new → IsStepCause (ViewRequest number name w h t0 t1 word text) error told catalog total old new
+view_error DiskFault number name w h t0 t1 word text told catalog total old new cause = cause
+view_error (Damaged page) number name w h t0 t1 word text told catalog total old new cause = cause
+view_error NoMemory number name w h t0 t1 word text told catalog total old new cause = cause
+
+pub view_why : (r : Result Frame ServiceError) (number : ℕ) (name : List ℕ) (w h : ℕ) (t0 t1 : ℤ) (word : RangeWord) (text : Option (List ℕ)) (told : Type 0) (catalog : List StoredSeries) (total : ℕ) (old new : View) → IfErr r (λ error. IsViewCause error told catalog total old new) → IfErr r (λ error. IsStepCause (ViewRequest number name w h t0 t1 word text) error told catalog total old new)
+view_why (Ok frame) number name w h t0 t1 word text told catalog total old new cause = tt
+view_why (Err error) number name w h t0 t1 word text told catalog total old new cause = view_error error number name w h t0 t1 word text told catalog total old new cause
+
+zoom_error : (error : ServiceError) (number : ℕ) (t0 t1 : ℤ) (told : Type 0) (catalog : List StoredSeries) (total : ℕ) (old new : View) → IsViewCause error told catalog total old new → IsStepCause (Zoom number t0 t1) error told catalog total old new
+zoom_error DiskFault number t0 t1 told catalog total old new cause = cause
+zoom_error (Damaged page) number t0 t1 told catalog total old new cause = cause
+zoom_error NoMemory number t0 t1 told catalog total old new cause = cause
+
+pub zoom_why : (r : Result Frame ServiceError) (number : ℕ) (t0 t1 : ℤ) (told : Type 0) (catalog : List StoredSeries) (total : ℕ) (old new : View) → IfErr r (λ error. IsViewCause error told catalog total old new) → IfErr r (λ error. IsStepCause (Zoom number t0 t1) error told catalog total old new)
+zoom_why (Ok frame) number t0 t1 told catalog total old new cause = tt
+zoom_why (Err error) number t0 t1 told catalog total old new cause = zoom_error error number t0 t1 told catalog total old new cause
+
+pan_error : (error : ServiceError) (number : ℕ) (by : ℤ) (told : Type 0) (catalog : List StoredSeries) (total : ℕ) (old new : View) → IsViewCause error told catalog total old new → IsStepCause (Pan number by) error told catalog total old new
+pan_error DiskFault number by told catalog total old new cause = cause
+pan_error (Damaged page) number by told catalog total old new cause = cause
+pan_error NoMemory number by told catalog total old new cause = cause
+
+pub pan_why : (r : Result Frame ServiceError) (number : ℕ) (by : ℤ) (told : Type 0) (catalog : List StoredSeries) (total : ℕ) (old new : View) → IfErr r (λ error. IsViewCause error told catalog total old new) → IfErr r (λ error. IsStepCause (Pan number by) error told catalog total old new)
+pan_why (Ok frame) number by told catalog total old new cause = tt
+pan_why (Err error) number by told catalog total old new cause = pan_error error number by told catalog total old new cause
+
+-- ---- what comes of them is what comes of a step
+
+pub look_reply : (request : Request) (Reads : ℕ → ℕ → Type 0) (r : Result Frame ServiceError) (total : ℕ) (book : List Series) (ss ss' : List Session) (old new : View) (image : Image) → Replying (Replies request) Reads r total book ss ss' old new → IfOk r Fits → IsSound (state_of book total ss') → StandsForBook image total book → IfOk r (λ frame. StandsAfter total image ss' (λ new. RepliedTo request frame (state_of book total ss) new))
+look_reply request Reads (Ok frame) total book ss ss' old new image replying fits sound stands = record { book = book; stands = stands; so = (replying.reply, fits, sound) }
+look_reply request Reads (Err error) total book ss ss' old new image replying fits sound stands = tt
+
+pub on_ok : {T E : Type 0} (r : Result T E) (P : Type 0) → P → OnOk r P
+on_ok (Ok t) P is = is
+on_ok (Err e) P is = tt
+
+bad_error : (error : ServiceError) (told told' : Type 0) (old new under under' : View) (s s' : Superblock) (catalog catalog' : List StoredSeries) → Looks told told' old new under under' s s' catalog catalog' → IsViewCause error told catalog s.total old new → NamesBad told' catalog' new.image s'.total error
+bad_error DiskFault told told' old new under under' s s' catalog catalog' looks cause = tt
+bad_error (Damaged page) told told' old new under under' s s' catalog catalog' looks cause = inr (λ t.
+    let I : Image → Type 0 = λ i. IsDamagedIn catalog i s.total page in
+    let C : List StoredSeries → Type 0 = λ l. IsDamagedIn l new.image s.total page in
+    let S : Superblock → Type 0 = λ b. IsDamagedIn catalog' new.image b.total page in
+    let t' = looks.was_told t in
+    subst S (sym looks.superblock) (subst C (sym looks.catalog_is) (subst I (sym (looks.image t')) (cause t'))))
+bad_error NoMemory told told' old new under under' s s' catalog catalog' looks cause = tt
+
+pub look_bad : (r : Result Frame ServiceError) (told told' : Type 0) (old new under under' : View) (s s' : Superblock) (catalog catalog' : List StoredSeries) → Looks told told' old new under under' s s' catalog catalog' → IfErr r (λ error. IsViewCause error told catalog s.total old new) → IfErr r (NamesBad told' catalog' new.image s'.total)
+look_bad (Ok frame) told told' old new under under' s s' catalog catalog' looks cause = tt
+look_bad (Err error) told told' old new under under' s s' catalog catalog' looks cause = bad_error error told told' old new under under' s s' catalog catalog' looks cause
+
+edit_bad_error : (error : ServiceError) (edit : Edit) (told told' : Type 0) (catalog catalog' : List StoredSeries) (total total' : ℕ) (old new : View) → total' ≡ total → IsStepCause (EditRequest edit) error told catalog total old new → NamesBad told' catalog' new.image total' error
+edit_bad_error DiskFault edit told told' catalog catalog' total total' old new same cause = tt
+edit_bad_error (Damaged page) edit told told' catalog catalog' total total' old new same cause = inl (omega (arith, cause, same))
+edit_bad_error NoMemory edit told told' catalog catalog' total total' old new same cause = tt
+
+pub edit_bad : (r : Result Frame ServiceError) (edit : Edit) (told told' : Type 0) (catalog catalog' : List StoredSeries) (total total' : ℕ) (old new : View) → total' ≡ total → IfErr r (λ error. IsStepCause (EditRequest edit) error told catalog total old new) → IfErr r (NamesBad told' catalog' new.image total')
+edit_bad (Ok frame) edit told told' catalog catalog' total total' old new same cause = tt
+edit_bad (Err error) edit told told' catalog catalog' total total' old new same cause = edit_bad_error error edit told told' catalog catalog' total total' old new same cause
+
+-- ---- lines
+
+short_false : (line : List ℕ) → length line ≤ 8192 → nat_lt 8192 (length line) ≡ false
+short_false line short = false_from_ne_true (nat_lt 8192 (length line)) (λ (is : nat_lt 8192 (length line) ≡ true). absurd (omega (arith, ltb-true 8192 (length line) is, short)))
+
+pub short_line : (line : List ℕ) → length line ≤ 8192 → line_text line ≡ Some line
+short_line line short = ap (λ b. if b then None else Some line) (short_false line short)
+
+-- a line that spells a request is answered as that
+as_line : (line : List ℕ) (request : Request) (frame : Frame) (old new : State) → length line ≤ 8192 → read_line line ≡ Ok request → RepliedTo request frame old new → Replied (line_text line) frame old new
+as_line line request frame old new short is replied =
+    let L : Option (List ℕ) → Type 0 = λ o. RepliesToLine o frame old new in
+    let R : Result Request ℕ → Type 0 = λ r. RepliesTo r frame old new in
+    (subst L (sym (short_line line short)) (subst R (sym is) replied.0), replied.1, replied.2)
+
+after_line : (line : List ℕ) (request : Request) (frame : Frame) (total : ℕ) (book : List Series) (ss ss' : List Session) (image : Image) → length line ≤ 8192 → read_line line ≡ Ok request → StandsAfter total image ss' (λ new. RepliedTo request frame (state_of book total ss) new) → StandsAfter total image ss' (λ new. Replied (line_text line) frame (state_of book total ss) new)
+after_line line request frame total book ss ss' image short is after = record {
+  book = after.book;
+  stands = after.stands;
+  so = as_line line request frame (state_of book total ss) (state_of after.book total ss') short is after.so;
+}
+
+pub line_reply : (r : Result Frame ServiceError) (line : List ℕ) (request : Request) (total : ℕ) (book : List Series) (ss ss' : List Session) (image : Image) → length line ≤ 8192 → read_line line ≡ Ok request → IfOk r (λ frame. StandsAfter total image ss' (λ new. RepliedTo request frame (state_of book total ss) new)) → IfOk r (λ frame. StandsAfter total image ss' (λ new. Replied (line_text line) frame (state_of book total ss) new))
+line_reply (Ok frame) line request total book ss ss' image short is after = after_line line request frame total book ss ss' image short is after
+line_reply (Err error) line request total book ss ss' image short is after = tt
+
+line_image : (line : List ℕ) (request : Request) (total : ℕ) (book : List Series) (ss : List Session) (image : Image) → length line ≤ 8192 → read_line line ≡ Ok request → IsBeforeOrAfter (RepliedTo request) total book ss image → IsBeforeOrAfter (Replied (line_text line)) total book ss image
+line_image line request total book ss image short is (inl stands) = inl stands
+line_image line request total book ss image short is (inr after) = inr (record { frame = after.frame; left = after.left; after = after_line line request after.frame total book ss after.left image short is after.after })
+
+pub line_moments : (line : List ℕ) (request : Request) (total : ℕ) (book : List Series) (ss : List Session) (old new : View) → length line ≤ 8192 → read_line line ≡ Ok request → Passes old new (IsBeforeOrAfter (RepliedTo request) total book ss) (Quiet old) → Passes old new (IsBeforeOrAfter (Replied (line_text line)) total book ss) (Quiet old)
+line_moments line request total book ss old new short is passes =
+    passes_weaker old new (IsBeforeOrAfter (RepliedTo request) total book ss) (IsBeforeOrAfter (Replied (line_text line)) total book ss) (Quiet old) (Quiet old) (λ image one. line_image line request total book ss image short is one) (λ count quiet. quiet) passes
+
+-- one that spells none is refused
+pub bad_line : (line : List ℕ) (at : ℕ) (frame : Frame) (total : ℕ) (book : List Series) (ss : List Session) (image : Image) → length line ≤ 8192 → read_line line ≡ Err at → frame ≡ refused (BadLine at) → Fits frame → IsSound (state_of book total ss) → StandsForBook image total book → StandsAfter total image ss (λ new. Replied (line_text line) frame (state_of book total ss) new)
+bad_line line at frame total book ss image short is reply fits sound stands =
+    let old = state_of book total ss in
+    let L : Option (List ℕ) → Type 0 = λ o. RepliesToLine o frame old old in
+    let R : Result Request ℕ → Type 0 = λ r. RepliesTo r frame old old in
+    record { book = book; stands = stands; so = (subst L (sym (short_line line short)) (subst R (sym is) (record { reply = reply; state = refl })), fits, sound) }

@@ -1,0 +1,130 @@
+//! A service answers a view of a series in an open session.
+ghost use Rattle.std.specs.Prelude.{◌≡◌, ◌≤◌, ◌<◌, ◌+◌, ℕ, List, None, Some, length, slice_get, IfOk, IfErr, IsTrue, IsSomeAnd};
+ghost use Rattle.block_disk.specs.View.{View};
+ghost use Rattle.series_book.specs.declared.one_series.Series.{Series};
+ghost use Rattle.stored_book.specs.Standing.{StandsForBook};
+ghost use Rattle.zoom_session.specs.Sessions.{is_open, session_of};
+ghost use Rattle.chart_service.specs.Holding.{IsViewIn};
+ghost use Rattle.chart_service.specs.Looking.{Looks, Looked, Replying, ReadsBy, IsPlanCause, IsScanCause, IsOfPages, IsGoodPlan, error_of};
+ghost use Rattle.chart_service.specs.Planning.{PlansOrStops, ShowsOrStops, FitInFrame};
+ghost use Rattle.chart_service.specs.Replies.{AnswersBy};
+ghost use Rattle.chart_service.specs.Stepping.{ReadsFor};
+ghost use Rattle.chart_service.specs.Viewing.{AnswersRows};
+
+use crate::failure::ServiceError;
+use crate::refusals::refused;
+use crate::selecting::selected;
+use crate::service::Service;
+use crate::shown::{Planned, plan, view_frame};
+use crate::shown_rows::{ShownRows, rows_frame, shown_rows};
+use chart_frames::Frame;
+use filter_scan::ScanError;
+use gate_pages::Pages;
+use om3_coeff::NodeError;
+use series_book::Refusal;
+use zoom_session::{PlanError, ViewSpec};
+
+/// What an error of the nodes is for a request. Nodes over pages name no key.
+fn node_error(error: NodeError) -> ServiceError
+    requires { IsOfPages error }
+    ensures { result ≡ error_of error }
+{
+    match error {
+        NodeError::DiskFault => ServiceError::DiskFault,
+        NodeError::Damaged { page } => ServiceError::Damaged { page },
+        NodeError::Missing { .. } | NodeError::BadCoefficient { .. } => unreachable!(),
+    }
+}
+
+impl<P: Pages> Service<P> {
+    /// Answers a filtered view by the rows of what it keeps.
+    pub(crate) fn answer_rows(&mut self, number: u32, spec: ViewSpec) -> Result<Frame, ServiceError>
+        requires sound { (P.view self.old.store.space.pages).fit }
+        requires number { 1 ≤ number }
+        requires opened { IsTrue (is_open number self.old.sessions) }
+        requires view { IsViewIn (length self.old.store.catalog.series.items) spec }
+        ensures replying { (total : ℕ) (book : List Series) → P.told self.old.store.space.pages → StandsForBook (P.view self.old.store.space.pages).image total book
+            → Replying (λ frame old new. IsSomeAnd (slice_get old.book spec.series) (λ series. AnswersRows series spec number frame old new)) (λ old new. Unit {0}) result total book self.old.sessions self.new.sessions (P.view self.old.store.space.pages) (P.view self.new.store.space.pages) }
+        ensures looked { Looked (Some number) result self.old.sessions self.new.sessions (P.told self.old.store.space.pages) (P.told self.new.store.space.pages) (P.view self.old.store.space.pages) (P.view self.new.store.space.pages) (P.under self.old.store.space.pages) (P.under self.new.store.space.pages) self.old.store.space.superblock self.new.store.space.superblock self.old.store.catalog.series.items self.new.store.catalog.series.items }
+    {
+        let shown = match self.rows(&spec) {
+            Ok(shown) => shown,
+            Err(ScanError::Node(error)) => return Err(node_error(error)),
+            Err(ScanError::NoMemory) => return Err(ServiceError::NoMemory),
+        };
+        let frame = rows_frame(number, &spec, shown);
+        if self.sessions.apply(number, spec, None).is_err() {
+            return Err(ServiceError::NoMemory);
+        }
+        Ok(Frame::Rows(frame))
+    }
+
+    /// What a filtered view of a series shows.
+    fn rows(&mut self, spec: &ViewSpec) -> Result<ShownRows, ScanError>
+        requires sound { (P.view self.old.store.space.pages).fit }
+        requires view { IsViewIn (length self.old.store.catalog.series.items) spec.now }
+        ensures shown { (total : ℕ) (book : List Series) → P.told self.old.store.space.pages → StandsForBook (P.view self.old.store.space.pages).image total book
+            → IsSomeAnd (slice_get book spec.now.series) (λ series. ShowsOrStops series spec.now result) }
+        ensures fit { IfOk result (FitInFrame spec.now.grid.w) }
+        ensures cause { IfErr result (λ error. IsScanCause error (P.told self.old.store.space.pages) self.old.store.catalog.series.items self.old.store.space.superblock.total (P.view self.old.store.space.pages) (P.view self.new.store.space.pages)) }
+        ensures looks { Looks (P.told self.old.store.space.pages) (P.told self.new.store.space.pages) (P.view self.old.store.space.pages) (P.view self.new.store.space.pages) (P.under self.old.store.space.pages) (P.under self.new.store.space.pages) self.old.store.space.superblock self.new.store.space.superblock self.old.store.catalog.series.items self.new.store.catalog.series.items }
+        ensures sessions { self.new.sessions ≡ self.old.sessions }
+    {
+        let axis = selected(&mut self.store, spec.series);
+        shown_rows(self.alloc, spec, axis, &mut self.store)
+    }
+
+    /// Answers a view without a filter by the coefficients that it needs and the session's client lacks.
+    pub(crate) fn answer_coefs(
+        &mut self,
+        number: u32,
+        spec: ViewSpec,
+    ) -> Result<Frame, ServiceError>
+        requires sound { (P.view self.old.store.space.pages).fit }
+        requires number { 1 ≤ number }
+        requires opened { IsTrue (is_open number self.old.sessions) }
+        requires view { IsViewIn (length self.old.store.catalog.series.items) spec }
+        requires unfiltered { spec.filter ≡ None }
+        ensures replying { (total : ℕ) (book : List Series) → P.told self.old.store.space.pages → StandsForBook (P.view self.old.store.space.pages).image total book
+            → Replying (λ frame old new. IsSomeAnd (slice_get old.book spec.series) (λ series. AnswersBy None series spec number frame old new)) (ReadsFor spec.grid.w (slice_get book spec.series)) result total book self.old.sessions self.new.sessions (P.view self.old.store.space.pages) (P.view self.new.store.space.pages) }
+        ensures looked { Looked (Some number) result self.old.sessions self.new.sessions (P.told self.old.store.space.pages) (P.told self.new.store.space.pages) (P.view self.old.store.space.pages) (P.view self.new.store.space.pages) (P.under self.old.store.space.pages) (P.under self.new.store.space.pages) self.old.store.space.superblock self.new.store.space.superblock self.old.store.catalog.series.items self.new.store.catalog.series.items }
+    {
+        let planned = match self.plan(number, &spec) {
+            Ok(planned) => planned,
+            Err(PlanError::TooLarge { needed, cache }) => {
+                return Ok(refused(Refusal::ViewTooLarge { needed, cache }));
+            }
+            Err(PlanError::Node(error)) => return Err(node_error(error)),
+            Err(PlanError::NoMemory) => return Err(ServiceError::NoMemory),
+        };
+        let (series, grid) = (spec.series, spec.grid);
+        if self
+            .sessions
+            .apply(number, spec, Some(&planned.plan))
+            .is_err()
+        {
+            return Err(ServiceError::NoMemory);
+        }
+        Ok(Frame::View(view_frame(number, series, grid, planned)))
+    }
+
+    /// What a view of a series takes and tells.
+    fn plan(&mut self, number: u32, spec: &ViewSpec) -> Result<Planned, PlanError>
+        requires sound { (P.view self.old.store.space.pages).fit }
+        requires opened { IsTrue (is_open number self.old.sessions) }
+        requires view { IsViewIn (length self.old.store.catalog.series.items) spec.now }
+        requires unfiltered { spec.now.filter ≡ None }
+        ensures planned { (total : ℕ) (book : List Series) → P.told self.old.store.space.pages → StandsForBook (P.view self.old.store.space.pages).image total book
+            → IsSomeAnd (slice_get book spec.now.series) (λ series. PlansOrStops series spec.now (session_of number self.old.sessions) result) }
+        ensures good { IfOk result IsGoodPlan }
+        ensures cause { IfErr result (λ error. IsPlanCause error (P.told self.old.store.space.pages) self.old.store.catalog.series.items self.old.store.space.superblock.total (P.view self.old.store.space.pages) (P.view self.new.store.space.pages)) }
+        ensures looks { Looks (P.told self.old.store.space.pages) (P.told self.new.store.space.pages) (P.view self.old.store.space.pages) (P.view self.new.store.space.pages) (P.under self.old.store.space.pages) (P.under self.new.store.space.pages) self.old.store.space.superblock self.new.store.space.superblock self.old.store.catalog.series.items self.new.store.catalog.series.items }
+        ensures reads { (total : ℕ) (book : List Series) → P.told self.old.store.space.pages → StandsForBook (P.view self.old.store.space.pages).image total book
+            → ReadsFor spec.now.grid.w (slice_get book spec.now.series) (P.view self.old.store.space.pages).reads (P.view self.new.store.space.pages).reads }
+        ensures sessions { self.new.sessions ≡ self.old.sessions }
+        ensures few { spec.now.series < 512 }
+    {
+        let axis = selected(&mut self.store, spec.series);
+        plan(&self.sessions, number, spec, axis, &mut self.store)
+    }
+}

@@ -1,0 +1,105 @@
+//! A service answers requests that are no edits.
+ghost use Rattle.std.specs.Prelude.{◌≡◌, ◌≤◌, ℕ, List, Some, IfOk, IfErr, OnErr};
+ghost use Rattle.block_disk.specs.View.{View};
+ghost use Rattle.chart_frames.specs.Frames.{Fits};
+ghost use Rattle.request_lines.specs.Requests.{IsInRange};
+ghost use Rattle.series_book.specs.declared.one_series.Series.{Series};
+ghost use Rattle.stored_book.specs.Standing.{StandsForBook};
+ghost use Rattle.zoom_session.specs.Sessions.{is_open, open_refusal};
+ghost use Rattle.chart_service.specs.Alone.{session_in};
+ghost use Rattle.chart_service.specs.Looking.{IsNoEdit, Looked, Replying};
+ghost use Rattle.chart_service.specs.Opening.{OpensBy};
+ghost use Rattle.chart_service.specs.Replies.{Opens, Closes, Replies, cache_of};
+ghost use Rattle.chart_service.specs.Stepping.{state_of, IsStepCause, ReadsFew};
+
+use crate::failure::ServiceError;
+use crate::refusals::refused;
+use crate::service::Service;
+use crate::viewport::Viewport;
+use chart_frames::Frame;
+use gate_pages::Pages;
+use request_lines::Request;
+use zoom_session::{DEFAULT_CACHE, SessionError};
+
+impl<P: Pages> Service<P> {
+    /// Answers a request that is no edit.
+    pub(crate) fn look(&mut self, request: &Request) -> Result<Frame, ServiceError>
+        requires sound { (P.view self.old.store.space.pages).fit }
+        requires range { IsInRange request.now }
+        requires no_edit { IsNoEdit request.now }
+        ensures replying { (total : ℕ) (book : List Series) → P.told self.old.store.space.pages → StandsForBook (P.view self.old.store.space.pages).image total book
+            → Replying (Replies request.now) (ReadsFew request.now book self.old.sessions) result total book self.old.sessions self.new.sessions (P.view self.old.store.space.pages) (P.view self.new.store.space.pages) }
+        ensures cause { IfErr result (λ error. IsStepCause request.now error (P.told self.old.store.space.pages) self.old.store.catalog.series.items self.old.store.space.superblock.total (P.view self.old.store.space.pages) (P.view self.new.store.space.pages)) }
+        ensures looked { Looked (session_in request.now) result self.old.sessions self.new.sessions (P.told self.old.store.space.pages) (P.told self.new.store.space.pages) (P.view self.old.store.space.pages) (P.view self.new.store.space.pages) (P.under self.old.store.space.pages) (P.under self.new.store.space.pages) self.old.store.space.superblock self.new.store.space.superblock self.old.store.catalog.series.items self.new.store.catalog.series.items }
+    {
+        match request {
+            Request::Edit(_) => unreachable!(),
+            Request::Open { session, cache } => self.open(*session, cache_of(*cache)),
+            Request::View {
+                session,
+                name,
+                w,
+                h,
+                t0,
+                t1,
+                range,
+                filter,
+            } => {
+                let viewport = Viewport {
+                    w: *w,
+                    h: *h,
+                    t0: *t0,
+                    t1: *t1,
+                };
+                self.view_by_text(*session, name, viewport, *range, filter)
+            }
+            Request::Zoom { session, t0, t1 } => self.zoom(*session, *t0, *t1),
+            Request::Pan { session, by } => self.pan(*session, *by),
+            Request::Close { session } => Ok(self.close(*session)),
+        }
+    }
+
+    /// Opens a session.
+    fn open(&mut self, number: u32, cache: u64) -> Result<Frame, ServiceError>
+        requires { 1 ≤ number }
+        ensures reply { (total : ℕ) (book : List Series) → IfOk result (λ frame. Opens (open_refusal self.old.sessions number cache) number cache frame (state_of book total self.old.sessions) (state_of book total self.new.sessions)) }
+        ensures fits { IfOk result Fits }
+        ensures opens { IfOk result (λ frame. OpensBy frame self.old.sessions self.new.sessions) }
+        ensures kept { OnErr result (self.new.sessions ≡ self.old.sessions) }
+        ensures error { IfErr result (λ error. error ≡ ServiceError.NoMemory) }
+        ensures store { self.new.store ≡ self.old.store }
+    {
+        match self.sessions.open(number, cache) {
+            Ok(()) => Ok(Frame::Opened {
+                session: number,
+                cache: cache as u32,
+            }),
+            Err(SessionError::Refused(refusal)) => Ok(refused(refusal)),
+            Err(SessionError::NoMemory) => Err(ServiceError::NoMemory),
+        }
+    }
+
+    /// Closes a session.
+    #[tactic(auto, using(crate::proofs::Keeping::views_closed, crate::proofs::Openings::opens_closed))]
+    fn close(&mut self, number: u32) -> Frame
+        requires { 1 ≤ number }
+        ensures reply { (total : ℕ) (book : List Series) → Closes (is_open number self.old.sessions) number result (state_of book total self.old.sessions) (state_of book total self.new.sessions) }
+        ensures fits { Fits result }
+        ensures opens { OpensBy result self.old.sessions self.new.sessions }
+        ensures store { self.new.store ≡ self.old.store }
+    {
+        // It brings in what holds of the open sessions.
+        let _open = self.sessions.is_open(number);
+        if let Err(refusal) = self.sessions.close(number) {
+            return refused(refusal);
+        }
+        Frame::Closed { session: number }
+    }
+}
+
+/// The cache that an opening asks for.
+fn cache_of(cache: Option<u64>) -> u64
+    ensures { result ≡ cache_of cache }
+{
+    cache.unwrap_or(DEFAULT_CACHE)
+}

@@ -1,0 +1,225 @@
+//! A service answers views.
+ghost use Rattle.std.specs.Prelude.{◌≡◌, ◌≤◌, ◌+ℤ◌, ℕ, ℤ, List, None, Some, length, slice_get, IfOk, IfSome, OnOk, IsTrue, IsSomeAnd, MatchResult, Ok, Err};
+ghost use Rattle.block_disk.specs.View.{View};
+ghost use Rattle.series_book.specs.declared.one_series.Series.{Series};
+ghost use Rattle.series_book.specs.Edits.{id_of};
+ghost use Rattle.stored_book.specs.Standing.{StandsForBook};
+ghost use Rattle.zoom_session.specs.Sessions.{is_open, session_of, last_of};
+ghost use Rattle.zoom_session.specs.Views.{IsRangeSpec};
+ghost use Rattle.chart_service.specs.Holding.{IsViewIn};
+ghost use Rattle.chart_service.specs.Looking.{Looked, Replying, ReadsBy, ReadsByText};
+ghost use Rattle.chart_service.specs.Planning.{IsSpecFor, IsLastOf, IsMoved, IsGridFor};
+ghost use Rattle.chart_service.specs.Replies.{AnswersView, RepliesToView, RepliesByText, Moves, MovesIn};
+ghost use Rattle.chart_service.specs.Stepping.{ReadsLast, series_at};
+
+use crate::failure::ServiceError;
+use crate::filters::filter_of;
+use crate::ranges::{is_bad_range, range_spec};
+use crate::refusals::refused;
+use crate::service::Service;
+use crate::viewport::Viewport;
+use chart_frames::Frame;
+use chart_grid::{Grid, GridError};
+use gate_pages::Pages;
+use request_lines::{FilterText, RangeWord};
+use series_book::{Name, Refusal};
+use value_filter::{Filter, FilterFault};
+use zoom_session::ViewSpec;
+
+impl<P: Pages> Service<P> {
+    /// Answers a view with the filter of this text, where it has one. A text that spells no filter is
+    /// refused before anything else is looked at.
+    pub(crate) fn view_by_text(
+        &mut self,
+        number: u32,
+        name: &Name,
+        viewport: Viewport,
+        word: RangeWord,
+        text: &Option<FilterText>,
+    ) -> Result<Frame, ServiceError>
+        requires sound { (P.view self.old.store.space.pages).fit }
+        requires number { 1 ≤ number }
+        requires short { IfSome text.now (λ text. length text ≤ 8192) }
+        ensures replying { (total : ℕ) (book : List Series) → P.told self.old.store.space.pages → StandsForBook (P.view self.old.store.space.pages).image total book
+            → Replying (λ frame old new. RepliesByText text.now (λ filter. RepliesToView (is_open number old.sessions) number name.now viewport.w viewport.h viewport.t0 viewport.t1 word filter frame old new) frame old new) (ReadsByText text.now viewport.w (series_at book (id_of name.now book))) result total book self.old.sessions self.new.sessions (P.view self.old.store.space.pages) (P.view self.new.store.space.pages) }
+        ensures looked { Looked (Some number) result self.old.sessions self.new.sessions (P.told self.old.store.space.pages) (P.told self.new.store.space.pages) (P.view self.old.store.space.pages) (P.view self.new.store.space.pages) (P.under self.old.store.space.pages) (P.under self.new.store.space.pages) self.old.store.space.superblock self.new.store.space.superblock self.old.store.catalog.series.items self.new.store.catalog.series.items }
+    {
+        match filter_of(self.alloc, text) {
+            Ok(filter) => self.view(number, name, viewport, word, filter),
+            Err(FilterFault::At { at }) => Ok(refused(Refusal::BadFilter { at })),
+            Err(FilterFault::NoMemory) => Err(ServiceError::NoMemory),
+        }
+    }
+
+    /// Answers a view of the series of a name.
+    fn view(
+        &mut self,
+        number: u32,
+        name: &Name,
+        viewport: Viewport,
+        word: RangeWord,
+        filter: Option<Filter>,
+    ) -> Result<Frame, ServiceError>
+        requires sound { (P.view self.old.store.space.pages).fit }
+        requires number { 1 ≤ number }
+        ensures replying { (total : ℕ) (book : List Series) → P.told self.old.store.space.pages → StandsForBook (P.view self.old.store.space.pages).image total book
+            → Replying (λ frame old new. RepliesToView (is_open number old.sessions) number name.now viewport.w viewport.h viewport.t0 viewport.t1 word filter frame old new) (ReadsBy filter viewport.w (series_at book (id_of name.now book))) result total book self.old.sessions self.new.sessions (P.view self.old.store.space.pages) (P.view self.new.store.space.pages) }
+        ensures looked { Looked (Some number) result self.old.sessions self.new.sessions (P.told self.old.store.space.pages) (P.told self.new.store.space.pages) (P.view self.old.store.space.pages) (P.view self.new.store.space.pages) (P.under self.old.store.space.pages) (P.under self.new.store.space.pages) self.old.store.space.superblock self.new.store.space.superblock self.old.store.catalog.series.items self.new.store.catalog.series.items }
+    {
+        if !self.sessions.is_open(number) {
+            return Ok(refused(Refusal::UnknownSession));
+        }
+        // It brings in how many series there are.
+        let _count = self.store.len();
+        let Some(info) = self.store.series(name) else {
+            return Ok(refused(Refusal::UnknownSeries));
+        };
+        match spec_of(info.id, viewport, word, filter) {
+            Ok(spec) => self.answer(number, spec),
+            Err(refusal) => Ok(refused(refusal)),
+        }
+    }
+
+    /// Answers a session's last view over another window.
+    pub(crate) fn zoom(&mut self, number: u32, t0: i128, t1: i128) -> Result<Frame, ServiceError>
+        requires sound { (P.view self.old.store.space.pages).fit }
+        requires number { 1 ≤ number }
+        ensures replying { (total : ℕ) (book : List Series) → P.told self.old.store.space.pages → StandsForBook (P.view self.old.store.space.pages).image total book
+            → Replying (λ frame old new. MovesIn (session_of number old.sessions) number (λ last. (t0, t1)) frame old new) (ReadsLast book (last_of (session_of number self.old.sessions))) result total book self.old.sessions self.new.sessions (P.view self.old.store.space.pages) (P.view self.new.store.space.pages) }
+        ensures looked { Looked (Some number) result self.old.sessions self.new.sessions (P.told self.old.store.space.pages) (P.told self.new.store.space.pages) (P.view self.old.store.space.pages) (P.view self.new.store.space.pages) (P.under self.old.store.space.pages) (P.under self.new.store.space.pages) self.old.store.space.superblock self.new.store.space.superblock self.old.store.catalog.series.items self.new.store.catalog.series.items }
+    {
+        let last = match self.last_view(number) {
+            Ok(last) => last.copy()?,
+            Err(refusal) => return Ok(refused(refusal)),
+        };
+        let grid = zoomed(last.grid, t0, t1);
+        self.answer_over(number, last, grid)
+    }
+
+    /// Answers a session's last view, its window moved by this much.
+    pub(crate) fn pan(&mut self, number: u32, by: i128) -> Result<Frame, ServiceError>
+        requires sound { (P.view self.old.store.space.pages).fit }
+        requires number { 1 ≤ number }
+        ensures replying { (total : ℕ) (book : List Series) → P.told self.old.store.space.pages → StandsForBook (P.view self.old.store.space.pages).image total book
+            → Replying (λ frame old new. MovesIn (session_of number old.sessions) number (λ last. (last.grid.t0 +ℤ by, last.grid.t1 +ℤ by)) frame old new) (ReadsLast book (last_of (session_of number self.old.sessions))) result total book self.old.sessions self.new.sessions (P.view self.old.store.space.pages) (P.view self.new.store.space.pages) }
+        ensures looked { Looked (Some number) result self.old.sessions self.new.sessions (P.told self.old.store.space.pages) (P.told self.new.store.space.pages) (P.view self.old.store.space.pages) (P.view self.new.store.space.pages) (P.under self.old.store.space.pages) (P.under self.new.store.space.pages) self.old.store.space.superblock self.new.store.space.superblock self.old.store.catalog.series.items self.new.store.catalog.series.items }
+    {
+        let last = match self.last_view(number) {
+            Ok(last) => last.copy()?,
+            Err(refusal) => return Ok(refused(refusal)),
+        };
+        let grid = panned(last.grid, by);
+        self.answer_over(number, last, grid)
+    }
+
+    /// Answers a session's last view over another window, unless there is no grid for that.
+    fn answer_over(
+        &mut self,
+        number: u32,
+        last: ViewSpec,
+        grid: Result<Grid, GridError>,
+    ) -> Result<Frame, ServiceError>
+        requires sound { (P.view self.old.store.space.pages).fit }
+        requires number { 1 ≤ number }
+        requires opened { IsTrue (is_open number self.old.sessions) }
+        requires view { IsViewIn (length self.old.store.catalog.series.items) last }
+        ensures replying { (total : ℕ) (book : List Series) (t0 t1 : ℤ) → P.told self.old.store.space.pages → StandsForBook (P.view self.old.store.space.pages).image total book → IsMoved last.grid t0 t1 grid
+            → Replying (λ frame old new. Moves last number t0 t1 frame old new) (ReadsLast book (Some last)) result total book self.old.sessions self.new.sessions (P.view self.old.store.space.pages) (P.view self.new.store.space.pages) }
+        ensures looked { Looked (Some number) result self.old.sessions self.new.sessions (P.told self.old.store.space.pages) (P.told self.new.store.space.pages) (P.view self.old.store.space.pages) (P.view self.new.store.space.pages) (P.under self.old.store.space.pages) (P.under self.new.store.space.pages) self.old.store.space.superblock self.new.store.space.superblock self.old.store.catalog.series.items self.new.store.catalog.series.items }
+    {
+        // It brings in how many series there are.
+        let _count = self.store.len();
+        match grid {
+            Ok(grid) => self.answer(
+                number,
+                ViewSpec {
+                    series: last.series,
+                    grid,
+                    range: last.range,
+                    filter: last.filter,
+                },
+            ),
+            Err(_) => Ok(refused(Refusal::BadWindow)),
+        }
+    }
+
+    /// The view that a session was answered last, or why there is none.
+    #[tactic(auto, using(crate::proofs::Lasts::none_of, crate::proofs::Lasts::no_last, crate::proofs::Lasts::last_so, crate::proofs::Lasts::view_so))]
+    fn last_view(&self, number: u32) -> Result<&ViewSpec, Refusal>
+        ensures last { MatchResult result (λ last. IsLastOf (session_of number self.now.sessions) (Ok last.now)) (λ refusal. IsLastOf (session_of number self.now.sessions) (Err refusal)) }
+        ensures view { IfOk result (λ last. IsViewIn (length self.now.store.catalog.series.items) last.now) }
+        ensures answer { OnOk result (IsTrue (is_open number self.now.sessions)) }
+    {
+        if !self.sessions.is_open(number) {
+            return Err(Refusal::UnknownSession);
+        }
+        match self.sessions.last_view(number) {
+            Some(last) => Ok(last),
+            None => Err(Refusal::NoView),
+        }
+    }
+
+    /// Answers a view of a series in an open session.
+    fn answer(&mut self, number: u32, spec: ViewSpec) -> Result<Frame, ServiceError>
+        requires sound { (P.view self.old.store.space.pages).fit }
+        requires number { 1 ≤ number }
+        requires opened { IsTrue (is_open number self.old.sessions) }
+        requires view { IsViewIn (length self.old.store.catalog.series.items) spec }
+        ensures replying { (total : ℕ) (book : List Series) → P.told self.old.store.space.pages → StandsForBook (P.view self.old.store.space.pages).image total book
+            → Replying (λ frame old new. IsSomeAnd (slice_get old.book spec.series) (λ series. AnswersView series spec number frame old new)) (ReadsBy spec.filter spec.grid.w (slice_get book spec.series)) result total book self.old.sessions self.new.sessions (P.view self.old.store.space.pages) (P.view self.new.store.space.pages) }
+        ensures looked { Looked (Some number) result self.old.sessions self.new.sessions (P.told self.old.store.space.pages) (P.told self.new.store.space.pages) (P.view self.old.store.space.pages) (P.view self.new.store.space.pages) (P.under self.old.store.space.pages) (P.under self.new.store.space.pages) self.old.store.space.superblock self.new.store.space.superblock self.old.store.catalog.series.items self.new.store.catalog.series.items }
+    {
+        if spec.filter.is_none() {
+            self.answer_coefs(number, spec)
+        } else {
+            self.answer_rows(number, spec)
+        }
+    }
+}
+
+/// The grid of the same canvas over another window.
+fn zoomed(grid: Grid, t0: i128, t1: i128) -> Result<Grid, GridError>
+    ensures { IsMoved grid t0 t1 result }
+{
+    grid.zoom(t0, t1)
+}
+
+/// The grid of the same canvas, its window moved by this much.
+fn panned(grid: Grid, by: i128) -> Result<Grid, GridError>
+    ensures { IsMoved grid (grid.t0 +ℤ by) (grid.t1 +ℤ by) result }
+{
+    grid.pan(by)
+}
+
+/// The view of a series that is asked for, or the first refusal that stands against it.
+fn spec_of(
+    series: u16,
+    viewport: Viewport,
+    word: RangeWord,
+    filter: Option<Filter>,
+) -> Result<ViewSpec, Refusal>
+    ensures spec { IsSpecFor series viewport word filter result }
+    ensures range { IfOk result (λ spec. IsRangeSpec spec.range) }
+{
+    let grid = match grid_of(viewport) {
+        Ok(grid) => grid,
+        Err(GridError::BadWindow) => return Err(Refusal::BadWindow),
+        Err(GridError::BadCanvas) => return Err(Refusal::BadCanvas),
+    };
+    if is_bad_range(word) {
+        return Err(Refusal::BadRange);
+    }
+    Ok(ViewSpec {
+        series,
+        grid,
+        range: range_spec(word),
+        filter,
+    })
+}
+
+/// The grid that a view asks for.
+fn grid_of(viewport: Viewport) -> Result<Grid, GridError>
+    ensures { IsGridFor viewport result }
+{
+    Grid::new(viewport.t0, viewport.t1, viewport.w, viewport.h)
+}

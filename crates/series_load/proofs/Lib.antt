@@ -1,0 +1,14 @@
+pub mod RunLemmas
+pub mod RowLemmas
+pub mod SetLemmas
+pub mod LineLemmas
+pub mod Joined
+pub mod Carrying
+pub mod ReadingLemmas
+pub mod Passing
+pub mod Progress
+pub mod Endings
+pub mod Going
+pub mod Sides
+pub mod OneCut
+pub mod Knowing

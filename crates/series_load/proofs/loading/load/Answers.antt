@@ -1,0 +1,115 @@
+use Rattle.std.proofs.Common.{◌∙◌, ℕ, List, length, refl, subst}
+use Rattle.series_load.specs.Ends.{Outcome}
+use Rattle.series_load.specs.Sides.{side}
+use Rattle.series_load.proofs.Sides.{goes_nowhere}
+use Rattle.series_load.proofs.Going.{unstarted, no_value, no_memory_cause, no_memory_sound}
+use Rattle.series_load.proofs.Knowing.{info_of, none_so, not_named, found_so, no_memory_known, some_at_first}
+use Rattle.series_load.proofs.loading.load.Goals as goal
+
+pub returns-in_default-clause-unknown : goal.returns-in_default-clause-unknown
+returns-in_default-clause-unknown g c = λ total book told stands. (λ is. none_so c.series.result _ _ c.in_default.is (c.series.ensures.info total book c.requires.sound told stands), λ none. refl)
+
+pub returns-in_default-clause-untouched : goal.returns-in_default-clause-untouched
+returns-in_default-clause-untouched g c = λ is. refl
+
+pub returns-in_default-clause-outcome : goal.returns-in_default-clause-outcome
+returns-in_default-clause-outcome g c = λ total book series told stands named.
+    absurd (not_named c.args.name.now book series (none_so c.series.result _ _ c.in_default.is (c.series.ensures.info total book c.requires.sound told stands)) named)
+
+pub returns-in_default-clause-goes : goal.returns-in_default-clause-goes
+returns-in_default-clause-goes g c = goes_nowhere (side (g.P.Pages.told c.args.store.now.space.pages) (g.P.Pages.view c.args.store.now.space.pages) (g.P.Pages.under c.args.store.now.space.pages) c.args.store.now.space.superblock.total (length c.args.store.now.catalog.series.items) (g.P.Streams.left c.args.store.now.space.pages) (g.P.Streams.sent c.args.store.now.space.pages) (g.P.Streams.read_faults c.args.store.now.space.pages) (g.P.Streams.send_faults c.args.store.now.space.pages) (g.P.Streams.pieces c.args.store.now.space.pages))
+
+pub returns-in_default-clause-sound_for : goal.returns-in_default-clause-sound_for
+returns-in_default-clause-sound_for g c = c.requires.sound
+
+pub returns-in_err-loader-clause-unknown : goal.returns-in_err-loader-clause-unknown
+returns-in_err-loader-clause-unknown g c = λ total book told stands. found_so c.args.name.now book c.in-Some.info c.from_residual.result (c.in-Some.ensures.info total book c.requires.sound told stands) (no_memory_known c.from_residual.result c.in_err-loader.field-0.0 c.from_residual.ensures.1 c.in_err-loader.ensures.err)
+
+pub returns-in_err-loader-clause-untouched : goal.returns-in_err-loader-clause-untouched
+returns-in_err-loader-clause-untouched g c = λ is. absurd (no_memory_known c.from_residual.result c.in_err-loader.field-0.0 c.from_residual.ensures.1 c.in_err-loader.ensures.err is)
+
+pub returns-in_err-loader-clause-outcome : goal.returns-in_err-loader-clause-outcome
+returns-in_err-loader-clause-outcome g c = λ total book series told stands named.
+    unstarted total c.args.name.now book series (g.P.Streams.left c.args.store.now.space.pages) c.in_err-loader.field-0.0 c.from_residual.result (g.P.Pages.view c.args.store.now.space.pages) c.from_residual.ensures.1 c.in_err-loader.ensures.err (some_at_first total c.args.name.now book series (g.P.Streams.left c.args.store.now.space.pages) (g.P.Pages.view c.args.store.now.space.pages).image stands)
+
+pub returns-in_err-loader-clause-within : goal.returns-in_err-loader-clause-within
+returns-in_err-loader-clause-within g c = no_value c.from_residual.result c.in_err-loader.field-0.0 _ c.from_residual.ensures.1
+
+pub returns-in_err-loader-clause-goes : goal.returns-in_err-loader-clause-goes
+returns-in_err-loader-clause-goes g c = goes_nowhere (side (g.P.Pages.told c.args.store.now.space.pages) (g.P.Pages.view c.args.store.now.space.pages) (g.P.Pages.under c.args.store.now.space.pages) c.args.store.now.space.superblock.total (length c.args.store.now.catalog.series.items) (g.P.Streams.left c.args.store.now.space.pages) (g.P.Streams.sent c.args.store.now.space.pages) (g.P.Streams.read_faults c.args.store.now.space.pages) (g.P.Streams.send_faults c.args.store.now.space.pages) (g.P.Streams.pieces c.args.store.now.space.pages))
+
+pub returns-in_err-loader-clause-cause : goal.returns-in_err-loader-clause-cause
+returns-in_err-loader-clause-cause g c = no_memory_cause c.from_residual.result c.in_err-loader.field-0.0 _ _ _ _ _ c.from_residual.ensures.1 c.in_err-loader.ensures.err
+
+pub returns-in_err-loader-clause-sound : goal.returns-in_err-loader-clause-sound
+returns-in_err-loader-clause-sound g c = no_value c.from_residual.result c.in_err-loader.field-0.0 _ c.from_residual.ensures.1
+
+pub returns-in_err-loader-clause-sound_for : goal.returns-in_err-loader-clause-sound_for
+returns-in_err-loader-clause-sound_for g c = no_memory_sound c.from_residual.result c.in_err-loader.field-0.0 (g.P.Pages.view c.args.store.now.space.pages) c.from_residual.ensures.1 c.in_err-loader.ensures.err c.requires.sound
+
+pub returns-in_err-lines-clause-unknown : goal.returns-in_err-lines-clause-unknown
+returns-in_err-lines-clause-unknown g c = λ total book told stands. found_so c.args.name.now book c.in-Some.info c.from_residual-in_err-lines.result (c.in-Some.ensures.info total book c.requires.sound told stands) (no_memory_known c.from_residual-in_err-lines.result c.in_err-lines.field-0.0 c.from_residual-in_err-lines.ensures.1 c.in_err-lines.ensures.err)
+
+pub returns-in_err-lines-clause-untouched : goal.returns-in_err-lines-clause-untouched
+returns-in_err-lines-clause-untouched g c = λ is. absurd (no_memory_known c.from_residual-in_err-lines.result c.in_err-lines.field-0.0 c.from_residual-in_err-lines.ensures.1 c.in_err-lines.ensures.err is)
+
+pub returns-in_err-lines-clause-outcome : goal.returns-in_err-lines-clause-outcome
+returns-in_err-lines-clause-outcome g c = λ total book series told stands named.
+    unstarted total c.args.name.now book series (g.P.Streams.left c.args.store.now.space.pages) c.in_err-lines.field-0.0 c.from_residual-in_err-lines.result (g.P.Pages.view c.args.store.now.space.pages) c.from_residual-in_err-lines.ensures.1 c.in_err-lines.ensures.err (some_at_first total c.args.name.now book series (g.P.Streams.left c.args.store.now.space.pages) (g.P.Pages.view c.args.store.now.space.pages).image stands)
+
+pub returns-in_err-lines-clause-within : goal.returns-in_err-lines-clause-within
+returns-in_err-lines-clause-within g c = no_value c.from_residual-in_err-lines.result c.in_err-lines.field-0.0 _ c.from_residual-in_err-lines.ensures.1
+
+pub returns-in_err-lines-clause-goes : goal.returns-in_err-lines-clause-goes
+returns-in_err-lines-clause-goes g c = goes_nowhere (side (g.P.Pages.told c.args.store.now.space.pages) (g.P.Pages.view c.args.store.now.space.pages) (g.P.Pages.under c.args.store.now.space.pages) c.args.store.now.space.superblock.total (length c.args.store.now.catalog.series.items) (g.P.Streams.left c.args.store.now.space.pages) (g.P.Streams.sent c.args.store.now.space.pages) (g.P.Streams.read_faults c.args.store.now.space.pages) (g.P.Streams.send_faults c.args.store.now.space.pages) (g.P.Streams.pieces c.args.store.now.space.pages))
+
+pub returns-in_err-lines-clause-cause : goal.returns-in_err-lines-clause-cause
+returns-in_err-lines-clause-cause g c = no_memory_cause c.from_residual-in_err-lines.result c.in_err-lines.field-0.0 _ _ _ _ _ c.from_residual-in_err-lines.ensures.1 c.in_err-lines.ensures.err
+
+pub returns-in_err-lines-clause-sound : goal.returns-in_err-lines-clause-sound
+returns-in_err-lines-clause-sound g c = no_value c.from_residual-in_err-lines.result c.in_err-lines.field-0.0 _ c.from_residual-in_err-lines.ensures.1
+
+pub returns-in_err-lines-clause-sound_for : goal.returns-in_err-lines-clause-sound_for
+returns-in_err-lines-clause-sound_for g c = no_memory_sound c.from_residual-in_err-lines.result c.in_err-lines.field-0.0 (g.P.Pages.view c.args.store.now.space.pages) c.from_residual-in_err-lines.ensures.1 c.in_err-lines.ensures.err c.requires.sound
+
+pub load_lines-requires-clause-sound : goal.load_lines-requires-clause-sound
+load_lines-requires-clause-sound g c = c.requires.sound
+
+pub load_lines-requires-clause-fresh : goal.load_lines-requires-clause-fresh
+load_lines-requires-clause-fresh g c = c.in_ok-lines.ensures.lines
+
+pub load_lines-requires-clause-none : goal.load_lines-requires-clause-none
+load_lines-requires-clause-none g c = c.in_ok-loader.ensures.none
+
+pub load_lines-requires-clause-first : goal.load_lines-requires-clause-first
+load_lines-requires-clause-first g c = c.in_ok-loader.ensures.first
+
+pub load_lines-requires-clause-points : goal.load_lines-requires-clause-points
+load_lines-requires-clause-points g c = c.in_ok-loader.ensures.points
+
+pub returns-clause-unknown : goal.returns-clause-unknown
+returns-clause-unknown g c = λ total book told stands. found_so c.args.name.now book c.in-Some.info c.load_lines.result (c.in-Some.ensures.info total book c.requires.sound told stands) c.load_lines.ensures.known
+
+pub returns-clause-untouched : goal.returns-clause-untouched
+returns-clause-untouched g c = λ is. absurd (c.load_lines.ensures.known is)
+
+pub returns-clause-outcome : goal.returns-clause-outcome
+returns-clause-outcome g c = λ total book series told stands named.
+    let info = info_of c.args.name.now book series c.in-Some.info (c.in-Some.ensures.info total book c.requires.sound told stands) named in
+    let P : List ℕ → Type 0 = λ n. Outcome total n book series (g.P.Streams.left c.args.store.now.space.pages) (g.P.Streams.left c.load_lines.new.store.space.pages) c.load_lines.result (g.P.Pages.view c.args.store.now.space.pages) (g.P.Pages.view c.load_lines.new.store.space.pages) in
+    subst P c.in_ok-loader.ensures.name (c.load_lines.ensures.outcome total book series told stands (c.in_ok-loader.ensures.step ∙ info.step) (c.in_ok-loader.ensures.scale ∙ info.scale))
+
+pub returns-clause-within : goal.returns-clause-within
+returns-clause-within g c = c.load_lines.ensures.within
+
+pub returns-clause-goes : goal.returns-clause-goes
+returns-clause-goes g c = c.load_lines.ensures.goes
+
+pub returns-clause-cause : goal.returns-clause-cause
+returns-clause-cause g c = c.load_lines.ensures.cause
+
+pub returns-clause-sound : goal.returns-clause-sound
+returns-clause-sound g c = c.load_lines.ensures.sound
+
+pub returns-clause-sound_for : goal.returns-clause-sound_for
+returns-clause-sound_for g c = c.load_lines.ensures.sound_for

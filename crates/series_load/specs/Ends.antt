@@ -1,0 +1,123 @@
+-- How a load ends, and what it has done then.
+use Rattle.std.specs.Prelude.{◌≡◌, ℕ, ◌-◌, ◌^◌, ◌<◌, ◌≤◌, List, [], ◌∷◌, ◌++◌, length, take, Option, Result, Ok, Err, count_by, is_some, IfSome}
+use Rattle.block_disk.specs.Counts.{HasRisen}
+use Rattle.block_disk.specs.View.{Image, View, Passes}
+use Rattle.gate_pages.specs.Pages.{Quiet}
+use Rattle.chart_world.specs.Lines.{NoLineFeed}
+use Rattle.series_book.specs.declared.one_series.Series.{Series}
+use Rattle.series_book.specs.declared.refusals.Refusal.{Refusal}
+use Rattle.series_book.specs.Edits.{apply}
+use Rattle.stored_book.specs.Standing.{StandsForBook}
+use Rattle.series_load.specs.Rows.{Reading, ReadsRows, BadFirst}
+use Rattle.series_load.specs.Fronts.{told}
+use Rattle.series_load.specs.Runs.{Run, Ended, AllRuns, AreFirst}
+use Rattle.series_load.specs.Sets.{set_of, Loads, IsAfter, IsAfterSome}
+use Rattle.series_load.specs.declared.load_end.LoadEnd.{LoadEnd}
+use Rattle.series_load.specs.declared.load_end.LoadEnd.TheVariants.{UnknownSeries, BadLine, Refused, ReadFault, InputTooLong, DiskFault, Damaged, NoMemory}
+
+-- all lines are rows, the sets of all runs were done, and so many rows have a reading
+pub record IsLoaded (total : ℕ) (name : List ℕ) (book : List Series) (series : Series) (input : List ℕ) (count : ℕ) (image : Image) : Type 0 where
+  pub rows : List (Option Reading)
+  pub reads : ReadsRows series.scale input input [] rows
+  pub runs : List Run
+  pub all : AllRuns series.step rows runs
+  pub after : IsAfter total name book runs image
+  pub counted : count ≡ count_by is_some rows
+
+-- the first bad line is the one at this offset, and the sets of all runs before it were done
+pub record IsAtBad (total : ℕ) (name : List ℕ) (book : List Series) (series : Series) (input : List ℕ) (at : ℕ) (image : Image) : Type 0 where
+  pub front : List ℕ
+  pub rest : List ℕ
+  pub rows : List (Option Reading)
+  pub reads : ReadsRows series.scale input front rest rows
+  pub bad : BadFirst series.scale (told front) rest
+  pub at_is : at ≡ length front
+  pub runs : List Run
+  pub all : AllRuns series.step rows runs
+  pub after : IsAfter total name book runs image
+
+-- The sets of some first runs were done. The run behind them begins at this offset, and its set is refused so.
+pub record IsAtRefusal (total : ℕ) (name : List ℕ) (book : List Series) (series : Series) (input : List ℕ) (at : ℕ) (refusal : Refusal) (image : Image) : Type 0 where
+  pub runs : List Run
+  pub run : Run
+  pub first : AreFirst series.scale series.step input (runs ++ run ∷ [])
+  pub at_is : at ≡ run.first.at
+  pub new : List Series
+  pub loads : Loads total name book runs new
+  pub refused : apply new total (set_of name run) ≡ Err refusal
+  pub stands : StandsForBook image total new
+
+-- the sets of the runs that ended within the whole lines among the bytes taken were done, and these bytes are left
+pub record IsTaken (total : ℕ) (name : List ℕ) (book : List Series) (series : Series) (input left : List ℕ) (image : Image) : Type 0 where
+  pub front : List ℕ
+  pub partial : List ℕ
+  pub rows : List (Option Reading)
+  pub reads : ReadsRows series.scale input front (partial ++ left) rows
+  pub unended : NoLineFeed partial
+  pub runs : List Run
+  pub ended : Ended series.step rows runs
+  pub after : IsAfter total name book runs image
+
+-- the sets of the runs that ended within the whole lines among the first 2^32 bytes were done, and there is a byte more
+pub record IsPast (total : ℕ) (name : List ℕ) (book : List Series) (series : Series) (input : List ℕ) (image : Image) : Type 0 where
+  pub front : List ℕ
+  pub rest : List ℕ
+  pub rows : List (Option Reading)
+  pub reads : ReadsRows series.scale input front rest rows
+  pub within : length front ≤ 2 ^ 32
+  pub unended : NoLineFeed (take (2 ^ 32 - length front) rest)
+  pub past : 2 ^ 32 < length input
+  pub runs : List Run
+  pub ended : Ended series.step rows runs
+  pub after : IsAfter total name book runs image
+
+-- why not all of the input was loaded, and what was done
+abbrev pub EndsLoad : ℕ → List ℕ → List Series → Series → List ℕ → Option (List ℕ) → Image → LoadEnd → Type 0
+EndsLoad total name book series input left image UnknownSeries = ⊥
+EndsLoad total name book series input left image (BadLine at) = IsAtBad total name book series input at image
+EndsLoad total name book series input left image (Refused at refusal) = IsAtRefusal total name book series input at refusal image
+EndsLoad total name book series input left image ReadFault = IfSome left (λ bytes. IsTaken total name book series input bytes image)
+EndsLoad total name book series input left image InputTooLong = IsPast total name book series input image
+EndsLoad total name book series input left image DiskFault = Unit {0}
+EndsLoad total name book series input left image (Damaged page) = ⊥
+EndsLoad total name book series input left image NoMemory = Unit {0}
+
+-- unless a call of the disk failed, the sets of some first runs were done
+abbrev pub KeepsSome : ℕ → List ℕ → List Series → Series → Option (List ℕ) → Image → LoadEnd → Type 0
+KeepsSome total name book series input image UnknownSeries = ⊥
+KeepsSome total name book series input image (BadLine at) = IsAfterSome total name book series input image
+KeepsSome total name book series input image (Refused at refusal) = IsAfterSome total name book series input image
+KeepsSome total name book series input image ReadFault = IsAfterSome total name book series input image
+KeepsSome total name book series input image InputTooLong = IsAfterSome total name book series input image
+KeepsSome total name book series input image DiskFault = Unit {0}
+KeepsSome total name book series input image (Damaged page) = ⊥
+KeepsSome total name book series input image NoMemory = IsAfterSome total name book series input image
+
+-- why a load ended, whatever the pages are: their total, the pages and the counts of read faults before and after
+abbrev pub IsLoadCause : LoadEnd → ℕ → View → View → ℕ → ℕ → Type 0
+IsLoadCause UnknownSeries total old new reads reads' = Unit {0}
+IsLoadCause (BadLine at) total old new reads reads' = Unit {0}
+IsLoadCause (Refused at refusal) total old new reads reads' = Unit {0}
+IsLoadCause ReadFault total old new reads reads' = HasRisen reads reads'
+IsLoadCause InputTooLong total old new reads reads' = Unit {0}
+IsLoadCause DiskFault total old new reads reads' = HasRisen old.faults new.faults
+IsLoadCause (Damaged page) total old new reads reads' = page < total
+IsLoadCause NoMemory total old new reads reads' = Unit {0}
+
+-- all of the input was loaded: what was done, whether or not the streams tell their bytes, and what a crash at a
+-- moment on the way leaves; no byte is sent
+pub record Finished (total : ℕ) (name : List ℕ) (book : List Series) (series : Series) (input : Option (List ℕ)) (count : ℕ) (old new : View) : Type 0 where
+  pub done : IfSome input (λ bytes. IsLoaded total name book series bytes count new.image)
+  pub some : IsAfterSome total name book series input new.image
+  pub moments : Passes old new (IsAfterSome total name book series input) (Quiet old)
+
+-- the same, where not all of it was
+pub record Stopped (total : ℕ) (name : List ℕ) (book : List Series) (series : Series) (input left : Option (List ℕ)) (e : LoadEnd) (old new : View) : Type 0 where
+  pub ends : IfSome input (λ bytes. EndsLoad total name book series bytes left new.image e)
+  pub some : KeepsSome total name book series input new.image e
+  pub moments : Passes old new (IsAfterSome total name book series input) (Quiet old)
+
+-- what a load has done, where the pages stood for the book, with a series of this name
+abbrev pub Outcome : ℕ → List ℕ → List Series → Series → Option (List ℕ) → Option (List ℕ) → Result ℕ LoadEnd → View → View → Type 0
+Outcome total name book series input left (Ok count) old new = Finished total name book series input count old new
+Outcome total name book series input left (Err e) old new = Stopped total name book series input left e old new

@@ -1,0 +1,7 @@
+pub mod Fronts
+pub mod Rows
+pub mod Runs
+pub mod Sets
+pub mod Ends
+pub mod Steps
+pub mod Sides

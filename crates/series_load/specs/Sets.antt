@@ -1,0 +1,41 @@
+-- Runs as sets of a series.
+use Rattle.std.specs.Prelude.{◌≡◌, ℕ, List, [], ◌∷◌, map, Option, None, Some, Ok, slice_get}
+use Rattle.block_disk.specs.View.{Image}
+use Rattle.series_book.specs.declared.one_series.Series.{Series}
+use Rattle.series_book.specs.declared.edits.Edit.{Edit}
+use Rattle.series_book.specs.declared.edits.Edit.TheVariants.{Set}
+use Rattle.series_book.specs.Edits.{Edited, apply, id_of}
+use Rattle.stored_book.specs.Standing.{StandsForBook}
+use Rattle.series_load.specs.Runs.{Run, readings, AreFirst}
+
+-- the series of this name in the book
+pub record IsNamed (book : List Series) (name : List ℕ) (series : Series) : Type 0 where
+  pub id : ℕ
+  pub id_is : id_of name book ≡ Some id
+  pub there : slice_get book id ≡ Some series
+
+-- the set of a run: its values, from the time of its first reading on
+abbrev pub set_of : List ℕ → Run → Edit
+set_of name run = Set name run.first.time (map (λ reading. Some reading.value) (readings run))
+
+-- the sets of the runs are accepted one by one, and make one book the other
+abbrev pub Loads : ℕ → List ℕ → List Series → List Run → List Series → Type 0
+Loads total name old [] new = new ≡ old
+Loads total name old (run ∷ later) new = (edited : Edited) × (apply old total (set_of name run) ≡ Ok edited) × Loads total name edited.book later new
+
+-- the pages stand for the book after the sets of these runs
+pub record IsAfter (total : ℕ) (name : List ℕ) (book : List Series) (runs : List Run) (image : Image) : Type 0 where
+  pub new : List Series
+  pub loads : Loads total name book runs new
+  pub stands : StandsForBook image total new
+
+-- the runs are the first of the input, where that is told
+abbrev pub AreFirstOf : ℕ → ℕ → Option (List ℕ) → List Run → Type 0
+AreFirstOf scale step None runs = Unit {0}
+AreFirstOf scale step (Some input) runs = AreFirst scale step input runs
+
+-- the pages stand for the book after the sets of some first runs of the input
+pub record IsAfterSome (total : ℕ) (name : List ℕ) (book : List Series) (series : Series) (input : Option (List ℕ)) (image : Image) : Type 0 where
+  pub runs : List Run
+  pub first : AreFirstOf series.scale series.step input runs
+  pub after : IsAfter total name book runs image

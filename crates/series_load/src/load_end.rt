@@ -1,0 +1,47 @@
+//! Why a load ended before the end of the input.
+use chart_world::LineFault;
+use series_book::Refusal;
+use thiserror::Error;
+
+/// Why not all of the input was loaded. The sets of the runs before stay.
+#[derive(Clone, Copy, Debug, PartialEq, Eq, Error)]
+pub enum LoadEnd {
+    /// No series has the name. No input was taken.
+    #[error("no such series")]
+    UnknownSeries,
+    /// The line that begins at this offset is no row, or is too long.
+    #[error("bad line at {at}")]
+    BadLine { at: u64 },
+    /// The set of the run whose first line begins at this offset is refused.
+    #[error("the run at {at} is refused: {refusal}")]
+    Refused { at: u64, refusal: Refusal },
+    /// A take failed. The run that stood open isn't stored.
+    #[error("the input could not be read")]
+    ReadFault,
+    /// A byte past 2^32 was taken. The run that stood open isn't stored.
+    #[error("the input has more than 2^32 bytes")]
+    InputTooLong,
+    /// A call of the disk failed: its count of faults has risen.
+    #[error("a call of the disk failed")]
+    DiskFault,
+    /// This page is damaged.
+    #[error("page {page} is damaged")]
+    Damaged { page: u32 },
+    /// There was no memory.
+    #[error("out of memory")]
+    NoMemory,
+}
+
+impl From<LineFault> for LoadEnd {
+    ghost use Rattle.std.specs.Prelude.{◌≡◌};
+    ghost use Rattle.series_load.specs.Steps.{end_of};
+
+    ghost from_gives = { λ fault end. end ≡ end_of fault };
+
+    fn from(fault: LineFault) -> LoadEnd {
+        match fault {
+            LineFault::ReadFault => LoadEnd::ReadFault,
+            LineFault::InputTooLong => LoadEnd::InputTooLong,
+        }
+    }
+}

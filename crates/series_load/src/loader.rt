@@ -1,0 +1,234 @@
+//! The lines of an input, one after the other, into a series.
+ghost use Rattle.std.specs.Prelude.{◌≡◌, ◌<◌, ◌≤◌, ◌+◌, ◌^◌, ℕ, List, [], ◌∷◌, Option, Some, None, true, false, length, unsigned_abs, IfOk, IfErr, OnOk};
+ghost use Rattle.block_disk.specs.View.{View};
+ghost use Rattle.series_book.specs.declared.one_series.Series.{Series};
+ghost use Rattle.stored_book.specs.Standing.{StandsForBook};
+ghost use Rattle.series_load.specs.Runs.{Run};
+ghost use Rattle.series_load.specs.Steps.{Keeps, Closes, Adds, LineAdds, LineEnds, SaysSo, NoBad, BadDone, TooLongDone, Does, IsSetCause, IsSoundFor, Carries, end_at};
+ghost use Rattle.series_load.specs.declared.load_end.LoadEnd.TheVariants.{NoMemory};
+ghost use Rattle.series_load.specs.declared.open_run.Reading.{Reading};
+
+use crate::load_end::LoadEnd;
+use crate::open_run::{OpenRun, Reading};
+use crate::said::{Said, said_of};
+use gate_pages::Pages;
+use series_book::Name;
+use series_store::{Store, StoreError};
+use std::alloc::Global;
+
+/// A load on its way: the series, and what was read of it.
+#[derive(Drop)]
+pub(crate) struct Loader {
+    pub(crate) alloc: Global,
+    pub(crate) name: Name,
+    pub(crate) step: u32,
+    pub(crate) scale: u8,
+    /// The run that stands open.
+    pub(crate) run: OpenRun,
+    /// No line has come that isn't empty.
+    pub(crate) first: bool,
+    /// How many rows have a value.
+    pub(crate) points: u64,
+}
+
+/// What an error of the store is for a load, where a run that begins at `at` was stored.
+fn end_at(at: u64, error: StoreError) -> LoadEnd
+    ensures { result ≡ end_at at error }
+{
+    match error {
+        StoreError::Refused(refusal) => LoadEnd::Refused { at, refusal },
+        StoreError::DiskFault => LoadEnd::DiskFault,
+        StoreError::Damaged { page } => LoadEnd::Damaged { page },
+        StoreError::NotAStore | StoreError::NoMemory => LoadEnd::NoMemory,
+    }
+}
+
+impl Loader {
+    pub(crate) fn new(alloc: Global, name: &Name, step: u32, scale: u8) -> Result<Loader, LoadEnd>
+        ensures name { IfOk result (λ loader. loader.name ≡ name.now) }
+        ensures step { IfOk result (λ loader. loader.step ≡ step) }
+        ensures scale { IfOk result (λ loader. loader.scale ≡ scale) }
+        ensures none { IfOk result (λ loader. loader.run.values.items ≡ []) }
+        ensures first { IfOk result (λ loader. loader.first ≡ true) }
+        ensures points { IfOk result (λ loader. loader.points ≡ 0) }
+        ensures err { IfErr result (λ e. e ≡ NoMemory) }
+    {
+        let Ok(name) = name.copy() else {
+            return Err(LoadEnd::NoMemory);
+        };
+        Ok(Loader {
+            alloc,
+            name,
+            step,
+            scale,
+            run: OpenRun::new(alloc)?,
+            first: true,
+            points: 0,
+        })
+    }
+
+    /// Stores the run that stands open, if there is one.
+    pub(crate) fn close<P: Pages>(&mut self, store: &mut Store<P>) -> Result<(), LoadEnd>
+        requires sound { (P.view store.old.space.pages).fit }
+        ensures does { (total : ℕ) (book : List Series) (open_run : Option Run) → P.told store.old.space.pages → StandsForBook (P.view store.old.space.pages).image total book → Keeps open_run self.old.run
+            → Does (Closes open_run) (Closes open_run) NoBad total self.old.name book result self.new.run (P.view store.old.space.pages) (P.view store.new.space.pages) }
+        ensures carries { Carries (P.told store.old.space.pages) (P.told store.new.space.pages) (P.view store.old.space.pages) (P.view store.new.space.pages) (P.under store.old.space.pages) (P.under store.new.space.pages) store.old.space.superblock.total store.new.space.superblock.total (length store.old.catalog.series.items) (length store.new.catalog.series.items) }
+        ensures cause { IfErr result (λ e. IsSetCause e store.old.space.superblock.total (P.view store.old.space.pages) (P.view store.new.space.pages)) }
+        ensures sound { OnOk result (P.view store.new.space.pages).fit }
+        ensures sound_for { IfErr result (λ e. IsSoundFor e (P.view store.new.space.pages)) }
+        ensures none { OnOk result (self.new.run.values.items ≡ []) }
+        ensures name { self.new.name ≡ self.old.name }
+        ensures step { self.new.step ≡ self.old.step }
+        ensures scale { self.new.scale ≡ self.old.scale }
+        ensures first { self.new.first ≡ self.old.first }
+        ensures points { self.new.points ≡ self.old.points }
+    {
+        if self.run.values.is_empty() {
+            return Ok(());
+        }
+        let at = self.run.at;
+        let set = self.run.to_set(self.alloc, &self.name)?;
+        match store.edit(&set) {
+            Ok(_) => {
+                self.run.values.clear();
+                Ok(())
+            }
+            Err(error) => Err(end_at(at, error)),
+        }
+    }
+
+    /// Takes a reading: it goes on with the run that stands open, or ends it. A run with 256 readings ends.
+    fn take_reading<P: Pages>(
+        &mut self,
+        store: &mut Store<P>,
+        at: u64,
+        next: &Reading,
+    ) -> Result<(), LoadEnd>
+        requires near { unsigned_abs next.now.time < 10 ^ 19 }
+        requires sound { (P.view store.old.space.pages).fit }
+        ensures does { (total : ℕ) (book : List Series) (open_run : Option Run) → P.told store.old.space.pages → StandsForBook (P.view store.old.space.pages).image total book → Keeps open_run self.old.run
+            → Does (Adds self.old.step open_run (Some (record { at = at; time = next.now.time; value = next.now.value }))) (Adds self.old.step open_run (Some (record { at = at; time = next.now.time; value = next.now.value }))) NoBad total self.old.name book result self.new.run (P.view store.old.space.pages) (P.view store.new.space.pages) }
+        ensures carries { Carries (P.told store.old.space.pages) (P.told store.new.space.pages) (P.view store.old.space.pages) (P.view store.new.space.pages) (P.under store.old.space.pages) (P.under store.new.space.pages) store.old.space.superblock.total store.new.space.superblock.total (length store.old.catalog.series.items) (length store.new.catalog.series.items) }
+        ensures cause { IfErr result (λ e. IsSetCause e store.old.space.superblock.total (P.view store.old.space.pages) (P.view store.new.space.pages)) }
+        ensures sound { OnOk result (P.view store.new.space.pages).fit }
+        ensures sound_for { IfErr result (λ e. IsSoundFor e (P.view store.new.space.pages)) }
+        ensures name { self.new.name ≡ self.old.name }
+        ensures step { self.new.step ≡ self.old.step }
+        ensures scale { self.new.scale ≡ self.old.scale }
+        ensures first { self.new.first ≡ self.old.first }
+        ensures points { self.new.points ≡ self.old.points }
+    {
+        if !self.run.is_followed_by(next, self.step) {
+            self.close(store)?;
+            return self.run.begin(at, next);
+        }
+        self.run.push(next)?;
+        if self.run.is_full() {
+            return self.close(store);
+        }
+        Ok(())
+    }
+
+    /// Ends the load at a bad line: the run that stands open is stored first.
+    pub(crate) fn stop<P: Pages>(&mut self, store: &mut Store<P>, at: u64) -> LoadEnd
+        requires sound { (P.view store.old.space.pages).fit }
+        ensures does { (total : ℕ) (book : List Series) (open_run : Option Run) → P.told store.old.space.pages → StandsForBook (P.view store.old.space.pages).image total book → Keeps open_run self.old.run
+            → Does {T = ℕ} (Closes open_run) (Closes open_run) (TooLongDone at total self.old.name book open_run (P.view store.new.space.pages).image) total self.old.name book (Err result) self.new.run (P.view store.old.space.pages) (P.view store.new.space.pages) }
+        ensures carries { Carries (P.told store.old.space.pages) (P.told store.new.space.pages) (P.view store.old.space.pages) (P.view store.new.space.pages) (P.under store.old.space.pages) (P.under store.new.space.pages) store.old.space.superblock.total store.new.space.superblock.total (length store.old.catalog.series.items) (length store.new.catalog.series.items) }
+        ensures cause { IsSetCause result store.old.space.superblock.total (P.view store.old.space.pages) (P.view store.new.space.pages) }
+        ensures sound_for { IsSoundFor result (P.view store.new.space.pages) }
+        ensures name { self.new.name ≡ self.old.name }
+        ensures step { self.new.step ≡ self.old.step }
+        ensures scale { self.new.scale ≡ self.old.scale }
+        ensures points { self.new.points ≡ self.old.points }
+    {
+        match self.close(store) {
+            Ok(()) => LoadEnd::BadLine { at },
+            Err(end) => end,
+        }
+    }
+
+    /// Ends the load at the end of the input: the run that stands open is stored. It answers how many rows
+    /// have a value.
+    pub(crate) fn finish<P: Pages>(&mut self, store: &mut Store<P>) -> Result<u64, LoadEnd>
+        requires sound { (P.view store.old.space.pages).fit }
+        ensures does { (total : ℕ) (book : List Series) (open_run : Option Run) → P.told store.old.space.pages → StandsForBook (P.view store.old.space.pages).image total book → Keeps open_run self.old.run
+            → Does (Closes open_run) (Closes open_run) NoBad total self.old.name book result self.new.run (P.view store.old.space.pages) (P.view store.new.space.pages) }
+        ensures carries { Carries (P.told store.old.space.pages) (P.told store.new.space.pages) (P.view store.old.space.pages) (P.view store.new.space.pages) (P.under store.old.space.pages) (P.under store.new.space.pages) store.old.space.superblock.total store.new.space.superblock.total (length store.old.catalog.series.items) (length store.new.catalog.series.items) }
+        ensures cause { IfErr result (λ e. IsSetCause e store.old.space.superblock.total (P.view store.old.space.pages) (P.view store.new.space.pages)) }
+        ensures sound { OnOk result (P.view store.new.space.pages).fit }
+        ensures sound_for { IfErr result (λ e. IsSoundFor e (P.view store.new.space.pages)) }
+        ensures points { IfOk result (λ count. count ≡ self.old.points) }
+    {
+        match self.close(store) {
+            Ok(()) => Ok(self.points),
+            Err(end) => Err(end),
+        }
+    }
+
+    /// Takes what a line says that isn't empty.
+    fn take_said<P: Pages>(
+        &mut self,
+        store: &mut Store<P>,
+        at: u64,
+        said: Said,
+    ) -> Result<(), LoadEnd>
+        requires sound { (P.view store.old.space.pages).fit }
+        requires few { self.old.points < 2 ^ 63 }
+        requires near { (reading : Reading) → said ≡ Said.Point reading → unsigned_abs reading.time < 10 ^ 19 }
+        ensures does { (total : ℕ) (book : List Series) (open_run : Option Run) (text : List ℕ) → P.told store.old.space.pages → StandsForBook (P.view store.old.space.pages).image total book → Keeps open_run self.old.run → 0 < length text → SaysSo self.old.scale self.old.first text said
+            → Does (λ ends new. LineAdds self.old.scale self.old.step at text self.old.first open_run self.old.points ends self.new.first new self.new.points) (λ ends new. LineEnds self.old.scale self.old.step at text self.old.first open_run self.old.points ends) (BadDone self.old.scale at self.old.first text total self.old.name book open_run (P.view store.new.space.pages).image) total self.old.name book result self.new.run (P.view store.old.space.pages) (P.view store.new.space.pages) }
+        ensures carries { Carries (P.told store.old.space.pages) (P.told store.new.space.pages) (P.view store.old.space.pages) (P.view store.new.space.pages) (P.under store.old.space.pages) (P.under store.new.space.pages) store.old.space.superblock.total store.new.space.superblock.total (length store.old.catalog.series.items) (length store.new.catalog.series.items) }
+        ensures cause { IfErr result (λ e. IsSetCause e store.old.space.superblock.total (P.view store.old.space.pages) (P.view store.new.space.pages)) }
+        ensures sound { OnOk result (P.view store.new.space.pages).fit }
+        ensures sound_for { IfErr result (λ e. IsSoundFor e (P.view store.new.space.pages)) }
+        ensures name { self.new.name ≡ self.old.name }
+        ensures step { self.new.step ≡ self.old.step }
+        ensures scale { self.new.scale ≡ self.old.scale }
+        ensures more { self.new.points ≤ self.old.points + 1 }
+    {
+        match said {
+            Said::Header => {
+                self.first = false;
+                Ok(())
+            }
+            Said::Point(reading) => {
+                self.first = false;
+                self.points += 1;
+                self.take_reading(store, at, &reading)
+            }
+            Said::Gap => {
+                self.first = false;
+                self.close(store)
+            }
+            Said::Bad => Err(self.stop(store, at)),
+        }
+    }
+
+    /// Takes a line of at most 8,192 bytes. An empty one is passed over.
+    pub(crate) fn take_line<P: Pages>(
+        &mut self,
+        store: &mut Store<P>,
+        at: u64,
+        line: &[u8],
+    ) -> Result<(), LoadEnd>
+        requires sound { (P.view store.old.space.pages).fit }
+        requires few { self.old.points < 2 ^ 63 }
+        ensures does { (total : ℕ) (book : List Series) (open_run : Option Run) → P.told store.old.space.pages → StandsForBook (P.view store.old.space.pages).image total book → Keeps open_run self.old.run
+            → Does (λ ends new. LineAdds self.old.scale self.old.step at line.now self.old.first open_run self.old.points ends self.new.first new self.new.points) (λ ends new. LineEnds self.old.scale self.old.step at line.now self.old.first open_run self.old.points ends) (BadDone self.old.scale at self.old.first line.now total self.old.name book open_run (P.view store.new.space.pages).image) total self.old.name book result self.new.run (P.view store.old.space.pages) (P.view store.new.space.pages) }
+        ensures carries { Carries (P.told store.old.space.pages) (P.told store.new.space.pages) (P.view store.old.space.pages) (P.view store.new.space.pages) (P.under store.old.space.pages) (P.under store.new.space.pages) store.old.space.superblock.total store.new.space.superblock.total (length store.old.catalog.series.items) (length store.new.catalog.series.items) }
+        ensures cause { IfErr result (λ e. IsSetCause e store.old.space.superblock.total (P.view store.old.space.pages) (P.view store.new.space.pages)) }
+        ensures sound { OnOk result (P.view store.new.space.pages).fit }
+        ensures sound_for { IfErr result (λ e. IsSoundFor e (P.view store.new.space.pages)) }
+        ensures name { self.new.name ≡ self.old.name }
+        ensures step { self.new.step ≡ self.old.step }
+        ensures scale { self.new.scale ≡ self.old.scale }
+        ensures more { self.new.points ≤ self.old.points + 1 }
+    {
+        if line.is_empty() {
+            return Ok(());
+        }
+        let said = said_of(self.alloc, line, self.scale, self.first)?;
+        self.take_said(store, at, said)
+    }
+}

@@ -1,0 +1,41 @@
+//! What a line says for a load.
+ghost use Rattle.std.specs.Prelude.{◌≡◌, IfOk, IfErr};
+ghost use Rattle.series_load.specs.Steps.{SaysSo};
+ghost use Rattle.series_load.specs.declared.load_end.LoadEnd.TheVariants.{NoMemory};
+
+use crate::load_end::LoadEnd;
+use crate::open_run::Reading;
+use csv_load::{Row, RowError, parse_row};
+use std::alloc::Global;
+
+/// What a line says that isn't empty.
+#[derive(Clone, Copy, Debug, PartialEq, Eq)]
+pub(crate) enum Said {
+    /// The names of the columns, on the first line.
+    Header,
+    /// A time and its value.
+    Point(Reading),
+    /// A time without a value.
+    Gap,
+    /// Nothing that may stand there.
+    Bad,
+}
+
+/// What the line says, which is the first one or isn't.
+pub(crate) fn said_of(alloc: Global, line: &[u8], scale: u8, first: bool) -> Result<Said, LoadEnd>
+    ensures said { IfOk result (λ said. SaysSo scale first line.now said) }
+    ensures err { IfErr result (λ e. e ≡ NoMemory) }
+{
+    match parse_row(alloc, line, scale) {
+        Ok(Row::Header) => {
+            if first {
+                return Ok(Said::Header);
+            }
+            Ok(Said::Bad)
+        }
+        Ok(Row::Point { time, value }) => Ok(Said::Point(Reading { time, value })),
+        Ok(Row::Skip { .. }) => Ok(Said::Gap),
+        Err(RowError::BadRow(_)) => Ok(Said::Bad),
+        Err(RowError::NoMemory) => Err(LoadEnd::NoMemory),
+    }
+}

@@ -1,0 +1,18 @@
+//! A store on a disk is opened, and its disk is given back.
+//!
+//! A journal that an earlier run left is replayed first, so a crash at any moment of an opening leaves the
+//! pages for which the disk stood. Then page 0 and the catalog are read. `specs/Held.antt` says when a disk
+//! holds a book: every image that a crash now may leave recovers to it.
+//!
+//! Page p of a store is block 66 + p, and block 1 has the directory of the journal.
+#![tactic(auto)]
+
+mod causes;
+mod closing;
+mod opening;
+#[cfg(test)]
+mod tests;
+
+pub use causes::OpeningCause;
+pub use closing::disk_of;
+pub use opening::open_store;
