@@ -52,7 +52,7 @@ ends_by IsText CanShow old new left left' before now faults (Ok u) s = record {
   missing = λ is. absurd (omega (arith, is));
   misfit = λ is. absurd (omega (arith, is));
   small = λ is. absurd (omega (arith, is));
-  unopened = λ is. absurd (omega (arith, is));
+  opened = λ is. absurd (omega (arith, is));
   zero_place = λ is. refl;
   crash = s.crash;
   goes_on = s.goes_on;
@@ -74,7 +74,7 @@ ends_by IsText CanShow old new left left' before now faults (Err (lines_end.Open
   missing = λ is. absurd (omega (arith, is));
   misfit = λ is. absurd (omega (arith, is));
   small = λ is. (s.cause.0, omega (arith, s.cause.0, s.cause.1));
-  unopened = λ is. absurd (omega (arith, is));
+  opened = λ is. absurd (omega (arith, is));
   zero_place = λ is. absurd (omega (arith, low_code 12 is));
   crash = s.crash;
   goes_on = s.goes_on;
@@ -96,7 +96,7 @@ ends_by IsText CanShow old new left left' before now faults (Err (lines_end.Open
   missing = λ is. absurd (omega (arith, is));
   misfit = λ is. absurd (omega (arith, is));
   small = λ is. absurd (omega (arith, is));
-  unopened = λ is. absurd (omega (arith, is));
+  opened = λ is. absurd (omega (arith, is));
   zero_place = λ is. absurd (omega (arith, low_code 7 is));
   crash = s.crash;
   goes_on = s.goes_on;
@@ -118,7 +118,7 @@ ends_by IsText CanShow old new left left' before now faults (Err (lines_end.Open
   missing = λ is. absurd (omega (arith, is));
   misfit = λ is. absurd (omega (arith, is));
   small = λ is. absurd (omega (arith, is));
-  unopened = λ is. absurd (omega (arith, is));
+  opened = λ is. absurd (omega (arith, is));
   zero_place = λ is. refl;
   crash = s.crash;
   goes_on = s.goes_on;
@@ -140,7 +140,7 @@ ends_by IsText CanShow old new left left' before now faults (Err (lines_end.Open
   missing = λ is. absurd (omega (arith, is));
   misfit = λ is. absurd (omega (arith, is));
   small = λ is. absurd (omega (arith, is));
-  unopened = λ is. absurd (omega (arith, is));
+  opened = λ is. absurd (omega (arith, is));
   zero_place = λ is. refl;
   crash = s.crash;
   goes_on = s.goes_on;
@@ -162,7 +162,7 @@ ends_by IsText CanShow old new left left' before now faults (Err (lines_end.Answ
   missing = λ is. absurd (omega (arith, is));
   misfit = λ is. absurd (omega (arith, is));
   small = λ is. absurd (omega (arith, is));
-  unopened = λ is. absurd (omega (arith, is));
+  opened = λ is. absurd (omega (arith, is));
   zero_place = λ is. refl;
   crash = s.crash;
   goes_on = s.goes_on;
@@ -184,7 +184,7 @@ ends_by IsText CanShow old new left left' before now faults (Err (lines_end.Answ
   missing = λ is. absurd (omega (arith, is));
   misfit = λ is. absurd (omega (arith, is));
   small = λ is. absurd (omega (arith, is));
-  unopened = λ is. absurd (omega (arith, is));
+  opened = λ is. absurd (omega (arith, is));
   zero_place = λ is. refl;
   crash = s.crash;
   goes_on = s.goes_on;
@@ -206,7 +206,7 @@ ends_by IsText CanShow old new left left' before now faults (Err (lines_end.Answ
   missing = λ is. absurd (omega (arith, is));
   misfit = λ is. absurd (omega (arith, is));
   small = λ is. absurd (omega (arith, is));
-  unopened = λ is. absurd (omega (arith, is));
+  opened = λ is. absurd (omega (arith, is));
   zero_place = λ is. refl;
   crash = s.crash;
   goes_on = s.goes_on;
@@ -228,7 +228,7 @@ ends_by IsText CanShow old new left left' before now faults (Err (lines_end.Answ
   missing = λ is. absurd (omega (arith, is));
   misfit = λ is. absurd (omega (arith, is));
   small = λ is. absurd (omega (arith, is));
-  unopened = λ is. absurd (omega (arith, is));
+  opened = λ is. absurd (omega (arith, is));
   zero_place = λ is. absurd (omega (arith, low_code 7 is));
   crash = s.crash;
   goes_on = s.goes_on;
@@ -250,7 +250,7 @@ ends_by IsText CanShow old new left left' before now faults (Err (lines_end.Answ
   missing = λ is. absurd (omega (arith, is));
   misfit = λ is. absurd (omega (arith, is));
   small = λ is. absurd (omega (arith, is));
-  unopened = λ is. absurd (omega (arith, is));
+  opened = λ is. absurd (omega (arith, is));
   zero_place = λ is. absurd (omega (arith, low_code 9 is));
   crash = s.crash;
   goes_on = s.goes_on;
@@ -272,7 +272,7 @@ ends_by IsText CanShow old new left left' before now faults (Err (lines_end.Answ
   missing = λ is. absurd (omega (arith, is));
   misfit = λ is. absurd (omega (arith, is));
   small = λ is. absurd (omega (arith, is));
-  unopened = λ is. absurd (omega (arith, is));
+  opened = λ is. absurd (omega (arith, is));
   zero_place = λ is. refl;
   crash = s.crash;
   goes_on = s.goes_on;
@@ -294,7 +294,7 @@ ends_by IsText CanShow old new left left' before now faults (Err (lines_end.Answ
   missing = λ is. (s.cause.0, told_with left _ _ s.ends (key, refl, s.cause.2));
   misfit = λ is. absurd (omega (arith, is));
   small = λ is. absurd (omega (arith, is));
-  unopened = λ is. absurd (omega (arith, is));
+  opened = λ is. absurd (omega (arith, is));
   zero_place = λ is. absurd (omega (arith, low_code 10 is));
   crash = s.crash;
   goes_on = s.goes_on;
@@ -316,33 +316,12 @@ ends_by IsText CanShow old new left left' before now faults (Err (lines_end.Answ
   missing = λ is. absurd (omega (arith, is));
   misfit = λ is. (s.cause.0, told_with left _ _ s.ends (key, refl, s.cause.2));
   small = λ is. absurd (omega (arith, is));
-  unopened = λ is. absurd (omega (arith, is));
+  opened = λ is. absurd (omega (arith, is));
   zero_place = λ is. absurd (omega (arith, low_code 11 is));
   crash = s.crash;
   goes_on = s.goes_on;
 }
-ends_by IsText CanShow old new left left' before now faults (Err (lines_end.Answering (run_end.Show (client.UnknownSession number)))) s = record {
-  codes = (10, omega arith, refl);
-  done = λ is. absurd (omega (arith, is));
-  within = λ is. absurd (omega (arith, is));
-  memory = λ is. absurd (omega (arith, is));
-  read = λ is. absurd (omega (arith, is));
-  stopped = λ is. absurd (omega (arith, is));
-  send = λ is. absurd (omega (arith, is));
-  part = λ is. absurd (omega (arith, is));
-  fault = λ is. absurd (omega (arith, is));
-  faulted = λ is. absurd (omega (arith, is));
-  damaged = λ is. absurd (omega (arith, is));
-  undamaged = λ is. absurd (omega (arith, is));
-  much = λ is. absurd (omega (arith, is));
-  missing = λ is. absurd (omega (arith, is));
-  misfit = λ is. absurd (omega (arith, is));
-  small = λ is. absurd (omega (arith, is));
-  unopened = λ is. (s.cause.0, told_with left _ _ s.ends s.cause.1);
-  zero_place = λ is. absurd (omega (arith, low_code 15 is));
-  crash = s.crash;
-  goes_on = s.goes_on;
-}
+ends_by IsText CanShow old new left left' before now faults (Err (lines_end.Answering (run_end.Show (client.UnknownSession number)))) s = absurd s.cause
 ends_by IsText CanShow old new left left' before now faults (Err (lines_end.Answering (run_end.Show client.NoMemory))) s = record {
   codes = (1, omega arith, refl);
   done = λ is. absurd (omega (arith, is));
@@ -360,7 +339,7 @@ ends_by IsText CanShow old new left left' before now faults (Err (lines_end.Answ
   missing = λ is. absurd (omega (arith, is));
   misfit = λ is. absurd (omega (arith, is));
   small = λ is. absurd (omega (arith, is));
-  unopened = λ is. absurd (omega (arith, is));
+  opened = λ is. absurd (omega (arith, is));
   zero_place = λ is. refl;
   crash = s.crash;
   goes_on = s.goes_on;

@@ -20,3 +20,4 @@ pub mod LinesServed
 pub mod Stores
 pub mod LineCodes
 pub mod LivesLemmas
+pub mod Knowing

@@ -85,7 +85,7 @@ lines_completed IsText CanShow old new input left' before now faults code place 
 lines_completed IsText CanShow old new input left' before now faults code place R S lines no_read no_send read send e (suc (suc (suc (suc (suc (suc (suc zero)))))), inside, is) = absurd ((e.missing (sym is)).1.0 lines.total lines.book lines.holds)
 lines_completed IsText CanShow old new input left' before now faults code place R S lines no_read no_send read send e (suc (suc (suc (suc (suc (suc (suc (suc zero))))))), inside, is) = absurd ((e.misfit (sym is)).1.0 lines.total lines.book lines.holds)
 lines_completed IsText CanShow old new input left' before now faults code place R S lines no_read no_send read send e (suc (suc (suc (suc (suc (suc (suc (suc (suc zero)))))))), inside, is) = absurd (omega (arith, (e.small (sym is)).1, is_large old.size lines.total old.image lines.book (lines.holds.images old.image lines.holds.honest)))
-lines_completed IsText CanShow old new input left' before now faults code place R S lines no_read no_send read send e (suc (suc (suc (suc (suc (suc (suc (suc (suc (suc zero))))))))), inside, is) = absurd ((e.unopened (sym is)).1.0 lines.total lines.book lines.holds)
+lines_completed IsText CanShow old new input left' before now faults code place R S lines no_read no_send read send e (suc (suc (suc (suc (suc (suc (suc (suc (suc (suc zero))))))))), inside, is) = absurd (e.opened (sym is))
 lines_completed IsText CanShow old new input left' before now faults code place R S lines no_read no_send read send e (suc (suc (suc (suc (suc (suc (suc (suc (suc (suc (suc k)))))))))), inside, is) = absurd (omega (arith, inside))
 
 pub lines_complete : (IsText : Says) (CanShow : Type 0) (old new : View) (left left' before now : Option (List ℕ)) (faults : Faults) (code place : ℕ) (W : Type 0) (command told : Command) (words : List (List ℕ)) → told ≡ command → Spells told words → ((input : List ℕ) → IsInput command old new input → AreLines old new input)

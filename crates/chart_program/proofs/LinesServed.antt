@@ -30,6 +30,8 @@ use Rattle.chart_program.proofs.Lowering.{stands_held, crash_for, from_book, ser
 use Rattle.chart_program.proofs.Answering.{told_so}
 use Rattle.chart_program.proofs.Moments.{since_none}
 use Rattle.chart_program.proofs.RunStands.{after_so}
+use Rattle.chart_program.specs.Known.{EndsKnown}
+use Rattle.chart_program.proofs.Knowing.{holds_of, never_unknown}
 use Rattle.chart_program.proofs.Telling.{OneFrame, AllDraw, OneLacks, Numbered, ahead_told, any_texts, texts_all}
 use Rattle.chart_program.proofs.World.{SaysNothing, some_none, ahead_none}
 
@@ -210,25 +212,24 @@ module _ (count count' : ℕ) (sound sound' : Bool) (old new : View) (left left'
         run_alone answer h (subst S alone starts) (subst D alone (subst DV none done)) within (subst E alone (subst EV none ends)) (subst L alone (subst LV none lasts)) closed cause
 
 -- the causes of a run over a screen
-pub run_cause : Numbered → (count count' : ℕ) (old new : View) (faults : Faults) (catalog : List StoredSeries) (total : ℕ) (end : RunEnd) → count' ≡ count
+pub run_cause : OneFrame → Numbered → (count count' : ℕ) (old new : View) (faults : Faults) (catalog : List StoredSeries) (total : ℕ) (end : RunEnd) → count' ≡ count
     → (end ≡ run_end.Serve serve_end.ReadFault → IsLinesCause (Unit {0}) count old new faults (run_end.Serve serve_end.ReadFault)) → (end ≡ run_end.Serve serve_end.SendFault → IsLinesCause (Unit {0}) count old new faults (run_end.Serve serve_end.SendFault)) → (end ≡ run_end.Serve serve_end.DiskFault → IsLinesCause (Unit {0}) count old new faults (run_end.Serve serve_end.DiskFault))
-    → EndsAtBad (Honest new) catalog (pages_of count' new.image) total end → IsShown ScreenGives end → IsLinesCause (Unit {0}) count old new faults end
-run_cause law count count' old new faults catalog total (run_end.Serve end) same read send disk bad shown =
+    → EndsAtBad (Honest new) catalog (pages_of count' new.image) total end → IsShown ScreenGives end → EndsKnown ScreenGives holds_of end → IsLinesCause (Unit {0}) count old new faults end
+run_cause one law count count' old new faults catalog total (run_end.Serve end) same read send disk bad shown known =
     serve_cause count count' old new faults catalog total (Unit {0}) end same (λ e. read (ap run_end.Serve e)) (λ e. send (ap run_end.Serve e)) (λ e. disk (ap run_end.Serve e)) bad
-run_cause law count count' old new faults catalog total (run_end.Show (client.Missing key)) same read send disk bad shown =
+run_cause one law count count' old new faults catalog total (run_end.Show (client.Missing key)) same read send disk bad shown known =
     (tt, law shown.3.0.frame shown.0 (client.Missing key) shown.3.0.rejects, record { frame = shown.3.0.frame; held = shown.0; rejects = shown.3.0.rejects })
-run_cause law count count' old new faults catalog total (run_end.Show (client.BadCoefficient key)) same read send disk bad shown =
+run_cause one law count count' old new faults catalog total (run_end.Show (client.BadCoefficient key)) same read send disk bad shown known =
     (tt, law shown.3.0.frame shown.0 (client.BadCoefficient key) shown.3.0.rejects, record { frame = shown.3.0.frame; held = shown.0; rejects = shown.3.0.rejects })
-run_cause law count count' old new faults catalog total (run_end.Show (client.UnknownSession number)) same read send disk bad shown =
-    (tt, record { frame = shown.3.0.frame; held = shown.0; rejects = shown.3.0.rejects })
-run_cause law count count' old new faults catalog total (run_end.Show client.NoMemory) same read send disk bad shown = tt
+run_cause one law count count' old new faults catalog total (run_end.Show (client.UnknownSession number)) same read send disk bad shown known = never_unknown one number known
+run_cause one law count count' old new faults catalog total (run_end.Show client.NoMemory) same read send disk bad shown known = tt
 
-pub run_causes : {T : Type 0} → Numbered → (count count' : ℕ) (old new : View) (faults : Faults) (catalog : List StoredSeries) (total : ℕ) (answer : Result T RunEnd) → count' ≡ count
+pub run_causes : {T : Type 0} → OneFrame → Numbered → (count count' : ℕ) (old new : View) (faults : Faults) (catalog : List StoredSeries) (total : ℕ) (answer : Result T RunEnd) → count' ≡ count
     → (answer ≡ Err (run_end.Serve serve_end.ReadFault) → IsLinesCause (Unit {0}) count old new faults (run_end.Serve serve_end.ReadFault)) → (answer ≡ Err (run_end.Serve serve_end.SendFault) → IsLinesCause (Unit {0}) count old new faults (run_end.Serve serve_end.SendFault)) → (answer ≡ Err (run_end.Serve serve_end.DiskFault) → IsLinesCause (Unit {0}) count old new faults (run_end.Serve serve_end.DiskFault))
-    → IfErr answer (EndsAtBad (Honest new) catalog (pages_of count' new.image) total) → IfErr answer (IsShown ScreenGives) → IfErr answer (IsLinesCause (Unit {0}) count old new faults)
-run_causes law count count' old new faults catalog total (Ok v) same read send disk bad shown = tt
-run_causes law count count' old new faults catalog total (Err end) same read send disk bad shown =
-    run_cause law count count' old new faults catalog total end same (λ is. read (ap Err is)) (λ is. send (ap Err is)) (λ is. disk (ap Err is)) bad shown
+    → IfErr answer (EndsAtBad (Honest new) catalog (pages_of count' new.image) total) → IfErr answer (IsShown ScreenGives) → IfErr answer (EndsKnown ScreenGives holds_of) → IfErr answer (IsLinesCause (Unit {0}) count old new faults)
+run_causes one law count count' old new faults catalog total (Ok v) same read send disk bad shown known = tt
+run_causes one law count count' old new faults catalog total (Err end) same read send disk bad shown known =
+    run_cause one law count count' old new faults catalog total end same (λ is. read (ap Err is)) (λ is. send (ap Err is)) (λ is. disk (ap Err is)) bad shown known
 
 -- want of memory for a service or a screen
 pub made_none : {T : Type 0} (IsText : Says) (CanShow : Type 0) (count : ℕ) (at : View) (left before : Option (List ℕ)) (faults : Faults) → SaysNothing IsText → ServesLines {T = T} IsText CanShow count at at left left before before faults (Err (run_end.Serve serve_end.NoMemory))

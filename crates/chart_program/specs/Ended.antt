@@ -78,7 +78,7 @@ pub record EndsBy (IsText : Says) (CanShow : Type 0) (old new : View) (left left
   pub missing : code ≡ 10 → CanShow × IfSome left (λ input. Never (page_count old.size) old × ((key : Key) × (place ≡ key_number key) × IsRejected (client.Missing key)))
   pub misfit : code ≡ 11 → CanShow × IfSome left (λ input. Never (page_count old.size) old × ((key : Key) × (place ≡ key_number key) × IsRejected (client.BadCoefficient key)))
   pub small : code ≡ 12 → (place ≡ old.size) × (old.size < 128)
-  pub unopened : code ≡ 15 → CanShow × IfSome left (λ input. Never (page_count old.size) old × IsRejected (client.UnknownSession place))
+  pub opened : code ≡ 15 → ⊥
   pub zero_place : Contains (0 ∷ 3 ∷ 4 ∷ 5 ∷ 6 ∷ []) code → place ≡ 0
   pub crash : IfSome left (λ input. IfSome before (λ bytes. LeavesBooks IsText (page_count old.size) input old new))
   pub goes_on : GoesOn old new

@@ -5,6 +5,7 @@ pub mod Reads
 pub mod Plotted
 pub mod Texts
 pub mod Runs
+pub mod Known
 pub mod Sending
 pub mod Served
 pub mod Lives

@@ -99,7 +99,6 @@ Misfits command old input place before now = ⊥
 -- a frame names this session, which isn't open
 abbrev pub NamesUnopened : Command → View → List ℕ → ℕ → Option (List ℕ) → Option (List ℕ) → Type 0
 NamesUnopened Draw old input place before now = StopsAtFrame input before now (draw_end.UnknownSession place)
-NamesUnopened Run old input place before now = Never (page_count old.size) old × IsRejected (client.UnknownSession place)
 NamesUnopened command old input place before now = ⊥
 
 -- What a command leaves of the disk. A plot and `draw` leave it alone, for the others time goes on. What `init` leaves at

@@ -150,7 +150,7 @@ IsLinesCause CanShow count old new faults (run_end.Serve serve_end.InputTooLong)
 IsLinesCause CanShow count old new faults (run_end.Serve serve_end.NoMemory) = ⊤
 IsLinesCause CanShow count old new faults (run_end.Show (client.Missing key)) = CanShow × (key.index < 2 ^ 40) × IsRejected (client.Missing key)
 IsLinesCause CanShow count old new faults (run_end.Show (client.BadCoefficient key)) = CanShow × (key.index < 2 ^ 40) × IsRejected (client.BadCoefficient key)
-IsLinesCause CanShow count old new faults (run_end.Show (client.UnknownSession number)) = CanShow × IsRejected (client.UnknownSession number)
+IsLinesCause CanShow count old new faults (run_end.Show (client.UnknownSession number)) = ⊥
 IsLinesCause CanShow count old new faults (run_end.Show client.NoMemory) = ⊤
 
 -- What a command did that serves the lines of its input over a store: what it sent, what the disk holds then and held at

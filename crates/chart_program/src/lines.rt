@@ -7,7 +7,7 @@ use crate::run::run_on;
 use crate::run_end::RunEnd;
 use block_disk::{Back, World};
 use chart_client::Screen;
-use chart_client::laws::frames_have_one_answer;
+use chart_client::laws::{frames_change_one_session, frames_have_one_answer};
 use chart_frames::laws::one_frame_a_spelling;
 use chart_service::{ServeEnd, Service, serve};
 use drawn_replies::laws::{clients_draw_the_book, replies_draw_the_book};
@@ -85,6 +85,7 @@ fn run_service<W: World>(
 {
     one_frame_a_spelling();
     frames_have_one_answer();
+    frames_change_one_session();
     clients_draw_the_book();
     replies_draw_the_book();
     service.is_sound();

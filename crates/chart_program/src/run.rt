@@ -1,4 +1,4 @@
-ghost use Rattle.std.specs.Prelude.{◌≡◌, ◌≢◌, ◌≤◌, ◌^◌, ℕ, List, Some, None, length, IfErr, IfOk, IfSome, OnOk};
+ghost use Rattle.std.specs.Prelude.{◌≡◌, ◌≢◌, ◌≤◌, ◌^◌, ℕ, Bool, List, Some, None, length, IfErr, IfOk, IfSome, OnOk};
 ghost use Rattle.block_disk.specs.Counts.{HasRisen};
 ghost use Rattle.block_disk.specs.View.{View, sent_now};
 ghost use Rattle.chart_frames.specs.Frames.{Fits};
@@ -8,6 +8,7 @@ ghost use Rattle.stored_book.specs.Standing.{StandsForBook};
 ghost use Rattle.chart_service.specs.Moments.{Since, IsAhead};
 ghost use Rattle.chart_service.specs.Serving.{SendsText, Serves};
 ghost use Rattle.chart_service.specs.Stepping.{StandsAfter, state_of};
+ghost use Rattle.chart_program.specs.Known.{Follows, KnowsOpen, EndsKnown};
 ghost use Rattle.chart_program.specs.Runs.{AreShown, AreShownFrom, EndsRun, EndsAtBad, LineDone, LineStops, LongLineDone, LongLineStops, IsShown, IsShownText, TextStops, ShowsFrame, ShowStops, IsReplyEnd};
 ghost use Rattle.chart_program.specs.Sending.{Through, ReplyMoments, LineMoments, KeptBeside, beside_of};
 
@@ -44,6 +45,8 @@ pub fn run_on<P: PageWorld, V: Show>(
     ensures send { result ≡ Err (RunEnd.Serve ServeEnd.SendFault) → HasRisen (P.send_faults service.old.store.space.pages) (P.send_faults service.new.store.space.pages) }
     ensures disk { result ≡ Err (RunEnd.Serve ServeEnd.DiskFault) → HasRisen (P.view service.old.store.space.pages).faults (P.view service.new.store.space.pages).faults }
     ensures shown { IfErr result (IsShown V.gives) }
+    // where `show` knows the open sessions, each frame that it wasn't able to show names known ones
+    ensures known { (knows : V → ℕ → Bool) → Follows V.gives knows → KnowsOpen knows show.old service.old.sessions → IfErr result (EndsKnown V.gives knows) }
     ensures bad { IfErr result (EndsAtBad (P.told service.new.store.space.pages) service.new.store.catalog.series.items (P.view service.new.store.space.pages).image service.new.store.space.superblock.total) }
     ensures serves { Serves (P.told service.old.store.space.pages) (P.told service.new.store.space.pages) (P.view service.old.store.space.pages) (P.view service.new.store.space.pages) }
     ensures goes_on { GoesOn (P.under service.old.store.space.pages) (P.under service.new.store.space.pages) }
@@ -76,6 +79,8 @@ fn answer_line<P: PageWorld, V: Show>(
     ensures moments { (total : ℕ) (book : List Series) → P.told service.old.store.space.pages → StandsForBook (P.view service.old.store.space.pages).image total book
         → Through (P.view service.old.store.space.pages) (P.view service.new.store.space.pages) (LineMoments V.gives show.old (Some line.now) (state_of book total service.old.sessions) (sent_now (P.view service.old.store.space.pages))) }
     ensures shown { IfErr result (IsShown V.gives) }
+    ensures known { (knows : V → ℕ → Bool) → Follows V.gives knows → KnowsOpen knows show.old service.old.sessions → OnOk result (KnowsOpen knows show.new service.new.sessions) }
+    ensures named { (knows : V → ℕ → Bool) → Follows V.gives knows → KnowsOpen knows show.old service.old.sessions → IfErr result (EndsKnown V.gives knows) }
     ensures send { result ≡ Err (RunEnd.Serve ServeEnd.SendFault) → HasRisen (P.send_faults service.old.store.space.pages) (P.send_faults service.new.store.space.pages) }
     ensures disk { result ≡ Err (RunEnd.Serve ServeEnd.DiskFault) → HasRisen (P.view service.old.store.space.pages).faults (P.view service.new.store.space.pages).faults }
     ensures read { result ≢ Err (RunEnd.Serve ServeEnd.ReadFault) }
@@ -110,6 +115,8 @@ fn answer_long_line<P: PageWorld, V: Show>(
         → Through (P.view service.old.store.space.pages) (P.view service.new.store.space.pages) (LineMoments V.gives show.old None (state_of book total service.old.sessions) (sent_now (P.view service.old.store.space.pages))) }
     ensures kept { KeptBeside (P.told service.old.store.space.pages) (P.told service.new.store.space.pages) (P.view service.old.store.space.pages) (P.view service.new.store.space.pages) (P.under service.old.store.space.pages) (P.under service.new.store.space.pages) (beside_of service.old.store.space.superblock.total service.old.store.catalog.series.items service.old.sessions) (beside_of service.new.store.space.superblock.total service.new.store.catalog.series.items service.new.sessions) }
     ensures shown { IfErr result (IsShown V.gives) }
+    ensures known { (knows : V → ℕ → Bool) → Follows V.gives knows → KnowsOpen knows show.old service.old.sessions → OnOk result (KnowsOpen knows show.new service.new.sessions) }
+    ensures named { (knows : V → ℕ → Bool) → Follows V.gives knows → KnowsOpen knows show.old service.old.sessions → IfErr result (EndsKnown V.gives knows) }
     ensures ends { IfErr result IsReplyEnd }
     ensures send { result ≡ Err (RunEnd.Serve ServeEnd.SendFault) → HasRisen (P.send_faults service.old.store.space.pages) (P.send_faults service.new.store.space.pages) }
     ensures left { P.left service.new.store.space.pages ≡ P.left service.old.store.space.pages }

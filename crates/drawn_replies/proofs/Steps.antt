@@ -148,7 +148,7 @@ moves : (o : Option Session) (number : ℕ) (window : ViewSpec → ℤ × ℤ) (
 moves None number window frame old new m = refuses _ frame old new m
 moves (Some session) number window frame old new m = moves-last session.last number window frame old new m
 
-replies : (r : Request) (frame : Frame) (old new : State) → Replies r frame old new → Step frame old new
+pub replies : (r : Request) (frame : Frame) (old new : State) → Replies r frame old new → Step frame old new
 replies (request.Edit edit) frame old new r = edits (apply old.book old.total edit) frame old new r
 replies (request.Open number cache) frame old new r =
     opens (open_refusal old.sessions number (cache_of cache)) number (cache_of cache) frame old new refl r

@@ -4,9 +4,10 @@ ghost use Rattle.std.specs.Prelude.{ℕ, ◌≡◌, List, [], Option};
 ghost use Rattle.std.specs.List.{filter};
 ghost use Rattle.line_raster.specs.Canvas.{Canvas};
 ghost use Rattle.chart_client.specs.declared.holding.Holding.{Holding};
+ghost use Rattle.request_lines.specs.declared.requests.Request.{Request};
 ghost use Rattle.chart_frames.specs.declared.frame.Frame.{Frame};
 ghost use Rattle.chart_service.specs.State.{State, IsSound};
-ghost use Rattle.chart_service.specs.Replies.{RepliesToLine};
+ghost use Rattle.chart_service.specs.Replies.{Replies, RepliesToLine};
 ghost use Rattle.chart_service.specs.Serving.{RepliesToAll};
 ghost use Rattle.chart_service.specs.Alone.{only};
 ghost use Rattle.drawn_replies.specs.Mirrors.{Mirrors, DrawsTheBook, OnlyLacksMemory};
@@ -26,6 +27,20 @@ pub fn clients_draw_the_book()
         IsSound old → RepliesToLine line frame old new → Mirrors old.sessions holdings → DrawsTheBook frame old new holdings }
     ensures accepts { (line : Option (List ℕ)) (frame : Frame) (old new : State) (holdings : List Holding) →
         IsSound old → RepliesToLine line frame old new → Mirrors old.sessions holdings → OnlyLacksMemory frame holdings }
+{
+    wanted_keys_are_needed();
+    sent_and_held_give_the_needed();
+    spans_add_up();
+    points_are_the_samples();
+    split_and_join_undo_each_other();
+}
+
+/// The same of the frame that answers a request, however the request came.
+pub fn clients_draw_requests()
+    ensures draws { (request : Request) (frame : Frame) (old new : State) (holdings : List Holding) →
+        IsSound old → Replies request frame old new → Mirrors old.sessions holdings → DrawsTheBook frame old new holdings }
+    ensures accepts { (request : Request) (frame : Frame) (old new : State) (holdings : List Holding) →
+        IsSound old → Replies request frame old new → Mirrors old.sessions holdings → OnlyLacksMemory frame holdings }
 {
     wanted_keys_are_needed();
     sent_and_held_give_the_needed();

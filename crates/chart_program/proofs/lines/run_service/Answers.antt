@@ -6,6 +6,7 @@ use Rattle.chart_program.specs.declared.run_end.RunEnd.TheVariants.{Serve}
 use Rattle.chart_program.specs.Served.{AreTexts, faults_of, ServesLines}
 use Rattle.chart_program.proofs.LinesServed.{run_made, run_causes, made_none}
 use Rattle.chart_program.proofs.Telling.{texts_none}
+use Rattle.chart_program.proofs.Knowing.{holds_of, screen_follows, known_first}
 use Rattle.chart_program.proofs.Stores.{store_disk, store_sound}
 use Rattle.chart_program.proofs.lines.run_service.Goals as goal
 
@@ -31,10 +32,12 @@ returns-in-Ok g c =
     let P : g.row.W.Denot → Type 0 = λ d. IsClosed (view d) in
     subst P same_disk (c.disk_of.ensures.rests (subst IsTrue (sym (store_sound store after.store c.into_store.ensures)) (made.sound other))) in
     let law = c.frames_have_one_answer.ensures in
+    let change = c.frames_change_one_session.ensures in
     let all = run_made pages.count end_pages.count pages.sound end_pages.sound (view disk) (view new) (left disk) (left new) (sent disk) (sent new) faults after.sessions made.serves.size made.serves.told made.goes_on made.serves.faults
     c.one_frame_a_spelling.ensures c.replies_draw_the_book.ensures c.clients_draw_the_book.ensures.accepts c.run_on-answer.result c.in-Ok.screen c.run_on-answer.new.show own c.in-Ok.ensures c.requires.alone
     (λ total book told stands. c.is_sound.ensures.state total book c.requires.sound told stands) made.done made.within made.ends made.crash closed
-    (run_causes law.numbered pages.count end_pages.count (view disk) (view new) faults after.store.catalog.series.items after.store.space.superblock.total c.run_on-answer.result made.serves.size made.read made.send made.disk made.bad made.shown) in
+    (run_causes c.one_frame_a_spelling.ensures law.numbered pages.count end_pages.count (view disk) (view new) faults after.store.catalog.series.items after.store.space.superblock.total c.run_on-answer.result made.serves.size made.read made.send made.disk made.bad made.shown
+    (made.known holds_of (screen_follows change.others change.opened change.viewed c.one_frame_a_spelling.ensures) (known_first c.in-Ok.screen own c.requires.alone))) in
     let D : g.row.W.Denot → Type 0 = λ d. ServesLines AreTexts (Unit {0}) pages.count (view disk) (view d) (left disk) (left d) (sent disk) (sent d) (faults_of (reads disk) (reads d) (sends disk) (sends d)) c.run_on-answer.result in
     subst D (sym same_disk) all
 

@@ -3,6 +3,8 @@ use Rattle.std.proofs.lemmas.Grind.{common_steps}
 use Rattle.chart_service.specs.Serving.{end_of_step}
 use Rattle.chart_service.specs.Stepping.{StandsAfter, state_of}
 use Rattle.chart_program.specs.declared.run_end.RunEnd.TheVariants.{Serve}
+use Rattle.chart_program.specs.Known.{KnowsOpen, EndsKnown}
+use Rattle.chart_program.proofs.Knowing.{known_next, named_known, ends_known, same_opens}
 use Rattle.chart_program.specs.Runs.{LineDone, LineStops, ShowStops, ShowsFrame}
 use Rattle.chart_program.specs.Sending.{Beside}
 use Rattle.chart_program.proofs.Answering.{says_text}
@@ -65,3 +67,29 @@ returns-clause-moments g c = λ total book told stands.
     let some : 0 < length c.args.line.now = grind (arith, common_steps) in
     text_moments g.V.Show.gives c.args.show.now c.args.line.now c.in_ok-frame.frame total book c.args.service.now.sessions c.step_line.new.self.sessions (g.P.Pages.view c.args.service.now.store.space.pages) (g.P.Pages.view mid) (g.P.Pages.view c.reply.new.service.store.space.pages)
     c.requires.short (says_text c.args.line.now some) (yes.moments total book told stands) (g.met.P.Pages.rests mid yes.sound) (yes.reply total book told stands) c.reply.ensures.moments
+
+pub returns-in_err-frame-clause-named : goal.returns-in_err-frame-clause-named
+returns-in_err-frame-clause-named g c = λ knows follows known.
+    error_goes (EndsKnown g.V.Show.gives knows) c.from_residual.result (Serve (end_of_step c.in_err-frame.field-0.0)) c.from_residual.ensures.1 tt
+
+pub returns-clause-known : goal.returns-clause-known
+returns-clause-known g c = λ knows follows known.
+    let yes = c.in_ok-frame.ensures in
+    let frame = c.in_ok-frame.frame in
+    let pages = c.step_line.new.self.store.space.pages in
+    let new = c.reply.new.service.store.space.pages in
+    ok_so c.reply.result (ShowsFrame g.V.Show.gives frame c.args.show.now c.reply.new.show (g.P.Streams.sent pages) (g.P.Streams.sent new)) (KnowsOpen knows c.reply.new.show c.reply.new.service.sessions)
+    (λ shows. known_next g.V.Show.gives knows c.args.show.now c.reply.new.show frame c.args.service.now.sessions c.reply.new.service.sessions follows yes.fits known
+    (same_opens c.args.service.now.sessions c.step_line.new.self.sessions c.reply.new.service.sessions frame (ap (λ (b : Beside). b.sessions) c.reply.ensures.kept.same) yes.opens.after) shows.0 shows.1)
+    c.reply.ensures.done
+
+pub returns-clause-named : goal.returns-clause-named
+returns-clause-named g c = λ knows follows known.
+    let yes = c.in_ok-frame.ensures in
+    let frame = c.in_ok-frame.frame in
+    let pages = c.step_line.new.self.store.space.pages in
+    let new = c.reply.new.service.store.space.pages in
+    err_so c.reply.result (ShowStops g.V.Show.gives frame c.args.show.now c.reply.new.show (g.P.Streams.sent pages) (g.P.Streams.sent new)) (EndsKnown g.V.Show.gives knows)
+    (λ end why. ends_known g.V.Show.gives knows c.args.show.now c.reply.new.show frame (g.P.Streams.sent pages) (g.P.Streams.sent new) end yes.fits
+    (named_known knows c.args.show.now frame c.args.service.now.sessions known yes.opens.named) why)
+    c.reply.ensures.stops

@@ -7,7 +7,9 @@ use Rattle.chart_service.specs.Serving.{end_of}
 use Rattle.chart_service.specs.Stepping.{state_of}
 use Rattle.chart_service.specs.declared.failure.ServeEnd.TheVariants.{NoMemory}
 use Rattle.chart_program.specs.declared.run_end.RunEnd.TheVariants.{Serve}
+use Rattle.chart_program.specs.Known.{EndsKnown}
 use Rattle.chart_program.specs.Runs.{EndsRun}
+use Rattle.chart_program.proofs.Knowing.{known_kept}
 use Rattle.chart_program.specs.Sending.{Beside}
 use Rattle.chart_program.proofs.Progress.{same_line}
 use Rattle.chart_program.proofs.Answering.{Gives}
@@ -33,6 +35,7 @@ lines-init g c =
       far = λ total book told stands. far_first g.V.Show.gives c.args.show.now o total book own before (view pages).image c.in_ok-lines.lines stands fresh;
       lasts = λ total book told stands. lasts_first g.V.Show.gives c.args.show.now o before total book own (view pages) c.in_ok-lines.lines
           (far_first g.V.Show.gives c.args.show.now o total book own before (view pages).image c.in_ok-lines.lines stands fresh) (g.met.P.Pages.rests pages c.requires) (g.met.P.PageWorld.counts_sent pages);
+      known = λ knows follows known. known;
       serves = serves_none (g.P.Pages.told pages) (view pages);
       goes_on = goes_none (g.P.Pages.under pages);
       total_is = refl;
@@ -192,6 +195,7 @@ lines-preserved-in-Continue-branch-4 g c =
           let far = far_kept g.V.Show.gives c.args.show.now o total book own before c.lines.show c.lines.lines (g.P.Streams.left mid) (g.P.Streams.sent mid) (g.P.Streams.sent taken) (view mid).image (view taken).image c.lines.service.sessions c.next.new.from.sessions kept.image beside.sessions c.next.ensures.sent (inv.far total book told stands) in
           let told' = g.met.P.PageWorld.take_told mid taken takes (inv.serves.told told) in
           lasts_line g.V.Show.gives c.args.show.now c.lines.show o before (g.P.Streams.sent taken) total book own c.next.new.from.sessions (view pages) (view taken) (view new) c.lines.lines c.next.new.self (g.P.Streams.left mid) (g.P.Streams.left taken) None far (g.met.P.PageWorld.counts_sent pages) (g.met.P.PageWorld.counts_sent taken) gives (made.moments total far.book told' far.stands) (lasts_take g.V.Show.gives c.args.show.now c.lines.show o before (g.P.Streams.sent mid) total book own c.lines.service.sessions (view pages) (view mid) (view taken) c.lines.lines (g.P.Streams.left mid) (inv.far total book told stands) (g.met.P.Pages.rests mid inv.fit) (g.met.P.PageWorld.counts_sent pages) (g.met.P.PageWorld.counts_sent mid) (g.met.P.PageWorld.take_passes mid taken takes) (inv.lasts total book told stands));
+      known = λ knows follows known. c.in_ok-answer_long_line-in-TooLong.ensures.known knows follows (known_kept knows c.lines.show c.lines.service.sessions c.next.new.from.sessions c.next.ensures.beside.sessions (c.lines.invariant.known knows follows known));
       serves = serves_then (told_in pages) (told_in taken) (told_in new) (view pages) (view taken) (view new) (serves_then (told_in pages) (told_in mid) (told_in taken) (view pages) (view mid) (view taken) inv.serves (serves_disk (told_in mid) (told_in taken) (view mid) (view taken) kept (g.met.P.PageWorld.take_told mid taken takes) (g.met.P.PageWorld.take_was_told mid taken takes))) (serves_kept (told_in taken) (told_in new) (view taken) (view new) (g.P.Pages.under taken) (g.P.Pages.under new) _ _ made.kept);
       goes_on = goes_then (g.P.Pages.under pages) (g.P.Pages.under taken) (g.P.Pages.under new) (goes_then (g.P.Pages.under pages) (g.P.Pages.under mid) (g.P.Pages.under taken) inv.goes_on (g.met.P.PageWorld.take_goes_on mid taken takes)) made.kept.under_goes;
       total_is = ap (λ (b : Beside). b.total) made.kept.same ∙ ap (λ (s : Superblock). s.total) beside.store_is.superblock ∙ inv.total_is;
@@ -322,6 +326,7 @@ lines-preserved g c =
           let far = far_kept g.V.Show.gives c.args.show.now o total book own before c.lines.show c.lines.lines (g.P.Streams.left mid) (g.P.Streams.sent mid) (g.P.Streams.sent taken) (view mid).image (view taken).image c.lines.service.sessions c.next.new.from.sessions kept.image beside.sessions c.next.ensures.sent (inv.far total book told stands) in
           let told' = g.met.P.PageWorld.take_told mid taken takes (inv.serves.told told) in
           lasts_line g.V.Show.gives c.args.show.now c.lines.show o before (g.P.Streams.sent taken) total book own c.next.new.from.sessions (view pages) (view taken) (view new) c.lines.lines c.next.new.self (g.P.Streams.left mid) (g.P.Streams.left taken) (Some c.line.result.now) far (g.met.P.PageWorld.counts_sent pages) (g.met.P.PageWorld.counts_sent taken) gives (made.moments total far.book told' far.stands) (lasts_take g.V.Show.gives c.args.show.now c.lines.show o before (g.P.Streams.sent mid) total book own c.lines.service.sessions (view pages) (view mid) (view taken) c.lines.lines (g.P.Streams.left mid) (inv.far total book told stands) (g.met.P.Pages.rests mid inv.fit) (g.met.P.PageWorld.counts_sent pages) (g.met.P.PageWorld.counts_sent mid) (g.met.P.PageWorld.take_passes mid taken takes) (inv.lasts total book told stands));
+      known = λ knows follows known. c.in_ok-answer_line-in-Line.ensures.known knows follows (known_kept knows c.lines.show c.lines.service.sessions c.next.new.from.sessions c.next.ensures.beside.sessions (c.lines.invariant.known knows follows known));
       serves = serves_then (told_in pages) (told_in taken) (told_in new) (view pages) (view taken) (view new) (serves_then (told_in pages) (told_in mid) (told_in taken) (view pages) (view mid) (view taken) inv.serves (serves_disk (told_in mid) (told_in taken) (view mid) (view taken) kept (g.met.P.PageWorld.take_told mid taken takes) (g.met.P.PageWorld.take_was_told mid taken takes))) made.serves;
       goes_on = goes_then (g.P.Pages.under pages) (g.P.Pages.under taken) (g.P.Pages.under new) (goes_then (g.P.Pages.under pages) (g.P.Pages.under mid) (g.P.Pages.under taken) inv.goes_on (g.met.P.PageWorld.take_goes_on mid taken takes)) made.goes_on;
       total_is = made.total ∙ ap (λ (s : Superblock). s.total) beside.store_is.superblock ∙ inv.total_is;
@@ -426,3 +431,21 @@ returns-in_err-answer_line-in-Line-clause-disk g c =
     let kept = g.met.P.PageWorld.take_keeps mid taken takes in
     let new = c.answer_line.new.service.store.space.pages in
     λ is. risen_since (view pages).faults (view taken).faults (view new).faults (omega (arith, inv.serves.faults, kept.faults)) (c.in_err-answer_line-in-Line.ensures.disk (sym (error_is c.from_residual-in_err-answer_line-in-Line.result c.in_err-answer_line-in-Line.field-0.0 c.from_residual-in_err-answer_line-in-Line.ensures.1) ∙ is))
+
+pub returns-in_err-answer_long_line-in-TooLong-clause-known : goal.returns-in_err-answer_long_line-in-TooLong-clause-known
+returns-in_err-answer_long_line-in-TooLong-clause-known g c = λ knows follows known.
+    let f = c.in_err-answer_long_line-in-TooLong.field-0.0 in
+    error_goes (EndsKnown g.V.Show.gives knows) c.from_residual-in_err-answer_long_line-in-TooLong.result f c.from_residual-in_err-answer_long_line-in-TooLong.ensures.1
+    (c.in_err-answer_long_line-in-TooLong.ensures.named knows follows (known_kept knows c.lines.show c.lines.service.sessions c.next.new.from.sessions c.next.ensures.beside.sessions (c.lines.invariant.known knows follows known)))
+
+pub returns-in_err-answer_line-in-Line-clause-known : goal.returns-in_err-answer_line-in-Line-clause-known
+returns-in_err-answer_line-in-Line-clause-known g c = λ knows follows known.
+    let f = c.in_err-answer_line-in-Line.field-0.0 in
+    error_goes (EndsKnown g.V.Show.gives knows) c.from_residual-in_err-answer_line-in-Line.result f c.from_residual-in_err-answer_line-in-Line.ensures.1
+    (c.in_err-answer_line-in-Line.ensures.named knows follows (known_kept knows c.lines.show c.lines.service.sessions c.next.new.from.sessions c.next.ensures.beside.sessions (c.lines.invariant.known knows follows known)))
+
+pub returns-in_err-lines-clause-known : goal.returns-in_err-lines-clause-known
+returns-in_err-lines-clause-known g c = λ knows follows known. error_goes (EndsKnown g.V.Show.gives knows) c.from_residual.result (Serve NoMemory) c.from_residual.ensures.1 tt
+
+pub returns-in_err-next-clause-known : goal.returns-in_err-next-clause-known
+returns-in_err-next-clause-known g c = λ knows follows known. error_goes (EndsKnown g.V.Show.gives knows) c.from_residual-in_err-next.result (Serve (end_of c.in_err-next.field-0.0)) c.from_residual-in_err-next.ensures.1 tt

@@ -1,9 +1,10 @@
-use Rattle.std.proofs.Common.{◌≡◌, ℕ, ◌+◌, ◌-◌, ◌^◌, ◌≤◌, List, length, IsTrue}
+use Rattle.std.proofs.Common.{◌≡◌, ℕ, ◌+◌, ◌-◌, ◌^◌, ◌≤◌, Bool, List, length, IsTrue}
 use Rattle.chart_world.specs.Reading.{input_length}
 use Rattle.gate_pages.specs.Pages.{GoesOn}
 use Rattle.series_book.specs.declared.one_series.Series.{Series}
 use Rattle.stored_book.specs.Standing.{StandsForBook}
 use Rattle.chart_service.specs.Serving.{Serves}
+use Rattle.chart_program.specs.Known.{Follows, KnowsOpen}
 use Rattle.chart_program.proofs.RunStands.{IsFar, Lasts}
 use Rattle.chart_program.proofs.run.run_on.Given as goal
 
@@ -24,6 +25,7 @@ invariant-lines g l =
           → IsFar g.V.Show.gives l.initial.show (g.P.Streams.left first) total book l.initial.service.sessions (g.P.Streams.sent first) l.show l.lines (g.P.Streams.left pages) (g.P.Streams.sent pages) (view pages).image l.service.sessions;
       lasts : (total : ℕ) (book : List Series) → told first → StandsForBook (view first).image total book
           → Lasts g.V.Show.gives l.initial.show (g.P.Streams.left first) total book l.initial.service.sessions (g.P.Streams.sent first) (view first) (view pages);
+      known : (knows : g.row.V.Denot → ℕ → Bool) → Follows g.V.Show.gives knows → KnowsOpen knows l.initial.show l.initial.service.sessions → KnowsOpen knows l.show l.service.sessions;
       serves : Serves (told first) (told pages) (view first) (view pages);
       goes_on : GoesOn (g.P.Pages.under first) (g.P.Pages.under pages);
       total_is : l.service.store.space.superblock.total ≡ l.initial.service.store.space.superblock.total;

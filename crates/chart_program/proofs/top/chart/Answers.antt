@@ -79,7 +79,7 @@ returns-in-Ok-Run-clause-misfit g c =
 pub returns-in-Ok-Run-clause-unopened : goal.returns-in-Ok-Run-clause-unopened
 returns-in-Ok-Run-clause-unopened g c =
     let e = c.run_status.ensures in
-    λ is. of_command _ Run c.in-Ok-Run.field-0 _ c.in-Ok-Run.field-0-is c.in-Ok-Run.ensures.command ((e.unopened is).1)
+    λ is. absurd (e.opened is)
 
 pub returns-in-Ok-Run-clause-memory : goal.returns-in-Ok-Run-clause-memory
 returns-in-Ok-Run-clause-memory g c =
@@ -211,7 +211,7 @@ returns-in-Ok-Serve-clause-misfit g c =
 pub returns-in-Ok-Serve-clause-unopened : goal.returns-in-Ok-Serve-clause-unopened
 returns-in-Ok-Serve-clause-unopened g c =
     let e = c.serve_status.ensures in
-    λ is. absurd (e.unopened is).0
+    λ is. absurd (e.opened is)
 
 pub returns-in-Ok-Serve-clause-memory : goal.returns-in-Ok-Serve-clause-memory
 returns-in-Ok-Serve-clause-memory g c =

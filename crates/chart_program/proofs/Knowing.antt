@@ -1,0 +1,155 @@
+-- What `show` knows of the sessions that are open.
+use Rattle.std.proofs.Common.{◌≡◌, ℕ, Bool, true, false, List, [], ◌∷◌, Option, Some, None, Result, Ok, Err, inl, inr, refl, sym, ap, subst, ◌∙◌, arith}
+use Rattle.std.proofs.lemmas.Bool.Decides.{eqb_tells}
+use Rattle.std.specs.Prelude.{IsTrue, OnOk, IfErr, ◌==◌, ◌||◌, ◌&&◌, not, is_some, ◌≢◌}
+use Rattle.line_raster.specs.Canvas.{Canvas}
+use Rattle.chart_client.specs.Accepting.{Accepts, AcceptsView, Rejects, named_in, viewed}
+use Rattle.chart_client.specs.Holdings.{holding_of}
+use Rattle.chart_client.specs.Showing.{ScreenGives}
+use Rattle.chart_client.specs.declared.errors.ClientError.{ClientError}
+use Rattle.chart_client.specs.declared.errors.ClientError.TheVariants as client
+use Rattle.chart_client.specs.declared.holding.Holding.{Holding}
+use Rattle.chart_client.specs.declared.show.Shown.{Shown}
+use Rattle.chart_frames.specs.declared.frame.Frame.{Frame}
+use Rattle.chart_frames.specs.declared.frame.Frame.TheVariants.{Done, Refused, Opened, Closed, View, Rows}
+use Rattle.chart_frames.specs.declared.frame.ViewFrame.{ViewFrame}
+use Rattle.chart_frames.specs.Frames.{Fits, spelling}
+use Rattle.zoom_session.specs.declared.session.Session.{Session}
+use Rattle.zoom_session.specs.Sessions.{is_open}
+use Rattle.series_book.specs.declared.refusals.Refusal.{Refusal}
+use Rattle.chart_service.specs.Replies.{refused}
+use Rattle.chart_service.specs.Opening.{opens, OpensBy, NamesOpen}
+use Rattle.chart_service.specs.declared.failure.ServeEnd.TheVariants.{ReadFault, SendFault, DiskFault, Damaged, InputTooLong, NoMemory}
+use Rattle.chart_program.specs.declared.run_end.RunEnd.{RunEnd}
+use Rattle.chart_program.specs.declared.run_end.RunEnd.TheVariants.{Serve, Show}
+use Rattle.chart_program.specs.Known.{Follows, KnowsOpen, NamesKnown, EndsKnown}
+use Rattle.chart_program.specs.Runs.{Gives as ShowGives, ShowsFrame, ShowStops, TextStops}
+use Rattle.chart_program.proofs.Telling.{OneFrame, shown_frame}
+
+-- what opens where it was open opens where it was known
+opens_more : (frame : Frame) (n : ℕ) (was known : Bool) → (IsTrue was → IsTrue known) → IsTrue (opens frame n was) → IsTrue (opens frame n known)
+opens_more (Done slots) n was known more is = more is
+opens_more (Refused number a b) n was known more is = more is
+opens_more (Opened session cache) n was known more is =
+    elim (session == n) as (λ (b : Bool). IsTrue (b || was) → IsTrue (b || known)) [ true ↦ λ t. t | false ↦ more ] is
+opens_more (Closed session) n was known more is =
+    elim (session == n) as (λ (b : Bool). IsTrue (not b && was) → IsTrue (not b && known)) [ true ↦ λ t. t | false ↦ more ] is
+opens_more (View view) n was known more is = more is
+opens_more (Rows rows) n was known more is = more is
+
+-- behind a frame that was shown
+pub known_next : {V : Type 0} (gives : ShowGives V) (knows : V → ℕ → Bool) (old new : V) (frame : Frame) (sessions sessions' : List Session) → Follows gives knows → Fits frame → KnowsOpen knows old sessions → ((n : ℕ) → is_open n sessions' ≡ opens frame n (is_open n sessions))
+    → (shown : Shown) → gives old (spelling frame) (Ok shown) new → KnowsOpen knows new sessions'
+known_next gives knows old new frame sessions sessions' follows fits known after shown given = λ n is.
+    follows old new frame shown n fits given (opens_more frame n (is_open n sessions) (knows old n) (known n) (subst IsTrue (after n) is))
+
+pub named_known : {V : Type 0} (knows : V → ℕ → Bool) (old : V) (frame : Frame) (sessions : List Session) → KnowsOpen knows old sessions → NamesOpen frame sessions → NamesKnown frame (knows old)
+named_known knows old (Done slots) sessions known named = tt
+named_known knows old (Refused number a b) sessions known named = tt
+named_known knows old (Opened session cache) sessions known named = tt
+named_known knows old (Closed session) sessions known named = known session named
+named_known knows old (View view) sessions known named = known view.session named
+named_known knows old (Rows rows) sessions known named = known rows.session named
+
+-- a frame that wasn't shown
+pub ends_known : {V : Type 0} (gives : ShowGives V) (knows : V → ℕ → Bool) (old new : V) (frame : Frame) (before now : Option (List ℕ)) (end : RunEnd) → Fits frame → NamesKnown frame (knows old) → ShowStops gives frame old new before now end → EndsKnown gives knows end
+ends_known gives knows old new frame before now (Serve end) fits named why = tt
+ends_known gives knows old new frame before now (Show e) fits named why = (old, frame, new, fits, named, why.1)
+
+-- the sessions as they were
+pub known_kept : {V : Type 0} (knows : V → ℕ → Bool) (show : V) (sessions sessions' : List Session) → sessions' ≡ sessions → KnowsOpen knows show sessions → KnowsOpen knows show sessions'
+known_kept {V} knows show sessions sessions' same known = let P : List Session → Type 0 = λ s. KnowsOpen knows show s in subst P (sym same) known
+
+pub same_opens : (sessions sessions' sessions'' : List Session) (frame : Frame) → sessions'' ≡ sessions' → ((n : ℕ) → is_open n sessions' ≡ opens frame n (is_open n sessions)) → (n : ℕ) → is_open n sessions'' ≡ opens frame n (is_open n sessions)
+same_opens sessions sessions' sessions'' frame same after n = ap (λ s. is_open n s) same ∙ after n
+
+-- a refusal opens and closes no session, and names none
+pub refused_opens : (frame : Frame) (refusal : Refusal) → frame ≡ refused refusal → (sessions : List Session) (n : ℕ) → is_open n sessions ≡ opens frame n (is_open n sessions)
+refused_opens frame refusal is sessions n = let P : Frame → Type 0 = λ f. is_open n sessions ≡ opens f n (is_open n sessions) in subst P (sym is) refl
+
+pub refused_names : (frame : Frame) (refusal : Refusal) → frame ≡ refused refusal → (knows : ℕ → Bool) → NamesKnown frame knows
+refused_names frame refusal is knows = let P : Frame → Type 0 = λ f. NamesKnown f knows in subst P (sym is) tt
+
+-- ---- a screen knows the sessions of which it holds a list
+
+abbrev pub holds_of : List Holding → ℕ → Bool
+holds_of held n = is_some (holding_of n held)
+
+abbrev pub OthersStay : Type 0
+OthersStay = (frame : Frame) (drawing : Option Canvas) (old new : List Holding) (number : ℕ) → Accepts frame drawing old new → named_in frame ≢ Some number → holding_of number new ≡ holding_of number old
+
+abbrev pub OpeningHolds : Type 0
+OpeningHolds = (number size : ℕ) (drawing : Option Canvas) (old new : List Holding) → Accepts (Opened number size) drawing old new → holding_of number new ≡ Some (record { number = number; cache = record { pairs = []; capacity = size } })
+
+abbrev pub ViewHolds : Type 0
+ViewHolds = (view : ViewFrame) (holding : Holding) (drawing : Canvas) (old new : List Holding) → holding_of view.session old ≡ Some holding → (accepted : AcceptsView view holding.cache drawing old new)
+    → holding_of view.session new ≡ Some (record { number = view.session; cache = viewed view holding.cache accepted.wanted })
+
+same_some : (m n : ℕ) → Some m ≡ Some n → m ≡ n
+same_some m n e = cc
+
+some_held : (o : Option Holding) (h : Holding) → o ≡ Some h → IsTrue (is_some o)
+some_held o h is = let P : Option Holding → Type 0 = λ x. IsTrue (is_some x) in subst P (sym is) refl
+
+same_held : (n : ℕ) (old new : List Holding) → holding_of n new ≡ holding_of n old → IsTrue (holds_of old n) → IsTrue (holds_of new n)
+same_held n old new same is = let P : Option Holding → Type 0 = λ x. IsTrue (is_some x) in subst P (sym same) is
+
+module _ (others : OthersStay) (opening : OpeningHolds) (viewing : ViewHolds) where
+  holds_next : (frame : Frame) (drawing : Option Canvas) (old new : List Holding) (n : ℕ) → Accepts frame drawing old new → IsTrue (opens frame n (holds_of old n)) → IsTrue (holds_of new n)
+  holds_next (Done slots) drawing old new n accepts is = same_held n old new (ap (λ l. holding_of n l) accepts.1) is
+  holds_next (Refused number a b) drawing old new n accepts is = same_held n old new (ap (λ l. holding_of n l) accepts.1) is
+  holds_next (Opened number size) drawing old new n accepts is = elim (eqb_tells number n) [
+    | inl same ↦
+        let P : ℕ → Type 0 = λ m. IsTrue (holds_of new m) in
+        subst P same.1 (some_held (holding_of number new) _ (opening number size drawing old new accepts))
+    | inr other ↦
+        let was : IsTrue (holds_of old n) = subst (λ (b : Bool). IsTrue (b || holds_of old n)) other.0 is in
+        same_held n old new (others (Opened number size) drawing old new n accepts (λ e. other.1 (same_some number n e))) was
+  ]
+  holds_next (Closed number) drawing old new n accepts is = elim (eqb_tells number n) [
+    | inl same ↦ let gone : IsTrue (not true && holds_of old n) = subst (λ (b : Bool). IsTrue (not b && holds_of old n)) same.0 is in cc
+    | inr other ↦
+        let was : IsTrue (holds_of old n) = subst (λ (b : Bool). IsTrue (not b && holds_of old n)) other.0 is in
+        same_held n old new (others (Closed number) drawing old new n accepts (λ e. other.1 (same_some number n e))) was
+  ]
+  holds_next (View view) None old new n accepts is = absurd accepts
+  holds_next (View view) (Some drawing) old new n accepts is = elim (eqb_tells view.session n) [
+    | inl same ↦
+        let P : ℕ → Type 0 = λ m. IsTrue (holds_of new m) in
+        subst P same.1 (some_held (holding_of view.session new) _ (viewing view accepts.0 drawing old new accepts.1 accepts.2))
+    | inr other ↦ same_held n old new (others (View view) (Some drawing) old new n accepts (λ e. other.1 (same_some view.session n e))) is
+  ]
+  holds_next (Rows rows) None old new n accepts is = absurd accepts
+  holds_next (Rows rows) (Some drawing) old new n accepts is = same_held n old new (ap (λ l. holding_of n l) accepts.1.holdings) is
+
+  pub screen_follows : OneFrame → Follows ScreenGives holds_of
+  screen_follows one old new frame shown n fits given is =
+      let same : frame ≡ shown.frame = shown_frame one frame shown.frame fits given.0 in
+      let A : Frame → Type 0 = λ f. Accepts f shown.bitmap old new in
+      holds_next frame shown.bitmap old new n (subst A (sym same) given.1) is
+
+not_held : (o : Option Holding) → o ≡ None → IsTrue (is_some o) → ⊥
+not_held o none is = let P : Option Holding → Type 0 = λ x. IsTrue (is_some x) in let gone = subst P none is in cc
+
+known_rejects : (frame : Frame) (n : ℕ) (old : List Holding) → NamesKnown frame (holds_of old) → Rejects frame (client.UnknownSession n) old → ⊥
+known_rejects (Done slots) n old named rejects = let e = rejects.0 in cc
+known_rejects (Refused number a b) n old named rejects = let e = rejects.0 in cc
+known_rejects (Opened number size) n old named rejects = let e = rejects.0 in cc
+known_rejects (Closed number) n old named rejects = let P : ℕ → Type 0 = λ m. IsTrue (holds_of old m) in not_held (holding_of n old) rejects.1 (subst P (same_some number n rejects.0) named)
+known_rejects (View view) n old named rejects = let P : ℕ → Type 0 = λ m. IsTrue (holds_of old m) in not_held (holding_of n old) rejects.1 (subst P (same_some view.session n rejects.0) named)
+known_rejects (Rows rows) n old named rejects = let P : ℕ → Type 0 = λ m. IsTrue (holds_of old m) in not_held (holding_of n old) rejects.1 (subst P (same_some rows.session n rejects.0) named)
+
+-- a screen that knows the open sessions misses none
+pub never_unknown : OneFrame → (number : ℕ) → EndsKnown ScreenGives holds_of (Show (client.UnknownSession number)) → ⊥
+never_unknown one number ends =
+    let rejects = ends.5.0 in
+    let same : ends.1 ≡ rejects.frame = shown_frame one ends.1 rejects.frame ends.3 rejects.spelled in
+    let R : Frame → Type 0 = λ f. Rejects f (client.UnknownSession number) ends.0 in
+    known_rejects ends.1 number ends.0 ends.4 (subst R (sym same) rejects.rejects)
+
+-- before the first line no session is open
+pub known_first : (held : List Holding) (sessions : List Session) → sessions ≡ [] → KnowsOpen holds_of held sessions
+known_first held sessions none = λ n is.
+    let P : List Session → Type 0 = λ s. IsTrue (is_open n s) in
+    let gone = subst P none is in
+    cc

@@ -1,0 +1,86 @@
+-- What a workload has moved so far, and one request more.
+use Rattle.std.proofs.Common.{ℕ, suc, ◌≡◌, ◌+◌, ◌≤◌, inl, inr, List, ◌∷◌, length, Option, None, Some, Result, Ok, Err, refl, ap, ◌∙◌, subst, arith}
+use Rattle.std.specs.Prelude.{MatchOption}
+use Rattle.block_disk.specs.Counts.{HasRisen}
+use Rattle.block_disk.specs.View.{View, Passes}
+use Rattle.block_disk.proofs.Passing.{passes_weaker}
+use Rattle.gate_pages.specs.Pages.{Quiet}
+use Rattle.gate_pages.proofs.Moving.{time_then}
+use Rattle.request_lines.specs.declared.requests.Request.{Request}
+use Rattle.zoom_session.specs.declared.session.Session.{Session}
+use Rattle.chart_client.specs.declared.holding.Holding.{Holding}
+use Rattle.store_catalog.specs.declared.stored_series.StoredSeries.{StoredSeries}
+use Rattle.chart_service.specs.State.{State}
+use Rattle.chart_service.specs.Stepping.{RepliedTo, IsBeforeOrAfter, Steps}
+use Rattle.demo_workload.specs.declared.summaries.Summary.{Summary}
+use Rattle.demo_workload.specs.Replying.{IsPartWay}
+use Rattle.demo_workload.specs.declared.demo_end.DemoEnd.{DemoEnd}
+use Rattle.demo_workload.specs.declared.demo_end.DemoEnd.TheVariants.{DiskFault, Damaged, Missing, BadCoefficient, NoMemory}
+use Rattle.demo_workload.specs.Ending.{Runs, IsCause}
+use Rattle.demo_workload.specs.Answering.{HasAccepted, IsOneCause, Reaches}
+use Rattle.demo_workload.proofs.Replies.{next_part}
+
+pub runs_none : (told : Type 0) (at : View) → Runs told told at at
+runs_none told at = record { told = λ t. t; was_told = λ t. t; size = refl; beside = refl; faults = omega arith }
+
+pub runs_on : (told_old told_mid told_new : Type 0) (old mid new : View) → Runs told_old told_mid old mid → Steps told_mid told_new mid new → Runs told_old told_new old new
+runs_on told_old told_mid told_new old mid new first second = record {
+  told = λ t. second.told (first.told t);
+  was_told = λ t. first.was_told (second.was_told t);
+  size = second.size ∙ first.size;
+  beside = second.beside ∙ first.beside;
+  faults = omega (arith, first.faults, second.faults);
+}
+
+-- at each moment of one more request a crash leaves the book behind some first requests
+pub moments_more : (requests left : List Request) (request : Request) (total : ℕ) (state : State) (old mid new : View) (sessions : List Session) (holdings : List Holding)
+    (summary : Summary) → (r : Reaches requests (request ∷ left) total state mid.image sessions holdings summary) → Passes old mid (IsPartWay requests total state) (Quiet old)
+    → Passes mid new (IsBeforeOrAfter (RepliedTo request) total r.book sessions) (Quiet mid) → Passes old new (IsPartWay requests total state) (Quiet old)
+moments_more requests left request total state old mid new sessions holdings summary r first second =
+    time_then old mid new (IsPartWay requests total state) first
+    (passes_weaker mid new (IsBeforeOrAfter (RepliedTo request) total r.book sessions) (IsPartWay requests total state) (Quiet mid) (Quiet mid)
+    (λ image way. next_part requests left request total state mid.image image sessions holdings summary r way) (λ count quiet. quiet) second)
+
+risen_on : (old mid new : ℕ) → old ≤ mid → HasRisen mid new → HasRisen old new
+risen_on old mid new low (inl risen) = inl (omega (arith, low, risen))
+risen_on old mid new low (inr top) = inr top
+
+-- why the requests end
+pub cause_on : (end : DemoEnd) (holdings : List Holding) (told : Type 0) (catalog : List StoredSeries) (total : ℕ) (old mid new : View) → HasAccepted holdings
+    → old.faults ≤ mid.faults → IsOneCause end holdings told catalog total mid new → IsCause end told catalog total old new
+cause_on DiskFault holdings told catalog total old mid new accepted faults cause = risen_on old.faults mid.faults new.faults faults cause
+cause_on (Damaged page) holdings told catalog total old mid new accepted faults cause = cause
+cause_on (Missing key) holdings told catalog total old mid new accepted faults cause = record {
+  frames = accepted.frames;
+  drawings = accepted.drawings;
+  holdings = holdings;
+  accepted = accepted.accepted;
+  frame = cause.0;
+  rejected = cause.1;
+}
+cause_on (BadCoefficient key) holdings told catalog total old mid new accepted faults cause = record {
+  frames = accepted.frames;
+  drawings = accepted.drawings;
+  holdings = holdings;
+  accepted = accepted.accepted;
+  frame = cause.0;
+  rejected = cause.1;
+}
+cause_on NoMemory holdings told catalog total old mid new accepted faults cause = tt
+
+-- ---- what a call answered
+
+pub given_some : {X : Type 0} (o : Option X) (x : X) (P : Type 0) (Q : X → Type 0) → MatchOption o P Q → o ≡ Some x → Q x
+given_some {X} o x P Q given is = let M : Option X → Type 0 = λ y. MatchOption y P Q in subst M is given
+
+pub given_none : {X : Type 0} (o : Option X) (P : Type 0) (Q : X → Type 0) → MatchOption o P Q → o ≡ None → P
+given_none {X} o P Q given is = let M : Option X → Type 0 = λ y. MatchOption y P Q in subst M is given
+
+pub ok_err : {T E : Type 0} (x : T) (e : E) → ◌≡◌ {A = Result T E} (Ok x) (Err e) → ⊥
+ok_err x e never = cc
+
+pub one_fewer : (before now : ℕ) (left behind : List Request) (request : Request) → left ≡ request ∷ behind → now ≡ before + 1 → before + length left ≤ 12290
+    → now + length behind ≤ 12290
+one_fewer before now left behind request is one few =
+    let shorter : length left ≡ suc (length behind) = ap length is in
+    omega arith

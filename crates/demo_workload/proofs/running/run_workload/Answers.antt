@@ -1,0 +1,264 @@
+use Rattle.std.proofs.Common.{◌≡◌, ◌+◌, ◌≤◌, [], ◌∷◌, length, refl, ap, ◌∙◌, arith}
+use Rattle.block_disk.proofs.Passing.{passes_none}
+use Rattle.gate_pages.specs.Pages.{Quiet}
+use Rattle.gate_pages.specs.GateLaws.{goes_none, goes_then}
+use Rattle.chart_service.specs.Stepping.{state_of}
+use Rattle.demo_workload.specs.declared.demo_end.DemoEnd.TheVariants.{DiskFault}
+use Rattle.demo_workload.specs.Workload.{workload}
+use Rattle.demo_workload.specs.Replying.{IsPartWay}
+use Rattle.demo_workload.proofs.Rounds.{few_requests}
+use Rattle.demo_workload.proofs.Replies.{starts, nothing_done, next_reaches, reaches_more, reached_part, reached_all, next_part, accepted_none, accepted_more}
+use Rattle.demo_workload.proofs.Knowing.{knows_none}
+use Rattle.demo_workload.proofs.Moved.{runs_none, runs_on, moments_more, given_some, given_none, ok_err, one_fewer}
+use Rattle.demo_workload.proofs.running.run_workload.Goals as goal
+
+pub returns-in_default-clause-left : goal.returns-in_default-clause-left
+returns-in_default-clause-left g c = λ total book told stands apart. nothing_done (workload c.args.seed c.args.count) total book (g.P.Pages.view c.args.service.now.store.space.pages).image stands
+
+pub requests-init : goal.requests-init
+requests-init g c = record {
+  fit = c.requires.fit;
+  small = c.new-summary.ensures.small;
+  few =
+      let many : length (workload c.args.seed c.args.count) ≤ 12290 = few_requests c.args.seed c.args.count c.requires.rounds in
+      let same : length c.new-workload.result ≡ length (workload c.args.seed c.args.count) = ap length c.new-workload.ensures in
+      let none : c.new-summary.result.requests ≡ 0 = c.new-summary.ensures.none in
+      omega arith;
+  knows = knows_none c.args.service.now.sessions c.in-Ok.client c.requires.alone c.in-Ok.ensures;
+  accepted = accepted_none c.in-Ok.client c.in-Ok.ensures;
+  reaches = λ total book told stands.
+      starts (workload c.args.seed c.args.count) c.new-workload.result total book (g.P.Pages.view c.args.service.now.store.space.pages).image c.args.service.now.sessions c.in-Ok.client
+      c.new-summary.result c.new-workload.ensures c.requires.alone c.in-Ok.ensures c.new-summary.ensures.summary stands (c.is_sound-sound.ensures.state total book c.requires.fit told stands);
+  moments = λ total book told stands.
+      passes_none (g.P.Pages.view c.args.service.now.store.space.pages) (IsPartWay (workload c.args.seed c.args.count) total (state_of book total []))
+      (Quiet (g.P.Pages.view c.args.service.now.store.space.pages));
+  runs = runs_none (g.P.Pages.told c.args.service.now.store.space.pages) (g.P.Pages.view c.args.service.now.store.space.pages);
+  goes_on = goes_none (g.P.Pages.under c.args.service.now.store.space.pages);
+  total = refl;
+}
+
+pub returns-in_default-next-clause-left : goal.returns-in_default-next-clause-left
+returns-in_default-next-clause-left g c = λ total book told stands apart.
+    reached_part (workload c.args.seed c.args.count) c.requests.workload total (state_of book total []) (g.P.Pages.view c.requests.service.store.space.pages).image c.requests.service.sessions
+    c.requests.client c.requests.summary (c.requests.invariant.reaches total book told stands)
+
+pub returns-in_default-next-2-clause-done : goal.returns-in_default-next-2-clause-done
+returns-in_default-next-2-clause-done g c = λ total book told stands.
+    let none = given_none c.in-Ok-next.next _ _ c.in-Ok-next.ensures.given c.in_default-next-2.is in
+    reached_all (workload c.args.seed c.args.count) c.requests.workload total (state_of book total []) (g.P.Pages.view c.requests.service.store.space.pages).image c.requests.service.sessions
+    c.requests.client c.requests.summary none.0 (c.requests.invariant.reaches total book told stands)
+
+pub returns-in-Err-clause-standing : goal.returns-in-Err-clause-standing
+returns-in-Err-clause-standing g c = λ total book told stands.
+    let r = c.requests.invariant.reaches total book told stands in
+    c.in-Err.ensures.standing total r.book (c.requests.invariant.runs.told told) r.stands r.sound r.mirrors
+
+pub returns-in-Err-clause-moments : goal.returns-in-Err-clause-moments
+returns-in-Err-clause-moments g c = λ total book told stands.
+    let is : c.requests.workload ≡ c.in-Some.request ∷ c.next.new.self = given_some c.in-Ok-next.next c.in-Some.request _ _ c.in-Ok-next.ensures.given c.in-Some.is in
+    let r = next_reaches (workload c.args.seed c.args.count) c.requests.workload c.next.new.self c.in-Some.request total (state_of book total []) (g.P.Pages.view c.requests.service.store.space.pages).image c.requests.service.sessions c.requests.client c.requests.summary is (c.requests.invariant.reaches total book told stands) in
+    moments_more (workload c.args.seed c.args.count) c.next.new.self c.in-Some.request total (state_of book total []) (g.P.Pages.view c.args.service.now.store.space.pages) (g.P.Pages.view c.requests.service.store.space.pages) (g.P.Pages.view c.answer.new.service.store.space.pages) c.requests.service.sessions c.requests.client c.requests.summary r
+    (c.requests.invariant.moments total book told stands) (c.in-Err.ensures.moments total r.book (c.requests.invariant.runs.told told) r.stands)
+
+pub returns-in-Err-clause-left : goal.returns-in-Err-clause-left
+returns-in-Err-clause-left g c = λ total book told stands apart.
+    let is : c.requests.workload ≡ c.in-Some.request ∷ c.next.new.self = given_some c.in-Ok-next.next c.in-Some.request _ _ c.in-Ok-next.ensures.given c.in-Some.is in
+    let r = next_reaches (workload c.args.seed c.args.count) c.requests.workload c.next.new.self c.in-Some.request total (state_of book total []) (g.P.Pages.view c.requests.service.store.space.pages).image c.requests.service.sessions c.requests.client c.requests.summary is (c.requests.invariant.reaches total book told stands) in
+    next_part (workload c.args.seed c.args.count) c.next.new.self c.in-Some.request total (state_of book total []) (g.P.Pages.view c.requests.service.store.space.pages).image (g.P.Pages.view c.answer.new.service.store.space.pages).image c.requests.service.sessions c.requests.client c.requests.summary r
+    (c.in-Err.ensures.left total r.book (c.requests.invariant.runs.told told) r.stands apart)
+
+pub requests-preserved-in-Ok-answer : goal.requests-preserved-in-Ok-answer
+requests-preserved-in-Ok-answer g c =
+    let is : c.requests.workload ≡ c.in-Some.request ∷ c.next.new.self = given_some c.in-Ok-next.next c.in-Some.request _ _ c.in-Ok-next.ensures.given c.in-Some.is in
+    record {
+      fit = c.in-Ok-answer.ensures.fit (λ never. ok_err c.in-Ok-answer.field-0 DiskFault never);
+      small = c.in-Ok-answer.ensures.small;
+      few =
+          let one : c.answer.new.summary.requests ≡ c.requests.summary.requests + 1 = c.in-Ok-answer.ensures.requests in
+          let was : c.requests.summary.requests + length c.requests.workload ≤ 12290 = c.requests.invariant.few in
+          one_fewer c.requests.summary.requests c.answer.new.summary.requests c.requests.workload c.next.new.self c.in-Some.request is one was;
+      knows = c.in-Ok-answer.ensures.known;
+      accepted = accepted_more c.requests.client c.answer.new.client c.requests.invariant.accepted c.in-Ok-answer.ensures.accepts;
+      reaches = λ total book told stands.
+          let r = next_reaches (workload c.args.seed c.args.count) c.requests.workload c.next.new.self c.in-Some.request total (state_of book total []) (g.P.Pages.view c.requests.service.store.space.pages).image c.requests.service.sessions c.requests.client c.requests.summary is (c.requests.invariant.reaches total book told stands) in
+          reaches_more (workload c.args.seed c.args.count) c.next.new.self c.in-Some.request total (state_of book total []) (g.P.Pages.view c.requests.service.store.space.pages).image (g.P.Pages.view c.answer.new.service.store.space.pages).image c.requests.service.sessions c.answer.new.service.sessions
+          c.requests.client c.answer.new.client c.requests.summary c.answer.new.summary r
+          (c.in-Ok-answer.ensures.answered total r.book (c.requests.invariant.runs.told told) r.stands r.sound r.mirrors);
+      moments = λ total book told stands.
+          let r = next_reaches (workload c.args.seed c.args.count) c.requests.workload c.next.new.self c.in-Some.request total (state_of book total []) (g.P.Pages.view c.requests.service.store.space.pages).image c.requests.service.sessions c.requests.client c.requests.summary is (c.requests.invariant.reaches total book told stands) in
+          moments_more (workload c.args.seed c.args.count) c.next.new.self c.in-Some.request total (state_of book total []) (g.P.Pages.view c.args.service.now.store.space.pages) (g.P.Pages.view c.requests.service.store.space.pages) (g.P.Pages.view c.answer.new.service.store.space.pages) c.requests.service.sessions c.requests.client c.requests.summary r
+          (c.requests.invariant.moments total book told stands) (c.in-Ok-answer.ensures.moments total r.book (c.requests.invariant.runs.told told) r.stands);
+      runs = runs_on (g.P.Pages.told c.args.service.now.store.space.pages) (g.P.Pages.told c.requests.service.store.space.pages) (g.P.Pages.told c.answer.new.service.store.space.pages)
+          (g.P.Pages.view c.args.service.now.store.space.pages) (g.P.Pages.view c.requests.service.store.space.pages) (g.P.Pages.view c.answer.new.service.store.space.pages) c.requests.invariant.runs c.in-Ok-answer.ensures.steps;
+      goes_on = goes_then (g.P.Pages.under c.args.service.now.store.space.pages) (g.P.Pages.under c.requests.service.store.space.pages) (g.P.Pages.under c.answer.new.service.store.space.pages)
+          c.requests.invariant.goes_on c.in-Ok-answer.ensures.goes_on;
+      total = c.in-Ok-answer.ensures.total ∙ c.requests.invariant.total;
+    }
+
+pub requests-preserved-in-Ok-answer-2 : goal.requests-preserved-in-Ok-answer-2
+requests-preserved-in-Ok-answer-2 g c =
+    let is : c.requests.workload ≡ c.in-Some.request ∷ c.next.new.self = given_some c.in-Ok-next.next c.in-Some.request _ _ c.in-Ok-next.ensures.given c.in-Some.is in
+    record {
+      fit = c.in-Ok-answer.ensures.fit (λ never. ok_err c.in-Ok-answer.field-0 DiskFault never);
+      small = c.in-Ok-answer.ensures.small;
+      few =
+          let one : c.answer.new.summary.requests ≡ c.requests.summary.requests + 1 = c.in-Ok-answer.ensures.requests in
+          let was : c.requests.summary.requests + length c.requests.workload ≤ 12290 = c.requests.invariant.few in
+          one_fewer c.requests.summary.requests c.answer.new.summary.requests c.requests.workload c.next.new.self c.in-Some.request is one was;
+      knows = c.in-Ok-answer.ensures.known;
+      accepted = accepted_more c.requests.client c.answer.new.client c.requests.invariant.accepted c.in-Ok-answer.ensures.accepts;
+      reaches = λ total book told stands.
+          let r = next_reaches (workload c.args.seed c.args.count) c.requests.workload c.next.new.self c.in-Some.request total (state_of book total []) (g.P.Pages.view c.requests.service.store.space.pages).image c.requests.service.sessions c.requests.client c.requests.summary is (c.requests.invariant.reaches total book told stands) in
+          reaches_more (workload c.args.seed c.args.count) c.next.new.self c.in-Some.request total (state_of book total []) (g.P.Pages.view c.requests.service.store.space.pages).image (g.P.Pages.view c.answer.new.service.store.space.pages).image c.requests.service.sessions c.answer.new.service.sessions
+          c.requests.client c.answer.new.client c.requests.summary c.answer.new.summary r
+          (c.in-Ok-answer.ensures.answered total r.book (c.requests.invariant.runs.told told) r.stands r.sound r.mirrors);
+      moments = λ total book told stands.
+          let r = next_reaches (workload c.args.seed c.args.count) c.requests.workload c.next.new.self c.in-Some.request total (state_of book total []) (g.P.Pages.view c.requests.service.store.space.pages).image c.requests.service.sessions c.requests.client c.requests.summary is (c.requests.invariant.reaches total book told stands) in
+          moments_more (workload c.args.seed c.args.count) c.next.new.self c.in-Some.request total (state_of book total []) (g.P.Pages.view c.args.service.now.store.space.pages) (g.P.Pages.view c.requests.service.store.space.pages) (g.P.Pages.view c.answer.new.service.store.space.pages) c.requests.service.sessions c.requests.client c.requests.summary r
+          (c.requests.invariant.moments total book told stands) (c.in-Ok-answer.ensures.moments total r.book (c.requests.invariant.runs.told told) r.stands);
+      runs = runs_on (g.P.Pages.told c.args.service.now.store.space.pages) (g.P.Pages.told c.requests.service.store.space.pages) (g.P.Pages.told c.answer.new.service.store.space.pages)
+          (g.P.Pages.view c.args.service.now.store.space.pages) (g.P.Pages.view c.requests.service.store.space.pages) (g.P.Pages.view c.answer.new.service.store.space.pages) c.requests.invariant.runs c.in-Ok-answer.ensures.steps;
+      goes_on = goes_then (g.P.Pages.under c.args.service.now.store.space.pages) (g.P.Pages.under c.requests.service.store.space.pages) (g.P.Pages.under c.answer.new.service.store.space.pages)
+          c.requests.invariant.goes_on c.in-Ok-answer.ensures.goes_on;
+      total = c.in-Ok-answer.ensures.total ∙ c.requests.invariant.total;
+    }
+
+pub requests-preserved-in-Ok-answer-3 : goal.requests-preserved-in-Ok-answer-3
+requests-preserved-in-Ok-answer-3 g c =
+    let is : c.requests.workload ≡ c.in-Some.request ∷ c.next.new.self = given_some c.in-Ok-next.next c.in-Some.request _ _ c.in-Ok-next.ensures.given c.in-Some.is in
+    record {
+      fit = c.in-Ok-answer.ensures.fit (λ never. ok_err c.in-Ok-answer.field-0 DiskFault never);
+      small = c.in-Ok-answer.ensures.small;
+      few =
+          let one : c.answer.new.summary.requests ≡ c.requests.summary.requests + 1 = c.in-Ok-answer.ensures.requests in
+          let was : c.requests.summary.requests + length c.requests.workload ≤ 12290 = c.requests.invariant.few in
+          one_fewer c.requests.summary.requests c.answer.new.summary.requests c.requests.workload c.next.new.self c.in-Some.request is one was;
+      knows = c.in-Ok-answer.ensures.known;
+      accepted = accepted_more c.requests.client c.answer.new.client c.requests.invariant.accepted c.in-Ok-answer.ensures.accepts;
+      reaches = λ total book told stands.
+          let r = next_reaches (workload c.args.seed c.args.count) c.requests.workload c.next.new.self c.in-Some.request total (state_of book total []) (g.P.Pages.view c.requests.service.store.space.pages).image c.requests.service.sessions c.requests.client c.requests.summary is (c.requests.invariant.reaches total book told stands) in
+          reaches_more (workload c.args.seed c.args.count) c.next.new.self c.in-Some.request total (state_of book total []) (g.P.Pages.view c.requests.service.store.space.pages).image (g.P.Pages.view c.answer.new.service.store.space.pages).image c.requests.service.sessions c.answer.new.service.sessions
+          c.requests.client c.answer.new.client c.requests.summary c.answer.new.summary r
+          (c.in-Ok-answer.ensures.answered total r.book (c.requests.invariant.runs.told told) r.stands r.sound r.mirrors);
+      moments = λ total book told stands.
+          let r = next_reaches (workload c.args.seed c.args.count) c.requests.workload c.next.new.self c.in-Some.request total (state_of book total []) (g.P.Pages.view c.requests.service.store.space.pages).image c.requests.service.sessions c.requests.client c.requests.summary is (c.requests.invariant.reaches total book told stands) in
+          moments_more (workload c.args.seed c.args.count) c.next.new.self c.in-Some.request total (state_of book total []) (g.P.Pages.view c.args.service.now.store.space.pages) (g.P.Pages.view c.requests.service.store.space.pages) (g.P.Pages.view c.answer.new.service.store.space.pages) c.requests.service.sessions c.requests.client c.requests.summary r
+          (c.requests.invariant.moments total book told stands) (c.in-Ok-answer.ensures.moments total r.book (c.requests.invariant.runs.told told) r.stands);
+      runs = runs_on (g.P.Pages.told c.args.service.now.store.space.pages) (g.P.Pages.told c.requests.service.store.space.pages) (g.P.Pages.told c.answer.new.service.store.space.pages)
+          (g.P.Pages.view c.args.service.now.store.space.pages) (g.P.Pages.view c.requests.service.store.space.pages) (g.P.Pages.view c.answer.new.service.store.space.pages) c.requests.invariant.runs c.in-Ok-answer.ensures.steps;
+      goes_on = goes_then (g.P.Pages.under c.args.service.now.store.space.pages) (g.P.Pages.under c.requests.service.store.space.pages) (g.P.Pages.under c.answer.new.service.store.space.pages)
+          c.requests.invariant.goes_on c.in-Ok-answer.ensures.goes_on;
+      total = c.in-Ok-answer.ensures.total ∙ c.requests.invariant.total;
+    }
+
+pub requests-preserved-in-Ok-answer-4 : goal.requests-preserved-in-Ok-answer-4
+requests-preserved-in-Ok-answer-4 g c =
+    let is : c.requests.workload ≡ c.in-Some.request ∷ c.next.new.self = given_some c.in-Ok-next.next c.in-Some.request _ _ c.in-Ok-next.ensures.given c.in-Some.is in
+    record {
+      fit = c.in-Ok-answer.ensures.fit (λ never. ok_err c.in-Ok-answer.field-0 DiskFault never);
+      small = c.in-Ok-answer.ensures.small;
+      few =
+          let one : c.answer.new.summary.requests ≡ c.requests.summary.requests + 1 = c.in-Ok-answer.ensures.requests in
+          let was : c.requests.summary.requests + length c.requests.workload ≤ 12290 = c.requests.invariant.few in
+          one_fewer c.requests.summary.requests c.answer.new.summary.requests c.requests.workload c.next.new.self c.in-Some.request is one was;
+      knows = c.in-Ok-answer.ensures.known;
+      accepted = accepted_more c.requests.client c.answer.new.client c.requests.invariant.accepted c.in-Ok-answer.ensures.accepts;
+      reaches = λ total book told stands.
+          let r = next_reaches (workload c.args.seed c.args.count) c.requests.workload c.next.new.self c.in-Some.request total (state_of book total []) (g.P.Pages.view c.requests.service.store.space.pages).image c.requests.service.sessions c.requests.client c.requests.summary is (c.requests.invariant.reaches total book told stands) in
+          reaches_more (workload c.args.seed c.args.count) c.next.new.self c.in-Some.request total (state_of book total []) (g.P.Pages.view c.requests.service.store.space.pages).image (g.P.Pages.view c.answer.new.service.store.space.pages).image c.requests.service.sessions c.answer.new.service.sessions
+          c.requests.client c.answer.new.client c.requests.summary c.answer.new.summary r
+          (c.in-Ok-answer.ensures.answered total r.book (c.requests.invariant.runs.told told) r.stands r.sound r.mirrors);
+      moments = λ total book told stands.
+          let r = next_reaches (workload c.args.seed c.args.count) c.requests.workload c.next.new.self c.in-Some.request total (state_of book total []) (g.P.Pages.view c.requests.service.store.space.pages).image c.requests.service.sessions c.requests.client c.requests.summary is (c.requests.invariant.reaches total book told stands) in
+          moments_more (workload c.args.seed c.args.count) c.next.new.self c.in-Some.request total (state_of book total []) (g.P.Pages.view c.args.service.now.store.space.pages) (g.P.Pages.view c.requests.service.store.space.pages) (g.P.Pages.view c.answer.new.service.store.space.pages) c.requests.service.sessions c.requests.client c.requests.summary r
+          (c.requests.invariant.moments total book told stands) (c.in-Ok-answer.ensures.moments total r.book (c.requests.invariant.runs.told told) r.stands);
+      runs = runs_on (g.P.Pages.told c.args.service.now.store.space.pages) (g.P.Pages.told c.requests.service.store.space.pages) (g.P.Pages.told c.answer.new.service.store.space.pages)
+          (g.P.Pages.view c.args.service.now.store.space.pages) (g.P.Pages.view c.requests.service.store.space.pages) (g.P.Pages.view c.answer.new.service.store.space.pages) c.requests.invariant.runs c.in-Ok-answer.ensures.steps;
+      goes_on = goes_then (g.P.Pages.under c.args.service.now.store.space.pages) (g.P.Pages.under c.requests.service.store.space.pages) (g.P.Pages.under c.answer.new.service.store.space.pages)
+          c.requests.invariant.goes_on c.in-Ok-answer.ensures.goes_on;
+      total = c.in-Ok-answer.ensures.total ∙ c.requests.invariant.total;
+    }
+
+pub requests-preserved-in-Ok-answer-5 : goal.requests-preserved-in-Ok-answer-5
+requests-preserved-in-Ok-answer-5 g c =
+    let is : c.requests.workload ≡ c.in-Some.request ∷ c.next.new.self = given_some c.in-Ok-next.next c.in-Some.request _ _ c.in-Ok-next.ensures.given c.in-Some.is in
+    record {
+      fit = c.in-Ok-answer.ensures.fit (λ never. ok_err c.in-Ok-answer.field-0 DiskFault never);
+      small = c.in-Ok-answer.ensures.small;
+      few =
+          let one : c.answer.new.summary.requests ≡ c.requests.summary.requests + 1 = c.in-Ok-answer.ensures.requests in
+          let was : c.requests.summary.requests + length c.requests.workload ≤ 12290 = c.requests.invariant.few in
+          one_fewer c.requests.summary.requests c.answer.new.summary.requests c.requests.workload c.next.new.self c.in-Some.request is one was;
+      knows = c.in-Ok-answer.ensures.known;
+      accepted = accepted_more c.requests.client c.answer.new.client c.requests.invariant.accepted c.in-Ok-answer.ensures.accepts;
+      reaches = λ total book told stands.
+          let r = next_reaches (workload c.args.seed c.args.count) c.requests.workload c.next.new.self c.in-Some.request total (state_of book total []) (g.P.Pages.view c.requests.service.store.space.pages).image c.requests.service.sessions c.requests.client c.requests.summary is (c.requests.invariant.reaches total book told stands) in
+          reaches_more (workload c.args.seed c.args.count) c.next.new.self c.in-Some.request total (state_of book total []) (g.P.Pages.view c.requests.service.store.space.pages).image (g.P.Pages.view c.answer.new.service.store.space.pages).image c.requests.service.sessions c.answer.new.service.sessions
+          c.requests.client c.answer.new.client c.requests.summary c.answer.new.summary r
+          (c.in-Ok-answer.ensures.answered total r.book (c.requests.invariant.runs.told told) r.stands r.sound r.mirrors);
+      moments = λ total book told stands.
+          let r = next_reaches (workload c.args.seed c.args.count) c.requests.workload c.next.new.self c.in-Some.request total (state_of book total []) (g.P.Pages.view c.requests.service.store.space.pages).image c.requests.service.sessions c.requests.client c.requests.summary is (c.requests.invariant.reaches total book told stands) in
+          moments_more (workload c.args.seed c.args.count) c.next.new.self c.in-Some.request total (state_of book total []) (g.P.Pages.view c.args.service.now.store.space.pages) (g.P.Pages.view c.requests.service.store.space.pages) (g.P.Pages.view c.answer.new.service.store.space.pages) c.requests.service.sessions c.requests.client c.requests.summary r
+          (c.requests.invariant.moments total book told stands) (c.in-Ok-answer.ensures.moments total r.book (c.requests.invariant.runs.told told) r.stands);
+      runs = runs_on (g.P.Pages.told c.args.service.now.store.space.pages) (g.P.Pages.told c.requests.service.store.space.pages) (g.P.Pages.told c.answer.new.service.store.space.pages)
+          (g.P.Pages.view c.args.service.now.store.space.pages) (g.P.Pages.view c.requests.service.store.space.pages) (g.P.Pages.view c.answer.new.service.store.space.pages) c.requests.invariant.runs c.in-Ok-answer.ensures.steps;
+      goes_on = goes_then (g.P.Pages.under c.args.service.now.store.space.pages) (g.P.Pages.under c.requests.service.store.space.pages) (g.P.Pages.under c.answer.new.service.store.space.pages)
+          c.requests.invariant.goes_on c.in-Ok-answer.ensures.goes_on;
+      total = c.in-Ok-answer.ensures.total ∙ c.requests.invariant.total;
+    }
+
+pub requests-preserved-in-Ok-answer-6 : goal.requests-preserved-in-Ok-answer-6
+requests-preserved-in-Ok-answer-6 g c =
+    let is : c.requests.workload ≡ c.in-Some.request ∷ c.next.new.self = given_some c.in-Ok-next.next c.in-Some.request _ _ c.in-Ok-next.ensures.given c.in-Some.is in
+    record {
+      fit = c.in-Ok-answer.ensures.fit (λ never. ok_err c.in-Ok-answer.field-0 DiskFault never);
+      small = c.in-Ok-answer.ensures.small;
+      few =
+          let one : c.answer.new.summary.requests ≡ c.requests.summary.requests + 1 = c.in-Ok-answer.ensures.requests in
+          let was : c.requests.summary.requests + length c.requests.workload ≤ 12290 = c.requests.invariant.few in
+          one_fewer c.requests.summary.requests c.answer.new.summary.requests c.requests.workload c.next.new.self c.in-Some.request is one was;
+      knows = c.in-Ok-answer.ensures.known;
+      accepted = accepted_more c.requests.client c.answer.new.client c.requests.invariant.accepted c.in-Ok-answer.ensures.accepts;
+      reaches = λ total book told stands.
+          let r = next_reaches (workload c.args.seed c.args.count) c.requests.workload c.next.new.self c.in-Some.request total (state_of book total []) (g.P.Pages.view c.requests.service.store.space.pages).image c.requests.service.sessions c.requests.client c.requests.summary is (c.requests.invariant.reaches total book told stands) in
+          reaches_more (workload c.args.seed c.args.count) c.next.new.self c.in-Some.request total (state_of book total []) (g.P.Pages.view c.requests.service.store.space.pages).image (g.P.Pages.view c.answer.new.service.store.space.pages).image c.requests.service.sessions c.answer.new.service.sessions
+          c.requests.client c.answer.new.client c.requests.summary c.answer.new.summary r
+          (c.in-Ok-answer.ensures.answered total r.book (c.requests.invariant.runs.told told) r.stands r.sound r.mirrors);
+      moments = λ total book told stands.
+          let r = next_reaches (workload c.args.seed c.args.count) c.requests.workload c.next.new.self c.in-Some.request total (state_of book total []) (g.P.Pages.view c.requests.service.store.space.pages).image c.requests.service.sessions c.requests.client c.requests.summary is (c.requests.invariant.reaches total book told stands) in
+          moments_more (workload c.args.seed c.args.count) c.next.new.self c.in-Some.request total (state_of book total []) (g.P.Pages.view c.args.service.now.store.space.pages) (g.P.Pages.view c.requests.service.store.space.pages) (g.P.Pages.view c.answer.new.service.store.space.pages) c.requests.service.sessions c.requests.client c.requests.summary r
+          (c.requests.invariant.moments total book told stands) (c.in-Ok-answer.ensures.moments total r.book (c.requests.invariant.runs.told told) r.stands);
+      runs = runs_on (g.P.Pages.told c.args.service.now.store.space.pages) (g.P.Pages.told c.requests.service.store.space.pages) (g.P.Pages.told c.answer.new.service.store.space.pages)
+          (g.P.Pages.view c.args.service.now.store.space.pages) (g.P.Pages.view c.requests.service.store.space.pages) (g.P.Pages.view c.answer.new.service.store.space.pages) c.requests.invariant.runs c.in-Ok-answer.ensures.steps;
+      goes_on = goes_then (g.P.Pages.under c.args.service.now.store.space.pages) (g.P.Pages.under c.requests.service.store.space.pages) (g.P.Pages.under c.answer.new.service.store.space.pages)
+          c.requests.invariant.goes_on c.in-Ok-answer.ensures.goes_on;
+      total = c.in-Ok-answer.ensures.total ∙ c.requests.invariant.total;
+    }
+
+pub requests-preserved : goal.requests-preserved
+requests-preserved g c =
+    let is : c.requests.workload ≡ c.in-Some.request ∷ c.next.new.self = given_some c.in-Ok-next.next c.in-Some.request _ _ c.in-Ok-next.ensures.given c.in-Some.is in
+    record {
+      fit = c.in-Ok-answer.ensures.fit (λ never. ok_err c.in-Ok-answer.field-0 DiskFault never);
+      small = c.in-Ok-answer.ensures.small;
+      few =
+          let one : c.answer.new.summary.requests ≡ c.requests.summary.requests + 1 = c.in-Ok-answer.ensures.requests in
+          let was : c.requests.summary.requests + length c.requests.workload ≤ 12290 = c.requests.invariant.few in
+          one_fewer c.requests.summary.requests c.answer.new.summary.requests c.requests.workload c.next.new.self c.in-Some.request is one was;
+      knows = c.in-Ok-answer.ensures.known;
+      accepted = accepted_more c.requests.client c.answer.new.client c.requests.invariant.accepted c.in-Ok-answer.ensures.accepts;
+      reaches = λ total book told stands.
+          let r = next_reaches (workload c.args.seed c.args.count) c.requests.workload c.next.new.self c.in-Some.request total (state_of book total []) (g.P.Pages.view c.requests.service.store.space.pages).image c.requests.service.sessions c.requests.client c.requests.summary is (c.requests.invariant.reaches total book told stands) in
+          reaches_more (workload c.args.seed c.args.count) c.next.new.self c.in-Some.request total (state_of book total []) (g.P.Pages.view c.requests.service.store.space.pages).image (g.P.Pages.view c.answer.new.service.store.space.pages).image c.requests.service.sessions c.answer.new.service.sessions
+          c.requests.client c.answer.new.client c.requests.summary c.answer.new.summary r
+          (c.in-Ok-answer.ensures.answered total r.book (c.requests.invariant.runs.told told) r.stands r.sound r.mirrors);
+      moments = λ total book told stands.
+          let r = next_reaches (workload c.args.seed c.args.count) c.requests.workload c.next.new.self c.in-Some.request total (state_of book total []) (g.P.Pages.view c.requests.service.store.space.pages).image c.requests.service.sessions c.requests.client c.requests.summary is (c.requests.invariant.reaches total book told stands) in
+          moments_more (workload c.args.seed c.args.count) c.next.new.self c.in-Some.request total (state_of book total []) (g.P.Pages.view c.args.service.now.store.space.pages) (g.P.Pages.view c.requests.service.store.space.pages) (g.P.Pages.view c.answer.new.service.store.space.pages) c.requests.service.sessions c.requests.client c.requests.summary r
+          (c.requests.invariant.moments total book told stands) (c.in-Ok-answer.ensures.moments total r.book (c.requests.invariant.runs.told told) r.stands);
+      runs = runs_on (g.P.Pages.told c.args.service.now.store.space.pages) (g.P.Pages.told c.requests.service.store.space.pages) (g.P.Pages.told c.answer.new.service.store.space.pages)
+          (g.P.Pages.view c.args.service.now.store.space.pages) (g.P.Pages.view c.requests.service.store.space.pages) (g.P.Pages.view c.answer.new.service.store.space.pages) c.requests.invariant.runs c.in-Ok-answer.ensures.steps;
+      goes_on = goes_then (g.P.Pages.under c.args.service.now.store.space.pages) (g.P.Pages.under c.requests.service.store.space.pages) (g.P.Pages.under c.answer.new.service.store.space.pages)
+          c.requests.invariant.goes_on c.in-Ok-answer.ensures.goes_on;
+      total = c.in-Ok-answer.ensures.total ∙ c.requests.invariant.total;
+    }

@@ -1,0 +1,82 @@
+-- What one request of a workload does to the service, its client and the summary. Private contracts are stated by
+-- these words.
+use Rattle.std.specs.Prelude.{ℕ, ◌≡◌, ◌++◌, List, [], ◌∷◌, Option, is_some, ⊤}
+use Rattle.block_disk.specs.Counts.{HasRisen}
+use Rattle.block_disk.specs.View.{Image, View}
+use Rattle.line_raster.specs.Canvas.{Canvas}
+use Rattle.request_lines.specs.declared.requests.Request.{Request}
+use Rattle.series_book.specs.declared.one_series.Series.{Series}
+use Rattle.stored_book.specs.Standing.{StandsForBook}
+use Rattle.store_catalog.specs.declared.stored_series.StoredSeries.{StoredSeries}
+use Rattle.chart_frames.specs.declared.frame.Frame.{Frame}
+use Rattle.zoom_session.specs.declared.session.Session.{Session}
+use Rattle.zoom_session.specs.Sessions.{is_open}
+use Rattle.chart_client.specs.declared.holding.Holding.{Holding}
+use Rattle.chart_client.specs.declared.errors.ClientError.TheVariants as client
+use Rattle.chart_client.specs.Holdings.{holding_of}
+use Rattle.chart_client.specs.Accepting.{Accepts, Rejects}
+use Rattle.chart_service.specs.State.{State, IsSound}
+use Rattle.chart_service.specs.Stepping.{RepliedTo, IsBadPage, state_of}
+use Rattle.drawn_replies.specs.Mirrors.{Mirrors, IsPictureOf}
+use Rattle.drawn_replies.specs.Pictures.{AcceptsAll}
+use Rattle.demo_workload.specs.declared.summaries.Summary.{Summary}
+use Rattle.demo_workload.specs.declared.demo_end.DemoEnd.{DemoEnd}
+use Rattle.demo_workload.specs.declared.demo_end.DemoEnd.TheVariants.{DiskFault, Damaged, Missing, BadCoefficient, NoMemory}
+use Rattle.demo_workload.specs.Summaries.{summary_of}
+use Rattle.demo_workload.specs.Replying.{PicturesEach}
+
+-- the client holds something of just the sessions that are open
+abbrev pub KnowsOpen : List Session → List Holding → Type 0
+KnowsOpen sessions holdings = (n : ℕ) → is_some (holding_of n holdings) ≡ is_open n sessions
+
+-- A request is answered, the client draws the picture of its frame and goes on mirroring the sessions, and the
+-- summary has one more reply.
+pub record AnswersOne (request : Request) (old new : State) (holdings : List Holding) (before now : Summary) : Type 0 where
+  pub frame : Frame
+  pub picture : Option Canvas
+  pub replied : RepliedTo request frame old new
+  pub pictured : IsPictureOf old new frame picture
+  pub mirrors : Mirrors new.sessions holdings
+  pub sums : (frames : List Frame) (pictures : List (Option Canvas)) → before ≡ summary_of frames pictures
+      → now ≡ summary_of (frames ++ frame ∷ []) (pictures ++ picture ∷ [])
+
+-- the client accepted one more frame
+pub record AcceptsOne (old new : List Holding) : Type 0 where
+  pub frame : Frame
+  pub drawing : Option Canvas
+  pub accepted : Accepts frame drawing old new
+
+-- why a client doesn't accept a frame
+abbrev pub RejectsAs : Frame → List Holding → DemoEnd → Type 0
+RejectsAs frame old DiskFault = ⊥
+RejectsAs frame old (Damaged page) = ⊥
+RejectsAs frame old (Missing key) = Rejects frame (client.Missing key) old
+RejectsAs frame old (BadCoefficient key) = Rejects frame (client.BadCoefficient key) old
+RejectsAs frame old NoMemory = ⊤
+
+-- why a request has no reply that the client accepts
+abbrev pub IsOneCause : DemoEnd → List Holding → Type 0 → List StoredSeries → ℕ → View → View → Type 0
+IsOneCause DiskFault holdings told catalog total old new = HasRisen old.faults new.faults
+IsOneCause (Damaged page) holdings told catalog total old new = IsBadPage told catalog new.image total page
+IsOneCause (Missing key) holdings told catalog total old new = (frame : Frame) × Rejects frame (client.Missing key) holdings
+IsOneCause (BadCoefficient key) holdings told catalog total old new = (frame : Frame) × Rejects frame (client.BadCoefficient key) holdings
+IsOneCause NoMemory holdings told catalog total old new = ⊤
+
+-- the client accepted frames one after the other since it had nothing
+pub record HasAccepted (holdings : List Holding) : Type 0 where
+  pub frames : List Frame
+  pub drawings : List (Option Canvas)
+  pub accepted : AcceptsAll [] frames drawings holdings
+
+-- Of these requests the first ones were answered, those behind them are left, and the pages stand for the book then.
+pub record Reaches (requests left : List Request) (total : ℕ) (old : State) (image : Image) (sessions : List Session) (holdings : List Holding) (summary : Summary) : Type 0 where
+  pub first : List Request
+  pub split : requests ≡ first ++ left
+  pub frames : List Frame
+  pub pictures : List (Option Canvas)
+  pub book : List Series
+  pub replied : PicturesEach old first frames pictures (state_of book total sessions)
+  pub stands : StandsForBook image total book
+  pub sound : IsSound (state_of book total sessions)
+  pub mirrors : Mirrors sessions holdings
+  pub sums : summary ≡ summary_of frames pictures

@@ -1,0 +1,52 @@
+-- Why a workload wasn't answered to its end, and what stays.
+use Rattle.std.specs.Prelude.{ℕ, ◌≡◌, ◌≤◌, ◌⊎◌, List, [], Option, ⊤}
+use Rattle.block_disk.specs.Counts.{HasRisen}
+use Rattle.block_disk.specs.View.{View}
+use Rattle.line_raster.specs.Canvas.{Canvas}
+use Rattle.store_catalog.specs.declared.stored_series.StoredSeries.{StoredSeries}
+use Rattle.chart_frames.specs.declared.frame.Frame.{Frame}
+use Rattle.chart_client.specs.declared.holding.Holding.{Holding}
+use Rattle.chart_client.specs.declared.errors.ClientError.{ClientError}
+use Rattle.chart_client.specs.declared.errors.ClientError.TheVariants as client
+use Rattle.chart_client.specs.Accepting.{Rejects}
+use Rattle.chart_service.specs.declared.failure.ServiceError.{ServiceError}
+use Rattle.chart_service.specs.declared.failure.ServiceError.TheVariants as step
+use Rattle.chart_service.specs.Stepping.{IsBadPage}
+use Rattle.drawn_replies.specs.Pictures.{AcceptsAll}
+use Rattle.demo_workload.specs.declared.demo_end.DemoEnd.{DemoEnd}
+use Rattle.demo_workload.specs.declared.demo_end.DemoEnd.TheVariants.{DiskFault, Damaged, Missing, BadCoefficient, NoMemory}
+
+-- what an error of a step is for the workload
+abbrev pub end_of_step : ServiceError → DemoEnd
+end_of_step step.DiskFault = DiskFault
+end_of_step (step.Damaged page) = Damaged page
+end_of_step step.NoMemory = NoMemory
+
+-- where the pages stand for a book, a fault of the disk or want of memory alone keeps from the summary
+abbrev pub IsOutside : DemoEnd → Type 0
+IsOutside end = (end ≡ DiskFault) ⊎ (end ≡ NoMemory)
+
+-- the client accepted some frames one after the other, and rejects the next one for this error
+pub record MeetsError (error : ClientError) : Type 0 where
+  pub frames : List Frame
+  pub drawings : List (Option Canvas)
+  pub holdings : List Holding
+  pub accepted : AcceptsAll [] frames drawings holdings
+  pub frame : Frame
+  pub rejected : Rejects frame error holdings
+
+-- why a workload ends before its summary; want of memory is free
+abbrev pub IsCause : DemoEnd → Type 0 → List StoredSeries → ℕ → View → View → Type 0
+IsCause DiskFault told catalog total old new = HasRisen old.faults new.faults
+IsCause (Damaged page) told catalog total old new = IsBadPage told catalog new.image total page
+IsCause (Missing key) told catalog total old new = MeetsError (client.Missing key)
+IsCause (BadCoefficient key) told catalog total old new = MeetsError (client.BadCoefficient key)
+IsCause NoMemory told catalog total old new = ⊤
+
+-- what a workload moves, whatever the pages are
+pub record Runs (told_old told_new : Type 0) (old new : View) : Type 0 where
+  pub told : told_old → told_new
+  pub was_told : told_new → told_old
+  pub size : new.size ≡ old.size
+  pub beside : new.beside ≡ old.beside
+  pub faults : old.faults ≤ new.faults

@@ -1,0 +1,108 @@
+//! One request of a workload: the service answers it, and a client draws what it is sent.
+ghost use Rattle.std.specs.Prelude.{◌≡◌, ◌≢◌, ◌+◌, ◌<◌, ◌^◌, ℕ, List, None, Some, IfOk, IfErr, OnOk, Err};
+ghost use Rattle.block_disk.specs.View.{View, Passes};
+ghost use Rattle.gate_pages.specs.Pages.{GoesOn, Quiet};
+ghost use Rattle.request_lines.specs.Requests.{IsInRange};
+ghost use Rattle.series_book.specs.declared.one_series.Series.{Series};
+ghost use Rattle.stored_book.specs.Standing.{StandsForBook};
+ghost use Rattle.chart_frames.specs.Frames.{Fits};
+ghost use Rattle.chart_client.specs.Holdings.{holding_of};
+ghost use Rattle.chart_client.specs.Accepting.{Accepts, session_in};
+ghost use Rattle.chart_service.specs.State.{IsSound};
+ghost use Rattle.chart_service.specs.Stepping.{StandsAfter, state_of, RepliedTo, IsBeforeOrAfter, Steps};
+ghost use Rattle.drawn_replies.specs.Mirrors.{Mirrors};
+ghost use Rattle.demo_workload.specs.Summaries.{IsSmall};
+ghost use Rattle.demo_workload.specs.Ending.{IsOutside, end_of_step};
+ghost use Rattle.demo_workload.specs.Answering.{KnowsOpen, AnswersOne, AcceptsOne, RejectsAs, IsOneCause};
+
+use crate::demo_end::DemoEnd;
+use crate::summaries::Summary;
+use chart_client::laws::frames_change_one_session;
+use chart_client::{Client, ClientError};
+use chart_frames::laws::frames_are_limited;
+use chart_frames::{Frame, encode};
+use chart_service::{Service, ServiceError};
+use drawn_replies::laws::clients_draw_requests;
+use gate_pages::Pages;
+use line_raster::Bitmap;
+use request_lines::Request;
+use std::alloc::Global;
+
+/// Answers a request, gives the frame to the client, and adds both to the summary. The client holds what
+/// it was sent of each session that is open. After an error the book is as it was, or as the reply leaves it.
+pub(crate) fn answer<P: Pages>(
+    alloc: Global,
+    service: &mut Service<P>,
+    request: &Request,
+    client: &mut Client,
+    summary: &mut Summary,
+) -> Result<(), DemoEnd>
+    requires fit { (P.view service.old.store.space.pages).fit }
+    requires range { IsInRange request.now }
+    requires known { KnowsOpen service.old.sessions client.old }
+    requires few { summary.old.requests < 2 ^ 32 }
+    requires small { IsSmall summary.old }
+    ensures answered { (total : ℕ) (book : List Series) → P.told service.old.store.space.pages → StandsForBook (P.view service.old.store.space.pages).image total book
+        → IsSound (state_of book total service.old.sessions) → Mirrors service.old.sessions client.old
+        → OnOk result (StandsAfter total (P.view service.new.store.space.pages).image service.new.sessions (λ new. AnswersOne request.now (state_of book total service.old.sessions) new client.new summary.old summary.new)) }
+    ensures standing { (total : ℕ) (book : List Series) → P.told service.old.store.space.pages → StandsForBook (P.view service.old.store.space.pages).image total book
+        → IsSound (state_of book total service.old.sessions) → Mirrors service.old.sessions client.old → IfErr result IsOutside }
+    ensures moments { (total : ℕ) (book : List Series) → P.told service.old.store.space.pages → StandsForBook (P.view service.old.store.space.pages).image total book
+        → Passes (P.view service.old.store.space.pages) (P.view service.new.store.space.pages) (IsBeforeOrAfter (RepliedTo request.now) total book service.old.sessions) (Quiet (P.view service.old.store.space.pages)) }
+    ensures left { (total : ℕ) (book : List Series) → P.told service.old.store.space.pages → StandsForBook (P.view service.old.store.space.pages).image total book
+        → IfErr result (λ end. end ≢ DemoEnd.DiskFault → IsBeforeOrAfter (RepliedTo request.now) total book service.old.sessions (P.view service.new.store.space.pages).image) }
+    // whatever the pages are
+    ensures known { OnOk result (KnowsOpen service.new.sessions client.new) }
+    ensures accepts { OnOk result (AcceptsOne client.old client.new) }
+    ensures cause { IfErr result (λ end. IsOneCause end client.old (P.told service.new.store.space.pages) service.new.store.catalog.series.items service.new.store.space.superblock.total (P.view service.old.store.space.pages) (P.view service.new.store.space.pages)) }
+    ensures steps { Steps (P.told service.old.store.space.pages) (P.told service.new.store.space.pages) (P.view service.old.store.space.pages) (P.view service.new.store.space.pages) }
+    ensures goes_on { GoesOn (P.under service.old.store.space.pages) (P.under service.new.store.space.pages) }
+    ensures fit { result ≢ Err DemoEnd.DiskFault → (P.view service.new.store.space.pages).fit }
+    ensures total { service.new.store.space.superblock.total ≡ service.old.store.space.superblock.total }
+    ensures small { OnOk result (IsSmall summary.new) }
+    ensures requests { OnOk result (summary.new.requests ≡ summary.old.requests + 1) }
+{
+    clients_draw_requests();
+    frames_change_one_session();
+    frames_are_limited();
+    let frame = match service.step(request) {
+        Ok(frame) => frame,
+        Err(error) => return Err(end_of_step(error)),
+    };
+    let Ok(bytes) = encode(alloc, &frame) else {
+        return Err(DemoEnd::NoMemory);
+    };
+    let picture = match draw(client, &frame) {
+        Ok(picture) => picture,
+        Err(end) => return Err(end),
+    };
+    summary.add(&frame, bytes.len() as u64, &picture);
+    Ok(())
+}
+
+/// What an error of a step is for the workload.
+fn end_of_step(error: ServiceError) -> DemoEnd
+    ensures { result ≡ end_of_step error }
+{
+    match error {
+        ServiceError::DiskFault => DemoEnd::DiskFault,
+        ServiceError::Damaged { page } => DemoEnd::Damaged { page },
+        ServiceError::NoMemory => DemoEnd::NoMemory,
+    }
+}
+
+/// Gives a frame to the client, which knows its session.
+fn draw(client: &mut Client, frame: &Frame) -> Result<Option<Bitmap>, DemoEnd>
+    requires fits { Fits frame.now }
+    requires named { (n : ℕ) → session_in frame.now ≡ Some n → holding_of n client.old ≡ None → ⊥ }
+    ensures accepted { IfOk result (λ drawing. Accepts frame.now drawing client.old client.new) }
+    ensures rejected { IfErr result (RejectsAs frame.now client.old) }
+{
+    match client.accept(frame) {
+        Ok(picture) => Ok(picture),
+        Err(ClientError::Missing { key }) => Err(DemoEnd::Missing { key }),
+        Err(ClientError::BadCoefficient { key }) => Err(DemoEnd::BadCoefficient { key }),
+        Err(ClientError::UnknownSession { .. }) => unreachable!(),
+        Err(ClientError::NoMemory) => Err(DemoEnd::NoMemory),
+    }
+}
