@@ -9,22 +9,12 @@ use Rattle.chart_world.proofs.LineLaws.{lines_none}
 use Rattle.block_disk.specs.View.{View}
 use Rattle.plain_chart.specs.Samples.{IsSlot}
 use Rattle.chart_program.specs.Slots.{says, spelling, SpellsSlot, IsWhole, Behind, FirstBad, HasTooMany}
-use Rattle.chart_program.specs.declared.words.Command.{Command}
-use Rattle.chart_program.specs.declared.words.Command.TheVariants.{Plot, Draw}
-use Rattle.chart_program.specs.Words.{Spells}
+use Rattle.program_words.specs.declared.words.Command.{Command}
+use Rattle.program_words.specs.declared.words.Command.TheVariants.{Plot, Draw}
+use Rattle.program_words.specs.Words.{Spells}
 use Rattle.chart_program.specs.Ran.{HasTooMuch, IsSlots, IsFrames, IsInput}
 use Rattle.chart_program.proofs.Joined.{lines_joined}
 use Rattle.chart_program.proofs.Ending.{says_true}
-
--- the codes of a plot are codes of a run
-pub plot_codes : (code : ℕ) → Contains (0 ∷ 3 ∷ 4 ∷ 5 ∷ 8 ∷ 9 ∷ []) code → Contains (0 ∷ 2 ∷ 3 ∷ 4 ∷ 5 ∷ 8 ∷ 9 ∷ 10 ∷ 11 ∷ 15 ∷ 6 ∷ 12 ∷ 13 ∷ 7 ∷ []) code
-plot_codes code (zero, inside, is) = (0, omega arith, is)
-plot_codes code (suc zero, inside, is) = (2, omega arith, is)
-plot_codes code (suc (suc zero), inside, is) = (3, omega arith, is)
-plot_codes code (suc (suc (suc zero)), inside, is) = (4, omega arith, is)
-plot_codes code (suc (suc (suc (suc zero))), inside, is) = (5, omega arith, is)
-plot_codes code (suc (suc (suc (suc (suc zero)))), inside, is) = (6, omega arith, is)
-plot_codes code (suc (suc (suc (suc (suc (suc k))))), inside, is) = absurd (omega (arith, inside))
 
 some_line : (rest : List ℕ) (line : Option (List ℕ)) (later : List (Option (List ℕ))) → lines rest ≡ line ∷ later → rest ≡ [] → ⊥
 some_line rest line later first none = let both : [] ≡ line ∷ later = sym lines_none ∙ ap lines (sym none) ∙ first in cc
@@ -97,25 +87,11 @@ completed code R S B M (suc (suc (suc (suc (suc zero)))), inside, is) read send 
 completed code R S B M (suc (suc (suc (suc (suc (suc k))))), inside, is) read send bad much no_read no_send no_bad no_much = absurd (omega (arith, inside))
 
 -- where a plot's input is told
-pub complete_so : (old new : View) (o : Option (List ℕ)) (code place w h : ℕ) (words : List (List ℕ)) (command : Command) (R S W : Type 0) → command ≡ Plot w h → Spells command words → Contains (0 ∷ 3 ∷ 4 ∷ 5 ∷ 8 ∷ 9 ∷ []) code → (code ≡ 4 → R) → (code ≡ 5 → S) → (code ≡ 8 → IfSome o (λ input. FirstBad input place)) → (code ≡ 9 → IfSome o (λ input. HasTooMuch input place)) → IfSome o (λ input. W → ((command : Command) → Spells command words → IsInput command old new input) → (R → ⊥) → (S → ⊥) → (code ≡ 0) ⊎ (code ≡ 3))
-complete_so old new None code place w h words command R S W is spells codes read send bad much = tt
-complete_so old new (Some input) code place w h words command R S W is spells codes read send bad much = λ some good no_read no_send.
-    let P : Command → Type 0 = λ c. IsInput c old new input in
-    let slots : IsSlots input = subst P is (good command spells) in
+pub plot_complete : (o : Option (List ℕ)) (code place : ℕ) (R S : Type 0) → Contains (0 ∷ 3 ∷ 4 ∷ 5 ∷ 8 ∷ 9 ∷ []) code → (code ≡ 4 → R) → (code ≡ 5 → S) → (code ≡ 8 → IfSome o (λ input. FirstBad input place)) → (code ≡ 9 → IfSome o (λ input. HasTooMuch input place))
+    → IfSome o (λ input. IsSlots input → (R → ⊥) → (S → ⊥) → (code ≡ 0) ⊎ (code ≡ 3))
+plot_complete None code place R S codes read send bad much = tt
+plot_complete (Some input) code place R S codes read send bad much = λ slots no_read no_send.
     completed code R S (FirstBad input place) (HasTooMuch input place) codes read send bad much no_read no_send (no_bad input place slots) (no_much input place slots)
-
--- the codes of a drawing are codes of a run
-pub draw_codes : (code : ℕ) → Contains (0 ∷ 3 ∷ 4 ∷ 5 ∷ 8 ∷ 9 ∷ 10 ∷ 11 ∷ 15 ∷ []) code → Contains (0 ∷ 2 ∷ 3 ∷ 4 ∷ 5 ∷ 8 ∷ 9 ∷ 10 ∷ 11 ∷ 15 ∷ 6 ∷ 12 ∷ 13 ∷ 7 ∷ []) code
-draw_codes code (zero, inside, is) = (0, omega arith, is)
-draw_codes code (suc zero, inside, is) = (2, omega arith, is)
-draw_codes code (suc (suc zero), inside, is) = (3, omega arith, is)
-draw_codes code (suc (suc (suc zero)), inside, is) = (4, omega arith, is)
-draw_codes code (suc (suc (suc (suc zero))), inside, is) = (5, omega arith, is)
-draw_codes code (suc (suc (suc (suc (suc zero)))), inside, is) = (6, omega arith, is)
-draw_codes code (suc (suc (suc (suc (suc (suc zero))))), inside, is) = (7, omega arith, is)
-draw_codes code (suc (suc (suc (suc (suc (suc (suc zero)))))), inside, is) = (8, omega arith, is)
-draw_codes code (suc (suc (suc (suc (suc (suc (suc (suc zero))))))), inside, is) = (9, omega arith, is)
-draw_codes code (suc (suc (suc (suc (suc (suc (suc (suc (suc k)))))))), inside, is) = absurd (omega (arith, inside))
 
 draw_completed : (code : ℕ) (R S : Type 0) → Contains (0 ∷ 3 ∷ 4 ∷ 5 ∷ []) code → (code ≡ 4 → R) → (code ≡ 5 → S) → (R → ⊥) → (S → ⊥) → (code ≡ 0) ⊎ (code ≡ 3)
 draw_completed code R S (zero, inside, is) read send no_read no_send = inl (sym is)
@@ -125,28 +101,17 @@ draw_completed code R S (suc (suc (suc zero)), inside, is) read send no_read no_
 draw_completed code R S (suc (suc (suc (suc k))), inside, is) read send no_read no_send = absurd (omega (arith, inside))
 
 -- where the frames of a drawing are told
-pub draw_complete : (old new : View) (o : Option (List ℕ)) (code : ℕ) (words : List (List ℕ)) (command : Command) (R S W : Type 0) → command ≡ Draw → Spells command words → (code ≡ 4 → R) → (code ≡ 5 → S)
-    → IfSome o (λ input. IsFrames input → Contains (0 ∷ 3 ∷ 4 ∷ 5 ∷ []) code) → IfSome o (λ input. W → ((command : Command) → Spells command words → IsInput command old new input) → (R → ⊥) → (S → ⊥) → (code ≡ 0) ⊎ (code ≡ 3))
-draw_complete old new None code words command R S W is spells read send good = tt
-draw_complete old new (Some input) code words command R S W is spells read send good = λ some fine no_read no_send.
-    let P : Command → Type 0 = λ c. IsInput c old new input in
-    draw_completed code R S (good (subst P is (fine command spells))) read send no_read no_send
+pub draw_complete : (o : Option (List ℕ)) (code : ℕ) (R S : Type 0) → (code ≡ 4 → R) → (code ≡ 5 → S) → IfSome o (λ input. IsFrames input → Contains (0 ∷ 3 ∷ 4 ∷ 5 ∷ []) code)
+    → IfSome o (λ input. IsFrames input → (R → ⊥) → (S → ⊥) → (code ≡ 0) ⊎ (code ≡ 3))
+draw_complete None code R S read send good = tt
+draw_complete (Some input) code R S read send good = λ frames no_read no_send. draw_completed code R S (good frames) read send no_read no_send
 
 -- what holds at all holds where an input is told
 pub told_all : (o : Option (List ℕ)) (P : Type 0) → P → IfSome o (λ input. P)
 told_all None P holds = tt
 told_all (Some input) P holds = holds
 
--- the place of too much input, and what was sent, where the input is told
+-- and with what is told of it
 pub told_both : (o : Option (List ℕ)) (P : Type 0) (Q : List ℕ → Type 0) → P → IfSome o Q → IfSome o (λ input. P × Q input)
 told_both None P Q first second = tt
 told_both (Some input) P Q first second = (first, second)
-
--- the codes of a store's making are codes of a run
-pub init_codes : (code : ℕ) → Contains (0 ∷ 3 ∷ 6 ∷ 12 ∷ 13 ∷ []) code → Contains (0 ∷ 2 ∷ 3 ∷ 4 ∷ 5 ∷ 8 ∷ 9 ∷ 10 ∷ 11 ∷ 15 ∷ 6 ∷ 12 ∷ 13 ∷ 7 ∷ []) code
-init_codes code (zero, inside, is) = (0, omega arith, is)
-init_codes code (suc zero, inside, is) = (2, omega arith, is)
-init_codes code (suc (suc zero), inside, is) = (10, omega arith, is)
-init_codes code (suc (suc (suc zero)), inside, is) = (11, omega arith, is)
-init_codes code (suc (suc (suc (suc zero))), inside, is) = (12, omega arith, is)
-init_codes code (suc (suc (suc (suc (suc k)))), inside, is) = absurd (omega (arith, inside))

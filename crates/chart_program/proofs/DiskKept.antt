@@ -26,8 +26,3 @@ kept_then old mid new first second = record {
   writes = second.writes ∙ first.writes;
   fit = λ fit. second.fit (first.fit fit);
 }
-
--- a count that has risen since a later moment has risen
-pub risen_since : (old mid new : ℕ) → old ≤ mid → HasRisen mid new → HasRisen old new
-risen_since old mid new low (inl more) = inl (omega (arith, low, more))
-risen_since old mid new low (inr most) = inr most

@@ -8,7 +8,7 @@ use Rattle.chart_service.specs.declared.failure.ServeEnd.TheVariants as serve_en
 use Rattle.chart_program.specs.declared.lines_end.LinesEnd.{LinesEnd}
 use Rattle.chart_program.specs.declared.lines_end.LinesEnd.TheVariants as lines_end
 use Rattle.chart_program.specs.declared.run_end.RunEnd.TheVariants as run_end
-use Rattle.chart_program.specs.declared.status.Status.{Status}
+use Rattle.command_status.specs.declared.status.Status.{Status}
 use Rattle.chart_program.specs.Ended.{EndsBy, HasNumberedKey, status_by}
 use Rattle.chart_program.specs.Served.{Says, Faults, IsWorldCause, ServesWorld}
 use Rattle.chart_program.proofs.Codes.{told_both}

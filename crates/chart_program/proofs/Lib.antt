@@ -2,7 +2,6 @@ pub mod Joined
 pub mod Entries
 pub mod Progress
 pub mod Ending
-pub mod Commands
 pub mod Codes
 pub mod DiskKept
 pub mod Drawing
@@ -17,7 +16,8 @@ pub mod World
 pub mod Lowering
 pub mod Replying
 pub mod LinesServed
-pub mod Stores
-pub mod LineCodes
+pub mod Words
+pub mod CommandCodes
+pub mod CommandsEnd
 pub mod LivesLemmas
 pub mod Knowing

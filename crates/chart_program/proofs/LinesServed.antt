@@ -24,9 +24,11 @@ use Rattle.chart_service.specs.declared.failure.ServeEnd.TheVariants as serve_en
 use Rattle.chart_program.specs.declared.run_end.RunEnd.{RunEnd}
 use Rattle.chart_program.specs.declared.run_end.RunEnd.TheVariants as run_end
 use Rattle.chart_program.specs.Runs.{AreShown, AreShownFrom, EndsRun, EndsAtBad, IsShown}
-use Rattle.chart_program.specs.Served.{Says, Spelled, AreTexts, Faults, OfBook, AnswersAll, EndsServing, EndsLines, LeavesBooks, IsAheadOn, IsBadPlace, IsLinesCause, ServesLines, served}
-use Rattle.chart_program.specs.Start.{begun}
-use Rattle.chart_program.proofs.Lowering.{stands_held, crash_for, from_book, serve_ends, text_ends, leaves_lowered}
+use Rattle.chart_program.specs.Served.{Says, Spelled, AreTexts, Faults, AnswersAll, EndsServing, EndsLines, LeavesBooks, IsAheadOn, IsBadPlace, IsLinesCause, ServesLines, served}
+use Rattle.command_status.specs.Books.{OfBook}
+use Rattle.command_status.specs.Books.{begun}
+use Rattle.chart_program.proofs.Lowering.{crash_for, serve_ends, text_ends, leaves_lowered}
+use Rattle.command_status.proofs.Held.{stands_held, from_book}
 use Rattle.chart_program.proofs.Answering.{told_so}
 use Rattle.chart_program.proofs.Moments.{since_none}
 use Rattle.chart_program.proofs.RunStands.{after_so}

@@ -22,17 +22,11 @@ use Rattle.chart_service.specs.declared.failure.ServeEnd.TheVariants as serve_en
 use Rattle.chart_program.specs.declared.run_end.RunEnd.{RunEnd}
 use Rattle.chart_program.specs.declared.run_end.RunEnd.TheVariants as run_end
 use Rattle.chart_program.specs.Runs.{EndsRunAt, EndsRun}
-use Rattle.chart_program.specs.Served.{Says, Spelled, AreTexts, OfBook, FromBook, Never, EndsServing, EndsLines, IsAheadOn, LeavesBooks}
-use Rattle.chart_program.specs.Start.{begun}
+use Rattle.chart_program.specs.Served.{Says, Spelled, AreTexts, EndsServing, EndsLines, IsAheadOn, LeavesBooks}
+use Rattle.command_status.specs.Books.{begun, OfBook, FromBook, Never}
+use Rattle.command_status.proofs.Held.{within_held, from_book}
 use Rattle.chart_program.proofs.RunStands.{after_so}
 use Rattle.chart_program.proofs.Telling.{Telling, OneFrame, AllDraw, OneLacks, EndsTexts, texts_end, texts_lines}
-
--- the book that the disk holds is the one that the pages stand for
-pub stands_held : (count total : ℕ) (book : List Series) (disk : View) → HoldsBook count total book disk → StandsForBook (pages_of count disk.image) total book
-stands_held count total book disk holds = (holds.images disk.image holds.honest).stands
-
-pub within_held : (count total : ℕ) (book : List Series) (disk : View) → HoldsBook count total book disk → total ≤ count
-within_held count total book disk holds = (holds.images disk.image holds.honest).within
 
 -- what holds of all books holds in each case of an answer
 pub done_for : {T E : Type 0} (r : Result T E) (o : Option (List ℕ)) (Pre : ℕ → List Series → Type 0) (X : ℕ → List Series → List ℕ → Type 0) → ((total : ℕ) (book : List Series) → Pre total book → OnOk r (IfSome o (λ input. X total book input)))
@@ -49,32 +43,23 @@ ends_for (Err e) (Some input) Pre X all = all
 
 -- Calls over the pages of a disk, which is at rest afterwards.
 module _ (count count' : ℕ) (old new : View) (same : count' ≡ count) (told : Honest old → Honest new) where
-  pub held_after : (total : ℕ) (sessions : List Session) (P : State → Type 0) → IsClosed new → Honest new → total ≤ count → StandsAfter total (pages_of count' new.image) sessions P → (state : State) × P state × HoldsBook count total state.book new
-  held_after total sessions P closed honest within after =
-      let S : ℕ → Type 0 = λ c. StandsForBook (pages_of c new.image) total after.book in
-      (state_of after.book total sessions, after.so, holds_closed count total after.book new closed honest within (subst S same after.stands))
-
-  pub from_book : (sessions : List Session) (Done : State → State → Type 0) → IsClosed new → OfBook count old (λ total book. StandsAfter total (pages_of count' new.image) sessions (λ state. Done (begun total book) state)) → FromBook count old new Done
-  from_book sessions Done closed all = λ total book holds.
-      held_after total sessions (λ state. Done (begun total book) state) closed (told holds.honest) (within_held count total book old holds) (all total book holds)
-
   -- the ends of a serving
   pub serve_ends : (sessions : List Session) (input : List ℕ) (left before now : Option (List ℕ)) (end : ServeEnd) → ((end ≡ serve_end.DiskFault → ⊥) → IsClosed new)
       → OfBook count old (λ total book. EndsServe input (begun total book) (pages_of count' new.image) sessions left before now end) → EndsServing Spelled count old new input left before now end
   serve_ends sessions input None before now serve_end.ReadFault closed ends = tt
-  serve_ends sessions input (Some bytes) before now serve_end.ReadFault closed ends = from_book sessions (λ start state. SendsTaken AreSpelled input bytes start state before now) (closed (λ e. cc)) ends
-  serve_ends sessions input left before now serve_end.SendFault closed ends = from_book sessions (λ start state. SendsFrontOf AreSpelled input start state before now) (closed (λ e. cc)) ends
+  serve_ends sessions input (Some bytes) before now serve_end.ReadFault closed ends = from_book count count' old new same told sessions (λ start state. SendsTaken AreSpelled input bytes start state before now) (closed (λ e. cc)) ends
+  serve_ends sessions input left before now serve_end.SendFault closed ends = from_book count count' old new same told sessions (λ start state. SendsFrontOf AreSpelled input start state before now) (closed (λ e. cc)) ends
   serve_ends sessions input left before now serve_end.DiskFault closed ends = ends
   serve_ends sessions input left before now (serve_end.Damaged page) closed ends = ends
-  serve_ends sessions input left before now serve_end.InputTooLong closed ends = from_book sessions (λ start state. SendsWithin AreSpelled input start state before now) (closed (λ e. cc)) ends
-  serve_ends sessions input left before now serve_end.NoMemory closed ends = from_book sessions (λ start state. SendsSome AreSpelled input start state before now) (closed (λ e. cc)) ends
+  serve_ends sessions input left before now serve_end.InputTooLong closed ends = from_book count count' old new same told sessions (λ start state. SendsWithin AreSpelled input start state before now) (closed (λ e. cc)) ends
+  serve_ends sessions input left before now serve_end.NoMemory closed ends = from_book count count' old new same told sessions (λ start state. SendsSome AreSpelled input start state before now) (closed (λ e. cc)) ends
 
   -- the ends of a run over a screen, in the words of its texts
   module _ (one : OneFrame) (draws : AllDraw) (lacks : OneLacks) (sound : (total : ℕ) (book : List Series) → HoldsBook count total book old → IsSound (begun total book)) (h : List Holding) (sessions : List Session) where
     ends_from : (input : List ℕ) (left before now : Option (List ℕ)) (end : RunEnd) (Done : State → State → Type 0) → IsClosed new → ((start state : State) → EndsTexts input start state left before now end → Done start state)
         → OfBook count old (λ total book. StandsAfter total (pages_of count' new.image) sessions (λ state. EndsRunAt ScreenGives [] h input (begun total book) state left before now end)) → FromBook count old new Done
     ends_from input left before now end Done closed more all =
-        from_book sessions Done closed (λ total book holds.
+        from_book count count' old new same told sessions Done closed (λ total book holds.
         after_so total (pages_of count' new.image) (pages_of count' new.image) sessions sessions (λ state. EndsRunAt ScreenGives [] h input (begun total book) state left before now end) (λ state. Done (begun total book) state) refl refl
         (λ state is. more (begun total book) state (texts_end one draws lacks (begun total book) refl (sound total book holds) input state h left before now end is)) (all total book holds))
 

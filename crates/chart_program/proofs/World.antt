@@ -24,8 +24,9 @@ use Rattle.chart_program.specs.declared.lines_end.LinesEnd.TheVariants as lines_
 use Rattle.chart_program.specs.declared.run_end.RunEnd.{RunEnd}
 use Rattle.chart_program.specs.declared.run_end.RunEnd.TheVariants as run_end
 use Rattle.chart_program.specs.Served.{Says, Faults, faults_of, AnswersAll, AnswersTaken, AnswersSome, AnswersLines, EndsLines, IsAheadOn, LeavesBooks, IsLinesCause, ServesLines, EndsOpening, ServesWorld, in_world}
-use Rattle.chart_program.specs.Start.{begun}
-use Rattle.chart_program.proofs.DiskKept.{risen_since}
+use Rattle.command_status.specs.Books.{begun}
+use Rattle.command_status.proofs.Held.{held, risen_since}
+use Rattle.command_status.proofs.Moments.{sent_so}
 use Rattle.chart_program.proofs.Answering.{told_so, told_none, sent_none}
 
 -- ---- before the first line
@@ -54,14 +55,6 @@ lines_none_sent : (IsText : Says) (count : ℕ) (old : View) (input : List ℕ) 
 lines_none_sent IsText count old input before none = λ total book holds.
     record { rest = input; between = begun total book; first = first_none IsText input (begun total book) before none }
 
-pub sent_so : (old mid : View) (images : Image → Type 0) → Passes old mid images (Quiet old) → (at : ℕ) → old.clock ≤ at → at ≤ mid.clock → mid.sent_by at ≡ sent_now old
-sent_so old mid images passes at low high = elim (cases_lt old.clock at) [
-  | inl moved ↦ passes.sent_here at moved high
-  | inr stands ↦
-      let same : at ≡ old.clock = omega (arith, low, stands) in
-      passes.sent_past at stands ∙ ap (λ time. old.sent_by time) same
-]
-
 -- an image of the book at the start
 pub ahead_none : (IsText : Says) (input : List ℕ) (count total : ℕ) (book : List Series) (from : ℕ) (image : Image) (sent : ℕ) → SaysNothing IsText → RecoversTo count image total book → sent ≡ from → IsAheadOn (IsText (begun total book)) input count total (begun total book) from image sent
 ahead_none IsText input count total book from image sent none is same = record {
@@ -80,10 +73,6 @@ ahead_none IsText input count total book from image sent none is same = record {
 }
 
 -- ---- an opening, and what comes after it
-
--- the same book
-pub held : (old mid : View) → Opens (page_count old.size) old mid → (total : ℕ) (book : List Series) → HoldsBook (page_count old.size) total book old → HoldsBook (page_count old.size) total book mid
-held old mid opens total book holds = holds_on (page_count old.size) total book old mid holds opens
 
 -- at each moment of an opening
 opened_at : (IsText : Says) (input : List ℕ) (old mid : View) (total : ℕ) (book : List Series) → SaysNothing IsText → Opens (page_count old.size) old mid → HoldsBook (page_count old.size) total book old → (at : ℕ) (image : Image) → old.clock ≤ at → at ≤ mid.clock → mid.crash at image

@@ -10,17 +10,15 @@ use Rattle.gate_pages.specs.Journal.{page_count}
 use Rattle.gate_pages.specs.Pages.{GoesOn}
 use Rattle.om3_coeff.specs.declared.key.Key.{Key}
 use Rattle.store_open.specs.Openings.{IsDamagedBlock}
-use Rattle.store_open.specs.declared.causes.OpeningCause.TheVariants as opening
 use Rattle.chart_service.specs.declared.failure.ServeEnd.{ServeEnd}
 use Rattle.chart_service.specs.declared.failure.ServeEnd.TheVariants as serve_end
 use Rattle.chart_program.specs.declared.lines_end.LinesEnd.{LinesEnd}
 use Rattle.chart_program.specs.declared.lines_end.LinesEnd.TheVariants as lines_end
 use Rattle.chart_program.specs.declared.run_end.RunEnd.TheVariants as run_end
-use Rattle.chart_program.specs.declared.status.Status.{Status}
-use Rattle.chart_program.specs.Served.{Says, Faults, Never, AnswersAll, AnswersFront, AnswersTaken, AnswersWithin, AnswersSome, AnswersLines, LeavesBooks, IsBadPlace, IsRejected}
-
-abbrev pub status : ℕ → ℕ → Status
-status code place = record { code = code; place = place }
+use Rattle.command_status.specs.declared.status.Status.{Status}
+use Rattle.command_status.specs.Status.{status, opening_status}
+use Rattle.chart_program.specs.Served.{Says, Faults, AnswersAll, AnswersFront, AnswersTaken, AnswersWithin, AnswersSome, AnswersLines, LeavesBooks, IsBadPlace, IsRejected}
+use Rattle.command_status.specs.Books.{Never}
 
 -- the status of why a serving ended
 abbrev pub serve_end_status : ServeEnd → Status
@@ -41,10 +39,7 @@ client_status client.NoMemory = status 3 0
 -- the status of what a serving command answers
 abbrev pub status_by : {T : Type 0} → Result T LinesEnd → Status
 status_by (Ok done) = status 0 0
-status_by (Err (lines_end.Opening (opening.TooSmall size))) = status 12 size
-status_by (Err (lines_end.Opening (opening.Damaged block))) = status 7 block
-status_by (Err (lines_end.Opening opening.DiskFault)) = status 6 0
-status_by (Err (lines_end.Opening opening.NoMemory)) = status 3 0
+status_by (Err (lines_end.Opening cause)) = opening_status cause
 status_by (Err (lines_end.Answering (run_end.Serve end))) = serve_end_status end
 status_by (Err (lines_end.Answering (run_end.Show e))) = client_status e
 

@@ -1,5 +1,3 @@
-pub mod Words
-pub mod Start
 pub mod Slots
 pub mod Reads
 pub mod Plotted

@@ -7,7 +7,7 @@ use Rattle.chart_service.specs.State.{State}
 use Rattle.chart_service.specs.Serving.{Answers, AnswersNext, BeginsWith, told, says}
 use Rattle.chart_service.specs.Moments.{SendsReply}
 use Rattle.chart_program.specs.Served.{Says, Spelled, AreTexts, IsAheadOn}
-use Rattle.chart_program.specs.Start.{begun}
+use Rattle.command_status.specs.Books.{begun}
 
 -- A run of `run` or of `serve`, begun on an image with nothing pending where so many bytes were sent before, and an image
 -- that a crash at a moment of it may leave, with the number of bytes sent by then.

@@ -1,8 +1,8 @@
 -- What a run of a command does.
-use Rattle.std.specs.Prelude.{◌≡◌, ℕ, ℤ, ◌<◌, ◌≤◌, ◌^◌, ◌⊎◌, List, [], ◌∷◌, length, All, flat_map, Option, codes, ⊤}
+use Rattle.std.specs.Prelude.{◌≡◌, ◌≢◌, ℕ, ℤ, ◌<◌, ◌≤◌, ◌^◌, ◌⊎◌, List, [], ◌∷◌, length, All, Contains, flat_map, Option, Some, IfSome, codes, ⊤}
 use Rattle.std.specs.List.{filter}
 use Rattle.block_disk.specs.Streams.{sent_after}
-use Rattle.block_disk.specs.View.{View, DiskKept, Honest, Now, Only}
+use Rattle.block_disk.specs.View.{Image, View, DiskKept, Honest, Now, Only}
 use Rattle.gate_pages.specs.Journal.{page_count}
 use Rattle.store_init.specs.Stores.{HasStore, IsNewStore, LeavesNew}
 use Rattle.line_raster.specs.Canvas.{Canvas}
@@ -17,13 +17,24 @@ use Rattle.block_disk.specs.Counts.{HasRisen}
 use Rattle.series_book.specs.declared.one_series.Series.{Series}
 use Rattle.store_open.specs.Held.{HoldsBook}
 use Rattle.drawn_replies.specs.Pictures.{ArePictured, AreOwnPictured, NoneRejected, names}
-use Rattle.chart_program.specs.declared.words.Command.{Command}
-use Rattle.chart_program.specs.declared.words.Command.TheVariants.{Plot, Run, Serve, Draw, Init}
+use Rattle.program_words.specs.declared.words.Command.{Command}
+use Rattle.program_words.specs.declared.words.Command.TheVariants.{Plot, Load, Demo, Run, Serve, Draw, Init, Check}
 use Rattle.chart_program.specs.declared.draw_end.DrawEnd.TheVariants as draw_end
-use Rattle.chart_program.specs.Words.{Spells}
+use Rattle.program_words.specs.Words.{Spells}
+use Rattle.chart_grid.specs.Limits.{IsSide}
 use Rattle.chart_program.specs.Slots.{SpellsAll, FirstBad, HasTooMany, IsTooLong, StoppedBefore, most_slots}
 use Rattle.chart_program.specs.Plotted.{SendsPlot, SendsFront}
-use Rattle.chart_program.specs.Served.{AreTexts, Spelled, Never, AnswersAll, AnswersFront, AnswersTaken, AnswersWithin, AnswersSome, AnswersLines, LeavesBooks, IsRejected}
+use Rattle.chart_program.specs.Served.{Faults, AreTexts, Spelled, AnswersAll, AnswersFront, AnswersTaken, AnswersWithin, AnswersSome, AnswersLines, LeavesBooks, IsRejected}
+use Rattle.command_status.specs.Books.{FromBook, Never, LeavesSame}
+use Rattle.load_command.specs.Loaded.{Unnamed, LoadsAll, LoadsAndSendsPart, LoadsSome, LoadsToBad, LoadsTaken, LoadsWithin, RefusesSet, LeavesLoads, LeavesUnnamed}
+use Rattle.check_command.specs.Checked.{SendsCounts, SendsCountsPart, IsBadPart}
+use Rattle.demo_command.specs.Demonstrated.{SendsSummary, SendsSummaryPart, AnswersFirst, LeavesDemo}
+use Rattle.demo_workload.specs.Ending.{MeetsError}
+use Rattle.demo_workload.specs.Workload.{workload}
+use Rattle.series_load.specs.Ends.{IsAtBad, IsAtRefusal}
+use Rattle.series_load.specs.Sets.{IsNamed}
+use Rattle.series_book.specs.declared.refusals.Refusal.{Refusal}
+use Rattle.store_open.specs.Openings.{IsDamagedBlock}
 use Rattle.chart_program.specs.Ended.{IsDamagedAt}
 use Rattle.chart_program.specs.Texts.{picture_bytes}
 use Rattle.chart_program.specs.Draws.{DrawsAll, DrawsTaken, DrawsWithin, IsCut, StopsAtFrame}
@@ -40,6 +51,9 @@ SendsAll Run old new input before now = AnswersAll AreTexts (page_count old.size
 SendsAll Serve old new input before now = AnswersAll Spelled (page_count old.size) old new input before now
 SendsAll Draw old new input before now = DrawsAll input before now
 SendsAll Init old new input before now = now ≡ before
+SendsAll (Load name) old new input before now = LoadsAll name (page_count old.size) old new input before now
+SendsAll (Demo seed rounds) old new input before now = FromBook (page_count old.size) old new (λ start state. SendsSummary (workload seed rounds) start state before now)
+SendsAll Check old new input before now = SendsCounts (page_count old.size) old before now
 
 -- the first bytes of the command's output for this input were sent
 abbrev pub SendsPart : Command → View → View → List ℕ → Option (List ℕ) → Option (List ℕ) → Type 0
@@ -48,6 +62,9 @@ SendsPart Run old new input before now = AnswersFront AreTexts (page_count old.s
 SendsPart Serve old new input before now = AnswersFront Spelled (page_count old.size) old new input before now
 SendsPart Draw old new input before now = StopsAtFrame input before now draw_end.SendFault
 SendsPart Init old new input before now = ⊥
+SendsPart (Load name) old new input before now = LoadsAndSendsPart name (page_count old.size) old new input before now
+SendsPart (Demo seed rounds) old new input before now = FromBook (page_count old.size) old new (λ start state. SendsSummaryPart (workload seed rounds) start state before now)
+SendsPart Check old new input before now = SendsCountsPart (page_count old.size) old before now
 
 -- A take failed, where these bytes were left. A plot has sent nothing, a serving command what answers the
 -- lines taken, and `draw` the pictures of the frames taken.
@@ -57,6 +74,9 @@ StopsBefore Run old new input before now bytes = AnswersTaken AreTexts (page_cou
 StopsBefore Serve old new input before now bytes = AnswersTaken Spelled (page_count old.size) old new input bytes before now
 StopsBefore Draw old new input before now bytes = DrawsTaken input bytes before now
 StopsBefore Init old new input before now bytes = ⊥
+StopsBefore (Load name) old new input before now bytes = LoadsTaken name (page_count old.size) old new input bytes
+StopsBefore (Demo seed rounds) old new input before now bytes = ⊥
+StopsBefore Check old new input before now bytes = ⊥
 
 -- There was no memory. A plot has sent nothing, a serving command what answers some first lines, and `draw` the
 -- pictures of some first frames.
@@ -66,6 +86,9 @@ IsCutShort Run old new input before now = AnswersSome AreTexts (page_count old.s
 IsCutShort Serve old new input before now = AnswersSome Spelled (page_count old.size) old new input before now
 IsCutShort Draw old new input before now = StopsAtFrame input before now draw_end.NoMemory
 IsCutShort Init old new input before now = now ≡ before
+IsCutShort (Load name) old new input before now = LoadsSome name (page_count old.size) old new input
+IsCutShort (Demo seed rounds) old new input before now = FromBook (page_count old.size) old new (AnswersFirst (workload seed rounds))
+IsCutShort Check old new input before now = now ≡ before
 
 -- A call of the disk failed. `init` has sent nothing, a serving command what answers some first lines.
 abbrev pub StopsAtDisk : Command → View → List ℕ → Option (List ℕ) → Option (List ℕ) → Type 0
@@ -74,26 +97,34 @@ StopsAtDisk Run old input before now = AnswersLines AreTexts (page_count old.siz
 StopsAtDisk Serve old input before now = AnswersLines Spelled (page_count old.size) old input before now
 StopsAtDisk Draw old input before now = ⊥
 StopsAtDisk Init old input before now = now ≡ before
+StopsAtDisk (Load name) old input before now = now ≡ before
+StopsAtDisk (Demo seed rounds) old input before now = now ≡ before
+StopsAtDisk Check old input before now = now ≡ before
 
 -- The line or the field at this place is the first that isn't in the command's grammar, or the input ends there
 -- within a frame; a serving command answers each line. `draw` has sent the pictures of the frames before.
-abbrev pub IsBadInput : Command → List ℕ → ℕ → Option (List ℕ) → Option (List ℕ) → Type 0
-IsBadInput (Plot w h) input place before now = FirstBad input place
-IsBadInput Run input place before now = ⊥
-IsBadInput Serve input place before now = ⊥
-IsBadInput Draw input place before now = IsCut input place before now ⊎ StopsAtFrame input before now (draw_end.BadFrame place)
-IsBadInput Init input place before now = ⊥
+abbrev pub IsBadInput : Command → View → View → List ℕ → ℕ → Option (List ℕ) → Option (List ℕ) → Type 0
+IsBadInput (Plot w h) old new input place before now = FirstBad input place
+IsBadInput Run old new input place before now = ⊥
+IsBadInput Serve old new input place before now = ⊥
+IsBadInput Draw old new input place before now = IsCut input place before now ⊎ StopsAtFrame input before now (draw_end.BadFrame place)
+IsBadInput Init old new input place before now = ⊥
+IsBadInput (Load name) old new input place before now = LoadsToBad name (page_count old.size) old new input place
+IsBadInput (Demo seed rounds) old new input place before now = ⊥
+IsBadInput Check old new input place before now = ⊥
 
 -- A frame's first wanted key that can't be used has no coefficient. That never comes for a `run` whose disk holds a book.
 abbrev pub Lacks : Command → View → List ℕ → ℕ → Option (List ℕ) → Option (List ℕ) → Type 0
 Lacks Draw old input place before now = (key : Key) × (place ≡ key_number key) × StopsAtFrame input before now (draw_end.Missing key)
 Lacks Run old input place before now = Never (page_count old.size) old × ((key : Key) × (place ≡ key_number key) × IsRejected (client.Missing key))
+Lacks (Demo seed rounds) old input place before now = Never (page_count old.size) old × ((key : Key) × (place ≡ key_number key) × MeetsError (client.Missing key))
 Lacks command old input place before now = ⊥
 
 -- a frame's first wanted key that can't be used has one that doesn't fit
 abbrev pub Misfits : Command → View → List ℕ → ℕ → Option (List ℕ) → Option (List ℕ) → Type 0
 Misfits Draw old input place before now = (key : Key) × (place ≡ key_number key) × StopsAtFrame input before now (draw_end.BadCoefficient key)
 Misfits Run old input place before now = Never (page_count old.size) old × ((key : Key) × (place ≡ key_number key) × IsRejected (client.BadCoefficient key))
+Misfits (Demo seed rounds) old input place before now = Never (page_count old.size) old × ((key : Key) × (place ≡ key_number key) × MeetsError (client.BadCoefficient key))
 Misfits command old input place before now = ⊥
 
 -- a frame names this session, which isn't open
@@ -109,24 +140,36 @@ LeavesDisk Run old new = GoesOn old new
 LeavesDisk Serve old new = GoesOn old new
 LeavesDisk Draw old new = DiskKept old new
 LeavesDisk Init old new = (new.beside ≡ old.beside) × (Honest old → LeavesNew (page_count old.size) old new)
+LeavesDisk (Load name) old new = GoesOn old new
+LeavesDisk (Demo seed rounds) old new = GoesOn old new
+LeavesDisk Check old new = GoesOn old new
 
 -- What a crash leaves at each moment of a serving command: a book with each edit whose answer was sent whole by then, and
 -- with at most one edit more.
 abbrev pub Leaves : Command → List ℕ → View → View → Type 0
 Leaves Run input old new = LeavesBooks AreTexts (page_count old.size) input old new
 Leaves Serve input old new = LeavesBooks Spelled (page_count old.size) input old new
+Leaves (Load name) input old new = LeavesLoads name (page_count old.size) input old new × LeavesUnnamed name (page_count old.size) old new
+Leaves (Demo seed rounds) input old new = LeavesDemo (workload seed rounds) (page_count old.size) old new
+Leaves Check input old new = LeavesSame (page_count old.size) old new
 Leaves command input old new = ⊤
 
 -- a block was found damaged
 abbrev pub IsDamaged : Command → View → View → ℕ → Type 0
 IsDamaged Run old new place = IsDamagedAt old new place
 IsDamaged Serve old new place = IsDamagedAt old new place
+IsDamaged (Load name) old new place = (place ≡ 1) ⊎ (66 ≤ place)
+IsDamaged (Demo seed rounds) old new place = (place ≡ 1) ⊎ (66 ≤ place)
+IsDamaged Check old new place = ((place ≡ 1) ⊎ (66 ≤ place)) × ((Honest old → IsDamagedBlock (page_count old.size) old.image place) ⊎ IsBadPart (page_count old.size) old place)
 IsDamaged command old new place = ⊥
 
 -- which never comes where the disk of a serving command holds a book
 abbrev pub IsUndamaged : Command → View → Type 0
 IsUndamaged Run old = Never (page_count old.size) old
 IsUndamaged Serve old = Never (page_count old.size) old
+IsUndamaged (Load name) old = Never (page_count old.size) old
+IsUndamaged (Demo seed rounds) old = Never (page_count old.size) old
+IsUndamaged Check old = Never (page_count old.size) old
 IsUndamaged command old = ⊥
 
 -- an empty store was made where none was, and a crash now leaves it
@@ -146,6 +189,9 @@ abbrev pub IsTooSmall : Command → View → ℕ → Type 0
 IsTooSmall Run old place = (place ≡ old.size) × (old.size < 128)
 IsTooSmall Serve old place = (place ≡ old.size) × (old.size < 128)
 IsTooSmall Init old place = (place ≡ old.size) × (old.size < 128)
+IsTooSmall (Load name) old place = (place ≡ old.size) × (old.size < 128)
+IsTooSmall (Demo seed rounds) old place = (place ≡ old.size) × (old.size < 128)
+IsTooSmall Check old place = (place ≡ old.size) × (old.size < 128)
 IsTooSmall command old place = ⊥
 
 -- there is a store already, in whose page 0 this block is
@@ -170,6 +216,21 @@ IsTooMuch Run old new input place before now = (place ≡ 2 ^ 32) × AnswersWith
 IsTooMuch Serve old new input place before now = (place ≡ 2 ^ 32) × AnswersWithin Spelled (page_count old.size) old new input before now
 IsTooMuch Draw old new input place before now = (place ≡ 2 ^ 32) × DrawsWithin input before now
 IsTooMuch Init old new input place before now = ⊥
+IsTooMuch (Load name) old new input place before now = (place ≡ 2 ^ 32) × LoadsWithin name (page_count old.size) old new input
+IsTooMuch (Demo seed rounds) old new input place before now = ⊥
+IsTooMuch Check old new input place before now = ⊥
+
+-- a set is refused, or there is no series of the name: then no input was taken and the book stays
+abbrev pub IsRefused : Command → View → View → List ℕ → Option (List ℕ) → ℕ → Type 0
+IsRefused (Load name) old new input left place =
+    RefusesSet name (page_count old.size) old new input place
+    × Unnamed (page_count old.size) old name (λ total book. (place ≡ 8) × (left ≡ Some input) × HoldsBook (page_count old.size) total book new)
+IsRefused command old new input left place = ⊥
+
+-- a series of no such name has its code, unless a call of the disk fails or there is no memory
+abbrev pub TellsUnnamed : Command → View → ℕ → Type 0
+TellsUnnamed (Load name) old code = Unnamed (page_count old.size) old name (λ total book. Contains (3 ∷ 6 ∷ 14 ∷ []) code)
+TellsUnnamed command old code = ⊤
 
 -- the input is slots, and no more than a plot takes
 pub record IsSlots (input : List ℕ) : Type 0 where
@@ -186,17 +247,40 @@ pub record IsFrames (input : List ℕ) : Type 0 where
   pub accepted : NoneRejected frames
   pub short : length input ≤ 2 ^ 32
 
--- the input is no more than the command takes; `init` takes none
+-- the input is no more than the command takes; `init`, `demo` and `check` take none
 abbrev pub IsWithin : Command → List ℕ → Type 0
 IsWithin (Plot w h) input = length input ≤ 2 ^ 32
 IsWithin Run input = length input ≤ 2 ^ 32
 IsWithin Serve input = length input ≤ 2 ^ 32
 IsWithin Draw input = length input ≤ 2 ^ 32
 IsWithin Init input = ⊤
+IsWithin (Load name) input = length input ≤ 2 ^ 32
+IsWithin (Demo seed rounds) input = ⊤
+IsWithin Check input = ⊤
 
 -- the lines are no more than a serving command takes, its disk holds a book, and no call of the disk failed
 pub record AreLines (old new : View) (input : List ℕ) : Type 0 where
   pub short : length input ≤ 2 ^ 32
+  pub total : ℕ
+  pub book : List Series
+  pub holds : HoldsBook (page_count old.size) total book old
+  pub whole : HasRisen old.faults new.faults → ⊥
+
+-- The lines are no more than a load takes, the disk's book has a series of the name, no line is bad and no set of the
+-- runs is refused, and no call of the disk failed.
+pub record AreReadings (name : List ℕ) (old new : View) (input : List ℕ) : Type 0 where
+  pub short : length input ≤ 2 ^ 32
+  pub total : ℕ
+  pub book : List Series
+  pub holds : HoldsBook (page_count old.size) total book old
+  pub series : Series
+  pub named : IsNamed book name series
+  pub none_bad : (place : ℕ) (image : Image) → IsAtBad total name book series input place image → ⊥
+  pub none_refused : (at : ℕ) (refusal : Refusal) (image : Image) → IsAtRefusal total name book series input at refusal image → ⊥
+  pub whole : HasRisen old.faults new.faults → ⊥
+
+-- the disk holds a book, and no call of it failed
+pub record StandsOn (old new : View) : Type 0 where
   pub total : ℕ
   pub book : List Series
   pub holds : HoldsBook (page_count old.size) total book old
@@ -209,6 +293,9 @@ IsInput Run old new input = AreLines old new input
 IsInput Serve old new input = AreLines old new input
 IsInput Draw old new input = IsFrames input
 IsInput Init old new input = ⊥
+IsInput (Load name) old new input = AreReadings name old new input
+IsInput (Demo seed rounds) old new input = StandsOn old new
+IsInput Check old new input = StandsOn old new
 
 -- lines are answered by these frames, over a book and with no session open
 pub record AreReplies (old : State) (lines : List (Option (List ℕ))) (frames : List Frame) (new : State) : Type 0 where
@@ -235,3 +322,50 @@ pub record DrawsReplies (input : List ℕ) (before now : Option (List ℕ)) : Ty
       → input ≡ flat_map spelling frames → SendsPictures old lines frames new before now
   pub own : (n : ℕ) (old new : State) (lines : List (Option (List ℕ))) (frames : List Frame) → AreReplies old lines frames new
       → input ≡ flat_map spelling (filter (names n) frames) → SendsOwnPictures n old lines frames new before now
+
+-- ---- the end of a command
+
+-- a command that sends before its input has ended
+abbrev pub IsStreaming : Command → Type 0
+IsStreaming Run = ⊤
+IsStreaming Serve = ⊤
+IsStreaming Draw = ⊤
+IsStreaming command = ⊥
+
+-- the operands of a command are in their ranges
+abbrev pub HasOperands : Command → Type 0
+HasOperands (Plot w h) = IsSide w × IsSide h
+HasOperands (Demo seed rounds) = IsSide rounds
+HasOperands command = ⊤
+
+-- What a command did, sent and left, and why it ended, by the status: the clauses of the program's call, of one command.
+pub record CommandEnds (command : Command) (old new : View) (left left' before now : Option (List ℕ)) (faults : Faults) (code place : ℕ) : Type 0 where
+  pub codes : Contains (0 ∷ 3 ∷ 4 ∷ 5 ∷ 6 ∷ 7 ∷ 8 ∷ 9 ∷ 10 ∷ 11 ∷ 12 ∷ 13 ∷ 14 ∷ 15 ∷ []) code
+  pub read : code ≡ 4 → HasRisen faults.reads faults.reads_now
+  pub stopped : code ≡ 4 → IfSome left (λ input. IfSome left' (StopsBefore command old new input before now))
+  pub send : code ≡ 5 → HasRisen faults.sends faults.sends_now
+  pub bad : code ≡ 8 → IfSome left (λ input. IsBadInput command old new input place before now)
+  pub much : code ≡ 9 → IfSome left (λ input. IsTooMuch command old new input place before now)
+  pub missing : code ≡ 10 → IfSome left (λ input. Lacks command old input place before now)
+  pub misfit : code ≡ 11 → IfSome left (λ input. Misfits command old input place before now)
+  pub unopened : code ≡ 15 → IfSome left (λ input. NamesUnopened command old input place before now)
+  pub memory : code ≡ 3 → IfSome left (λ input. IsCutShort command old new input before now)
+  pub within : code ≡ 0 → IfSome left (IsWithin command)
+  pub fault : code ≡ 6 → HasRisen old.faults new.faults
+  pub faulted : code ≡ 6 → IfSome left (λ input. StopsAtDisk command old input before now)
+  pub damaged : code ≡ 7 → IsDamaged command old new place
+  pub undamaged : code ≡ 7 → IfSome left (λ input. IsUndamaged command old)
+  pub small : code ≡ 12 → IsTooSmall command old place
+  pub there : code ≡ 13 → IsThere command old place
+  pub refused : code ≡ 14 → IfSome left (λ input. IsRefused command old new input left' place)
+  pub unnamed : TellsUnnamed command old code
+  pub zero_place : Contains (0 ∷ 3 ∷ 4 ∷ 5 ∷ 6 ∷ []) code → place ≡ 0
+  pub done : code ≡ 0 → IfSome left (λ input. SendsAll command old new input before now)
+  pub part : code ≡ 5 → IfSome left (λ input. SendsPart command old new input before now)
+  pub nothing : code ≢ 0 → code ≢ 5 → (IsStreaming command → ⊥) → now ≡ before
+  pub pictures : code ≡ 0 → command ≡ Draw → IfSome left (λ input. DrawsReplies input before now)
+  pub crash : IfSome left (λ input. IfSome before (λ bytes. Leaves command input old new))
+  pub disk : LeavesDisk command old new
+  pub made : code ≡ 0 → IsMade command old new
+  pub complete : IfSome left (λ input. IsInput command old new input → (HasRisen faults.reads faults.reads_now → ⊥) → (HasRisen faults.sends faults.sends_now → ⊥) → (code ≡ 0) ⊎ (code ≡ 3))
+  pub ready : command ≡ Init → 128 ≤ old.size → Honest old → (HasStore (page_count old.size) old.image → ⊥) → (HasRisen old.faults new.faults → ⊥) → (code ≡ 0) ⊎ (code ≡ 3)

@@ -28,7 +28,7 @@ use Rattle.chart_program.specs.declared.lines_end.LinesEnd.{LinesEnd}
 use Rattle.chart_program.specs.declared.lines_end.LinesEnd.TheVariants as lines_end
 use Rattle.chart_program.specs.declared.run_end.RunEnd.{RunEnd}
 use Rattle.chart_program.specs.declared.run_end.RunEnd.TheVariants as run_end
-use Rattle.chart_program.specs.Start.{begun}
+use Rattle.command_status.specs.Books.{begun, OfBook, FromBook, Never}
 use Rattle.chart_program.specs.Texts.{texts_of}
 
 -- what is said to lines by the frames that answer them from a state on
@@ -45,19 +45,6 @@ pub record AreTexts (start : State) (lines : List (Option (List ℕ))) (frames :
   pub state : State
   pub pictured : ArePictured start lines frames drawings state
   pub texts : text ≡ texts_of frames drawings
-
--- this is so of the book that the disk holds
-abbrev pub OfBook : ℕ → View → (ℕ → List Series → Type 0) → Type 0
-OfBook count disk IsSo = (total : ℕ) (book : List Series) → HoldsBook count total book disk → IsSo total book
-
--- From the book that the disk held this was done, and the disk holds the book that it left.
-abbrev pub FromBook : ℕ → View → View → (State → State → Type 0) → Type 0
-FromBook count old new Done =
-    OfBook count old (λ total book. (state : State) × Done (begun total book) state × HoldsBook count total state.book new)
-
--- this doesn't come where the disk holds a book
-abbrev pub Never : ℕ → View → Type 0
-Never count disk = OfBook count disk (λ total book. ⊥)
 
 -- the lines of the whole input were answered so
 abbrev pub AnswersAll : Says → ℕ → View → View → List ℕ → Option (List ℕ) → Option (List ℕ) → Type 0

@@ -9,12 +9,12 @@ ghost use Rattle.chart_program.specs.declared.draw_end.DrawEnd.TheVariants as dr
 ghost use Rattle.chart_program.specs.Draws.{DrawsMore, DrawsAll, EndsDraw, DrawsFrame, FrameStops, FramesStop, PieceStops, PieceDone, IsNumbered};
 
 use crate::draw_end::DrawEnd;
-use crate::limits::MOST_BYTES;
 use block_disk::World;
 use chart_client::Client;
 use chart_client::laws::frames_have_one_answer;
 use chart_frames::laws::{length_is_told, more_bytes_mend_nothing, spellings_are_good};
 use chart_frames::{Decoder, Frame};
+use command_status::status::MOST_BYTES;
 use pbm_writer::pbm;
 use std::alloc::Global;
 

@@ -2,19 +2,19 @@
 //!
 //! `chart` takes the words of a command and a world, does the command and answers with a status. Its
 //! clauses say which bytes were sent for which input, and when each status comes. What a command
-//! computes stands in the crates below: here words become a command, the lines of `plot` slots, the
-//! frames of `draw` pictures, and what the frames of `run` show becomes text.
+//! computes stands in the crates below: here the lines of `plot` become slots, the frames of `draw`
+//! pictures, and what the frames of `run` show text.
 //!
 //! `main` opens the file that the first word names as a disk, and gives `chart` the words after it
-//! and a world of this disk, standard input and standard output. `init`, `serve` and `run` call the disk.
+//! and a world of this disk, standard input and standard output. `plot` and `draw` never call the disk.
 //! Nothing is claimed of `main` but that it is safe and ends.
 #![tactic(auto)]
 
+mod commands;
 mod draw;
 mod draw_end;
 mod input;
 pub mod laws;
-mod limits;
 mod lines;
 mod lines_end;
 mod plot;
@@ -25,19 +25,18 @@ mod serving;
 #[cfg(test)]
 mod session_tests;
 mod slot;
-mod status;
 #[cfg(test)]
 mod store_tests;
 #[cfg(test)]
 mod tests;
 mod top;
-mod words;
 
 use block_disk::FileDisk;
 use chart_world::StdWorld;
+pub use command_status::Status;
+use command_status::status;
 pub use run::run_on;
 pub use run_end::RunEnd;
-pub use status::Status;
 use std::alloc::Global;
 use std::fs::OpenOptions;
 use std::process::ExitCode;

@@ -1,22 +1,22 @@
 ghost use Rattle.std.specs.Prelude.{◌≡◌, IfErr};
 ghost use Rattle.block_disk.specs.View.{View};
 ghost use Rattle.chart_client.specs.Accepting.{HasNumber};
-ghost use Rattle.chart_program.specs.Ended.{EndsBy, HasNumberedKey, client_status, serve_end_status, status, status_by};
+ghost use Rattle.chart_program.specs.Ended.{EndsBy, HasNumberedKey, client_status, serve_end_status, status_by};
+ghost use Rattle.command_status.specs.Status.{status};
 ghost use Rattle.chart_program.specs.Served.{AreTexts, Spelled, faults_of};
 
-use crate::limits::{FIRST_PAGE, MOST_BYTES};
 use crate::lines::{run_world, serve_world};
 use crate::lines_end::LinesEnd;
 use crate::run_end::RunEnd;
-use crate::status::{
-    BAD_COEFFICIENT, DAMAGED, DISK_FAULT, DONE, MISSING, NO_MEMORY, READ_FAULT, SEND_FAULT, Status,
-    TOO_MUCH, TOO_SMALL, UNKNOWN_SESSION,
-};
 use block_disk::World;
 use chart_client::ClientError;
 use chart_service::ServeEnd;
+use command_status::status::{
+    BAD_COEFFICIENT, DAMAGED, DISK_FAULT, DONE, FIRST_PAGE, MISSING, MOST_BYTES, NO_MEMORY,
+    READ_FAULT, SEND_FAULT, TOO_MUCH, UNKNOWN_SESSION,
+};
+use command_status::{Status, ended, opening_status};
 use std::alloc::Global;
-use store_open::OpeningCause;
 
 /// Sends the frames that answer the lines of the input, over the store of the world's disk, and says how
 /// that ended.
@@ -43,12 +43,7 @@ fn status_of(answer: Result<(), LinesEnd>) -> Status
 {
     match answer {
         Ok(()) => ended(DONE, 0),
-        Err(LinesEnd::Opening(OpeningCause::TooSmall(blocks))) => {
-            ended(TOO_SMALL, u64::from(blocks))
-        }
-        Err(LinesEnd::Opening(OpeningCause::Damaged { block })) => ended(DAMAGED, block),
-        Err(LinesEnd::Opening(OpeningCause::DiskFault)) => ended(DISK_FAULT, 0),
-        Err(LinesEnd::Opening(OpeningCause::NoMemory)) => ended(NO_MEMORY, 0),
+        Err(LinesEnd::Opening(cause)) => opening_status(cause),
         Err(LinesEnd::Answering(RunEnd::Serve(end))) => serve_end_status(end),
         Err(LinesEnd::Answering(RunEnd::Show(error))) => client_status(error),
     }
@@ -79,13 +74,4 @@ fn client_status(error: ClientError) -> Status
         ClientError::UnknownSession { session } => ended(UNKNOWN_SESSION, u64::from(session)),
         ClientError::NoMemory => ended(NO_MEMORY, 0),
     }
-}
-
-/// The status of this code and place.
-pub(crate) fn ended(code: u8, place: u64) -> Status
-    ensures code { result.code ≡ code }
-    ensures place { result.place ≡ place }
-    ensures status { result ≡ status code place }
-{
-    Status { code, place }
 }

@@ -11,10 +11,10 @@ pub enum LoadEnd {
     UnknownSeries,
     /// The line that begins at this offset is no row, or is too long.
     #[error("bad line at {at}")]
-    BadLine { at: u64 },
+    BadLine { at: u32 },
     /// The set of the run whose first line begins at this offset is refused.
     #[error("the run at {at} is refused: {refusal}")]
-    Refused { at: u64, refusal: Refusal },
+    Refused { at: u32, refusal: Refusal },
     /// A take failed. The run that stood open isn't stored.
     #[error("the input could not be read")]
     ReadFault,

@@ -32,7 +32,7 @@ pub(crate) struct Loader {
 }
 
 /// What an error of the store is for a load, where a run that begins at `at` was stored.
-fn end_at(at: u64, error: StoreError) -> LoadEnd
+fn end_at(at: u32, error: StoreError) -> LoadEnd
     ensures { result ≡ end_at at error }
 {
     match error {
@@ -101,7 +101,7 @@ impl Loader {
     fn take_reading<P: Pages>(
         &mut self,
         store: &mut Store<P>,
-        at: u64,
+        at: u32,
         next: &Reading,
     ) -> Result<(), LoadEnd>
         requires near { unsigned_abs next.now.time < 10 ^ 19 }
@@ -130,7 +130,7 @@ impl Loader {
     }
 
     /// Ends the load at a bad line: the run that stands open is stored first.
-    pub(crate) fn stop<P: Pages>(&mut self, store: &mut Store<P>, at: u64) -> LoadEnd
+    pub(crate) fn stop<P: Pages>(&mut self, store: &mut Store<P>, at: u32) -> LoadEnd
         requires sound { (P.view store.old.space.pages).fit }
         ensures does { (total : ℕ) (book : List Series) (open_run : Option Run) → P.told store.old.space.pages → StandsForBook (P.view store.old.space.pages).image total book → Keeps open_run self.old.run
             → Does {T = ℕ} (Closes open_run) (Closes open_run) (TooLongDone at total self.old.name book open_run (P.view store.new.space.pages).image) total self.old.name book (Err result) self.new.run (P.view store.old.space.pages) (P.view store.new.space.pages) }
@@ -170,7 +170,7 @@ impl Loader {
     fn take_said<P: Pages>(
         &mut self,
         store: &mut Store<P>,
-        at: u64,
+        at: u32,
         said: Said,
     ) -> Result<(), LoadEnd>
         requires sound { (P.view store.old.space.pages).fit }
@@ -209,7 +209,7 @@ impl Loader {
     pub(crate) fn take_line<P: Pages>(
         &mut self,
         store: &mut Store<P>,
-        at: u64,
+        at: u32,
         line: &[u8],
     ) -> Result<(), LoadEnd>
         requires sound { (P.view store.old.space.pages).fit }

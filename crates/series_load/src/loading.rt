@@ -60,6 +60,14 @@ pub fn load<P: PageWorld>(alloc: Global, store: &mut Store<P>, name: &Name) -> R
     load_lines(store, &mut loader, &mut lines)
 }
 
+/// The offset of the line that was given last, which begins among the first 2^32 bytes of the input.
+fn offset_of(lines: &Lines) -> u32
+    requires { lines.now.offset < 2 ^ 32 }
+    ensures { result ≡ lines.now.offset }
+{
+    lines.offset() as u32
+}
+
 /// Loads all lines.
 fn load_lines<P: PageWorld>(
     store: &mut Store<P>,
@@ -84,8 +92,8 @@ fn load_lines<P: PageWorld>(
     'lines: loop {
         match lines.next(store)? {
             LineAnswer::End => return loader.finish(store),
-            LineAnswer::TooLong => return Err(loader.stop(store, lines.offset())),
-            LineAnswer::Line => loader.take_line(store, lines.offset(), lines.line())?,
+            LineAnswer::TooLong => return Err(loader.stop(store, offset_of(lines))),
+            LineAnswer::Line => loader.take_line(store, offset_of(lines), lines.line())?,
         }
     }
 }

@@ -19,7 +19,7 @@ pub(crate) struct Reading {
 /// there are no values.
 #[derive(Drop)]
 pub(crate) struct OpenRun {
-    pub(crate) at: u64,
+    pub(crate) at: u32,
     pub(crate) time: i128,
     pub(crate) last: i128,
     pub(crate) values: Vec<i128>,
@@ -52,7 +52,7 @@ impl OpenRun {
     }
 
     /// Begins a run with this reading, whose line begins at `at`.
-    pub(crate) fn begin(&mut self, at: u64, next: &Reading) -> Result<(), LoadEnd>
+    pub(crate) fn begin(&mut self, at: u32, next: &Reading) -> Result<(), LoadEnd>
         requires near { unsigned_abs next.now.time < 10 ^ 19 }
         requires none { self.old.values.items ≡ [] }
         ensures at { OnOk result (self.new.at ≡ at) }

@@ -5,7 +5,7 @@ use Rattle.chart_program.specs.declared.run_end.RunEnd.TheVariants.{Serve}
 use Rattle.chart_program.specs.Served.{AreTexts, faults_of, ServesLines}
 use Rattle.chart_program.proofs.Telling.{texts_none}
 use Rattle.chart_program.proofs.LinesServed.{made_none}
-use Rattle.chart_program.proofs.Stores.{store_disk, store_count, store_sound}
+use Rattle.command_status.proofs.Stores.{store_disk, store_count, store_sound}
 use Rattle.chart_program.proofs.lines.run_lines.Goals as goal
 
 pub run_service-requires-clause-sound : goal.run_service-requires-clause-sound

@@ -7,7 +7,7 @@ use Rattle.chart_program.specs.Served.{AreTexts, faults_of, ServesLines}
 use Rattle.chart_program.proofs.LinesServed.{run_made, run_causes, made_none}
 use Rattle.chart_program.proofs.Telling.{texts_none}
 use Rattle.chart_program.proofs.Knowing.{holds_of, screen_follows, known_first}
-use Rattle.chart_program.proofs.Stores.{store_disk, store_sound}
+use Rattle.command_status.proofs.Stores.{store_disk, store_sound}
 use Rattle.chart_program.proofs.lines.run_service.Goals as goal
 
 pub returns-in-Ok : goal.returns-in-Ok

@@ -4,7 +4,7 @@ use Rattle.chart_service.specs.declared.failure.ServeEnd.TheVariants.{NoMemory}
 use Rattle.chart_program.specs.declared.run_end.RunEnd.TheVariants.{Serve}
 use Rattle.chart_program.specs.Served.{Spelled, faults_of, ServesLines}
 use Rattle.chart_program.proofs.LinesServed.{made_none}
-use Rattle.chart_program.proofs.Stores.{store_disk, store_count, store_sound}
+use Rattle.command_status.proofs.Stores.{store_disk, store_count, store_sound}
 use Rattle.chart_program.proofs.lines.serve_lines.Goals as goal
 
 pub serve_service-requires-clause-sound : goal.serve_service-requires-clause-sound

@@ -4,7 +4,7 @@ use Rattle.gate_pages.specs.GatePages.{IsClosed}
 use Rattle.chart_service.specs.declared.failure.ServeEnd.TheVariants.{DiskFault}
 use Rattle.chart_program.specs.Served.{Spelled, faults_of, ServesLines, served}
 use Rattle.chart_program.proofs.LinesServed.{serve_made, serve_causes, same_answer}
-use Rattle.chart_program.proofs.Stores.{store_disk, store_sound}
+use Rattle.command_status.proofs.Stores.{store_disk, store_sound}
 use Rattle.chart_program.proofs.lines.serve_service.Goals as goal
 
 pub returns : goal.returns

@@ -2,7 +2,7 @@ use Rattle.std.proofs.Common.{◌^◌, None, Some, Ok, Err, IsTrue, length, refl
 use Rattle.chart_world.specs.Reading.{Reading, unread, unread_input, input_length}
 use Rattle.gate_pages.specs.GateLaws.{goes_none, goes_then}
 use Rattle.page_space.specs.declared.superblock.Superblock.{Superblock}
-use Rattle.chart_program.proofs.DiskKept.{risen_since}
+use Rattle.command_status.proofs.Held.{risen_since}
 use Rattle.chart_service.specs.Serving.{end_of}
 use Rattle.chart_service.specs.Stepping.{state_of}
 use Rattle.chart_service.specs.declared.failure.ServeEnd.TheVariants.{NoMemory}

@@ -115,8 +115,8 @@ returns-in-TooLong-clause-outcome g c = λ total book series told stands step sc
       counted_new = c.in_ok-next.ensures.given;
       total = c.next.ensures.total;
     } in
-    let place : c.offset.result ≡ c.lines.lines.given = c.offset.ensures ∙ c.in_ok-next.ensures.offset_too_long (ap Ok c.in-TooLong.is) in
-    long_ends total c.args.loader.now.name book series (g.P.Streams.left c.args.store.now.space.pages) c.lines.lines c.next.new.self (g.P.Streams.left c.lines.store.space.pages) (g.P.Streams.left c.next.new.from.space.pages) (g.P.Streams.left c.stop.new.store.space.pages) c.offset.result c.lines.loader c.stop.new.self.run c.stop.result (g.P.Pages.view c.args.store.now.space.pages) (g.P.Pages.view c.next.new.from.space.pages) (g.P.Pages.view c.stop.new.store.space.pages) gives place going
+    let place : c.offset_of.result ≡ c.lines.lines.given = c.offset_of.ensures ∙ c.in_ok-next.ensures.offset_too_long (ap Ok c.in-TooLong.is) in
+    long_ends total c.args.loader.now.name book series (g.P.Streams.left c.args.store.now.space.pages) c.lines.lines c.next.new.self (g.P.Streams.left c.lines.store.space.pages) (g.P.Streams.left c.next.new.from.space.pages) (g.P.Streams.left c.stop.new.store.space.pages) c.offset_of.result c.lines.loader c.stop.new.self.run c.stop.result (g.P.Pages.view c.args.store.now.space.pages) (g.P.Pages.view c.next.new.from.space.pages) (g.P.Pages.view c.stop.new.store.space.pages) gives place going
     (c.stop.ensures.does total p.now p.open_run says p.stands p.keeps)
 
 pub returns-in-TooLong-clause-goes : goal.returns-in-TooLong-clause-goes
@@ -163,12 +163,12 @@ lines-preserved g c = record {
         counted_new = c.in_ok-next.ensures.given;
         total = c.next.ensures.total;
       } in
-      let place : c.offset-in-Line.result ≡ c.lines.lines.given = c.offset-in-Line.ensures ∙ c.in_ok-next.ensures.offset (ap Ok c.in-Line.is) in
+      let place : c.offset_of-in-Line.result ≡ c.lines.lines.given = c.offset_of-in-Line.ensures ∙ c.in_ok-next.ensures.offset (ap Ok c.in-Line.is) in
       let left_is = call_left (side (g.P.Pages.told c.next.new.from.space.pages) (g.P.Pages.view c.next.new.from.space.pages) (g.P.Pages.under c.next.new.from.space.pages) c.next.new.from.space.superblock.total (length c.next.new.from.catalog.series.items) (g.P.Streams.left c.next.new.from.space.pages) (g.P.Streams.sent c.next.new.from.space.pages) (g.P.Streams.read_faults c.next.new.from.space.pages) (g.P.Streams.send_faults c.next.new.from.space.pages) (g.P.Streams.pieces c.next.new.from.space.pages)) (side (g.P.Pages.told c.take_line.new.store.space.pages) (g.P.Pages.view c.take_line.new.store.space.pages) (g.P.Pages.under c.take_line.new.store.space.pages) c.take_line.new.store.space.superblock.total (length c.take_line.new.store.catalog.series.items) (g.P.Streams.left c.take_line.new.store.space.pages) (g.P.Streams.sent c.take_line.new.store.space.pages) (g.P.Streams.read_faults c.take_line.new.store.space.pages) (g.P.Streams.send_faults c.take_line.new.store.space.pages) (g.P.Streams.pieces c.take_line.new.store.space.pages)) (record { left_is = g.met.P.PageWorld.beside_left c.next.new.from.space.pages; sent_is = g.met.P.PageWorld.beside_sent c.next.new.from.space.pages; reads_are = g.met.P.PageWorld.beside_read_faults c.next.new.from.space.pages; sends_are = g.met.P.PageWorld.beside_send_faults c.next.new.from.space.pages; pieces_are = g.met.P.PageWorld.beside_pieces c.next.new.from.space.pages }) (record { left_is = g.met.P.PageWorld.beside_left c.take_line.new.store.space.pages; sent_is = g.met.P.PageWorld.beside_sent c.take_line.new.store.space.pages; reads_are = g.met.P.PageWorld.beside_read_faults c.take_line.new.store.space.pages; sends_are = g.met.P.PageWorld.beside_send_faults c.take_line.new.store.space.pages; pieces_are = g.met.P.PageWorld.beside_pieces c.take_line.new.store.space.pages }) c.take_line.ensures.carries in
       going_left total c.args.loader.now.name book series (g.P.Streams.left c.args.store.now.space.pages) (g.P.Streams.left c.next.new.from.space.pages) (g.P.Streams.left c.take_line.new.store.space.pages) c.next.new.self c.take_line.new.self (g.P.Pages.view c.args.store.now.space.pages) (g.P.Pages.view c.take_line.new.store.space.pages) left_is
-      (going_line total c.args.loader.now.name book series (g.P.Streams.left c.args.store.now.space.pages) c.lines.lines c.next.new.self (g.P.Streams.left c.lines.store.space.pages) (g.P.Streams.left c.next.new.from.space.pages) c.offset-in-Line.result c.line.result.now c.lines.loader c.take_line.new.self (Ok c.in_ok-take_line-in-Line.field-0) c.in_ok-take_line-in-Line.field-0 (g.P.Pages.view c.args.store.now.space.pages) (g.P.Pages.view c.next.new.from.space.pages) (g.P.Pages.view c.take_line.new.store.space.pages) gives place
+      (going_line total c.args.loader.now.name book series (g.P.Streams.left c.args.store.now.space.pages) c.lines.lines c.next.new.self (g.P.Streams.left c.lines.store.space.pages) (g.P.Streams.left c.next.new.from.space.pages) c.offset_of-in-Line.result c.line.result.now c.lines.loader c.take_line.new.self (Ok c.in_ok-take_line-in-Line.field-0) c.in_ok-take_line-in-Line.field-0 (g.P.Pages.view c.args.store.now.space.pages) (g.P.Pages.view c.next.new.from.space.pages) (g.P.Pages.view c.take_line.new.store.space.pages) gives place
       c.take_line.ensures.name c.take_line.ensures.step c.take_line.ensures.scale refl going
-      (line_does total c.args.loader.now.name book series (g.P.Streams.left c.args.store.now.space.pages) (unread c.lines.lines (g.P.Streams.left c.lines.store.space.pages)) c.lines.lines.given c.offset-in-Line.result c.line.result.now c.lines.loader c.take_line.new.self (Ok c.in_ok-take_line-in-Line.field-0) (g.P.Pages.view c.args.store.now.space.pages) (g.P.Pages.view c.next.new.from.space.pages) (g.P.Pages.view c.take_line.new.store.space.pages) going (c.in_ok-take_line-in-Line.ensures.does total p.now p.open_run says p.stands p.keeps)));
+      (line_does total c.args.loader.now.name book series (g.P.Streams.left c.args.store.now.space.pages) (unread c.lines.lines (g.P.Streams.left c.lines.store.space.pages)) c.lines.lines.given c.offset_of-in-Line.result c.line.result.now c.lines.loader c.take_line.new.self (Ok c.in_ok-take_line-in-Line.field-0) (g.P.Pages.view c.args.store.now.space.pages) (g.P.Pages.view c.next.new.from.space.pages) (g.P.Pages.view c.take_line.new.store.space.pages) going (c.in_ok-take_line-in-Line.ensures.does total p.now p.open_run says p.stands p.keeps)));
 }
 
 pub returns-in_err-take_line-in-Line-clause-known : goal.returns-in_err-take_line-in-Line-clause-known
@@ -188,11 +188,11 @@ returns-in_err-take_line-in-Line-clause-outcome g c = λ total book series told 
       counted_new = c.in_ok-next.ensures.given;
       total = c.next.ensures.total;
     } in
-    let place : c.offset-in-Line.result ≡ c.lines.lines.given = c.offset-in-Line.ensures ∙ c.in_ok-next.ensures.offset (ap Ok c.in-Line.is) in
+    let place : c.offset_of-in-Line.result ≡ c.lines.lines.given = c.offset_of-in-Line.ensures ∙ c.in_ok-next.ensures.offset (ap Ok c.in-Line.is) in
     let e = c.in_err-take_line-in-Line.field-0.0 in
     passed_on total c.args.loader.now.name book series (g.P.Streams.left c.args.store.now.space.pages) (g.P.Streams.left c.take_line.new.store.space.pages) e c.from_residual-in_err-take_line-in-Line.result (g.P.Pages.view c.args.store.now.space.pages) (g.P.Pages.view c.take_line.new.store.space.pages) c.from_residual-in_err-take_line-in-Line.ensures.1
-    (line_ends total c.args.loader.now.name book series (g.P.Streams.left c.args.store.now.space.pages) c.lines.lines c.next.new.self (g.P.Streams.left c.lines.store.space.pages) (g.P.Streams.left c.next.new.from.space.pages) (g.P.Streams.left c.take_line.new.store.space.pages) c.offset-in-Line.result c.line.result.now c.lines.loader c.take_line.new.self _ e (g.P.Pages.view c.args.store.now.space.pages) (g.P.Pages.view c.next.new.from.space.pages) (g.P.Pages.view c.take_line.new.store.space.pages) gives place refl going
-    (line_does total c.args.loader.now.name book series (g.P.Streams.left c.args.store.now.space.pages) (unread c.lines.lines (g.P.Streams.left c.lines.store.space.pages)) c.lines.lines.given c.offset-in-Line.result c.line.result.now c.lines.loader c.take_line.new.self (Err c.in_err-take_line-in-Line.field-0.0) (g.P.Pages.view c.args.store.now.space.pages) (g.P.Pages.view c.next.new.from.space.pages) (g.P.Pages.view c.take_line.new.store.space.pages) going (c.in_err-take_line-in-Line.ensures.does total p.now p.open_run says p.stands p.keeps)))
+    (line_ends total c.args.loader.now.name book series (g.P.Streams.left c.args.store.now.space.pages) c.lines.lines c.next.new.self (g.P.Streams.left c.lines.store.space.pages) (g.P.Streams.left c.next.new.from.space.pages) (g.P.Streams.left c.take_line.new.store.space.pages) c.offset_of-in-Line.result c.line.result.now c.lines.loader c.take_line.new.self _ e (g.P.Pages.view c.args.store.now.space.pages) (g.P.Pages.view c.next.new.from.space.pages) (g.P.Pages.view c.take_line.new.store.space.pages) gives place refl going
+    (line_does total c.args.loader.now.name book series (g.P.Streams.left c.args.store.now.space.pages) (unread c.lines.lines (g.P.Streams.left c.lines.store.space.pages)) c.lines.lines.given c.offset_of-in-Line.result c.line.result.now c.lines.loader c.take_line.new.self (Err c.in_err-take_line-in-Line.field-0.0) (g.P.Pages.view c.args.store.now.space.pages) (g.P.Pages.view c.next.new.from.space.pages) (g.P.Pages.view c.take_line.new.store.space.pages) going (c.in_err-take_line-in-Line.ensures.does total p.now p.open_run says p.stands p.keeps)))
 
 pub returns-in_err-take_line-in-Line-clause-within : goal.returns-in_err-take_line-in-Line-clause-within
 returns-in_err-take_line-in-Line-clause-within g c = no_value c.from_residual-in_err-take_line-in-Line.result c.in_err-take_line-in-Line.field-0.0 _ c.from_residual-in_err-take_line-in-Line.ensures.1

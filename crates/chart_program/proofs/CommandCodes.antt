@@ -1,0 +1,150 @@
+-- The codes of the commands.
+use Rattle.std.proofs.Common.{◌≡◌, ℕ, zero, suc, Bool, true, false, List, [], ◌∷◌, refl, ap, subst, sym, ◌∙◌, arith}
+use Rattle.std.specs.Prelude.{Contains, if◌then◌else◌}
+
+-- whether two numbers are the same, step by step
+abbrev same : ℕ → ℕ → Bool
+same zero zero = true
+same zero (suc b) = false
+same (suc a) zero = false
+same (suc a) (suc b) = same a b
+
+same_self : (n : ℕ) → same n n ≡ true
+same_self zero = refl
+same_self (suc n) = same_self n
+
+-- whether a number is in a list
+abbrev pub has : List ℕ → ℕ → Bool
+has [] n = false
+has (c ∷ l) n = if same c n then true else has l n
+
+if_else : (b x : Bool) → x ≡ true → (if b then true else x) ≡ true
+if_else true x is = refl
+if_else false x is = is
+
+contains_has : (l : List ℕ) (code : ℕ) → Contains l code → has l code ≡ true
+contains_has [] code (k, inside, is) = absurd (omega (arith, inside))
+contains_has (c ∷ l) code (zero, inside, is) =
+    let P : ℕ → Type 0 = λ n. has (c ∷ l) n ≡ true in
+    subst P is (ap (λ (b : Bool). if b then true else has l c) (same_self c))
+contains_has (c ∷ l) code (suc k, inside, is) = if_else (same c code) (has l code) (contains_has l code (k, omega (arith, inside), is))
+
+-- a code of the list is no other number
+pub never : (l : List ℕ) (code n : ℕ) → Contains l code → has l n ≡ false → code ≡ n → ⊥
+never l code n inside outside is =
+    let P : ℕ → Type 0 = λ m. has l m ≡ true in
+    let both : true ≡ false = sym (subst P is (contains_has l code inside)) ∙ outside in
+    cc
+
+-- codes of the command `plot` are codes of a command
+abbrev pub of_plot : List ℕ
+of_plot = 0 ∷ 3 ∷ 4 ∷ 5 ∷ 8 ∷ 9 ∷ []
+
+pub plot_codes : (code : ℕ) → Contains of_plot code → Contains (0 ∷ 3 ∷ 4 ∷ 5 ∷ 6 ∷ 7 ∷ 8 ∷ 9 ∷ 10 ∷ 11 ∷ 12 ∷ 13 ∷ 14 ∷ 15 ∷ []) code
+plot_codes code (zero, inside, is) = (0, omega arith, is)
+plot_codes code (suc zero, inside, is) = (1, omega arith, is)
+plot_codes code (suc (suc zero), inside, is) = (2, omega arith, is)
+plot_codes code (suc (suc (suc zero)), inside, is) = (3, omega arith, is)
+plot_codes code (suc (suc (suc (suc zero))), inside, is) = (6, omega arith, is)
+plot_codes code (suc (suc (suc (suc (suc zero)))), inside, is) = (7, omega arith, is)
+plot_codes code (suc (suc (suc (suc (suc (suc k))))), inside, is) = absurd (omega (arith, inside))
+
+-- codes of the command `draw` are codes of a command
+abbrev pub of_draw : List ℕ
+of_draw = 0 ∷ 3 ∷ 4 ∷ 5 ∷ 8 ∷ 9 ∷ 10 ∷ 11 ∷ 15 ∷ []
+
+pub draw_codes : (code : ℕ) → Contains of_draw code → Contains (0 ∷ 3 ∷ 4 ∷ 5 ∷ 6 ∷ 7 ∷ 8 ∷ 9 ∷ 10 ∷ 11 ∷ 12 ∷ 13 ∷ 14 ∷ 15 ∷ []) code
+draw_codes code (zero, inside, is) = (0, omega arith, is)
+draw_codes code (suc zero, inside, is) = (1, omega arith, is)
+draw_codes code (suc (suc zero), inside, is) = (2, omega arith, is)
+draw_codes code (suc (suc (suc zero)), inside, is) = (3, omega arith, is)
+draw_codes code (suc (suc (suc (suc zero))), inside, is) = (6, omega arith, is)
+draw_codes code (suc (suc (suc (suc (suc zero)))), inside, is) = (7, omega arith, is)
+draw_codes code (suc (suc (suc (suc (suc (suc zero))))), inside, is) = (8, omega arith, is)
+draw_codes code (suc (suc (suc (suc (suc (suc (suc zero)))))), inside, is) = (9, omega arith, is)
+draw_codes code (suc (suc (suc (suc (suc (suc (suc (suc zero))))))), inside, is) = (13, omega arith, is)
+draw_codes code (suc (suc (suc (suc (suc (suc (suc (suc (suc k)))))))), inside, is) = absurd (omega (arith, inside))
+
+-- codes of the command `init` are codes of a command
+abbrev pub of_init : List ℕ
+of_init = 0 ∷ 3 ∷ 6 ∷ 12 ∷ 13 ∷ []
+
+pub init_codes : (code : ℕ) → Contains of_init code → Contains (0 ∷ 3 ∷ 4 ∷ 5 ∷ 6 ∷ 7 ∷ 8 ∷ 9 ∷ 10 ∷ 11 ∷ 12 ∷ 13 ∷ 14 ∷ 15 ∷ []) code
+init_codes code (zero, inside, is) = (0, omega arith, is)
+init_codes code (suc zero, inside, is) = (1, omega arith, is)
+init_codes code (suc (suc zero), inside, is) = (4, omega arith, is)
+init_codes code (suc (suc (suc zero)), inside, is) = (10, omega arith, is)
+init_codes code (suc (suc (suc (suc zero))), inside, is) = (11, omega arith, is)
+init_codes code (suc (suc (suc (suc (suc k)))), inside, is) = absurd (omega (arith, inside))
+
+-- codes of a serving command are codes of a command
+abbrev pub of_lines : List ℕ
+of_lines = 0 ∷ 3 ∷ 4 ∷ 5 ∷ 6 ∷ 7 ∷ 9 ∷ 10 ∷ 11 ∷ 12 ∷ 15 ∷ []
+
+pub lines_codes : (code : ℕ) → Contains of_lines code → Contains (0 ∷ 3 ∷ 4 ∷ 5 ∷ 6 ∷ 7 ∷ 8 ∷ 9 ∷ 10 ∷ 11 ∷ 12 ∷ 13 ∷ 14 ∷ 15 ∷ []) code
+lines_codes code (zero, inside, is) = (0, omega arith, is)
+lines_codes code (suc zero, inside, is) = (1, omega arith, is)
+lines_codes code (suc (suc zero), inside, is) = (2, omega arith, is)
+lines_codes code (suc (suc (suc zero)), inside, is) = (3, omega arith, is)
+lines_codes code (suc (suc (suc (suc zero))), inside, is) = (4, omega arith, is)
+lines_codes code (suc (suc (suc (suc (suc zero)))), inside, is) = (5, omega arith, is)
+lines_codes code (suc (suc (suc (suc (suc (suc zero))))), inside, is) = (7, omega arith, is)
+lines_codes code (suc (suc (suc (suc (suc (suc (suc zero)))))), inside, is) = (8, omega arith, is)
+lines_codes code (suc (suc (suc (suc (suc (suc (suc (suc zero))))))), inside, is) = (9, omega arith, is)
+lines_codes code (suc (suc (suc (suc (suc (suc (suc (suc (suc zero)))))))), inside, is) = (10, omega arith, is)
+lines_codes code (suc (suc (suc (suc (suc (suc (suc (suc (suc (suc zero))))))))), inside, is) = (13, omega arith, is)
+lines_codes code (suc (suc (suc (suc (suc (suc (suc (suc (suc (suc (suc k)))))))))), inside, is) = absurd (omega (arith, inside))
+
+-- codes of the command `load` are codes of a command
+abbrev pub of_load : List ℕ
+of_load = 0 ∷ 3 ∷ 4 ∷ 5 ∷ 6 ∷ 7 ∷ 8 ∷ 9 ∷ 12 ∷ 14 ∷ []
+
+pub load_codes : (code : ℕ) → Contains of_load code → Contains (0 ∷ 3 ∷ 4 ∷ 5 ∷ 6 ∷ 7 ∷ 8 ∷ 9 ∷ 10 ∷ 11 ∷ 12 ∷ 13 ∷ 14 ∷ 15 ∷ []) code
+load_codes code (zero, inside, is) = (0, omega arith, is)
+load_codes code (suc zero, inside, is) = (1, omega arith, is)
+load_codes code (suc (suc zero), inside, is) = (2, omega arith, is)
+load_codes code (suc (suc (suc zero)), inside, is) = (3, omega arith, is)
+load_codes code (suc (suc (suc (suc zero))), inside, is) = (4, omega arith, is)
+load_codes code (suc (suc (suc (suc (suc zero)))), inside, is) = (5, omega arith, is)
+load_codes code (suc (suc (suc (suc (suc (suc zero))))), inside, is) = (6, omega arith, is)
+load_codes code (suc (suc (suc (suc (suc (suc (suc zero)))))), inside, is) = (7, omega arith, is)
+load_codes code (suc (suc (suc (suc (suc (suc (suc (suc zero))))))), inside, is) = (10, omega arith, is)
+load_codes code (suc (suc (suc (suc (suc (suc (suc (suc (suc zero)))))))), inside, is) = (12, omega arith, is)
+load_codes code (suc (suc (suc (suc (suc (suc (suc (suc (suc (suc k))))))))), inside, is) = absurd (omega (arith, inside))
+
+-- codes of the command `check` are codes of a command
+abbrev pub of_check : List ℕ
+of_check = 0 ∷ 3 ∷ 5 ∷ 6 ∷ 7 ∷ 12 ∷ []
+
+pub check_codes : (code : ℕ) → Contains of_check code → Contains (0 ∷ 3 ∷ 4 ∷ 5 ∷ 6 ∷ 7 ∷ 8 ∷ 9 ∷ 10 ∷ 11 ∷ 12 ∷ 13 ∷ 14 ∷ 15 ∷ []) code
+check_codes code (zero, inside, is) = (0, omega arith, is)
+check_codes code (suc zero, inside, is) = (1, omega arith, is)
+check_codes code (suc (suc zero), inside, is) = (3, omega arith, is)
+check_codes code (suc (suc (suc zero)), inside, is) = (4, omega arith, is)
+check_codes code (suc (suc (suc (suc zero))), inside, is) = (5, omega arith, is)
+check_codes code (suc (suc (suc (suc (suc zero)))), inside, is) = (10, omega arith, is)
+check_codes code (suc (suc (suc (suc (suc (suc k))))), inside, is) = absurd (omega (arith, inside))
+
+-- codes of the command `demo` are codes of a command
+abbrev pub of_demo : List ℕ
+of_demo = 0 ∷ 3 ∷ 5 ∷ 6 ∷ 7 ∷ 10 ∷ 11 ∷ 12 ∷ []
+
+pub demo_codes : (code : ℕ) → Contains of_demo code → Contains (0 ∷ 3 ∷ 4 ∷ 5 ∷ 6 ∷ 7 ∷ 8 ∷ 9 ∷ 10 ∷ 11 ∷ 12 ∷ 13 ∷ 14 ∷ 15 ∷ []) code
+demo_codes code (zero, inside, is) = (0, omega arith, is)
+demo_codes code (suc zero, inside, is) = (1, omega arith, is)
+demo_codes code (suc (suc zero), inside, is) = (3, omega arith, is)
+demo_codes code (suc (suc (suc zero)), inside, is) = (4, omega arith, is)
+demo_codes code (suc (suc (suc (suc zero))), inside, is) = (5, omega arith, is)
+demo_codes code (suc (suc (suc (suc (suc zero)))), inside, is) = (8, omega arith, is)
+demo_codes code (suc (suc (suc (suc (suc (suc zero))))), inside, is) = (9, omega arith, is)
+demo_codes code (suc (suc (suc (suc (suc (suc (suc zero)))))), inside, is) = (10, omega arith, is)
+demo_codes code (suc (suc (suc (suc (suc (suc (suc (suc k))))))), inside, is) = absurd (omega (arith, inside))
+
+-- the codes whose place is 0, without that of a read fault
+pub zero_of : (code : ℕ) → (code ≡ 4 → ⊥) → Contains (0 ∷ 3 ∷ 4 ∷ 5 ∷ 6 ∷ []) code → Contains (0 ∷ 3 ∷ 5 ∷ 6 ∷ []) code
+zero_of code unread (zero, inside, is) = (0, omega arith, is)
+zero_of code unread (suc zero, inside, is) = (1, omega arith, is)
+zero_of code unread (suc (suc zero), inside, is) = absurd (unread (sym is))
+zero_of code unread (suc (suc (suc zero)), inside, is) = (2, omega arith, is)
+zero_of code unread (suc (suc (suc (suc zero))), inside, is) = (3, omega arith, is)
+zero_of code unread (suc (suc (suc (suc (suc k)))), inside, is) = absurd (omega (arith, inside))

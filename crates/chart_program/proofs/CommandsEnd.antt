@@ -1,0 +1,394 @@
+-- Each command ends as its own clauses say.
+use Rattle.std.proofs.Common.{◌≡◌, ℕ, ◌≤◌, ◌^◌, zero, suc, ◌⊎◌, false, List, [], ◌∷◌, Option, Some, None, IfSome, length, refl, inl, inr, sym, arith}
+use Rattle.std.specs.Prelude.{Contains, ◌≢◌}
+use Rattle.block_disk.specs.Counts.{HasRisen}
+use Rattle.block_disk.specs.View.{View, DiskKept, Honest}
+use Rattle.store_open.specs.Held.{HoldsBook}
+use Rattle.store_open.proofs.Opened.{is_large}
+use Rattle.series_book.specs.declared.one_series.Series.{Series}
+use Rattle.gate_pages.specs.Journal.{page_count}
+use Rattle.load_command.specs.Loaded.{LoadEnds, RefusesSet, Unnamed}
+use Rattle.check_command.specs.Checked.{CheckEnds}
+use Rattle.demo_command.specs.Demonstrated.{DemoEnds}
+use Rattle.program_words.specs.declared.words.Command.TheVariants.{Plot, Load, Demo, Run, Serve, Draw, Init, Check}
+use Rattle.chart_program.specs.Served.{Says, Faults, Spelled, AreTexts}
+use Rattle.chart_program.specs.Ended.{EndsBy}
+use Rattle.chart_program.specs.Ran.{CommandEnds, AreLines, AreReadings, StandsOn, IsRefused, IsBadInput, HasTooMuch, Lacks, Misfits, NamesUnopened, IsFrames, DrawsReplies, LeavesDisk, IsMade, IsTooSmall, IsThere}
+use Rattle.store_init.specs.Stores.{HasStore}
+use Rattle.chart_program.specs.declared.draw_end.DrawEnd.TheVariants as draw_end
+use Rattle.chart_program.specs.Slots.{FirstBad, StoppedBefore}
+use Rattle.chart_program.specs.Plotted.{SendsPlot, SendsFront}
+use Rattle.chart_program.specs.Draws.{DrawsAll, DrawsTaken, DrawsWithin, StopsAtFrame}
+use Rattle.chart_program.proofs.Codes.{plot_complete, draw_complete, told_all, told_both}
+use Rattle.chart_program.proofs.CommandCodes.{never, zero_of, of_plot, plot_codes, of_draw, draw_codes, of_init, init_codes, of_lines, lines_codes, of_load, load_codes, of_check, check_codes, of_demo, demo_codes}
+
+both_told : (o b : Option (List ℕ)) (P : List ℕ → Type 0) (Q : Type 0) → IfSome o P → Q → IfSome o (λ input. IfSome b (λ bytes. P input × Q))
+both_told None b P Q first second = tt
+both_told (Some input) None P Q first second = tt
+both_told (Some input) (Some bytes) P Q first second = (first, second)
+
+all_told : (o b : Option (List ℕ)) (P : Type 0) → P → IfSome o (λ input. IfSome b (λ bytes. P))
+all_told None b P holds = tt
+all_told (Some input) None P holds = tt
+all_told (Some input) (Some bytes) P holds = holds
+
+-- a disk that holds a book isn't too small
+small_never : (old : View) (total : ℕ) (book : List Series) → HoldsBook (page_count old.size) total book old → old.size ≤ 127 → ⊥
+small_never old total book holds small = omega (arith, small, is_large old.size total old.image book (holds.images old.image holds.honest))
+
+-- with a good input and no fault it is done, or there is no memory
+lines_completed : (IsText : Says) (CanShow : Type 0) (old new : View) (input : List ℕ) (left' before now : Option (List ℕ)) (faults : Faults) (code place : ℕ) → AreLines old new input → (HasRisen faults.reads faults.reads_now → ⊥) → (HasRisen faults.sends faults.sends_now → ⊥) → EndsBy IsText CanShow old new (Some input) left' before now faults code place → Contains of_lines code → (code ≡ 0) ⊎ (code ≡ 3)
+lines_completed IsText CanShow old new input left' before now faults code place r no_read no_send e (zero, inside, is) = inl (sym is)
+lines_completed IsText CanShow old new input left' before now faults code place r no_read no_send e (suc zero, inside, is) = inr (sym is)
+lines_completed IsText CanShow old new input left' before now faults code place r no_read no_send e (suc (suc zero), inside, is) = absurd (no_read (e.read (sym is)))
+lines_completed IsText CanShow old new input left' before now faults code place r no_read no_send e (suc (suc (suc zero)), inside, is) = absurd (no_send (e.send (sym is)))
+lines_completed IsText CanShow old new input left' before now faults code place r no_read no_send e (suc (suc (suc (suc zero))), inside, is) = absurd (r.whole (e.fault (sym is)))
+lines_completed IsText CanShow old new input left' before now faults code place r no_read no_send e (suc (suc (suc (suc (suc zero)))), inside, is) = absurd (e.undamaged (sym is) r.total r.book r.holds)
+lines_completed IsText CanShow old new input left' before now faults code place r no_read no_send e (suc (suc (suc (suc (suc (suc zero))))), inside, is) = absurd (omega (arith, r.short, ((e.much (sym is)).1 r.total r.book r.holds).1.past))
+lines_completed IsText CanShow old new input left' before now faults code place r no_read no_send e (suc (suc (suc (suc (suc (suc (suc zero)))))), inside, is) = absurd ((e.missing (sym is)).1.0 r.total r.book r.holds)
+lines_completed IsText CanShow old new input left' before now faults code place r no_read no_send e (suc (suc (suc (suc (suc (suc (suc (suc zero))))))), inside, is) = absurd ((e.misfit (sym is)).1.0 r.total r.book r.holds)
+lines_completed IsText CanShow old new input left' before now faults code place r no_read no_send e (suc (suc (suc (suc (suc (suc (suc (suc (suc zero)))))))), inside, is) = absurd (small_never old r.total r.book r.holds (omega (arith, (e.small (sym is)).1)))
+lines_completed IsText CanShow old new input left' before now faults code place r no_read no_send e (suc (suc (suc (suc (suc (suc (suc (suc (suc (suc zero))))))))), inside, is) = absurd (e.opened (sym is))
+lines_completed IsText CanShow old new input left' before now faults code place r no_read no_send e (suc (suc (suc (suc (suc (suc (suc (suc (suc (suc (suc k)))))))))), inside, is) = absurd (omega (arith, inside))
+
+-- with a good input and no fault it is done, or there is no memory
+load_completed : (name : List ℕ) (old new : View) (input : List ℕ) (left' before now : Option (List ℕ)) (faults : Faults) (code place : ℕ) → AreReadings name old new input → (HasRisen faults.reads faults.reads_now → ⊥) → (HasRisen faults.sends faults.sends_now → ⊥) → LoadEnds name old new (Some input) left' before now faults.reads faults.reads_now faults.sends faults.sends_now code place → Contains of_load code → (code ≡ 0) ⊎ (code ≡ 3)
+load_completed name old new input left' before now faults code place r no_read no_send e (zero, inside, is) = inl (sym is)
+load_completed name old new input left' before now faults code place r no_read no_send e (suc zero, inside, is) = inr (sym is)
+load_completed name old new input left' before now faults code place r no_read no_send e (suc (suc zero), inside, is) = absurd (no_read (e.read (sym is)))
+load_completed name old new input left' before now faults code place r no_read no_send e (suc (suc (suc zero)), inside, is) = absurd (no_send (e.send (sym is)))
+load_completed name old new input left' before now faults code place r no_read no_send e (suc (suc (suc (suc zero))), inside, is) = absurd (r.whole (e.fault (sym is)))
+load_completed name old new input left' before now faults code place r no_read no_send e (suc (suc (suc (suc (suc zero)))), inside, is) = absurd (e.undamaged (sym is) r.total r.book r.holds)
+load_completed name old new input left' before now faults code place r no_read no_send e (suc (suc (suc (suc (suc (suc zero))))), inside, is) = absurd (r.none_bad place _ (e.bad (sym is) r.total r.book r.holds r.series r.named).on.so)
+load_completed name old new input left' before now faults code place r no_read no_send e (suc (suc (suc (suc (suc (suc (suc zero)))))), inside, is) = absurd (omega (arith, r.short, (e.past (sym is) r.total r.book r.holds r.series r.named).on.so.past))
+load_completed name old new input left' before now faults code place r no_read no_send e (suc (suc (suc (suc (suc (suc (suc (suc zero))))))), inside, is) = absurd (small_never old r.total r.book r.holds (omega (arith, (e.small (sym is)).1)))
+load_completed name old new input left' before now faults code place r no_read no_send e (suc (suc (suc (suc (suc (suc (suc (suc (suc zero)))))))), inside, is) = let refused = e.refused (sym is) r.total r.book r.holds r.series r.named in absurd (r.none_refused refused.0 refused.1 _ refused.3.on.so)
+load_completed name old new input left' before now faults code place r no_read no_send e (suc (suc (suc (suc (suc (suc (suc (suc (suc (suc k))))))))), inside, is) = absurd (omega (arith, inside))
+
+-- with a good input and no fault it is done, or there is no memory
+check_completed : (old new : View) (input : List ℕ) (left' before now : Option (List ℕ)) (faults : Faults) (code place : ℕ) → StandsOn old new → (HasRisen faults.reads faults.reads_now → ⊥) → (HasRisen faults.sends faults.sends_now → ⊥) → CheckEnds old new before now faults.sends faults.sends_now code place → Contains of_check code → (code ≡ 0) ⊎ (code ≡ 3)
+check_completed old new input left' before now faults code place r no_read no_send e (zero, inside, is) = inl (sym is)
+check_completed old new input left' before now faults code place r no_read no_send e (suc zero, inside, is) = inr (sym is)
+check_completed old new input left' before now faults code place r no_read no_send e (suc (suc zero), inside, is) = absurd (no_send (e.send (sym is)))
+check_completed old new input left' before now faults code place r no_read no_send e (suc (suc (suc zero)), inside, is) = absurd (r.whole (e.fault (sym is)))
+check_completed old new input left' before now faults code place r no_read no_send e (suc (suc (suc (suc zero))), inside, is) = absurd (e.undamaged (sym is) r.total r.book r.holds)
+check_completed old new input left' before now faults code place r no_read no_send e (suc (suc (suc (suc (suc zero)))), inside, is) = absurd (small_never old r.total r.book r.holds (omega (arith, (e.small (sym is)).1)))
+check_completed old new input left' before now faults code place r no_read no_send e (suc (suc (suc (suc (suc (suc k))))), inside, is) = absurd (omega (arith, inside))
+
+-- with a good input and no fault it is done, or there is no memory
+demo_completed : (seed rounds : ℕ) (old new : View) (input : List ℕ) (left' before now : Option (List ℕ)) (faults : Faults) (code place : ℕ) → StandsOn old new → (HasRisen faults.reads faults.reads_now → ⊥) → (HasRisen faults.sends faults.sends_now → ⊥) → DemoEnds seed rounds old new before now faults.sends faults.sends_now code place → Contains of_demo code → (code ≡ 0) ⊎ (code ≡ 3)
+demo_completed seed rounds old new input left' before now faults code place r no_read no_send e (zero, inside, is) = inl (sym is)
+demo_completed seed rounds old new input left' before now faults code place r no_read no_send e (suc zero, inside, is) = inr (sym is)
+demo_completed seed rounds old new input left' before now faults code place r no_read no_send e (suc (suc zero), inside, is) = absurd (no_send (e.send (sym is)))
+demo_completed seed rounds old new input left' before now faults code place r no_read no_send e (suc (suc (suc zero)), inside, is) = absurd (r.whole (e.fault (sym is)))
+demo_completed seed rounds old new input left' before now faults code place r no_read no_send e (suc (suc (suc (suc zero))), inside, is) = absurd (e.undamaged (sym is) r.total r.book r.holds)
+demo_completed seed rounds old new input left' before now faults code place r no_read no_send e (suc (suc (suc (suc (suc zero)))), inside, is) = absurd ((e.missing (sym is)).0 r.total r.book r.holds)
+demo_completed seed rounds old new input left' before now faults code place r no_read no_send e (suc (suc (suc (suc (suc (suc zero))))), inside, is) = absurd ((e.misfit (sym is)).0 r.total r.book r.holds)
+demo_completed seed rounds old new input left' before now faults code place r no_read no_send e (suc (suc (suc (suc (suc (suc (suc zero)))))), inside, is) = absurd (small_never old r.total r.book r.holds (omega (arith, (e.small (sym is)).1)))
+demo_completed seed rounds old new input left' before now faults code place r no_read no_send e (suc (suc (suc (suc (suc (suc (suc (suc k))))))), inside, is) = absurd (omega (arith, inside))
+
+lines_complete : (IsText : Says) (CanShow : Type 0) (old new : View) (left left' before now : Option (List ℕ)) (faults : Faults) (code place : ℕ) → EndsBy IsText CanShow old new left left' before now faults code place → IfSome left (λ input. AreLines old new input → (HasRisen faults.reads faults.reads_now → ⊥) → (HasRisen faults.sends faults.sends_now → ⊥) → (code ≡ 0) ⊎ (code ≡ 3))
+lines_complete IsText CanShow old new None left' before now faults code place e = tt
+lines_complete IsText CanShow old new (Some input) left' before now faults code place e = λ good no_read no_send. lines_completed IsText CanShow old new input left' before now faults code place good no_read no_send e e.codes
+
+load_complete : (name : List ℕ) (old new : View) (left left' before now : Option (List ℕ)) (faults : Faults) (code place : ℕ) → LoadEnds name old new left left' before now faults.reads faults.reads_now faults.sends faults.sends_now code place → IfSome left (λ input. AreReadings name old new input → (HasRisen faults.reads faults.reads_now → ⊥) → (HasRisen faults.sends faults.sends_now → ⊥) → (code ≡ 0) ⊎ (code ≡ 3))
+load_complete name old new None left' before now faults code place e = tt
+load_complete name old new (Some input) left' before now faults code place e = λ good no_read no_send. load_completed name old new input left' before now faults code place good no_read no_send e e.codes
+
+check_complete : (old new : View) (left left' before now : Option (List ℕ)) (faults : Faults) (code place : ℕ) → CheckEnds old new before now faults.sends faults.sends_now code place → IfSome left (λ input. StandsOn old new → (HasRisen faults.reads faults.reads_now → ⊥) → (HasRisen faults.sends faults.sends_now → ⊥) → (code ≡ 0) ⊎ (code ≡ 3))
+check_complete old new None left' before now faults code place e = tt
+check_complete old new (Some input) left' before now faults code place e = λ good no_read no_send. check_completed old new input left' before now faults code place good no_read no_send e e.codes
+
+demo_complete : (seed rounds : ℕ) (old new : View) (left left' before now : Option (List ℕ)) (faults : Faults) (code place : ℕ) → DemoEnds seed rounds old new before now faults.sends faults.sends_now code place → IfSome left (λ input. StandsOn old new → (HasRisen faults.reads faults.reads_now → ⊥) → (HasRisen faults.sends faults.sends_now → ⊥) → (code ≡ 0) ⊎ (code ≡ 3))
+demo_complete seed rounds old new None left' before now faults code place e = tt
+demo_complete seed rounds old new (Some input) left' before now faults code place e = λ good no_read no_send. demo_completed seed rounds old new input left' before now faults code place good no_read no_send e e.codes
+
+pub run_ends : (old new : View) (left left' before now : Option (List ℕ)) (faults : Faults) (code place : ℕ) → EndsBy AreTexts (Unit {0}) old new left left' before now faults code place → CommandEnds Run old new left left' before now faults code place
+run_ends old new left left' before now faults code place e = record {
+  codes = lines_codes code e.codes;
+  read = e.read;
+  stopped = e.stopped;
+  send = e.send;
+  bad = λ is. absurd (never of_lines code 8 e.codes refl is);
+  much = e.much;
+  missing = λ is. (e.missing is).1;
+  misfit = λ is. (e.misfit is).1;
+  unopened = λ is. absurd (e.opened is);
+  memory = e.memory;
+  within = e.within;
+  fault = e.fault;
+  faulted = e.faulted;
+  damaged = e.damaged;
+  undamaged = e.undamaged;
+  small = e.small;
+  there = λ is. absurd (never of_lines code 13 e.codes refl is);
+  refused = λ is. absurd (never of_lines code 14 e.codes refl is);
+  unnamed = tt;
+  zero_place = e.zero_place;
+  done = e.done;
+  part = e.part;
+  nothing = λ some unsent quiet. absurd (quiet tt);
+  pictures = λ is command. cc;
+  crash = e.crash;
+  disk = e.goes_on;
+  made = λ is. tt;
+  complete = lines_complete AreTexts (Unit {0}) old new left left' before now faults code place e;
+  ready = λ command. cc;
+}
+
+pub serve_ends : (old new : View) (left left' before now : Option (List ℕ)) (faults : Faults) (code place : ℕ) → EndsBy Spelled ⊥ old new left left' before now faults code place → CommandEnds Serve old new left left' before now faults code place
+serve_ends old new left left' before now faults code place e = record {
+  codes = lines_codes code e.codes;
+  read = e.read;
+  stopped = e.stopped;
+  send = e.send;
+  bad = λ is. absurd (never of_lines code 8 e.codes refl is);
+  much = e.much;
+  missing = λ is. absurd (e.missing is).0;
+  misfit = λ is. absurd (e.misfit is).0;
+  unopened = λ is. absurd (e.opened is);
+  memory = e.memory;
+  within = e.within;
+  fault = e.fault;
+  faulted = e.faulted;
+  damaged = e.damaged;
+  undamaged = e.undamaged;
+  small = e.small;
+  there = λ is. absurd (never of_lines code 13 e.codes refl is);
+  refused = λ is. absurd (never of_lines code 14 e.codes refl is);
+  unnamed = tt;
+  zero_place = e.zero_place;
+  done = e.done;
+  part = e.part;
+  nothing = λ some unsent quiet. absurd (quiet tt);
+  pictures = λ is command. cc;
+  crash = e.crash;
+  disk = e.goes_on;
+  made = λ is. tt;
+  complete = lines_complete Spelled ⊥ old new left left' before now faults code place e;
+  ready = λ command. cc;
+}
+
+refused_told : (name : List ℕ) (old new : View) (left left' : Option (List ℕ)) (place : ℕ) → IfSome left (λ input. RefusesSet name (page_count old.size) old new input place)
+    → Unnamed (page_count old.size) old name (λ total book. (place ≡ 8) × (left' ≡ left) × HoldsBook (page_count old.size) total book new) → IfSome left (λ input. IsRefused (Load name) old new input left' place)
+refused_told name old new None left' place refused unknown = tt
+refused_told name old new (Some input) left' place refused unknown = (refused, unknown)
+
+pub load_ends : (name : List ℕ) (old new : View) (left left' before now : Option (List ℕ)) (faults : Faults) (code place : ℕ) → LoadEnds name old new left left' before now faults.reads faults.reads_now faults.sends faults.sends_now code place → CommandEnds (Load name) old new left left' before now faults code place
+load_ends name old new left left' before now faults code place e = record {
+  codes = load_codes code e.codes;
+  read = e.read;
+  stopped = e.stopped;
+  send = e.send;
+  bad = e.bad;
+  much = λ is. told_both left _ _ (e.much is) (e.past is);
+  missing = λ is. absurd (never of_load code 10 e.codes refl is);
+  misfit = λ is. absurd (never of_load code 11 e.codes refl is);
+  unopened = λ is. absurd (never of_load code 15 e.codes refl is);
+  memory = e.memory;
+  within = e.within;
+  fault = e.fault;
+  faulted = λ is. told_all left _ (e.nothing (omega (arith, is)) (omega (arith, is)));
+  damaged = e.damaged;
+  undamaged = λ is. told_all left _ (e.undamaged is);
+  small = e.small;
+  there = λ is. absurd (never of_load code 13 e.codes refl is);
+  refused = λ is. refused_told name old new left left' place (e.refused is) (e.unknown is);
+  unnamed = λ total book holds none. (e.unnamed total book holds none).codes;
+  zero_place = e.zero_place;
+  done = e.done;
+  part = e.part;
+  nothing = λ some unsent quiet. e.nothing some unsent;
+  pictures = λ is command. cc;
+  crash = both_told left before _ _ e.crash (λ total book holds none. (e.unnamed total book holds none).moments);
+  disk = e.goes_on;
+  made = λ is. tt;
+  complete = load_complete name old new left left' before now faults code place e;
+  ready = λ command. cc;
+}
+
+pub check_ends : (old new : View) (left left' before now : Option (List ℕ)) (faults : Faults) (code place : ℕ) → CheckEnds old new before now faults.sends faults.sends_now code place → CommandEnds Check old new left left' before now faults code place
+check_ends old new left left' before now faults code place e = record {
+  codes = check_codes code e.codes;
+  read = λ is. absurd (never of_check code 4 e.codes refl is);
+  stopped = λ is. absurd (never of_check code 4 e.codes refl is);
+  send = e.send;
+  bad = λ is. absurd (never of_check code 8 e.codes refl is);
+  much = λ is. absurd (never of_check code 9 e.codes refl is);
+  missing = λ is. absurd (never of_check code 10 e.codes refl is);
+  misfit = λ is. absurd (never of_check code 11 e.codes refl is);
+  unopened = λ is. absurd (never of_check code 15 e.codes refl is);
+  memory = λ is. told_all left _ (e.nothing (omega (arith, is)) (omega (arith, is)));
+  within = λ is. told_all left _ tt;
+  fault = e.fault;
+  faulted = λ is. told_all left _ (e.nothing (omega (arith, is)) (omega (arith, is)));
+  damaged = e.damaged;
+  undamaged = λ is. told_all left _ (e.undamaged is);
+  small = e.small;
+  there = λ is. absurd (never of_check code 13 e.codes refl is);
+  refused = λ is. absurd (never of_check code 14 e.codes refl is);
+  unnamed = tt;
+  zero_place = λ zero. e.zero_place (zero_of code (never of_check code 4 e.codes refl) zero);
+  done = λ is. told_all left _ (e.done is);
+  part = λ is. told_all left _ (e.part is);
+  nothing = λ some unsent quiet. e.nothing some unsent;
+  pictures = λ is command. cc;
+  crash = all_told left before _ e.crash;
+  disk = e.goes_on;
+  made = λ is. tt;
+  complete = check_complete old new left left' before now faults code place e;
+  ready = λ command. cc;
+}
+
+pub demo_ends : (seed rounds : ℕ) (old new : View) (left left' before now : Option (List ℕ)) (faults : Faults) (code place : ℕ) → DemoEnds seed rounds old new before now faults.sends faults.sends_now code place → CommandEnds (Demo seed rounds) old new left left' before now faults code place
+demo_ends seed rounds old new left left' before now faults code place e = record {
+  codes = demo_codes code e.codes;
+  read = λ is. absurd (never of_demo code 4 e.codes refl is);
+  stopped = λ is. absurd (never of_demo code 4 e.codes refl is);
+  send = e.send;
+  bad = λ is. absurd (never of_demo code 8 e.codes refl is);
+  much = λ is. absurd (never of_demo code 9 e.codes refl is);
+  missing = λ is. told_all left _ (e.missing is);
+  misfit = λ is. told_all left _ (e.misfit is);
+  unopened = λ is. absurd (never of_demo code 15 e.codes refl is);
+  memory = λ is. told_all left _ (e.memory is);
+  within = λ is. told_all left _ tt;
+  fault = e.fault;
+  faulted = λ is. told_all left _ (e.nothing (omega (arith, is)) (omega (arith, is)));
+  damaged = e.damaged;
+  undamaged = λ is. told_all left _ (e.undamaged is);
+  small = e.small;
+  there = λ is. absurd (never of_demo code 13 e.codes refl is);
+  refused = λ is. absurd (never of_demo code 14 e.codes refl is);
+  unnamed = tt;
+  zero_place = λ zero. e.zero_place (zero_of code (never of_demo code 4 e.codes refl) zero);
+  done = λ is. told_all left _ (e.done is);
+  part = λ is. told_all left _ (e.part is);
+  nothing = λ some unsent quiet. e.nothing some unsent;
+  pictures = λ is command. cc;
+  crash = all_told left before _ e.crash;
+  disk = e.goes_on;
+  made = λ is. tt;
+  complete = demo_complete seed rounds old new left left' before now faults code place e;
+  ready = λ command. cc;
+}
+
+-- of the codes whose place is 0
+zeros_of_draw : (code : ℕ) → (code ≡ 6 → ⊥) → Contains (0 ∷ 3 ∷ 4 ∷ 5 ∷ 6 ∷ []) code → Contains (0 ∷ 3 ∷ 4 ∷ 5 ∷ []) code
+zeros_of_draw code other (zero, inside, is) = (0, omega arith, is)
+zeros_of_draw code other (suc zero, inside, is) = (1, omega arith, is)
+zeros_of_draw code other (suc (suc zero), inside, is) = (2, omega arith, is)
+zeros_of_draw code other (suc (suc (suc zero)), inside, is) = (3, omega arith, is)
+zeros_of_draw code other (suc (suc (suc (suc zero))), inside, is) = absurd (other (sym is))
+zeros_of_draw code other (suc (suc (suc (suc (suc k)))), inside, is) = absurd (omega (arith, inside))
+
+zeros_of_init : (code : ℕ) → (code ≡ 4 → ⊥) → (code ≡ 5 → ⊥) → Contains (0 ∷ 3 ∷ 4 ∷ 5 ∷ 6 ∷ []) code → Contains (0 ∷ 3 ∷ 6 ∷ []) code
+zeros_of_init code other more (zero, inside, is) = (0, omega arith, is)
+zeros_of_init code other more (suc zero, inside, is) = (1, omega arith, is)
+zeros_of_init code other more (suc (suc zero), inside, is) = absurd (other (sym is))
+zeros_of_init code other more (suc (suc (suc zero)), inside, is) = absurd (more (sym is))
+zeros_of_init code other more (suc (suc (suc (suc zero))), inside, is) = (2, omega arith, is)
+zeros_of_init code other more (suc (suc (suc (suc (suc k)))), inside, is) = absurd (omega (arith, inside))
+
+never_input : (o : Option (List ℕ)) (R S D : Type 0) → IfSome o (λ input. ⊥ → R → S → D)
+never_input None R S D = tt
+never_input (Some input) R S D = λ none. absurd none
+
+pub plot_ends : (w h : ℕ) (old new : View) (left left' before now : Option (List ℕ)) (faults : Faults) (code place : ℕ) → Contains of_plot code → (code ≡ 4 → HasRisen faults.reads faults.reads_now) → (code ≡ 4 → IfSome left (λ input. IfSome left' (StoppedBefore input))) → (code ≡ 5 → HasRisen faults.sends faults.sends_now) → (code ≡ 8 → IfSome left (λ input. FirstBad input place)) → (code ≡ 9 → IfSome left (λ input. HasTooMuch input place)) → (code ≢ 8 → code ≢ 9 → place ≡ 0) → (code ≡ 0 → IfSome left (λ input. SendsPlot w h input before now)) → (code ≡ 0 → IfSome left (λ input. length input ≤ 2 ^ 32)) → (code ≡ 5 → IfSome left (λ input. SendsFront w h input before now)) → (code ≢ 0 → code ≢ 5 → now ≡ before) → DiskKept old new → CommandEnds (Plot w h) old new left left' before now faults code place
+plot_ends w h old new left left' before now faults code place codes read stopped send bad much zeros done within part nothing disk = record {
+  codes = plot_codes code codes;
+  read = read;
+  stopped = stopped;
+  send = send;
+  bad = bad;
+  much = much;
+  missing = λ is. absurd (never of_plot code 10 codes refl is);
+  misfit = λ is. absurd (never of_plot code 11 codes refl is);
+  unopened = λ is. absurd (never of_plot code 15 codes refl is);
+  memory = λ is. told_all left _ (nothing (omega (arith, is)) (omega (arith, is)));
+  within = within;
+  fault = λ is. absurd (never of_plot code 6 codes refl is);
+  faulted = λ is. absurd (never of_plot code 6 codes refl is);
+  damaged = λ is. absurd (never of_plot code 7 codes refl is);
+  undamaged = λ is. absurd (never of_plot code 7 codes refl is);
+  small = λ is. absurd (never of_plot code 12 codes refl is);
+  there = λ is. absurd (never of_plot code 13 codes refl is);
+  refused = λ is. absurd (never of_plot code 14 codes refl is);
+  unnamed = tt;
+  zero_place = λ zero. zeros (λ is. never (0 ∷ 3 ∷ 4 ∷ 5 ∷ 6 ∷ []) code 8 zero refl is) (λ is. never (0 ∷ 3 ∷ 4 ∷ 5 ∷ 6 ∷ []) code 9 zero refl is);
+  done = done;
+  part = part;
+  nothing = λ some unsent quiet. nothing some unsent;
+  pictures = λ is command. cc;
+  crash = all_told left before _ tt;
+  disk = disk;
+  made = λ is. tt;
+  complete = plot_complete left code place _ _ codes read send bad much;
+  ready = λ command. cc;
+}
+
+pub draw_ends : (old new : View) (left left' before now : Option (List ℕ)) (faults : Faults) (code place : ℕ) → Contains of_draw code → (code ≡ 4 → HasRisen faults.reads faults.reads_now) → (code ≡ 5 → HasRisen faults.sends faults.sends_now) → (Contains (0 ∷ 3 ∷ 4 ∷ 5 ∷ []) code → place ≡ 0) → (code ≡ 0 → IfSome left (λ input. DrawsAll input before now)) → (code ≡ 0 → IfSome left (λ input. length input ≤ 2 ^ 32)) → (code ≡ 0 → IfSome left (λ input. DrawsReplies input before now)) → (code ≡ 5 → IfSome left (λ input. StopsAtFrame input before now draw_end.SendFault)) → (code ≡ 4 → IfSome left (λ input. IfSome left' (λ bytes. DrawsTaken input bytes before now))) → (code ≡ 3 → IfSome left (λ input. StopsAtFrame input before now draw_end.NoMemory)) → (code ≡ 9 → place ≡ 2 ^ 32) → (code ≡ 9 → IfSome left (λ input. DrawsWithin input before now)) → (code ≡ 8 → IfSome left (λ input. IsBadInput Draw old new input place before now)) → (code ≡ 10 → IfSome left (λ input. Lacks Draw old input place before now)) → (code ≡ 11 → IfSome left (λ input. Misfits Draw old input place before now)) → (code ≡ 15 → IfSome left (λ input. NamesUnopened Draw old input place before now)) → (IfSome left (λ input. IsFrames input → Contains (0 ∷ 3 ∷ 4 ∷ 5 ∷ []) code)) → DiskKept old new → CommandEnds Draw old new left left' before now faults code place
+draw_ends old new left left' before now faults code place codes read send zeros done within pictures part stopped memory much past bad missing misfit unopened good disk = record {
+  codes = draw_codes code codes;
+  read = read;
+  stopped = stopped;
+  send = send;
+  bad = bad;
+  much = λ is. told_both left _ _ (much is) (past is);
+  missing = missing;
+  misfit = misfit;
+  unopened = unopened;
+  memory = memory;
+  within = within;
+  fault = λ is. absurd (never of_draw code 6 codes refl is);
+  faulted = λ is. absurd (never of_draw code 6 codes refl is);
+  damaged = λ is. absurd (never of_draw code 7 codes refl is);
+  undamaged = λ is. absurd (never of_draw code 7 codes refl is);
+  small = λ is. absurd (never of_draw code 12 codes refl is);
+  there = λ is. absurd (never of_draw code 13 codes refl is);
+  refused = λ is. absurd (never of_draw code 14 codes refl is);
+  unnamed = tt;
+  zero_place = λ zero. zeros (zeros_of_draw code (never of_draw code 6 codes refl) zero);
+  done = done;
+  part = part;
+  nothing = λ some unsent quiet. absurd (quiet tt);
+  pictures = λ is command. pictures is;
+  crash = all_told left before _ tt;
+  disk = disk;
+  made = λ is. tt;
+  complete = draw_complete left code _ _ read send good;
+  ready = λ command. cc;
+}
+
+pub init_ends : (old new : View) (left left' before now : Option (List ℕ)) (faults : Faults) (code place : ℕ) → Contains of_init code → (code ≡ 6 → HasRisen old.faults new.faults) → (code ≡ 12 → IsTooSmall Init old place) → (code ≡ 13 → IsThere Init old place) → (Contains (0 ∷ 3 ∷ 6 ∷ []) code → place ≡ 0) → now ≡ before → LeavesDisk Init old new → (code ≡ 0 → IsMade Init old new) → (128 ≤ old.size → Honest old → (HasStore (page_count old.size) old.image → ⊥) → (HasRisen old.faults new.faults → ⊥) → (code ≡ 0) ⊎ (code ≡ 3)) → CommandEnds Init old new left left' before now faults code place
+init_ends old new left left' before now faults code place codes fault small there zeros sent disk made ready = record {
+  codes = init_codes code codes;
+  read = λ is. absurd (never of_init code 4 codes refl is);
+  stopped = λ is. absurd (never of_init code 4 codes refl is);
+  send = λ is. absurd (never of_init code 5 codes refl is);
+  bad = λ is. absurd (never of_init code 8 codes refl is);
+  much = λ is. absurd (never of_init code 9 codes refl is);
+  missing = λ is. absurd (never of_init code 10 codes refl is);
+  misfit = λ is. absurd (never of_init code 11 codes refl is);
+  unopened = λ is. absurd (never of_init code 15 codes refl is);
+  memory = λ is. told_all left _ sent;
+  within = λ is. told_all left _ tt;
+  fault = fault;
+  faulted = λ is. told_all left _ sent;
+  damaged = λ is. absurd (never of_init code 7 codes refl is);
+  undamaged = λ is. absurd (never of_init code 7 codes refl is);
+  small = small;
+  there = there;
+  refused = λ is. absurd (never of_init code 14 codes refl is);
+  unnamed = tt;
+  zero_place = λ zero. zeros (zeros_of_init code (never of_init code 4 codes refl) (never of_init code 5 codes refl) zero);
+  done = λ is. told_all left _ sent;
+  part = λ is. absurd (never of_init code 5 codes refl is);
+  nothing = λ some unsent quiet. sent;
+  pictures = λ is command. cc;
+  crash = all_told left before _ tt;
+  disk = disk;
+  made = made;
+  complete = never_input left _ _ _;
+  ready = λ command. ready;
+}

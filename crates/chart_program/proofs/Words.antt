@@ -1,0 +1,80 @@
+-- What the words of a command say of it.
+use Rattle.std.proofs.Common.{◌≡◌, ℕ, zero, suc, Bool, true, false, ◌⊎◌, inl, inr, List, [], ◌∷◌, Option, Some, None, IfSome, get_or, refl, ap, sym, arith, subst, ◌∙◌}
+use Rattle.std.specs.Prelude.{Contains}
+use Rattle.block_disk.specs.View.{View}
+use Rattle.program_words.specs.declared.words.Command.{Command}
+use Rattle.program_words.specs.declared.words.Command.TheVariants.{Plot, Load, Demo, Run, Serve, Draw, Init, Check}
+use Rattle.command_words.specs.Words.{plain_words, has_flag}
+use Rattle.program_words.specs.Words.{Spells, IsWrong, EndsWords}
+use Rattle.program_words.specs.declared.words.WordsEnd.{WordsEnd}
+use Rattle.program_words.specs.declared.words.WordsEnd.TheVariants.{Wrong}
+use Rattle.chart_program.specs.Ran.{OfCommand, HasOperands, IsStreaming, IsInput, stream_words}
+
+-- the words are those of this command
+pub of_command : (words : List (List ℕ)) (command told : Command) (P : Command → Type 0) → told ≡ command → Spells told words → P command → OfCommand words P
+of_command words command told P is spells holds =
+    let S : Command → Type 0 = λ c. Spells c words in
+    record { command = command; spells = subst S is spells; holds = holds }
+
+pub with_operands : (command : Command) (words : List (List ℕ)) → Spells command words → HasOperands command
+with_operands (Plot w h) words is = (is.1, is.2)
+with_operands (Load name) words is = tt
+with_operands (Demo seed rounds) words is = is.2
+with_operands Run words is = tt
+with_operands Serve words is = tt
+with_operands Draw words is = tt
+with_operands Init words is = tt
+with_operands Check words is = tt
+
+-- the words of a command that isn't done over streams alone
+pub streams : (command : Command) (words : List (List ℕ)) → Spells command words → (Contains stream_words words → ⊥) → IsStreaming command → ⊥
+streams (Plot w h) words is none streaming = streaming
+streams (Load name) words is none streaming = streaming
+streams (Demo seed rounds) words is none streaming = streaming
+streams Run words is none streaming = none (0, omega arith, sym is)
+streams Serve words is none streaming = none (1, omega arith, sym is)
+streams Draw words is none streaming = none (2, omega arith, sym is)
+streams Init words is none streaming = streaming
+streams Check words is none streaming = streaming
+
+-- the second byte of the first word, which tells `draw` and `init` from all others
+abbrev second : List (List ℕ) → ℕ
+second words = get_or (get_or words 0 []) 1 0
+
+pub one_draw : (command : Command) (words : List (List ℕ)) → Spells command words → Spells Draw words → command ≡ Draw
+one_draw (Plot w h) words is other = let both : 108 ≡ 114 = ap second (sym is.0 ∙ other) in absurd (omega (arith, both))
+one_draw (Load name) words is other = let both : 111 ≡ 114 = ap second (sym is.0 ∙ other) in absurd (omega (arith, both))
+one_draw (Demo seed rounds) words is other = let both : 101 ≡ 114 = ap second (sym is.0 ∙ other) in absurd (omega (arith, both))
+one_draw Run words is other = let both : 117 ≡ 114 = ap second (sym is ∙ other) in absurd (omega (arith, both))
+one_draw Serve words is other = let both : 101 ≡ 114 = ap second (sym is ∙ other) in absurd (omega (arith, both))
+one_draw Draw words is other = refl
+one_draw Init words is other = let both : 110 ≡ 114 = ap second (sym is ∙ other) in absurd (omega (arith, both))
+one_draw Check words is other = let both : 104 ≡ 114 = ap second (sym is ∙ other) in absurd (omega (arith, both))
+
+pub one_init : (command : Command) (words : List (List ℕ)) → Spells command words → Spells Init words → command ≡ Init
+one_init (Plot w h) words is other = let both : 108 ≡ 110 = ap second (sym is.0 ∙ other) in absurd (omega (arith, both))
+one_init (Load name) words is other = let both : 111 ≡ 110 = ap second (sym is.0 ∙ other) in absurd (omega (arith, both))
+one_init (Demo seed rounds) words is other = let both : 101 ≡ 110 = ap second (sym is.0 ∙ other) in absurd (omega (arith, both))
+one_init Run words is other = let both : 117 ≡ 110 = ap second (sym is ∙ other) in absurd (omega (arith, both))
+one_init Serve words is other = let both : 101 ≡ 110 = ap second (sym is ∙ other) in absurd (omega (arith, both))
+one_init Draw words is other = let both : 114 ≡ 110 = ap second (sym is ∙ other) in absurd (omega (arith, both))
+one_init Init words is other = refl
+one_init Check words is other = let both : 104 ≡ 110 = ap second (sym is ∙ other) in absurd (omega (arith, both))
+
+pub chart_codes : (code : ℕ) → Contains (0 ∷ 3 ∷ 4 ∷ 5 ∷ 6 ∷ 7 ∷ 8 ∷ 9 ∷ 10 ∷ 11 ∷ 12 ∷ 13 ∷ 14 ∷ 15 ∷ []) code → Contains (0 ∷ 2 ∷ 3 ∷ 4 ∷ 5 ∷ 6 ∷ 7 ∷ 8 ∷ 9 ∷ 10 ∷ 11 ∷ 12 ∷ 13 ∷ 14 ∷ 15 ∷ []) code
+chart_codes code (zero, inside, is) = (0, omega arith, is)
+chart_codes code (suc k, inside, is) = (suc (suc k), omega (arith, inside), is)
+
+-- a command that is done with good input is done with that of its words
+pub completes : (left : Option (List ℕ)) (command : Command) (words : List (List ℕ)) (old new : View) (W R S D : Type 0) → Spells command words → IfSome left (λ input. IsInput command old new input → R → S → D)
+    → IfSome left (λ input. W → ((command : Command) → Spells command words → IsInput command old new input) → R → S → D)
+completes None command words old new W R S D spells done = tt
+completes (Some input) command words old new W R S D spells done = λ some good no_read no_send. done (good command spells) no_read no_send
+
+-- words that are those of a command aren't wrong
+pub wrong_end : (end : WordsEnd) (place : ℕ) (words : List (List ℕ)) → end ≡ Wrong place → EndsWords end words → IsWrong place words
+wrong_end end place words is ends = let E : WordsEnd → Type 0 = λ e. EndsWords e words in subst E is ends
+
+pub wrong_never : (place : ℕ) (words : List (List ℕ)) (command : Command) → has_flag words ≡ false → Spells command (plain_words words) → IsWrong place words → ⊥
+wrong_never place words command plain spells (inl flag) = let both : true ≡ false = sym flag.0 ∙ plain in cc
+wrong_never place words command plain spells (inr wrong) = wrong.1.here (record { command = command; spelling = plain_words words; spells = spells; same = refl })

@@ -1,0 +1,126 @@
+use Rattle.std.proofs.Common.{subst, sym}
+use Rattle.program_words.specs.declared.words.Command.{Command}
+use Rattle.chart_program.specs.Served.{faults_of}
+use Rattle.chart_program.specs.Ran.{CommandEnds}
+use Rattle.chart_program.proofs.CommandsEnd.{plot_ends, load_ends, demo_ends, run_ends, serve_ends, draw_ends, init_ends, check_ends}
+use Rattle.chart_program.proofs.commands.status_of_command.Goals as goal
+
+pub returns-in-Plot : goal.returns-in-Plot
+returns-in-Plot g c =
+    let view = g.W.Disk.view in
+    let left = g.W.Streams.left in
+    let sent = g.W.Streams.sent in
+    let reads = g.W.Streams.read_faults in
+    let sends = g.W.Streams.send_faults in
+    let old = c.args.world in
+    let new = c.plot_status-status.new.world in
+    let status = c.plot_status-status.result in
+    let e = c.plot_status-status.ensures in
+    let faults = faults_of (reads old) (reads new) (sends old) (sends new) in
+    let P : Command → Type 0 = λ command. CommandEnds command (view old) (view new) (left old) (left new) (sent old) (sent new) faults status.code status.place in
+    subst P (sym c.in-Plot.is) (plot_ends c.in-Plot.w c.in-Plot.h (view old) (view new) (left old) (left new) (sent old) (sent new) faults status.code status.place e.codes e.read e.stopped e.send e.bad e.much e.place e.done e.within e.part e.nothing e.disk)
+
+pub returns-in-Load : goal.returns-in-Load
+returns-in-Load g c =
+    let view = g.W.Disk.view in
+    let left = g.W.Streams.left in
+    let sent = g.W.Streams.sent in
+    let reads = g.W.Streams.read_faults in
+    let sends = g.W.Streams.send_faults in
+    let old = c.args.world in
+    let new = c.load_series.result.1 in
+    let status = c.load_series.result.0 in
+    let e = c.load_series.ensures in
+    let faults = faults_of (reads old) (reads new) (sends old) (sends new) in
+    let P : Command → Type 0 = λ command. CommandEnds command (view old) (view new) (left old) (left new) (sent old) (sent new) faults status.code status.place in
+    subst P (sym c.in-Load.is) (load_ends c.in-Load.name (view old) (view new) (left old) (left new) (sent old) (sent new) faults status.code status.place e)
+
+pub returns-in-Demo : goal.returns-in-Demo
+returns-in-Demo g c =
+    let view = g.W.Disk.view in
+    let left = g.W.Streams.left in
+    let sent = g.W.Streams.sent in
+    let reads = g.W.Streams.read_faults in
+    let sends = g.W.Streams.send_faults in
+    let old = c.args.world in
+    let new = c.run_demo.result.1 in
+    let status = c.run_demo.result.0 in
+    let e = c.run_demo.ensures in
+    let faults = faults_of (reads old) (reads new) (sends old) (sends new) in
+    let P : Command → Type 0 = λ command. CommandEnds command (view old) (view new) (left old) (left new) (sent old) (sent new) faults status.code status.place in
+    subst P (sym c.in-Demo.is) (demo_ends c.in-Demo.seed c.in-Demo.count (view old) (view new) (left old) (left new) (sent old) (sent new) faults status.code status.place e)
+
+pub returns-in-Run : goal.returns-in-Run
+returns-in-Run g c =
+    let view = g.W.Disk.view in
+    let left = g.W.Streams.left in
+    let sent = g.W.Streams.sent in
+    let reads = g.W.Streams.read_faults in
+    let sends = g.W.Streams.send_faults in
+    let old = c.args.world in
+    let new = c.run_status.result.1 in
+    let status = c.run_status.result.0 in
+    let e = c.run_status.ensures in
+    let faults = faults_of (reads old) (reads new) (sends old) (sends new) in
+    let P : Command → Type 0 = λ command. CommandEnds command (view old) (view new) (left old) (left new) (sent old) (sent new) faults status.code status.place in
+    subst P (sym c.in-Run.is) (run_ends (view old) (view new) (left old) (left new) (sent old) (sent new) faults status.code status.place e)
+
+pub returns-in-Serve : goal.returns-in-Serve
+returns-in-Serve g c =
+    let view = g.W.Disk.view in
+    let left = g.W.Streams.left in
+    let sent = g.W.Streams.sent in
+    let reads = g.W.Streams.read_faults in
+    let sends = g.W.Streams.send_faults in
+    let old = c.args.world in
+    let new = c.serve_status.result.1 in
+    let status = c.serve_status.result.0 in
+    let e = c.serve_status.ensures in
+    let faults = faults_of (reads old) (reads new) (sends old) (sends new) in
+    let P : Command → Type 0 = λ command. CommandEnds command (view old) (view new) (left old) (left new) (sent old) (sent new) faults status.code status.place in
+    subst P (sym c.in-Serve.is) (serve_ends (view old) (view new) (left old) (left new) (sent old) (sent new) faults status.code status.place e)
+
+pub returns-in-Draw : goal.returns-in-Draw
+returns-in-Draw g c =
+    let view = g.W.Disk.view in
+    let left = g.W.Streams.left in
+    let sent = g.W.Streams.sent in
+    let reads = g.W.Streams.read_faults in
+    let sends = g.W.Streams.send_faults in
+    let old = c.args.world in
+    let new = c.draw_status-status.new.world in
+    let status = c.draw_status-status.result in
+    let e = c.draw_status-status.ensures in
+    let faults = faults_of (reads old) (reads new) (sends old) (sends new) in
+    let P : Command → Type 0 = λ command. CommandEnds command (view old) (view new) (left old) (left new) (sent old) (sent new) faults status.code status.place in
+    subst P (sym c.in-Draw.is) (draw_ends (view old) (view new) (left old) (left new) (sent old) (sent new) faults status.code status.place e.codes e.read e.send e.place e.done e.within e.pictures e.part e.stopped e.memory e.much e.past e.bad e.missing e.misfit e.unopened e.good e.disk)
+
+pub returns-in-Init : goal.returns-in-Init
+returns-in-Init g c =
+    let view = g.W.Disk.view in
+    let left = g.W.Streams.left in
+    let sent = g.W.Streams.sent in
+    let reads = g.W.Streams.read_faults in
+    let sends = g.W.Streams.send_faults in
+    let old = c.args.world in
+    let new = c.init_status.result.1 in
+    let status = c.init_status.result.0 in
+    let e = c.init_status.ensures in
+    let faults = faults_of (reads old) (reads new) (sends old) (sends new) in
+    let P : Command → Type 0 = λ command. CommandEnds command (view old) (view new) (left old) (left new) (sent old) (sent new) faults status.code status.place in
+    subst P (sym c.in-Init.is) (init_ends (view old) (view new) (left old) (left new) (sent old) (sent new) faults status.code status.place e.codes e.fault e.small e.there e.place e.sent e.disk e.made e.ready)
+
+pub returns-in-Check : goal.returns-in-Check
+returns-in-Check g c =
+    let view = g.W.Disk.view in
+    let left = g.W.Streams.left in
+    let sent = g.W.Streams.sent in
+    let reads = g.W.Streams.read_faults in
+    let sends = g.W.Streams.send_faults in
+    let old = c.args.world in
+    let new = c.check_store.result.1 in
+    let status = c.check_store.result.0 in
+    let e = c.check_store.ensures in
+    let faults = faults_of (reads old) (reads new) (sends old) (sends new) in
+    let P : Command → Type 0 = λ command. CommandEnds command (view old) (view new) (left old) (left new) (sent old) (sent new) faults status.code status.place in
+    subst P (sym c.in-Check.is) (check_ends (view old) (view new) (left old) (left new) (sent old) (sent new) faults status.code status.place e)

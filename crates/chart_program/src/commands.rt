@@ -1,0 +1,157 @@
+//! The commands, each with its status.
+ghost use Rattle.std.specs.Prelude.{◌≡◌, ◌≢◌, ◌⊎◌, ◌≤◌, ◌^◌, [], ◌∷◌, length, Contains, IfSome};
+ghost use Rattle.block_disk.specs.Counts.{HasRisen};
+ghost use Rattle.block_disk.specs.View.{View, DiskKept, Honest};
+ghost use Rattle.gate_pages.specs.Journal.{page_count};
+ghost use Rattle.store_init.specs.Stores.{HasStore};
+ghost use Rattle.chart_grid.specs.Limits.{IsSide};
+ghost use Rattle.program_words.specs.declared.words.Command.TheVariants.{Draw, Init};
+ghost use Rattle.chart_program.specs.declared.draw_end.DrawEnd.TheVariants as draw_end;
+ghost use Rattle.chart_program.specs.Slots.{FirstBad, StoppedBefore};
+ghost use Rattle.chart_program.specs.Plotted.{SendsPlot, SendsFront};
+ghost use Rattle.chart_program.specs.Draws.{DrawsAll, DrawsTaken, DrawsWithin, StopsAtFrame};
+ghost use Rattle.chart_program.specs.Served.{faults_of};
+ghost use Rattle.chart_program.specs.Ran.{CommandEnds, HasOperands, IsBadInput, HasTooMuch, LeavesDisk, IsMade, IsTooSmall, IsThere, Lacks, Misfits, NamesUnopened, DrawsReplies, IsFrames};
+
+use crate::draw::draw;
+use crate::draw_end::DrawEnd;
+use crate::input::{InputEnd, MOST_SLOTS};
+use crate::plot::{PlotEnd, plot};
+use crate::serving::{run_status, serve_status};
+use block_disk::{Back, World};
+use chart_frames::laws::{
+    length_is_told, more_bytes_mend_nothing, one_frame_a_spelling, spellings_are_good,
+};
+use check_command::check_store;
+use command_status::status::{
+    BAD_COEFFICIENT, BAD_INPUT, DISK_FAULT, DONE, FIRST_PAGE, IS_STORE, MISSING, MOST_BYTES,
+    NO_MEMORY, READ_FAULT, SEND_FAULT, TOO_MUCH, TOO_SMALL, UNKNOWN_SESSION,
+};
+use command_status::{Status, ended};
+use demo_command::run_demo;
+use drawn_replies::laws::{one_session_draws_the_book, replies_draw_the_book};
+use load_command::load_series;
+use program_words::Command;
+use std::alloc::Global;
+use store_init::{InitCause, make_store};
+
+/// Does a command with the world's input, output and disk, and says how that ended.
+pub(crate) fn status_of_command<W: World>(
+    alloc: Global,
+    command: Command,
+    mut world: W,
+) -> (Status, W)
+    requires { HasOperands command }
+    ensures { CommandEnds command (W.view world) (W.view result.1) (W.left world) (W.left result.1) (W.sent world) (W.sent result.1) (faults_of (W.read_faults world) (W.read_faults result.1) (W.send_faults world) (W.send_faults result.1)) result.0.code result.0.place }
+{
+    match command {
+        Command::Plot { w, h } => {
+            let status = plot_status(alloc, w, h, &mut world);
+            (status, world)
+        }
+        Command::Load { name } => load_series(alloc, &name, world),
+        Command::Demo { seed, count } => run_demo(alloc, seed, count, world),
+        Command::Run => run_status(alloc, world),
+        Command::Serve => serve_status(alloc, world),
+        Command::Draw => {
+            let status = draw_status(alloc, &mut world);
+            (status, world)
+        }
+        Command::Init => init_status(alloc, world),
+        Command::Check => check_store(alloc, world),
+    }
+}
+
+/// Makes the disk an empty store, and says how that ended.
+fn init_status<W: World>(alloc: Global, world: W) -> (Status, W)
+    ensures codes { Contains (DONE ∷ NO_MEMORY ∷ DISK_FAULT ∷ TOO_SMALL ∷ IS_STORE ∷ []) result.0.code }
+    ensures fault { result.0.code ≡ DISK_FAULT → HasRisen (W.view world).faults (W.view result.1).faults }
+    ensures small { result.0.code ≡ TOO_SMALL → IsTooSmall Init (W.view world) result.0.place }
+    ensures there { result.0.code ≡ IS_STORE → IsThere Init (W.view world) result.0.place }
+    ensures place { Contains (DONE ∷ NO_MEMORY ∷ DISK_FAULT ∷ []) result.0.code → result.0.place ≡ 0 }
+    ensures sent { W.sent result.1 ≡ W.sent world }
+    ensures disk { LeavesDisk Init (W.view world) (W.view result.1) }
+    ensures made { result.0.code ≡ DONE → IsMade Init (W.view world) (W.view result.1) }
+    ensures ready { 128 ≤ (W.view world).size → Honest (W.view world) → (HasStore (page_count (W.view world).size) (W.view world).image → ⊥) → (HasRisen (W.view world).faults (W.view result.1).faults → ⊥) → (result.0.code ≡ DONE) ⊎ (result.0.code ≡ NO_MEMORY) }
+{
+    match make_store(alloc, world) {
+        Ok(world) => (ended(DONE, 0), world),
+        Err(Back { value, cause }) => {
+            let status = match cause {
+                InitCause::NoMemory => ended(NO_MEMORY, 0),
+                InitCause::DiskFault => ended(DISK_FAULT, 0),
+                InitCause::TooSmall(blocks) => ended(TOO_SMALL, u64::from(blocks)),
+                InitCause::IsStore => ended(IS_STORE, FIRST_PAGE),
+            };
+            (status, value)
+        }
+    }
+}
+
+/// Sends a plot, and says how that ended.
+fn plot_status<W: World>(alloc: Global, w: u16, h: u16, world: &mut W) -> Status
+    requires wide { IsSide w }
+    requires high { IsSide h }
+    ensures codes { Contains (DONE ∷ NO_MEMORY ∷ READ_FAULT ∷ SEND_FAULT ∷ BAD_INPUT ∷ TOO_MUCH ∷ []) result.code }
+    ensures read { result.code ≡ READ_FAULT → HasRisen (W.read_faults world.old) (W.read_faults world.new) }
+    ensures stopped { result.code ≡ READ_FAULT → IfSome (W.left world.old) (λ input. IfSome (W.left world.new) (StoppedBefore input)) }
+    ensures send { result.code ≡ SEND_FAULT → HasRisen (W.send_faults world.old) (W.send_faults world.new) }
+    ensures bad { result.code ≡ BAD_INPUT → IfSome (W.left world.old) (λ input. FirstBad input result.place) }
+    ensures much { result.code ≡ TOO_MUCH → IfSome (W.left world.old) (λ input. HasTooMuch input result.place) }
+    ensures place { result.code ≢ BAD_INPUT → result.code ≢ TOO_MUCH → result.place ≡ 0 }
+    ensures done { result.code ≡ DONE → IfSome (W.left world.old) (λ input. SendsPlot w h input (W.sent world.old) (W.sent world.new)) }
+    ensures within { result.code ≡ DONE → IfSome (W.left world.old) (λ input. length input ≤ 2 ^ 32) }
+    ensures part { result.code ≡ SEND_FAULT → IfSome (W.left world.old) (λ input. SendsFront w h input (W.sent world.old) (W.sent world.new)) }
+    ensures nothing { result.code ≢ DONE → result.code ≢ SEND_FAULT → W.sent world.new ≡ W.sent world.old }
+    ensures disk { DiskKept (W.view world.old) (W.view world.new) }
+{
+    match plot(alloc, w, h, world) {
+        Ok(()) => ended(DONE, 0),
+        Err(PlotEnd::SendFault) => ended(SEND_FAULT, 0),
+        Err(PlotEnd::Input(InputEnd::NoMemory)) => ended(NO_MEMORY, 0),
+        Err(PlotEnd::Input(InputEnd::ReadFault)) => ended(READ_FAULT, 0),
+        Err(PlotEnd::Input(InputEnd::InputTooLong)) => ended(TOO_MUCH, MOST_BYTES),
+        Err(PlotEnd::Input(InputEnd::BadLine { at })) => ended(BAD_INPUT, at),
+        Err(PlotEnd::Input(InputEnd::TooManySlots)) => ended(TOO_MUCH, MOST_SLOTS as u64),
+    }
+}
+
+/// Sends the pictures of the input's frames, and says how that ended.
+fn draw_status<W: World>(alloc: Global, world: &mut W) -> Status
+    ensures codes { Contains (DONE ∷ NO_MEMORY ∷ READ_FAULT ∷ SEND_FAULT ∷ BAD_INPUT ∷ TOO_MUCH ∷ MISSING ∷ BAD_COEFFICIENT ∷ UNKNOWN_SESSION ∷ []) result.code }
+    ensures read { result.code ≡ READ_FAULT → HasRisen (W.read_faults world.old) (W.read_faults world.new) }
+    ensures send { result.code ≡ SEND_FAULT → HasRisen (W.send_faults world.old) (W.send_faults world.new) }
+    ensures place { Contains (DONE ∷ NO_MEMORY ∷ READ_FAULT ∷ SEND_FAULT ∷ []) result.code → result.place ≡ 0 }
+    ensures done { result.code ≡ DONE → IfSome (W.left world.old) (λ input. DrawsAll input (W.sent world.old) (W.sent world.new)) }
+    ensures within { result.code ≡ DONE → IfSome (W.left world.old) (λ input. length input ≤ 2 ^ 32) }
+    ensures pictures { result.code ≡ DONE → IfSome (W.left world.old) (λ input. DrawsReplies input (W.sent world.old) (W.sent world.new)) }
+    ensures part { result.code ≡ SEND_FAULT → IfSome (W.left world.old) (λ input. StopsAtFrame input (W.sent world.old) (W.sent world.new) draw_end.SendFault) }
+    ensures stopped { result.code ≡ READ_FAULT → IfSome (W.left world.old) (λ input. IfSome (W.left world.new) (λ bytes. DrawsTaken input bytes (W.sent world.old) (W.sent world.new))) }
+    ensures memory { result.code ≡ NO_MEMORY → IfSome (W.left world.old) (λ input. StopsAtFrame input (W.sent world.old) (W.sent world.new) draw_end.NoMemory) }
+    ensures much { result.code ≡ TOO_MUCH → result.place ≡ 2 ^ 32 }
+    ensures past { result.code ≡ TOO_MUCH → IfSome (W.left world.old) (λ input. DrawsWithin input (W.sent world.old) (W.sent world.new)) }
+    ensures bad { result.code ≡ BAD_INPUT → IfSome (W.left world.old) (λ input. IsBadInput Draw (W.view world.old) (W.view world.new) input result.place (W.sent world.old) (W.sent world.new)) }
+    ensures missing { result.code ≡ MISSING → IfSome (W.left world.old) (λ input. Lacks Draw (W.view world.old) input result.place (W.sent world.old) (W.sent world.new)) }
+    ensures misfit { result.code ≡ BAD_COEFFICIENT → IfSome (W.left world.old) (λ input. Misfits Draw (W.view world.old) input result.place (W.sent world.old) (W.sent world.new)) }
+    ensures unopened { result.code ≡ UNKNOWN_SESSION → IfSome (W.left world.old) (λ input. NamesUnopened Draw (W.view world.old) input result.place (W.sent world.old) (W.sent world.new)) }
+    ensures good { IfSome (W.left world.old) (λ input. IsFrames input → Contains (DONE ∷ NO_MEMORY ∷ READ_FAULT ∷ SEND_FAULT ∷ []) result.code) }
+    ensures disk { DiskKept (W.view world.old) (W.view world.new) }
+{
+    one_frame_a_spelling();
+    length_is_told();
+    spellings_are_good();
+    more_bytes_mend_nothing();
+    replies_draw_the_book();
+    one_session_draws_the_book();
+    match draw(alloc, world) {
+        Ok(()) => ended(DONE, 0),
+        Err(DrawEnd::NoMemory) => ended(NO_MEMORY, 0),
+        Err(DrawEnd::ReadFault) => ended(READ_FAULT, 0),
+        Err(DrawEnd::SendFault) => ended(SEND_FAULT, 0),
+        Err(DrawEnd::InputTooLong) => ended(TOO_MUCH, MOST_BYTES),
+        Err(DrawEnd::BadFrame { at }) => ended(BAD_INPUT, at),
+        Err(DrawEnd::Missing { key }) => ended(MISSING, key.number()),
+        Err(DrawEnd::BadCoefficient { key }) => ended(BAD_COEFFICIENT, key.number()),
+        Err(DrawEnd::UnknownSession { session }) => ended(UNKNOWN_SESSION, u64::from(session)),
+    }
+}

@@ -1,0 +1,4 @@
+pub mod Moments
+pub mod Requests
+pub mod Sent
+pub mod Ends

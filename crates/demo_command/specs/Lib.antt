@@ -1,0 +1,2 @@
+pub mod Demonstrated
+pub mod Parts

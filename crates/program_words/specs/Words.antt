@@ -1,0 +1,81 @@
+-- The words of the command line.
+use Rattle.std.specs.Prelude.{◌≡◌, ◌⊎◌, ℕ, ◌+◌, ◌<◌, ◌^◌, true, false, List, [], ◌∷◌, take, codes, slice_get, Some, Result, Ok, Err, IsTrue, ⊤}
+use Rattle.std.specs.Fmt.{decimal}
+use Rattle.chart_grid.specs.Limits.{IsSide}
+use Rattle.series_book.specs.Names.{is_name}
+use Rattle.command_words.specs.Words.{plain_words, has_flag}
+use Rattle.program_words.specs.declared.words.Command.{Command}
+use Rattle.program_words.specs.declared.words.Command.TheVariants.{Plot, Load, Demo, Run, Serve, Draw, Init, Check}
+use Rattle.program_words.specs.declared.words.WordsEnd.{WordsEnd}
+use Rattle.program_words.specs.declared.words.WordsEnd.TheVariants.{Wrong, NoMemory}
+
+-- the first word of a command
+abbrev pub word_of : Command → List ℕ
+word_of (Plot w h) = codes "plot"
+word_of (Load name) = codes "load"
+word_of (Demo seed count) = codes "demo"
+word_of Run = codes "run"
+word_of Serve = codes "serve"
+word_of Draw = codes "draw"
+word_of Init = codes "init"
+word_of Check = codes "check"
+
+-- a command of one word
+abbrev pub IsSingle : Command → Type 0
+IsSingle (Plot w h) = ⊥
+IsSingle (Load name) = ⊥
+IsSingle (Demo seed count) = ⊥
+IsSingle Run = ⊤
+IsSingle Serve = ⊤
+IsSingle Draw = ⊤
+IsSingle Init = ⊤
+IsSingle Check = ⊤
+
+-- the words spell the command: `plot W H`, two numbers from 1 to 4,096; `load NAME`; `demo SEED N`, a number below 2^64 and
+-- one from 1 to 4,096; or `run`, `serve`, `draw`, `init` or `check`
+abbrev pub Spells : Command → List (List ℕ) → Type 0
+Spells (Plot w h) words = (words ≡ codes "plot" ∷ decimal w ∷ decimal h ∷ []) × IsSide w × IsSide h
+Spells (Load name) words = (words ≡ codes "load" ∷ name ∷ []) × IsTrue (is_name name)
+Spells (Demo seed count) words = (words ≡ codes "demo" ∷ decimal seed ∷ decimal count ∷ []) × (seed < 2 ^ 64) × IsSide count
+Spells Run words = words ≡ codes "run" ∷ []
+Spells Serve words = words ≡ codes "serve" ∷ []
+Spells Draw words = words ≡ codes "draw" ∷ []
+Spells Init words = words ≡ codes "init" ∷ []
+Spells Check words = words ≡ codes "check" ∷ []
+
+-- the first words, so many of them, are those that some command begins with
+pub record Begins (count : ℕ) (words : List (List ℕ)) : Type 0 where
+  pub command : Command
+  pub spelling : List (List ℕ)
+  pub spells : Spells command spelling
+  pub same : take count words ≡ take count spelling
+
+-- the first wrong word, or the number of words where one is missing: some command begins with the words
+-- before it, and none with these and it
+pub record IsWrongAt (place : ℕ) (words : List (List ℕ)) : Type 0 where
+  pub before : Begins place words
+  pub here : Begins (place + 1) words → ⊥
+
+-- why words aren't those of a command
+abbrev pub IsWrongBy : WordsEnd → List (List ℕ) → Type 0
+IsWrongBy (Wrong place) words = IsWrongAt place words
+IsWrongBy NoMemory words = ⊤
+
+-- why the word at a place isn't read as a number below 2^64
+abbrev pub HasNoSeed : ℕ → List (List ℕ) → WordsEnd → Type 0
+HasNoSeed place words (Wrong at) = (at ≡ place) × ((seed : ℕ) → seed < 2 ^ 64 → slice_get words place ≡ Some (decimal seed) → ⊥)
+HasNoSeed place words NoMemory = ⊤
+
+-- the place of the first wrong word, as an end
+abbrev pub placed : {T : Type 0} → Result T ℕ → Result T WordsEnd
+placed (Ok command) = Ok command
+placed (Err place) = Err (Wrong place)
+
+-- a word is a flag, which is wrong at 0; or the command and its operands aren't those of a command
+abbrev pub IsWrong : ℕ → List (List ℕ) → Type 0
+IsWrong place words = ((has_flag words ≡ true) × (place ≡ 0)) ⊎ ((has_flag words ≡ false) × IsWrongAt place (plain_words words))
+
+-- why words aren't taken
+abbrev pub EndsWords : WordsEnd → List (List ℕ) → Type 0
+EndsWords (Wrong place) words = IsWrong place words
+EndsWords NoMemory words = ⊤
