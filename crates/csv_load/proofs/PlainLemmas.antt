@@ -1,5 +1,5 @@
 -- How `csv` reads a line without quotes.
-use Rattle.std.proofs.Common.{◌≡◌, ℕ, suc, true, false, List, [], ◌∷◌, ◌++◌, Option, None, Some, refl, ap, sym, ◌∙◌, append_assoc, arith}
+use Rattle.std.proofs.Common.{◌≡◌, ℕ, suc, true, false, List, [], ◌∷◌, ◌++◌, Option, None, Some, refl, ap, sym, subst, ◌∙◌, append_assoc, arith}
 use Rattle.std.specs.List.{AllPass}
 use Rattle.std.specs.Prelude.{option_map, option_and_then, if◌then◌else◌, slice_index, ◌≢◌, ◌==◌}
 use Rattle.std.proofs.lemmas.Bool.Decides.{nat_tests}
@@ -125,3 +125,10 @@ unfolding fields_of_line
 marked_fields line other =
     let fields : List ℕ → Option Fields = λ text. option_map trimmed_fields (option_and_then pair_of (only_record (records default_config text))) in
     ap fields (drops_mark line ∙ sym (unmarked line other))
+
+-- the fields of such a line, found at its comma
+pub plain_line : (line time value : List ℕ) → line ≡ time ++ 44 ∷ value → AllPass is_plain time → AllPass is_plain value → slice_index line 0 ≢ 0xEF
+    → fields_of_line line ≡ Some (record { time = trimmed time; value = trimmed value })
+plain_line line time value is plain_time plain_value other =
+    let P : List ℕ → Type 0 = λ l. slice_index l 0 ≢ 0xEF in
+    ap fields_of_line is ∙ plain_fields time value plain_time plain_value (subst P is other)

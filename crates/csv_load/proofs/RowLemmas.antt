@@ -1,9 +1,12 @@
 -- From the fields of a line to its row.
-use Rattle.std.proofs.Common.{◌≡◌, ℕ, List, Option, None, Some, option_map, sym, ap, subst, ◌∙◌}
+use Rattle.std.proofs.Common.{◌≡◌, ℕ, List, Option, None, Some, Result, Ok, Err, option_map, sym, ap, subst, ◌∙◌}
+use Rattle.std.specs.Prelude.{IfOk, IfErr}
 use Rattle.std.specs.Option.{IsSomeAnd, option_and_then}
 use Rattle.csv.specs.Reading.{records, default_config, strip_bom}
 use Rattle.csv_load.specs.Fields.{Fields, only_record, pair_of, trimmed, trimmed_fields, fields_of_line}
-use Rattle.csv_load.specs.Rows.{FieldsSay, FieldsFail, Says, Fails}
+use Rattle.csv_load.specs.declared.row.RowError.{RowError}
+use Rattle.csv_load.specs.declared.row.RowError.TheVariants.{BadRow, NoMemory}
+use Rattle.csv_load.specs.Rows.{IsBadFields, Refuses, FieldsSay, FieldsFail, Says, Fails}
 use Rattle.csv_load.specs.declared.row.Row.{Row}
 use Rattle.csv_load.specs.declared.row.RowCause.{RowCause}
 use Rattle.csv_load.specs.declared.row.RowCause.TheVariants as cause
@@ -43,3 +46,15 @@ fails_at scale line fields cause.Time is fails =
 fails_at scale line fields cause.Value is fails =
     let P : Option Fields → Type 0 = λ o. IsSomeAnd o (λ f. FieldsFail scale f cause.Value) in
     subst P (sym is) fails
+
+pub refuses_at : (scale : ℕ) (line : List ℕ) (fields : Fields) (error : RowError) → fields_of_line line ≡ Some fields → IsBadFields scale fields error → Refuses scale line error
+refuses_at scale line fields (BadRow why) is fails = fails_at scale line fields why is fails
+refuses_at scale line fields NoMemory is fails = absurd fails
+
+pub says_in : (scale : ℕ) (line : List ℕ) (fields : Fields) (result : Result Row RowError) → fields_of_line line ≡ Some fields → IfOk result (λ row. FieldsSay scale fields row) → IfOk result (λ row. Says scale line row)
+says_in scale line fields (Ok row) is says = says_at scale line fields row is says
+says_in scale line fields (Err error) is says = tt
+
+pub refuses_in : (scale : ℕ) (line : List ℕ) (fields : Fields) (result : Result Row RowError) → fields_of_line line ≡ Some fields → IfErr result (λ error. IsBadFields scale fields error) → IfErr result (λ error. Refuses scale line error)
+refuses_in scale line fields (Ok row) is fails = tt
+refuses_in scale line fields (Err error) is fails = refuses_at scale line fields error is fails

@@ -46,3 +46,8 @@ Fails scale line cause.Value = IsSomeAnd (fields_of_line line) (λ fields. Field
 abbrev pub Refuses : ℕ → List ℕ → RowError → Type 0
 Refuses scale line (BadRow cause) = Fails scale line cause
 Refuses scale line NoMemory = ⊤
+
+-- why two fields give no row
+abbrev pub IsBadFields : ℕ → Fields → RowError → Type 0
+IsBadFields scale fields (BadRow cause) = FieldsFail scale fields cause
+IsBadFields scale fields NoMemory = ⊥

@@ -1,8 +1,8 @@
-ghost use Rattle.std.specs.Prelude.{◌≡◌, ◌≤◌, length, option_map, IfOk, IfErr};
-ghost use Rattle.std.specs.List.{prefix_len, suffix_len};
+ghost use Rattle.std.specs.Prelude.{◌≡◌, ◌≢◌, ◌≤◌, ◌∷◌, ◌++◌, length, option_map, slice_index, IfOk, IfErr, IfSome, IsTrue};
+ghost use Rattle.std.specs.List.{prefix_len, suffix_len, AllPass};
 ghost use Rattle.csv.specs.Reading.{records, default_config, strip_bom};
 ghost use Rattle.csv.specs.Records.{fields_of};
-ghost use Rattle.csv_load.specs.Fields.{only_record, pair_of, is_space, trimmed};
+ghost use Rattle.csv_load.specs.Fields.{only_record, pair_of, is_plain, is_space, trimmed};
 ghost use Rattle.csv_load.specs.declared.row.RowError.TheVariants.{NoMemory};
 
 use crate::row::RowError;
@@ -34,6 +34,30 @@ pub(crate) fn only_record(alloc: Global, line: &[u8]) -> Result<Option<ByteRecor
         return Ok(None);
     }
     Ok(Some(first))
+}
+
+/// The bytes before and behind the comma of a line with one comma, in which no other byte means anything to
+/// `csv`, and at whose front no byte order mark stands. They are the fields that `csv` reads of it.
+pub(crate) fn plain_pair(line: &[u8]) -> Option<(&[u8], &[u8])>
+    ensures pair { IfSome result (λ pair. line.now ≡ pair.0.now ++ 44 ∷ pair.1.now) }
+    ensures time { IfSome result (λ pair. AllPass is_plain pair.0.now) }
+    ensures value { IfSome result (λ pair. AllPass is_plain pair.1.now) }
+    ensures unmarked { IfSome result (λ pair. slice_index line.now 0 ≢ 0xEF) }
+{
+    let at = line.iter().position(|byte| *byte == b',')?;
+    let time = &line[..at];
+    let value = &line[at + 1..];
+    if line[0] == 0xEF || !are_plain(time) || !are_plain(value) {
+        return None;
+    }
+    Some((time, value))
+}
+
+/// Whether no byte means anything to `csv`.
+fn are_plain(bytes: &[u8]) -> bool
+    ensures { IsTrue result → AllPass is_plain bytes.now }
+{
+    bytes.iter().all(|byte| *byte != b',' && *byte != b'"' && *byte != b'\n' && *byte != b'\r')
 }
 
 /// The fields of a record that has two fields.

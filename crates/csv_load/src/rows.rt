@@ -1,9 +1,9 @@
 ghost use Rattle.std.specs.Prelude.{IfOk, IfErr};
-ghost use Rattle.csv_load.specs.Fields.{Fields};
-ghost use Rattle.csv_load.specs.Rows.{Says, Refuses, FieldsSay, FieldsFail};
+ghost use Rattle.csv_load.specs.Fields.{Fields, trimmed};
+ghost use Rattle.csv_load.specs.Rows.{Says, Refuses, FieldsSay, FieldsFail, IsBadFields};
 
 use crate::decimals::decimal;
-use crate::fields::{only_record, pair_of, trimmed};
+use crate::fields::{only_record, pair_of, plain_pair, trimmed};
 use crate::row::{Row, RowCause, RowError};
 use std::alloc::Global;
 use whole_number::integer;
@@ -22,12 +22,23 @@ pub fn parse_row(alloc: Global, line: &[u8], scale: u8) -> Result<Row, RowError>
     ensures row { IfOk result (λ row. Says scale line.now row) }
     ensures error { IfErr result (λ error. Refuses scale line.now error) }
 {
+    if let Some((time, value)) = plain_pair(line) {
+        return row_of_fields(time, value, scale);
+    }
     let Some(record) = only_record(alloc, line)? else {
         return Err(RowError::BadRow(RowCause::Fields));
     };
     let Some((time, value)) = pair_of(&record) else {
         return Err(RowError::BadRow(RowCause::Fields));
     };
+    row_of_fields(time, value, scale)
+}
+
+/// The row that two fields are without the spaces at their ends, or the first thing that is wrong with them.
+fn row_of_fields(time: &[u8], value: &[u8], scale: u8) -> Result<Row, RowError>
+    ensures row { IfOk result (λ row. FieldsSay scale (record { time = trimmed time.now; value = trimmed value.now }) row) }
+    ensures error { IfErr result (λ error. IsBadFields scale (record { time = trimmed time.now; value = trimmed value.now }) error) }
+{
     match row_of(trimmed(time), trimmed(value), scale) {
         Ok(row) => Ok(row),
         Err(cause) => Err(RowError::BadRow(cause)),

@@ -1,0 +1,2 @@
+for time in range(5633):
+    print(time, 0, sep=",")
