@@ -1,6 +1,4 @@
-START = 0
-COUNT = 128
-if START == 0:
-    print("create a 0 1 0")
-for begin in range(START, START + COUNT, 256):
-    print("append a", *range(begin, min(begin + 256, START + COUNT)))
+from golden_data import append_lines
+
+print("create a 0 1 0")
+print(*append_lines("a", 0, 128), sep="\n")

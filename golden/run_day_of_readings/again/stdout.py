@@ -1,12 +1,6 @@
 import sys
 
-HEAD = b"P4\n675 300\n"
-STEP = (
-    bytes(42) + b"\x7f" + b"\xff" * 41 + b"\xe0"
-    + (bytes(42) + b"\x40" + bytes(42)) * 298
-    + b"\xff" * 42 + b"\xc0" + bytes(42)
-)
-FLAT = bytes(85 * 299) + b"\xff" * 84 + b"\xe0"
+from golden_data import FLAT, HEAD, STEP
 
 out = sys.stdout.buffer
 out.write(b"opened 1 65536\n")
