@@ -33,6 +33,3 @@ pub use no_memory::NoMemory;
 pub use streams::Streams;
 pub use tear::Tear;
 pub use world::World;
-
-#[cfg(test)]
-mod tests;

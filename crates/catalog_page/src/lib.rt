@@ -20,8 +20,6 @@ mod places;
 mod rules;
 mod series_record;
 mod setting;
-#[cfg(test)]
-mod tests;
 
 pub use catalog_view::CatalogView;
 pub use errors::{BadCatalog, BadField};

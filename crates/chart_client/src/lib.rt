@@ -25,8 +25,6 @@ mod lookup;
 mod screen;
 mod search;
 mod show;
-#[cfg(test)]
-mod tests;
 
 pub use client::Client;
 pub use errors::{ClientError, NoMemory};

@@ -26,8 +26,6 @@ mod limits;
 mod opening;
 mod place;
 mod rows;
-#[cfg(test)]
-mod tests;
 
 pub use decoder::Decoder;
 pub use encoding::encode;

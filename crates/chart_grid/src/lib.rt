@@ -17,8 +17,6 @@ mod grid_error;
 mod height;
 pub mod laws;
 mod share;
-#[cfg(test)]
-mod tests;
 mod times;
 
 pub use axis::Axis;

@@ -1,19 +1,15 @@
 -- The codes of a run, and when they can't come.
-use Rattle.std.proofs.Common.{◌≡◌, ℕ, ℤ, zero, suc, ◌⊎◌, List, [], ◌∷◌, ◌++◌, length, map, Option, Some, None, ap, subst, inl, inr, sym, ◌∙◌, arith, length-append}
+use Rattle.std.proofs.Common.{◌≡◌, ℕ, ℤ, zero, suc, ◌⊎◌, List, [], ◌∷◌, ◌++◌, length, map, Option, Some, None, ap, inl, inr, sym, ◌∙◌, arith, length-append}
 use Rattle.std.specs.Prelude.{Contains, All, true, IfSome, if◌then◌else◌}
 use Rattle.std.specs.List.{filter}
 use Rattle.std.proofs.lemmas.List.{length-map}
 use Rattle.std.proofs.lemmas.List.Elements.{filter-append, All-head, All-tail}
 use Rattle.chart_world.specs.Lines.{lines}
 use Rattle.chart_world.proofs.LineLaws.{lines_none}
-use Rattle.block_disk.specs.View.{View}
 use Rattle.plain_chart.specs.Samples.{IsSlot}
+use Rattle.chart_service.proofs.Joined.{lines_joined}
 use Rattle.chart_program.specs.Slots.{says, spelling, SpellsSlot, IsWhole, Behind, FirstBad, HasTooMany}
-use Rattle.program_words.specs.declared.words.Command.{Command}
-use Rattle.program_words.specs.declared.words.Command.TheVariants.{Plot, Draw}
-use Rattle.program_words.specs.Words.{Spells}
-use Rattle.chart_program.specs.Ran.{HasTooMuch, IsSlots, IsFrames, IsInput}
-use Rattle.chart_program.proofs.Joined.{lines_joined}
+use Rattle.chart_program.specs.Ran.{HasTooMuch, IsSlots, IsFrames}
 use Rattle.chart_program.proofs.Ending.{says_true}
 
 some_line : (rest : List ℕ) (line : Option (List ℕ)) (later : List (Option (List ℕ))) → lines rest ≡ line ∷ later → rest ≡ [] → ⊥

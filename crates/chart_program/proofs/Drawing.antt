@@ -18,14 +18,11 @@ use Rattle.chart_frames.specs.Stream.{Takes, Answers, IsPartial}
 use Rattle.chart_client.specs.declared.holding.Holding.{Holding}
 use Rattle.chart_client.specs.Accepting.{Accepts}
 use Rattle.drawn_replies.specs.Pictures.{AcceptsAll}
+use Rattle.chart_service.proofs.Joined.{append_none}
 use Rattle.chart_program.specs.Texts.{picture_bytes}
 use Rattle.chart_program.specs.declared.draw_end.DrawEnd.{DrawEnd}
 use Rattle.chart_program.specs.declared.draw_end.DrawEnd.TheVariants.{NoMemory, ReadFault, SendFault, InputTooLong, BadFrame, Missing, BadCoefficient, UnknownSession}
 use Rattle.chart_program.specs.Draws.{DrawsMore, DrawsFirst, DrawsFrame, FrameStops, NextStops, HoldingStops, FramesStop, PieceStops, EndsDraw, DrawsAll, DrawsTaken, DrawsWithin, IsCut, IsFront, StopsAtFrame, fed, frame_end}
-
-append_none : {X : Type 0} (xs : List X) → xs ++ [] ≡ xs
-append_none [] = refl
-append_none (x ∷ xs) = ap (λ l. x ∷ l) (append_none xs)
 
 sent_none : (before : Option (List ℕ)) → before ≡ sent_after [] before
 sent_none None = refl

@@ -11,19 +11,15 @@ use Rattle.chart_world.specs.declared.line_answer.LineFault.{LineFault}
 use Rattle.chart_world.specs.declared.line_answer.LineFault.TheVariants as fault
 use Rattle.chart_world.specs.Lines.{lines}
 use Rattle.chart_world.specs.Reading.{Reading, unread_input, unread, told_lines, with_first, behind_first, input_length, NoLineIn}
-use Rattle.chart_world.proofs.LineLaws.{lines_none, lines_first}
+use Rattle.chart_world.proofs.LineLaws.{lines_none}
 use Rattle.plain_chart.specs.Samples.{IsSlot}
+use Rattle.chart_service.proofs.Joined.{append_none}
+use Rattle.chart_service.proofs.Progress.{told_so, no_rest}
 use Rattle.chart_program.specs.declared.input.InputEnd.{InputEnd}
 use Rattle.chart_program.specs.declared.input.InputEnd.TheVariants.{NoMemory, ReadFault, InputTooLong, BadLine, TooManySlots}
 use Rattle.chart_program.specs.Slots.{says, spelling, SpellsSlot, SpellsAll, IsBad, FirstBad, HasTooMany, IsTooLong, StoppedBefore, most_slots}
 use Rattle.chart_program.specs.Reads.{end_of, AddsLine, Overflows, IsNotAdded, Stops}
-use Rattle.chart_program.proofs.Joined.{append_none}
 use Rattle.chart_program.proofs.Progress.{Progress, progress_more, first_told}
-
--- what holds of the input, where it is told
-pub told_so : (P Q : List ℕ → Type 0) (o : Option (List ℕ)) → ((input : List ℕ) → P input → Q input) → IfSome o P → IfSome o Q
-told_so P Q None more h = tt
-told_so P Q (Some input) more h = more input h
 
 no_lines : SpellsAll [] []
 no_lines = record { texts = ap (filter says) lines_none; in_range = All-nil IsSlot }
@@ -45,10 +41,6 @@ start_so o r slots fresh none =
     let P : Reading → Type 0 = λ x. IfSome o (λ input. Progress input (unread x o) x.given slots) in
     let Q : List (Option ℤ) → Type 0 = λ s. IfSome o (λ input. Progress input (unread unread_input o) 0 s) in
     subst P (sym fresh) (subst Q (sym none) (start_told o))
-
-no_rest : (rest : List ℕ) → lines rest ≡ [] → rest ≡ []
-no_rest [] none = refl
-no_rest (b ∷ bs) none = let first = lines_first (b ∷ bs) (λ e. cc) in cc
 
 end_at : (input : List ℕ) (bytes : Option (List ℕ)) (given : ℕ) (slots : List (Option ℤ)) → IfSome (told_lines bytes) (λ all. all ≡ []) → Progress input bytes given slots → SpellsAll input slots
 end_at input bytes given slots none p =

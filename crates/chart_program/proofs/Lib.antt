@@ -1,13 +1,13 @@
-pub mod Joined
 pub mod Entries
 pub mod Progress
 pub mod Ending
+pub mod Apart
 pub mod Codes
 pub mod DiskKept
 pub mod Drawing
-pub mod Answering
 pub mod Running
 pub mod Moments
+pub mod RunEnds
 pub mod RunStands
 pub mod Telling
 pub mod Parsing
@@ -21,3 +21,4 @@ pub mod CommandCodes
 pub mod CommandsEnd
 pub mod LivesLemmas
 pub mod Knowing
+pub mod Statuses

@@ -21,6 +21,8 @@ use Rattle.chart_service.specs.Serving as serving
 use Rattle.chart_service.specs.Stepping.{StandsAfter, state_of}
 use Rattle.chart_service.specs.declared.failure.ServeEnd.{ServeEnd}
 use Rattle.chart_service.specs.declared.failure.ServeEnd.TheVariants as serve_end
+use Rattle.chart_service.proofs.Moments.{since_none}
+use Rattle.chart_service.proofs.Progress.{told_so}
 use Rattle.chart_program.specs.declared.run_end.RunEnd.{RunEnd}
 use Rattle.chart_program.specs.declared.run_end.RunEnd.TheVariants as run_end
 use Rattle.chart_program.specs.Runs.{AreShown, AreShownFrom, EndsRun, EndsAtBad, IsShown}
@@ -29,8 +31,6 @@ use Rattle.command_status.specs.Books.{OfBook}
 use Rattle.command_status.specs.Books.{begun}
 use Rattle.chart_program.proofs.Lowering.{crash_for, serve_ends, text_ends, leaves_lowered}
 use Rattle.command_status.proofs.Held.{stands_held, from_book}
-use Rattle.chart_program.proofs.Answering.{told_so}
-use Rattle.chart_program.proofs.Moments.{since_none}
 use Rattle.chart_program.proofs.RunStands.{after_so}
 use Rattle.chart_program.specs.Known.{EndsKnown}
 use Rattle.chart_program.proofs.Knowing.{holds_of, never_unknown}

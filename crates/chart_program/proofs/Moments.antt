@@ -1,9 +1,8 @@
 -- What a crash leaves at each moment of a run.
-use Rattle.std.proofs.Common.{◌≡◌, ℕ, ◌+◌, ◌≤◌, ◌⊎◌, List, [], ◌∷◌, ◌++◌, length, Option, Some, IfSome, subst, inl, inr, sym, ◌∙◌, arith, length-append}
+use Rattle.std.proofs.Common.{◌≡◌, ℕ, ◌+◌, ◌≤◌, ◌⊎◌, List, [], ◌∷◌, ◌++◌, length, Option, subst, inl, inr, sym, ◌∙◌, arith}
 use Rattle.std.specs.List.{after_first}
 use Rattle.std.proofs.lemmas.Bool.{cases_lt}
-use Rattle.block_disk.specs.Streams.{sent_after}
-use Rattle.block_disk.specs.View.{Image, View, Now, Passes, sent_now}
+use Rattle.block_disk.specs.View.{Image, View, Passes}
 use Rattle.chart_world.specs.Lines.{is_line_feed, lines}
 use Rattle.chart_world.specs.Reading.{Reading, unread}
 use Rattle.chart_frames.specs.declared.frame.Frame.{Frame}
@@ -14,10 +13,10 @@ use Rattle.stored_book.specs.Standing.{StandsForBook}
 use Rattle.chart_service.specs.State.{State}
 use Rattle.chart_service.specs.Serving.{told, Answers}
 use Rattle.chart_service.specs.Moments.{Since, IsAhead, SendsReply}
+use Rattle.chart_service.proofs.Progress.{Progress, Gives, passes}
 use Rattle.chart_program.specs.Runs.{Gives as ShowGives, AreShown, AreShownFrom}
 use Rattle.chart_program.specs.Sending.{Through, ReplySent, LineNext, LineMoments}
 use Rattle.chart_program.specs.Texts.{text_of}
-use Rattle.chart_program.proofs.Answering.{Progress, Gives, passes}
 use Rattle.chart_program.proofs.Running.{shown_more}
 
 -- ---- moments in a row
@@ -59,24 +58,7 @@ since_then old mid new IsSo first second = record {
   ];
 }
 
-pub since_none : (at : View) (IsSo : Image → ℕ → Type 0) → ((image : Image) → Now at image → IsSo image (sent_now at)) → Since at at IsSo
-since_none at IsSo now = record {
-  goes = goes_none at;
-  here = λ time image low high left.
-      let same : time ≡ at.clock = omega (arith, low, high) in
-      let P : ℕ → Type 0 = λ t. at.crash t image in
-      let Q : ℕ → Type 0 = λ t. IsSo image (at.sent_by t) in
-      subst Q (sym same) (now image (subst P same left));
-}
-
 -- ---- how far the run has come
-
--- so many bytes were sent
-pub sent_is : (bytes text : List ℕ) (now : Option (List ℕ)) (from count : ℕ) → from ≡ length bytes → now ≡ sent_after text (Some bytes) → IfSome now (λ all. count ≡ length all) → count ≡ from + length text
-sent_is bytes text now from count begins is counts =
-    let P : Option (List ℕ) → Type 0 = λ o. IfSome o (λ all. count ≡ length all) in
-    let all : count ≡ length (bytes ++ text) = subst P is counts in
-    omega (arith, all, begins, length-append bytes text)
 
 module _ {V : Type 0} (gives : ShowGives V) (v w : V) (input : List ℕ) (bytes : Option (List ℕ)) (given total from : ℕ) (old state : State) (before now : Option (List ℕ)) (p : Progress (AreShown gives v w) input bytes given old state before now) (total_is : state.total ≡ total) where
   any_answers : Answers (AreShownFrom gives v) p.front p.text old state

@@ -1,7 +1,7 @@
 -- What the sending of a frame's text moves.
 use Rattle.std.proofs.Common.{◌≡◌, ℕ, ◌+◌, ◌≤◌, ◌<◌, List, length, Option, Some, None, Ok, refl, ap, subst, inl, inr, sym, ◌∙◌, arith}
 use Rattle.std.specs.Prelude.{true, Result, Err, OnOk, IfErr}
-use Rattle.block_disk.specs.View.{Image, View, Now, Only, Passes, DiskKept, sent_now}
+use Rattle.block_disk.specs.View.{Image, View, Now, Only, Passes, sent_now}
 use Rattle.chart_client.specs.declared.show.Shown.{Shown}
 use Rattle.chart_frames.specs.declared.frame.Frame.{Frame}
 use Rattle.chart_frames.specs.Frames.{Fits, spelling}
@@ -16,16 +16,17 @@ use Rattle.series_book.specs.declared.refusals.Refusal.TheVariants.{LineTooLong}
 use Rattle.chart_service.specs.State.{State, IsSound}
 use Rattle.chart_service.specs.Replies.{Replied, line_text, refused}
 use Rattle.chart_service.specs.Serving.{says, Serves, end_of_step}
-use Rattle.chart_service.specs.Stepping.{StandsAfter, IsBeforeOrAfter, IsOutside, IsUnchangedFor, NamesBad, Steps, state_of}
+use Rattle.chart_service.specs.Stepping.{StandsAfter, IsBeforeOrAfter, IsOutside, IsUnchangedFor, NamesBad, state_of}
 use Rattle.chart_service.specs.declared.failure.ServiceError.{ServiceError}
 use Rattle.chart_service.specs.declared.failure.ServiceError.TheVariants as step
 use Rattle.chart_service.specs.declared.failure.ServeEnd.TheVariants.{ReadFault, SendFault, DiskFault, Damaged, InputTooLong, NoMemory}
+use Rattle.chart_service.proofs.DiskKept.{kept_none}
+use Rattle.chart_service.proofs.Sending.{text_is}
 use Rattle.chart_program.specs.declared.run_end.RunEnd.{RunEnd}
 use Rattle.chart_program.specs.declared.run_end.RunEnd.TheVariants.{Serve, Show}
 use Rattle.chart_program.specs.Runs.{Gives as ShowGives, ShowsFrame, ShowStops, TextStops, LineDone, LineStopsAt, LineStops, IsReplyEnd, EndsAtBad}
 use Rattle.chart_program.specs.Sending.{Through, ReplySent, ReplyMoments, LineMoments, KeptBeside, Beside, beside_of}
 use Rattle.chart_program.specs.Texts.{text_of}
-use Rattle.chart_program.proofs.DiskKept.{kept_none}
 use Rattle.chart_program.proofs.Moments.{through_by, through_so, through_then}
 use Rattle.chart_program.proofs.RunStands.{after_so}
 
@@ -55,40 +56,6 @@ serves_kept told told' old new under under' beside beside' kept = record {
   writes = omega (arith, kept.disk.writes);
 }
 
--- a call beside the disk
-pub serves_disk : (told told' : Type 0) (old new : View) → DiskKept old new → (told → told') → (told' → told) → Serves told told' old new
-serves_disk told told' old new kept on back = record {
-  told = on;
-  was_told = back;
-  size = kept.size;
-  faults = omega (arith, kept.faults);
-  syncs = omega (arith, kept.syncs);
-  writes = omega (arith, kept.writes);
-}
-
-pub serves_none : (told : Type 0) (at : View) → Serves told told at at
-serves_none told at = record { told = λ t. t; was_told = λ t. t; size = refl; faults = omega arith; syncs = omega arith; writes = omega arith }
-
-pub serves_step : (told told' : Type 0) (old new : View) → Steps told told' old new → Serves told told' old new
-serves_step told told' old new steps = record {
-  told = steps.told;
-  was_told = steps.was_told;
-  size = steps.size;
-  faults = steps.faults;
-  syncs = steps.syncs.low;
-  writes = steps.writes.low;
-}
-
-pub serves_then : (told told' told'' : Type 0) (old mid new : View) → Serves told told' old mid → Serves told' told'' mid new → Serves told told'' old new
-serves_then told told' told'' old mid new first second = record {
-  told = λ t. second.told (first.told t);
-  was_told = λ t. first.was_told (second.was_told t);
-  size = second.size ∙ first.size;
-  faults = omega (arith, first.faults, second.faults);
-  syncs = omega (arith, first.syncs, second.syncs);
-  writes = omega (arith, first.writes, second.writes);
-}
-
 -- ---- the moments of a line
 
 -- while its request is answered
@@ -113,9 +80,6 @@ reply_moments gives v line frame start after from old new said replied only stan
     moments
 
 -- ---- a line and its reply
-
-pub text_is : (text : List ℕ) → length text ≤ 8192 → line_text text ≡ Some text
-text_is text short = grind (arith)
 
 -- what is answered, behind a reply that leaves the pages
 pub replied_kept : (text : List ℕ) (frame : Frame) (total : ℕ) (first : State) (image image' : Image) (sessions sessions' : List Session) → length text ≤ 8192 → image' ≡ image → sessions' ≡ sessions

@@ -1,6 +1,5 @@
 -- How far `run_on` has come, over pages that stand for a book.
-use Rattle.std.proofs.Common.{◌≡◌, ℕ, ◌+◌, ◌-◌, ◌^◌, ◌<◌, ◌≤◌, List, [], ◌++◌, length, Option, Some, None, Result, Ok, Err, IfSome, length-append, refl, ap, subst, sym, ◌∙◌, arith}
-use Rattle.std.specs.Prelude.{IfErr, IsErrAnd}
+use Rattle.std.proofs.Common.{◌≡◌, ℕ, ◌+◌, ◌-◌, ◌^◌, ◌<◌, List, [], length, Option, Some, None, IfSome, refl, subst, sym, ◌∙◌}
 use Rattle.block_disk.specs.Streams.{left_after}
 use Rattle.block_disk.specs.View.{Image, View, Now, Only, Passes, sent_now}
 use Rattle.chart_world.specs.declared.line_answer.LineFault.{LineFault}
@@ -14,30 +13,14 @@ use Rattle.chart_service.specs.Moments.{Since, IsAhead}
 use Rattle.chart_service.specs.Serving.{SendsText, SendsLines, end_of}
 use Rattle.chart_service.specs.Stepping.{StandsAfter, state_of}
 use Rattle.chart_service.specs.declared.failure.ServeEnd.TheVariants.{ReadFault, SendFault, DiskFault, Damaged, InputTooLong, NoMemory}
+use Rattle.chart_service.proofs.Moments.{since_none, sent_is}
+use Rattle.chart_service.proofs.Progress.{Progress, Gives, starts, done, first_at, told_so}
 use Rattle.chart_program.specs.declared.run_end.RunEnd.{RunEnd}
 use Rattle.chart_program.specs.declared.run_end.RunEnd.TheVariants.{Serve, Show}
 use Rattle.chart_program.specs.Runs.{Gives as ShowGives, AreShown, AreShownFrom, EndsRunAt, EndsRun, LineDone, LineStopsAt, LineStops, LongLineDone, LongLineStops}
 use Rattle.chart_program.specs.Sending.{Through, LineMoments}
-use Rattle.chart_program.proofs.Answering.{Progress, Gives, starts, done, first_at, told_so, no_rest}
-use Rattle.chart_program.proofs.Moments.{through_by, through_so, since_then, since_none, sent_is, at_rest, at_line}
+use Rattle.chart_program.proofs.Moments.{through_by, through_so, since_then, at_rest, at_line}
 use Rattle.chart_program.proofs.Running.{line_done, long_line_done, lines_fault, line_stops, long_line_stops, no_memory}
-
--- an error that is passed on
-pub error_is : {T E : Type 0} (r : Result T E) (e : E) → IsErrAnd r (λ x. x ≡ e) → r ≡ Err e
-error_is (Ok v) e is = absurd is
-error_is (Err x) e is = ap Err is
-
-pub error_goes : {T E : Type 0} (Q : E → Type 0) (r : Result T E) (from : E) → IsErrAnd r (λ e. e ≡ from) → Q from → IfErr r Q
-error_goes Q (Ok v) from is so = tt
-error_goes Q (Err e) from is so = subst Q (sym is) so
-
--- an input that was read to its end has no more bytes than the lines that were given
-pub read_whole : (o left : Option (List ℕ)) (r : Reading) (most : ℕ) → IfSome (told_lines (unread r left)) (λ all. all ≡ []) → r.taken ≡ r.given + length r.pending → r.given ≤ most → input_length r.taken left ≡ input_length 0 o → IfSome o (λ input. length input ≤ most)
-read_whole None left r most none counted few whole = tt
-read_whole (Some input) None r most none counted few whole = cc
-read_whole (Some input) (Some l) r most none counted few whole =
-    let sum : r.taken + length l ≡ 0 + length input = cc in
-    omega (arith, sum, counted, few, ap length (no_rest (r.pending ++ l) none), length-append r.pending l)
 
 -- what holds behind a call holds where equals stand for equals
 pub after_so : (total : ℕ) (image image' : Image) (sessions sessions' : List Session) (P Q : State → Type 0) → image' ≡ image → sessions' ≡ sessions → ((s : State) → P s → Q s) → StandsAfter total image sessions P → StandsAfter total image' sessions' Q

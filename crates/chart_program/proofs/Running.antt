@@ -15,7 +15,7 @@ use Rattle.chart_service.specs.State.{State}
 use Rattle.chart_service.specs.Replies.{Replied}
 use Rattle.chart_service.specs.declared.failure.ServeEnd.TheVariants.{ReadFault, SendFault, DiskFault, Damaged, InputTooLong, NoMemory}
 use Rattle.chart_service.specs.Serving.{says, SendsSome, KeepsBook, end_of}
-use Rattle.chart_program.proofs.Answering.{Progress, Gives, Grows, told_so, answered, skipped, says_text, taken_at, within_at, parted, kept, unsent, first_at, passes}
+use Rattle.chart_service.proofs.Progress.{Progress, Gives, Grows, told_so, answered, skipped, says_text, taken_at, within_at, parted, kept, unsent, first_at, passes}
 use Rattle.chart_program.specs.declared.run_end.RunEnd.{RunEnd}
 use Rattle.chart_program.specs.declared.run_end.RunEnd.TheVariants.{Serve, Show}
 use Rattle.chart_program.specs.Texts.{text_of}

@@ -13,7 +13,7 @@ use Rattle.chart_client.specs.declared.errors.ClientError.TheVariants as client
 use Rattle.chart_client.specs.Accepting.{Accepts, Rejects, HasNumber}
 use Rattle.chart_client.specs.Showing.{Spells, RejectsBytes, ScreenGives}
 use Rattle.chart_service.specs.State.{State, IsSound}
-use Rattle.chart_service.specs.Replies.{RepliesToLine}
+use Rattle.chart_service.specs.Replies.{RepliesToLine, Replied}
 use Rattle.chart_service.specs.declared.failure.ServeEnd.TheVariants as serve_end
 use Rattle.chart_service.specs.Moments.{IsAhead}
 use Rattle.chart_service.specs.Serving.{says, told, RepliesToAll, Answers, SendsText, SendsFirst, SendsFrontOf, SendsTaken, SendsWithin, SendsSome, SendsLines}
@@ -24,7 +24,12 @@ use Rattle.chart_program.specs.declared.run_end.RunEnd.TheVariants as run_end
 use Rattle.chart_program.specs.Texts.{text_of, texts_of}
 use Rattle.chart_program.specs.Runs.{AreShown, AreShownFrom, ShowFails, EndsRunAt}
 use Rattle.chart_program.specs.Served.{AreTexts}
-use Rattle.chart_program.proofs.Answering.{replies_more}
+
+replies_more : (old between new : State) (lines : List (Option (List ℕ))) (frames : List Frame) (line : Option (List ℕ)) (frame : Frame) → RepliesToAll old lines frames between → Replied line frame between new → RepliesToAll old (lines ++ line ∷ []) (frames ++ frame ∷ []) new
+replies_more old between new [] [] line frame all next = let P : State → Type 0 = λ s. Replied line frame s new in (new, subst P all next, refl)
+replies_more old between new [] (r ∷ rs) line frame all next = absurd all
+replies_more old between new (l ∷ ls) [] line frame all next = absurd all
+replies_more old between new (l ∷ ls) (r ∷ rs) line frame all next = (all.0, all.1, replies_more all.0 between new ls rs line frame all.2 next)
 
 append_none : (xs : List ℕ) → xs ++ [] ≡ xs
 append_none [] = refl

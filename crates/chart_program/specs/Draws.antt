@@ -1,5 +1,5 @@
 -- What `draw` sends: the picture of each View and Rows frame of its input.
-use Rattle.std.specs.Prelude.{◌≡◌, ℕ, ◌-◌, ◌+◌, ◌^◌, ◌<◌, ◌⊎◌, List, [], ◌++◌, length, take, All, flat_map, Option, Some, IfSome, ⊤}
+use Rattle.std.specs.Prelude.{◌≡◌, ℕ, ◌-◌, ◌+◌, ◌^◌, ◌<◌, ◌⊎◌, List, [], ◌++◌, length, take, All, flat_map, Option, Some, IfSome, Result, Ok, Err, ⊤}
 use Rattle.line_raster.specs.Canvas.{Canvas}
 use Rattle.pbm_writer.specs.Picture.{picture}
 use Rattle.block_disk.specs.Streams.{sent_after, PartSent}
@@ -8,13 +8,15 @@ use Rattle.chart_frames.specs.declared.errors.FrameFault.{FrameFault}
 use Rattle.chart_frames.specs.declared.errors.FrameFault.TheVariants as fault
 use Rattle.chart_frames.specs.Format.{Breaks}
 use Rattle.chart_frames.specs.Fields.{frame_fields}
-use Rattle.chart_frames.specs.Frames.{Fits, spelling}
+use Rattle.chart_frames.specs.Frames.{Fits, spelling, key_number}
 use Rattle.chart_frames.specs.Pending.{Pending, held}
 use Rattle.chart_frames.specs.Stream.{IsPartial}
 use Rattle.chart_client.specs.declared.holding.Holding.{Holding}
 use Rattle.chart_client.specs.declared.errors.ClientError.{ClientError}
 use Rattle.chart_client.specs.declared.errors.ClientError.TheVariants as client
 use Rattle.chart_client.specs.Accepting.{Accepts, Rejects}
+use Rattle.command_status.specs.declared.status.Status.{Status}
+use Rattle.command_status.specs.Status.{status}
 use Rattle.drawn_replies.specs.Pictures.{AcceptsAll}
 use Rattle.chart_program.specs.declared.draw_end.DrawEnd.{DrawEnd}
 use Rattle.chart_program.specs.declared.draw_end.DrawEnd.TheVariants.{NoMemory, ReadFault, SendFault, InputTooLong, BadFrame, Missing, BadCoefficient, UnknownSession}
@@ -158,3 +160,15 @@ abbrev pub IsNumbered : DrawEnd → Type 0
 IsNumbered (Missing key) = key.index < 2 ^ 40
 IsNumbered (BadCoefficient key) = key.index < 2 ^ 40
 IsNumbered end = ⊤
+
+-- the status of what a drawing answers
+abbrev pub drawing_status : {T : Type 0} → Result T DrawEnd → Status
+drawing_status (Ok done) = status 0 0
+drawing_status (Err NoMemory) = status 3 0
+drawing_status (Err ReadFault) = status 4 0
+drawing_status (Err SendFault) = status 5 0
+drawing_status (Err InputTooLong) = status 9 (2 ^ 32)
+drawing_status (Err (BadFrame at)) = status 8 at
+drawing_status (Err (Missing key)) = status 10 (key_number key)
+drawing_status (Err (BadCoefficient key)) = status 11 (key_number key)
+drawing_status (Err (UnknownSession number)) = status 15 number

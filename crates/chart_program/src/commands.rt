@@ -1,17 +1,15 @@
 //! The commands, each with its status.
-ghost use Rattle.std.specs.Prelude.{◌≡◌, ◌≢◌, ◌⊎◌, ◌≤◌, ◌^◌, [], ◌∷◌, length, Contains, IfSome};
+ghost use Rattle.std.specs.Prelude.{◌≡◌, ◌⊎◌, ◌≤◌, [], ◌∷◌, Contains, IfErr};
 ghost use Rattle.block_disk.specs.Counts.{HasRisen};
-ghost use Rattle.block_disk.specs.View.{View, DiskKept, Honest};
+ghost use Rattle.block_disk.specs.View.{View, Honest};
 ghost use Rattle.gate_pages.specs.Journal.{page_count};
 ghost use Rattle.store_init.specs.Stores.{HasStore};
 ghost use Rattle.chart_grid.specs.Limits.{IsSide};
-ghost use Rattle.program_words.specs.declared.words.Command.TheVariants.{Draw, Init};
-ghost use Rattle.chart_program.specs.declared.draw_end.DrawEnd.TheVariants as draw_end;
-ghost use Rattle.chart_program.specs.Slots.{FirstBad, StoppedBefore};
-ghost use Rattle.chart_program.specs.Plotted.{SendsPlot, SendsFront};
-ghost use Rattle.chart_program.specs.Draws.{DrawsAll, DrawsTaken, DrawsWithin, StopsAtFrame};
+ghost use Rattle.program_words.specs.declared.words.Command.TheVariants.{Plot, Draw, Init};
+ghost use Rattle.chart_program.specs.Plotted.{plotting_status};
+ghost use Rattle.chart_program.specs.Draws.{IsNumbered, drawing_status};
 ghost use Rattle.chart_program.specs.Served.{faults_of};
-ghost use Rattle.chart_program.specs.Ran.{CommandEnds, HasOperands, IsBadInput, HasTooMuch, LeavesDisk, IsMade, IsTooSmall, IsThere, Lacks, Misfits, NamesUnopened, DrawsReplies, IsFrames};
+ghost use Rattle.chart_program.specs.Ran.{CommandEnds, HasOperands, LeavesDisk, IsMade, IsTooSmall, IsThere};
 
 use crate::draw::draw;
 use crate::draw_end::DrawEnd;
@@ -92,20 +90,17 @@ fn init_status<W: World>(alloc: Global, world: W) -> (Status, W)
 fn plot_status<W: World>(alloc: Global, w: u16, h: u16, world: &mut W) -> Status
     requires wide { IsSide w }
     requires high { IsSide h }
-    ensures codes { Contains (DONE ∷ NO_MEMORY ∷ READ_FAULT ∷ SEND_FAULT ∷ BAD_INPUT ∷ TOO_MUCH ∷ []) result.code }
-    ensures read { result.code ≡ READ_FAULT → HasRisen (W.read_faults world.old) (W.read_faults world.new) }
-    ensures stopped { result.code ≡ READ_FAULT → IfSome (W.left world.old) (λ input. IfSome (W.left world.new) (StoppedBefore input)) }
-    ensures send { result.code ≡ SEND_FAULT → HasRisen (W.send_faults world.old) (W.send_faults world.new) }
-    ensures bad { result.code ≡ BAD_INPUT → IfSome (W.left world.old) (λ input. FirstBad input result.place) }
-    ensures much { result.code ≡ TOO_MUCH → IfSome (W.left world.old) (λ input. HasTooMuch input result.place) }
-    ensures place { result.code ≢ BAD_INPUT → result.code ≢ TOO_MUCH → result.place ≡ 0 }
-    ensures done { result.code ≡ DONE → IfSome (W.left world.old) (λ input. SendsPlot w h input (W.sent world.old) (W.sent world.new)) }
-    ensures within { result.code ≡ DONE → IfSome (W.left world.old) (λ input. length input ≤ 2 ^ 32) }
-    ensures part { result.code ≡ SEND_FAULT → IfSome (W.left world.old) (λ input. SendsFront w h input (W.sent world.old) (W.sent world.new)) }
-    ensures nothing { result.code ≢ DONE → result.code ≢ SEND_FAULT → W.sent world.new ≡ W.sent world.old }
-    ensures disk { DiskKept (W.view world.old) (W.view world.new) }
+    ensures { CommandEnds (Plot w h) (W.view world.old) (W.view world.new) (W.left world.old) (W.left world.new) (W.sent world.old) (W.sent world.new) (faults_of (W.read_faults world.old) (W.read_faults world.new) (W.send_faults world.old) (W.send_faults world.new)) result.code result.place }
 {
-    match plot(alloc, w, h, world) {
+    let answer = plot(alloc, w, h, world);
+    plotting_status(answer)
+}
+
+/// The status of what a plot answers.
+fn plotting_status(answer: Result<(), PlotEnd>) -> Status
+    ensures { result ≡ plotting_status answer }
+{
+    match answer {
         Ok(()) => ended(DONE, 0),
         Err(PlotEnd::SendFault) => ended(SEND_FAULT, 0),
         Err(PlotEnd::Input(InputEnd::NoMemory)) => ended(NO_MEMORY, 0),
@@ -118,24 +113,7 @@ fn plot_status<W: World>(alloc: Global, w: u16, h: u16, world: &mut W) -> Status
 
 /// Sends the pictures of the input's frames, and says how that ended.
 fn draw_status<W: World>(alloc: Global, world: &mut W) -> Status
-    ensures codes { Contains (DONE ∷ NO_MEMORY ∷ READ_FAULT ∷ SEND_FAULT ∷ BAD_INPUT ∷ TOO_MUCH ∷ MISSING ∷ BAD_COEFFICIENT ∷ UNKNOWN_SESSION ∷ []) result.code }
-    ensures read { result.code ≡ READ_FAULT → HasRisen (W.read_faults world.old) (W.read_faults world.new) }
-    ensures send { result.code ≡ SEND_FAULT → HasRisen (W.send_faults world.old) (W.send_faults world.new) }
-    ensures place { Contains (DONE ∷ NO_MEMORY ∷ READ_FAULT ∷ SEND_FAULT ∷ []) result.code → result.place ≡ 0 }
-    ensures done { result.code ≡ DONE → IfSome (W.left world.old) (λ input. DrawsAll input (W.sent world.old) (W.sent world.new)) }
-    ensures within { result.code ≡ DONE → IfSome (W.left world.old) (λ input. length input ≤ 2 ^ 32) }
-    ensures pictures { result.code ≡ DONE → IfSome (W.left world.old) (λ input. DrawsReplies input (W.sent world.old) (W.sent world.new)) }
-    ensures part { result.code ≡ SEND_FAULT → IfSome (W.left world.old) (λ input. StopsAtFrame input (W.sent world.old) (W.sent world.new) draw_end.SendFault) }
-    ensures stopped { result.code ≡ READ_FAULT → IfSome (W.left world.old) (λ input. IfSome (W.left world.new) (λ bytes. DrawsTaken input bytes (W.sent world.old) (W.sent world.new))) }
-    ensures memory { result.code ≡ NO_MEMORY → IfSome (W.left world.old) (λ input. StopsAtFrame input (W.sent world.old) (W.sent world.new) draw_end.NoMemory) }
-    ensures much { result.code ≡ TOO_MUCH → result.place ≡ 2 ^ 32 }
-    ensures past { result.code ≡ TOO_MUCH → IfSome (W.left world.old) (λ input. DrawsWithin input (W.sent world.old) (W.sent world.new)) }
-    ensures bad { result.code ≡ BAD_INPUT → IfSome (W.left world.old) (λ input. IsBadInput Draw (W.view world.old) (W.view world.new) input result.place (W.sent world.old) (W.sent world.new)) }
-    ensures missing { result.code ≡ MISSING → IfSome (W.left world.old) (λ input. Lacks Draw (W.view world.old) input result.place (W.sent world.old) (W.sent world.new)) }
-    ensures misfit { result.code ≡ BAD_COEFFICIENT → IfSome (W.left world.old) (λ input. Misfits Draw (W.view world.old) input result.place (W.sent world.old) (W.sent world.new)) }
-    ensures unopened { result.code ≡ UNKNOWN_SESSION → IfSome (W.left world.old) (λ input. NamesUnopened Draw (W.view world.old) input result.place (W.sent world.old) (W.sent world.new)) }
-    ensures good { IfSome (W.left world.old) (λ input. IsFrames input → Contains (DONE ∷ NO_MEMORY ∷ READ_FAULT ∷ SEND_FAULT ∷ []) result.code) }
-    ensures disk { DiskKept (W.view world.old) (W.view world.new) }
+    ensures { CommandEnds Draw (W.view world.old) (W.view world.new) (W.left world.old) (W.left world.new) (W.sent world.old) (W.sent world.new) (faults_of (W.read_faults world.old) (W.read_faults world.new) (W.send_faults world.old) (W.send_faults world.new)) result.code result.place }
 {
     one_frame_a_spelling();
     length_is_told();
@@ -143,7 +121,16 @@ fn draw_status<W: World>(alloc: Global, world: &mut W) -> Status
     more_bytes_mend_nothing();
     replies_draw_the_book();
     one_session_draws_the_book();
-    match draw(alloc, world) {
+    let answer = draw(alloc, world);
+    drawing_status(answer)
+}
+
+/// The status of what a drawing answers.
+fn drawing_status(answer: Result<(), DrawEnd>) -> Status
+    requires { IfErr answer IsNumbered }
+    ensures { result ≡ drawing_status answer }
+{
+    match answer {
         Ok(()) => ended(DONE, 0),
         Err(DrawEnd::NoMemory) => ended(NO_MEMORY, 0),
         Err(DrawEnd::ReadFault) => ended(READ_FAULT, 0),

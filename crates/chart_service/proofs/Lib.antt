@@ -11,6 +11,7 @@ pub mod Passing
 pub mod Progress
 pub mod DiskKept
 pub mod Moments
+pub mod Ends
 pub mod Sending
 pub mod Served
 pub mod Answered

@@ -29,16 +29,10 @@ mod selecting;
 mod service;
 mod service_calls;
 mod serving;
-#[cfg(test)]
-mod serving_tests;
 mod shown;
 mod shown_rows;
 mod stepping;
-#[cfg(test)]
-mod store_tests;
 mod streams;
-#[cfg(test)]
-mod tests;
 mod viewing;
 mod viewport;
 

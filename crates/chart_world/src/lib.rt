@@ -26,6 +26,3 @@ pub use lines::Lines;
 pub use mem_world::MemWorld;
 pub use no_memory::NoMemory;
 pub use std_world::StdWorld;
-
-#[cfg(test)]
-mod tests;

@@ -7,7 +7,5 @@
 
 mod checking;
 mod telling;
-#[cfg(test)]
-mod tests;
 
 pub use checking::check_store;

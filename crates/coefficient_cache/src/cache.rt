@@ -51,12 +51,6 @@ impl CoefficientCache {
         })
     }
 
-    // The list itself, for tests.
-    #[cfg(test)]
-    pub(crate) fn pairs(&self) -> &Pairs {
-        &self.pairs
-    }
-
     /// How many pairs the list has.
     pub fn len(&self) -> usize
         ensures len { result ≡ length self.now.pairs }

@@ -17,8 +17,6 @@ pub mod laws;
 mod no_memory;
 mod renewal;
 mod series_key;
-#[cfg(test)]
-mod tests;
 
 pub use cache::{CoefficientCache, MOST_CAPACITY, is_capacity};
 pub use no_memory::NoMemory;

@@ -7,8 +7,6 @@
 
 mod errors;
 mod reading;
-#[cfg(test)]
-mod tests;
 
 pub use errors::WordsError;
 pub use reading::read_words;

@@ -14,8 +14,6 @@ mod fields;
 pub mod laws;
 mod row;
 mod rows;
-#[cfg(test)]
-mod tests;
 
 pub use row::{Row, RowCause, RowError};
 pub use rows::parse_row;

@@ -11,6 +11,3 @@ mod demonstrating;
 mod sending;
 
 pub use demonstrating::run_demo;
-
-#[cfg(test)]
-mod tests;

@@ -28,8 +28,3 @@ pub use errors::NoMemory;
 pub use running::run_workload;
 pub use summaries::Summary;
 pub use workloads::Workload;
-
-#[cfg(test)]
-mod running_tests;
-#[cfg(test)]
-mod tests;

@@ -8,7 +8,7 @@
 //! columns' rows.
 //!
 //! Nodes that agree with a list of slots give the rows of the points that the plan keeps of the list.
-//! Nodes that agree with no list give rows that can be drawn. Each ask keeps to tree order.
+//! Nodes that agree with no list give rows that can be drawn.
 #![tactic(auto)]
 
 mod ends;
@@ -17,8 +17,6 @@ mod scan_error;
 mod scans;
 mod shares;
 mod table;
-#[cfg(test)]
-mod tests;
 mod walking;
 
 pub use rows::{m4_rows, rows_of_query};

@@ -76,6 +76,28 @@ moves_weaker touched touched' reads syncs writes reads' syncs' writes' old new m
   writes = rises_weaker writes writes' old.writes new.writes more_writes moves.writes;
 }
 
+-- calls in a row, told of more blocks and more calls
+pub moves_on : {touched touched' touched'' : ℕ → Type 0} {reads syncs writes reads' syncs' writes' reads'' syncs'' writes'' : ℕ} {old mid new : View}
+    → ((number : ℕ) → touched number → touched'' number) → ((number : ℕ) → touched' number → touched'' number)
+    → reads + reads' ≤ reads'' → syncs + syncs' ≤ syncs'' → writes + writes' ≤ writes''
+    → Moves touched reads syncs writes old mid → Moves touched' reads' syncs' writes' mid new → Moves touched'' reads'' syncs'' writes'' old new
+moves_on {touched} {touched'} {touched''} {reads} {syncs} {writes} {reads'} {syncs'} {writes'} {reads''} {syncs''} {writes''} {old} {mid} {new} more more' few_reads few_syncs few_writes first second =
+    moves_weaker touched'' touched'' (reads + reads') (syncs + syncs') (writes + writes') reads'' syncs'' writes'' old new (λ number is. is) few_reads few_syncs few_writes
+    (moves_then touched'' reads syncs writes reads' syncs' writes' old mid new
+    (moves_weaker touched touched'' reads syncs writes reads syncs writes old mid more (omega arith) (omega arith) (omega arith) first)
+    (moves_weaker touched' touched'' reads' syncs' writes' reads' syncs' writes' mid new more' (omega arith) (omega arith) (omega arith) second))
+
+-- calls with a sync behind them
+pub moves_synced : {touched : ℕ → Type 0} {reads writes : ℕ} {old mid new : View} → Moves touched reads 0 writes old mid → Moves Nowhere 0 1 0 mid new → Moves touched reads 1 writes old new
+moves_synced first second = moves_on (λ number is. is) (λ number nothing. absurd nothing) (omega arith) (omega arith) (omega arith) first second
+
+-- fewer blocks and fewer calls, where the facts tell which
+pub moves_among : {touched touched' : ℕ → Type 0} {reads syncs writes reads' syncs' writes' : ℕ} {old new : View}
+    → ((number : ℕ) → touched number → touched' number) → reads ≤ reads' → syncs ≤ syncs' → writes ≤ writes'
+    → Moves touched reads syncs writes old new → Moves touched' reads' syncs' writes' old new
+moves_among {touched} {touched'} {reads} {syncs} {writes} {reads'} {syncs'} {writes'} {old} {new} more few_reads few_syncs few_writes moves =
+    moves_weaker touched touched' reads syncs writes reads' syncs' writes' old new more few_reads few_syncs few_writes moves
+
 -- no call at all
 pub moves_none : (touched : ℕ → Type 0) (reads syncs writes : ℕ) (at : View) → Moves touched reads syncs writes at at
 moves_none touched reads syncs writes at = record {

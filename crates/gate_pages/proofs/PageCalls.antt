@@ -1,12 +1,12 @@
 -- What the calls of pages do, by what the calls of their disk do.
 use Rattle.std.proofs.Common.{◌≡◌, ℕ, ◌+◌, ◌*◌, ◌≤◌, ◌^◌, Bool, List, length, refl, sym, ap, arith, ◌∙◌}
 use Rattle.block_disk.specs.View.{Image, View, Now, Honest, Passes, Moves, Nowhere}
-use Rattle.block_disk.proofs.Passing.{passes_weaker}
+use Rattle.block_disk.proofs.Passing.{passes_none, passes_weaker}
 use Rattle.gate_pages.specs.Batch.{Entry, put_all, numbers, AllBelow}
 use Rattle.gate_pages.specs.GateLaws.{pages_passes, passes_pages}
 use Rattle.gate_pages.specs.GatePages.{pages_view, IsClosed, IsReadable}
 use Rattle.gate_pages.specs.Journal.{home, pages_of}
-use Rattle.gate_pages.specs.Pages.{Quiet, Reads, Commits, BeforeOrAfter}
+use Rattle.gate_pages.specs.Pages.{Quiet, Reads, Commits, GoesOn, BeforeOrAfter}
 use Rattle.gate_pages.specs.Steps.{Anywhere, LiesWithin}
 use Rattle.gate_pages.proofs.Moving.{nothing_torn, untouched}
 use Rattle.gate_pages.proofs.Puts.{below_from_all, numbers_below}
@@ -59,3 +59,21 @@ pub lies_within : (count size : ℕ) (batch : List Entry) → count + 66 ≤ 2 ^
 lies_within count size batch most within below n is =
     let less = below_from_all count (numbers batch) n (numbers_below count batch below) is in
     omega (arith, less, most, within)
+
+-- time goes on where it passes
+pub goes_on : {old new : View} {images : Image → Type 0} {sent : ℕ → Type 0} → Passes old new images sent → GoesOn old new
+goes_on passes = record { later = passes.later; past = passes.past; kept = passes.kept; sent_past = passes.sent_past }
+
+-- no call at all
+pub commits_none : (batch : List Entry) (told : Type 0) (at : View) → Commits batch told told at at
+commits_none batch told at = record {
+  time = passes_none at (BeforeOrAfter batch at.image) (Quiet at);
+  told = λ is. is;
+  was_told = λ is. is;
+  size = refl;
+  beside = refl;
+  faults = omega arith;
+  reads = refl;
+  syncs = record { low = omega arith; high = omega arith };
+  writes = record { low = omega arith; high = omega arith };
+}

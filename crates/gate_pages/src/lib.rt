@@ -33,6 +33,3 @@ pub use gate_pages::GatePages;
 pub use list_pages::ListPages;
 pub use page_world::PageWorld;
 pub use pages::Pages;
-
-#[cfg(test)]
-mod tests;

@@ -9,8 +9,6 @@
 //! How values become columns and heights, and which points are drawn, is left to the layers above.
 #![tactic(auto)]
 
-#[cfg(test)]
-mod comparison;
 mod drawing;
 mod failure;
 mod flat;

@@ -8,7 +8,5 @@
 mod loading;
 mod sending;
 mod storing;
-#[cfg(test)]
-mod tests;
 
 pub use loading::load_series;

@@ -18,8 +18,6 @@ mod no_memory;
 mod row;
 mod rows;
 mod scale;
-#[cfg(test)]
-mod tests;
 
 pub use drawing::draw_rows;
 pub use groups::Groups;

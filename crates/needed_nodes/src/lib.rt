@@ -4,7 +4,7 @@
 //! of a column or an end of the window lies inside its range. A walk from the top asks the cut keys and
 //! finds each column's blocks, the largest keys within it that have a stored value. The first block
 //! leads down to the column's first stored slot and the last block to its last one; the keys on these
-//! two ways and the cut keys are the keys that the view needs. Each is asked once.
+//! two ways and the cut keys are the keys that the view needs.
 //!
 //! Nodes that agree with a list of slots for the view, and tell anything of other keys, give the list's
 //! needed keys and rows. Nodes that agree with no list are asked for the keys that they make wanted.
@@ -21,8 +21,6 @@ mod ordering;
 mod scan_of;
 mod spanning;
 mod surveying;
-#[cfg(test)]
-mod tests;
 mod window;
 
 pub use om3_coeff::Coefs as Needed;

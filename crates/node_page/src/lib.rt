@@ -18,8 +18,6 @@ mod page_view;
 mod places;
 mod rules;
 mod setting;
-#[cfg(test)]
-mod tests;
 
 pub use errors::BadPage;
 pub use fields::child_of;

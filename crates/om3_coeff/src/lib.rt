@@ -25,8 +25,6 @@ mod nodes;
 mod places;
 mod scanning;
 mod span;
-#[cfg(test)]
-mod tests;
 mod walks;
 
 pub use asking::ask;

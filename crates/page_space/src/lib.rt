@@ -30,6 +30,3 @@ mod txn_calls;
 pub use errors::{NoMemory, SpaceError};
 pub use space::Space;
 pub use txn::Txn;
-
-#[cfg(test)]
-mod tests;

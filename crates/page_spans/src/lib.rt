@@ -11,8 +11,6 @@ mod errors;
 mod joining;
 mod page_spans;
 mod splitting;
-#[cfg(test)]
-mod tests;
 
 pub use errors::BadNode;
 pub use page_spans::PageSpans;

@@ -19,8 +19,6 @@ pub mod laws;
 mod opening;
 mod reading;
 mod repairing;
-#[cfg(test)]
-mod tests;
 
 pub use calls::{clear_run, grow, put_run, put_slot};
 pub use errors::RepairError;

@@ -31,26 +31,3 @@ fn with_rows(alloc: Global, head: &[u8], bitmap: &Bitmap) -> Result<Vec<u8>, All
     write_rows(&mut bytes[head.len()..], bitmap);
     Ok(bytes)
 }
-
-#[cfg(test)]
-mod tests {
-    use super::*;
-    use line_raster::{Point, column_fill, segment};
-
-    #[test]
-    fn writes_rows_from_the_top(rt: HostRuntime) {
-        let mut bitmap = Bitmap::new(rt.alloc(), 4, 4).expect(&rt, "memory");
-        segment(&mut bitmap, Point { x: 0, y: 0 }, Point { x: 2, y: 3 });
-        let bytes = pbm(rt.alloc(), &bitmap).expect(&rt, "memory");
-        assert_eq!(rt; bytes.as_slice(), b"P4\n4 4\n\x20\x40\x40\x80".as_slice());
-    }
-
-    #[test]
-    fn pads_the_last_byte(rt: HostRuntime) {
-        let mut bitmap = Bitmap::new(rt.alloc(), 11, 2).expect(&rt, "memory");
-        column_fill(&mut bitmap, 10, 0, 9);
-        column_fill(&mut bitmap, 0, 1, 1);
-        let bytes = pbm(rt.alloc(), &bitmap).expect(&rt, "memory");
-        assert_eq!(rt; bytes.as_slice(), b"P4\n11 2\n\x80\x20\x00\x20".as_slice());
-    }
-}

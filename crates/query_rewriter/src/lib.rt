@@ -13,8 +13,6 @@
 mod queries;
 mod rewriting;
 mod slots;
-#[cfg(test)]
-mod tests;
 mod trimming;
 
 pub use queries::{Plan, ViewQuery};

@@ -31,6 +31,3 @@ pub use line_errors::LineError;
 pub use lines::parse_line;
 pub use ranges::RangeWord;
 pub use requests::Request;
-
-#[cfg(test)]
-mod tests;

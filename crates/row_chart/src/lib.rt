@@ -12,8 +12,6 @@ mod gathering;
 mod no_memory;
 mod range;
 mod summary;
-#[cfg(test)]
-mod tests;
 
 pub use drawing::chart_of_rows;
 pub use gathering::rows_of_slots;

@@ -1,11 +1,10 @@
-use Rattle.std.proofs.Common.{◌≡◌, ℕ, ◌+◌, ◌-◌, ◌<◌, ◌≤◌, min, max, Bool, true, false, cond, ltb, leb, List, [], ◌∷◌, ◌++◌, length, take, drop, replicate, get_or, Option, Some, None, Result, Ok, Err, ℤ, All, refl, sym, ap, subst, arith}
+use Rattle.std.proofs.Common.{◌≡◌, ℕ, ◌+◌, ◌-◌, ◌<◌, ◌≤◌, min, max, Bool, true, false, cond, ltb, leb, List, [], ◌∷◌, ◌++◌, length, take, drop, replicate, Option, Some, None, Result, Ok, Err, ℤ, All, refl, sym, ap, subst, arith}
 use Rattle.std.specs.List.{list_any, slice_get}
 use Rattle.std.specs.Option.{is_some}
 use Rattle.std.specs.Prelude.{int_lt}
 use Rattle.std.proofs.lemmas.Bool.Decides.{nat_tests}
 use Rattle.std.proofs.lemmas.List.{length-append, length-replicate, length-take, length-drop}
 use Rattle.std.proofs.lemmas.List.Elements.{All-append, All-take, All-drop, All-replicate}
-use Rattle.std.proofs.lemmas.List.Folds.{list_any_at}
 use Rattle.series_book.specs.declared.limits.TheConstants.{MOST_SLOTS, MOST_SERIES, MOST_VALUES, MOST_CLEARED}
 use Rattle.series_book.specs.declared.one_series.Series.{Series}
 use Rattle.series_book.specs.declared.edits.Edit.{Edit}
@@ -17,6 +16,7 @@ use Rattle.series_book.specs.Edits.{Edited, IsEdit, apply, id_of, is_too_large, 
 use Rattle.series_book.specs.Pages.{pages_of}
 use Rattle.series_book.proofs.BookLemmas.{IsBook-push, IsBook-set, IsSeries-there}
 use Rattle.series_book.proofs.EditLemmas.{none_from_test}
+use Rattle.series_book.proofs.SlotLemmas.{none_too_large}
 
 -- slots that a series may have
 pub record AreInRange (slots : List (Option ℤ)) : Type 0 where
@@ -39,16 +39,6 @@ IsBook-with_slots book id series slots is there fits =
       values_in_range = fits.fit;
     })
     refl
-
--- no value is too large where none was found
-pub none_too_large : (values : List (Option ℤ)) → list_any is_too_large values ≡ false → All (λ value. is_too_large value ≡ false) values
-none_too_large values none k d within =
-    let here : (b : Bool) → is_too_large (get_or values k d) ≡ b → b ≡ false =
-    λ b. elim b as (λ b. is_too_large (get_or values k d) ≡ b → b ≡ false) [
-      | true ↦ λ large. let found : list_any is_too_large values ≡ true = list_any_at is_too_large values k d within large in cc
-      | false ↦ λ _. refl
-    ] in
-    here (is_too_large (get_or values k d)) refl
 
 -- no cause stands
 abbrev pub NoneStands : List (Bool × Refusal) → Type 0

@@ -1,6 +1,8 @@
-use Rattle.std.proofs.Common.{◌≡◌, ℕ, zero, suc, ◌+◌, ◌-◌, max, min, List, [], ◌∷◌, ◌++◌, length, take, drop, replicate, Option, None, ℤ, refl, ap, ◌∙◌, arith, rules}
+use Rattle.std.proofs.Common.{◌≡◌, ℕ, zero, suc, ◌+◌, ◌-◌, max, min, Bool, true, false, List, [], ◌∷◌, ◌++◌, length, take, drop, replicate, get_or, Option, None, ℤ, All, refl, ap, ◌∙◌, arith, rules}
+use Rattle.std.specs.List.{list_any}
+use Rattle.std.proofs.lemmas.List.Folds.{list_any_at}
 use Rattle.std.proofs.lemmas.List.{same_lists, places, take_all, drop_all, append-nil, length-append, length-replicate, length-take, length-drop, take-replicate, drop-replicate}
-use Rattle.series_book.specs.Edits.{overwritten, cleared}
+use Rattle.series_book.specs.Edits.{overwritten, cleared, is_too_large}
 
 -- a front of two lists
 take_append : {X : Type 0} (n : ℕ) (xs ys : List X) → take n (xs ++ ys) ≡ take n xs ++ take (n - length xs) ys
@@ -85,3 +87,13 @@ pub overwritten-cleared : (slots run : List (Option ℤ)) (place count from n : 
 unfolding overwritten cleared
 overwritten-cleared slots run place count from n from_is n_is run_is =
     same_lists _ _ (search (rules, places)) (λ k d h. grind (arith, places))
+
+-- no value is too large where none was found
+pub none_too_large : (values : List (Option ℤ)) → list_any is_too_large values ≡ false → All (λ value. is_too_large value ≡ false) values
+none_too_large values none k d within =
+    let here : (b : Bool) → is_too_large (get_or values k d) ≡ b → b ≡ false =
+    λ b. elim b as (λ b. is_too_large (get_or values k d) ≡ b → b ≡ false) [
+      | true ↦ λ large. let found : list_any is_too_large values ≡ true = list_any_at is_too_large values k d within large in cc
+      | false ↦ λ _. refl
+    ] in
+    here (is_too_large (get_or values k d)) refl

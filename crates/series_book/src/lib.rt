@@ -40,6 +40,3 @@ pub use page_count::{page_levels, pages};
 pub use refusals::Refusal;
 pub use slot_list::Slots;
 pub use value_list::Values;
-
-#[cfg(test)]
-mod tests;

@@ -13,8 +13,6 @@ mod loader;
 mod loading;
 mod open_run;
 mod said;
-#[cfg(test)]
-mod tests;
 
 pub use load_end::LoadEnd;
 pub use loading::load;

@@ -1,5 +1,5 @@
 -- What a book answers, by what became of a tree.
-use Rattle.std.proofs.Common.{◌≡◌, ℕ, ℤ, ◌<◌, ◌≤◌, ◌^◌, List, length, slice_get, Option, Some, Result, Ok, Err, IfOk, IfErr, refl, sym, ap, subst, ◌∙◌, arith, inl, inr}
+use Rattle.std.proofs.Common.{◌≡◌, ℕ, ℤ, ◌≤◌, ◌^◌, List, length, slice_get, Option, Some, Result, Ok, Err, IfOk, IfErr, refl, sym, ap, subst, ◌∙◌, arith, inl, inr}
 use Rattle.std.specs.Result.{IsErrAnd}
 use Rattle.block_disk.specs.View.{Image, View, Now, Only, Passes}
 use Rattle.block_disk.proofs.Passing.{passes_none, passes_weaker}
@@ -14,11 +14,11 @@ use Rattle.path_repair.specs.Edited.{IsFullFor, IsErrorFor}
 use Rattle.series_book.specs.declared.one_series.Series.{Series}
 use Rattle.series_book.specs.declared.outcomes.Outcome.{Outcome}
 use Rattle.series_book.specs.declared.refusals.Refusal.{Refusal}
-use Rattle.series_book.specs.Edits.{Edited, with_slots, within, fitted}
+use Rattle.series_book.specs.Edits.{Edited, with_slots, within}
 use Rattle.series_book.proofs.EditLemmas.{fitted-ok, fitted-full}
 use Rattle.store_laws.proofs.PagesInUse.{full_book, few_in_use}
 use Rattle.stored_book.specs.Standing.{IsStore, StandsForBook}
-use Rattle.series_store.specs.Changing.{IsDoneBy, IsRefusedBy, IsAfterBy, IsEitherBy, IsAnswered}
+use Rattle.series_store.specs.Changing.{IsDoneBy, IsRefusedBy, IsEitherBy, IsAnswered}
 use Rattle.series_store.specs.Errors.{error_of}
 use Rattle.series_store.specs.declared.errors.StoreError.{StoreError}
 use Rattle.series_store.specs.declared.errors.StoreError.TheVariants.{Refused, NotAStore, DiskFault, Damaged, NoMemory}

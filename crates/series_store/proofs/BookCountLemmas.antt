@@ -2,7 +2,6 @@
 use Rattle.std.proofs.Common.{◌≡◌, ℕ, ℤ, zero, suc, ◌+◌, ◌*◌, ◌^◌, ◌<◌, ◌≤◌, List, [], ◌∷◌, length, take, get_or, Option, Some, refl, sym, ap, subst, arith, inl, inr, ◌∙◌}
 use Rattle.std.specs.List.{slice_get}
 use Rattle.std.proofs.lemmas.Bool.{cases_lt}
-use Rattle.std.proofs.lemmas.List.{take_all}
 use Rattle.std.proofs.lemmas.List.Sums.{sum_by_more}
 use Rattle.std.proofs.lemmas.Option.{slice_get-get_or, slice_get_within, same_Some}
 use Rattle.std.proofs.Math.Nat.{pow-le-pow_right}
@@ -19,7 +18,7 @@ use Rattle.stored_book.specs.Standing.{IsStore}
 use Rattle.tree_walk.specs.declared.tree.Tree.{Tree}
 use Rattle.tree_walk.specs.Holding.{KeptWalking}
 use Rattle.tree_walk.specs.Trees.{top_of_page, IsTree, StandsFor}
-use Rattle.series_store.specs.Counting.{values_in, values_of, values_below, Looks, HasBadPage, HasBadLink, HasBadTree, HasBadTreeOf, IsSoundTree, IsSoundChain, AreSound, AreSoundTrees, IsTreeCause, IsTreesCause, IsChainCause, IsCheckCause}
+use Rattle.series_store.specs.Counting.{values_in, values_of, values_below, Looks, HasBadPage, HasBadLink, HasBadTree, HasBadTreeOf, IsSoundTree, IsSoundChain, AreSound, AreSoundTrees, IsTreesCause, IsChainCause, IsCheckCause}
 use Rattle.series_store.specs.declared.errors.StoreError.{StoreError}
 use Rattle.series_store.specs.declared.errors.StoreError.TheVariants.{Refused, NotAStore, DiskFault, Damaged, NoMemory}
 use Rattle.series_store.proofs.AskLemmas.{kept_as}

@@ -1,5 +1,5 @@
 -- What calls did, whatever the pages are.
-use Rattle.std.proofs.Common.{◌≡◌, ℕ, ◌+◌, ◌<◌, ◌≤◌, ◌^◌, Result, Ok, Err, IfOk, IfErr, OnOk, OnErr, refl, sym, ap, subst, ◌∙◌, arith, inl, inr}
+use Rattle.std.proofs.Common.{◌≡◌, ℕ, ◌≤◌, ◌^◌, Result, Ok, Err, IfOk, IfErr, OnOk, OnErr, refl, sym, ap, subst, ◌∙◌, arith, inl, inr}
 use Rattle.std.specs.Result.{IsErrAnd}
 use Rattle.block_disk.specs.Counts.{HasRisen}
 use Rattle.block_disk.specs.View.{View, Rises}
@@ -10,11 +10,15 @@ use Rattle.path_repair.specs.Standing.{ReadsMost, IsCause}
 use Rattle.path_repair.specs.declared.errors.RepairError.{RepairError}
 use Rattle.path_repair.specs.declared.errors.RepairError.TheVariants.{Full as FullTree, DiskFault as TreeFault, Damaged as DamagedTree, NoMemory as TreeMemory}
 use Rattle.series_book.specs.declared.outcomes.Outcome.{Outcome}
-use Rattle.series_store.specs.Changing.{IsCarriedOut}
+use Rattle.series_book.specs.declared.refusals.Refusal.{Refusal}
+use Rattle.series_book.specs.Edits.{Edited}
+use Rattle.series_store.specs.Changing.{IsCarriedOut, IsRefusedBy}
+use Rattle.series_store.specs.Creating.{IsAddCause}
 use Rattle.series_store.specs.Errors.{error_of}
 use Rattle.series_store.specs.Results.{IsEditCause, IsUnchanged, IsUnchangedFor, Moves}
 use Rattle.series_store.specs.declared.errors.StoreError.{StoreError}
 use Rattle.series_store.specs.declared.errors.StoreError.TheVariants.{Refused, NotAStore, DiskFault, Damaged, NoMemory}
+use Rattle.series_store.proofs.CommitLemmas.{no_read, reads_move, reads_leave}
 use Rattle.series_store.proofs.TimeLemmas.{moves_after}
 
 cause_of : (total : ℕ) (e : RepairError) (old new : View) → IsCause total e old.faults new.faults → IsEditCause (error_of e) total old new
@@ -23,37 +27,61 @@ cause_of total TreeFault old new why = why
 cause_of total (DamagedTree page) old new why = why
 cause_of total TreeMemory old new why = tt
 
-unchanged_of : (told : Type 0) (e : RepairError) (old new : View) → IsUnchanged told old new → IsUnchangedFor (error_of e) told old new
-unchanged_of told (FullTree needed have) old new same = same
-unchanged_of told TreeFault old new same = tt
-unchanged_of told (DamagedTree page) old new same = same
-unchanged_of told TreeMemory old new same = same
+unchanged_for : (total : ℕ) (told : Type 0) (e : StoreError) (old new : View) → IsEditCause e total old new → IsUnchanged told old new → IsUnchangedFor e told old new
+unchanged_for total told (Refused refusal) old new why same = same
+unchanged_for total told NotAStore old new why same = why
+unchanged_for total told DiskFault old new why same = tt
+unchanged_for total told (Damaged page) old new why same = same
+unchanged_for total told NoMemory old new why same = same
 
--- blocks were read, and the tree wasn't changed
-pub carried_error : (most : ℕ) (told told' : Type 0) (old new under under' : View) (s s' : Superblock) (result : Result Outcome StoreError) (e : RepairError) → most ≤ 96 → IsErrAnd result (λ cause. cause ≡ error_of e)
-    → ReadsMost most told told' old new → GoesOn under under' → s' ≡ s → IsCause s.total e old.faults new.faults → IsCarriedOut told told' old new under under' s s' result
-carried_error most told told' old new under under' s s' (Ok outcome) e few is reads on same why = absurd is
-carried_error most told told' old new under under' s s' (Err cause) e few is reads on same why =
+-- blocks were read, and nothing was changed
+pub carried_read : {most : ℕ} {told told' : Type 0} {old new under under' : View} {s s' : Superblock} (result : Result Outcome StoreError) (e : StoreError) → most ≤ 96 → IsErrAnd result (λ cause. cause ≡ e)
+    → ReadsMost most told told' old new → GoesOn under under' → s' ≡ s → IsEditCause e s.total old new → IsCarriedOut told told' old new under under' s s' result
+carried_read (Ok outcome) e few is reads on same why = absurd is
+carried_read {most} {told} {told'} {old} {new} {under} {under'} {s} (Err cause) e few is reads on same why =
     let C : StoreError → Type 0 = λ x. IsEditCause x s.total old new in
     let U : StoreError → Type 0 = λ x. IsUnchangedFor x told old new in
     record {
-      moves = record {
-        told = reads.told;
-        was_told = reads.was_told;
-        size = reads.size;
-        beside = reads.beside;
-        faults = reads.faults;
-        reads = record { low = reads.reads.low; high = omega (arith, reads.reads.high, few) };
-        syncs = record { low = omega (arith, reads.syncs); high = omega (arith, reads.syncs) };
-        writes = record { low = omega (arith, reads.writes); high = omega (arith, reads.writes) };
-      };
+      moves = reads_move most told told' old new few reads;
       goes_on = on;
-      cause = subst C (sym is) (cause_of s.total e old new why);
-      unchanged = subst U (sym is) (unchanged_of told e old new (record { image = reads.image; fit = reads.fit; syncs = reads.syncs; writes = reads.writes }));
+      cause = subst C (sym is) why;
+      unchanged = subst U (sym is) (unchanged_for s.total told e old new why (reads_leave most told told' old new reads));
       sound = tt;
       total = ap (λ (one : Superblock). one.total) same;
       slots = tt;
     }
+
+-- blocks were read, and the tree wasn't changed
+pub carried_error : (most : ℕ) (told told' : Type 0) (old new under under' : View) (s s' : Superblock) (result : Result Outcome StoreError) (e : RepairError) → most ≤ 96 → IsErrAnd result (λ cause. cause ≡ error_of e)
+    → ReadsMost most told told' old new → GoesOn under under' → s' ≡ s → IsCause s.total e old.faults new.faults → IsCarriedOut told told' old new under under' s s' result
+carried_error most told told' old new under under' s s' result e few is reads on same why =
+    carried_read result (error_of e) few is reads on same (cause_of s.total e old new why)
+
+-- an edit was refused before anything was done
+pub carried_refused : {told : Type 0} {at under : View} {s : Superblock} (refusal : Refusal) → IsCarriedOut told told at at under under s s (Err (Refused refusal))
+carried_refused {told} {at} {under} {s} refusal =
+    carried_read (Err (Refused refusal)) (Refused refusal) (omega arith) refl (no_read 0 told at) (goes_none under) refl tt
+
+-- memory was wanting before anything was done
+pub carried_starved : {told : Type 0} {at under : View} {s : Superblock} (result : Result Outcome StoreError) → IsErrAnd result (λ cause. cause ≡ NoMemory)
+    → IsCarriedOut told told at at under under s s result
+carried_starved {told} {at} {under} {s} result is = carried_read result NoMemory (omega arith) is (no_read 0 told at) (goes_none under) refl tt
+
+-- why a record wasn't put into a transaction is why an edit wasn't done
+pub add_cause : (total : ℕ) (e : StoreError) (old new : View) → IsAddCause e old new → IsEditCause e total old new
+add_cause total (Refused refusal) old new why = tt
+add_cause total NotAStore old new why = why
+add_cause total DiskFault old new why = why
+add_cause total (Damaged page) old new why = absurd why
+add_cause total NoMemory old new why = tt
+
+-- and no book refuses so
+pub add_refused : (answer : Result Edited Refusal) (e : StoreError) (old new : View) → IsAddCause e old new → IsRefusedBy answer e
+add_refused answer (Refused refusal) old new why = absurd why
+add_refused answer NotAStore old new why = why
+add_refused answer DiskFault old new why = tt
+add_refused answer (Damaged page) old new why = why
+add_refused answer NoMemory old new why = tt
 
 risen_more : (old mid new : ℕ) → old ≤ mid → HasRisen mid new → HasRisen old new
 risen_more old mid new before risen = elim risen [ inl some ↦ inl (omega (arith, before, some)) | inr last ↦ inr last ]

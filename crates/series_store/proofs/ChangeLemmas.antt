@@ -1,5 +1,5 @@
 -- The tree of a series is changed.
-use Rattle.std.proofs.Common.{◌≡◌, ℕ, ℤ, ◌+◌, ◌<◌, ◌≤◌, ◌⊎◌, ◌^◌, max, List, [], length, slice_get, Option, Some, All, IsSome, false, refl, sym, ap, subst, ◌∙◌, arith, inl, inr}
+use Rattle.std.proofs.Common.{◌≡◌, ℕ, ℤ, ◌+◌, ◌<◌, ◌≤◌, ◌⊎◌, ◌^◌, max, List, [], length, slice_get, Option, Some, All, IsSome, false, sym, subst, ◌∙◌, arith, inl, inr}
 use Rattle.std.proofs.lemmas.Bool.{cases_lt}
 use Rattle.block_disk.specs.View.{Image}
 use Rattle.om3_coeff.specs.Keys.{page_levels}
@@ -12,7 +12,6 @@ use Rattle.path_repair.specs.Edited.{IsHeldTree, IsEditedTree}
 use Rattle.path_repair.specs.Keeping.{KeepsCatalog}
 use Rattle.path_repair.proofs.EditLemmas.{levels_more}
 use Rattle.catalog_page.specs.Entries.{Entry, IsEntry}
-use Rattle.series_book.specs.declared.limits.TheConstants.{MOST_SLOTS}
 use Rattle.series_book.specs.declared.one_series.Series.{Series}
 use Rattle.series_book.specs.Books.{IsSeries}
 use Rattle.series_book.specs.Edits.{is_too_large, overwritten, cleared}

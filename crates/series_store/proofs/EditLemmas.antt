@@ -1,5 +1,5 @@
 -- What a call did by the book's answer is what an edit does.
-use Rattle.std.proofs.Common.{◌≡◌, ℕ, List, Result, Ok, Err, IfOk, IfErr, inl, inr}
+use Rattle.std.proofs.Common.{ℕ, List, Result, Ok, Err, IfOk, IfErr, inl, inr}
 use Rattle.block_disk.specs.View.{Image, View, Passes}
 use Rattle.block_disk.proofs.Passing.{passes_weaker}
 use Rattle.gate_pages.specs.Pages.{Quiet}

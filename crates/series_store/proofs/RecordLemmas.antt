@@ -1,8 +1,7 @@
 -- A series has another tree in its record, and the others keep theirs.
-use Rattle.std.proofs.Common.{◌≡◌, ◌≢◌, ℕ, ℤ, zero, suc, ◌+◌, ◌<◌, ◌≤◌, ◌^◌, List, [], ◌∷◌, length, set, slice_get, get_or, Option, None, Some, All, false, unsigned_abs, IfSome, refl, sym, ap, subst, ◌∙◌, arith, inl, inr}
+use Rattle.std.proofs.Common.{◌≡◌, ◌≢◌, ℕ, ℤ, zero, suc, ◌<◌, ◌≤◌, ◌^◌, List, [], ◌∷◌, length, set, slice_get, get_or, Option, None, Some, All, false, unsigned_abs, IfSome, refl, sym, ap, subst, ◌∙◌, arith, inl, inr}
 use Rattle.std.proofs.lemmas.Bool.{le-ltb}
 use Rattle.std.proofs.lemmas.Bool.Decides.{eqb_tells}
-use Rattle.std.proofs.lemmas.List.{length-set}
 use Rattle.std.proofs.lemmas.Option.{same_Some, slice_get_within, slice_get-get_or}
 use Rattle.block_disk.specs.View.{Image}
 use Rattle.om3_coeff.specs.Spans.{IsValue, AreSlots}
@@ -15,7 +14,6 @@ use Rattle.catalog_page.specs.Places.{page_of, number_of, records_of}
 use Rattle.catalog_page.proofs.RecordPlaces.{in_use}
 use Rattle.series_book.specs.declared.one_series.Series.{Series}
 use Rattle.series_book.specs.declared.limits.TheConstants.{GREATEST_VALUE}
-use Rattle.series_book.specs.Books.{IsBook}
 use Rattle.series_book.specs.Edits.{is_too_large, with_slots}
 use Rattle.series_book.proofs.LawLemmas.{IsBook-with_slots}
 use Rattle.store_catalog.specs.declared.stored_series.StoredSeries.{StoredSeries}

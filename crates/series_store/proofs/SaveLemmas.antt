@@ -1,5 +1,5 @@
 -- A record is written and committed.
-use Rattle.std.proofs.Common.{◌≡◌, ℕ, ℤ, List, length, Option, Some, Result, Ok, Err, slice_get, refl, sym, ap, subst, ◌∙◌, inl, inr}
+use Rattle.std.proofs.Common.{◌≡◌, ℕ, List, Result, Ok, Err, refl, sym, ap, subst, ◌∙◌, inl, inr}
 use Rattle.std.specs.Result.{IsErrAnd}
 use Rattle.block_disk.specs.View.{Image, View, Now, Only, Passes}
 use Rattle.gate_pages.specs.Batch.{Entry, put_all}
@@ -8,9 +8,8 @@ use Rattle.series_book.specs.declared.one_series.Series.{Series}
 use Rattle.series_book.specs.declared.outcomes.Outcome.{Outcome}
 use Rattle.series_book.specs.declared.refusals.Refusal.{Refusal}
 use Rattle.series_book.specs.Edits.{Edited}
-use Rattle.series_store.specs.Changing.{IsDoneBy, IsRefusedBy, IsAfterBy, IsEitherBy, IsAnswered}
+use Rattle.series_store.specs.Changing.{IsRefusedBy, IsEitherBy, IsAnswered}
 use Rattle.series_store.specs.declared.errors.StoreError.{StoreError}
-use Rattle.series_store.specs.declared.errors.StoreError.TheVariants.{DiskFault, NoMemory}
 use Rattle.series_store.proofs.TimeLemmas.{reads_leave, commit_leaves}
 use Rattle.stored_book.specs.Standing.{StandsForBook}
 

@@ -3,8 +3,8 @@ use Rattle.std.proofs.Common.{◌≡◌, ℕ, ℤ, zero, suc, ◌+◌, ◌-◌, 
 use Rattle.std.proofs.lemmas.Bool.{cases_lt, ltb-false}
 use Rattle.std.proofs.lemmas.List.{places, take_all, drop_all, take-append-drop, append-nil, get_or_past, length-append, length-take, length-drop, length-replicate}
 use Rattle.std.proofs.lemmas.Option.{slice_get_within, slice_get-get_or, get_or_from_slice_get}
-use Rattle.om3_coeff.specs.Spans.{IsValue, AreSlots}
-use Rattle.path_repair.specs.Changes.{value_of, slot_at, given, new_slot, IsEdited}
+use Rattle.om3_coeff.specs.Spans.{AreSlots}
+use Rattle.path_repair.specs.Changes.{value_of, slot_at, given, IsEdited}
 use Rattle.path_repair.proofs.StayLemmas.{slot_before, slot_behind, slot_in}
 use Rattle.series_book.specs.declared.limits.TheConstants.{MOST_SLOTS, GREATEST_VALUE}
 use Rattle.series_book.specs.declared.one_series.Series.{Series}

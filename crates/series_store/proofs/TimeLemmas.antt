@@ -1,9 +1,9 @@
 -- The moments that reads and a commit pass.
-use Rattle.std.proofs.Common.{◌≡◌, ℕ, ◌+◌, ◌*◌, ◌≤◌, List, length, sym, ap, subst, arith, inl, inr, ◌∙◌}
+use Rattle.std.proofs.Common.{◌≡◌, ℕ, ◌+◌, ◌≤◌, List, sym, ap, subst, arith, inl, inr, ◌∙◌}
 use Rattle.block_disk.specs.View.{Image, View, Now, Only, Passes, Rises}
 use Rattle.block_disk.proofs.Passing.{passes_weaker}
 use Rattle.gate_pages.specs.Batch.{Entry, put_all}
-use Rattle.gate_pages.specs.Pages.{Quiet, BeforeOrAfter, Reads, Commits}
+use Rattle.gate_pages.specs.Pages.{Quiet, BeforeOrAfter, Commits}
 use Rattle.gate_pages.proofs.Moving.{time_then}
 use Rattle.path_repair.specs.Standing.{ReadsMost}
 use Rattle.series_store.specs.Results.{Moves}

@@ -30,10 +30,3 @@ pub use counts::Counts;
 pub use errors::StoreError;
 pub use series_info::SeriesInfo;
 pub use store::Store;
-
-#[cfg(test)]
-mod checking_tests;
-#[cfg(test)]
-mod editing_tests;
-#[cfg(test)]
-mod opening_tests;

@@ -18,6 +18,3 @@ pub use errors::{CatalogError, NoMemory};
 pub use reading::read_catalog;
 pub use stored_series::StoredSeries;
 pub use writing::put_record;
-
-#[cfg(test)]
-mod tests;

@@ -11,8 +11,6 @@
 mod errors;
 mod making;
 mod pages;
-#[cfg(test)]
-mod tests;
 
 pub use errors::InitCause;
 pub use making::make_store;

@@ -10,8 +10,6 @@
 mod causes;
 mod closing;
 mod opening;
-#[cfg(test)]
-mod tests;
 
 pub use causes::OpeningCause;
 pub use closing::disk_of;

@@ -15,8 +15,6 @@ mod held_page;
 pub mod laws;
 mod paged_nodes;
 mod paths;
-#[cfg(test)]
-mod tests;
 mod trail;
 mod tree;
 

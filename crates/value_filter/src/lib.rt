@@ -28,6 +28,3 @@ pub use box_answers::BoxAnswer;
 pub use faults::FilterFault;
 pub use filters::Filter;
 pub use no_memory::NoMemory;
-
-#[cfg(test)]
-mod tests;

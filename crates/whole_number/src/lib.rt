@@ -59,32 +59,3 @@ fn value_of(digits: &[u8]) -> Option<u64>
     }
     Some(value)
 }
-
-#[cfg(test)]
-mod tests {
-    use super::*;
-
-    #[test]
-    fn reads_spellings(rt: HostRuntime) {
-        let texts: [(&[u8], Option<i128>); 13] = [
-            (b"0", Some(0)),
-            (b"7", Some(7)),
-            (b"-5", Some(-5)),
-            (b"9999999999999999999", Some(9_999_999_999_999_999_999)),
-            (b"-9999999999999999999", Some(-9_999_999_999_999_999_999)),
-            (b"10000000000000000000", None),
-            (b"", None),
-            (b"-", None),
-            (b"-0", None),
-            (b"+1", None),
-            (b"00", None),
-            (b"1 ", None),
-            (b"1x", None),
-        ];
-        for (text, want) in texts {
-            assert_eq!(rt; integer(text), want);
-        }
-        assert_eq!(rt; natural(b"4096"), Some(4096));
-        assert_eq!(rt; natural(b"-1"), None);
-    }
-}

@@ -14,8 +14,6 @@ mod errors;
 mod plan;
 mod session;
 mod sessions;
-#[cfg(test)]
-mod tests;
 mod view_spec;
 
 pub use errors::{NoMemory, PlanError, SessionError};

@@ -2,7 +2,7 @@ use Rattle.std.proofs.Common.{subst, sym}
 use Rattle.program_words.specs.declared.words.Command.{Command}
 use Rattle.chart_program.specs.Served.{faults_of}
 use Rattle.chart_program.specs.Ran.{CommandEnds}
-use Rattle.chart_program.proofs.CommandsEnd.{plot_ends, load_ends, demo_ends, run_ends, serve_ends, draw_ends, init_ends, check_ends}
+use Rattle.chart_program.proofs.CommandsEnd.{load_ends, demo_ends, run_ends, serve_ends, init_ends, check_ends}
 use Rattle.chart_program.proofs.commands.status_of_command.Goals as goal
 
 pub returns-in-Plot : goal.returns-in-Plot
@@ -15,10 +15,9 @@ returns-in-Plot g c =
     let old = c.args.world in
     let new = c.plot_status-status.new.world in
     let status = c.plot_status-status.result in
-    let e = c.plot_status-status.ensures in
     let faults = faults_of (reads old) (reads new) (sends old) (sends new) in
     let P : Command → Type 0 = λ command. CommandEnds command (view old) (view new) (left old) (left new) (sent old) (sent new) faults status.code status.place in
-    subst P (sym c.in-Plot.is) (plot_ends c.in-Plot.w c.in-Plot.h (view old) (view new) (left old) (left new) (sent old) (sent new) faults status.code status.place e.codes e.read e.stopped e.send e.bad e.much e.place e.done e.within e.part e.nothing e.disk)
+    subst P (sym c.in-Plot.is) c.plot_status-status.ensures
 
 pub returns-in-Load : goal.returns-in-Load
 returns-in-Load g c =
@@ -90,10 +89,9 @@ returns-in-Draw g c =
     let old = c.args.world in
     let new = c.draw_status-status.new.world in
     let status = c.draw_status-status.result in
-    let e = c.draw_status-status.ensures in
     let faults = faults_of (reads old) (reads new) (sends old) (sends new) in
     let P : Command → Type 0 = λ command. CommandEnds command (view old) (view new) (left old) (left new) (sent old) (sent new) faults status.code status.place in
-    subst P (sym c.in-Draw.is) (draw_ends (view old) (view new) (left old) (left new) (sent old) (sent new) faults status.code status.place e.codes e.read e.send e.place e.done e.within e.pictures e.part e.stopped e.memory e.much e.past e.bad e.missing e.misfit e.unopened e.good e.disk)
+    subst P (sym c.in-Draw.is) c.draw_status-status.ensures
 
 pub returns-in-Init : goal.returns-in-Init
 returns-in-Init g c =

@@ -1,5 +1,6 @@
 use Rattle.std.proofs.Common.{refl, ◌∙◌, arith}
-use Rattle.chart_program.proofs.DiskKept.{kept_none, kept_then}
+use Rattle.chart_service.proofs.DiskKept.{kept_none}
+use Rattle.chart_program.proofs.DiskKept.{kept_then}
 use Rattle.chart_program.proofs.Drawing.{drawn_none, drawn_frame, takes_so, shorter}
 use Rattle.chart_program.proofs.draw.draw_frames.Goals as goal
 

@@ -1,8 +1,9 @@
 use Rattle.std.proofs.Common.{◌≡◌, ◌^◌, IfSome, take, length, refl, sym, subst, ◌∙◌, arith}
 use Rattle.std.proofs.lemmas.List.{length-take}
+use Rattle.chart_service.proofs.DiskKept.{kept_none}
 use Rattle.chart_program.specs.declared.draw_end.DrawEnd.{DrawEnd}
 use Rattle.chart_program.specs.Draws.{EndsDraw}
-use Rattle.chart_program.proofs.DiskKept.{kept_none, kept_then}
+use Rattle.chart_program.proofs.DiskKept.{kept_then}
 use Rattle.chart_program.proofs.Drawing.{drawn_start, start_partial, start_counted, error_so, if_err, on_ok, read_all, cut_so, stopped_so, within_so, drawn_piece, drawn_sent, counted_more}
 use Rattle.chart_program.proofs.draw.draw_pieces.Goals as goal
 

@@ -1,12 +1,13 @@
-use Rattle.std.proofs.Common.{ap, length, ◌∙◌}
+use Rattle.std.proofs.Common.{ap, length, refl, ◌∙◌}
 use Rattle.block_disk.specs.View.{Now, sent_now}
-use Rattle.chart_program.specs.Runs.{ShowStops, IsReplyEnd}
+use Rattle.chart_service.proofs.Sending.{error_goes}
+use Rattle.chart_program.specs.Runs.{ShowStops, IsReplyEnd, IsShown}
 use Rattle.chart_program.specs.Sending.{ReplySent}
 use Rattle.page_space.specs.declared.superblock.Superblock.{Superblock}
 use Rattle.store_catalog.specs.declared.catalog.Catalog.{Catalog}
 use Rattle.chart_program.proofs.Moments.{through_none}
 use Rattle.chart_program.proofs.Replying.{beside_kept, same_beside, reply_sent, text_stops, text_end}
-use Rattle.chart_program.proofs.RunStands.{error_goes}
+use Rattle.chart_program.proofs.RunEnds.{differ, on_err, stays}
 use Rattle.chart_program.proofs.run.reply.Goals as goal
 
 pub returns-in_err-text-clause-stops : goal.returns-in_err-text-clause-stops
@@ -56,3 +57,39 @@ returns-in-Ok-clause-kept g c =
       same = same_beside old.store.space.superblock.total after.store.space.superblock.total old.store.catalog.series.items after.store.catalog.series.items old.sessions after.sessions
           (ap (λ (s : Superblock). s.total) beside.store_is.superblock) (ap (λ (k : Catalog). k.series.items) beside.store_is.catalog) beside.sessions;
     }
+
+pub returns-in_err-text-clause-done : goal.returns-in_err-text-clause-done
+returns-in_err-text-clause-done g c = on_err c.from_residual.result _ _ c.from_residual.ensures.1
+
+pub returns-in_err-text-clause-shown : goal.returns-in_err-text-clause-shown
+returns-in_err-text-clause-shown g c = error_goes (IsShown g.V.Show.gives) c.from_residual.result c.in_err-text.field-0.0 c.from_residual.ensures.1 c.in_err-text.ensures.shown
+
+pub returns-in_err-text-clause-left : goal.returns-in_err-text-clause-left
+returns-in_err-text-clause-left g c = refl
+
+pub returns-in_err-text-clause-read_faults : goal.returns-in_err-text-clause-read_faults
+returns-in_err-text-clause-read_faults g c = refl
+
+pub returns-in_err-text-clause-send_faults : goal.returns-in_err-text-clause-send_faults
+returns-in_err-text-clause-send_faults g c = stays _ _ refl
+
+pub returns-in-Ok-clause-stops : goal.returns-in-Ok-clause-stops
+returns-in-Ok-clause-stops g c = tt
+
+pub returns-in-Ok-clause-shown : goal.returns-in-Ok-clause-shown
+returns-in-Ok-clause-shown g c = tt
+
+pub returns-in-Ok-clause-ends : goal.returns-in-Ok-clause-ends
+returns-in-Ok-clause-ends g c = tt
+
+pub returns-in-Ok-clause-send : goal.returns-in-Ok-clause-send
+returns-in-Ok-clause-send g c = λ fault. differ fault refl
+
+pub returns-in-Ok-clause-left : goal.returns-in-Ok-clause-left
+returns-in-Ok-clause-left g c = c.send.ensures.left
+
+pub returns-in-Ok-clause-read_faults : goal.returns-in-Ok-clause-read_faults
+returns-in-Ok-clause-read_faults g c = c.send.ensures.read_faults
+
+pub returns-in-Ok-clause-send_faults : goal.returns-in-Ok-clause-send_faults
+returns-in-Ok-clause-send_faults g c = c.send.ensures.send_faults

@@ -1,4 +1,4 @@
-use Rattle.std.proofs.Common.{◌^◌, None, Some, Ok, Err, IsTrue, length, refl, ap, sym, subst, ◌∙◌, arith}
+use Rattle.std.proofs.Common.{ℕ, ◌≤◌, ◌^◌, None, Some, Ok, Err, IsTrue, length, refl, ap, sym, subst, ◌∙◌, arith}
 use Rattle.chart_world.specs.Reading.{Reading, unread, unread_input, input_length}
 use Rattle.gate_pages.specs.GateLaws.{goes_none, goes_then}
 use Rattle.page_space.specs.declared.superblock.Superblock.{Superblock}
@@ -6,15 +6,19 @@ use Rattle.command_status.proofs.Held.{risen_since}
 use Rattle.chart_service.specs.Serving.{end_of}
 use Rattle.chart_service.specs.Stepping.{state_of}
 use Rattle.chart_service.specs.declared.failure.ServeEnd.TheVariants.{NoMemory}
+use Rattle.chart_service.proofs.DiskKept.{serves_none, serves_then, serves_kept as serves_disk}
+use Rattle.chart_service.proofs.Passing.{same_line}
+use Rattle.chart_service.proofs.Progress.{Gives}
+use Rattle.chart_service.proofs.Sending.{error_goes}
+use Rattle.chart_service.proofs.Served.{error_is, read_whole}
 use Rattle.chart_program.specs.declared.run_end.RunEnd.TheVariants.{Serve}
 use Rattle.chart_program.specs.Known.{EndsKnown}
-use Rattle.chart_program.specs.Runs.{EndsRun}
+use Rattle.chart_program.specs.Runs.{EndsRun, EndsAtBad, IsShown, IsReplyEnd}
 use Rattle.chart_program.proofs.Knowing.{known_kept}
 use Rattle.chart_program.specs.Sending.{Beside}
-use Rattle.chart_program.proofs.Progress.{same_line}
-use Rattle.chart_program.proofs.Answering.{Gives}
-use Rattle.chart_program.proofs.Replying.{serves_none, serves_then, serves_disk, serves_kept}
-use Rattle.chart_program.proofs.RunStands.{error_is, error_goes, read_whole, far_first, far_kept, far_line, far_long_line, all_done, run_ends, no_memory_first, ends_lines, ends_line, ends_long_line, lasts_first, lasts_take, lasts_line}
+use Rattle.chart_program.proofs.Replying.{serves_kept, reply_bad}
+use Rattle.chart_program.proofs.RunEnds.{differ, end_is, on_err, fault_read, fault_unsent, fault_disk, fault_bad}
+use Rattle.chart_program.proofs.RunStands.{far_first, far_kept, far_line, far_long_line, all_done, run_ends, no_memory_first, ends_lines, ends_line, ends_long_line, lasts_first, lasts_take, lasts_line}
 use Rattle.chart_program.proofs.run.run_on.Goals as goal
 
 pub lines-init : goal.lines-init
@@ -449,3 +453,214 @@ returns-in_err-lines-clause-known g c = λ knows follows known. error_goes (Ends
 
 pub returns-in_err-next-clause-known : goal.returns-in_err-next-clause-known
 returns-in_err-next-clause-known g c = λ knows follows known. error_goes (EndsKnown g.V.Show.gives knows) c.from_residual-in_err-next.result (Serve (end_of c.in_err-next.field-0.0)) c.from_residual-in_err-next.ensures.1 tt
+
+pub returns-in_err-lines-clause-done : goal.returns-in_err-lines-clause-done
+returns-in_err-lines-clause-done g c = λ total book told stands. on_err c.from_residual.result _ _ c.from_residual.ensures.1
+
+pub returns-in_err-lines-clause-within : goal.returns-in_err-lines-clause-within
+returns-in_err-lines-clause-within g c = on_err c.from_residual.result _ _ c.from_residual.ensures.1
+
+pub returns-in_err-lines-clause-read : goal.returns-in_err-lines-clause-read
+returns-in_err-lines-clause-read g c = λ fault. differ (sym (error_is c.from_residual.result (Serve NoMemory) c.from_residual.ensures.1) ∙ fault) refl
+
+pub returns-in_err-lines-clause-send : goal.returns-in_err-lines-clause-send
+returns-in_err-lines-clause-send g c = λ fault. differ (sym (error_is c.from_residual.result (Serve NoMemory) c.from_residual.ensures.1) ∙ fault) refl
+
+pub returns-in_err-lines-clause-disk : goal.returns-in_err-lines-clause-disk
+returns-in_err-lines-clause-disk g c = λ fault. differ (sym (error_is c.from_residual.result (Serve NoMemory) c.from_residual.ensures.1) ∙ fault) refl
+
+pub returns-in_err-lines-clause-shown : goal.returns-in_err-lines-clause-shown
+returns-in_err-lines-clause-shown g c = error_goes (IsShown g.V.Show.gives) c.from_residual.result (Serve NoMemory) c.from_residual.ensures.1 tt
+
+pub returns-in_err-lines-clause-bad : goal.returns-in_err-lines-clause-bad
+returns-in_err-lines-clause-bad g c =
+    let store = c.args.service.now.store in
+    error_goes (EndsAtBad (g.P.Pages.told store.space.pages) store.catalog.series.items (g.P.Pages.view store.space.pages).image store.space.superblock.total) c.from_residual.result (Serve NoMemory) c.from_residual.ensures.1 tt
+
+pub returns-in_err-lines-clause-serves : goal.returns-in_err-lines-clause-serves
+returns-in_err-lines-clause-serves g c = serves_none (g.P.Pages.told c.args.service.now.store.space.pages) (g.P.Pages.view c.args.service.now.store.space.pages)
+
+pub returns-in_err-lines-clause-goes_on : goal.returns-in_err-lines-clause-goes_on
+returns-in_err-lines-clause-goes_on g c = goes_none (g.P.Pages.under c.args.service.now.store.space.pages)
+
+pub returns-in_err-lines-clause-sound : goal.returns-in_err-lines-clause-sound
+returns-in_err-lines-clause-sound g c = λ other. c.requires
+
+pub returns-in_err-lines-clause-total : goal.returns-in_err-lines-clause-total
+returns-in_err-lines-clause-total g c = refl
+
+pub returns-in_err-next-clause-done : goal.returns-in_err-next-clause-done
+returns-in_err-next-clause-done g c = λ total book told stands. on_err c.from_residual-in_err-next.result _ _ c.from_residual-in_err-next.ensures.1
+
+pub returns-in_err-next-clause-within : goal.returns-in_err-next-clause-within
+returns-in_err-next-clause-within g c = on_err c.from_residual-in_err-next.result _ _ c.from_residual-in_err-next.ensures.1
+
+pub returns-in_err-next-clause-read : goal.returns-in_err-next-clause-read
+returns-in_err-next-clause-read g c =
+    let pages = c.args.service.now.store.space.pages in
+    let mid = c.lines.service.store.space.pages in
+    let taken = c.next.new.from.store.space.pages in
+    let reads = g.P.Streams.read_faults in
+    λ fault. risen_since (reads pages) (reads mid) (reads taken) c.lines.invariant.read_faults (c.in_err-next.ensures.read_fault (ap Err (fault_read c.in_err-next.field-0.0 (sym (error_is c.from_residual-in_err-next.result (Serve (end_of c.in_err-next.field-0.0)) c.from_residual-in_err-next.ensures.1) ∙ fault))))
+
+pub returns-in_err-next-clause-send : goal.returns-in_err-next-clause-send
+returns-in_err-next-clause-send g c = λ fault. fault_unsent c.in_err-next.field-0.0 (sym (error_is c.from_residual-in_err-next.result (Serve (end_of c.in_err-next.field-0.0)) c.from_residual-in_err-next.ensures.1) ∙ fault)
+
+pub returns-in_err-next-clause-disk : goal.returns-in_err-next-clause-disk
+returns-in_err-next-clause-disk g c = λ fault. fault_disk c.in_err-next.field-0.0 (sym (error_is c.from_residual-in_err-next.result (Serve (end_of c.in_err-next.field-0.0)) c.from_residual-in_err-next.ensures.1) ∙ fault)
+
+pub returns-in_err-next-clause-shown : goal.returns-in_err-next-clause-shown
+returns-in_err-next-clause-shown g c = error_goes (IsShown g.V.Show.gives) c.from_residual-in_err-next.result (Serve (end_of c.in_err-next.field-0.0)) c.from_residual-in_err-next.ensures.1 tt
+
+pub returns-in_err-next-clause-bad : goal.returns-in_err-next-clause-bad
+returns-in_err-next-clause-bad g c =
+    let store = c.next.new.from.store in
+    let taken = store.space.pages in
+    error_goes (EndsAtBad (g.P.Pages.told taken) store.catalog.series.items (g.P.Pages.view taken).image store.space.superblock.total) c.from_residual-in_err-next.result (Serve (end_of c.in_err-next.field-0.0)) c.from_residual-in_err-next.ensures.1
+    (fault_bad (g.P.Pages.told taken) store.catalog.series.items (g.P.Pages.view taken).image store.space.superblock.total c.in_err-next.field-0.0)
+
+pub returns-in_err-next-clause-serves : goal.returns-in_err-next-clause-serves
+returns-in_err-next-clause-serves g c =
+    let view = g.P.Pages.view in
+    let pages = c.args.service.now.store.space.pages in
+    let mid = c.lines.service.store.space.pages in
+    let taken = c.next.new.from.store.space.pages in
+    let inv = c.lines.invariant in
+    let takes = c.next.ensures.beside.store_is.pages_are in
+    let kept = g.met.P.PageWorld.take_keeps mid taken takes in
+    let told_in = g.P.Pages.told in
+    serves_then (told_in pages) (told_in mid) (told_in taken) (view pages) (view mid) (view taken) inv.serves (serves_disk (told_in mid) (told_in taken) (view mid) (view taken) kept (g.met.P.PageWorld.take_told mid taken takes) (g.met.P.PageWorld.take_was_told mid taken takes))
+
+pub returns-in_err-next-clause-sound : goal.returns-in_err-next-clause-sound
+returns-in_err-next-clause-sound g c =
+    let mid = c.lines.service.store.space.pages in
+    let taken = c.next.new.from.store.space.pages in
+    let inv = c.lines.invariant in
+    let takes = c.next.ensures.beside.store_is.pages_are in
+    let kept = g.met.P.PageWorld.take_keeps mid taken takes in
+    λ other. kept.fit inv.fit
+
+pub returns-in_err-next-clause-total : goal.returns-in_err-next-clause-total
+returns-in_err-next-clause-total g c = ap (λ (s : Superblock). s.total) c.next.ensures.beside.store_is.superblock ∙ c.lines.invariant.total_is
+
+pub returns-in-End-clause-ends : goal.returns-in-End-clause-ends
+returns-in-End-clause-ends g c = λ total book told stands. tt
+
+pub returns-in-End-clause-read : goal.returns-in-End-clause-read
+returns-in-End-clause-read g c = λ fault. differ fault refl
+
+pub returns-in-End-clause-send : goal.returns-in-End-clause-send
+returns-in-End-clause-send g c = λ fault. differ fault refl
+
+pub returns-in-End-clause-disk : goal.returns-in-End-clause-disk
+returns-in-End-clause-disk g c = λ fault. differ fault refl
+
+pub returns-in-End-clause-shown : goal.returns-in-End-clause-shown
+returns-in-End-clause-shown g c = tt
+
+pub returns-in-End-clause-known : goal.returns-in-End-clause-known
+returns-in-End-clause-known g c = λ knows follows known. tt
+
+pub returns-in-End-clause-bad : goal.returns-in-End-clause-bad
+returns-in-End-clause-bad g c = tt
+
+pub returns-in-End-clause-serves : goal.returns-in-End-clause-serves
+returns-in-End-clause-serves g c =
+    let view = g.P.Pages.view in
+    let pages = c.args.service.now.store.space.pages in
+    let mid = c.lines.service.store.space.pages in
+    let taken = c.next.new.from.store.space.pages in
+    let inv = c.lines.invariant in
+    let takes = c.next.ensures.beside.store_is.pages_are in
+    let kept = g.met.P.PageWorld.take_keeps mid taken takes in
+    let told_in = g.P.Pages.told in
+    serves_then (told_in pages) (told_in mid) (told_in taken) (view pages) (view mid) (view taken) inv.serves (serves_disk (told_in mid) (told_in taken) (view mid) (view taken) kept (g.met.P.PageWorld.take_told mid taken takes) (g.met.P.PageWorld.take_was_told mid taken takes))
+
+pub returns-in-End-clause-sound : goal.returns-in-End-clause-sound
+returns-in-End-clause-sound g c =
+    let mid = c.lines.service.store.space.pages in
+    let taken = c.next.new.from.store.space.pages in
+    let inv = c.lines.invariant in
+    let takes = c.next.ensures.beside.store_is.pages_are in
+    let kept = g.met.P.PageWorld.take_keeps mid taken takes in
+    λ other. kept.fit inv.fit
+
+pub returns-in-End-clause-total : goal.returns-in-End-clause-total
+returns-in-End-clause-total g c = ap (λ (s : Superblock). s.total) c.next.ensures.beside.store_is.superblock ∙ c.lines.invariant.total_is
+
+pub returns-in_err-answer_long_line-in-TooLong-clause-done : goal.returns-in_err-answer_long_line-in-TooLong-clause-done
+returns-in_err-answer_long_line-in-TooLong-clause-done g c = λ total book told stands. on_err c.from_residual-in_err-answer_long_line-in-TooLong.result _ _ c.from_residual-in_err-answer_long_line-in-TooLong.ensures.1
+
+pub returns-in_err-answer_long_line-in-TooLong-clause-within : goal.returns-in_err-answer_long_line-in-TooLong-clause-within
+returns-in_err-answer_long_line-in-TooLong-clause-within g c = on_err c.from_residual-in_err-answer_long_line-in-TooLong.result _ _ c.from_residual-in_err-answer_long_line-in-TooLong.ensures.1
+
+pub returns-in_err-answer_long_line-in-TooLong-clause-read : goal.returns-in_err-answer_long_line-in-TooLong-clause-read
+returns-in_err-answer_long_line-in-TooLong-clause-read g c = λ fault. absurd (subst IsReplyEnd (end_is (sym (error_is c.from_residual-in_err-answer_long_line-in-TooLong.result c.in_err-answer_long_line-in-TooLong.field-0.0 c.from_residual-in_err-answer_long_line-in-TooLong.ensures.1) ∙ fault)) c.in_err-answer_long_line-in-TooLong.ensures.ends)
+
+pub returns-in_err-answer_long_line-in-TooLong-clause-send : goal.returns-in_err-answer_long_line-in-TooLong-clause-send
+returns-in_err-answer_long_line-in-TooLong-clause-send g c =
+    let pages = c.args.service.now.store.space.pages in
+    let mid = c.lines.service.store.space.pages in
+    let taken = c.next.new.from.store.space.pages in
+    let new = c.answer_long_line.new.service.store.space.pages in
+    let sends = g.P.Streams.send_faults in
+    let Low : ℕ → Type 0 = λ n. sends pages ≤ n in
+    λ fault. risen_since (sends pages) (sends taken) (sends new) (subst Low (sym c.next.ensures.send_faults) c.lines.invariant.send_faults) (c.in_err-answer_long_line-in-TooLong.ensures.send (sym (error_is c.from_residual-in_err-answer_long_line-in-TooLong.result c.in_err-answer_long_line-in-TooLong.field-0.0 c.from_residual-in_err-answer_long_line-in-TooLong.ensures.1) ∙ fault))
+
+pub returns-in_err-answer_long_line-in-TooLong-clause-disk : goal.returns-in_err-answer_long_line-in-TooLong-clause-disk
+returns-in_err-answer_long_line-in-TooLong-clause-disk g c = λ fault. absurd (subst IsReplyEnd (end_is (sym (error_is c.from_residual-in_err-answer_long_line-in-TooLong.result c.in_err-answer_long_line-in-TooLong.field-0.0 c.from_residual-in_err-answer_long_line-in-TooLong.ensures.1) ∙ fault)) c.in_err-answer_long_line-in-TooLong.ensures.ends)
+
+pub returns-in_err-answer_long_line-in-TooLong-clause-shown : goal.returns-in_err-answer_long_line-in-TooLong-clause-shown
+returns-in_err-answer_long_line-in-TooLong-clause-shown g c = error_goes (IsShown g.V.Show.gives) c.from_residual-in_err-answer_long_line-in-TooLong.result c.in_err-answer_long_line-in-TooLong.field-0.0 c.from_residual-in_err-answer_long_line-in-TooLong.ensures.1 c.in_err-answer_long_line-in-TooLong.ensures.shown
+
+pub returns-in_err-answer_long_line-in-TooLong-clause-bad : goal.returns-in_err-answer_long_line-in-TooLong-clause-bad
+returns-in_err-answer_long_line-in-TooLong-clause-bad g c =
+    let store = c.answer_long_line.new.service.store in
+    let new = store.space.pages in
+    error_goes (EndsAtBad (g.P.Pages.told new) store.catalog.series.items (g.P.Pages.view new).image store.space.superblock.total) c.from_residual-in_err-answer_long_line-in-TooLong.result c.in_err-answer_long_line-in-TooLong.field-0.0 c.from_residual-in_err-answer_long_line-in-TooLong.ensures.1 (reply_bad (g.P.Pages.told new) store.catalog.series.items (g.P.Pages.view new).image store.space.superblock.total c.in_err-answer_long_line-in-TooLong.field-0.0 c.in_err-answer_long_line-in-TooLong.ensures.ends)
+
+pub returns-in_err-answer_long_line-in-TooLong-clause-sound : goal.returns-in_err-answer_long_line-in-TooLong-clause-sound
+returns-in_err-answer_long_line-in-TooLong-clause-sound g c =
+    let mid = c.lines.service.store.space.pages in
+    let taken = c.next.new.from.store.space.pages in
+    let inv = c.lines.invariant in
+    let takes = c.next.ensures.beside.store_is.pages_are in
+    let kept = g.met.P.PageWorld.take_keeps mid taken takes in
+    λ other. c.answer_long_line.ensures.kept.disk.fit (kept.fit inv.fit)
+
+pub returns-in_err-answer_long_line-in-TooLong-clause-total : goal.returns-in_err-answer_long_line-in-TooLong-clause-total
+returns-in_err-answer_long_line-in-TooLong-clause-total g c = ap (λ (b : Beside). b.total) c.answer_long_line.ensures.kept.same ∙ ap (λ (s : Superblock). s.total) c.next.ensures.beside.store_is.superblock ∙ c.lines.invariant.total_is
+
+pub returns-in_err-answer_line-in-Line-clause-done : goal.returns-in_err-answer_line-in-Line-clause-done
+returns-in_err-answer_line-in-Line-clause-done g c = λ total book told stands. on_err c.from_residual-in_err-answer_line-in-Line.result _ _ c.from_residual-in_err-answer_line-in-Line.ensures.1
+
+pub returns-in_err-answer_line-in-Line-clause-within : goal.returns-in_err-answer_line-in-Line-clause-within
+returns-in_err-answer_line-in-Line-clause-within g c = on_err c.from_residual-in_err-answer_line-in-Line.result _ _ c.from_residual-in_err-answer_line-in-Line.ensures.1
+
+pub returns-in_err-answer_line-in-Line-clause-read : goal.returns-in_err-answer_line-in-Line-clause-read
+returns-in_err-answer_line-in-Line-clause-read g c = λ fault. absurd (c.in_err-answer_line-in-Line.ensures.read (sym (error_is c.from_residual-in_err-answer_line-in-Line.result c.in_err-answer_line-in-Line.field-0.0 c.from_residual-in_err-answer_line-in-Line.ensures.1) ∙ fault))
+
+pub returns-in_err-answer_line-in-Line-clause-send : goal.returns-in_err-answer_line-in-Line-clause-send
+returns-in_err-answer_line-in-Line-clause-send g c =
+    let pages = c.args.service.now.store.space.pages in
+    let mid = c.lines.service.store.space.pages in
+    let taken = c.next.new.from.store.space.pages in
+    let new = c.answer_line.new.service.store.space.pages in
+    let sends = g.P.Streams.send_faults in
+    let Low : ℕ → Type 0 = λ n. sends pages ≤ n in
+    λ fault. risen_since (sends pages) (sends taken) (sends new) (subst Low (sym c.next.ensures.send_faults) c.lines.invariant.send_faults) (c.in_err-answer_line-in-Line.ensures.send (sym (error_is c.from_residual-in_err-answer_line-in-Line.result c.in_err-answer_line-in-Line.field-0.0 c.from_residual-in_err-answer_line-in-Line.ensures.1) ∙ fault))
+
+pub returns-in_err-answer_line-in-Line-clause-shown : goal.returns-in_err-answer_line-in-Line-clause-shown
+returns-in_err-answer_line-in-Line-clause-shown g c = error_goes (IsShown g.V.Show.gives) c.from_residual-in_err-answer_line-in-Line.result c.in_err-answer_line-in-Line.field-0.0 c.from_residual-in_err-answer_line-in-Line.ensures.1 c.in_err-answer_line-in-Line.ensures.shown
+
+pub returns-in_err-answer_line-in-Line-clause-bad : goal.returns-in_err-answer_line-in-Line-clause-bad
+returns-in_err-answer_line-in-Line-clause-bad g c =
+    let store = c.answer_line.new.service.store in
+    let new = store.space.pages in
+    error_goes (EndsAtBad (g.P.Pages.told new) store.catalog.series.items (g.P.Pages.view new).image store.space.superblock.total) c.from_residual-in_err-answer_line-in-Line.result c.in_err-answer_line-in-Line.field-0.0 c.from_residual-in_err-answer_line-in-Line.ensures.1 c.in_err-answer_line-in-Line.ensures.bad
+
+pub returns-in_err-answer_line-in-Line-clause-sound : goal.returns-in_err-answer_line-in-Line-clause-sound
+returns-in_err-answer_line-in-Line-clause-sound g c = λ other. c.in_err-answer_line-in-Line.ensures.sound (λ fault. other (error_is c.from_residual-in_err-answer_line-in-Line.result c.in_err-answer_line-in-Line.field-0.0 c.from_residual-in_err-answer_line-in-Line.ensures.1 ∙ fault))
+
+pub returns-in_err-answer_line-in-Line-clause-total : goal.returns-in_err-answer_line-in-Line-clause-total
+returns-in_err-answer_line-in-Line-clause-total g c = c.answer_line.ensures.total ∙ ap (λ (s : Superblock). s.total) c.next.ensures.beside.store_is.superblock ∙ c.lines.invariant.total_is

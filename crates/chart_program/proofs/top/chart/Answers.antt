@@ -1,4 +1,6 @@
-use Rattle.std.proofs.Common.{arith, inr, sym, refl}
+use Rattle.std.proofs.Common.{arith, inl, inr, sym, refl, ◌∙◌, [], ◌∷◌}
+use Rattle.chart_program.proofs.Apart.{apart}
+use Rattle.chart_program.proofs.CommandCodes.{never}
 use Rattle.chart_program.proofs.Words.{of_command, with_operands, chart_codes, streams, one_init, one_draw, completes, wrong_never, wrong_end}
 use Rattle.program_words.specs.declared.words.Command.TheVariants.{Init}
 use Rattle.chart_program.proofs.top.chart.Goals as goal
@@ -156,3 +158,180 @@ pub returns-in-Ok-clause-complete : goal.returns-in-Ok-clause-complete
 returns-in-Ok-clause-complete g c =
     let e = c.status_of_command.ensures in
     λ plain. completes _ c.in-Ok.command _ _ _ _ _ _ _ c.in-Ok.ensures.command e.complete
+
+pub returns-in-Err-Wrong-clause-codes : goal.returns-in-Err-Wrong-clause-codes
+returns-in-Err-Wrong-clause-codes g c = (1, omega arith, sym c.ended.ensures.code)
+
+pub returns-in-Err-Wrong-clause-command : goal.returns-in-Err-Wrong-clause-command
+returns-in-Err-Wrong-clause-command g c = λ other more. absurd (other c.ended.ensures.code)
+
+pub returns-in-Err-Wrong-clause-read : goal.returns-in-Err-Wrong-clause-read
+returns-in-Err-Wrong-clause-read g c = λ is. apart (sym c.ended.ensures.code ∙ is) refl
+
+pub returns-in-Err-Wrong-clause-stopped : goal.returns-in-Err-Wrong-clause-stopped
+returns-in-Err-Wrong-clause-stopped g c = λ is. apart (sym c.ended.ensures.code ∙ is) refl
+
+pub returns-in-Err-Wrong-clause-send : goal.returns-in-Err-Wrong-clause-send
+returns-in-Err-Wrong-clause-send g c = λ is. apart (sym c.ended.ensures.code ∙ is) refl
+
+pub returns-in-Err-Wrong-clause-bad : goal.returns-in-Err-Wrong-clause-bad
+returns-in-Err-Wrong-clause-bad g c = λ is. apart (sym c.ended.ensures.code ∙ is) refl
+
+pub returns-in-Err-Wrong-clause-much : goal.returns-in-Err-Wrong-clause-much
+returns-in-Err-Wrong-clause-much g c = λ is. apart (sym c.ended.ensures.code ∙ is) refl
+
+pub returns-in-Err-Wrong-clause-missing : goal.returns-in-Err-Wrong-clause-missing
+returns-in-Err-Wrong-clause-missing g c = λ is. apart (sym c.ended.ensures.code ∙ is) refl
+
+pub returns-in-Err-Wrong-clause-misfit : goal.returns-in-Err-Wrong-clause-misfit
+returns-in-Err-Wrong-clause-misfit g c = λ is. apart (sym c.ended.ensures.code ∙ is) refl
+
+pub returns-in-Err-Wrong-clause-unopened : goal.returns-in-Err-Wrong-clause-unopened
+returns-in-Err-Wrong-clause-unopened g c = λ is. apart (sym c.ended.ensures.code ∙ is) refl
+
+pub returns-in-Err-Wrong-clause-within : goal.returns-in-Err-Wrong-clause-within
+returns-in-Err-Wrong-clause-within g c = λ is. apart (sym c.ended.ensures.code ∙ is) refl
+
+pub returns-in-Err-Wrong-clause-fault : goal.returns-in-Err-Wrong-clause-fault
+returns-in-Err-Wrong-clause-fault g c = λ is. apart (sym c.ended.ensures.code ∙ is) refl
+
+pub returns-in-Err-Wrong-clause-faulted : goal.returns-in-Err-Wrong-clause-faulted
+returns-in-Err-Wrong-clause-faulted g c = λ is. apart (sym c.ended.ensures.code ∙ is) refl
+
+pub returns-in-Err-Wrong-clause-damaged : goal.returns-in-Err-Wrong-clause-damaged
+returns-in-Err-Wrong-clause-damaged g c = λ is. apart (sym c.ended.ensures.code ∙ is) refl
+
+pub returns-in-Err-Wrong-clause-undamaged : goal.returns-in-Err-Wrong-clause-undamaged
+returns-in-Err-Wrong-clause-undamaged g c = λ is. apart (sym c.ended.ensures.code ∙ is) refl
+
+pub returns-in-Err-Wrong-clause-small : goal.returns-in-Err-Wrong-clause-small
+returns-in-Err-Wrong-clause-small g c = λ is. apart (sym c.ended.ensures.code ∙ is) refl
+
+pub returns-in-Err-Wrong-clause-there : goal.returns-in-Err-Wrong-clause-there
+returns-in-Err-Wrong-clause-there g c = λ is. apart (sym c.ended.ensures.code ∙ is) refl
+
+pub returns-in-Err-Wrong-clause-refused : goal.returns-in-Err-Wrong-clause-refused
+returns-in-Err-Wrong-clause-refused g c = λ is. apart (sym c.ended.ensures.code ∙ is) refl
+
+pub returns-in-Err-Wrong-clause-done : goal.returns-in-Err-Wrong-clause-done
+returns-in-Err-Wrong-clause-done g c = λ is. apart (sym c.ended.ensures.code ∙ is) refl
+
+pub returns-in-Err-Wrong-clause-part : goal.returns-in-Err-Wrong-clause-part
+returns-in-Err-Wrong-clause-part g c = λ is. apart (sym c.ended.ensures.code ∙ is) refl
+
+pub returns-in-Err-Wrong-clause-made : goal.returns-in-Err-Wrong-clause-made
+returns-in-Err-Wrong-clause-made g c = λ is. apart (sym c.ended.ensures.code ∙ is) refl
+
+pub returns-in-Err-Wrong-clause-memory : goal.returns-in-Err-Wrong-clause-memory
+returns-in-Err-Wrong-clause-memory g c = λ is. apart (sym c.ended.ensures.code ∙ is) refl
+
+pub returns-in-Err-Wrong-clause-unnamed : goal.returns-in-Err-Wrong-clause-unnamed
+returns-in-Err-Wrong-clause-unnamed g c = λ other. absurd (other c.ended.ensures.code)
+
+pub returns-in-Err-Wrong-clause-crash : goal.returns-in-Err-Wrong-clause-crash
+returns-in-Err-Wrong-clause-crash g c = λ other. absurd (other c.ended.ensures.code)
+
+pub returns-in-Err-Wrong-clause-disk : goal.returns-in-Err-Wrong-clause-disk
+returns-in-Err-Wrong-clause-disk g c = λ other. absurd (other c.ended.ensures.code)
+
+pub returns-in-Err-Wrong-clause-place : goal.returns-in-Err-Wrong-clause-place
+returns-in-Err-Wrong-clause-place g c = λ zero. absurd (never (0 ∷ 3 ∷ 4 ∷ 5 ∷ 6 ∷ []) _ 2 zero refl c.ended.ensures.code)
+
+pub returns-in-Err-Wrong-clause-nothing : goal.returns-in-Err-Wrong-clause-nothing
+returns-in-Err-Wrong-clause-nothing g c = λ some unsent quiet. refl
+
+pub returns-in-Err-Wrong-clause-pictures : goal.returns-in-Err-Wrong-clause-pictures
+returns-in-Err-Wrong-clause-pictures g c = λ is drawn. apart (sym c.ended.ensures.code ∙ is) refl
+
+pub returns-in-Err-Wrong-clause-untouched : goal.returns-in-Err-Wrong-clause-untouched
+returns-in-Err-Wrong-clause-untouched g c = λ is. refl
+
+pub returns-in-Err-NoMemory-clause-wrong : goal.returns-in-Err-NoMemory-clause-wrong
+returns-in-Err-NoMemory-clause-wrong g c = λ is. apart (sym c.ended-in-Err-NoMemory.ensures.code ∙ is) refl
+
+pub returns-in-Err-NoMemory-clause-command : goal.returns-in-Err-NoMemory-clause-command
+returns-in-Err-NoMemory-clause-command g c = λ other more. absurd (more c.ended-in-Err-NoMemory.ensures.code)
+
+pub returns-in-Err-NoMemory-clause-read : goal.returns-in-Err-NoMemory-clause-read
+returns-in-Err-NoMemory-clause-read g c = λ is. apart (sym c.ended-in-Err-NoMemory.ensures.code ∙ is) refl
+
+pub returns-in-Err-NoMemory-clause-stopped : goal.returns-in-Err-NoMemory-clause-stopped
+returns-in-Err-NoMemory-clause-stopped g c = λ is. apart (sym c.ended-in-Err-NoMemory.ensures.code ∙ is) refl
+
+pub returns-in-Err-NoMemory-clause-send : goal.returns-in-Err-NoMemory-clause-send
+returns-in-Err-NoMemory-clause-send g c = λ is. apart (sym c.ended-in-Err-NoMemory.ensures.code ∙ is) refl
+
+pub returns-in-Err-NoMemory-clause-bad : goal.returns-in-Err-NoMemory-clause-bad
+returns-in-Err-NoMemory-clause-bad g c = λ is. apart (sym c.ended-in-Err-NoMemory.ensures.code ∙ is) refl
+
+pub returns-in-Err-NoMemory-clause-much : goal.returns-in-Err-NoMemory-clause-much
+returns-in-Err-NoMemory-clause-much g c = λ is. apart (sym c.ended-in-Err-NoMemory.ensures.code ∙ is) refl
+
+pub returns-in-Err-NoMemory-clause-missing : goal.returns-in-Err-NoMemory-clause-missing
+returns-in-Err-NoMemory-clause-missing g c = λ is. apart (sym c.ended-in-Err-NoMemory.ensures.code ∙ is) refl
+
+pub returns-in-Err-NoMemory-clause-misfit : goal.returns-in-Err-NoMemory-clause-misfit
+returns-in-Err-NoMemory-clause-misfit g c = λ is. apart (sym c.ended-in-Err-NoMemory.ensures.code ∙ is) refl
+
+pub returns-in-Err-NoMemory-clause-unopened : goal.returns-in-Err-NoMemory-clause-unopened
+returns-in-Err-NoMemory-clause-unopened g c = λ is. apart (sym c.ended-in-Err-NoMemory.ensures.code ∙ is) refl
+
+pub returns-in-Err-NoMemory-clause-within : goal.returns-in-Err-NoMemory-clause-within
+returns-in-Err-NoMemory-clause-within g c = λ is. apart (sym c.ended-in-Err-NoMemory.ensures.code ∙ is) refl
+
+pub returns-in-Err-NoMemory-clause-fault : goal.returns-in-Err-NoMemory-clause-fault
+returns-in-Err-NoMemory-clause-fault g c = λ is. apart (sym c.ended-in-Err-NoMemory.ensures.code ∙ is) refl
+
+pub returns-in-Err-NoMemory-clause-faulted : goal.returns-in-Err-NoMemory-clause-faulted
+returns-in-Err-NoMemory-clause-faulted g c = λ is. apart (sym c.ended-in-Err-NoMemory.ensures.code ∙ is) refl
+
+pub returns-in-Err-NoMemory-clause-damaged : goal.returns-in-Err-NoMemory-clause-damaged
+returns-in-Err-NoMemory-clause-damaged g c = λ is. apart (sym c.ended-in-Err-NoMemory.ensures.code ∙ is) refl
+
+pub returns-in-Err-NoMemory-clause-undamaged : goal.returns-in-Err-NoMemory-clause-undamaged
+returns-in-Err-NoMemory-clause-undamaged g c = λ is. apart (sym c.ended-in-Err-NoMemory.ensures.code ∙ is) refl
+
+pub returns-in-Err-NoMemory-clause-small : goal.returns-in-Err-NoMemory-clause-small
+returns-in-Err-NoMemory-clause-small g c = λ is. apart (sym c.ended-in-Err-NoMemory.ensures.code ∙ is) refl
+
+pub returns-in-Err-NoMemory-clause-there : goal.returns-in-Err-NoMemory-clause-there
+returns-in-Err-NoMemory-clause-there g c = λ is. apart (sym c.ended-in-Err-NoMemory.ensures.code ∙ is) refl
+
+pub returns-in-Err-NoMemory-clause-refused : goal.returns-in-Err-NoMemory-clause-refused
+returns-in-Err-NoMemory-clause-refused g c = λ is. apart (sym c.ended-in-Err-NoMemory.ensures.code ∙ is) refl
+
+pub returns-in-Err-NoMemory-clause-done : goal.returns-in-Err-NoMemory-clause-done
+returns-in-Err-NoMemory-clause-done g c = λ is. apart (sym c.ended-in-Err-NoMemory.ensures.code ∙ is) refl
+
+pub returns-in-Err-NoMemory-clause-part : goal.returns-in-Err-NoMemory-clause-part
+returns-in-Err-NoMemory-clause-part g c = λ is. apart (sym c.ended-in-Err-NoMemory.ensures.code ∙ is) refl
+
+pub returns-in-Err-NoMemory-clause-made : goal.returns-in-Err-NoMemory-clause-made
+returns-in-Err-NoMemory-clause-made g c = λ is. apart (sym c.ended-in-Err-NoMemory.ensures.code ∙ is) refl
+
+pub returns-in-Err-NoMemory-clause-memory : goal.returns-in-Err-NoMemory-clause-memory
+returns-in-Err-NoMemory-clause-memory g c = λ is. inl refl
+
+pub returns-in-Err-NoMemory-clause-unnamed : goal.returns-in-Err-NoMemory-clause-unnamed
+returns-in-Err-NoMemory-clause-unnamed g c = λ other. inl refl
+
+pub returns-in-Err-NoMemory-clause-crash : goal.returns-in-Err-NoMemory-clause-crash
+returns-in-Err-NoMemory-clause-crash g c = λ other. inl refl
+
+pub returns-in-Err-NoMemory-clause-disk : goal.returns-in-Err-NoMemory-clause-disk
+returns-in-Err-NoMemory-clause-disk g c = λ other. inl refl
+
+pub returns-in-Err-NoMemory-clause-place : goal.returns-in-Err-NoMemory-clause-place
+returns-in-Err-NoMemory-clause-place g c = λ zero. c.ended-in-Err-NoMemory.ensures.place
+
+pub returns-in-Err-NoMemory-clause-nothing : goal.returns-in-Err-NoMemory-clause-nothing
+returns-in-Err-NoMemory-clause-nothing g c = λ some unsent quiet. refl
+
+pub returns-in-Err-NoMemory-clause-pictures : goal.returns-in-Err-NoMemory-clause-pictures
+returns-in-Err-NoMemory-clause-pictures g c = λ is drawn. apart (sym c.ended-in-Err-NoMemory.ensures.code ∙ is) refl
+
+pub returns-in-Err-NoMemory-clause-untouched : goal.returns-in-Err-NoMemory-clause-untouched
+returns-in-Err-NoMemory-clause-untouched g c = λ is. refl
+
+pub returns-in-Err-NoMemory-clause-ready : goal.returns-in-Err-NoMemory-clause-ready
+returns-in-Err-NoMemory-clause-ready g c = λ plain init large honest fresh whole. inr c.ended-in-Err-NoMemory.ensures.code

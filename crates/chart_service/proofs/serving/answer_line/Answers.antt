@@ -1,11 +1,16 @@
-use Rattle.std.proofs.Common.{◌≡◌, ◌≤◌, ◌<◌, Some, length, arith, sym, ap, ◌∙◌}
+use Rattle.std.proofs.Common.{◌≡◌, ◌≤◌, ◌<◌, ℕ, Some, Err, length, arith, refl, sym, ap, subst, ◌∙◌}
 use Rattle.std.proofs.lemmas.Grind.{common_steps}
-use Rattle.std.specs.Prelude.{true}
-use Rattle.chart_service.specs.Serving.{says, end_of_step}
-use Rattle.chart_service.specs.Sending.{LineStops}
+use Rattle.block_disk.specs.Counts.{HasRisen}
+use Rattle.gate_pages.specs.GateLaws.{goes_none, goes_then}
+use Rattle.chart_service.specs.Serving.{end_of_step, EndsAtBad}
+use Rattle.chart_service.specs.Sending.{LineStops, IsLineEnd}
 use Rattle.chart_service.specs.Stepping.{state_of}
+use Rattle.chart_service.proofs.DiskKept.{serves_none, serves_then, serves_kept, serves_step}
+use Rattle.chart_service.proofs.Ends.{differ, on_err, step_ended, step_unsent, step_fault, step_bad, step_sound, sent_ended, sent_disk, sent_bad, stays}
+use Rattle.chart_service.proofs.Moments.{through_none}
 use Rattle.chart_service.proofs.Progress.{says_text}
 use Rattle.chart_service.proofs.Sending.{error_goes, step_stops, answer_done, answer_stops, text_replied, text_step, text_moments}
+use Rattle.chart_service.proofs.Served.{error_is}
 use Rattle.chart_service.proofs.serving.answer_line.Goals as goal
 
 pub returns-in_err-frame-clause-stops : goal.returns-in_err-frame-clause-stops
@@ -64,3 +69,166 @@ returns-clause-moments g c = λ total book told stands.
     let some : 0 < length c.args.line.now = grind (arith, common_steps) in
     text_moments c.args.line.now c.in_ok-frame.frame total book c.args.service.now.sessions c.step_line.new.self.sessions (g.P.Pages.view c.args.service.now.store.space.pages) (g.P.Pages.view mid) (g.P.Pages.view c.send_frame.new.service.store.space.pages)
     c.requires.short (says_text c.args.line.now some) (yes.moments total book told stands) (g.met.P.Pages.rests mid yes.sound) (yes.reply total book told stands) c.send_frame.ensures.moments
+
+pub returns-then-is_empty-clause-stops : goal.returns-then-is_empty-clause-stops
+returns-then-is_empty-clause-stops g c = λ total book told stands. tt
+
+pub returns-then-is_empty-clause-moments : goal.returns-then-is_empty-clause-moments
+returns-then-is_empty-clause-moments g c = λ total book told stands. through_none (g.P.Pages.view c.args.service.now.store.space.pages) _
+
+pub returns-then-is_empty-clause-read : goal.returns-then-is_empty-clause-read
+returns-then-is_empty-clause-read g c = tt
+
+pub returns-then-is_empty-clause-bad : goal.returns-then-is_empty-clause-bad
+returns-then-is_empty-clause-bad g c = tt
+
+pub returns-then-is_empty-clause-send : goal.returns-then-is_empty-clause-send
+returns-then-is_empty-clause-send g c = λ fault. differ fault refl
+
+pub returns-then-is_empty-clause-disk : goal.returns-then-is_empty-clause-disk
+returns-then-is_empty-clause-disk g c = λ fault. differ fault refl
+
+pub returns-then-is_empty-clause-serves : goal.returns-then-is_empty-clause-serves
+returns-then-is_empty-clause-serves g c = serves_none (g.P.Pages.told c.args.service.now.store.space.pages) (g.P.Pages.view c.args.service.now.store.space.pages)
+
+pub returns-then-is_empty-clause-goes_on : goal.returns-then-is_empty-clause-goes_on
+returns-then-is_empty-clause-goes_on g c = goes_none (g.P.Pages.under c.args.service.now.store.space.pages)
+
+pub returns-then-is_empty-clause-sound : goal.returns-then-is_empty-clause-sound
+returns-then-is_empty-clause-sound g c = λ other. c.requires.sound
+
+pub returns-then-is_empty-clause-total : goal.returns-then-is_empty-clause-total
+returns-then-is_empty-clause-total g c = refl
+
+pub returns-then-is_empty-clause-left : goal.returns-then-is_empty-clause-left
+returns-then-is_empty-clause-left g c = refl
+
+pub returns-then-is_empty-clause-read_faults : goal.returns-then-is_empty-clause-read_faults
+returns-then-is_empty-clause-read_faults g c = refl
+
+pub returns-then-is_empty-clause-send_faults : goal.returns-then-is_empty-clause-send_faults
+returns-then-is_empty-clause-send_faults g c = stays _ _ refl
+
+pub returns-in_err-frame-clause-done : goal.returns-in_err-frame-clause-done
+returns-in_err-frame-clause-done g c = λ total book told stands. on_err c.from_residual.result _ _ c.from_residual.ensures.1
+
+pub returns-in_err-frame-clause-read : goal.returns-in_err-frame-clause-read
+returns-in_err-frame-clause-read g c = error_goes IsLineEnd c.from_residual.result (end_of_step c.in_err-frame.field-0.0) c.from_residual.ensures.1 (step_ended c.in_err-frame.field-0.0)
+
+pub returns-in_err-frame-clause-send : goal.returns-in_err-frame-clause-send
+returns-in_err-frame-clause-send g c = λ fault. step_unsent c.in_err-frame.field-0.0 (sym (error_is c.from_residual.result (end_of_step c.in_err-frame.field-0.0) c.from_residual.ensures.1) ∙ fault)
+
+pub returns-in_err-frame-clause-disk : goal.returns-in_err-frame-clause-disk
+returns-in_err-frame-clause-disk g c = λ fault. c.in_err-frame.ensures.disk (ap Err (step_fault c.in_err-frame.field-0.0 (sym (error_is c.from_residual.result (end_of_step c.in_err-frame.field-0.0) c.from_residual.ensures.1) ∙ fault)))
+
+pub returns-in_err-frame-clause-bad : goal.returns-in_err-frame-clause-bad
+returns-in_err-frame-clause-bad g c =
+    let store = c.step_line.new.self.store in
+    let told = g.P.Pages.told store.space.pages in
+    let image = (g.P.Pages.view store.space.pages).image in
+    error_goes (EndsAtBad told store.catalog.series.items image store.space.superblock.total) c.from_residual.result (end_of_step c.in_err-frame.field-0.0) c.from_residual.ensures.1
+    (step_bad told store.catalog.series.items image store.space.superblock.total c.in_err-frame.field-0.0 c.in_err-frame.ensures.bad)
+
+pub returns-in_err-frame-clause-serves : goal.returns-in_err-frame-clause-serves
+returns-in_err-frame-clause-serves g c =
+    let pages = c.args.service.now.store.space.pages in
+    let pages' = c.step_line.new.self.store.space.pages in
+    serves_step (g.P.Pages.told pages) (g.P.Pages.told pages') (g.P.Pages.view pages) (g.P.Pages.view pages') c.step_line.ensures.steps
+
+pub returns-in_err-frame-clause-goes_on : goal.returns-in_err-frame-clause-goes_on
+returns-in_err-frame-clause-goes_on g c = c.step_line.ensures.goes_on
+
+pub returns-in_err-frame-clause-sound : goal.returns-in_err-frame-clause-sound
+returns-in_err-frame-clause-sound g c =
+    let pages = c.args.service.now.store.space.pages in
+    let pages' = c.step_line.new.self.store.space.pages in
+    λ other. step_sound (g.P.Pages.told pages) (g.P.Pages.view pages) (g.P.Pages.view pages') c.in_err-frame.field-0.0 c.requires.sound c.in_err-frame.ensures.unchanged
+    (λ same. other (error_is c.from_residual.result (end_of_step c.in_err-frame.field-0.0) c.from_residual.ensures.1 ∙ ap (λ x. Err (end_of_step x)) same))
+
+pub returns-in_err-frame-clause-total : goal.returns-in_err-frame-clause-total
+returns-in_err-frame-clause-total g c = c.step_line.ensures.total
+
+pub returns-in_err-frame-clause-left : goal.returns-in_err-frame-clause-left
+returns-in_err-frame-clause-left g c =
+    let pages = c.args.service.now.store.space.pages in
+    let pages' = c.step_line.new.self.store.space.pages in
+    sym (g.met.P.PageWorld.beside_left pages') ∙ ap (λ b. b.left) c.step_line.ensures.steps.beside ∙ g.met.P.PageWorld.beside_left pages
+
+pub returns-in_err-frame-clause-read_faults : goal.returns-in_err-frame-clause-read_faults
+returns-in_err-frame-clause-read_faults g c =
+    let pages = c.args.service.now.store.space.pages in
+    let pages' = c.step_line.new.self.store.space.pages in
+    sym (g.met.P.PageWorld.beside_read_faults pages') ∙ ap (λ b. b.read_faults) c.step_line.ensures.steps.beside ∙ g.met.P.PageWorld.beside_read_faults pages
+
+pub returns-in_err-frame-clause-send_faults : goal.returns-in_err-frame-clause-send_faults
+returns-in_err-frame-clause-send_faults g c =
+    let pages = c.args.service.now.store.space.pages in
+    let pages' = c.step_line.new.self.store.space.pages in
+    stays (g.P.Streams.send_faults pages) (g.P.Streams.send_faults pages') (sym (g.met.P.PageWorld.beside_send_faults pages') ∙ ap (λ b. b.send_faults) c.step_line.ensures.steps.beside ∙ g.met.P.PageWorld.beside_send_faults pages)
+
+pub returns-clause-read : goal.returns-clause-read
+returns-clause-read g c = sent_ended c.send_frame.result _ (g.P.Streams.sent c.step_line.new.self.store.space.pages) (g.P.Streams.sent c.send_frame.new.service.store.space.pages) c.send_frame.ensures.stops
+
+pub returns-clause-send : goal.returns-clause-send
+returns-clause-send g c =
+    let pages = c.args.service.now.store.space.pages in
+    let mid = c.step_line.new.self.store.space.pages in
+    let pages' = c.send_frame.new.service.store.space.pages in
+    let sends = g.P.Streams.send_faults in
+    let same : sends mid ≡ sends pages = sym (g.met.P.PageWorld.beside_send_faults mid) ∙ ap (λ b. b.send_faults) c.step_line.ensures.steps.beside ∙ g.met.P.PageWorld.beside_send_faults pages in
+    let P : ℕ → Type 0 = λ n. HasRisen n (sends pages') in
+    λ fault. subst P same (c.send_frame.ensures.send fault)
+
+pub returns-clause-disk : goal.returns-clause-disk
+returns-clause-disk g c = sent_disk c.send_frame.result _ (g.P.Streams.sent c.step_line.new.self.store.space.pages) (g.P.Streams.sent c.send_frame.new.service.store.space.pages) c.send_frame.ensures.stops
+
+pub returns-clause-bad : goal.returns-clause-bad
+returns-clause-bad g c =
+    let store = c.send_frame.new.service.store in
+    sent_bad (g.P.Pages.told store.space.pages) store.catalog.series.items (g.P.Pages.view store.space.pages).image store.space.superblock.total c.send_frame.result _ (g.P.Streams.sent c.step_line.new.self.store.space.pages) (g.P.Streams.sent c.send_frame.new.service.store.space.pages) c.send_frame.ensures.stops
+
+pub returns-clause-serves : goal.returns-clause-serves
+returns-clause-serves g c =
+    let pages = c.args.service.now.store.space.pages in
+    let mid = c.step_line.new.self.store.space.pages in
+    let pages' = c.send_frame.new.service.store.space.pages in
+    let told = g.P.Pages.told in
+    let view = g.P.Pages.view in
+    let kept = c.send_frame.ensures.kept in
+    serves_then (told pages) (told mid) (told pages') (view pages) (view mid) (view pages') (serves_step (told pages) (told mid) (view pages) (view mid) c.step_line.ensures.steps)
+    (serves_kept (told mid) (told pages') (view mid) (view pages') kept.disk kept.told kept.was_told)
+
+pub returns-clause-goes_on : goal.returns-clause-goes_on
+returns-clause-goes_on g c =
+    let pages = c.args.service.now.store.space.pages in
+    let mid = c.step_line.new.self.store.space.pages in
+    let pages' = c.send_frame.new.service.store.space.pages in
+    goes_then (g.P.Pages.under pages) (g.P.Pages.under mid) (g.P.Pages.under pages') c.step_line.ensures.goes_on c.send_frame.ensures.kept.goes_on
+
+pub returns-clause-sound : goal.returns-clause-sound
+returns-clause-sound g c = λ other. c.send_frame.ensures.kept.disk.fit c.in_ok-frame.ensures.sound
+
+pub returns-clause-total : goal.returns-clause-total
+returns-clause-total g c = c.send_frame.ensures.total ∙ c.step_line.ensures.total
+
+pub returns-clause-left : goal.returns-clause-left
+returns-clause-left g c =
+    let pages = c.args.service.now.store.space.pages in
+    let mid = c.step_line.new.self.store.space.pages in
+    c.send_frame.ensures.left ∙ sym (g.met.P.PageWorld.beside_left mid) ∙ ap (λ b. b.left) c.step_line.ensures.steps.beside ∙ g.met.P.PageWorld.beside_left pages
+
+pub returns-clause-read_faults : goal.returns-clause-read_faults
+returns-clause-read_faults g c =
+    let pages = c.args.service.now.store.space.pages in
+    let mid = c.step_line.new.self.store.space.pages in
+    c.send_frame.ensures.read_faults ∙ sym (g.met.P.PageWorld.beside_read_faults mid) ∙ ap (λ b. b.read_faults) c.step_line.ensures.steps.beside ∙ g.met.P.PageWorld.beside_read_faults pages
+
+pub returns-clause-send_faults : goal.returns-clause-send_faults
+returns-clause-send_faults g c =
+    let pages = c.args.service.now.store.space.pages in
+    let mid = c.step_line.new.self.store.space.pages in
+    let pages' = c.send_frame.new.service.store.space.pages in
+    let sends = g.P.Streams.send_faults in
+    let same : sends mid ≡ sends pages = sym (g.met.P.PageWorld.beside_send_faults mid) ∙ ap (λ b. b.send_faults) c.step_line.ensures.steps.beside ∙ g.met.P.PageWorld.beside_send_faults pages in
+    let P : ℕ → Type 0 = λ n. n ≤ sends pages' in
+    subst P same c.send_frame.ensures.send_faults

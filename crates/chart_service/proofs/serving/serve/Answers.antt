@@ -1,10 +1,12 @@
-use Rattle.std.proofs.Common.{◌^◌, None, Some, Ok, Err, IsTrue, IfSome, length, refl, ap, sym, subst, ◌∙◌, arith}
+use Rattle.std.proofs.Common.{ℕ, ◌≤◌, ◌^◌, None, Some, Ok, Err, IsTrue, IfSome, length, refl, ap, sym, subst, ◌∙◌, arith}
 use Rattle.chart_world.specs.Reading.{Reading, unread, unread_input, input_length}
 use Rattle.gate_pages.specs.GateLaws.{goes_none, goes_then}
 use Rattle.page_space.specs.declared.superblock.Superblock.{Superblock}
-use Rattle.chart_service.specs.Serving.{EndsServe, end_of}
+use Rattle.chart_service.specs.Sending.{IsSendEnd, IsLineEnd}
+use Rattle.chart_service.specs.Serving.{EndsServe, EndsAtBad, end_of}
 use Rattle.chart_service.specs.declared.failure.ServeEnd.TheVariants.{NoMemory}
 use Rattle.chart_service.specs.Stepping.{state_of}
+use Rattle.chart_service.proofs.Ends.{differ, end_is, on_err, fault_read, fault_unsent, fault_disk, fault_bad, sending_bad}
 use Rattle.chart_service.proofs.Passing.{same_line}
 use Rattle.chart_service.proofs.Progress.{gives_by}
 use Rattle.chart_service.proofs.DiskKept.{serves_none, serves_then, serves_kept, risen_since}
@@ -395,3 +397,218 @@ returns-in_err-answer_line-in-Line-clause-goes_on g c =
     let new = c.answer_line.new.service.store.space.pages in
     let made = c.answer_line.ensures in
     goes_then (g.P.Pages.under pages) (g.P.Pages.under taken) (g.P.Pages.under new) (goes_then (g.P.Pages.under pages) (g.P.Pages.under mid) (g.P.Pages.under taken) inv.goes_on (g.met.P.PageWorld.take_goes_on mid taken takes)) made.goes_on
+
+pub returns-in_err-lines-clause-done : goal.returns-in_err-lines-clause-done
+returns-in_err-lines-clause-done g c = λ total book told stands. on_err c.from_residual.result _ _ c.from_residual.ensures.1
+
+pub returns-in_err-lines-clause-within : goal.returns-in_err-lines-clause-within
+returns-in_err-lines-clause-within g c = on_err c.from_residual.result _ _ c.from_residual.ensures.1
+
+pub returns-in_err-lines-clause-read : goal.returns-in_err-lines-clause-read
+returns-in_err-lines-clause-read g c = λ fault. differ (sym (error_is c.from_residual.result NoMemory c.from_residual.ensures.1) ∙ fault) refl
+
+pub returns-in_err-lines-clause-send : goal.returns-in_err-lines-clause-send
+returns-in_err-lines-clause-send g c = λ fault. differ (sym (error_is c.from_residual.result NoMemory c.from_residual.ensures.1) ∙ fault) refl
+
+pub returns-in_err-lines-clause-disk : goal.returns-in_err-lines-clause-disk
+returns-in_err-lines-clause-disk g c = λ fault. differ (sym (error_is c.from_residual.result NoMemory c.from_residual.ensures.1) ∙ fault) refl
+
+pub returns-in_err-lines-clause-bad : goal.returns-in_err-lines-clause-bad
+returns-in_err-lines-clause-bad g c = error_goes (EndsAtBad (g.P.Pages.told c.args.service.now.store.space.pages) c.args.service.now.store.catalog.series.items (g.P.Pages.view c.args.service.now.store.space.pages).image c.args.service.now.store.space.superblock.total) c.from_residual.result NoMemory c.from_residual.ensures.1 tt
+
+pub returns-in_err-lines-clause-serves : goal.returns-in_err-lines-clause-serves
+returns-in_err-lines-clause-serves g c = serves_none (g.P.Pages.told c.args.service.now.store.space.pages) (g.P.Pages.view c.args.service.now.store.space.pages)
+
+pub returns-in_err-lines-clause-goes_on : goal.returns-in_err-lines-clause-goes_on
+returns-in_err-lines-clause-goes_on g c = goes_none (g.P.Pages.under c.args.service.now.store.space.pages)
+
+pub returns-in_err-lines-clause-sound : goal.returns-in_err-lines-clause-sound
+returns-in_err-lines-clause-sound g c = λ other. c.requires
+
+pub returns-in_err-lines-clause-rests : goal.returns-in_err-lines-clause-rests
+returns-in_err-lines-clause-rests g c = λ other. g.met.P.Pages.rests c.args.service.now.store.space.pages c.requires
+
+pub returns-in_err-lines-clause-total : goal.returns-in_err-lines-clause-total
+returns-in_err-lines-clause-total g c = refl
+
+pub returns-in_err-next-clause-done : goal.returns-in_err-next-clause-done
+returns-in_err-next-clause-done g c = λ total book told stands. on_err c.from_residual-in_err-next.result _ _ c.from_residual-in_err-next.ensures.1
+
+pub returns-in_err-next-clause-within : goal.returns-in_err-next-clause-within
+returns-in_err-next-clause-within g c = on_err c.from_residual-in_err-next.result _ _ c.from_residual-in_err-next.ensures.1
+
+pub returns-in_err-next-clause-read : goal.returns-in_err-next-clause-read
+returns-in_err-next-clause-read g c =
+    let pages = c.args.service.now.store.space.pages in
+    let mid = c.lines.service.store.space.pages in
+    let taken = c.next.new.from.store.space.pages in
+    let reads = g.P.Streams.read_faults in
+    λ fault. risen_since (reads pages) (reads mid) (reads taken) c.lines.invariant.read_faults (c.in_err-next.ensures.read_fault (ap Err (fault_read c.in_err-next.field-0.0 (sym (error_is c.from_residual-in_err-next.result (end_of c.in_err-next.field-0.0) c.from_residual-in_err-next.ensures.1) ∙ fault))))
+
+pub returns-in_err-next-clause-send : goal.returns-in_err-next-clause-send
+returns-in_err-next-clause-send g c = λ fault. fault_unsent c.in_err-next.field-0.0 (sym (error_is c.from_residual-in_err-next.result (end_of c.in_err-next.field-0.0) c.from_residual-in_err-next.ensures.1) ∙ fault)
+
+pub returns-in_err-next-clause-disk : goal.returns-in_err-next-clause-disk
+returns-in_err-next-clause-disk g c = λ fault. fault_disk c.in_err-next.field-0.0 (sym (error_is c.from_residual-in_err-next.result (end_of c.in_err-next.field-0.0) c.from_residual-in_err-next.ensures.1) ∙ fault)
+
+pub returns-in_err-next-clause-bad : goal.returns-in_err-next-clause-bad
+returns-in_err-next-clause-bad g c =
+    let taken = c.next.new.from.store.space.pages in
+    let store = c.next.new.from.store in
+    error_goes (EndsAtBad (g.P.Pages.told taken) store.catalog.series.items (g.P.Pages.view taken).image store.space.superblock.total) c.from_residual-in_err-next.result (end_of c.in_err-next.field-0.0) c.from_residual-in_err-next.ensures.1
+    (fault_bad (g.P.Pages.told taken) store.catalog.series.items (g.P.Pages.view taken).image store.space.superblock.total c.in_err-next.field-0.0)
+
+pub returns-in_err-next-clause-serves : goal.returns-in_err-next-clause-serves
+returns-in_err-next-clause-serves g c =
+    let view = g.P.Pages.view in
+    let pages = c.args.service.now.store.space.pages in
+    let mid = c.lines.service.store.space.pages in
+    let taken = c.next.new.from.store.space.pages in
+    let inv = c.lines.invariant in
+    let takes = c.next.ensures.beside.store_is.pages_are in
+    let kept = g.met.P.PageWorld.take_keeps mid taken takes in
+    let told_in = g.P.Pages.told in
+    serves_then (told_in pages) (told_in mid) (told_in taken) (view pages) (view mid) (view taken) inv.serves (serves_kept (told_in mid) (told_in taken) (view mid) (view taken) kept (g.met.P.PageWorld.take_told mid taken takes) (g.met.P.PageWorld.take_was_told mid taken takes))
+
+pub returns-in_err-next-clause-sound : goal.returns-in_err-next-clause-sound
+returns-in_err-next-clause-sound g c =
+    let mid = c.lines.service.store.space.pages in
+    let taken = c.next.new.from.store.space.pages in
+    let inv = c.lines.invariant in
+    let takes = c.next.ensures.beside.store_is.pages_are in
+    let kept = g.met.P.PageWorld.take_keeps mid taken takes in
+    λ other. kept.fit inv.fit
+
+pub returns-in_err-next-clause-rests : goal.returns-in_err-next-clause-rests
+returns-in_err-next-clause-rests g c =
+    let mid = c.lines.service.store.space.pages in
+    let taken = c.next.new.from.store.space.pages in
+    let inv = c.lines.invariant in
+    let takes = c.next.ensures.beside.store_is.pages_are in
+    let kept = g.met.P.PageWorld.take_keeps mid taken takes in
+    λ other. g.met.P.Pages.rests taken (kept.fit inv.fit)
+
+pub returns-in_err-next-clause-total : goal.returns-in_err-next-clause-total
+returns-in_err-next-clause-total g c = ap (λ (s : Superblock). s.total) c.next.ensures.beside.store_is.superblock ∙ c.lines.invariant.total
+
+pub returns-in-End-clause-ends : goal.returns-in-End-clause-ends
+returns-in-End-clause-ends g c = λ total book told stands. tt
+
+pub returns-in-End-clause-read : goal.returns-in-End-clause-read
+returns-in-End-clause-read g c = λ fault. differ fault refl
+
+pub returns-in-End-clause-send : goal.returns-in-End-clause-send
+returns-in-End-clause-send g c = λ fault. differ fault refl
+
+pub returns-in-End-clause-disk : goal.returns-in-End-clause-disk
+returns-in-End-clause-disk g c = λ fault. differ fault refl
+
+pub returns-in-End-clause-bad : goal.returns-in-End-clause-bad
+returns-in-End-clause-bad g c = tt
+
+pub returns-in-End-clause-serves : goal.returns-in-End-clause-serves
+returns-in-End-clause-serves g c =
+    let view = g.P.Pages.view in
+    let pages = c.args.service.now.store.space.pages in
+    let mid = c.lines.service.store.space.pages in
+    let taken = c.next.new.from.store.space.pages in
+    let inv = c.lines.invariant in
+    let takes = c.next.ensures.beside.store_is.pages_are in
+    let kept = g.met.P.PageWorld.take_keeps mid taken takes in
+    let told_in = g.P.Pages.told in
+    serves_then (told_in pages) (told_in mid) (told_in taken) (view pages) (view mid) (view taken) inv.serves (serves_kept (told_in mid) (told_in taken) (view mid) (view taken) kept (g.met.P.PageWorld.take_told mid taken takes) (g.met.P.PageWorld.take_was_told mid taken takes))
+
+pub returns-in-End-clause-sound : goal.returns-in-End-clause-sound
+returns-in-End-clause-sound g c =
+    let mid = c.lines.service.store.space.pages in
+    let taken = c.next.new.from.store.space.pages in
+    let inv = c.lines.invariant in
+    let takes = c.next.ensures.beside.store_is.pages_are in
+    let kept = g.met.P.PageWorld.take_keeps mid taken takes in
+    λ other. kept.fit inv.fit
+
+pub returns-in-End-clause-rests : goal.returns-in-End-clause-rests
+returns-in-End-clause-rests g c =
+    let mid = c.lines.service.store.space.pages in
+    let taken = c.next.new.from.store.space.pages in
+    let inv = c.lines.invariant in
+    let takes = c.next.ensures.beside.store_is.pages_are in
+    let kept = g.met.P.PageWorld.take_keeps mid taken takes in
+    λ other. g.met.P.Pages.rests taken (kept.fit inv.fit)
+
+pub returns-in-End-clause-total : goal.returns-in-End-clause-total
+returns-in-End-clause-total g c = ap (λ (s : Superblock). s.total) c.next.ensures.beside.store_is.superblock ∙ c.lines.invariant.total
+
+pub returns-in_err-answer_long_line-in-TooLong-clause-done : goal.returns-in_err-answer_long_line-in-TooLong-clause-done
+returns-in_err-answer_long_line-in-TooLong-clause-done g c = λ total book told stands. on_err c.from_residual-in_err-answer_long_line-in-TooLong.result _ _ c.from_residual-in_err-answer_long_line-in-TooLong.ensures.1
+
+pub returns-in_err-answer_long_line-in-TooLong-clause-within : goal.returns-in_err-answer_long_line-in-TooLong-clause-within
+returns-in_err-answer_long_line-in-TooLong-clause-within g c = on_err c.from_residual-in_err-answer_long_line-in-TooLong.result _ _ c.from_residual-in_err-answer_long_line-in-TooLong.ensures.1
+
+pub returns-in_err-answer_long_line-in-TooLong-clause-read : goal.returns-in_err-answer_long_line-in-TooLong-clause-read
+returns-in_err-answer_long_line-in-TooLong-clause-read g c = λ fault. absurd (subst IsSendEnd (end_is (sym (error_is c.from_residual-in_err-answer_long_line-in-TooLong.result c.in_err-answer_long_line-in-TooLong.field-0.0 c.from_residual-in_err-answer_long_line-in-TooLong.ensures.1) ∙ fault)) c.in_err-answer_long_line-in-TooLong.ensures.ends)
+
+pub returns-in_err-answer_long_line-in-TooLong-clause-send : goal.returns-in_err-answer_long_line-in-TooLong-clause-send
+returns-in_err-answer_long_line-in-TooLong-clause-send g c =
+    let pages = c.args.service.now.store.space.pages in
+    let mid = c.lines.service.store.space.pages in
+    let taken = c.next.new.from.store.space.pages in
+    let new = c.answer_long_line.new.service.store.space.pages in
+    let sends = g.P.Streams.send_faults in
+    let Low : ℕ → Type 0 = λ n. sends pages ≤ n in
+    λ fault. risen_since (sends pages) (sends taken) (sends new) (subst Low (sym c.next.ensures.send_faults) c.lines.invariant.send_faults) (c.in_err-answer_long_line-in-TooLong.ensures.send (sym (error_is c.from_residual-in_err-answer_long_line-in-TooLong.result c.in_err-answer_long_line-in-TooLong.field-0.0 c.from_residual-in_err-answer_long_line-in-TooLong.ensures.1) ∙ fault))
+
+pub returns-in_err-answer_long_line-in-TooLong-clause-disk : goal.returns-in_err-answer_long_line-in-TooLong-clause-disk
+returns-in_err-answer_long_line-in-TooLong-clause-disk g c = λ fault. absurd (subst IsSendEnd (end_is (sym (error_is c.from_residual-in_err-answer_long_line-in-TooLong.result c.in_err-answer_long_line-in-TooLong.field-0.0 c.from_residual-in_err-answer_long_line-in-TooLong.ensures.1) ∙ fault)) c.in_err-answer_long_line-in-TooLong.ensures.ends)
+
+pub returns-in_err-answer_long_line-in-TooLong-clause-bad : goal.returns-in_err-answer_long_line-in-TooLong-clause-bad
+returns-in_err-answer_long_line-in-TooLong-clause-bad g c =
+    let store = c.answer_long_line.new.service.store in
+    let new = store.space.pages in
+    error_goes (EndsAtBad (g.P.Pages.told new) store.catalog.series.items (g.P.Pages.view new).image store.space.superblock.total) c.from_residual-in_err-answer_long_line-in-TooLong.result c.in_err-answer_long_line-in-TooLong.field-0.0 c.from_residual-in_err-answer_long_line-in-TooLong.ensures.1 (sending_bad (g.P.Pages.told new) store.catalog.series.items (g.P.Pages.view new).image store.space.superblock.total c.in_err-answer_long_line-in-TooLong.field-0.0 c.in_err-answer_long_line-in-TooLong.ensures.ends)
+
+pub returns-in_err-answer_long_line-in-TooLong-clause-sound : goal.returns-in_err-answer_long_line-in-TooLong-clause-sound
+returns-in_err-answer_long_line-in-TooLong-clause-sound g c =
+    let mid = c.lines.service.store.space.pages in
+    let taken = c.next.new.from.store.space.pages in
+    let inv = c.lines.invariant in
+    let takes = c.next.ensures.beside.store_is.pages_are in
+    let kept = g.met.P.PageWorld.take_keeps mid taken takes in
+    λ other. c.answer_long_line.ensures.kept.disk.fit (kept.fit inv.fit)
+
+pub returns-in_err-answer_long_line-in-TooLong-clause-total : goal.returns-in_err-answer_long_line-in-TooLong-clause-total
+returns-in_err-answer_long_line-in-TooLong-clause-total g c = c.answer_long_line.ensures.total ∙ ap (λ (s : Superblock). s.total) c.next.ensures.beside.store_is.superblock ∙ c.lines.invariant.total
+
+pub returns-in_err-answer_line-in-Line-clause-done : goal.returns-in_err-answer_line-in-Line-clause-done
+returns-in_err-answer_line-in-Line-clause-done g c = λ total book told stands. on_err c.from_residual-in_err-answer_line-in-Line.result _ _ c.from_residual-in_err-answer_line-in-Line.ensures.1
+
+pub returns-in_err-answer_line-in-Line-clause-within : goal.returns-in_err-answer_line-in-Line-clause-within
+returns-in_err-answer_line-in-Line-clause-within g c = on_err c.from_residual-in_err-answer_line-in-Line.result _ _ c.from_residual-in_err-answer_line-in-Line.ensures.1
+
+pub returns-in_err-answer_line-in-Line-clause-read : goal.returns-in_err-answer_line-in-Line-clause-read
+returns-in_err-answer_line-in-Line-clause-read g c = λ fault. absurd (subst IsLineEnd (end_is (sym (error_is c.from_residual-in_err-answer_line-in-Line.result c.in_err-answer_line-in-Line.field-0.0 c.from_residual-in_err-answer_line-in-Line.ensures.1) ∙ fault)) c.in_err-answer_line-in-Line.ensures.read)
+
+pub returns-in_err-answer_line-in-Line-clause-send : goal.returns-in_err-answer_line-in-Line-clause-send
+returns-in_err-answer_line-in-Line-clause-send g c =
+    let pages = c.args.service.now.store.space.pages in
+    let mid = c.lines.service.store.space.pages in
+    let taken = c.next.new.from.store.space.pages in
+    let new = c.answer_line.new.service.store.space.pages in
+    let sends = g.P.Streams.send_faults in
+    let Low : ℕ → Type 0 = λ n. sends pages ≤ n in
+    λ fault. risen_since (sends pages) (sends taken) (sends new) (subst Low (sym c.next.ensures.send_faults) c.lines.invariant.send_faults) (c.in_err-answer_line-in-Line.ensures.send (sym (error_is c.from_residual-in_err-answer_line-in-Line.result c.in_err-answer_line-in-Line.field-0.0 c.from_residual-in_err-answer_line-in-Line.ensures.1) ∙ fault))
+
+pub returns-in_err-answer_line-in-Line-clause-bad : goal.returns-in_err-answer_line-in-Line-clause-bad
+returns-in_err-answer_line-in-Line-clause-bad g c =
+    let store = c.answer_line.new.service.store in
+    let new = store.space.pages in
+    error_goes (EndsAtBad (g.P.Pages.told new) store.catalog.series.items (g.P.Pages.view new).image store.space.superblock.total) c.from_residual-in_err-answer_line-in-Line.result c.in_err-answer_line-in-Line.field-0.0 c.from_residual-in_err-answer_line-in-Line.ensures.1 c.in_err-answer_line-in-Line.ensures.bad
+
+pub returns-in_err-answer_line-in-Line-clause-sound : goal.returns-in_err-answer_line-in-Line-clause-sound
+returns-in_err-answer_line-in-Line-clause-sound g c = λ other. c.in_err-answer_line-in-Line.ensures.sound (λ fault. other (error_is c.from_residual-in_err-answer_line-in-Line.result c.in_err-answer_line-in-Line.field-0.0 c.from_residual-in_err-answer_line-in-Line.ensures.1 ∙ fault))
+
+pub returns-in_err-answer_line-in-Line-clause-rests : goal.returns-in_err-answer_line-in-Line-clause-rests
+returns-in_err-answer_line-in-Line-clause-rests g c = λ other. g.met.P.Pages.rests c.answer_line.new.service.store.space.pages (c.in_err-answer_line-in-Line.ensures.sound (λ fault. other (error_is c.from_residual-in_err-answer_line-in-Line.result c.in_err-answer_line-in-Line.field-0.0 c.from_residual-in_err-answer_line-in-Line.ensures.1 ∙ fault)))
+
+pub returns-in_err-answer_line-in-Line-clause-total : goal.returns-in_err-answer_line-in-Line-clause-total
+returns-in_err-answer_line-in-Line-clause-total g c = c.answer_line.ensures.total ∙ ap (λ (s : Superblock). s.total) c.next.ensures.beside.store_is.superblock ∙ c.lines.invariant.total

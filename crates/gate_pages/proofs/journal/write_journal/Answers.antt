@@ -1,3 +1,4 @@
+use Rattle.gate_pages.proofs.Moving.{moves_among, moves_on}
 use Rattle.std.proofs.Common.{◌∙◌, ◌+◌, ap, arith}
 use Rattle.gate_pages.specs.Entries.{entries}
 use Rattle.gate_pages.specs.Journal.{directory}
@@ -14,3 +15,12 @@ returns-clause-holds g c honest =
           c.write_block.ensures.moves.off mid (2 + k) (λ is. absurd (omega (arith, is)))
           ∙ c.in_ok-write_images.ensures.images honest k below);
     }
+
+pub returns-in_err-write_images-clause-moves : goal.returns-in_err-write_images-clause-moves
+returns-in_err-write_images-clause-moves g c = moves_among (λ number is. is) (omega arith) (omega arith) (omega arith) c.write_images.ensures.moves
+
+pub returns-in_err-write_block-clause-moves : goal.returns-in_err-write_block-clause-moves
+returns-in_err-write_block-clause-moves g c = moves_on (λ number is. is) (λ number at. (omega (arith, at), omega (arith, at))) (omega arith) (omega arith) (omega arith) c.write_images.ensures.moves c.write_block.ensures.moves
+
+pub returns-clause-moves : goal.returns-clause-moves
+returns-clause-moves g c = moves_on (λ number is. is) (λ number at. (omega (arith, at), omega (arith, at))) (omega arith) (omega arith) (omega arith) c.write_images.ensures.moves c.write_block.ensures.moves

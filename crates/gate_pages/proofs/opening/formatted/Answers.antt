@@ -1,6 +1,6 @@
 use Rattle.std.proofs.Common.{inl, inr, arith}
 use Rattle.block_disk.specs.View.{Nowhere, At}
-use Rattle.gate_pages.proofs.Moving.{moves_then, moves_weaker}
+use Rattle.gate_pages.proofs.Moving.{moves_then, moves_weaker, moves_among}
 use Rattle.gate_pages.proofs.opening.formatted.Goals as goal
 
 pub returns-in-Ok-clause-moves : goal.returns-in-Ok-clause-moves
@@ -20,3 +20,9 @@ returns-in-Err-clause-cause g c = elim c.in-Err.ensures.cause [
   | inl risen ↦ inl (omega (arith, risen, c.pages_on.ensures.moves.faults))
   | inr last ↦ inr last
 ]
+
+pub returns-in_err-count-clause-moves : goal.returns-in_err-count-clause-moves
+returns-in_err-count-clause-moves g c = moves_among (λ number nothing. absurd nothing) (omega arith) (omega arith) (omega arith) c.pages_on.ensures.moves
+
+pub returns-in_err-buffer-clause-moves : goal.returns-in_err-buffer-clause-moves
+returns-in_err-buffer-clause-moves g c = moves_among (λ number nothing. absurd nothing) (omega arith) (omega arith) (omega arith) c.pages_on.ensures.moves

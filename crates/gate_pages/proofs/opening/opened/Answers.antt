@@ -1,8 +1,9 @@
+use Rattle.gate_pages.proofs.Replaying.{stands_quiet}
 use Rattle.std.proofs.Common.{◌∙◌, ap, arith}
 use Rattle.block_disk.specs.View.{Nowhere}
 use Rattle.gate_pages.specs.Journal.{page_count, pages_of}
 use Rattle.gate_pages.specs.Steps.{Anywhere}
-use Rattle.gate_pages.proofs.Moving.{moves_then, moves_weaker, untouched}
+use Rattle.gate_pages.proofs.Moving.{moves_then, moves_weaker, untouched, moves_among}
 use Rattle.gate_pages.proofs.OpeningLemmas.{explains_back, leaves_back, moments_back, counted_moments}
 use Rattle.gate_pages.proofs.opening.opened.Goals as goal
 
@@ -48,3 +49,19 @@ returns-in-Ok-clause-pages g c honest =
     let asked = c.pages_on.ensures.moves in
     c.in-Ok.ensures.pages (asked.honest honest)
     ∙ ap (λ image. pages_of c.in_ok-count.count image) (untouched 0 0 0 (view c.args.disk.now) (view c.pages_on.new.disk) asked honest)
+
+pub returns-in_err-count-clause-moves : goal.returns-in_err-count-clause-moves
+returns-in_err-count-clause-moves g c = moves_among (λ number nothing. tt) (omega arith) (omega arith) (omega arith) c.pages_on.ensures.moves
+
+pub returns-in_err-buffer-clause-moves : goal.returns-in_err-buffer-clause-moves
+returns-in_err-buffer-clause-moves g c = moves_among (λ number nothing. tt) (omega arith) (omega arith) (omega arith) c.pages_on.ensures.moves
+
+pub returns-in_err-count-clause-moments : goal.returns-in_err-count-clause-moments
+returns-in_err-count-clause-moments g c =
+    let view = g.D.Disk.view in
+    stands_quiet (page_count (view c.args.disk.now).size) 0 0 0 (view c.args.disk.now) (view c.pages_on.new.disk) c.pages_on.ensures.moves
+
+pub returns-in_err-buffer-clause-moments : goal.returns-in_err-buffer-clause-moments
+returns-in_err-buffer-clause-moments g c =
+    let view = g.D.Disk.view in
+    stands_quiet (page_count (view c.args.disk.now).size) 0 0 0 (view c.args.disk.now) (view c.pages_on.new.disk) c.pages_on.ensures.moves

@@ -6,7 +6,7 @@ use Rattle.gate_pages.specs.Journal.{home, images}
 use Rattle.gate_pages.specs.Steps.{IsHome}
 use Rattle.gate_pages.proofs.Directories.{image_at}
 use Rattle.gate_pages.proofs.Homes.{home_step, home_read, is_home, one_of_numbers}
-use Rattle.gate_pages.proofs.Moving.{moves_then, moves_weaker}
+use Rattle.gate_pages.proofs.Moving.{moves_then, moves_weaker, moves_among, moves_on}
 use Rattle.gate_pages.proofs.States.{numbers_images, length_images}
 use Rattle.gate_pages.proofs.recovery.copy_images.Goals as goal
 
@@ -83,3 +83,9 @@ returns-clause-home g c honest =
     let start = g.D.Disk.view c.args.disk.now in
     c.loop-i.invariant.lies honest
     ∙ ap (λ (l : List Entry). put_all l (home start.image)) (take_all c.loop-i.i (images ns 2 start.image) (omega (arith, c.loop-i-test.false, length_images ns 2 start.image)))
+
+pub returns-in_err-read_block-clause-moves : goal.returns-in_err-read_block-clause-moves
+returns-in_err-read_block-clause-moves g c = moves_on (λ number is. is) (λ number nothing. absurd nothing) (omega (arith, c.loop-i-test.true)) (omega arith) (omega (arith, c.loop-i-test.true)) c.loop-i.invariant.moves c.read_block.ensures.moves
+
+pub returns-clause-moves : goal.returns-clause-moves
+returns-clause-moves g c = moves_among (λ number is. is) (omega (arith, c.loop-i.auto.i-end)) (omega arith) (omega (arith, c.loop-i.auto.i-end)) c.loop-i.invariant.moves

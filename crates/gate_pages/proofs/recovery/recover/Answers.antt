@@ -1,15 +1,28 @@
-use Rattle.std.proofs.Common.{◌≡◌, ◌∙◌, ℕ, List, Some, Vec, ap, sym, subst, arith, option_map, Option, IfSome, IsTrue}
+use Rattle.std.proofs.Common.{◌≡◌, ◌∙◌, ◌≤◌, ◌+◌, ℕ, List, length, Some, Vec, ap, sym, subst, arith, option_map, Option, IfSome, IsTrue}
 use Rattle.std.specs.declared.alloc.Global.{Global}
-use Rattle.block_disk.specs.View.{Honest, Nowhere}
+use Rattle.block_disk.specs.View.{View, Honest, Moves, Nowhere}
 use Rattle.block_disk.proofs.Passing.{passes_weaker}
 use Rattle.gate_pages.specs.Batch.{is_one_of, all_below}
 use Rattle.gate_pages.specs.GatePages.{StandsAsBefore}
 use Rattle.gate_pages.specs.Journal.{directory, pages_of}
 use Rattle.gate_pages.specs.Pages.{Quiet}
-use Rattle.gate_pages.proofs.Moving.{moves_then, time_then, untouched}
+use Rattle.gate_pages.specs.Steps.{Anywhere}
+use Rattle.gate_pages.proofs.Moving.{moves_then, moves_weaker, time_then, untouched}
 use Rattle.gate_pages.proofs.Puts.{below_from_all}
 use Rattle.gate_pages.proofs.Replaying.{stands_quiet, stands_back}
 use Rattle.gate_pages.proofs.recovery.recover.Goals as goal
+
+-- calls that touch nothing are among those of a recovery
+quiet_moves : (reads syncs : ℕ) (old new : View) → reads ≤ 66 → syncs ≤ 3 → Moves Nowhere reads syncs 0 old new → Moves Anywhere 66 3 65 old new
+quiet_moves reads syncs old new few_reads few_syncs moves =
+    moves_weaker Nowhere Anywhere reads syncs 0 66 3 65 old new (λ number nothing. tt) few_reads few_syncs (omega arith) moves
+
+-- so are those before a replay, with the replay
+replay_moves : (n : ℕ) (old mid new : View) → n ≤ 64 → Moves Nowhere 2 1 0 old mid → Moves Anywhere n 2 (n + 1) mid new → Moves Anywhere 66 3 65 old new
+replay_moves n old mid new few before moves =
+    moves_then Anywhere 2 1 0 64 2 65 old mid new
+    (moves_weaker Nowhere Anywhere 2 1 0 2 1 0 old mid (λ number nothing. tt) (omega arith) (omega arith) (omega arith) before)
+    (moves_weaker Anywhere Anywhere n 2 (n + 1) 64 2 65 mid new (λ number any. any) few (omega arith) (omega arith) moves)
 
 pub replay-requires-clause-within : goal.replay-requires-clause-within
 replay-requires-clause-within g c n is =
@@ -134,3 +147,87 @@ returns-clause-pages g c honest =
     ∙ sym c.in_ok-numbers.ensures.directory ∙ found in
     let honest3 = quiet3.honest honest in
     c.in_ok-replay.ensures.done count honest3 (listed honest3) ∙ ap (λ image. pages_of count image) (untouched 2 1 0 view0 view3 quiet3 honest)
+
+pub returns-in_err-sync-clause-moves : goal.returns-in_err-sync-clause-moves
+returns-in_err-sync-clause-moves g c =
+    let view = g.D.Disk.view in
+    quiet_moves 0 1 (view c.args.disk.now) (view c.sync.new.self) (omega arith) (omega arith) c.sync.ensures.moves
+
+pub returns-in_err-read_block-clause-moves : goal.returns-in_err-read_block-clause-moves
+returns-in_err-read_block-clause-moves g c =
+    let view = g.D.Disk.view in
+    let view0 = view c.args.disk.now in
+    let view1 = view c.sync.new.self in
+    let view2 = view c.read_block.new.self in
+    let quiet2 = moves_then Nowhere 0 1 0 1 0 0 view0 view1 view2 c.sync.ensures.moves c.read_block.ensures.moves in
+    quiet_moves 1 1 view0 view2 (omega arith) (omega arith) quiet2
+
+pub returns-then-buffer-ne-OPEN-clause-moves : goal.returns-then-buffer-ne-OPEN-clause-moves
+returns-then-buffer-ne-OPEN-clause-moves g c =
+    let view = g.D.Disk.view in
+    let view0 = view c.args.disk.now in
+    let view1 = view c.sync.new.self in
+    let view2 = view c.read_block.new.self in
+    let quiet2 = moves_then Nowhere 0 1 0 1 0 0 view0 view1 view2 c.sync.ensures.moves c.read_block.ensures.moves in
+    quiet_moves 1 1 view0 view2 (omega arith) (omega arith) quiet2
+
+pub returns-in_err-read_block-2-clause-moves : goal.returns-in_err-read_block-2-clause-moves
+returns-in_err-read_block-2-clause-moves g c =
+    let view = g.D.Disk.view in
+    let view0 = view c.args.disk.now in
+    let view1 = view c.sync.new.self in
+    let view2 = view c.read_block.new.self in
+    let quiet2 = moves_then Nowhere 0 1 0 1 0 0 view0 view1 view2 c.sync.ensures.moves c.read_block.ensures.moves in
+    let view3 = view c.read_block-2.new.self in
+    let quiet3 = moves_then Nowhere 1 1 0 1 0 0 view0 view2 view3 quiet2 c.read_block-2.ensures.moves in
+    quiet_moves 2 1 view0 view3 (omega arith) (omega arith) quiet3
+
+pub returns-in_err-numbers-clause-moves : goal.returns-in_err-numbers-clause-moves
+returns-in_err-numbers-clause-moves g c =
+    let view = g.D.Disk.view in
+    let view0 = view c.args.disk.now in
+    let view1 = view c.sync.new.self in
+    let view2 = view c.read_block.new.self in
+    let quiet2 = moves_then Nowhere 0 1 0 1 0 0 view0 view1 view2 c.sync.ensures.moves c.read_block.ensures.moves in
+    let view3 = view c.read_block-2.new.self in
+    let quiet3 = moves_then Nowhere 1 1 0 1 0 0 view0 view2 view3 quiet2 c.read_block-2.ensures.moves in
+    quiet_moves 2 1 view0 view3 (omega arith) (omega arith) quiet3
+
+pub returns-in_default-clause-moves : goal.returns-in_default-clause-moves
+returns-in_default-clause-moves g c =
+    let view = g.D.Disk.view in
+    let view0 = view c.args.disk.now in
+    let view1 = view c.sync.new.self in
+    let view2 = view c.read_block.new.self in
+    let quiet2 = moves_then Nowhere 0 1 0 1 0 0 view0 view1 view2 c.sync.ensures.moves c.read_block.ensures.moves in
+    let view3 = view c.read_block-2.new.self in
+    let quiet3 = moves_then Nowhere 1 1 0 1 0 0 view0 view2 view3 quiet2 c.read_block-2.ensures.moves in
+    quiet_moves 2 1 view0 view3 (omega arith) (omega arith) quiet3
+
+pub returns-in_err-replay-clause-moves : goal.returns-in_err-replay-clause-moves
+returns-in_err-replay-clause-moves g c =
+    let view = g.D.Disk.view in
+    let view0 = view c.args.disk.now in
+    let view1 = view c.sync.new.self in
+    let view2 = view c.read_block.new.self in
+    let quiet2 = moves_then Nowhere 0 1 0 1 0 0 view0 view1 view2 c.sync.ensures.moves c.read_block.ensures.moves in
+    let view3 = view c.read_block-2.new.self in
+    let quiet3 = moves_then Nowhere 1 1 0 1 0 0 view0 view2 view3 quiet2 c.read_block-2.ensures.moves in
+    let F : Option (Vec ℕ Global) → Type 0 = λ o. IfSome o (λ v. length v.items ≤ 64) in
+    let few : length c.in-Some.numbers.items ≤ 64 = subst F c.in-Some.is c.in_ok-numbers.ensures.few in
+    let same = ap (λ (ns : List ℕ). length ns) c.as_slice.ensures.value in
+    replay_moves (length c.as_slice.result.now) view0 view3 (view c.replay.new.disk) (omega (arith, few, same)) quiet3 c.replay.ensures.moves
+
+pub returns-clause-moves : goal.returns-clause-moves
+returns-clause-moves g c =
+    let view = g.D.Disk.view in
+    let view0 = view c.args.disk.now in
+    let view1 = view c.sync.new.self in
+    let view2 = view c.read_block.new.self in
+    let quiet2 = moves_then Nowhere 0 1 0 1 0 0 view0 view1 view2 c.sync.ensures.moves c.read_block.ensures.moves in
+    let view3 = view c.read_block-2.new.self in
+    let quiet3 = moves_then Nowhere 1 1 0 1 0 0 view0 view2 view3 quiet2 c.read_block-2.ensures.moves in
+    let F : Option (Vec ℕ Global) → Type 0 = λ o. IfSome o (λ v. length v.items ≤ 64) in
+    let few : length c.in-Some.numbers.items ≤ 64 = subst F c.in-Some.is c.in_ok-numbers.ensures.few in
+    let same = ap (λ (ns : List ℕ). length ns) c.as_slice.ensures.value in
+    replay_moves (length c.as_slice.result.now) view0 view3 (view c.replay.new.disk) (omega (arith, few, same)) quiet3 c.replay.ensures.moves

@@ -1,3 +1,9 @@
+use Rattle.series_store.proofs.SaveLemmas.{failed_reading}
+use Rattle.series_store.proofs.CommitLemmas.{commit_moves, risen_since}
+use Rattle.series_store.proofs.CarryLemmas.{carried_read, add_cause, add_refused}
+use Rattle.series_store.specs.declared.errors.StoreError.TheVariants.{NoMemory}
+use Rattle.gate_pages.specs.GateLaws.{goes_then}
+use Rattle.page_space.specs.Transactions.{held}
 use Rattle.std.proofs.Common.{◌≡◌, ◌+◌, length, refl, sym, ap, ◌∙◌, arith}
 use Rattle.std.proofs.lemmas.List.{length_push}
 use Rattle.page_space.specs.declared.superblock.Superblock.{Superblock}
@@ -120,3 +126,58 @@ returns-in-Err-clause-more g c = omega (arith, ap length (c.take_last.ensures c.
 
 pub returns-in-Err-clause-as_before : goal.returns-in-Err-clause-as_before
 returns-in-Err-clause-as_before g c = c.take_last.ensures c.args.self.now.catalog.series.items c.args.series c.in_ok-add.ensures.ok
+
+pub returns-in_err-txn-clause-carried : goal.returns-in_err-txn-clause-carried
+returns-in_err-txn-clause-carried g c =
+    carried_read c.from_residual.result c.in_err-txn.field-0.0 (omega arith) c.from_residual.ensures.1 c.new_record.ensures.reads c.new_record.ensures.goes_on c.new_record.ensures.space
+    (add_cause _ c.in_err-txn.field-0.0 _ _ c.in_err-txn.ensures.cause)
+
+pub returns-in_err-add-clause-carried : goal.returns-in_err-add-clause-carried
+returns-in_err-add-clause-carried g c =
+    carried_read c.from_residual-in_err-add.result NoMemory (omega arith) c.from_residual-in_err-add.ensures.1 c.new_record.ensures.reads c.new_record.ensures.goes_on c.new_record.ensures.space tt
+
+pub returns-in-Ok-clause-carried : goal.returns-in-Ok-clause-carried
+returns-in-Ok-clause-carried g c =
+    let told = g.P.Pages.told in
+    let view = g.P.Pages.view in
+    let old = c.args.self.now.space.pages in
+    let mid = c.new_record.new.space.pages in
+    let new = c.commit.new.self.pages in
+    record {
+      moves = commit_moves 1 (held c.in_ok-txn.txn) (told old) (told mid) (told new) (view old) (view mid) (view new) (omega arith) (omega (arith, c.in_ok-txn.ensures.len)) c.new_record.ensures.reads c.commit.ensures.commits;
+      goes_on = goes_then (g.P.Pages.under old) (g.P.Pages.under mid) (g.P.Pages.under new) c.new_record.ensures.goes_on c.commit.ensures.goes_on;
+      cause = tt;
+      unchanged = tt;
+      sound = c.in-Ok.ensures.sound;
+      total = ap (λ (s : Superblock). s.total) (c.in-Ok.ensures.superblock ∙ c.in_ok-txn.ensures.superblock);
+      slots = omega arith;
+    }
+
+pub returns-in-Err-clause-carried : goal.returns-in-Err-clause-carried
+returns-in-Err-clause-carried g c =
+    let told = g.P.Pages.told in
+    let view = g.P.Pages.view in
+    let old = c.args.self.now.space.pages in
+    let mid = c.new_record.new.space.pages in
+    let new = c.commit.new.self.pages in
+    record {
+      moves = commit_moves 1 (held c.in_ok-txn.txn) (told old) (told mid) (told new) (view old) (view mid) (view new) (omega arith) (omega (arith, c.in_ok-txn.ensures.len)) c.new_record.ensures.reads c.commit.ensures.commits;
+      goes_on = goes_then (g.P.Pages.under old) (g.P.Pages.under mid) (g.P.Pages.under new) c.new_record.ensures.goes_on c.commit.ensures.goes_on;
+      cause = risen_since (view old).faults (view mid).faults (view new).faults c.new_record.ensures.reads.faults c.in-Err.ensures.cause;
+      unchanged = tt;
+      sound = tt;
+      total = ap (λ (s : Superblock). s.total) (c.in-Err.ensures.old_superblock ∙ c.new_record.ensures.space);
+      slots = tt;
+    }
+
+pub returns-in_err-txn-clause-answered : goal.returns-in_err-txn-clause-answered
+returns-in_err-txn-clause-answered g c = λ total book is stands book_is.
+    let old = c.args.self.now.space.pages in
+    failed_reading _ total book c.from_residual.result c.in_err-txn.field-0.0 (g.P.Pages.view old) (g.P.Pages.view c.new_record.new.space.pages)
+    (add_refused _ c.in_err-txn.field-0.0 _ _ c.in_err-txn.ensures.cause) c.from_residual.ensures.1 stands (g.met.P.Pages.rests old c.requires.sound) c.new_record.ensures.reads.time
+
+pub returns-in_err-add-clause-answered : goal.returns-in_err-add-clause-answered
+returns-in_err-add-clause-answered g c = λ total book is stands book_is.
+    let old = c.args.self.now.space.pages in
+    failed_reading _ total book c.from_residual-in_err-add.result NoMemory (g.P.Pages.view old) (g.P.Pages.view c.new_record.new.space.pages)
+    tt c.from_residual-in_err-add.ensures.1 stands (g.met.P.Pages.rests old c.requires.sound) c.new_record.ensures.reads.time

@@ -1,4 +1,3 @@
-use Rattle.std.proofs.Common.{◌≡◌, ℕ, arith}
 use Rattle.std.proofs.Math.Path.{fun_ext}
 use Rattle.series_store.proofs.store.Store.begin.Goals as goal
 

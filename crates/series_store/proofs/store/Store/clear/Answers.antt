@@ -1,7 +1,6 @@
-use Rattle.std.proofs.Common.{◌≡◌, ℕ, ℤ, List, length, slice_get, Option, Some, Ok, Err, Result, subst, sym, ap, refl, arith, ◌∙◌, inl, inr, ◌≤◌, ◌<◌, ◌+◌, ◌-◌, ◌⊎◌, min}
+use Rattle.std.proofs.Common.{◌≡◌, ℕ, ℤ, length, Ok, Err, Result, subst, sym, ap, refl, arith, ◌∙◌, inl, inr, ◌≤◌, ◌+◌, ◌-◌, ◌⊎◌, min}
 use Rattle.std.specs.Int.{w128}
 use Rattle.std.proofs.lemmas.Int.{to_z-of_z}
-use Rattle.block_disk.specs.View.{Image}
 use Rattle.series_book.specs.declared.edits.Edit.TheVariants.{Clear}
 use Rattle.series_book.specs.declared.one_series.Series.{Series}
 use Rattle.series_book.specs.declared.refusals.Refusal.{Refusal}
@@ -12,7 +11,7 @@ use Rattle.store_catalog.specs.declared.stored_series.StoredSeries.{StoredSeries
 use Rattle.series_store.specs.Changing.{IsAnswered}
 use Rattle.series_store.specs.declared.errors.StoreError.TheVariants.{Refused}
 use Rattle.series_store.proofs.AnswerLemmas.{answered_none, stays}
-use Rattle.series_store.proofs.CarryLemmas.{carried_nothing}
+use Rattle.series_store.proofs.CarryLemmas.{carried_nothing, carried_refused}
 use Rattle.series_store.proofs.FindLemmas.{IsFound, found, unknown, is_axis, change_unknown, clear_answer, clear_there, clear_none}
 use Rattle.series_store.proofs.store.Store.clear.Goals as goal
 use Rattle.series_store.proofs.store.Store.clear.Goals.{then-place-from-via-then-place-from, then-place-from-via-else-place-from+then-count-eq0}
@@ -89,3 +88,9 @@ returns-clause-answered g c = λ total book told stands.
     subst A
     (sym (clear_there book total c.args.name.now c.args.time c.args.count c.in-Some.id slot some is.series is.is_id is.there says place (omega (arith, c.if-place-from.false, c.from.ensures, axis.slots)) so))
     (c.clear_slots.ensures.answered total book is.series told stands is.there)
+
+pub returns-in_default-clause-carried : goal.returns-in_default-clause-carried
+returns-in_default-clause-carried g c = carried_refused UnknownSeries
+
+pub returns-in-Some-clear_refusal-clause-carried : goal.returns-in-Some-clear_refusal-clause-carried
+returns-in-Some-clear_refusal-clause-carried g c = carried_refused c.in-Some-clear_refusal.refusal

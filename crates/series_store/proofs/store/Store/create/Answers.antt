@@ -1,3 +1,7 @@
+use Rattle.series_store.specs.declared.errors.StoreError.TheVariants.{NoMemory}
+use Rattle.series_store.proofs.AnswerLemmas.{answered_none}
+use Rattle.series_book.specs.declared.refusals.Refusal.TheVariants.{SeriesExists, TooManySeries}
+use Rattle.series_store.proofs.CarryLemmas.{carried_refused, carried_starved}
 use Rattle.std.proofs.Common.{◌≡◌, ℕ, ◌++◌, ◌∷◌, [], ℤ, List, length, Ok, to_z, of_z, sym, ap, subst, ◌∙◌, arith}
 use Rattle.std.specs.Option.{is_some}
 use Rattle.std.specs.Int.{w64}
@@ -47,3 +51,16 @@ returns-clause-answered g c = λ total book is stands.
     (is_new_series c.args.name.now c.args.start c.args.step c.args.scale c.in_ok-copy.ensures.named c.requires.is_edit)
     (omega (arith, many, c.len.ensures.count, c.if-len-ge-MOST_SERIES.false))
     (subst (A c.args.name.now) (to_z-of_z w64 c.args.start c.ranges.start) (subst (λ name. A name (to_z w64 (of_z w64 c.args.start))) c.in_ok-copy.ensures.equal (c.add_series.ensures.answered total book is stands)))
+
+pub returns-then-is_some-clause-carried : goal.returns-then-is_some-clause-carried
+returns-then-is_some-clause-carried g c = carried_refused SeriesExists
+
+pub returns-then-len-ge-MOST_SERIES-clause-carried : goal.returns-then-len-ge-MOST_SERIES-clause-carried
+returns-then-len-ge-MOST_SERIES-clause-carried g c = carried_refused TooManySeries
+
+pub returns-in_err-copy-clause-answered : goal.returns-in_err-copy-clause-answered
+returns-in_err-copy-clause-answered g c = λ total book told stands.
+    answered_none _ total book c.from_residual.result NoMemory (g.P.Pages.view c.args.self.now.space.pages) tt c.from_residual.ensures.1
+
+pub returns-in_err-copy-clause-carried : goal.returns-in_err-copy-clause-carried
+returns-in_err-copy-clause-carried g c = carried_starved c.from_residual.result c.from_residual.ensures.1

@@ -1,4 +1,4 @@
-use Rattle.std.proofs.Common.{◌≡◌, ℕ, ℤ, List, IfOk, IfErr, sym, ap, subst, rules, w64, to_z, of_z, ◌∙◌}
+use Rattle.std.proofs.Common.{◌≡◌, ℤ, IfOk, IfErr, sym, ap, subst, rules, w64, to_z, of_z, ◌∙◌}
 use Rattle.std.specs.Int.{w128}
 use Rattle.block_disk.specs.View.{Passes}
 use Rattle.gate_pages.specs.Pages.{Quiet}
@@ -89,3 +89,51 @@ returns-in-Clear-clause-moments g c = rw (← c.select_none.ensures.space) (λ t
     let at : Clear c.in-Clear.name (to_z w128 (of_z w128 c.in-Clear.time)) c.in-Clear.count ≡ c.args.edit.now = ap (λ (n : ℤ). Clear c.in-Clear.name n c.in-Clear.count) same ∙ sym c.in-Clear.is in
     let E : Edit → Type 0 = λ edit. Passes view (g.P.Pages.view c.clear.new.self.space.pages) (IsBeforeOrAfter total book edit) (Quiet view) in
     subst E at (moments_as total book (Clear c.in-Clear.name (to_z w128 (of_z w128 c.in-Clear.time)) c.in-Clear.count) view (g.P.Pages.view c.clear.new.self.space.pages) (c.clear.ensures.answered total book told stands).moments))
+
+pub returns-in-Create-clause-moves : goal.returns-in-Create-clause-moves
+returns-in-Create-clause-moves g c = rw (← c.select_none.ensures.space) c.create.ensures.carried.moves
+
+pub returns-in-Create-clause-goes_on : goal.returns-in-Create-clause-goes_on
+returns-in-Create-clause-goes_on g c = rw (← c.select_none.ensures.space) c.create.ensures.carried.goes_on
+
+pub returns-in-Create-clause-cause : goal.returns-in-Create-clause-cause
+returns-in-Create-clause-cause g c = rw (← c.select_none.ensures.space) c.create.ensures.carried.cause
+
+pub returns-in-Create-clause-unchanged : goal.returns-in-Create-clause-unchanged
+returns-in-Create-clause-unchanged g c = rw (← c.select_none.ensures.space) c.create.ensures.carried.unchanged
+
+pub returns-in-Append-clause-moves : goal.returns-in-Append-clause-moves
+returns-in-Append-clause-moves g c = rw (← c.select_none.ensures.space) c.append.ensures.carried.moves
+
+pub returns-in-Append-clause-goes_on : goal.returns-in-Append-clause-goes_on
+returns-in-Append-clause-goes_on g c = rw (← c.select_none.ensures.space) c.append.ensures.carried.goes_on
+
+pub returns-in-Append-clause-cause : goal.returns-in-Append-clause-cause
+returns-in-Append-clause-cause g c = rw (← c.select_none.ensures.space) c.append.ensures.carried.cause
+
+pub returns-in-Append-clause-unchanged : goal.returns-in-Append-clause-unchanged
+returns-in-Append-clause-unchanged g c = rw (← c.select_none.ensures.space) c.append.ensures.carried.unchanged
+
+pub returns-in-Set-clause-moves : goal.returns-in-Set-clause-moves
+returns-in-Set-clause-moves g c = rw (← c.select_none.ensures.space) c.set.ensures.carried.moves
+
+pub returns-in-Set-clause-goes_on : goal.returns-in-Set-clause-goes_on
+returns-in-Set-clause-goes_on g c = rw (← c.select_none.ensures.space) c.set.ensures.carried.goes_on
+
+pub returns-in-Set-clause-cause : goal.returns-in-Set-clause-cause
+returns-in-Set-clause-cause g c = rw (← c.select_none.ensures.space) c.set.ensures.carried.cause
+
+pub returns-in-Set-clause-unchanged : goal.returns-in-Set-clause-unchanged
+returns-in-Set-clause-unchanged g c = rw (← c.select_none.ensures.space) c.set.ensures.carried.unchanged
+
+pub returns-in-Clear-clause-moves : goal.returns-in-Clear-clause-moves
+returns-in-Clear-clause-moves g c = rw (← c.select_none.ensures.space) c.clear.ensures.carried.moves
+
+pub returns-in-Clear-clause-goes_on : goal.returns-in-Clear-clause-goes_on
+returns-in-Clear-clause-goes_on g c = rw (← c.select_none.ensures.space) c.clear.ensures.carried.goes_on
+
+pub returns-in-Clear-clause-cause : goal.returns-in-Clear-clause-cause
+returns-in-Clear-clause-cause g c = rw (← c.select_none.ensures.space) c.clear.ensures.carried.cause
+
+pub returns-in-Clear-clause-unchanged : goal.returns-in-Clear-clause-unchanged
+returns-in-Clear-clause-unchanged g c = rw (← c.select_none.ensures.space) c.clear.ensures.carried.unchanged

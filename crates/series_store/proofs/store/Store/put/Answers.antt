@@ -1,12 +1,14 @@
-use Rattle.std.proofs.Common.{◌≡◌, ℕ, ℤ, ◌+◌, ◌<◌, ◌≤◌, ◌⊎◌, ◌^◌, max, List, length, slice_get, Option, Some, Ok, All, IsSome, Result, subst, sym, ap, refl, arith, ◌∙◌}
-use Rattle.block_disk.specs.View.{Image, View}
+use Rattle.series_store.specs.declared.errors.StoreError.TheVariants.{NoMemory}
+use Rattle.series_store.specs.declared.errors.StoreError.{StoreError}
+use Rattle.std.specs.Result.{IsErrAnd}
+use Rattle.std.proofs.Common.{◌≡◌, ℕ, ℤ, ◌+◌, ◌≤◌, ◌⊎◌, ◌^◌, max, List, length, slice_get, Option, Some, Ok, All, IsSome, Result, subst, sym, ap, refl, arith, ◌∙◌}
+use Rattle.block_disk.specs.View.{Image}
 use Rattle.page_space.specs.declared.superblock.Superblock.{Superblock}
-use Rattle.page_space.specs.Transactions.{held, left_by}
+use Rattle.page_space.specs.Transactions.{left_by}
 use Rattle.path_repair.proofs.CallLemmas.{run_puts}
 use Rattle.path_repair.proofs.EditLemmas.{levels_few}
 use Rattle.series_book.specs.declared.refusals.Refusal.{Refusal}
 use Rattle.series_book.specs.Edits.{Edited, with_slots, within, overwritten}
-use Rattle.series_book.proofs.SlotLemmas.{length-overwritten}
 use Rattle.store_catalog.specs.Catalogs.{AreFit, AreAsTold, entry_of}
 use Rattle.store_catalog.specs.declared.stored_series.StoredSeries.{StoredSeries}
 use Rattle.stored_book.specs.Changing.{IsTreeChanged}
@@ -15,8 +17,8 @@ use Rattle.stored_book.specs.Standing.{AreCatalog, IsStore, StandsForBook}
 use Rattle.tree_walk.proofs.TrailLemmas.{any_trail}
 use Rattle.tree_walk.specs.SpaceViews.{space_view}
 use Rattle.series_store.specs.Errors.{error_of}
-use Rattle.series_store.proofs.AnswerLemmas.{answered_after, answered_fit, fits_within, tree_refused}
-use Rattle.series_store.proofs.CarryLemmas.{carried_error, carried_after}
+use Rattle.series_store.proofs.AnswerLemmas.{answered_after, answered_fit, fits_within, tree_refused, answered_none}
+use Rattle.series_store.proofs.CarryLemmas.{carried_error, carried_after, carried_starved}
 use Rattle.series_store.proofs.ChangeLemmas.{root_below, levels_four, held_tree, put_edited, tree_changed}
 use Rattle.series_store.proofs.RecordLemmas.{stands_with, known_some}
 use Rattle.series_store.proofs.SaveLemmas.{failed_reading}
@@ -150,3 +152,14 @@ returns-clause-carried g c = rw (← c.begin.ensures.space) (
     base.space.superblock c.put_run.new.space.superblock c.save.new.self.space.superblock c.save.result
     (omega (arith, run_puts c.args.slot long tree.slots n c.requires.few, levels_few n)) slots c.put_run.ensures.moved.reads c.put_run.ensures.moved.over.goes_on c.put_run.ensures.moved.over.superblock
     c.save.ensures.moves c.save.ensures.reads c.save.ensures.goes_on c.save.ensures.error c.save.ensures.cause c.save.ensures.sound c.save.ensures.total c.save.ensures.slots)
+
+pub returns-in_err-txn-clause-carried : goal.returns-in_err-txn-clause-carried
+returns-in_err-txn-clause-carried g c =
+    let E : StoreError → Type 0 = λ e. IsErrAnd c.from_residual.result (λ cause. cause ≡ e) in
+    rw (← c.begin.ensures.space) (carried_starved c.from_residual.result (subst E c.in_err-txn.ensures.error c.from_residual.ensures.1))
+
+pub returns-in_err-txn-clause-answered : goal.returns-in_err-txn-clause-answered
+returns-in_err-txn-clause-answered g c =
+    let E : StoreError → Type 0 = λ e. IsErrAnd c.from_residual.result (λ cause. cause ≡ e) in
+    rw (← c.begin.ensures.space) (λ total book series told stands found.
+    answered_none _ total book c.from_residual.result NoMemory (g.P.Pages.view c.begin.new.self.space.pages) tt (subst E c.in_err-txn.ensures.error c.from_residual.ensures.1))

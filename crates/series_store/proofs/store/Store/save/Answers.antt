@@ -1,5 +1,7 @@
-use Rattle.std.proofs.Common.{◌≡◌, ℕ, ◌<◌, ◌≤◌, List, length, slice_get, Some, Ok, subst, sym, ap, refl, arith, ◌∙◌}
-use Rattle.block_disk.specs.View.{Image, View}
+use Rattle.series_store.proofs.CommitLemmas.{one_read, reads_move, commit_moves}
+use Rattle.gate_pages.specs.GateLaws.{goes_then}
+use Rattle.std.proofs.Common.{◌≡◌, ◌≤◌, List, length, slice_get, Ok, subst, sym, ap, arith, ◌∙◌}
+use Rattle.block_disk.specs.View.{Image}
 use Rattle.page_space.specs.declared.superblock.Superblock.{Superblock}
 use Rattle.page_space.specs.Transactions.{held, left_by}
 use Rattle.catalog_page.specs.Entries.{IsEntry}
@@ -10,7 +12,6 @@ use Rattle.stored_book.specs.Standing.{AreCatalog, IsStore, StandsForBook}
 use Rattle.tree_walk.proofs.TrailLemmas.{any_trail}
 use Rattle.tree_walk.specs.SpaceViews.{space_view}
 use Rattle.series_store.specs.declared.errors.StoreError.TheVariants.{DiskFault}
-use Rattle.series_store.proofs.TimeLemmas.{told_on}
 use Rattle.series_store.proofs.SaveLemmas.{failed, failed_reading, saved_time, saved}
 use Rattle.series_store.proofs.RecordLemmas.{fit_after, told_after, whole_after, stands_with, saved_book, known_some}
 use Rattle.series_store.proofs.store.Store.save.Goals as goal
@@ -139,3 +140,47 @@ pub returns-in_err-put_record-clause-answered : goal.returns-in_err-put_record-c
 returns-in_err-put_record-clause-answered g c = λ total book series slots told stands found changed.
     failed_reading (Ok (record { book = with_slots book c.args.id series slots; slots = length slots })) total book c.from_residual.result DiskFault (g.P.Pages.view c.args.self.now.space.pages) (g.P.Pages.view c.put_record.new.space.pages)
     tt c.from_residual.ensures.1 stands (g.met.P.Pages.rests c.args.self.now.space.pages c.requires.sound) c.put_record.ensures.reads.time
+
+pub returns-in_err-put_record-clause-moves : goal.returns-in_err-put_record-clause-moves
+returns-in_err-put_record-clause-moves g c =
+    let told = g.P.Pages.told in
+    let view = g.P.Pages.view in
+    let old = c.args.self.now.space.pages in
+    let mid = c.put_record.new.space.pages in
+    reads_move 1 (told old) (told mid) (view old) (view mid) (omega arith) (one_read (told old) (told mid) (view old) (view mid) c.put_record.ensures.reads)
+
+pub returns-in_err-commit-clause-moves : goal.returns-in_err-commit-clause-moves
+returns-in_err-commit-clause-moves g c =
+    let told = g.P.Pages.told in
+    let view = g.P.Pages.view in
+    let old = c.args.self.now.space.pages in
+    let mid = c.put_record.new.space.pages in
+    let new = c.commit.new.self.pages in
+    commit_moves 1 (held c.put_record.new.txn) (told old) (told mid) (told new) (view old) (view mid) (view new) (omega arith) (omega (arith, c.requires.few, c.in_ok-put_record.ensures.len)) (one_read (told old) (told mid) (view old) (view mid) c.put_record.ensures.reads) c.commit.ensures.commits
+
+pub returns-clause-moves : goal.returns-clause-moves
+returns-clause-moves g c =
+    let told = g.P.Pages.told in
+    let view = g.P.Pages.view in
+    let old = c.args.self.now.space.pages in
+    let mid = c.put_record.new.space.pages in
+    let new = c.commit.new.self.pages in
+    commit_moves 1 (held c.put_record.new.txn) (told old) (told mid) (told new) (view old) (view mid) (view new) (omega arith) (omega (arith, c.requires.few, c.in_ok-put_record.ensures.len)) (one_read (told old) (told mid) (view old) (view mid) c.put_record.ensures.reads) c.commit.ensures.commits
+
+pub returns-in_err-commit-clause-goes_on : goal.returns-in_err-commit-clause-goes_on
+returns-in_err-commit-clause-goes_on g c =
+    let told = g.P.Pages.told in
+    let view = g.P.Pages.view in
+    let old = c.args.self.now.space.pages in
+    let mid = c.put_record.new.space.pages in
+    let new = c.commit.new.self.pages in
+    goes_then (g.P.Pages.under old) (g.P.Pages.under mid) (g.P.Pages.under new) c.put_record.ensures.goes_on c.commit.ensures.goes_on
+
+pub returns-clause-goes_on : goal.returns-clause-goes_on
+returns-clause-goes_on g c =
+    let told = g.P.Pages.told in
+    let view = g.P.Pages.view in
+    let old = c.args.self.now.space.pages in
+    let mid = c.put_record.new.space.pages in
+    let new = c.commit.new.self.pages in
+    goes_then (g.P.Pages.under old) (g.P.Pages.under mid) (g.P.Pages.under new) c.put_record.ensures.goes_on c.commit.ensures.goes_on

@@ -1,7 +1,7 @@
-use Rattle.std.proofs.Common.{◌≡◌, ℕ, ℤ, List, length, slice_get, Option, Some, Ok, Err, Result, subst, sym, ap, refl, arith, ◌∙◌}
+use Rattle.series_store.proofs.CarryLemmas.{carried_refused, carried_starved}
+use Rattle.std.proofs.Common.{◌≡◌, ℕ, ℤ, List, length, Option, Ok, Err, Result, subst, sym, ap, refl, arith, ◌∙◌}
 use Rattle.std.specs.Int.{w128}
 use Rattle.std.proofs.lemmas.Int.{to_z-of_z}
-use Rattle.block_disk.specs.View.{Image}
 use Rattle.series_book.specs.declared.edits.Edit.TheVariants.{Set}
 use Rattle.series_book.specs.declared.one_series.Series.{Series}
 use Rattle.series_book.specs.declared.refusals.Refusal.{Refusal}
@@ -10,7 +10,7 @@ use Rattle.series_book.specs.Axes.{IsAxisOf}
 use Rattle.series_book.specs.Edits.{Edited, apply, id_of, place_of, within, set_at, overwritten}
 use Rattle.store_catalog.specs.declared.stored_series.StoredSeries.{StoredSeries}
 use Rattle.series_store.specs.Changing.{IsAnswered}
-use Rattle.series_store.specs.declared.errors.StoreError.TheVariants.{Refused}
+use Rattle.series_store.specs.declared.errors.StoreError.TheVariants.{Refused, NoMemory}
 use Rattle.series_store.proofs.AnswerLemmas.{answered_none}
 use Rattle.series_store.proofs.FindLemmas.{IsFound, found, unknown, is_axis, a_series, change_unknown, set_answer}
 use Rattle.series_store.proofs.store.Store.set.Goals as goal
@@ -74,3 +74,16 @@ returns-clause-answered g c = λ total book told stands.
     (ap (λ (slots : List (Option ℤ)). within total book c.in-Some.id is.series (Ok slots)) same
     ∙ sym (set_answer book total c.args.name.now c.args.time c.args.values.now c.in-Some.id is.series (Ok (overwritten is.series.slots (place_of is.series c.args.time) c.args.values.now)) is.is_id is.there says))
     (c.put.ensures.answered total book is.series told stands is.there)
+
+pub returns-in_default-clause-carried : goal.returns-in_default-clause-carried
+returns-in_default-clause-carried g c = carried_refused UnknownSeries
+
+pub returns-in-Some-set_refusal-clause-carried : goal.returns-in-Some-set_refusal-clause-carried
+returns-in-Some-set_refusal-clause-carried g c = carried_refused c.in-Some-set_refusal.refusal
+
+pub returns-in_err-run-clause-carried : goal.returns-in_err-run-clause-carried
+returns-in_err-run-clause-carried g c = carried_starved c.from_residual.result c.from_residual.ensures.1
+
+pub returns-in_err-run-clause-answered : goal.returns-in_err-run-clause-answered
+returns-in_err-run-clause-answered g c = λ total book told stands.
+    answered_none _ total book c.from_residual.result NoMemory (g.P.Pages.view c.args.self.now.space.pages) tt c.from_residual.ensures.1

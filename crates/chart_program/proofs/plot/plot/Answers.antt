@@ -1,0 +1,69 @@
+use Rattle.std.proofs.Common.{◌≡◌, ◌≢◌, Result, Err, IfSome, refl, sym, ap, ◌∙◌}
+use Rattle.chart_service.proofs.Sending.{error_goes}
+use Rattle.chart_service.proofs.Served.{error_is}
+use Rattle.chart_program.specs.declared.input.InputEnd.{InputEnd}
+use Rattle.chart_program.specs.declared.plot.PlotEnd.{PlotEnd}
+use Rattle.chart_program.specs.declared.plot.PlotEnd.TheVariants.{Input, SendFault}
+use Rattle.chart_program.specs.Plotted.{EndsPlot}
+use Rattle.chart_program.proofs.RunEnds.{on_err}
+use Rattle.chart_program.proofs.plot.plot.Goals as goal
+
+input_is : {T : Type 0} {e f : InputEnd} → ◌≡◌ {A = Result T PlotEnd} (Err (Input e)) (Err (Input f)) → e ≡ f
+input_is is = cc
+
+input_sent : {T S : Type 0} {e : InputEnd} → ◌≡◌ {A = Result T PlotEnd} (Err (Input e)) (Err SendFault) → S
+input_sent is = absurd (cc)
+
+pub returns-in_err-slots-clause-done : goal.returns-in_err-slots-clause-done
+returns-in_err-slots-clause-done g c = on_err c.from_residual.result _ _ c.from_residual.ensures.1
+
+pub returns-in_err-slots-clause-within : goal.returns-in_err-slots-clause-within
+returns-in_err-slots-clause-within g c = on_err c.from_residual.result _ _ c.from_residual.ensures.1
+
+pub returns-in_err-slots-clause-ends : goal.returns-in_err-slots-clause-ends
+returns-in_err-slots-clause-ends g c =
+    let old = c.args.streams.now in
+    let new = c.read_slots.new.from in
+    let left = g.S.Streams.left in
+    let sent = g.S.Streams.sent in
+    error_goes (λ end. IfSome (left old) (λ input. EndsPlot c.args.w c.args.h input (left new) (sent old) (sent new) end)) c.from_residual.result (Input c.in_err-slots.field-0.0) c.from_residual.ensures.1 c.in_err-slots.ensures.ends
+
+pub returns-in_err-slots-clause-unsent : goal.returns-in_err-slots-clause-unsent
+returns-in_err-slots-clause-unsent g c =
+    let sent = g.S.Streams.sent in
+    error_goes (λ end. end ≢ SendFault → sent c.read_slots.new.from ≡ sent c.args.streams.now) c.from_residual.result (Input c.in_err-slots.field-0.0) c.from_residual.ensures.1 (λ other. c.read_slots.ensures.sent)
+
+pub returns-in_err-slots-clause-read : goal.returns-in_err-slots-clause-read
+returns-in_err-slots-clause-read g c = λ fault. c.in_err-slots.ensures.read (ap Err (input_is (sym (error_is c.from_residual.result (Input c.in_err-slots.field-0.0) c.from_residual.ensures.1) ∙ fault)))
+
+pub returns-in_err-slots-clause-send : goal.returns-in_err-slots-clause-send
+returns-in_err-slots-clause-send g c = λ fault. input_sent (sym (error_is c.from_residual.result (Input c.in_err-slots.field-0.0) c.from_residual.ensures.1) ∙ fault)
+
+pub returns-in_err-bytes-clause-done : goal.returns-in_err-bytes-clause-done
+returns-in_err-bytes-clause-done g c = on_err c.from_residual-in_err-bytes.result _ _ c.from_residual-in_err-bytes.ensures.1
+
+pub returns-in_err-bytes-clause-within : goal.returns-in_err-bytes-clause-within
+returns-in_err-bytes-clause-within g c = on_err c.from_residual-in_err-bytes.result _ _ c.from_residual-in_err-bytes.ensures.1
+
+pub returns-in_err-bytes-clause-unsent : goal.returns-in_err-bytes-clause-unsent
+returns-in_err-bytes-clause-unsent g c =
+    let sent = g.S.Streams.sent in
+    error_goes (λ end. end ≢ SendFault → sent c.read_slots.new.from ≡ sent c.args.streams.now) c.from_residual-in_err-bytes.result (Input c.in_err-bytes.field-0.0) c.from_residual-in_err-bytes.ensures.1 (λ other. c.read_slots.ensures.sent)
+
+pub returns-in_err-bytes-clause-send : goal.returns-in_err-bytes-clause-send
+returns-in_err-bytes-clause-send g c = λ fault. input_sent (sym (error_is c.from_residual-in_err-bytes.result (Input c.in_err-bytes.field-0.0) c.from_residual-in_err-bytes.ensures.1) ∙ fault)
+
+pub returns-then-is_err-clause-done : goal.returns-then-is_err-clause-done
+returns-then-is_err-clause-done g c = tt
+
+pub returns-then-is_err-clause-within : goal.returns-then-is_err-clause-within
+returns-then-is_err-clause-within g c = tt
+
+pub returns-then-is_err-clause-unsent : goal.returns-then-is_err-clause-unsent
+returns-then-is_err-clause-unsent g c = λ other. absurd (other refl)
+
+pub returns-clause-ends : goal.returns-clause-ends
+returns-clause-ends g c = tt
+
+pub returns-clause-unsent : goal.returns-clause-unsent
+returns-clause-unsent g c = tt

@@ -1,0 +1,158 @@
+//! Bytes that are no frames: each rule of a field is broken once, and the lengths lie beside their limits. Frames stand
+//! here as the numbers of their bytes, by docs/FORMATS.md.
+
+use chart_frames::{Decoder, Frame, FrameFault, encode};
+use std::alloc::Global;
+use std::test::Fail;
+
+const DONE: &str = "0 0 0 9  1  0 0 0 0 0 0 0 4";
+
+const REFUSED: &str = "0 0 0 18  2  20  0 0 0 0 0 0 0 41  0 0 0 0 0 0 0 40";
+
+const OPENED: &str = "0 0 0 9  3  0 0 0 1  0 1 0 0";
+
+const CLOSED: &str = "0 0 0 5  4  0 0 0 7";
+
+/// A view of four slots on four columns, with eight coefficients.
+const VIEW: &str =
+    "0 0 1 28  5  0 0 0 1  0 0  0 4  0 4  0 0 0 0 0 0 0 0  0 0 0 0 0 0 0 4  0 0 0 0 0 0 0 2  0 0 0 0 0 0 0 7
+    0 0 0 0 0 0 0 0  0 0 0 1  0 0 0 0 0 0 0 4  1  0 0 0 0 0 0 0 2  0 0 0 0 0 0 0 7  0 0 0 8  0 0 7 0 0 0 0 0  1
+    0 0 0 0 0 0 0 0  0 0 0 0 0 0 0 0  0 0 6 0 0 0 0 0  1  0 0 0 0 0 0 0 0  0 0 0 0 0 0 0 0  0 0 5 0 0 0 0 0  1
+    0 0 0 0 0 0 0 0  0 0 0 0 0 0 0 0  0 0 4 0 0 0 0 0  1  0 0 0 0 0 0 0 0  0 0 0 0 0 0 0 0  0 0 3 0 0 0 0 0  1
+    0 0 0 0 0 0 0 0  0 0 0 0 0 0 0 0  0 0 2 0 0 0 0 0  3  0 0 0 0 0 0 0 2  0 0 0 0 0 0 0 5  0 0 1 0 0 0 0 0  3
+    255 255 255 255 255 255 255 253  255 255 255 255 255 255 255 253  0 0 1 0 0 0 0 1  1  0 0 0 0 0 0 0 0
+    0 0 0 0 0 0 0 0";
+
+/// The rows of the columns 0 and 2 of 3.
+const ROWS: &str =
+    "0 0 0 95  6  0 0 0 2  0 3  0 5  255 255 255 255 255 255 255 255  0 0 0 0 0 0 0 9  0 2  0 0  0 0 0 0 0 0 0 3
+    255 255 255 255 255 255 255 255  0 0 0 0 0 0 0 9  0 0 0 0 0 0 0 4  0 2  0 0 0 0 0 0 0 5  0 0 0 0 0 0 0 5
+    0 0 0 0 0 0 0 5  0 0 0 0 0 0 0 5";
+
+/// Changes of a frame: the place of a byte and its new value, and from where to where the field stands that breaks its rule.
+const BAD_DONE: &str = "4 2 4 5  9 17 5 13";
+
+const BAD_REFUSED: &str = "5 0 5 6  5 22 5 6  5 1 6 14  5 2 14 22";
+
+const BAD_OPENED: &str = "8 0 5 9  10 0 9 13  10 3 9 13";
+
+const BAD_CLOSED: &str = "8 0 5 9";
+
+const BAD_VIEW: &str =
+    "3 29 0 4  4 6 4 5  4 0 4 5  4 7 4 5  8 0 5 9  9 2 9 11  12 0 11 13  11 16 11 13  14 0 13 15  15 127 15 23
+    30 0 23 31  31 127 31 39  46 1 39 47  47 128 47 55  58 0 55 59  55 255 55 59  63 17 59 67  66 0 67 68
+    67 2 67 68  67 0 68 76  68 64 68 76  83 1 76 84  87 7 84 88  90 0 88 96  90 8 88 96  95 1 88 96  96 0 96 97
+    96 4 96 97  104 1 97 105  112 1 105 113  115 7 113 121  270 0 263 271  222 127 222 230";
+
+const BAD_ROWS: &str =
+    "13 127 13 21  21 255 21 29  30 1 29 31  10 1 29 31  32 3 31 33  66 0 65 67  33 127 33 41  82 6 75 83  90 4 83 91
+    98 6 91 99  98 4 91 99";
+
+/// The numbers of a text.
+fn numbers_of(alloc: Global, text: &str) -> Result<Vec<u16>, Fail> {
+    let mut numbers = Vec::new(alloc);
+    for word in text.split_whitespace() {
+        numbers.push(word.parse()?)?;
+    }
+    Ok(numbers)
+}
+
+/// Appends the bytes whose numbers a text has.
+fn append(bytes: &mut Vec<u8>, text: &str) -> Result<(), Fail> {
+    for word in text.split_whitespace() {
+        bytes.push(word.parse()?)?;
+    }
+    Ok(())
+}
+
+/// Whether a decoder that is fed these bytes, up to a place and then the others, gives a Closed frame and wants more,
+/// and then names a bad field at this offset, and again at the next call.
+fn is_refused(alloc: Global, bytes: &[u8], end: u16, at: u16) -> Result<bool, Fail> {
+    let (before, behind) = bytes
+        .split_at_checked(usize::from(end))
+        .ok_or("no such place")?;
+    let mut decoder = Decoder::new(alloc);
+    decoder.feed(before)?;
+    let waits = matches!(decoder.next(), Ok(Some(Frame::Closed { session: 7 })))
+        && matches!(decoder.next(), Ok(None));
+    decoder.feed(behind)?;
+    let fault = Some(FrameFault::BadFrame { at: u64::from(at) });
+    Ok(waits && decoder.next().err() == fault && decoder.next().err() == fault)
+}
+
+#[test]
+fn bad_fields_are_refused_at_their_last_byte(rt: HostRuntime) -> Result<(), Fail> {
+    let alloc = rt.alloc();
+    for (frame, changes) in [
+        (DONE, BAD_DONE),
+        (REFUSED, BAD_REFUSED),
+        (OPENED, BAD_OPENED),
+        (CLOSED, BAD_CLOSED),
+        (VIEW, BAD_VIEW),
+        (ROWS, BAD_ROWS),
+    ] {
+        for change in numbers_of(alloc, changes)?.chunks(4) {
+            let [place, value, at, end] = *change else {
+                return Err(Fail::new("no change"));
+            };
+            let mut bytes = Vec::new(alloc);
+            append(&mut bytes, CLOSED)?;
+            append(&mut bytes, frame)?;
+            if let Some(byte) = bytes.get_mut(9 + usize::from(place)) {
+                *byte = u8::try_from(value)?;
+            }
+            // its last byte is missing at first
+            let end = end.saturating_add(8);
+            assert!(rt;
+                is_refused(alloc, &bytes, end, at.saturating_add(9))?,
+                "{frame}, {place} {value}"
+            );
+        }
+    }
+    Ok(())
+}
+
+#[test]
+fn lengths_are_those_of_frames(rt: HostRuntime) -> Result<(), Fail> {
+    let bad = Some(FrameFault::BadFrame { at: 0 });
+    for (lengths, fault) in [
+        ([5, 9, 18, 27, 84, 139_291, 3_276_884], None),
+        ([0, 1, 85, 139_325, 3_276_909, 4_194_305, u32::MAX], bad),
+    ] {
+        for length in lengths {
+            let mut decoder = Decoder::new(rt.alloc());
+            decoder.feed(&u32::to_be_bytes(length))?;
+            assert_eq!(rt; decoder.next().err(), fault, "{length}");
+        }
+    }
+    Ok(())
+}
+
+/// A view of 2^28 slots up to the number of its coefficients, which is the greatest.
+const GREATEST: &str =
+    "0 50 0 84  5  0 0 0 1  1 255  16 0  16 0  0 0 0 0 0 0 0 0  0 0 0 0 16 0 0 0  0 0 0 0 0 0 0 2  0 0 0 0 0 0 0 7
+    0 0 0 0 0 0 0 0  0 0 0 1  0 0 0 0 16 0 0 0  1  0 0 0 0 0 0 0 2  0 0 0 0 0 0 0 7  0 2 0 0";
+
+/// The greatest view comes in pieces of 50 bytes, and between them the decoder is asked for a frame. It keeps the place
+/// that it has reached: one that read from the front at each call would read 4 * 10^9 coefficients.
+#[test]
+fn a_view_comes_in_small_pieces(rt: HostRuntime) -> Result<(), Fail> {
+    let alloc = rt.alloc();
+    let mut bytes = Vec::new(alloc);
+    append(&mut bytes, GREATEST)?;
+    for index in 0..131_072u32 {
+        bytes.extend_from_slice(&[0, 0, 1, 0])?;
+        bytes.extend_from_slice(&index.to_be_bytes())?;
+        bytes.extend_from_slice(&[1, 0, 0, 0, 0, 0, 0, 0, 0, 0, 0, 0, 0, 0, 0, 0, 0])?;
+    }
+    let mut decoder = Decoder::new(alloc);
+    let mut out = Vec::new(alloc);
+    for piece in bytes.chunks(50) {
+        decoder.feed(piece)?;
+        if let Some(frame) = decoder.next()? {
+            out.extend_from_slice(&encode(alloc, &frame)?)?;
+        }
+    }
+    assert!(rt; out == bytes);
+    Ok(())
+}

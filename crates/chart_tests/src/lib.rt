@@ -1,0 +1,14 @@
+//! Tests of the crates from value_filter up to demo_command, and nothing else: of what no clause says and no golden
+//! run of the program shows. A crate with tests is proved twice, so they stand here, over the libraries.
+#![tactic(auto)]
+
+#[cfg(test)]
+mod faults;
+#[cfg(test)]
+mod frames;
+#[cfg(test)]
+mod plans;
+#[cfg(test)]
+mod spellings;
+#[cfg(test)]
+mod walks;

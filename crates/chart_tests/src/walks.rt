@@ -1,0 +1,54 @@
+//! Public calls that no command makes, once each, with memory enough.
+
+use chart_grid::{Axis, Grid};
+use line_raster::Bitmap;
+use m4_groups::{Groups, Row};
+use needed_nodes::rows_of;
+use om3_coeff::ListNodes;
+use plain_chart::{draw, range_of};
+use std::test::Fail;
+
+const AXIS: Axis = Axis {
+    start: 0,
+    step: 1,
+    slots: 4,
+};
+
+const SLOTS: [Option<i64>; 4] = [Some(4), Some(7), Some(2), None];
+
+fn row(column: u16, first: i64, least: i64, greatest: i64, last: i64) -> Row {
+    Row {
+        column,
+        first,
+        least,
+        greatest,
+        last,
+    }
+}
+
+#[test]
+fn rows_are_found_by_points_and_by_nodes(rt: HostRuntime) -> Result<(), Fail> {
+    let grid = Grid::new(0, 4, 2, 4)?;
+    let rows = [row(0, 4, 4, 7, 7), row(1, 2, 2, 2, 2)];
+    let mut nodes = ListNodes::new(&SLOTS);
+    let by_nodes = rows_of(rt.alloc(), &mut nodes, AXIS, grid)?;
+    assert_eq!(rt; by_nodes.into_vec().as_slice(), rows.as_slice());
+    let mut groups = Groups::new(rt.alloc(), grid)?;
+    groups.push(0, 4)?;
+    groups.push(1, 7)?;
+    groups.push(2, 2)?;
+    assert_eq!(rt; groups.rows().as_slice(), rows.as_slice());
+    Ok(())
+}
+
+#[test]
+fn segments_are_drawn(rt: HostRuntime) -> Result<(), Fail> {
+    let grid = Grid::new(0, 4, 4, 4)?;
+    let range = range_of(grid, AXIS, &SLOTS);
+    assert_eq!(rt; (range.lo, range.hi), (2, 7));
+    let mut bitmap = Bitmap::new(rt.alloc(), 4, 4)?;
+    assert!(rt; bitmap.width() == grid.w());
+    draw(&mut bitmap, grid, AXIS, &SLOTS, range);
+    assert_eq!(rt; bitmap.black(), 5);
+    Ok(())
+}

@@ -1,0 +1,3 @@
+pub mod LastDigits
+pub mod ReadBack
+pub mod Words

@@ -1,0 +1,77 @@
+//! How often a disk is called by an edit and by an opening.
+
+use crate::deeds::{Deed, MANY, after, bytes_of, run};
+use block_disk::Tear;
+use std::alloc::Global;
+use std::test::Fail;
+
+/// The calls of a disk, its reads and its syncs.
+fn counts_of(alloc: Global, image: &[u8], deed: Deed) -> Result<(u64, u64, u64), Fail> {
+    let (done, disk) = run(alloc, image, deed, MANY, &[])?;
+    if !done {
+        return Err(Fail::new("not done"));
+    }
+    Ok((disk.calls(), disk.reads(), disk.syncs()))
+}
+
+/// Values in 34 pages about slot 128^3.
+fn wide(alloc: Global) -> Result<Vec<u8>, Fail> {
+    let mut deeds = Vec::from_slice(alloc, &[Deed::Make, Deed::Create])?;
+    for run in 0..17i32 {
+        deeds.push(Deed::Set(2_094_976 + 256 * i128::from(run), 256, 1))?;
+    }
+    after(alloc, deeds.as_slice())
+}
+
+/// A clear of slots of 33 of those pages: with two pages of each of the next two levels, the root, the
+/// record's page and page 0 it changes 40 pages.
+const LONG: Deed = Deed::Clear(2_095_040, 4_096);
+
+/// An opening is the size, a sync, the gate and the store's 17 pages. An edit writes each page that it
+/// changes twice, the directory, and the gate twice, with four syncs.
+#[test]
+fn edits_write_each_page_twice(rt: HostRuntime) -> Result<(), Fail> {
+    let alloc = rt.alloc();
+    let filled = after(alloc, &[Deed::Make, Deed::Create, Deed::Append(200, 5)])?;
+    let wide = wide(alloc)?;
+    for (image, edit, pages) in [
+        (&filled, Deed::Append(1, 9), 4),
+        (&filled, Deed::Set(0, 256, 1), 5),
+        (&filled, Deed::Set(127, 256, 1), 6),
+        (&filled, Deed::Set(16_380, 8, 2), 7),
+        (&filled, Deed::Set(2_097_152, 1, 5), 7),
+        (&wide, LONG, 40),
+    ] {
+        let (calls, reads, syncs) = counts_of(alloc, image.as_slice(), edit)?;
+        let writes = 2u64.saturating_mul(pages).saturating_add(3);
+        let others = reads.saturating_add(1 + 1 + 4);
+        assert_eq!(rt;
+            (calls, syncs),
+            (others.saturating_add(writes), 1 + 4),
+            "{edit:?}"
+        );
+        assert!(rt; 18 < reads && reads <= 18 + 96, "{edit:?} {reads}");
+    }
+    Ok(())
+}
+
+/// Of a commit that was stopped an opening reads the directory, reads and writes each page once, and closes
+/// the gate, with two syncs more.
+#[test]
+fn openings_read_few_blocks(rt: HostRuntime) -> Result<(), Fail> {
+    let alloc = rt.alloc();
+    let image = wide(alloc)?;
+    assert_eq!(rt;
+        counts_of(alloc, image.as_slice(), Deed::Open)?,
+        (20, 18, 1)
+    );
+    let (calls, _, _) = counts_of(alloc, image.as_slice(), LONG)?;
+    // without the last sync of pages, and the gate and its sync
+    let (_, disk) = run(alloc, image.as_slice(), LONG, calls.saturating_sub(3), &[])?;
+    let image = bytes_of(alloc, disk.after_crash(Tear::Old)?, 0)?;
+    assert_eq!(rt;
+        counts_of(alloc, image.as_slice(), Deed::Open)?,
+        (20 + 1 + 80 + 3, 18 + 1 + 40, 3)
+    );
+    Ok(())
+}
