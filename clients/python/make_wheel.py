@@ -1,0 +1,50 @@
+"""Makes the package's wheel, as pip asks for it: a zip of the modules, and what the wheel says of itself."""
+import base64
+import hashlib
+import os
+import re
+import zipfile
+
+HERE = os.path.dirname(os.path.realpath(__file__))
+PACKAGE = "zurtkvani_client"
+
+
+def stated(key):
+    """What pyproject.toml states for a key; the standard library reads TOML from Python 3.11 on alone."""
+    with open(os.path.join(HERE, "pyproject.toml"), encoding="utf-8") as file:
+        return re.search(rf'^{key} = "(.*)"$', file.read(), re.MULTILINE)[1]
+
+
+def metadata():
+    return (
+        f"Metadata-Version: 2.1\nName: {stated('name')}\nVersion: {stated('version')}\n"
+        f"Summary: {stated('description')}\nRequires-Python: {stated('requires-python')}\n"
+    )
+
+
+def write_wheel(path, info, files):
+    """Writes the files into a wheel, and behind them the record with a sum of each."""
+    record = f"{info}/RECORD"
+    lines = ""
+    with zipfile.ZipFile(path, "w", zipfile.ZIP_DEFLATED) as wheel:
+        for name, data in files.items():
+            wheel.writestr(zipfile.ZipInfo(name), data)
+            total = base64.urlsafe_b64encode(hashlib.sha256(data).digest()).decode().rstrip("=")
+            lines += f"{name},sha256={total},{len(data)}\n"
+        wheel.writestr(zipfile.ZipInfo(record), lines + f"{record},,\n")
+
+
+def build_wheel(wheel_directory, config_settings=None, metadata_directory=None):
+    """The hook that pip calls; gives the name of the wheel."""
+    files = {}
+    for name in sorted(os.listdir(os.path.join(HERE, PACKAGE))):
+        if name.endswith(".py"):
+            with open(os.path.join(HERE, PACKAGE, name), "rb") as file:
+                files[f"{PACKAGE}/{name}"] = file.read()
+    release = f"{PACKAGE}-{stated('version')}"
+    info = f"{release}.dist-info"
+    files[f"{info}/METADATA"] = metadata().encode()
+    files[f"{info}/WHEEL"] = b"Wheel-Version: 1.0\nGenerator: make_wheel\nRoot-Is-Purelib: true\nTag: py3-none-any\n"
+    wheel = f"{release}-py3-none-any.whl"
+    write_wheel(os.path.join(wheel_directory, wheel), info, files)
+    return wheel

@@ -1,0 +1,172 @@
+"""Stores, sessions, pictures and how they end, over the built program."""
+import os
+import signal
+import subprocess
+import sys
+import tempfile
+import unittest
+import zlib
+
+ROOT = os.path.dirname(os.path.dirname(os.path.dirname(os.path.dirname(os.path.realpath(__file__)))))
+PROGRAM = os.path.join(ROOT, "crates/chart_program/out/chart_program")
+sys.path.insert(0, os.path.join(ROOT, "clients/python"))
+
+from zurtkvani_client import Ended, Refused, Store  # noqa: E402
+
+
+class Numbers(list):
+    """What stands for an array of numpy here: its own list is in `tolist`."""
+
+    def tolist(self):
+        return list(self)
+
+
+class OverAStore(unittest.TestCase):
+    def setUp(self):
+        folder = tempfile.TemporaryDirectory()
+        self.addCleanup(folder.cleanup)
+        self.path = os.path.join(folder.name, "a.store")
+        with open(self.path, "wb") as file:
+            file.truncate(4096 * 256)
+        subprocess.run([PROGRAM, self.path, "init"], check=True)
+
+    def store(self):
+        return Store(self.path, program=PROGRAM)
+
+    def drawn(self, lines):
+        """What `draw` makes of what `serve` sends for these lines, over the store."""
+        frames = subprocess.run([PROGRAM, self.path, "serve"], input=lines, stdout=subprocess.PIPE, check=True).stdout
+        return subprocess.run([PROGRAM, "-", "draw"], input=frames, stdout=subprocess.PIPE, check=True).stdout
+
+    def test_pictures_are_those_of_draw(self):
+        with self.store() as store:
+            store.create("a", 0, 10)
+            store.append("a", [4, 7, None, 2])
+            store.append("a", range(300))
+            store.set("a", 20, [-5])
+            store.clear("a", 0, 1)
+            with store.session() as session:
+                pictures = [session.view("a", 50, 20, 0, 400), session.zoom(0, 40), session.pan(10)]
+                pictures.append(session.view("a", 50, 20, 0, 4000, range=(-3, 200), where="v > 1"))
+        lines = b"open 1\nview 1 a 50 20 0 400 auto\nzoom 1 0 40\npan 1 10\nview 1 a 50 20 0 4000 -3..200 where v > 1\n"
+        self.assertEqual(b"".join(picture.to_pbm() for picture in pictures), self.drawn(lines))
+        self.assertEqual((pictures[1].lo, pictures[1].hi), (-5, 7))
+
+    def test_a_picture_by_hand(self):
+        with self.store() as store:
+            store.create("a", 0, 1)
+            store.append("a", [0, None, None, 3])
+            picture = store.session().view("a", 4, 4, 0, 6)
+        self.assertEqual(picture.to_pbm(), bytes.fromhex("50340a3420340a20404080"))
+        self.assertEqual(bytes(picture.pixels), b"1000" b"0100" b"0100" b"0010")
+
+    def test_the_png_holds_the_pixels(self):
+        with self.store() as store:
+            store.create("a", 0, 1)
+            store.append("a", [0, 9, 3, 5, 5, 1, 8])
+            picture = store.session().view("a", 21, 9, 0, 7)
+        png = picture._repr_png_()
+        self.assertEqual(png[:16].hex(), "89504e470d0a1a0a0000000d49484452")
+        self.assertEqual(png[16:29].hex(), "00000015" "00000009" "01" "00" "00" "00" "00")
+        at = png.index(b"IDAT")
+        length = int.from_bytes(png[at - 4 : at], "big")
+        self.assertEqual(int.from_bytes(png[at + 4 + length : at + 8 + length], "big"), zlib.crc32(png[at : at + 4 + length]))
+        lines = zlib.decompress(png[at + 4 : at + 4 + length])
+        pbm = picture.to_pbm()[len(b"P4\n21 9\n") :]
+        self.assertEqual(len(lines), 9 * 4)
+        for row in range(9):
+            self.assertEqual(lines[4 * row], 0)
+            self.assertEqual(bytes(255 - byte for byte in lines[4 * row + 1 : 4 * row + 4]), pbm[3 * row : 3 * row + 3])
+
+    def test_refusals_have_number_name_and_numbers(self):
+        with self.store() as store:
+            store.create("a", 0, 10)
+            session = store.session(cache=7)
+            cases = [
+                (9, "SeriesExists", 0, 0, lambda: store.create("a", 0, 1)),
+                (8, "UnknownSeries", 0, 0, lambda: store.append("b", [1])),
+                (11, "OffGrid", 0, 0, lambda: store.set("a", 5, [1])),
+                (13, "ValueTooLarge", 0, 0, lambda: store.append("a", [10**18 + 1])),
+                (14, "RangeTooLong", 0, 0, lambda: store.set("a", 0, range(257))),
+                (16, "NoView", 0, 0, lambda: session.pan(1)),
+                (3, "BadFilter", 3, 0, lambda: session.view("a", 4, 4, 0, 9, where="v >")),
+                (2, "BadLine", 7, 0, lambda: store.append("", [1])),
+            ]
+            for number, name, a, b, request in cases:
+                with self.assertRaises(Refused) as met:
+                    request()
+                told = met.exception
+                self.assertEqual((told.number, told.name, told.a, told.b), (number, name, a, b))
+            store.append("a", [4, 7, 2])
+            with self.assertRaises(Refused) as met:
+                session.view("a", 4, 4, 0, 40)
+            self.assertEqual((met.exception.number, met.exception.a, met.exception.b), (20, 8, 7))
+
+    def test_a_line_feed_makes_no_second_request(self):
+        with self.store() as store:
+            store.create("a", 0, 1)
+            with self.assertRaises(ValueError):
+                store.session().view("a", 4, 4, 0, 9, where="v > 1\ncreate b 0 1 0")
+
+    def test_values_are_whole_numbers(self):
+        with self.store() as store:
+            store.create("a", 0, 1)
+            for values in (["1 2"], [1.5], ["-"]):
+                with self.assertRaises(TypeError):
+                    store.append("a", values)
+                with self.assertRaises(TypeError):
+                    store.set("a", 0, values)
+            store.append("a", Numbers([1, None, 3]))
+            picture = store.session().view("a", 3, 3, 0, 3)
+        self.assertEqual((picture.lo, picture.hi), (1, 3))
+
+    def test_a_second_run_over_the_store(self):
+        with self.store() as store:
+            store.create("a", 0, 1)
+            with self.assertRaises(Ended) as met:
+                with self.store() as second:
+                    second.create("b", 0, 1)
+            self.assertEqual((met.exception.status, met.exception.place), (6, 0))
+            store.append("a", [1])
+
+    def test_a_run_that_cannot_begin(self):
+        with self.assertRaises(Ended) as met:
+            with Store(self.path + ".none", program=PROGRAM) as store:
+                store.create("a", 0, 1)
+        self.assertEqual((met.exception.status, met.exception.place), (6, 0))
+
+    def test_a_store_that_is_damaged(self):
+        with open(self.path, "r+b") as file:
+            file.seek(4096 * 66)
+            file.write(b"no store")
+        with self.assertRaises(Ended) as met:
+            with self.store():
+                pass
+        self.assertEqual((met.exception.status, met.exception.place), (7, 66))
+
+    def test_a_run_that_is_killed(self):
+        with self.store() as store:
+            store.create("a", 0, 1)
+            os.kill(store.child.pid, signal.SIGKILL)
+            for _ in range(2):
+                with self.assertRaises(Ended) as met:
+                    store.append("a", [1])
+                self.assertEqual((met.exception.status, met.exception.place), (-signal.SIGKILL, None))
+        with self.store() as store:
+            with self.assertRaises(Refused):
+                store.create("a", 0, 1)
+
+    def test_nothing_is_answered_outside(self):
+        store = self.store()
+        with self.assertRaises(ValueError):
+            store.create("a", 0, 1)
+        with store:
+            store.create("a", 0, 1)
+        with self.assertRaises(Ended) as met:
+            store.append("a", [1])
+        self.assertEqual(met.exception.status, 0)
+        self.assertIsNotNone(store.child.returncode)
+
+
+if __name__ == "__main__":
+    unittest.main()

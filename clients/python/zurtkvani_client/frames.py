@@ -1,0 +1,209 @@
+"""From frames to pictures: what a client does with the bytes that a chart server sends.
+
+Its rules are those of docs/FORMATS.md: the tables of frames, and "From frames to pictures". `accept` reads one frame from
+a stream; whoever calls it keeps the open sessions between two calls.
+"""
+from collections import OrderedDict, namedtuple
+
+from .picture import Picture
+
+MOST = 10**18  # the greatest size of a value
+DONE, REFUSED, OPENED, CLOSED, VIEW, ROWS = range(1, 7)
+# For each kind the length without items, the length of an item, and the most items.
+LENGTHS = {
+    DONE: (9, 1, 0), REFUSED: (18, 1, 0), OPENED: (9, 1, 0), CLOSED: (5, 1, 0), VIEW: (84, 25, 131072), ROWS: (27, 34, 4096)
+}
+
+
+Done = namedtuple("Done", "slots")
+Refused = namedtuple("Refused", "number a b")
+Opened = namedtuple("Opened", "session cache")
+Closed = namedtuple("Closed", "session")
+
+
+class Stopped(Exception):
+    """Why no further picture is drawn."""
+
+
+class Cut(Stopped):
+    """The stream ends within a frame, or before it."""
+
+
+class Fields:
+    """The fields of a stream, each tested as soon as it is read."""
+
+    def __init__(self, stream):
+        self.stream = stream
+        self.offset = 0  # of the next field
+
+    def number(self, size, least, greatest):
+        """The next field, which has to lie from least to greatest; one that may be below 0 is signed."""
+        data = self.stream.read(size)
+        self.offset += len(data)
+        if len(data) < size:
+            raise Cut(f"the stream ends at byte {self.offset}")
+        number = int.from_bytes(data, "big", signed=least < 0)
+        self.require(least <= number <= greatest, size)
+        return number
+
+    def require(self, holds, size):
+        """Stops unless the rule of the field just read holds."""
+        if not holds:
+            raise Stopped(f"the field at byte {self.offset - size} breaks its rule")
+
+
+class Session:
+    """The list of a session: coefficients by series and key, its front at the end."""
+
+    def __init__(self, cache):
+        self.cache = cache
+        self.held = OrderedDict()
+
+    def renew(self, series, wanted):
+        """The list after a view: the wanted keys that it has come to the front, and then the others."""
+        keys = sorted(wanted, key=lambda key: (-key[0], key[1]))
+        for key in sorted(keys, key=lambda key: (series, key) not in self.held):
+            self.held[series, key] = wanted[key]
+            self.held.move_to_end((series, key))
+        while len(self.held) > self.cache:
+            self.held.popitem(last=False)
+
+
+def split(span, coefficient):
+    """The spans of the halves of a key, None for a half where nothing is stored."""
+    flags, dmin, dmax = coefficient
+    if flags < 3:
+        return (span, None) if flags == 1 else (None, span)
+    least, greatest = span
+    halves = [(least + max(dmin, 0), greatest + min(dmax, 0)), (least + max(-dmin, 0), greatest + min(-dmax, 0))]
+    if not all(-MOST <= low <= high <= MOST for low, high in halves):
+        raise Stopped("a coefficient doesn't fit")
+    return halves
+
+
+class View:
+    """A View frame behind its session, and what it shows of its series. A key is a pair of level and index."""
+
+    def __init__(self, fields, count):
+        self.series = fields.number(2, 0, 511)
+        self.w, self.h = fields.number(2, 1, 4096), fields.number(2, 1, 4096)
+        self.t0 = fields.number(8, -2 * MOST, 2 * MOST)
+        self.t1 = fields.number(8, self.t0 + 1, 2 * MOST)
+        self.lo = fields.number(8, -MOST, MOST)
+        self.hi = fields.number(8, self.lo, MOST)
+        self.start = fields.number(8, -MOST, MOST)
+        self.step = fields.number(4, 1, 2**31)
+        self.slots = fields.number(8, 0, 2**28)
+        size = MOST * fields.number(1, 0, 1 if self.slots else 0)
+        least = fields.number(8, -size, size)
+        greatest = fields.number(8, least, size)
+        self.span = (least, greatest) if size else None
+        fields.number(4, count, count)
+        self.top = next(7 * k for k in range(1, 5) if 128**k >= self.slots)
+        self.sent = dict(self.coefficients(fields, count))
+
+    def coefficients(self, fields, count):
+        before = (-self.top - 1, 0)
+        for _ in range(count):
+            level, index = divmod(fields.number(8, 0, 2**64 - 1), 2**40)
+            fields.require(0 < level <= self.top and index < 2 ** (self.top - level) and before < (-level, index), 8)
+            before = (-level, index)
+            flags = fields.number(1, 1, 3)
+            size = 2 * MOST if flags == 3 else 0
+            yield (level, index), (flags, fields.number(8, -size, size), fields.number(8, -size, size))
+
+    def draw(self, session):
+        self.held, self.wanted = session.held, {}
+        self.pieces = {}  # for each column the keys that are left in it, with their spans
+        self.first = max(0, -((self.start - self.t0) // self.step))  # the window's slots go from here to below behind
+        self.behind = min(self.slots, -((self.start - self.t1) // self.step))
+        if self.span:
+            self.find_pieces((self.top, 0), self.span)
+        rows = [self.row(column) for column in self.pieces]
+        session.renew(self.series, self.wanted)
+        return Picture(self.w, self.h, self.lo, self.hi, rows)
+
+    def column(self, slot):
+        return (self.start + slot * self.step - self.t0) * self.w // (self.t1 - self.t0)
+
+    def halves(self, key, span):
+        """The halves of a wanted key that have a stored value, with their spans."""
+        level, index = key
+        coefficient = self.sent.get(key) or self.held.get((self.series, key))
+        if not coefficient:
+            raise Stopped(f"the coefficient of level {level}, index {index} is missing")
+        self.wanted[key] = coefficient
+        return [((level - 1, half), part) for half, part in enumerate(split(span, coefficient), 2 * index) if part]
+
+    def find_pieces(self, key, span):
+        """Splits a key until what is left of it lies within columns, from the left to the right."""
+        first, behind = key[1] << key[0], (key[1] + 1) << key[0]
+        if self.first >= min(behind, self.behind) or self.behind <= first:
+            return
+        if self.first <= first and behind <= self.behind and self.column(first) == self.column(behind - 1):
+            self.pieces.setdefault(self.column(first), []).append((key, span))
+            return
+        for half, part in self.halves(key, span):
+            self.find_pieces(half, part)
+
+    def row(self, column):
+        pieces = self.pieces[column]
+        least, greatest = min(span[0] for _, span in pieces), max(span[1] for _, span in pieces)
+        return column, self.end(*pieces[0], 0), least, greatest, self.end(*pieces[-1], -1)
+
+    def end(self, key, span, side):
+        """The first (side 0) or the last (side -1) stored value below a key."""
+        while key[0] > 0:
+            key, span = self.halves(key, span)[side]
+        return span[0]
+
+
+class Rows:
+    """A Rows frame behind its session."""
+
+    def __init__(self, fields, count):
+        self.w, self.h = fields.number(2, 1, 4096), fields.number(2, 1, 4096)
+        self.lo = fields.number(8, -MOST, MOST)
+        self.hi = fields.number(8, self.lo, MOST)
+        fields.number(2, count, min(count, self.w))
+        self.rows = []
+        column = -1
+        for _ in range(count):
+            column = fields.number(2, column + 1, self.w - 1)
+            first = fields.number(8, -MOST, MOST)
+            least = fields.number(8, -MOST, first)
+            greatest = fields.number(8, first, MOST)
+            self.rows.append((column, first, least, greatest, fields.number(8, least, greatest)))
+
+    def draw(self, _session):
+        return Picture(self.w, self.h, self.lo, self.hi, self.rows)
+
+
+def accept(fields, sessions):
+    """Reads a frame and changes the open sessions by it. Gives it with its picture, or with None where it has none."""
+    length = fields.number(4, 0, 2**32 - 1)
+    counts = {}
+    for kind, (own, item, most) in LENGTHS.items():
+        if length in range(own, own + item * most + 1, item):
+            counts[kind] = (length - own) // item
+    fields.require(counts, 4)
+    kind = fields.number(1, 0, 255)
+    fields.require(kind in counts, 1)
+    if kind == DONE:
+        return Done(fields.number(8, 0, 2**28)), None
+    if kind == REFUSED:
+        number = fields.number(1, 1, 21)
+        a = fields.number(8, 0, 2**64 - 1 if number in (2, 3, 20, 21) else 0)
+        return Refused(number, a, fields.number(8, 0, 2**64 - 1 if number in (20, 21) else 0)), None
+    session = fields.number(4, 1, 2**32 - 1)
+    if kind == OPENED:
+        opened = Opened(session, fields.number(4, 1, 131072))
+        sessions[session] = Session(opened.cache)
+        return opened, None
+    chart = View(fields, counts[kind]) if kind == VIEW else Rows(fields, counts[kind]) if kind == ROWS else None
+    if session not in sessions:
+        raise Stopped(f"session {session} isn't open")
+    if chart:
+        return chart, chart.draw(sessions[session])
+    del sessions[session]
+    return Closed(session), None

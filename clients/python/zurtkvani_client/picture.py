@@ -1,0 +1,73 @@
+"""A picture of a chart: pixels that are black or not."""
+import struct
+import zlib
+
+
+class Picture:
+    """A canvas of w by h pixels; rows count from the bottom."""
+
+    def __init__(self, w, h, lo, hi, rows):
+        self.w, self.h, self.lo, self.hi = w, h, lo, hi
+        self.pixels = bytearray(b"0") * (w * h)  # a byte each, "1" where it is black
+        before = None
+        for column, first, least, greatest, last in rows:
+            self.fill(column, self.height(least), self.height(greatest))
+            if before:
+                self.join(*before, column, self.height(first))
+            before = column, self.height(last)
+
+    def height(self, value):
+        """The row of a value; it may lie off the canvas."""
+        return (value - self.lo) * (self.h - 1) // (self.hi - self.lo) if self.lo < self.hi else 0
+
+    def fill(self, x, y1, y2):
+        """Blackens what the canvas has of a column between two rows."""
+        low, high = max(min(y1, y2), 0), min(max(y1, y2), self.h - 1)
+        if low <= high:
+            self.pixels[low * self.w + x : high * self.w + x + 1 : self.w] = b"1" * (high - low + 1)
+
+    def join(self, x1, y1, x2, y2):
+        """The segment between two points. Of a steep one, column n has those rows for which the rule gives n."""
+        dx, dy, way = x2 - x1, abs(y2 - y1), 1 if y1 <= y2 else -1
+        end = -1
+        for n in range(dx + 1):
+            if dx >= dy:
+                begin = end = (2 * n * dy + dx) // (2 * dx)
+            else:
+                begin, end = end + 1, min(((2 * n + 1) * dy - 1) // (2 * dx), dy)
+            self.fill(x1 + n, y1 + way * begin, y1 + way * end)
+
+    def packed_rows(self):
+        """The rows from the top, eight pixels a byte, the left one in the highest bit."""
+        size = (self.w + 7) // 8
+        for start in range(self.w * (self.h - 1), -1, -self.w):
+            bits = self.pixels[start : start + self.w].ljust(8 * size, b"0")
+            yield int(bits, 2).to_bytes(size, "big")
+
+    def to_pbm(self):
+        """The picture as a raw PBM."""
+        return b"P4\n%d %d\n" % (self.w, self.h) + b"".join(self.packed_rows())
+
+    def to_png(self):
+        """The picture as a PNG of one bit a pixel, in which 1 is white."""
+        white = bytes(255 - byte for byte in range(256))
+        lines = b"".join(b"\0" + row.translate(white) for row in self.packed_rows())
+        head = struct.pack(">IIBBBBB", self.w, self.h, 1, 0, 0, 0, 0)
+        return b"\x89PNG\r\n\x1a\n" + chunk(b"IHDR", head) + chunk(b"IDAT", zlib.compress(lines, 9)) + chunk(b"IEND", b"")
+
+    def _repr_png_(self):
+        return self.to_png()
+
+    def __array__(self, dtype=None, copy=None):
+        """The picture as an array of numpy, h by w, with the row 0 at the top; True is black."""
+        import numpy
+
+        if copy is False:
+            raise ValueError("a picture keeps its pixels otherwise, so an array of them is a copy")
+        black = numpy.frombuffer(bytes(self.pixels), dtype=numpy.uint8).reshape(self.h, self.w)[::-1] == ord("1")
+        return black if dtype is None else black.astype(dtype)
+
+
+def chunk(kind, data):
+    """A part of a PNG."""
+    return struct.pack(">I", len(data)) + kind + data + struct.pack(">I", zlib.crc32(kind + data))

@@ -1,0 +1,191 @@
+"""Turns a CSV of readings, with dates and decimals, into the lines that the chart program's `load` takes.
+
+A row's time is a date in ISO 8601, as 2026-11-27T08:30:00Z or 2026-11-27 08:30 or 2026-11-27, or a number of seconds or
+milliseconds since 1970. A date without an offset is in UTC. Its value is a decimal; an empty one, `-`, NaN, NA and null are
+a time without a reading. A first row of which neither is one is a header.
+
+Sent is `time,value` for each reading that stands on a slot of the series: a whole number of steps behind its start. What
+doesn't fit is listed on standard error by the number of its line, and at the end how many rows there were of each kind. The
+exit status is 1 where something didn't fit.
+"""
+import argparse
+import csv
+import os
+import re
+import sys
+from datetime import datetime, timedelta, timezone
+from decimal import Decimal
+from fractions import Fraction
+
+EPOCH = datetime(1970, 1, 1, tzinfo=timezone.utc)
+DATE = re.compile(
+    r"(\d{4})-(\d\d)-(\d\d)(?:[T ](\d\d):(\d\d)(?::(\d\d)(?:[.,](\d{1,9}))?)?\s*(?:(Z)|([+-])(\d\d):?(\d\d)?)?)?", re.ASCII | re.IGNORECASE
+)
+NUMBER = re.compile(r"[+-]?\d{1,19}(?:\.\d{1,9})?", re.ASCII)
+VALUE = re.compile(r"[+-]?(?:\d+\.?\d*|\.\d+)(?:e[+-]?\d{1,4})?", re.ASCII | re.IGNORECASE)
+MISSING = {"", "-", "nan", "na", "null"}
+PARTS = {"seconds": 1, "milliseconds": 1000}
+MOST = 10**18  # the greatest size of a value
+LAST_SLOT = 2**28 - 1
+
+
+class Unfit(Exception):
+    """Why a row has no place in the series."""
+
+
+def seconds_of(text, parts):
+    """The time of a field, in seconds since 1970; `parts` is how many of a number's units a second has."""
+    if NUMBER.fullmatch(text):
+        return Fraction(text) / parts
+    match = DATE.fullmatch(text)
+    if not match:
+        raise Unfit(f"{text!r} is no time")
+    year, month, day, hour, minute, second, rest, _, sign, hours, minutes = match.groups(default="0")
+    try:
+        date = datetime(*map(int, (year, month, day, hour, minute, second)), tzinfo=timezone.utc)
+    except ValueError:
+        raise Unfit(f"{text!r} is no time") from None
+    ahead = (int(hours) * 60 + int(minutes)) * 60 * (-1 if sign == "-" else 1)
+    return (date - EPOCH) // timedelta(seconds=1) + Fraction(f"0.{rest}") - ahead
+
+
+def number_of(text, scale):
+    """The value of a field as a whole number of the series, None where there is no reading."""
+    if text.lower() in MISSING:
+        return None
+    if not VALUE.fullmatch(text):
+        raise Unfit(f"{text!r} is no value")
+    number = Fraction(Decimal(text)) * 10**scale
+    if number.denominator != 1:
+        raise Unfit(f"{text!r} has more than {scale} decimals")
+    if abs(number) > MOST:
+        raise Unfit(f"{text!r} is too large")
+    return int(number)
+
+
+def decimal(number, scale):
+    """A whole number of the series as a decimal."""
+    digits = str(abs(number)).rjust(scale + 1, "0")
+    return ("-" if number < 0 else "") + digits[: len(digits) - scale] + (f".{digits[-scale:]}" if scale else "")
+
+
+class Grid:
+    """The slots of a series. Where no start is named it is the time of the first reading."""
+
+    def __init__(self, words):
+        self.step, self.scale, self.decimal_comma = words.step, words.scale, words.decimal_comma
+        self.read, self.written = PARTS[words.read], PARTS[words.write]
+        self.start = None
+        if words.start is not None:
+            self.start = self.time_of(words.start)
+
+    def time_of(self, text):
+        time = seconds_of(text, self.read) * self.written
+        if time.denominator != 1 or abs(time) > MOST:
+            raise Unfit(f"{text!r} is no whole time of the series")
+        return int(time)
+
+    def row(self, fields):
+        """The time and the number of a row, None where there is no reading."""
+        time, value = (field.strip() for field in fields)
+        if self.decimal_comma:
+            value = value.replace(",", ".")
+        time, number = self.time_of(time), number_of(value, self.scale)
+        if number is None:
+            return time, None
+        if self.start is None:
+            self.start = time
+        slot, rest = divmod(time - self.start, self.step)
+        if rest:
+            raise Unfit(f"{fields[0]!r} lies between two slots")
+        if not 0 <= slot <= LAST_SLOT:
+            raise Unfit(f"{fields[0]!r} lies " + ("before the start" if slot < 0 else "too far behind the start"))
+        return time, number
+
+
+def convert(rows, columns, grid, out):
+    """Sends what fits, and tells of the rest; gives how many rows fit, have no reading, and don't fit."""
+    counts = {"fit": 0, "missing": 0, "unfit": 0}
+    is_first = True
+    for fields in rows:
+        if not any(field.strip() for field in fields):
+            continue
+        was_first, is_first = is_first, False
+        if was_first and is_header(fields, columns, grid):
+            continue
+        try:
+            if len(fields) < max(columns):
+                raise Unfit(f"there is no column {max(columns)}")
+            time, number = grid.row([fields[column - 1] for column in columns])
+        except Unfit as why:
+            counts["unfit"] += 1
+            print(f"line {rows.line_num}: {why}", file=sys.stderr)
+            continue
+        counts["missing" if number is None else "fit"] += 1
+        if number is not None and out:
+            out.write(f"{time},{decimal(number, grid.scale)}\n")
+    return counts
+
+
+def is_header(fields, columns, grid):
+    """Whether neither field of a first row is what a reading has."""
+    for column, reader in zip(columns, (lambda text: seconds_of(text, grid.read), lambda text: number_of(text, grid.scale))):
+        try:
+            reader(fields[column - 1].strip())
+        except (Unfit, IndexError):
+            continue
+        return False
+    return True
+
+
+def words_of(arguments):
+    words = argparse.ArgumentParser(
+        prog="python3 -m zurtkvani_client.readings", description=__doc__, formatter_class=argparse.RawDescriptionHelpFormatter
+    )
+    words.add_argument("file", nargs="?", default="-", help="the CSV; standard input where none is named")
+    words.add_argument("--step", type=int, required=True, help="the series' step, in the unit of --write")
+    words.add_argument("--start", help="the series' start, a time as in the CSV; else that of the first reading")
+    words.add_argument("--scale", type=int, default=0, choices=range(10), help="the series' number of decimals; 0 where none is named")
+    words.add_argument("--read", choices=PARTS, default="seconds", help="the unit of the CSV's numbers of time")
+    words.add_argument("--write", choices=PARTS, default="seconds", help="the unit of the series' times")
+    words.add_argument("--columns", type=int, nargs=2, default=(1, 2), metavar=("TIME", "VALUE"), help="their columns, counted from 1")
+    words.add_argument("--delimiter", default=",", help="what stands between two fields")
+    words.add_argument("--decimal-comma", action="store_true", help="values have a comma for the point")
+    words.add_argument("--dry-run", action="store_true", help="send nothing, and list and count all the same")
+    given = words.parse_args(arguments)
+    if not 1 <= given.step <= 2**31:
+        words.error("a step is 1 to 2147483648")
+    if len(given.delimiter) != 1 or min(given.columns) < 1:
+        words.error("a delimiter is one character, and columns count from 1")
+    return words, given
+
+
+def main(arguments=None):
+    words, given = words_of(arguments)
+    if sys.stdout is None or sys.stderr is None:
+        words.error("standard output or standard error is closed")
+    try:
+        grid = Grid(given)
+        # A byte order mark is dropped.
+        source = open(0 if given.file == "-" else given.file, encoding="utf-8-sig", errors="replace", newline="")
+    except (Unfit, OSError) as why:
+        words.error(str(why))
+    try:
+        with source:
+            rows = csv.reader(source, delimiter=given.delimiter)
+            counts = convert(rows, given.columns, grid, None if given.dry_run else sys.stdout)
+        sys.stdout.flush()
+    except BrokenPipeError:
+        # Whoever took the lines has gone. Python would write what is left when it ends, and fail once more.
+        os.dup2(os.open(os.devnull, os.O_WRONLY), sys.stdout.fileno())
+        return 1
+    except (OSError, csv.Error) as why:
+        words.error(str(why))
+    series = "" if grid.start is None else f"; the series: create NAME {grid.start} {grid.step} {grid.scale}"
+    told = f"{counts['fit']} readings, {counts['missing']} times without one, {counts['unfit']} lines that don't fit"
+    print(f"readings: {told}{series}", file=sys.stderr)
+    return 1 if counts["unfit"] else 0
+
+
+if __name__ == "__main__":
+    sys.exit(main())

@@ -1,0 +1,105 @@
+// The client in JavaScript on the worked streams of docs/FORMATS.md, whole and in pieces. Run by `node --test clients/web/test.js`.
+import assert from "node:assert";
+import { test } from "node:test";
+import { Client, Picture, Stopped } from "./chart_client.js";
+
+const bytesOf = (hex) => Uint8Array.from(hex.replace(/\s/g, "").match(/../g), (byte) => parseInt(byte, 16));
+const join = (...parts) => Uint8Array.from(parts.flatMap((part) => [...part]));
+
+const OPENED = bytesOf("00000009 03 00000001 00010000");
+const VIEW = bytesOf(`
+  0000011C 05 00000001 0000 0004 0004 0000000000000000 0000000000000004 0000000000000002 0000000000000007
+  0000000000000000 00000001 0000000000000004 01 0000000000000002 0000000000000007 00000008
+  0000070000000000 01 0000000000000000 0000000000000000
+  0000060000000000 01 0000000000000000 0000000000000000
+  0000050000000000 01 0000000000000000 0000000000000000
+  0000040000000000 01 0000000000000000 0000000000000000
+  0000030000000000 01 0000000000000000 0000000000000000
+  0000020000000000 03 0000000000000002 0000000000000005
+  0000010000000000 03 FFFFFFFFFFFFFFFD FFFFFFFFFFFFFFFD
+  0000010000000001 01 0000000000000000 0000000000000000`);
+const STREAM = join(bytesOf("00000009 01 0000000000000000"), bytesOf("00000009 01 0000000000000004"), OPENED, VIEW);
+
+/** What a client makes of a stream in pieces of this size: the kinds of its frames, and its pictures as text, rows from the top. */
+function drawn(stream, size) {
+  const client = new Client();
+  const kinds = [];
+  const pictures = [];
+  for (let at = 0; at < stream.length; at += size) {
+    for (const { frame, picture } of client.push(stream.subarray(at, at + size))) {
+      kinds.push(frame.kind);
+      if (picture) {
+        const rows = Array.from({ length: picture.h }, (_, y) => picture.pixels.subarray(y * picture.w, (y + 1) * picture.w));
+        pictures.push(rows.map((row) => Array.from(row, (pixel) => ".#"[pixel]).join("")).join(" "));
+      }
+    }
+  }
+  client.end();
+  return { kinds, pictures };
+}
+
+for (const size of [1, 2, 7, 100, STREAM.length]) {
+  test(`the worked stream in pieces of ${size} bytes`, () => {
+    // 4, 7 and 2 on four rows have the heights 1, 3 and 0.
+    const { kinds, pictures } = drawn(STREAM, size);
+    assert.deepStrictEqual(kinds, ["done", "done", "opened", "view"]);
+    assert.deepStrictEqual(pictures, [".#.. .#.. #.#. ..#."]);
+  });
+
+  test(`a field that breaks its rule, in pieces of ${size} bytes`, () => {
+    const stream = STREAM.slice();
+    stream[143] = 1;
+    assert.throws(() => drawn(stream, size), new Stopped("the frame at byte 39: the field at byte 136 breaks its rule"));
+  });
+
+  test(`a stream that is cut, in pieces of ${size} bytes`, () => {
+    assert.throws(() => drawn(STREAM.subarray(0, 100), size), new Stopped("the frame at byte 39: the stream ends at byte 100"));
+  });
+}
+
+test("a coefficient that isn't there", () => {
+  const view = VIEW.slice(0, VIEW.length - 25);
+  view.set([0, 0, 1, 3], 0);
+  view[87] = 7;
+  assert.throws(() => drawn(join(OPENED, view), 1000), new Stopped("the frame at byte 13: the coefficient of level 1, index 1 is missing"));
+});
+
+/** The worked view where the client has all coefficients. */
+function again() {
+  const view = VIEW.slice(0, 4 + 84);
+  view.set([0, 0, 0, 84], 0);
+  view[87] = 0;
+  return view;
+}
+
+test("a view again, of which nothing was sent, shows the same as long as the session is open", () => {
+  const same = ".#.. .#.. #.#. ..#.";
+  assert.deepStrictEqual(drawn(join(OPENED, VIEW, again(), again()), 1000).pictures, [same, same, same]);
+  assert.throws(() => drawn(join(OPENED, VIEW, OPENED, again()), 1000), new Stopped("the frame at byte 314: the coefficient of level 7, index 0 is missing"));
+});
+
+test("a view again in another range is drawn anew", () => {
+  // From -7 to 7 the values 4, 7 and 2 have the heights 2, 3 and 1; the steep segment has its middle pixel in column 2.
+  const wider = again();
+  wider.set(bytesOf("FFFFFFFFFFFFFFF9"), 4 + 27);
+  assert.deepStrictEqual(drawn(join(OPENED, VIEW, wider), 1000).pictures[1], ".#.. #.#. ..#. ....");
+});
+
+test("a session that isn't open, and one that was closed", () => {
+  assert.throws(() => drawn(VIEW, 1000), new Stopped("the frame at byte 0: session 1 isn't open"));
+  const closed = bytesOf("00000005 04 00000001");
+  assert.throws(() => drawn(join(OPENED, closed, VIEW), 1000), new Stopped("the frame at byte 22: session 1 isn't open"));
+});
+
+test("a refusal has its number, its name and its numbers", () => {
+  const [{ frame }] = new Client().push(bytesOf("00000012 02 14 0000000000000029 0000000000000028"));
+  assert.deepStrictEqual([frame.number, frame.name, frame.a, frame.b], [20, "ViewTooLarge", 41, 40]);
+});
+
+test("a picture is the same in numbers and in BigInts", () => {
+  const rows = [[0, 3, -1, 9, 4], [2, 5, 5, 5, 5], [9, -7000, -7000, 80, 2], [10, 1, 1, 1, 1]];
+  const in_ = (of) => rows.map(([column, ...values]) => Object.fromEntries(["first", "least", "greatest", "last"].map((name, at) => [name, of(values[at])]).concat([["column", column]])));
+  const pictures = [Number, BigInt].map((of) => new Picture(11, 23, -1, 9, in_(of), of).toPbm());
+  assert.deepStrictEqual(pictures[0], pictures[1]);
+  assert.ok(pictures[0].some((byte, at) => at > 9 && byte !== 0));
+});
