@@ -1,0 +1,3 @@
+from golden_data import write_store_behind_journal
+
+write_store_behind_journal()

@@ -1,0 +1,6 @@
+import sys
+
+from golden_data import write_views
+
+sys.stdout.buffer.write(b"opened 1 65536\n")
+write_views(2)

@@ -1,2 +1,0 @@
-import sys
-sys.stdout.buffer.write(b"opened 1 65536\nview 1 sent 263\nP4\n4 4096\n" + b"\x40" * 4096)
