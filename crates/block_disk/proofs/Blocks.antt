@@ -6,6 +6,7 @@ use Rattle.std.proofs.Math.Path.{fun_ext}
 use Rattle.std.proofs.lemmas.Bool.{cases_lt}
 use Rattle.std.proofs.lemmas.Bool.Decides.{eqb_tells}
 use Rattle.std.proofs.Math.Seq.{drop-append-add, drop-append_seam, take-append_seam}
+use Rattle.block_disk.specs.Blocks.{block_size, IsBlock}
 use Rattle.block_disk.specs.MemDisk.{blocks_of, put, replaced}
 
 pub length-replaced : (bytes : List ℕ) (start : ℕ) (from : List ℕ) → start + length from ≤ length bytes → length (replaced bytes start from) ≡ length bytes
@@ -54,17 +55,17 @@ replaced_after bytes start from at within high =
     ∙ ap (λ n. drop n bytes) whole
 
 -- a block that was put in place of another
-pub block_there : (bytes : List ℕ) (one : ℕ) (from : List ℕ) → length from ≡ 4096 → 4096 * one + 4096 ≤ length bytes → blocks_of (replaced bytes (4096 * one) from) one ≡ from
+pub block_there : (bytes : List ℕ) (one : ℕ) (from : List ℕ) → IsBlock from → block_size * one + block_size ≤ length bytes → blocks_of (replaced bytes (block_size * one) from) one ≡ from
 block_there bytes one from whole within =
-    ap (λ n. take n (drop (4096 * one) (replaced bytes (4096 * one) from))) (sym whole) ∙ replaced_there bytes (4096 * one) from (omega arith)
+    ap (λ n. take n (drop (block_size * one) (replaced bytes (block_size * one) from))) (sym whole) ∙ replaced_there bytes (block_size * one) from (omega arith)
 
 -- the other blocks stay
-pub block_other : (bytes : List ℕ) (one : ℕ) (from : List ℕ) (number : ℕ) → length from ≡ 4096 → 4096 * one + 4096 ≤ length bytes → number ≢ one → blocks_of (replaced bytes (4096 * one) from) number ≡ blocks_of bytes number
+pub block_other : (bytes : List ℕ) (one : ℕ) (from : List ℕ) (number : ℕ) → IsBlock from → block_size * one + block_size ≤ length bytes → number ≢ one → blocks_of (replaced bytes (block_size * one) from) number ≡ blocks_of bytes number
 block_other bytes one from number whole within other = elim (cases_lt number one) [
-  | inl below ↦ replaced_before bytes (4096 * one) from (4096 * number) 4096 (omega arith) (omega (arith, mul-le-mul_left 4096 below))
+  | inl below ↦ replaced_before bytes (block_size * one) from (block_size * number) block_size (omega arith) (omega (arith, mul-le-mul_left block_size below))
   | inr above ↦
       let more : one < number = omega (arith, above, other) in
-      ap (λ l. take 4096 l) (replaced_after bytes (4096 * one) from (4096 * number) (omega arith) (omega (arith, whole, mul-le-mul_left 4096 more)))
+      ap (λ l. take block_size l) (replaced_after bytes (block_size * one) from (block_size * number) (omega arith) (omega (arith, whole, mul-le-mul_left block_size more)))
 ]
 
 -- as much as fits is all, where nothing was added
@@ -73,8 +74,8 @@ all_of bytes other len same whole =
     ap (λ n. take n (bytes ++ drop (length bytes) other)) (whole ∙ sym same) ∙ take-append_seam bytes (drop (length bytes) other)
 
 -- the image with a block put in place of another
-pub blocks_put : (bytes : List ℕ) (one : ℕ) (from : List ℕ) → length from ≡ 4096 → 4096 * one + 4096 ≤ length bytes → blocks_of (replaced bytes (4096 * one) from) ≡ put one from (blocks_of bytes)
+pub blocks_put : (bytes : List ℕ) (one : ℕ) (from : List ℕ) → IsBlock from → block_size * one + block_size ≤ length bytes → blocks_of (replaced bytes (block_size * one) from) ≡ put one from (blocks_of bytes)
 blocks_put bytes one from whole within = fun_ext (λ number. elim (eqb_tells number one) [
-  | inl is ↦ ap (λ n. blocks_of (replaced bytes (4096 * one) from) n) is.1 ∙ block_there bytes one from whole within ∙ sym (ap (λ b. cond b from (blocks_of bytes number)) is.0)
+  | inl is ↦ ap (λ n. blocks_of (replaced bytes (block_size * one) from) n) is.1 ∙ block_there bytes one from whole within ∙ sym (ap (λ b. cond b from (blocks_of bytes number)) is.0)
   | inr not ↦ block_other bytes one from number whole within not.1 ∙ sym (ap (λ b. cond b from (blocks_of bytes number)) not.0)
 ])

@@ -1,5 +1,6 @@
 -- What a disk in memory means: its past is told by the record of its calls.
 use Rattle.std.specs.Prelude.{ℕ, ◌+◌, ◌*◌, ◌++◌, ◌==◌, ◌≡◌, ◌⊎◌, if◌then◌else◌, List, [], ◌∷◌, Some, length, take, drop}
+use Rattle.block_disk.specs.Blocks.{block_size}
 use Rattle.block_disk.specs.View.{Image, View, Beside}
 use Rattle.block_disk.specs.declared.mem_disk.MemDisk.{MemDisk}
 use Rattle.block_disk.specs.declared.mem_disk.Call.{Call}
@@ -7,7 +8,7 @@ use Rattle.block_disk.specs.declared.mem_disk.Call.TheVariants.{Wrote, Synced, A
 
 -- the blocks that lie in these bytes one after another
 abbrev pub blocks_of : List ℕ → Image
-blocks_of bytes number = take 4096 (drop (4096 * number) bytes)
+blocks_of bytes number = take block_size (drop (block_size * number) bytes)
 
 -- these bytes with others in place of those from there on
 unfoldable pub replaced : List ℕ → ℕ → List ℕ → List ℕ

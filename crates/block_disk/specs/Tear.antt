@@ -1,5 +1,6 @@
 -- What a crash makes of pending blocks.
 use Rattle.std.specs.Prelude.{ℕ, ◌≡◌, ◌⊎◌, List, [], ◌∷◌, ◌++◌, take, drop, replicate}
+use Rattle.block_disk.specs.Blocks.{block_size}
 use Rattle.block_disk.specs.View.{Image}
 use Rattle.block_disk.specs.MemDisk.{put, before_all, HasNoSync, IsPending}
 use Rattle.block_disk.specs.declared.mem_disk.Call.{Call}
@@ -12,7 +13,7 @@ abbrev pub torn : Tear → List ℕ → List ℕ → List ℕ
 torn Old old new = old
 torn New old new = new
 torn Half old new = take 2048 new ++ drop 2048 old
-torn (Junk byte) old new = replicate 4096 byte
+torn (Junk byte) old new = replicate block_size byte
 
 -- an image once the block of a call is torn
 abbrev pub after_tear : Tear → Call → Image → Image → Image → Image

@@ -1,5 +1,6 @@
 //! A disk of blocks.
-ghost use Rattle.std.specs.Prelude.{◌≡◌, ◌<◌, length, IfOk, OnOk, OnErr};
+ghost use Rattle.std.specs.Prelude.{◌≡◌, ◌<◌, IfOk, OnOk, OnErr};
+ghost use Rattle.block_disk.specs.Blocks.{IsBlock};
 ghost use Rattle.block_disk.specs.Counts.{HasRisen};
 ghost use Rattle.block_disk.specs.View.{View, Now, Honest, Only, Moves, Nowhere, At};
 
@@ -23,7 +24,7 @@ pub trait Disk: Drop {
     /// Reads a block. After `Failed`, `out` may hold anything.
     fn read_block(&mut self, no: u32, out: &mut [u8]) -> Result<(), Failed>
         requires no_in_size { no < (view self.old).size }
-        requires whole { length out.old ≡ 4096 }
+        requires whole { IsBlock out.old }
         ensures bytes { Honest (view self.old) → OnOk result (out.new ≡ (view self.old).image no) }
         ensures moves { Moves Nowhere 1 0 0 (view self.old) (view self.new) }
         ensures cause { OnErr result (HasRisen (view self.old).faults (view self.new).faults) };
@@ -31,7 +32,7 @@ pub trait Disk: Drop {
     /// Writes a block, which is pending afterwards. After `Failed` it may read as anything.
     fn write_block(&mut self, no: u32, from: &[u8]) -> Result<(), Failed>
         requires no_in_size { no < (view self.old).size }
-        requires whole { length from.now ≡ 4096 }
+        requires whole { IsBlock from.now }
         ensures written { Honest (view self.old) → OnOk result ((view self.new).image no ≡ from.now) }
         ensures moves { Moves (At no) 0 0 1 (view self.old) (view self.new) }
         ensures cause { OnErr result (HasRisen (view self.old).faults (view self.new).faults) };

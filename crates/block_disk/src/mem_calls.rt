@@ -1,5 +1,6 @@
 //! The calls of a disk in memory.
 ghost use Rattle.std.specs.Prelude.{◌≡◌, ◌≤◌, ◌⊎◌, ◌++◌, ◌∷◌, [], ◌*◌, ◌+◌, ◌/◌, ◌%◌, length, take, drop, IsErr, IsTrue, Contains, ◌↔◌, OnOk, OnErr, IfOk};
+ghost use Rattle.block_disk.specs.Blocks.{block_size, IsBlock};
 ghost use Rattle.block_disk.specs.Counts.{HasRisen, counted};
 ghost use Rattle.block_disk.specs.MemDisk.{mem_view, blocks_of, put, replaced};
 ghost use Rattle.block_disk.specs.Record.{call_fits};
@@ -79,8 +80,8 @@ fn replace_in(bytes: &mut [u8], start: usize, from: &[u8])
 
 /// Puts a block in place of another.
 pub(crate) fn replace_block(bytes: &mut Vec<u8>, no: u32, block: &[u8])
-    requires whole { length block.now ≡ 4096 }
-    requires within { 4096 * no + 4096 ≤ length bytes.old.items }
+    requires whole { IsBlock block.now }
+    requires within { block_size * no + block_size ≤ length bytes.old.items }
     ensures put { blocks_of bytes.new.items ≡ put no block.now (blocks_of bytes.old.items) }
     ensures len { length bytes.new.items ≡ length bytes.old.items }
 {

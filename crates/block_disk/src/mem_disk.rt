@@ -1,6 +1,7 @@
 //! A disk in memory.
 ghost use Rattle.std.specs.Prelude.{◌≤◌, ◌*◌, length, IsTrue};
 ghost use Rattle.std.specs.List.{list_all};
+ghost use Rattle.block_disk.specs.Blocks.{block_size};
 ghost use Rattle.block_disk.specs.Record.{call_fits};
 
 use std::alloc::Global;
@@ -30,6 +31,6 @@ pub struct MemDisk {
     pub(crate) syncs: u64,
     pub(crate) writes: u64,
     pub(crate) faults: u64,
-    ghost within: { 4096 * blocks ≤ length bytes.items },
+    ghost within: { block_size * blocks ≤ length bytes.items },
     ghost noted: { IsTrue (list_all (call_fits blocks) record.items) },
 }

@@ -1,6 +1,7 @@
 //! What a crash makes of the pending blocks of a disk in memory.
 ghost use Rattle.std.specs.Prelude.{◌≡◌, ◌≤◌, ◌+◌, ◌-◌, ◌*◌, ◌<◌, ◌↔◌, ◌++◌, Some, length, drop, take, slice_get, IsTrue, IfOk, OnOk};
 ghost use Rattle.std.specs.List.{list_all};
+ghost use Rattle.block_disk.specs.Blocks.{block_size, IsBlock};
 ghost use Rattle.block_disk.specs.MemDisk.{blocks_of, before, before_all, HasNoSync, mem_view};
 ghost use Rattle.block_disk.specs.Record.{call_fits};
 ghost use Rattle.block_disk.specs.Tear.{torn, after_tear, EndsSynced, Crashed, TornBy};
@@ -27,10 +28,10 @@ pub enum Tear {
 
 /// What a crash leaves of a block.
 fn torn_block(alloc: Global, tear: Tear, old: &[u8], new: &[u8]) -> Result<Vec<u8>, NoMemory>
-    requires old_block { length old.now ≡ 4096 }
-    requires new_block { length new.now ≡ 4096 }
+    requires old_block { IsBlock old.now }
+    requires new_block { IsBlock new.now }
     ensures block { IfOk result (λ block. block.items ≡ torn tear old.now new.now) }
-    ensures len { IfOk result (λ block. length block.items ≡ 4096) }
+    ensures len { IfOk result (λ block. IsBlock block.items) }
 {
     match tear {
         Tear::Old => Ok(Vec::from_slice(alloc, old)?),
@@ -42,10 +43,10 @@ fn torn_block(alloc: Global, tear: Tear, old: &[u8], new: &[u8]) -> Result<Vec<u
 
 /// The front half of a block, and the other half of another.
 fn half_block(alloc: Global, old: &[u8], new: &[u8]) -> Result<Vec<u8>, NoMemory>
-    requires old_block { length old.now ≡ 4096 }
-    requires new_block { length new.now ≡ 4096 }
+    requires old_block { IsBlock old.now }
+    requires new_block { IsBlock new.now }
     ensures block { IfOk result (λ block. block.items ≡ take 2048 new.now ++ drop 2048 old.now) }
-    ensures len { IfOk result (λ block. length block.items ≡ 4096) }
+    ensures len { IfOk result (λ block. IsBlock block.items) }
 {
     let (front, _) = new.split_at(BLOCK / 2);
     let (_, back) = old.split_at(BLOCK / 2);
@@ -57,7 +58,7 @@ fn half_block(alloc: Global, old: &[u8], new: &[u8]) -> Result<Vec<u8>, NoMemory
 /// Undoes the calls after the last sync, and answers how many came before them.
 fn undo(bytes: &mut Vec<u8>, calls: &[Call], blocks: u32) -> usize
     requires fits { IsTrue (list_all (call_fits blocks) calls.now) }
-    requires within { 4096 * blocks ≤ length bytes.old.items }
+    requires within { block_size * blocks ≤ length bytes.old.items }
     ensures some { result ≤ length calls.now }
     ensures synced { EndsSynced (take result calls.now) }
     ensures since { HasNoSync (drop result calls.now) }
@@ -85,7 +86,7 @@ fn is_sync(call: &Call) -> bool
 /// Undoes one call.
 fn undo_call(bytes: &mut Vec<u8>, call: &Call, blocks: u32)
     requires fits { IsTrue (call_fits blocks call.now) }
-    requires within { 4096 * blocks ≤ length bytes.old.items }
+    requires within { block_size * blocks ≤ length bytes.old.items }
     ensures undone { blocks_of bytes.new.items ≡ before call.now (blocks_of bytes.old.items) }
     ensures len { length bytes.new.items ≡ length bytes.old.items }
 {
@@ -106,9 +107,9 @@ fn tear_call(
     new: &[u8],
 ) -> Result<(), NoMemory>
     requires fits { IsTrue (call_fits blocks call.now) }
-    requires within { 4096 * blocks ≤ length left.old.items }
-    requires old_within { 4096 * blocks ≤ length old.now }
-    requires new_within { 4096 * blocks ≤ length new.now }
+    requires within { block_size * blocks ≤ length left.old.items }
+    requires old_within { block_size * blocks ≤ length old.now }
+    requires new_within { block_size * blocks ≤ length new.now }
     ensures torn { OnOk result (blocks_of left.new.items ≡ after_tear tear call.now (blocks_of old.now) (blocks_of new.now) (blocks_of left.old.items)) }
     ensures len { length left.new.items ≡ length left.old.items }
 {
@@ -130,19 +131,19 @@ fn torn_at(
     old: &[u8],
     new: &[u8],
 ) -> Result<Vec<u8>, NoMemory>
-    requires old_within { 4096 * no + 4096 ≤ length old.now }
-    requires new_within { 4096 * no + 4096 ≤ length new.now }
+    requires old_within { block_size * no + block_size ≤ length old.now }
+    requires new_within { block_size * no + block_size ≤ length new.now }
     ensures block { IfOk result (λ block. block.items ≡ torn tear (blocks_of old.now no) (blocks_of new.now no)) }
-    ensures len { IfOk result (λ block. length block.items ≡ 4096) }
+    ensures len { IfOk result (λ block. IsBlock block.items) }
 {
     torn_block(alloc, tear, block_at(old, no), block_at(new, no))
 }
 
 /// The block with this number.
 fn block_at(bytes: &[u8], no: usize) -> &[u8]
-    requires { 4096 * no + 4096 ≤ length bytes.now }
+    requires { block_size * no + block_size ≤ length bytes.now }
     ensures block { result.now ≡ blocks_of bytes.now no }
-    ensures len { length result.now ≡ 4096 }
+    ensures len { IsBlock result.now }
 {
     let (_, rest) = bytes.split_at(BLOCK * no);
     let (block, _) = rest.split_at(BLOCK);
@@ -159,8 +160,8 @@ fn tear_all(
     new: &[u8],
 ) -> Result<Vec<u8>, NoMemory>
     requires fits { IsTrue (list_all (call_fits blocks) calls.now) }
-    requires old_within { 4096 * blocks ≤ length old.now }
-    requires new_within { 4096 * blocks ≤ length new.now }
+    requires old_within { block_size * blocks ≤ length old.now }
+    requires new_within { block_size * blocks ≤ length new.now }
     ensures torn { IfOk result (λ left. TornBy tear calls.now (blocks_of old.now) (blocks_of new.now) (blocks_of left.items)) }
     ensures len { IfOk result (λ left. length left.items ≡ length new.now) }
 {

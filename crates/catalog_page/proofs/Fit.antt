@@ -7,6 +7,7 @@ use Rattle.std.proofs.lemmas.Bool.{and_parts, leb-true, cases_lt}
 use Rattle.std.proofs.lemmas.Bool.Decides.{eqb_tells}
 use Rattle.std.proofs.lemmas.List.{get_or-take, get_or-drop, length-take-le}
 use Rattle.std.proofs.lemmas.Grind.{same_number_lists}
+use Rattle.whole_number.specs.Range.{IsValue}
 use Rattle.om3_coeff.specs.declared.span.Span.{Span}
 use Rattle.om3_coeff.specs.Spans.{IsProperIfAny}
 use Rattle.series_book.specs.Names.{is_name, is_name_byte}
@@ -14,7 +15,7 @@ use Rattle.catalog_page.specs.Fields.{length_at, name_at, root_at, slots_at, min
 use Rattle.catalog_page.specs.Entries.{Entry, IsEntry, IsRoot, entry_in, least_of, greatest_of}
 use Rattle.catalog_page.specs.Layout.{IsRecord}
 use Rattle.catalog_page.specs.Spelling.{Spells}
-use Rattle.catalog_page.proofs.Numbers.{IsBytes, number_bytes, signed_bytes}
+use Rattle.node_page.specs.Numbers.{IsBytes, number_bytes, signed_bytes}
 use Rattle.catalog_page.proofs.Spelled.{no_root, span_if}
 
 -- a name has 1 to 31 bytes
@@ -25,11 +26,11 @@ name_length name named =
     let sizes = and_parts (nat_le 1 (length name)) (nat_le (length name) 31) parts.0 in
     (leb-true 1 (length name) sizes.0, leb-true (length name) 31 sizes.1)
 
-least_fits : (s : Option Span) → IsProperIfAny s → unsigned_abs (least_of s) ≤ 10 ^ 18
+least_fits : (s : Option Span) → IsProperIfAny s → IsValue (least_of s)
 least_fits None proper = omega arith
 least_fits (Some s) proper = proper.low
 
-greatest_fits : (s : Option Span) → IsProperIfAny s → unsigned_abs (greatest_of s) ≤ 10 ^ 18
+greatest_fits : (s : Option Span) → IsProperIfAny s → IsValue (greatest_of s)
 greatest_fits None proper = omega arith
 greatest_fits (Some s) proper = proper.high
 
@@ -51,22 +52,22 @@ spelled_record fresh e b fits rooted s =
         padded = λ k low high. s.padded k (omega (arith, low, s.len)) high;
       };
       step = (omega (arith, s.step, fits.step_low), omega (arith, s.step, fits.step_high));
-      start = subst (λ (z : ℤ). unsigned_abs z ≤ 10 ^ 18) (sym s.start) fits.start;
+      start = subst IsValue (sym s.start) fits.start;
       slots = omega (arith, s.slots, fits.slots);
       root = subst (λ (n : ℕ). IsRoot fresh n (slots_at b)) (sym s.root) (subst (λ (n : ℕ). IsRoot fresh e.root n) (sym s.slots) fits.root);
       min = (
-        subst (λ (z : ℤ). unsigned_abs z ≤ 10 ^ 18) (sym s.min) (least_fits e.span fits.span),
+        subst IsValue (sym s.min) (least_fits e.span fits.span),
         λ none. s.min ∙ ap least_of (rooted.1 (sym s.root ∙ none)),
       );
       max = (
-        subst (λ (z : ℤ). unsigned_abs z ≤ 10 ^ 18) (sym s.max) (greatest_fits e.span fits.span),
+        subst IsValue (sym s.max) (greatest_fits e.span fits.span),
         subst (λ (z : ℤ). z ≤ℤ max_at b) (sym s.min) ordered,
         λ none. s.max ∙ ap greatest_of (rooted.1 (sym s.root ∙ none)),
       );
       spare = s.spare;
     }
 
-span_fits : (root : ℕ) (min max : ℤ) → unsigned_abs min ≤ 10 ^ 18 → unsigned_abs max ≤ 10 ^ 18 → min ≤ℤ max → IsProperIfAny (span_if (root == 0) min max)
+span_fits : (root : ℕ) (min max : ℤ) → IsValue min → IsValue max → min ≤ℤ max → IsProperIfAny (span_if (root == 0) min max)
 span_fits root min max low high ordered = elim (eqb_tells root 0) [
   | inl none ↦ subst (λ (t : Bool). IsProperIfAny (span_if t min max)) (sym none.0) tt
   | inr more ↦ subst (λ (t : Bool). IsProperIfAny (span_if t min max)) (sym more.0) (record { ordered = ordered; low = low; high = high })

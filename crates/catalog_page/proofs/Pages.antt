@@ -5,6 +5,7 @@ use Rattle.std.proofs.Math.Seq.{take-append_seam, drop-append_seam}
 use Rattle.std.proofs.lemmas.Bool.{cases_lt, cases_order}
 use Rattle.std.proofs.lemmas.List.{get_or-take, get_or-drop, get_or_past, get_or-replicate, length-replicate, length-take-le}
 use Rattle.std.proofs.lemmas.Grind.{same_number_lists}
+use Rattle.block_disk.specs.Blocks.{block_size, IsBlock}
 use Rattle.node_page.specs.Fields.{with_bytes}
 use Rattle.node_page.proofs.Bytes.{written_before, written_behind, written_length}
 use Rattle.page_space.specs.Layout.{catalog_page}
@@ -12,18 +13,18 @@ use Rattle.catalog_page.specs.Fields.{record_bytes}
 use Rattle.catalog_page.specs.Entries.{entry_at}
 use Rattle.catalog_page.specs.Layout.{IsRecord, HasRecord, KeepsLayout}
 use Rattle.catalog_page.specs.Spelling.{Spells}
-use Rattle.catalog_page.proofs.Numbers.{IsBytes}
+use Rattle.node_page.specs.Numbers.{IsBytes}
 use Rattle.catalog_page.proofs.Fit.{record_spells, one_spelling}
 
 pub byte_in : (page : List ℕ) (i k : ℕ) → k < 96 → get_or (record_bytes page i) k 0 ≡ get_or page (8 + 96 * i + k) 0
 unfolding record_bytes
 byte_in page i k low = get_or-take 96 (drop (8 + 96 * i) page) k 0 low ∙ get_or-drop (8 + 96 * i) page k 0
 
-pub length_in : (page : List ℕ) (i : ℕ) → length page ≡ 4096 → i < 32 → length (record_bytes page i) ≡ 96
+pub length_in : (page : List ℕ) (i : ℕ) → IsBlock page → i < 32 → length (record_bytes page i) ≡ 96
 unfolding record_bytes
 length_in page i whole low = length-take-le 96 (drop (8 + 96 * i) page) (omega (arith, length-drop (8 + 96 * i) page, whole, low))
 
-bytes_in : (page : List ℕ) (i : ℕ) → length page ≡ 4096 → i < 32 → IsBytes page → IsBytes (record_bytes page i)
+bytes_in : (page : List ℕ) (i : ℕ) → IsBlock page → i < 32 → IsBytes page → IsBytes (record_bytes page i)
 bytes_in page i whole low fits k = elim (cases_lt k 96) [
   | inl less ↦ subst (λ (n : ℕ). n < 256) (sym (byte_in page i k less)) (fits (8 + 96 * i + k))
   | inr past ↦
@@ -31,7 +32,7 @@ bytes_in page i whole low fits k = elim (cases_lt k 96) [
 ]
 
 -- a record depends on its bytes alone
-record_same : (i : ℕ) (old new : List ℕ) → length old ≡ 4096 → length new ≡ 4096 → i < 32
+record_same : (i : ℕ) (old new : List ℕ) → IsBlock old → IsBlock new → i < 32
     → ((k : ℕ) → 8 + 96 * i ≤ k → k < 104 + 96 * i → get_or new k 0 ≡ get_or old k 0) → record_bytes new i ≡ record_bytes old i
 record_same i old new whole whole' low same =
     let size : length (record_bytes new i) ≡ 96 = length_in new i whole' low in
@@ -42,11 +43,11 @@ record_same i old new whole whole' low same =
 -- a record is set
 pub record IsSet (number : ℕ) (part old new : List ℕ) : Type 0 where
   pub small : number < 32
-  pub whole : length old ≡ 4096
+  pub whole : IsBlock old
   pub size : length part ≡ 96
   pub set : new ≡ with_bytes old (8 + 96 * number) part
 
-pub set_whole : (number : ℕ) (part old new : List ℕ) → IsSet number part old new → length new ≡ 4096
+pub set_whole : (number : ℕ) (part old new : List ℕ) → IsSet number part old new → IsBlock new
 set_whole number part old new is =
     ap length is.set ∙ written_length (8 + 96 * number) old part (omega (arith, is.small, is.size, is.whole)) ∙ is.whole
 
@@ -108,7 +109,7 @@ set_keeps number count count' fresh part old new is rules within few more behind
 
 -- Pages that say the same.
 
-used_byte : (one other : List ℕ) (i fresh fresh' : ℕ) → length one ≡ 4096 → length other ≡ 4096 → IsBytes one → IsBytes other → i < 32
+used_byte : (one other : List ℕ) (i fresh fresh' : ℕ) → IsBlock one → IsBlock other → IsBytes one → IsBytes other → i < 32
     → HasRecord fresh one i → HasRecord fresh' other i → entry_at one i ≡ entry_at other i → record_bytes one i ≡ record_bytes other i
 used_byte one other i fresh fresh' whole whole' fits fits' low r r' same =
     let a = record_bytes one i in
@@ -118,8 +119,8 @@ used_byte one other i fresh fresh' whole whole' fits fits' low r r' same =
     one_spelling (entry_at one i) a b (bytes_in one i whole low fits) (bytes_in other i whole' low fits') s (subst (λ e. Spells e b) (sym same) s')
 
 pub record Alike (one other : List ℕ) (count fresh fresh' : ℕ) : Type 0 where
-  pub whole : length one ≡ 4096
-  pub whole' : length other ≡ 4096
+  pub whole : IsBlock one
+  pub whole' : IsBlock other
   pub fits : IsBytes one
   pub fits' : IsBytes other
   pub keeps : KeepsLayout count fresh one
@@ -155,14 +156,14 @@ alike_same one other count fresh fresh' alike =
       | inr from ↦ elim (cases_lt k 3080) [
         | inl to ↦ within_byte one other count fresh fresh' alike k from to
         | inr past ↦
-            let below : k < 4096 = omega (arith, low, alike.whole) in
+            let below : k < block_size = omega (arith, low, alike.whole) in
             alike.keeps.reserved.1 k past below ∙ sym (alike.keeps'.reserved.1 k past below)
       ]
     ])
 
 -- A page without a series.
 
-blank_byte : (k : ℕ) → 1 ≤ k → k < 4096 → get_or catalog_page k 0 ≡ 0
+blank_byte : (k : ℕ) → 1 ≤ k → k < block_size → get_or catalog_page k 0 ≡ 0
 unfolding catalog_page
 blank_byte zero low high = absurd (omega (arith, low))
 blank_byte (suc k) low high = get_or-replicate 4095 k 0 0 (omega (arith, high))
@@ -171,7 +172,7 @@ blank_kind : get_or catalog_page 0 0 ≡ 3
 unfolding catalog_page
 blank_kind = refl
 
-blank_whole : length catalog_page ≡ 4096
+blank_whole : IsBlock catalog_page
 unfolding catalog_page
 blank_whole = let rest : length {A = ℕ} (replicate 4095 0) ≡ 4095 = length-replicate {A = ℕ} 4095 0 in omega (arith, rest)
 
@@ -183,7 +184,7 @@ blank_keeps fresh = record {
   unused = λ i high low k from to. byte_in catalog_page i k to ∙ blank_byte (8 + 96 * i + k) (omega arith) (omega (arith, low, to));
 }
 
-no_series_byte : (page : List ℕ) (fresh : ℕ) → KeepsLayout 0 fresh page → (k : ℕ) → 1 ≤ k → k < 4096 → get_or page k 0 ≡ 0
+no_series_byte : (page : List ℕ) (fresh : ℕ) → KeepsLayout 0 fresh page → (k : ℕ) → 1 ≤ k → k < block_size → get_or page k 0 ≡ 0
 no_series_byte page fresh keeps k low high = elim (cases_lt k 8) [
   | inl front ↦ keeps.reserved.0 k low front
   | inr from ↦ elim (cases_lt k 3080) [
@@ -197,10 +198,10 @@ no_series_byte page fresh keeps k low high = elim (cases_lt k 8) [
   ]
 ]
 
-pub no_series : (page : List ℕ) (fresh : ℕ) → length page ≡ 4096 → KeepsLayout 0 fresh page → page ≡ catalog_page
+pub no_series : (page : List ℕ) (fresh : ℕ) → IsBlock page → KeepsLayout 0 fresh page → page ≡ catalog_page
 no_series page fresh whole keeps =
     same_number_lists page catalog_page (whole ∙ sym blank_whole) (λ k low. byte k (omega (arith, low, whole)))
   where
-    byte : (k : ℕ) → k < 4096 → get_or page k 0 ≡ get_or catalog_page k 0
+    byte : (k : ℕ) → k < block_size → get_or page k 0 ≡ get_or catalog_page k 0
     byte zero high = keeps.kind ∙ sym blank_kind
     byte (suc k) high = no_series_byte page fresh keeps (suc k) (omega arith) high ∙ sym (blank_byte (suc k) (omega arith) high)

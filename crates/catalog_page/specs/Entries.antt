@@ -1,5 +1,6 @@
 -- What a record says of its series.
 use Rattle.std.specs.Prelude.{ℕ, ℤ, ◌≡◌, ◌≢◌, ◌≤◌, ◌<◌, ◌^◌, ◌==◌, ◌↔◌, if◌then◌else◌, IsTrue, List, Option, None, Some, unsigned_abs, pos}
+use Rattle.whole_number.specs.Range.{IsValue}
 use Rattle.om3_coeff.specs.declared.span.Span.{Span}
 use Rattle.om3_coeff.specs.Spans.{IsProperIfAny}
 use Rattle.series_book.specs.Names.{is_name}
@@ -68,7 +69,7 @@ pub record IsEntry (fresh : ℕ) (e : Entry) : Type 0 where
   pub scale : e.scale ≤ 9
   pub step_low : 1 ≤ e.step
   pub step_high : e.step ≤ 2 ^ 31
-  pub start : unsigned_abs e.start ≤ 10 ^ 18
+  pub start : IsValue e.start
   pub slots : e.slots ≤ 2 ^ 28
   pub root : IsRoot fresh e.root e.slots
   pub rooted : (e.span ≡ None) ↔ (e.root ≡ 0)

@@ -1,5 +1,7 @@
 -- The rules of a catalog page and of the fields of a record, in the order in which they are named.
 use Rattle.std.specs.Prelude.{ℕ, ◌≡◌, ◌+◌, ◌<◌, ◌≤◌, ◌≤ℤ◌, ◌^◌, pos, unsigned_abs, IsTrue, List, slice_index}
+use Rattle.whole_number.specs.Range.{IsValue}
+use Rattle.block_disk.specs.Blocks.{block_size}
 use Rattle.series_book.specs.Names.{is_name}
 use Rattle.catalog_page.specs.Fields.{record_bytes, used_at, length_at, scale_at, name_at, step_at, start_at, slots_at, root_at, min_at, max_at}
 use Rattle.catalog_page.specs.Entries.{IsRoot}
@@ -32,7 +34,7 @@ abbrev pub IsStep : List ℕ → Type 0
 IsStep bytes = (1 ≤ step_at bytes) × (step_at bytes ≤ 2 ^ 31)
 
 abbrev pub IsStart : List ℕ → Type 0
-IsStart bytes = unsigned_abs (start_at bytes) ≤ 10 ^ 18
+IsStart bytes = IsValue (start_at bytes)
 
 abbrev pub IsSlots : List ℕ → Type 0
 IsSlots bytes = slots_at bytes ≤ 2 ^ 28
@@ -41,10 +43,10 @@ abbrev pub HasRoot : ℕ → List ℕ → Type 0
 HasRoot fresh bytes = IsRoot fresh (root_at bytes) (slots_at bytes)
 
 abbrev pub IsMin : List ℕ → Type 0
-IsMin bytes = (unsigned_abs (min_at bytes) ≤ 10 ^ 18) × (root_at bytes ≡ 0 → min_at bytes ≡ pos 0)
+IsMin bytes = IsValue (min_at bytes) × (root_at bytes ≡ 0 → min_at bytes ≡ pos 0)
 
 abbrev pub IsMax : List ℕ → Type 0
-IsMax bytes = (unsigned_abs (max_at bytes) ≤ 10 ^ 18) × (min_at bytes ≤ℤ max_at bytes) × (root_at bytes ≡ 0 → max_at bytes ≡ pos 0)
+IsMax bytes = IsValue (max_at bytes) × (min_at bytes ≤ℤ max_at bytes) × (root_at bytes ≡ 0 → max_at bytes ≡ pos 0)
 
 -- the byte in front of the name, and that behind its place
 abbrev pub HasGaps : List ℕ → Type 0
@@ -93,7 +95,7 @@ IsKind page = slice_index page 0 ≡ 3
 
 -- the bytes of no record are 0
 abbrev pub IsReserved : List ℕ → Type 0
-IsReserved page = IsClear page 1 8 × IsClear page 3080 4096
+IsReserved page = IsClear page 1 8 × IsClear page 3080 block_size
 
 abbrev pub HasRecord : ℕ → List ℕ → ℕ → Type 0
 HasRecord fresh page i = IsRecord fresh (record_bytes page i)

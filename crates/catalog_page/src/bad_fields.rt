@@ -1,5 +1,6 @@
 //! What of a page first breaks its rule.
 ghost use Rattle.std.specs.Prelude.{◌≡◌, ◌≤◌, ◌<◌, ℕ, length, MatchOption};
+ghost use Rattle.block_disk.specs.Blocks.{IsBlock};
 ghost use Rattle.catalog_page.specs.Fields.{record_bytes};
 ghost use Rattle.catalog_page.specs.Layout.{IsRecord, IsFirstBadField, HasRecord, IsFirstBadRecord, IsUnused, IsFirstUsed};
 
@@ -55,7 +56,7 @@ pub(crate) fn bad_field(bytes: &[u8], fresh: u32) -> Option<BadField>
 
 /// The first record of a series that breaks a rule, with its first field that does.
 pub(crate) fn bad_record(page: &[u8], count: u8, fresh: u32) -> Option<(u8, BadField)>
-    requires whole { length page.now ≡ 4096 }
+    requires whole { IsBlock page.now }
     requires few { count ≤ 32 }
     ensures { MatchOption result ((i : ℕ) → i < count → HasRecord fresh page.now i) (λ bad. IsFirstBadRecord bad.0 bad.1 count fresh page.now) }
 {
@@ -69,7 +70,7 @@ pub(crate) fn bad_record(page: &[u8], count: u8, fresh: u32) -> Option<(u8, BadF
 
 /// The first record behind those of the series that isn't all 0.
 pub(crate) fn used_record(page: &[u8], count: u8) -> Option<u8>
-    requires whole { length page.now ≡ 4096 }
+    requires whole { IsBlock page.now }
     requires few { count ≤ 32 }
     ensures { MatchOption result ((i : ℕ) → count ≤ i → i < 32 → IsUnused page.now i) (λ number. IsFirstUsed number count page.now) }
 {

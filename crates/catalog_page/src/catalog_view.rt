@@ -1,5 +1,6 @@
 //! A catalog page that keeps its layout.
-ghost use Rattle.std.specs.Prelude.{◌≡◌, ◌≤◌, length};
+ghost use Rattle.std.specs.Prelude.{◌≡◌, ◌≤◌};
+ghost use Rattle.block_disk.specs.Blocks.{IsBlock};
 ghost use Rattle.catalog_page.specs.Layout.{KeepsLayout};
 
 use crate::bad_fields::{bad_record, used_record};
@@ -16,20 +17,20 @@ pub struct CatalogView<'a> {
     bytes: &'a [u8],
     count: u8,
     fresh: u32,
-    ghost whole: { length bytes.now ≡ 4096 },
+    ghost whole: { IsBlock bytes.now },
     ghost few: { count ≤ 32 },
     ghost keeps: { KeepsLayout count fresh bytes.now },
 }
 
 impl<'a> CatalogView<'a> {
-    ghost use Rattle.std.specs.Prelude.{◌≡◌, ◌≤◌, ◌<◌, length, IfOk, IfErr};
+    ghost use Rattle.std.specs.Prelude.{◌≡◌, ◌≤◌, ◌<◌, IfOk, IfErr};
     ghost use Rattle.catalog_page.specs.Entries.{entry_of, entry_at, IsEntry};
     ghost use Rattle.catalog_page.specs.Layout.{KeepsLayout, IsFirstBad};
 
     /// The page with these bytes, 4,096 of them, whose first `count` records, 0 to 32, are of series,
     /// where `fresh` is the first page that was never used. `BadCatalog` names what first breaks its rule.
     pub fn new(bytes: &'a [u8], count: u8, fresh: u32) -> Result<CatalogView<'a>, BadCatalog>
-        requires whole { length bytes.now ≡ 4096 }
+        requires whole { IsBlock bytes.now }
         requires few { count ≤ 32 }
         ensures bytes { IfOk result (λ view. view.bytes.now ≡ bytes.now) }
         ensures count { IfOk result (λ view. view.count ≡ count) }
@@ -59,7 +60,7 @@ impl<'a> CatalogView<'a> {
     /// The page with these bytes, which were found to keep the layout for so many series and this first
     /// page that was never used.
     pub fn of(bytes: &'a [u8], count: u8, fresh: u32) -> CatalogView<'a>
-        requires whole { length bytes.now ≡ 4096 }
+        requires whole { IsBlock bytes.now }
         requires few { count ≤ 32 }
         requires keeps { KeepsLayout count fresh bytes.now }
         ensures bytes { result.bytes.now ≡ bytes.now }

@@ -1,5 +1,6 @@
 //! The fields of a record, read.
 ghost use Rattle.std.specs.Prelude.{◌≡◌, ◌≤◌, ◌<◌, ◌+◌, length};
+ghost use Rattle.block_disk.specs.Blocks.{IsBlock};
 ghost use Rattle.node_page.specs.Fields.{number_at, signed_at};
 ghost use Rattle.catalog_page.specs.Fields.{record_bytes, length_at, name_at, root_at};
 ghost use Rattle.catalog_page.specs.Entries.{span_in, entry_in, entry_of};
@@ -11,7 +12,7 @@ use om3_coeff::Span;
 
 /// The bytes of a record of a page.
 pub(crate) fn bytes_of(page: &[u8], number: u8) -> &[u8]
-    requires whole { length page.now ≡ 4096 }
+    requires whole { IsBlock page.now }
     requires number { number < 32 }
     ensures bytes { result.now ≡ record_bytes page.now number }
     ensures whole { length result.now ≡ 96 }

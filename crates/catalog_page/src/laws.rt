@@ -1,6 +1,7 @@
 //! What follows from the layout. The functions do nothing: their contracts are the laws.
 
-ghost use Rattle.std.specs.Prelude.{◌≡◌, ◌≢◌, ◌<◌, ◌≤◌, ◌+◌, ◌↔◌, ℕ, List, length, slice_index};
+ghost use Rattle.std.specs.Prelude.{◌≡◌, ◌≢◌, ◌<◌, ◌≤◌, ◌+◌, ◌↔◌, ℕ, List, slice_index};
+ghost use Rattle.block_disk.specs.Blocks.{IsBlock};
 ghost use Rattle.page_space.specs.Layout.{catalog_page};
 ghost use Rattle.catalog_page.specs.Entries.{IsEntry, entry_at};
 ghost use Rattle.catalog_page.specs.Layout.{HasRecord, KeepsLayout, IsFirstBad};
@@ -10,7 +11,7 @@ ghost use Rattle.catalog_page.specs.declared.errors.BadCatalog.{BadCatalog};
 /// A page that keeps the layout has no byte but what its records say: one that says the same of as many
 /// series is the same.
 pub fn pages_are_their_records()
-    ensures { (one other : List ℕ) (count fresh fresh' : ℕ) → length one ≡ 4096 → length other ≡ 4096
+    ensures { (one other : List ℕ) (count fresh fresh' : ℕ) → IsBlock one → IsBlock other
         → ((k : ℕ) → slice_index one k < 256) → ((k : ℕ) → slice_index other k < 256)
         → KeepsLayout count fresh one → KeepsLayout count fresh' other
         → ((i : ℕ) → i < count → entry_at one i ≡ entry_at other i) → one ≡ other }
@@ -23,7 +24,7 @@ pub fn records_say_what_fits()
 
 /// A page without a series is 3 and zeros.
 pub fn blank_pages_have_no_series()
-    ensures { (page : List ℕ) (fresh : ℕ) → length page ≡ 4096 → KeepsLayout 0 fresh page ↔ (page ≡ catalog_page) }
+    ensures { (page : List ℕ) (fresh : ℕ) → IsBlock page → KeepsLayout 0 fresh page ↔ (page ≡ catalog_page) }
 {}
 
 /// A page keeps its layout while more pages are given out.

@@ -1,8 +1,5 @@
 //! Where the records of a catalog page and their fields stand.
 
-/// The bytes of a page.
-pub(crate) const PAGE: usize = 4096;
-
 /// The kind of a catalog page, its byte 0.
 pub(crate) const KIND: u8 = 3;
 

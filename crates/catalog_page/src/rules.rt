@@ -1,28 +1,18 @@
 //! The rules of the fields, each as a test.
-ghost use Rattle.std.specs.Prelude.{◌≡◌, ◌<◌, ◌≤◌, ◌↔◌, ℕ, length, slice_index, IsTrue};
+ghost use Rattle.std.specs.Prelude.{◌≡◌, ◌<◌, ◌≤◌, ◌↔◌, length, IsTrue};
+ghost use Rattle.block_disk.specs.Blocks.{IsBlock};
 ghost use Rattle.catalog_page.specs.Fields.{length_at};
 ghost use Rattle.catalog_page.specs.Layout.{IsLength, IsName, IsStep, IsStart, IsSlots, HasRoot, IsMin, IsMax, IsClear, HasGaps, IsSpare, IsReserved, IsUnused};
 
 use crate::fields::{bytes_of, long_at, name_of, short_at, value_at};
 use crate::layout::{
-    END, FIRST, MAX, MIN, NAME, NAME_END, PAGE, RECORD, RECORDS, ROOT, SLOTS, START, STEP,
+    END, FIRST, MAX, MIN, NAME, NAME_END, RECORD, RECORDS, ROOT, SLOTS, START, STEP,
 };
-use series_book::limits::{
-    GREATEST_START, GREATEST_STEP, GREATEST_VALUE, MOST_NAME_BYTES, MOST_SLOTS,
-};
+use block_disk::BLOCK;
+use node_page::byte_fields::are_zero;
+use series_book::limits::{GREATEST_START, GREATEST_STEP, MOST_NAME_BYTES, MOST_SLOTS};
 use series_book::names::is_name;
-
-/// Whether all bytes are 0.
-fn are_zero(bytes: &[u8]) -> bool
-    ensures { IsTrue result ↔ ((k : ℕ) → k < length bytes.now → slice_index bytes.now k ≡ 0) }
-{
-    for byte in bytes {
-        if *byte != 0 {
-            return false;
-        }
-    }
-    true
-}
+use whole_number::limits::GREATEST_VALUE;
 
 /// Whether the bytes from an offset on and below another are 0.
 fn is_clear(bytes: &[u8], from: usize, to: usize) -> bool
@@ -35,15 +25,15 @@ fn is_clear(bytes: &[u8], from: usize, to: usize) -> bool
 
 /// Whether the bytes of no record are 0.
 pub(crate) fn is_reserved(page: &[u8]) -> bool
-    requires whole { length page.now ≡ 4096 }
+    requires whole { IsBlock page.now }
     ensures { IsTrue result ↔ IsReserved page.now }
 {
-    is_clear(page, 1, RECORDS) && is_clear(page, END, PAGE)
+    is_clear(page, 1, RECORDS) && is_clear(page, END, BLOCK)
 }
 
 /// Whether a record is all 0.
 pub(crate) fn is_unused(page: &[u8], number: u8) -> bool
-    requires whole { length page.now ≡ 4096 }
+    requires whole { IsBlock page.now }
     requires number { number < 32 }
     ensures { IsTrue result ↔ IsUnused page.now number }
 {

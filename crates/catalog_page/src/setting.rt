@@ -1,23 +1,17 @@
 //! A record of a page, set.
 ghost use Rattle.std.specs.Prelude.{◌≡◌, ◌≢◌, ◌≤◌, ◌<◌, ◌+◌, ◌*◌, ◌⊎◌, ◌↔◌, ℕ, length, slice_index, None, Option};
+ghost use Rattle.block_disk.specs.Blocks.{IsBlock};
 ghost use Rattle.om3_coeff.specs.declared.span.Span.{Span};
-ghost use Rattle.node_page.specs.Fields.{number_at, signed_at, with_bytes};
+ghost use Rattle.node_page.specs.Fields.{number_at, signed_at};
 ghost use Rattle.catalog_page.specs.Fields.{record_bytes, used_at, length_at, scale_at, step_at, start_at, slots_at, root_at, min_at, max_at};
-ghost use Rattle.catalog_page.specs.Entries.{Entry, entry_of, entry_at, IsEntry, least_of, greatest_of};
+ghost use Rattle.catalog_page.specs.Entries.{entry_of, entry_at, IsEntry, least_of, greatest_of};
 ghost use Rattle.catalog_page.specs.Layout.{HasRecord, KeepsLayout};
 ghost use Rattle.catalog_page.specs.Spelling.{Spells};
 
 use crate::layout::{MAX, MIN, NAME, RECORD, RECORDS, ROOT, SLOTS, START, STEP, USED};
 use crate::series_record::Record;
+use node_page::byte_fields::put;
 use om3_coeff::Span;
-
-/// Puts bytes in the place of those from an offset on.
-fn put(bytes: &mut [u8], offset: usize, from: &[u8])
-    requires within { offset + length from.now ≤ length bytes.old }
-    ensures { bytes.new ≡ with_bytes bytes.old offset from.now }
-{
-    bytes[offset..offset + from.len()].copy_from_slice(from);
-}
 
 /// Sets the number in the four bytes from an offset on.
 fn set_short(bytes: &mut [u8], offset: usize, number: u32)
@@ -123,11 +117,11 @@ fn spelling(series: &Record) -> [u8; 96]
 /// name has at most 31 bytes, and there is a span exactly where there is a root; where the rest is in
 /// range too, the page keeps its layout, with one more series where it is the first record of none.
 pub fn set_record(bytes: &mut [u8], number: u8, series: &Record)
-    requires whole { length bytes.old ≡ 4096 }
+    requires whole { IsBlock bytes.old }
     requires number { number < 32 }
     requires named { length series.now.name.now ≤ 31 }
     requires rooted { (series.now.span ≡ None) ↔ (series.now.root ≡ 0) }
-    ensures whole { length bytes.new ≡ 4096 }
+    ensures whole { IsBlock bytes.new }
     ensures entry { entry_at bytes.new number ≡ entry_of series.now }
     ensures others { (i : ℕ) → i < 32 → i ≢ number → record_bytes bytes.new i ≡ record_bytes bytes.old i }
     ensures rest { (k : ℕ) → (k < 8 + 96 * number) ⊎ (104 + 96 * number ≤ k) → slice_index bytes.new k ≡ slice_index bytes.old k }

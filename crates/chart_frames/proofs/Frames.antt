@@ -5,7 +5,7 @@ use Rattle.om3_coeff.specs.declared.key.Key.{Key}
 use Rattle.om3_coeff.specs.declared.coef.Coef.{Coef}
 use Rattle.om3_coeff.specs.Keys.{height, IsNode}
 use Rattle.m4_groups.specs.declared.row.Row.{Row}
-use Rattle.m4_groups.specs.Heights.{IsValue}
+use Rattle.whole_number.specs.Range.{IsValue}
 use Rattle.chart_frames.specs.declared.frame.Frame.{Frame}
 use Rattle.chart_frames.specs.declared.frame.Frame.TheVariants.{Done, Refused, Opened, Closed, View, Rows}
 use Rattle.chart_frames.specs.declared.frame.ViewFrame.{ViewFrame}

@@ -10,11 +10,11 @@ use Rattle.om3_coeff.specs.declared.key.Key.{Key}
 use Rattle.om3_coeff.specs.declared.coef.Coef.{Coef}
 use Rattle.om3_coeff.specs.Keys.{height, IsNode}
 use Rattle.m4_groups.specs.declared.row.Row.{Row}
-use Rattle.m4_groups.specs.Heights.{IsValue}
+use Rattle.whole_number.specs.Range.{IsValue, is_time, is_value, IsTime}
 use Rattle.chart_frames.specs.declared.frame.ViewFrame.{ViewFrame}
 use Rattle.chart_frames.specs.declared.frame.RowsFrame.{RowsFrame}
 use Rattle.chart_frames.specs.Format.{Format, stop, field, Meets, after}
-use Rattle.chart_frames.specs.Fields.{signed, within, is_time, is_value, is_zero, is_view_length, is_rows_length, is_length, admits, session_fields, side_field, side_fields, series_fields, window_fields, range_fields, axis_fields, has_field, rmin_field, rmax_field, stored_fields, count_fields, level_of, index_of, is_key, follows, is_difference, key_field, difference_field, coef_fields, coefs_fields, place_fields, source_fields, view_fields, row_count_fields, rises, column_field, value_field, at_most_field, at_least_field, between_field, row_fields, rows_fields, head_fields, done_fields, names_first, names_second, refused_fields, opened_fields, kind_fields, length_field, kind_field, frame_fields}
+use Rattle.chart_frames.specs.Fields.{signed, within, is_zero, is_view_length, is_rows_length, is_length, admits, session_fields, side_field, side_fields, series_fields, window_fields, range_fields, axis_fields, has_field, rmin_field, rmax_field, stored_fields, count_fields, level_of, index_of, is_key, follows, is_difference, key_field, difference_field, coef_fields, coefs_fields, place_fields, source_fields, view_fields, row_count_fields, rises, column_field, value_field, at_most_field, at_least_field, between_field, row_fields, rows_fields, head_fields, done_fields, names_first, names_second, refused_fields, opened_fields, kind_fields, length_field, kind_field, frame_fields}
 use Rattle.chart_frames.specs.Frames.{unsigned, key_number, flags_of, coefs_numbers, all_rows_numbers, view_numbers, rows_numbers, IsSession, IsSide, IsWindow, IsRange, IsAxis, IsStored, IsCoef, FitsCoef, Precedes, FitCoefs, FitsViewHead, FitsRow, FitRows, FitsRowsHead, FitsRefused, FitsOpened}
 use Rattle.chart_frames.specs.Items.{last_key, last_column}
 use Rattle.chart_frames.proofs.Orders.{height_bound, index_bound, level_of-number, index_of-number}
@@ -45,7 +45,7 @@ zero_from z e = ap is_zero e
 
 -- a number that eight bytes hold
 abbrev IsSmall : ℤ → Type 0
-IsSmall z = unsigned_abs z ≤ 2 * 10 ^ 18
+IsSmall z = IsTime z
 
 pub round : (z : ℤ) → IsSmall z → cast_signed w64 (unsigned z) ≡ z
 round z small = to_z-of_z w64 z (fits_signed_from_abs w64 z (omega arith))

@@ -1,6 +1,7 @@
 -- The frames, field by field: sizes in bytes, rules, and what decides on what follows.
 use Rattle.std.specs.Prelude.{ℕ, zero, suc, ℤ, ◌+◌, ◌-◌, ◌*◌, ◌/◌, ◌%◌, ◌^◌, ◌==◌, Bool, true, false, ◌&&◌, ◌||◌, nat_lt, nat_le, int_lt, int_le, unsigned_abs, if◌then◌else◌, Option, None, Some}
 use Rattle.std.specs.Int.{w64, cast_signed}
+use Rattle.whole_number.specs.Range.{is_time, is_value}
 use Rattle.om3_coeff.specs.Keys.{height}
 use Rattle.chart_frames.specs.Format.{Format, stop, field}
 
@@ -10,14 +11,6 @@ signed ok next = field 8 (λ n. ok (cast_signed w64 n)) (λ n. next (cast_signed
 
 abbrev pub within : ℕ → ℕ → ℕ → Bool
 within low high n = nat_le low n && nat_le n high
-
--- a number of at most 2 * 10^18 in size
-abbrev pub is_time : ℤ → Bool
-is_time t = nat_le (unsigned_abs t) (2 * 10 ^ 18)
-
--- a number of at most 10^18 in size
-abbrev pub is_value : ℤ → Bool
-is_value v = nat_le (unsigned_abs v) (10 ^ 18)
 
 abbrev pub is_zero : ℤ → Bool
 is_zero v = unsigned_abs v == 0

@@ -6,7 +6,7 @@ use Rattle.om3_coeff.specs.declared.coef.Coef.{Coef}
 use Rattle.om3_coeff.specs.Keys.{height, IsNode}
 use Rattle.m4_groups.specs.declared.row.Row.{Row}
 use Rattle.m4_groups.specs.Rows.{AreRising}
-use Rattle.m4_groups.specs.Heights.{IsValue}
+use Rattle.whole_number.specs.Range.{IsValue, IsTime}
 use Rattle.chart_frames.specs.declared.frame.Frame.{Frame}
 use Rattle.chart_frames.specs.declared.frame.Frame.TheVariants.{Done, Refused, Opened, Closed, View, Rows}
 use Rattle.chart_frames.specs.declared.frame.ViewFrame.{ViewFrame}
@@ -70,10 +70,6 @@ pub record IsSession (session : ℕ) : Type 0 where
 pub record IsSide (n : ℕ) : Type 0 where
   pub low : 1 ≤ n
   pub high : n ≤ 4096
-
--- a number of at most 2 * 10^18 in size
-abbrev pub IsTime : ℤ → Type 0
-IsTime t = unsigned_abs t ≤ 2 * 10 ^ 18
 
 -- a window has its first end below its second one
 pub record IsWindow (t0 t1 : ℤ) : Type 0 where

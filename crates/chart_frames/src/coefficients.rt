@@ -4,7 +4,8 @@ ghost use Rattle.om3_coeff.specs.Keys.{height, IsNode};
 ghost use Rattle.chart_frames.specs.Format.{Format, number_bytes};
 ghost use Rattle.chart_frames.specs.Reading.{Reads, read};
 ghost use Rattle.chart_frames.specs.Fields.{follows, is_key, key_field, difference_field, coef_fields, coefs_fields};
-ghost use Rattle.chart_frames.specs.Frames.{IsTime, IsCoef, FitsCoef, FitCoefs, key_number, flags_of};
+ghost use Rattle.chart_frames.specs.Frames.{IsCoef, FitsCoef, FitCoefs, key_number, flags_of};
+ghost use Rattle.whole_number.specs.Range.{IsTime};
 ghost use Rattle.chart_frames.specs.Spelled.{signed_bytes, two_before, coef_before, coefs_before};
 ghost use Rattle.chart_frames.specs.Items.{Fails, last_key};
 ghost use Rattle.om3_coeff.specs.declared.key.Key.{Key};
@@ -154,7 +155,7 @@ fn push_coef<'a>(
     }
 }
 
-// Reads on, up to so many coefficients. The bytes are those behind the ones that were read.
+/// Reads on, up to so many coefficients. The bytes are those behind the ones that were read.
 pub fn fill_coefs<'a>(
     coefs: &mut Vec<(Key, Coef)>,
     slots: u64,

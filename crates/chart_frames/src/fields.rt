@@ -60,6 +60,7 @@ pub fn long_at(bytes: &[u8]) -> Result<(u64, &[u8]), Stop>
     Ok((BigEndian::read_u64(bytes), &bytes[8..]))
 }
 
+/// The signed number of eight bytes, the highest first, at the front of the bytes, and the rest.
 pub fn signed_at(bytes: &[u8]) -> Result<(i64, &[u8]), Stop>
     ensures gives { Gives (λ x. (unsigned x.0, x.1.now)) result (number_at 8 bytes.now) }
     ensures takes { IfOk result (λ x. bytes.now ≡ signed_bytes x.0 ++ x.1.now) }

@@ -1,23 +1,24 @@
 // The fields that stand before the items of a frame, in groups.
 ghost use Rattle.std.specs.Prelude.{◌≡◌, ◌<◌, ◌≤◌, ◌≤ℤ◌, ◌+◌, ◌*◌, ◌++◌, ◌↔◌, ℕ, ℤ, pos, IsTrue, IfOk};
-ghost use Rattle.m4_groups.specs.Heights.{IsValue};
+ghost use Rattle.whole_number.specs.Range.{IsValue, IsTime};
 ghost use Rattle.chart_frames.specs.Format.{Format, number_bytes};
 ghost use Rattle.chart_frames.specs.Reading.{Reads, read};
 ghost use Rattle.chart_frames.specs.Fields.{session_fields, series_fields, side_field, side_fields, window_fields, range_fields, axis_fields, has_field, rmin_field, rmax_field, stored_fields, count_fields, row_count_fields};
-ghost use Rattle.chart_frames.specs.Frames.{IsSession, IsSide, IsTime, IsWindow, IsRange, IsAxis, IsStored};
+ghost use Rattle.chart_frames.specs.Frames.{IsSession, IsSide, IsWindow, IsRange, IsAxis, IsStored};
 ghost use Rattle.chart_frames.specs.Spelled.{signed_bytes, two_before};
 
 use crate::fields::{Stop, byte_at, long_at, short_at, signed_at, word_at};
-use crate::limits::{
-    GREATEST_STEP, GREATEST_TIME, GREATEST_VALUE, MOST_PIXELS, MOST_SLOTS, SERIES_END,
-};
+use crate::limits::{GREATEST_STEP, MOST_PIXELS, MOST_SLOTS, SERIES_END};
+use whole_number::limits::{GREATEST_TIME, GREATEST_VALUE};
 
+/// Whether this is a value that a series can hold: at most 10^18 in size.
 pub fn is_value(v: i64) -> bool
     ensures { IsTrue result ↔ IsValue v }
 {
     v.unsigned_abs() <= GREATEST_VALUE
 }
 
+/// Whether this may be an end of a window: at most 2 * 10^18 in size.
 pub fn is_time(t: i64) -> bool
     ensures { IsTrue result ↔ IsTime t }
 {

@@ -33,12 +33,6 @@ pub const MOST_PIXELS: u16 = 4_096;
 /// The series of a book are numbered below it.
 pub const SERIES_END: u16 = 512;
 
-/// The greatest size of a value, and of a start.
-pub const GREATEST_VALUE: u64 = 1_000_000_000_000_000_000;
-
-/// The greatest size of a window's end, and of a difference.
-pub const GREATEST_TIME: u64 = 2_000_000_000_000_000_000;
-
 /// The greatest step.
 pub const GREATEST_STEP: u32 = 2_147_483_648;
 

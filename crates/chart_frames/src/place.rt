@@ -167,7 +167,7 @@ fn start_on(alloc: Global, place: &mut Place, bytes: &[u8]) -> Result<(Frame, us
     }
 }
 
-// The frame at the front of the bytes, and how many bytes stand behind it.
+/// The frame at the front of the bytes, and how many bytes stand behind it.
 pub fn frame_at(alloc: Global, place: &mut Place, bytes: &[u8]) -> Result<(Frame, usize), ItemStop>
     requires { Reached bytes.now place.old }
     ensures ok { IfOk result (λ x. Leaves bytes.now x.0 x.1) }

@@ -1,6 +1,6 @@
 // The rows of a filtered view.
 ghost use Rattle.std.specs.Prelude.{◌≡◌, ◌<◌, ◌≤◌, ◌≤ℤ◌, ◌+◌, ◌-◌, ◌++◌, ℕ, ℤ, List, length, IsTrue, OnErr, IfOk, IfErr};
-ghost use Rattle.m4_groups.specs.Heights.{IsValue};
+ghost use Rattle.whole_number.specs.Range.{IsValue};
 ghost use Rattle.chart_frames.specs.Format.{Format, number_bytes};
 ghost use Rattle.chart_frames.specs.Reading.{Reads, read};
 ghost use Rattle.chart_frames.specs.Fields.{rises, column_field, value_field, at_most_field, at_least_field, between_field, row_fields, rows_fields};
@@ -155,7 +155,7 @@ fn push_row<'a>(rows: &mut Vec<Row>, w: u16, bytes: &'a [u8]) -> Result<&'a [u8]
     }
 }
 
-// Reads on, up to so many rows. The bytes are those behind the ones that were read.
+/// Reads on, up to so many rows. The bytes are those behind the ones that were read.
 pub fn fill_rows<'a>(
     rows: &mut Vec<Row>,
     w: u16,

@@ -123,3 +123,19 @@ pub border-rising : (g : Grid) (c : ℕ) → border g c ≤ℤ border g (c + 1)
 border-rising g c =
     let n : ℕ = distance g.t0 g.t1 in
     omega (arith, ints, div_ceil-rising (c * n) ((c + 1) * n) g.w g.wide.some (omega arith))
+
+-- the slots of a window begin before its first column and end behind its last
+pub window_start : (axis : Axis) (g : Grid) (c n : ℕ) → c ≡ 0 → border g 0 ≡ g.t0 → AreSlotsBefore axis (border g c) n → AreSlotsBefore axis g.t0 n
+window_start axis g c n is first h =
+    let P : ℕ → Type 0 = λ c. AreSlotsBefore axis (border g c) n in
+    let Q : ℤ → Type 0 = λ t. AreSlotsBefore axis t n in
+    subst Q first (subst P is h)
+
+pub window_stop : (axis : Axis) (g : Grid) (c n : ℕ) → c + 1 ≡ g.w → border g g.w ≡ g.t1 → AreSlotsBefore axis (border g (c + 1)) n → AreSlotsBefore axis g.t1 n
+window_stop axis g c n is last h =
+    let P : ℕ → Type 0 = λ c. AreSlotsBefore axis (border g c) n in
+    let Q : ℤ → Type 0 = λ t. AreSlotsBefore axis t n in
+    subst Q last (subst P is h)
+
+pub window_order : (axis : Axis) (g : Grid) (a b : ℕ) → AreSlotsBefore axis g.t0 a → AreSlotsBefore axis g.t1 b → a ≤ b
+window_order axis g a b start stop = AreSlotsBefore-rising axis g.t0 g.t1 a b (omega (arith, ints, g.window.rising)) start stop

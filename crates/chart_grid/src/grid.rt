@@ -5,9 +5,7 @@ ghost use Rattle.chart_grid.specs.Numbers.{IsFloor, distance};
 use crate::axis::Axis;
 use crate::grid_error::GridError;
 use crate::share::{gap, part_of, steps_to};
-use crate::times::{later, moved};
-
-const GREATEST_END: u128 = 2_000_000_000_000_000_000;
+use crate::times::{is_far, later, moved};
 
 const GREATEST_SIDE: u64 = 4_096;
 
@@ -38,7 +36,7 @@ impl Grid {
         ensures window { (result ≡ Err GridError.BadWindow) ↔ IsBadWindow t0 t1 }
         ensures canvas { (result ≡ Err GridError.BadCanvas) ↔ (IsWindow t0 t1 × (IsBadSide w ⊎ IsBadSide h)) }
     {
-        if t0 >= t1 || t0.unsigned_abs() > GREATEST_END || t1.unsigned_abs() > GREATEST_END {
+        if t0 >= t1 || is_far(t0) || is_far(t1) {
             return Err(GridError::BadWindow);
         }
         if w < 1 || w > GREATEST_SIDE || h < 1 || h > GREATEST_SIDE {

@@ -23,3 +23,4 @@ pub use axis::Axis;
 pub use grid::Grid;
 pub use grid_error::GridError;
 pub use height::height_of;
+pub use times::later;

@@ -1,4 +1,3 @@
 pub mod Pending
-pub mod LineLaws
 pub mod Gathering
 pub mod NextLine

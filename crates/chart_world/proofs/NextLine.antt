@@ -7,7 +7,7 @@ use Rattle.std.proofs.lemmas.Bool.{cases_lt, eqb-false, lt-ltb, ltb-true, false_
 use Rattle.chart_world.specs.Lines.{is_line_feed, without_return, text_of, lines}
 use Rattle.chart_world.specs.Feed.{Gathered}
 use Rattle.chart_world.specs.Reading.{in_front_of, behind_first, told_lines, with_first}
-use Rattle.chart_world.proofs.LineLaws.{lines_none, lines_first}
+use Rattle.chart_world.specs.LineLaws.{lines_none, lines_first}
 use Rattle.chart_world.proofs.Gathering.{found_rest, begins, position_in_front}
 
 -- a line of more than 8,192 bytes says nothing

@@ -4,6 +4,9 @@ pub mod Place
 pub mod Reading
 pub mod Worlds
 pub mod Laws
+pub mod Fronts
+pub mod LineLaws
+pub mod FrontLaws
 pub mod Beside
 pub mod BesideKept
 pub mod Sends

@@ -3,6 +3,7 @@ use Rattle.std.proofs.Common.{ℕ, zero, suc, ◌≡◌, ◌+◌, ◌-◌, ◌*�
 use Rattle.std.proofs.lemmas.Bool.{cases_lt}
 use Rattle.std.proofs.lemmas.Bool.Decides.{nat_tests}
 use Rattle.std.proofs.Math.Nat.{pow-succ'}
+use Rattle.om3_coeff.proofs.EndLemmas.{no_cuts}
 use Rattle.om3_coeff.specs.declared.key.Key.{Key}
 use Rattle.om3_coeff.specs.Keys.{first_slot, end_slot, left_of, right_of, height, top_key}
 use Rattle.om3_coeff.specs.Walks.{cut_keys, most_cut}
@@ -25,10 +26,6 @@ sum_whole zero n2 n c1 c2 c e p q z1 z2 = absurd (omega (arith, p))
 sum_whole (suc n1) zero n c1 c2 c e p q z1 z2 = absurd (omega (arith, q))
 sum_whole (suc n1) (suc n2) zero c1 c2 c e p q z1 z2 = absurd (omega (arith, e))
 sum_whole (suc n1) (suc n2) (suc n) c1 c2 c e p q z1 z2 = omega (arith, e, z1, z2)
-
-no_cuts : (a b first end level : ℕ) → a ≤ first → end ≤ b → cut_keys a b first end level ≡ 0
-unfolding cut_keys
-no_cuts a b first end level from to = grind (arith, nat_tests)
 
 -- a range that meets the slots is cut by an end of them, or lies within
 cut_or_within : (a b first end : ℕ) → (first < a) ⊎ (b < end) ⊎ ((a ≤ first) × (end ≤ b))

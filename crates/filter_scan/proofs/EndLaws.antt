@@ -17,7 +17,7 @@ use Rattle.om3_coeff.specs.Walks.{IsReached, StaysBelow}
 use Rattle.om3_coeff.proofs.ExtremeLemmas.{none-clear}
 use Rattle.om3_coeff.proofs.KnownLemmas.{reached_span}
 use Rattle.om3_coeff.proofs.KeyLemmas.{left_first, right_end, left_some, right_some, parent_above, above_on}
-use Rattle.om3_coeff.proofs.WalkLemmas.{still_reached, ask_left, ask_right, ask_at, after_left, after_right}
+use Rattle.om3_coeff.proofs.WalkLemmas.{still_reached, ask_left, ask_right, ask_at, after_left, after_right, over_weaker}
 use Rattle.om3_coeff.proofs.EndLemmas.{holds_here}
 use Rattle.m4_groups.specs.declared.row.Row.{Row}
 use Rattle.filter_scan.specs.declared.ends.Side.{Side}
@@ -196,10 +196,6 @@ half_below Last k l r h before first second low (inl near) asked below = below_r
 half_below Last k l r h before first second low (inr far) asked below = below_left k h.0 before first second low far.0 asked below
 
 -- a key may be asked again after a walk below it
-over_weaker : (u w : Key) (last : Option Key) → IsAtOrAbove u w → IsOver w last → IsOver u last
-over_weaker u w None above over = over
-over_weaker u w (Some k) above over = above_on u w k above over
-
 ask_again_after : (view : NodesView) (k : Key) (before : Option Key) → IsOver (parent_of k) before → StaysBelow k before view.asked → MayAsk view k
 ask_again_after view k before over (inl same) = let P : Option Key → Type 0 = λ last. IsOver (parent_of k) last in inr (subst P (sym same) over)
 ask_again_after view k before over (inr below) = inr (over_weaker (parent_of k) k view.asked (parent_above k) below)

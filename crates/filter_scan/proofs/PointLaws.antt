@@ -5,6 +5,7 @@ use Rattle.std.proofs.lemmas.Option.{slice_get_within, slice_get-get_or}
 use Rattle.std.proofs.lemmas.List.Elements.{All-nil, All-cons}
 use Rattle.std.specs.Prelude.{Option, Some, None, All, Contains, filter, slice_get, nat_le, nat_lt, ◌==◌, ◌&&◌, if◌then◌else◌}
 use Rattle.std.specs.List.{enumerate_from, filter_map, cons_option}
+use Rattle.std.proofs.lemmas.Bool.{and_parts, and_from}
 use Rattle.chart_grid.specs.declared.axis.Axis.{Axis}
 use Rattle.chart_grid.specs.declared.grid.Grid.{Grid}
 use Rattle.chart_grid.specs.Projection.{column}
@@ -19,7 +20,8 @@ use Rattle.m4_groups.specs.declared.row.Row.{Row}
 use Rattle.m4_groups.specs.Points.{spots, values_in}
 use Rattle.m4_groups.specs.Rows.{Sums, columns_of, AreRowsOf}
 use Rattle.plain_chart.specs.declared.sample.Sample.{Sample}
-use Rattle.plain_chart.specs.Samples.{time_at, IsSlot}
+use Rattle.plain_chart.specs.Samples.{IsSlot, sample_points}
+use Rattle.chart_grid.specs.Slots.{slot_time}
 use Rattle.needed_nodes.specs.Answers.{IsShownRow}
 use Rattle.needed_nodes.proofs.PickLaws.{picked, picked_all, picked_among, picked_first, picked_last, bool_cases}
 use Rattle.value_filter.specs.declared.steps.Step.{Step}
@@ -27,21 +29,13 @@ use Rattle.query_rewriter.specs.declared.queries.Plan.{Plan}
 use Rattle.query_rewriter.specs.declared.queries.ViewQuery.{ViewQuery}
 use Rattle.query_rewriter.specs.Kept.{passes, stored_at, stored_in, plan_keeps, query_keeps}
 use Rattle.filter_scan.specs.declared.scans.Scan.{Scan}
-use Rattle.filter_scan.specs.Answers.{points_of, HasRows}
+use Rattle.filter_scan.specs.Answers.{HasRows}
 use Rattle.filter_scan.specs.Table.{entry, entries, AreShown}
 use Rattle.filter_scan.specs.Taken.{Takes, IsTaken, IsRowOf, IsRowIn, Fills}
 use Rattle.filter_scan.proofs.FillLaws.{fills_start}
 use Rattle.filter_scan.proofs.TableLaws.{entries_each, rows_rise, rows_shown, none_shown, empty_entries, listed}
 
 -- tests
-and_parts : (a b : Bool) → (a && b) ≡ true → (a ≡ true) × (b ≡ true)
-and_parts true b h = (refl, h)
-and_parts false b h = absurd (cc)
-
-and_both : (a b : Bool) → a ≡ true → b ≡ true → (a && b) ≡ true
-and_both true b p q = q
-and_both false b p q = p
-
 test_same : (m n : ℕ) → (m == n) ≡ true → m ≡ n
 test_same m n h = grind (arith, nat_tests)
 
@@ -62,7 +56,7 @@ test_to i b h = grind (arith, nat_tests)
 
 -- the point of slot i with the value v is kept
 abbrev sample_of : Axis → ℕ → ℤ → Sample
-sample_of axis i v = record { time = time_at axis i; value = v }
+sample_of axis i v = record { time = slot_time axis i; value = v }
 
 abbrev in_range : Scan → ℕ → Bool
 in_range s i = nat_le s.from i && nat_lt i s.end
@@ -72,24 +66,24 @@ is_kept s f i v = in_range s i && passes f (sample_of s.axis i v)
 
 -- and has column c
 abbrev in_column : Scan → Option (List Step) → ℕ → ℕ → ℤ → Bool
-in_column s f c i v = is_kept s f i v && (column s.grid (time_at s.axis i) == c)
+in_column s f c i v = is_kept s f i v && (column s.grid (slot_time s.axis i) == c)
 
 takes_test : (s : Scan) (f : Option (List Step)) (c i : ℕ) (v : ℤ) → Takes s f c i v → in_column s f c i v ≡ true
 takes_test s f c i v h =
-    and_both (is_kept s f i v) (column s.grid (time_at s.axis i) == c)
-    (and_both (in_range s i) (passes f (sample_of s.axis i v)) (and_both (nat_le s.from i) (nat_lt i s.end) (test_from s.from i h.from) (test_to i s.end h.to)) h.passes)
-    (same_test (column s.grid (time_at s.axis i)) c h.place)
+    and_from (is_kept s f i v) (column s.grid (slot_time s.axis i) == c)
+    (and_from (in_range s i) (passes f (sample_of s.axis i v)) (and_from (nat_le s.from i) (nat_lt i s.end) (test_from s.from i h.from) (test_to i s.end h.to)) h.passes)
+    (same_test (column s.grid (slot_time s.axis i)) c h.place)
 
 test_takes : (s : Scan) (f : Option (List Step)) (c i : ℕ) (v : ℤ) → in_column s f c i v ≡ true → Takes s f c i v
 test_takes s f c i v h =
-    let outer : (is_kept s f i v ≡ true) × ((column s.grid (time_at s.axis i) == c) ≡ true) = and_parts (is_kept s f i v) (column s.grid (time_at s.axis i) == c) h in
+    let outer : (is_kept s f i v ≡ true) × ((column s.grid (slot_time s.axis i) == c) ≡ true) = and_parts (is_kept s f i v) (column s.grid (slot_time s.axis i) == c) h in
     let inner : (in_range s i ≡ true) × (passes f (sample_of s.axis i v) ≡ true) = and_parts (in_range s i) (passes f (sample_of s.axis i v)) outer.0 in
     let range : (nat_le s.from i ≡ true) × (nat_lt i s.end ≡ true) = and_parts (nat_le s.from i) (nat_lt i s.end) inner.0 in
     record {
       from = from_test s.from i range.0;
       to = to_test i s.end range.1;
       passes = inner.1;
-      place = test_same (column s.grid (time_at s.axis i)) c outer.1;
+      place = test_same (column s.grid (slot_time s.axis i)) c outer.1;
     }
 
 -- the test of a slot by what it holds
@@ -109,19 +103,19 @@ abbrev kept_from : Scan → Option (List Step) → ℕ → List (Option ℤ) →
 kept_from s f n xs = filter (passes f) (filter_map (stored_at s.axis (s.from, s.end)) (enumerate_from n xs))
 
 abbrev spots_from : Scan → Option (List Step) → ℕ → List (Option ℤ) → List Point
-spots_from s f n xs = spots s.grid (points_of (kept_from s f n xs))
+spots_from s f n xs = spots s.grid (sample_points (kept_from s f n xs))
 
 abbrev spot_of : Scan → ℕ → ℤ → Point
-spot_of s i v = record { x = column s.grid (time_at s.axis i); y = v }
+spot_of s i v = record { x = column s.grid (slot_time s.axis i); y = v }
 
 -- one slot more in front
 spots_one : (s : Scan) (P : Sample → Bool) (b : Bool) (x : Sample) (rest : List Sample)
-    → spots s.grid (points_of (filter P (cons_option (if b then Some x else None) rest)))
-    ≡ cond (b && P x) (record { x = column s.grid x.time; y = x.value } ∷ spots s.grid (points_of (filter P rest))) (spots s.grid (points_of (filter P rest)))
+    → spots s.grid (sample_points (filter P (cons_option (if b then Some x else None) rest)))
+    ≡ cond (b && P x) (record { x = column s.grid x.time; y = x.value } ∷ spots s.grid (sample_points (filter P rest))) (spots s.grid (sample_points (filter P rest)))
 spots_one s P false x rest = refl
 spots_one s P true x rest =
-    elim (P x) as (λ b. spots s.grid (points_of (cond b (x ∷ filter P rest) (filter P rest)))
-    ≡ cond b (record { x = column s.grid x.time; y = x.value } ∷ spots s.grid (points_of (filter P rest))) (spots s.grid (points_of (filter P rest)))) [
+    elim (P x) as (λ b. spots s.grid (sample_points (cond b (x ∷ filter P rest) (filter P rest)))
+    ≡ cond b (record { x = column s.grid x.time; y = x.value } ∷ spots s.grid (sample_points (filter P rest))) (spots s.grid (sample_points (filter P rest)))) [
       | true ↦ refl
       | false ↦ refl
     ]
@@ -234,7 +228,7 @@ taken_entry T list n i v None h t = absurd (h i v t)
 taken_entry T list n i v (Some r) h t = (r, refl)
 
 pub table_rows : (s : Scan) (f : Option (List Step)) (list : List (Option ℤ)) (n : ℕ) (table : List (Option Row)) → length list ≤ n → Fills s f list n table → AreShown table
-    → AreRowsOf s.grid (points_of (filter (passes f) (stored_in s.axis (s.from, s.end) list))) (entries table)
+    → AreRowsOf s.grid (sample_points (filter (passes f) (stored_in s.axis (s.from, s.end) list))) (entries table)
 table_rows s f list n table long fills shown = record {
   rising = rows_rise table shown;
   each =
@@ -251,35 +245,35 @@ table_rows s f list n table long fills shown = record {
         let P : ℕ → Type 0 = λ m. test_in (in_column s f c) list m ≡ in_column s f c m v in
         subst P e (test_at (in_column s f c) list i v holds)
 
-    found : (i : ℕ) (v : ℤ) → Holds list i v → is_kept s f (0 + i) v ≡ true → Contains (columns_of (entries table)) (column s.grid (time_at s.axis (0 + i)))
+    found : (i : ℕ) (v : ℤ) → Holds list i v → is_kept s f (0 + i) v ≡ true → Contains (columns_of (entries table)) (column s.grid (slot_time s.axis (0 + i)))
     found i v holds set =
         let e : i ≡ 0 + i = omega arith in
         let P : ℕ → Type 0 = λ m. is_kept s f m v ≡ true in
-        let Q : ℕ → Type 0 = λ m. Contains (columns_of (entries table)) (column s.grid (time_at s.axis m)) in
-        let c : ℕ = column s.grid (time_at s.axis i) in
+        let Q : ℕ → Type 0 = λ m. Contains (columns_of (entries table)) (column s.grid (slot_time s.axis m)) in
+        let c : ℕ = column s.grid (slot_time s.axis i) in
         let short : i < length list = slice_get_within list i (Some v) holds in
         let kept : is_kept s f i v ≡ true = subst P (sym e) set in
-        let takes : Takes s f c i v = test_takes s f c i v (and_both (is_kept s f i v) (column s.grid (time_at s.axis i) == c) kept (same_test c c refl)) in
+        let takes : Takes s f c i v = test_takes s f c i v (and_from (is_kept s f i v) (column s.grid (slot_time s.axis i) == c) kept (same_test c c refl)) in
         let row : (r : Row) × (entry table c ≡ Some r) =
         taken_entry (Takes s f c) list n i v (entry table c) (fills.each c) (record { low = omega arith; high = omega (arith, short, long); holds = holds; takes = takes }) in
         subst Q e (listed table c row.0 shown row.1)
 
 -- the same for the plan of which the scan is made
 pub plan_rows : (s : Scan) (axis : Axis) (plan : Plan) (list : List (Option ℤ)) (rows : List Row) → s.axis ≡ axis → s.grid ≡ plan.grid → s.from ≡ plan.slots.0 → s.end ≡ plan.slots.1
-    → AreRowsOf s.grid (points_of (filter (passes plan.filter) (stored_in s.axis (s.from, s.end) list))) rows → AreRowsOf plan.grid (points_of (plan_keeps axis plan list)) rows
+    → AreRowsOf s.grid (sample_points (filter (passes plan.filter) (stored_in s.axis (s.from, s.end) list))) rows → AreRowsOf plan.grid (sample_points (plan_keeps axis plan list)) rows
 plan_rows s axis plan list rows a g from end h =
-    let A : Axis → Type 0 = λ x. AreRowsOf s.grid (points_of (filter (passes plan.filter) (stored_in x (s.from, s.end) list))) rows in
-    let G : Grid → Type 0 = λ x. AreRowsOf x (points_of (filter (passes plan.filter) (stored_in axis (s.from, s.end) list))) rows in
-    let F : ℕ → Type 0 = λ x. AreRowsOf plan.grid (points_of (filter (passes plan.filter) (stored_in axis (x, s.end) list))) rows in
-    let E : ℕ → Type 0 = λ x. AreRowsOf plan.grid (points_of (filter (passes plan.filter) (stored_in axis (plan.slots.0, x) list))) rows in
+    let A : Axis → Type 0 = λ x. AreRowsOf s.grid (sample_points (filter (passes plan.filter) (stored_in x (s.from, s.end) list))) rows in
+    let G : Grid → Type 0 = λ x. AreRowsOf x (sample_points (filter (passes plan.filter) (stored_in axis (s.from, s.end) list))) rows in
+    let F : ℕ → Type 0 = λ x. AreRowsOf plan.grid (sample_points (filter (passes plan.filter) (stored_in axis (x, s.end) list))) rows in
+    let E : ℕ → Type 0 = λ x. AreRowsOf plan.grid (sample_points (filter (passes plan.filter) (stored_in axis (plan.slots.0, x) list))) rows in
     subst E end (subst F from (subst G g (subst A a h)))
 
 -- the same for the query that was planned
 pub query_rows : (query : ViewQuery) (plan : Plan) (list : List (Option ℤ)) (rows : List Row) → plan.grid ≡ query.grid → plan_keeps query.axis plan list ≡ query_keeps query list
-    → AreRowsOf plan.grid (points_of (plan_keeps query.axis plan list)) rows → AreRowsOf query.grid (points_of (query_keeps query list)) rows
+    → AreRowsOf plan.grid (sample_points (plan_keeps query.axis plan list)) rows → AreRowsOf query.grid (sample_points (query_keeps query list)) rows
 query_rows query plan list rows g same h =
-    let G : Grid → Type 0 = λ x. AreRowsOf x (points_of (plan_keeps query.axis plan list)) rows in
-    let S : List Sample → Type 0 = λ x. AreRowsOf query.grid (points_of x) rows in
+    let G : Grid → Type 0 = λ x. AreRowsOf x (sample_points (plan_keeps query.axis plan list)) rows in
+    let S : List Sample → Type 0 = λ x. AreRowsOf query.grid (sample_points x) rows in
     subst S same (subst G g h)
 
 pub shown_by_plan : (query : ViewQuery) (plan : Plan) (rows : List Row) → plan.grid ≡ query.grid → All (IsShownRow plan.grid.w) rows → All (IsShownRow query.grid.w) rows

@@ -6,7 +6,7 @@ use Rattle.chart_grid.specs.Slots.{slot_time}
 use Rattle.chart_grid.proofs.Rising.{column-rising}
 use Rattle.om3_coeff.specs.declared.key.Key.{Key}
 use Rattle.om3_coeff.specs.Keys.{first_slot, end_slot}
-use Rattle.om3_coeff.specs.Spans.{IsValue}
+use Rattle.whole_number.specs.Range.{IsValue}
 use Rattle.m4_groups.specs.declared.row.Row.{Row}
 use Rattle.query_rewriter.proofs.Windows.{time_rises}
 use Rattle.filter_scan.specs.declared.scans.Scan.{Scan}

@@ -11,7 +11,7 @@ use Rattle.m4_groups.specs.declared.row.Row.{Row}
 use Rattle.m4_groups.specs.Rows.{AreRising, columns_of}
 use Rattle.m4_groups.proofs.Sets.{AllPairs-none}
 use Rattle.m4_groups.proofs.Values.{Contains-here, Contains-later}
-use Rattle.om3_coeff.specs.Spans.{IsValue}
+use Rattle.whole_number.specs.Range.{IsValue}
 use Rattle.needed_nodes.specs.Answers.{IsShownRow}
 use Rattle.filter_scan.proofs.Merging.{min_either, max_either, min_low, min_high, max_low, max_high}
 use Rattle.filter_scan.specs.Table.{entry, joined, with_row, entries, IsColumnRow, AreShown}

@@ -1,7 +1,7 @@
 -- A table of rows, one place for each column.
 use Rattle.std.specs.Prelude.{ℕ, ◌≡◌, ◌≤ℤ◌, List, [], ◌∷◌, slice_set, slice_index_or, Option, None, Some}
 use Rattle.std.specs.Int.{int_min, int_max}
-use Rattle.om3_coeff.specs.Spans.{IsValue}
+use Rattle.whole_number.specs.Range.{IsValue}
 use Rattle.m4_groups.specs.declared.row.Row.{Row}
 
 -- the row of a column, where it has one

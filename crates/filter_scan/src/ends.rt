@@ -14,7 +14,8 @@ pub(crate) enum Side {
     Last,
 }
 
-/// The value at an end of the range of a key with this span. It asks as many keys as the key's level.
+/// The value at an end of the range of a key with this span. It reads as many blocks as the
+/// key's level at most.
 pub(crate) fn end_value<N: Nodes>(
     nodes: &mut N,
     side: Side,

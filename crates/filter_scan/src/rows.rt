@@ -5,7 +5,8 @@ ghost use Rattle.m4_groups.specs.Rows.{AreRising, AreRowsOf};
 ghost use Rattle.needed_nodes.specs.Answers.{IsShownRow};
 ghost use Rattle.query_rewriter.specs.Kept.{plan_keeps, query_keeps};
 ghost use Rattle.query_rewriter.specs.Scans.{IsScan};
-ghost use Rattle.filter_scan.specs.Answers.{points_of, IsCauseOf, HasRows};
+ghost use Rattle.filter_scan.specs.Answers.{IsCauseOf, HasRows};
+ghost use Rattle.plain_chart.specs.Samples.{sample_points};
 
 use crate::scan_error::ScanError;
 use crate::scans::Scan;
@@ -20,7 +21,7 @@ use value_filter::Filter;
 
 /// The rows of the points that a plan keeps of a series: one for each column that has such a point, in
 /// rising order, with the first, the least, the greatest and the last value of the column's points. It
-/// asks one key a slot of the plan at most, and two a level of the tree. A `Node` error is one that the
+/// reads one block a slot of the plan at most, and two a level of the tree. A `Node` error is one that the
 /// nodes gave; `NoMemory` is want of memory for the rows.
 pub fn m4_rows<N: Nodes>(
     alloc: Global,
@@ -34,7 +35,7 @@ pub fn m4_rows<N: Nodes>(
     requires scan { IsScan axis plan.now }
 
     ensures rows { (list : List (Option ℤ)) → Agrees (N.view nodes.old) list →
-        IfOk result (AreRowsOf plan.now.grid (points_of (plan_keeps axis plan.now list))) }
+        IfOk result (AreRowsOf plan.now.grid (sample_points (plan_keeps axis plan.now list))) }
     ensures rising { IfOk result AreRising }
     ensures shown { IfOk result (All (IsShownRow plan.now.grid.w)) }
     ensures fit { (N.view nodes.new).fit }
@@ -86,7 +87,7 @@ pub fn rows_of_query<N: Nodes>(
     requires step { 0 < query.now.axis.step }
 
     ensures rows { (list : List (Option ℤ)) → Agrees (N.view nodes.old) list →
-        IfOk result (AreRowsOf query.now.grid (points_of (query_keeps query.now list))) }
+        IfOk result (AreRowsOf query.now.grid (sample_points (query_keeps query.now list))) }
     ensures rising { IfOk result AreRising }
     ensures shown { IfOk result (All (IsShownRow query.now.grid.w)) }
     ensures fit { (N.view nodes.new).fit }
@@ -95,6 +96,6 @@ pub fn rows_of_query<N: Nodes>(
     ensures faults { (N.view nodes.old).faults ≤ (N.view nodes.new).faults }
     ensures cause { IfErr result (IsCauseOf (N.view nodes.old) (N.view nodes.new)) }
 {
-    let plan = rewrite(query)?;
+    let plan = rewrite(alloc, query)?;
     m4_rows(alloc, nodes, query.axis, &plan)
 }

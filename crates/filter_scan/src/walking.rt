@@ -1,6 +1,6 @@
 ghost use Rattle.std.specs.Prelude.{◌≡◌, ℕ, ℤ, ◌+◌, ◌*◌, ◌<◌, ◌≤◌, List, Option, Some, IfOk, IfErr, OnOk, length};
 ghost use Rattle.om3_coeff.specs.Keys.{first_slot, end_slot};
-ghost use Rattle.om3_coeff.specs.Spans.{IsValue};
+ghost use Rattle.whole_number.specs.Range.{IsValue};
 ghost use Rattle.om3_coeff.specs.View.{Agrees, HasCause, MayAsk};
 ghost use Rattle.om3_coeff.specs.Walks.{IsReached, StaysBelow};
 ghost use Rattle.filter_scan.specs.Asks.{most_asks};

@@ -1,9 +1,9 @@
 -- An opening that asked for the size first.
-use Rattle.std.proofs.Common.{◌≡◌, ℕ, inl, inr, subst, arith, ◌∙◌}
+use Rattle.std.proofs.Common.{◌≡◌, ℕ, false, inl, inr, sym, subst, arith, ◌∙◌}
 use Rattle.block_disk.specs.View.{Image, View, Moves, Nowhere, Passes}
 use Rattle.block_disk.proofs.Passing.{passes_weaker}
-use Rattle.gate_pages.specs.GatePages.{IsBroken, StandsAsBefore}
-use Rattle.gate_pages.specs.Journal.{page_count}
+use Rattle.gate_pages.specs.GatePages.{HasClosedGate, IsBroken, StandsAsBefore}
+use Rattle.gate_pages.specs.Journal.{is_open, page_count}
 use Rattle.gate_pages.specs.Openings.{Explains, Leaves}
 use Rattle.gate_pages.specs.Pages.{Quiet}
 use Rattle.gate_pages.specs.declared.errors.OpenCause.{OpenCause}
@@ -35,6 +35,13 @@ module _ (old mid new : View) (asked : Moves Nowhere 0 0 0 old mid) where
     broken = λ image is. broken_size image (left.broken image is);
   }
   leaves_back NoMemory is = tt
+
+  -- a gate that is closed stays so, and what comes after leaves it unwritten
+  pub unwritten_back : (HasClosedGate mid → Moves Nowhere 1 1 0 mid new) → HasClosedGate old → Moves Nowhere 1 1 0 old new
+  unwritten_back unwritten closed =
+      let P : Image → Type 0 = λ i. is_open (i 0) ≡ false in
+      moves_then Nowhere 0 0 0 1 1 0 old mid new asked
+      (unwritten (record { honest = asked.honest closed.honest; gate = subst P (sym (untouched 0 0 0 old mid asked closed.honest)) closed.gate }))
 
   -- the moments of what comes after
   pub moments_back : (count : ℕ) → Passes mid new (StandsAsBefore count mid) (Quiet mid) → Passes old new (StandsAsBefore count old) (Quiet old)

@@ -1,6 +1,7 @@
 //! The calls of a batch.
 ghost use Rattle.std.specs.Prelude.{◌≡◌, ◌≢◌, ◌≤◌, ◌<◌, ◌+◌, ◌==◌, ◌⊎◌, ◌↔◌, ℕ, [], None, Some, length, is_some, slice_index_or, option_map, if◌then◌else◌, IfOk, OnOk, IsTrue};
 ghost use Rattle.std.specs.Option.{option_copied};
+ghost use Rattle.block_disk.specs.Blocks.{IsBlock};
 ghost use Rattle.gate_pages.specs.Batch.{page_in, AllBelow};
 ghost use Rattle.gate_pages.specs.Batches.{entry_of};
 ghost use Rattle.gate_pages.specs.Entries.{entries};
@@ -60,7 +61,7 @@ impl Batch {
 
     /// Replaces the page of this number, or adds it.
     pub fn put(&mut self, p: u32, bytes: &[u8])
-        requires whole { length bytes.now ≡ 4096 }
+        requires whole { IsBlock bytes.now }
         requires room { IsTrue (is_some (page_in (entries self.old) p)) ⊎ (length (entries self.old) < 64) }
         ensures page { (number : ℕ) → page_in (entries self.new) number ≡ (if number == p then Some bytes.now else page_in (entries self.old) number) }
         ensures len { length (entries self.new) ≡ (if is_some (page_in (entries self.old) p) then length (entries self.old) else length (entries self.old) + 1) }

@@ -1,17 +1,20 @@
 //! The directory of the journal.
-ghost use Rattle.std.specs.Prelude.{◌≡◌, ◌≤◌, ◌+◌, ◌*◌, ℕ, Some, length, take, drop, map, option_map, IfOk, IfSome, IsTrue};
+ghost use Rattle.std.specs.Prelude.{◌≡◌, ◌≤◌, ◌+◌, ◌*◌, ℕ, Some, length, take, drop, option_map, IfSome, IsTrue};
 ghost use Rattle.std.specs.Int.{w32, to_be_bytes};
-ghost use Rattle.std.specs.List.{range_with_len, starts_with};
+ghost use Rattle.std.specs.List.{starts_with};
 ghost use Rattle.std.proofs.Math.Dec.{eqb};
+ghost use Rattle.block_disk.specs.Blocks.{IsBlock};
 ghost use Rattle.block_disk.specs.MemDisk.{replaced};
 ghost use Rattle.gate_pages.specs.Batch.{numbers, is_distinct, is_one_of, all_below as every_below};
 ghost use Rattle.gate_pages.specs.Entries.{entries};
 ghost use Rattle.gate_pages.specs.Journal.{magic, number_at as number_from, numbers_in, directory as told_by};
 
 use crate::batch::Batch;
-use crate::errors::NoMemory;
 use crate::layout::{MAGIC, MOST};
-use std::alloc::Global;
+use arrayvec::ArrayVec;
+
+/// The page numbers of a directory: at most 64.
+pub(crate) type Numbers = ArrayVec<u32, MOST>;
 
 /// Puts bytes in the place of those from an offset on.
 fn put_bytes(block: &mut [u8], start: usize, from: &[u8])
@@ -31,7 +34,7 @@ fn put_number(block: &mut [u8], offset: usize, number: u32)
 
 /// Puts the page numbers of a batch, from byte 12 on.
 fn put_numbers(block: &mut [u8], batch: &Batch)
-    requires whole { length block.old ≡ 4096 }
+    requires whole { IsBlock block.old }
     ensures numbers { numbers_in block.new (length (entries batch.now)) ≡ numbers (entries batch.now) }
     ensures front { (at size : ℕ) → at + size ≤ 12 → take size (drop at block.new) ≡ take size (drop at block.old) }
 {
@@ -43,7 +46,7 @@ fn put_numbers(block: &mut [u8], batch: &Batch)
 
 /// Makes a block the directory of a batch.
 pub(crate) fn write_directory(block: &mut [u8], batch: &Batch)
-    requires whole { length block.old ≡ 4096 }
+    requires whole { IsBlock block.old }
     ensures { (count : ℕ) → IsTrue (every_below count (numbers (entries batch.now))) → told_by count block.new ≡ Some (numbers (entries batch.now)) }
 {
     block.fill(0);
@@ -65,19 +68,17 @@ fn number_at(block: &[u8], offset: usize) -> u32
 
 /// So many page numbers, from byte 12 on.
 #[tactic(auto, using(crate::proofs::Directories::numbers_more))]
-fn numbers_from(alloc: Global, block: &[u8], count: usize) -> Result<Vec<u32>, NoMemory>
-    requires whole { length block.now ≡ 4096 }
+fn numbers_from(block: &[u8], count: usize) -> Numbers
+    requires whole { IsBlock block.now }
     requires few { count ≤ 64 }
-    ensures { IfOk result (λ found. found.items ≡ numbers_in block.now count) }
+    ensures numbers { result.items ≡ numbers_in block.now count }
 {
-    let mut found = Vec::new(alloc);
+    let mut found = ArrayVec::new();
     for i in 0..count {
         let number = number_at(block, 12 + 4 * i);
-        if found.push(number).is_err() {
-            return Err(NoMemory);
-        }
+        found.push(number);
     }
-    Ok(found)
+    found
 }
 
 /// Whether each number is below the count.
@@ -127,30 +128,26 @@ fn is_marked(block: &[u8]) -> bool
 
 /// The page numbers of a directory that keeps its layout.
 #[tactic(auto, using(crate::proofs::Directories::no_mark, crate::proofs::Directories::too_many, crate::proofs::Directories::some_above, crate::proofs::Directories::some_twice, crate::proofs::Directories::keeps_all))]
-pub(crate) fn directory(
-    alloc: Global,
-    block: &[u8],
-    count: u32,
-) -> Result<Option<Vec<u32>>, NoMemory>
-    requires whole { length block.now ≡ 4096 }
-    ensures directory { IfOk result (λ found. option_map (λ ns. ns.items) found ≡ told_by count block.now) }
-    ensures few { IfOk result (λ found. IfSome found (λ ns. length ns.items ≤ 64)) }
-    ensures below { IfOk result (λ found. IfSome found (λ ns. IsTrue (every_below count ns.items))) }
-    ensures distinct { IfOk result (λ found. IfSome found (λ ns. IsTrue (is_distinct ns.items))) }
+pub(crate) fn directory(block: &[u8], count: u32) -> Option<Numbers>
+    requires whole { IsBlock block.now }
+    ensures directory { option_map (λ ns. ns.items) result ≡ told_by count block.now }
+    ensures few { IfSome result (λ ns. length ns.items ≤ 64) }
+    ensures below { IfSome result (λ ns. IsTrue (every_below count ns.items)) }
+    ensures distinct { IfSome result (λ ns. IsTrue (is_distinct ns.items)) }
 {
     if !is_marked(block) {
-        return Ok(None);
+        return None;
     }
     let many = number_at(block, 8) as usize;
     if many > MOST {
-        return Ok(None);
+        return None;
     }
-    let numbers = numbers_from(alloc, block, many)?;
+    let numbers = numbers_from(block, many);
     if !all_below(numbers.as_slice(), count) {
-        return Ok(None);
+        return None;
     }
     if !all_distinct(numbers.as_slice()) {
-        return Ok(None);
+        return None;
     }
-    Ok(Some(numbers))
+    Some(numbers)
 }

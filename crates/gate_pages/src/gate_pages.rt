@@ -1,5 +1,6 @@
 //! Pages behind a gate on a disk.
-ghost use Rattle.std.specs.Prelude.{◌≡◌, ◌≤◌, ◌+◌, ◌^◌, length, IsTrue};
+ghost use Rattle.std.specs.Prelude.{◌≤◌, ◌+◌, ◌^◌, IsTrue};
+ghost use Rattle.block_disk.specs.Blocks.{IsBlock};
 ghost use Rattle.block_disk.specs.View.{View};
 ghost use Rattle.gate_pages.specs.GatePages.{IsClosed};
 
@@ -14,7 +15,7 @@ pub struct GatePages<D: Disk> {
     pub(crate) buffer: Vec<u8>,
     pub(crate) count: u32,
     pub(crate) sound: bool,
-    ghost whole: { length buffer.items ≡ 4096 },
+    ghost whole: { IsBlock buffer.items },
     ghost few: { count + 66 ≤ 2 ^ 20 },
     ghost within: { count + 66 ≤ (D.view disk).size },
     ghost at_rest: { IsTrue sound → IsClosed (D.view disk) },

@@ -1,12 +1,12 @@
 //! The steps of a commit.
 ghost use Rattle.std.specs.Prelude.{◌≡◌, ◌<◌, ◌≤◌, ◌+◌, ◌*◌, ◌==◌, ℕ, [], length, slice_index_or, OnOk, OnErr, IsTrue};
+ghost use Rattle.block_disk.specs.Blocks.{IsBlock};
 ghost use Rattle.block_disk.specs.Counts.{HasRisen};
-ghost use Rattle.block_disk.specs.View.{View, Image, Now, Honest, Only, Passes, Moves, At};
+ghost use Rattle.block_disk.specs.View.{Now, Honest, Only, Moves, At};
 ghost use Rattle.gate_pages.specs.Batch.{put_all, numbers, all_below};
 ghost use Rattle.gate_pages.specs.Entries.{entries};
-ghost use Rattle.gate_pages.specs.GatePages.{IsClosed, IsReadable};
-ghost use Rattle.gate_pages.specs.Journal.{home, is_open, pages_of};
-ghost use Rattle.gate_pages.specs.Pages.{BeforeOrAfter, Quiet};
+ghost use Rattle.gate_pages.specs.GatePages.{IsClosed, PassesWith};
+ghost use Rattle.gate_pages.specs.Journal.{home, is_open};
 ghost use Rattle.gate_pages.specs.Steps.{Anywhere, IsJournal, IsHome, LiesWithin, HoldsBatch};
 
 use crate::batch::Batch;
@@ -31,7 +31,7 @@ fn write_images<D: Disk>(disk: &mut D, batch: &Batch) -> Result<(), Failed>
 /// Writes the images of a batch and their directory.
 fn write_journal<D: Disk>(disk: &mut D, buffer: &mut [u8], batch: &Batch) -> Result<(), Failed>
     requires room { 66 ≤ (D.view disk.old).size }
-    requires whole { length buffer.old ≡ 4096 }
+    requires whole { IsBlock buffer.old }
     ensures moves { Moves IsJournal 0 0 (length (entries batch.now) + 1) (D.view disk.old) (D.view disk.new) }
     ensures holds { Honest (D.view disk.old) → OnOk result (HoldsBatch (entries batch.now) (D.view disk.new).image) }
     ensures cause { OnErr result (HasRisen (D.view disk.old).faults (D.view disk.new).faults) }
@@ -45,7 +45,7 @@ fn write_journal<D: Disk>(disk: &mut D, buffer: &mut [u8], batch: &Batch) -> Res
 /// Writes a gate with this byte.
 pub(crate) fn write_gate<D: Disk>(disk: &mut D, buffer: &mut [u8], byte: u8) -> Result<(), Failed>
     requires room { 66 ≤ (D.view disk.old).size }
-    requires whole { length buffer.old ≡ 4096 }
+    requires whole { IsBlock buffer.old }
     ensures moves { Moves (At 0) 0 0 1 (D.view disk.old) (D.view disk.new) }
     ensures gate { Honest (D.view disk.old) → OnOk result (is_open ((D.view disk.new).image 0) ≡ (byte == 1)) }
     ensures cause { OnErr result (HasRisen (D.view disk.old).faults (D.view disk.new).faults) }
@@ -73,7 +73,7 @@ fn write_pages<D: Disk>(disk: &mut D, batch: &Batch) -> Result<(), Failed>
 /// Brings a batch into the journal, and on the disk.
 fn stage<D: Disk>(disk: &mut D, buffer: &mut [u8], batch: &Batch) -> Result<(), Failed>
     requires room { 66 ≤ (D.view disk.old).size }
-    requires whole { length buffer.old ≡ 4096 }
+    requires whole { IsBlock buffer.old }
     ensures moves { Moves IsJournal 0 1 (length (entries batch.now) + 1) (D.view disk.old) (D.view disk.new) }
     ensures durable { OnOk result (Only (D.view disk.new).image (Now (D.view disk.new))) }
     ensures holds { Honest (D.view disk.old) → OnOk result (HoldsBatch (entries batch.now) (D.view disk.new).image) }
@@ -87,7 +87,7 @@ fn stage<D: Disk>(disk: &mut D, buffer: &mut [u8], batch: &Batch) -> Result<(), 
 /// Brings a gate with this byte on the disk.
 pub(crate) fn set_gate<D: Disk>(disk: &mut D, buffer: &mut [u8], byte: u8) -> Result<(), Failed>
     requires room { 66 ≤ (D.view disk.old).size }
-    requires whole { length buffer.old ≡ 4096 }
+    requires whole { IsBlock buffer.old }
     ensures moves { Moves (At 0) 0 1 1 (D.view disk.old) (D.view disk.new) }
     ensures durable { OnOk result (Only (D.view disk.new).image (Now (D.view disk.new))) }
     ensures gate { Honest (D.view disk.old) → OnOk result (is_open ((D.view disk.new).image 0) ≡ (byte == 1)) }
@@ -114,11 +114,11 @@ fn bring_home<D: Disk>(disk: &mut D, batch: &Batch) -> Result<(), Failed>
 /// Commits a batch through the journal.
 pub(crate) fn redo<D: Disk>(disk: &mut D, buffer: &mut [u8], batch: &Batch) -> Result<(), Failed>
     requires room { 66 ≤ (D.view disk.old).size }
-    requires whole { length buffer.old ≡ 4096 }
+    requires whole { IsBlock buffer.old }
     requires within { LiesWithin (D.view disk.old).size (numbers (entries batch.now)) }
     requires closed { IsClosed (D.view disk.old) }
     ensures moves { Moves Anywhere 0 4 (2 * length (entries batch.now) + 3) (D.view disk.old) (D.view disk.new) }
-    ensures moments { (count : ℕ) → IsTrue (all_below count (numbers (entries batch.now))) → Passes (D.view disk.old) (D.view disk.new) (λ image. IsReadable count image × BeforeOrAfter (entries batch.now) (pages_of count (D.view disk.old).image) (pages_of count image)) (Quiet (D.view disk.old)) }
+    ensures moments { (count : ℕ) → IsTrue (all_below count (numbers (entries batch.now))) → PassesWith (entries batch.now) count (D.view disk.old) (D.view disk.new) }
     ensures closed { OnOk result (IsClosed (D.view disk.new)) }
     ensures done { Honest (D.view disk.old) → OnOk result (home (D.view disk.new).image ≡ put_all (entries batch.now) (home (D.view disk.old).image)) }
     ensures cause { OnErr result (HasRisen (D.view disk.old).faults (D.view disk.new).faults) }

@@ -1,5 +1,6 @@
 //! The calls of pages in memory.
 ghost use Rattle.std.specs.Prelude.{◌≡◌, ◌*◌, ◌≤◌, ◌+◌, length, IsTrue};
+ghost use Rattle.block_disk.specs.Blocks.{block_size};
 ghost use Rattle.block_disk.specs.MemDisk.{replaced, blocks_of};
 ghost use Rattle.gate_pages.specs.Batch.{put_all, AllBelow};
 ghost use Rattle.gate_pages.specs.Entries.{entries};
@@ -21,7 +22,7 @@ fn replace(bytes: &mut [u8], start: usize, from: &[u8])
 
 /// Puts the pages of a batch in their places.
 fn put_pages(bytes: &mut [u8], count: u32, batch: &Batch)
-    requires whole { length bytes.old ≡ 4096 * count }
+    requires whole { length bytes.old ≡ block_size * count }
     requires below { AllBelow count (entries batch.now) }
     ensures put { blocks_of bytes.new ≡ put_all (entries batch.now) (blocks_of bytes.old) }
 {

@@ -1,5 +1,6 @@
 //! A page with its number.
-ghost use Rattle.std.specs.Prelude.{◌≡◌, length, IfOk};
+ghost use Rattle.std.specs.Prelude.{◌≡◌, IfOk};
+ghost use Rattle.block_disk.specs.Blocks.{IsBlock};
 
 use crate::errors::NoMemory;
 use block_disk::BLOCK;
@@ -10,7 +11,7 @@ use std::alloc::Global;
 pub struct Page {
     pub(crate) number: u32,
     pub(crate) bytes: Vec<u8>,
-    ghost whole: { length bytes.items ≡ 4096 },
+    ghost whole: { IsBlock bytes.items },
 }
 
 impl Page {
@@ -22,7 +23,7 @@ impl Page {
 
     /// Becomes the page of this number and these bytes.
     pub(crate) fn set(&mut self, number: u32, bytes: &[u8])
-        requires { length bytes.now ≡ 4096 }
+        requires { IsBlock bytes.now }
         ensures number { self.new.number ≡ number }
         ensures bytes { self.new.bytes.items ≡ bytes.now }
     {

@@ -1,5 +1,6 @@
 //! Pages that are committed in batches.
-ghost use Rattle.std.specs.Prelude.{◌≡◌, ◌<◌, ◌↔◌, [], length, IsTrue, IsOk, OnOk, OnErr};
+ghost use Rattle.std.specs.Prelude.{◌≡◌, ◌<◌, ◌↔◌, [], IsTrue, IsOk, OnOk, OnErr};
+ghost use Rattle.block_disk.specs.Blocks.{IsBlock};
 ghost use Rattle.block_disk.specs.Counts.{HasRisen};
 ghost use Rattle.block_disk.specs.View.{View, Now, Honest, Only};
 ghost use Rattle.gate_pages.specs.Batch.{AllBelow, put_all};
@@ -34,7 +35,7 @@ pub trait Pages: Drop {
     /// Reads a page. After `DiskFault`, `out` may hold anything.
     fn get(&mut self, p: u32, out: &mut [u8]) -> Result<(), DiskFault>
         requires p_in_count { p < (view self.old).size }
-        requires whole { length out.old ≡ 4096 }
+        requires whole { IsBlock out.old }
         requires sound { (view self.old).fit }
         ensures page { told self.old → OnOk result (out.new ≡ (view self.old).image p) }
         ensures reads { Reads (told self.old) (told self.new) (view self.old) (view self.new) }

@@ -1,12 +1,12 @@
 //! The steps of an opening.
-ghost use Rattle.std.specs.Prelude.{◌≡◌, ◌≢◌, ◌<◌, ◌≤◌, ◌+◌, ◌*◌, ℕ, true, Some, length, OnOk, OnErr, IfErr, IfOk, IsTrue, IsErrOf};
+ghost use Rattle.std.specs.Prelude.{◌≡◌, ◌≢◌, ◌≤◌, ◌+◌, ℕ, true, length, OnOk, OnErr, IfErr, IfOk, IsTrue};
+ghost use Rattle.block_disk.specs.Blocks.{IsBlock};
 ghost use Rattle.block_disk.specs.Counts.{HasRisen};
-ghost use Rattle.block_disk.specs.View.{View, Image, Now, Honest, Only, Passes, Moves, Nowhere, At};
-ghost use Rattle.gate_pages.specs.Batch.{put_all, is_distinct, all_below};
-ghost use Rattle.gate_pages.specs.GatePages.{IsClosed, IsBroken, StandsAsBefore};
-ghost use Rattle.gate_pages.specs.Journal.{home, is_open, directory as told_by, images, pages_of, page_count};
+ghost use Rattle.block_disk.specs.View.{Now, Honest, Only, Moves, Nowhere, At};
+ghost use Rattle.gate_pages.specs.Batch.{put_all, is_distinct};
+ghost use Rattle.gate_pages.specs.GatePages.{HasClosedGate, IsClosed, IsBroken, Lists, IsReplayed, PassesStanding};
+ghost use Rattle.gate_pages.specs.Journal.{home, is_open, images, page_count};
 ghost use Rattle.gate_pages.specs.Openings.{Explains, Leaves};
-ghost use Rattle.gate_pages.specs.Pages.{Quiet};
 ghost use Rattle.gate_pages.specs.Steps.{Anywhere, IsHome, LiesWithin};
 
 use crate::directory::directory;
@@ -14,7 +14,6 @@ use crate::errors::OpenCause;
 use crate::journal::set_gate;
 use crate::layout::{CLOSED, DIRECTORY, FEWEST_BLOCKS, GATE, HOME, IMAGES, MOST_BLOCKS, OPEN};
 use block_disk::{Disk, Failed};
-use std::alloc::Global;
 
 /// The number of pages on a disk.
 pub(crate) fn pages_on<D: Disk>(disk: &mut D) -> Result<u32, OpenCause>
@@ -24,6 +23,7 @@ pub(crate) fn pages_on<D: Disk>(disk: &mut D) -> Result<u32, OpenCause>
     ensures cause { IfErr result (λ cause. Explains cause (D.view disk.old) (D.view disk.new)) }
     ensures left { IfErr result (λ cause. Leaves cause (D.view disk.old) (D.view disk.new)) }
     ensures whole { IfErr result (λ cause. cause ≢ OpenCause.BadDirectory) }
+    ensures no_memory { IfErr result (λ cause. cause ≡ OpenCause.NoMemory → disk.new ≡ disk.old) }
 {
     let blocks = disk.blocks()?;
     if blocks < FEWEST_BLOCKS {
@@ -35,7 +35,7 @@ pub(crate) fn pages_on<D: Disk>(disk: &mut D) -> Result<u32, OpenCause>
 /// Copies the images of the journal home.
 fn copy_images<D: Disk>(disk: &mut D, buffer: &mut [u8], numbers: &[u32]) -> Result<(), Failed>
     requires room { 66 ≤ (D.view disk.old).size }
-    requires whole { length buffer.old ≡ 4096 }
+    requires whole { IsBlock buffer.old }
     requires few { length numbers.now ≤ 64 }
     requires distinct { IsTrue (is_distinct numbers.now) }
     requires within { LiesWithin (D.view disk.old).size numbers.now }
@@ -54,7 +54,7 @@ fn copy_images<D: Disk>(disk: &mut D, buffer: &mut [u8], numbers: &[u32]) -> Res
 /// Brings the images of the journal home, and on the disk.
 fn copy_home<D: Disk>(disk: &mut D, buffer: &mut [u8], numbers: &[u32]) -> Result<(), Failed>
     requires room { 66 ≤ (D.view disk.old).size }
-    requires whole { length buffer.old ≡ 4096 }
+    requires whole { IsBlock buffer.old }
     requires few { length numbers.now ≤ 64 }
     requires distinct { IsTrue (is_distinct numbers.now) }
     requires within { LiesWithin (D.view disk.old).size numbers.now }
@@ -71,16 +71,16 @@ fn copy_home<D: Disk>(disk: &mut D, buffer: &mut [u8], numbers: &[u32]) -> Resul
 /// Finishes the commit that the journal tells of.
 fn replay<D: Disk>(disk: &mut D, buffer: &mut [u8], numbers: &[u32]) -> Result<(), Failed>
     requires room { 66 ≤ (D.view disk.old).size }
-    requires whole { length buffer.old ≡ 4096 }
+    requires whole { IsBlock buffer.old }
     requires few { length numbers.now ≤ 64 }
     requires distinct { IsTrue (is_distinct numbers.now) }
     requires within { LiesWithin (D.view disk.old).size numbers.now }
     requires only { Only (D.view disk.old).image (Now (D.view disk.old)) }
     requires opened { Honest (D.view disk.old) → is_open ((D.view disk.old).image 0) ≡ true }
     ensures moves { Moves Anywhere (length numbers.now) 2 (length numbers.now + 1) (D.view disk.old) (D.view disk.new) }
-    ensures moments { (count : ℕ) → (Honest (D.view disk.old) → told_by count ((D.view disk.old).image 1) ≡ Some numbers.now) → Passes (D.view disk.old) (D.view disk.new) (StandsAsBefore count (D.view disk.old)) (Quiet (D.view disk.old)) }
+    ensures moments { (count : ℕ) → (Honest (D.view disk.old) → Lists count numbers.now (D.view disk.old)) → PassesStanding count (D.view disk.old) (D.view disk.new) }
     ensures closed { OnOk result (IsClosed (D.view disk.new)) }
-    ensures done { (count : ℕ) → Honest (D.view disk.old) → told_by count ((D.view disk.old).image 1) ≡ Some numbers.now → OnOk result (home (D.view disk.new).image ≡ pages_of count (D.view disk.old).image) }
+    ensures done { (count : ℕ) → Honest (D.view disk.old) → Lists count numbers.now (D.view disk.old) → OnOk result (IsReplayed count (D.view disk.old) (D.view disk.new)) }
     ensures cause { OnErr result (HasRisen (D.view disk.old).faults (D.view disk.new).faults) }
 {
     copy_home(disk, buffer, numbers)?;
@@ -89,20 +89,18 @@ fn replay<D: Disk>(disk: &mut D, buffer: &mut [u8], numbers: &[u32]) -> Result<(
 }
 
 /// Brings a disk to rest with a closed gate. The pages that it stands for stay.
-pub(crate) fn recover<D: Disk>(
-    alloc: Global,
-    disk: &mut D,
-    buffer: &mut [u8],
-    count: u32,
-) -> Result<(), OpenCause>
+pub(crate) fn recover<D: Disk>(disk: &mut D, buffer: &mut [u8], count: u32) -> Result<(), OpenCause>
     requires large { 128 ≤ (D.view disk.old).size }
-    requires whole { length buffer.old ≡ 4096 }
+    requires whole { IsBlock buffer.old }
     requires count { count ≡ page_count (D.view disk.old).size }
     ensures moves { Moves Anywhere 66 3 65 (D.view disk.old) (D.view disk.new) }
-    ensures moments { Passes (D.view disk.old) (D.view disk.new) (StandsAsBefore count (D.view disk.old)) (Quiet (D.view disk.old)) }
+    ensures moments { PassesStanding count (D.view disk.old) (D.view disk.new) }
     ensures closed { OnOk result (IsClosed (D.view disk.new)) }
-    ensures pages { Honest (D.view disk.old) → OnOk result (home (D.view disk.new).image ≡ pages_of count (D.view disk.old).image) }
+    ensures pages { Honest (D.view disk.old) → OnOk result (IsReplayed count (D.view disk.old) (D.view disk.new)) }
     ensures journal { Honest (D.view disk.old) → OnOk result (IsBroken count (D.view disk.old).image → ⊥) }
+    // where the gate is closed, nothing is written
+    ensures unwritten { HasClosedGate (D.view disk.old) → Moves Nowhere 1 1 0 (D.view disk.old) (D.view disk.new) }
+    ensures no_memory { IfErr result (λ cause. cause ≢ OpenCause.NoMemory) }
     ensures cause { IfErr result (λ cause. Explains cause (D.view disk.old) (D.view disk.new)) }
     ensures left { IfErr result (λ cause. Leaves cause (D.view disk.old) (D.view disk.new)) }
 {
@@ -112,7 +110,7 @@ pub(crate) fn recover<D: Disk>(
         return Ok(());
     }
     disk.read_block(DIRECTORY, buffer)?;
-    let Some(numbers) = directory(alloc, buffer, count)? else {
+    let Some(numbers) = directory(buffer, count) else {
         return Err(OpenCause::BadDirectory);
     };
     replay(disk, buffer, numbers.as_slice())?;
@@ -122,7 +120,7 @@ pub(crate) fn recover<D: Disk>(
 /// Closes the gate of a disk, whatever it was.
 pub(crate) fn shut<D: Disk>(disk: &mut D, buffer: &mut [u8]) -> Result<(), Failed>
     requires room { 66 ≤ (D.view disk.old).size }
-    requires whole { length buffer.old ≡ 4096 }
+    requires whole { IsBlock buffer.old }
     ensures moves { Moves (At 0) 0 1 1 (D.view disk.old) (D.view disk.new) }
     ensures closed { OnOk result (IsClosed (D.view disk.new)) }
     ensures cause { OnErr result (HasRisen (D.view disk.old).faults (D.view disk.new).faults) }

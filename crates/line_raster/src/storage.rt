@@ -1,4 +1,4 @@
-ghost use Rattle.std.specs.Prelude.{◌≡◌, ℕ, ◌+◌, ◌*◌, ◌<◌, ◌≤◌, IfOk, count_by};
+ghost use Rattle.std.specs.Prelude.{◌≡◌, ℕ, ◌+◌, ◌*◌, ◌<◌, ◌≤◌, ◌⊎◌, false, IfOk, count_by};
 ghost use Rattle.line_raster.specs.Canvas.{Canvas, black_at, Adds, IsBlank, black_pixels};
 
 use super::NoMemory;
@@ -62,12 +62,14 @@ impl Bitmap {
         self.height
     }
 
-    /// Whether the pixel in column `x` and row `y` is black.
+    /// Whether the pixel in column `x` and row `y` is black. Beyond the canvas none is.
     pub fn get(&self, x: u16, y: u16) -> bool
-        requires column { x < self.now.w }
-        requires row { y < self.now.h }
-        ensures { result ≡ black_at self.now x y }
+        ensures inside { x < self.now.w → y < self.now.h → result ≡ black_at self.now x y }
+        ensures beyond { (self.now.w ≤ x) ⊎ (self.now.h ≤ y) → result ≡ false }
     {
+        if x >= self.width || y >= self.height {
+            return false;
+        }
         self.cells[usize::from(x) * usize::from(self.height) + usize::from(y)]
     }
 

@@ -10,7 +10,8 @@ use Rattle.line_raster.specs.declared.position.Point.{Point}
 use Rattle.m4_groups.specs.declared.row.Row.{Row}
 use Rattle.m4_groups.specs.Points.{AreInOrder, spots, values_in}
 use Rattle.m4_groups.specs.Rows.{Sums, AreRowsOf}
-use Rattle.m4_groups.specs.Heights.{IsValue, IsDrawable}
+use Rattle.m4_groups.specs.Heights.{IsDrawable}
+use Rattle.whole_number.specs.Range.{IsValue}
 use Rattle.m4_groups.proofs.Values.{values_in-other}
 
 -- what holds of each value holds of the one at a place

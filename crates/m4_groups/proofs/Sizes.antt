@@ -4,7 +4,7 @@ use Rattle.std.proofs.lemmas.Int.{ints, by_lt_z}
 use Rattle.std.proofs.lemmas.Nat.{mul-le}
 use Rattle.chart_grid.specs.Numbers.{distance}
 use Rattle.chart_grid.proofs.Heights.{after, before}
-use Rattle.m4_groups.specs.Heights.{IsValue}
+use Rattle.whole_number.specs.Range.{IsValue}
 
 size_bounds : (z : ℤ) → (z ≤ℤ pos (unsigned_abs z)) × (neg_ℤ (pos (unsigned_abs z)) ≤ℤ z)
 size_bounds (pos n) = (omega (arith, ints), omega (arith, ints))

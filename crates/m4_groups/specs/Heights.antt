@@ -1,4 +1,5 @@
-use Rattle.std.specs.Prelude.{ℕ, ℤ, ◌≡◌, ◌^◌, ◌<◌, ◌≤◌, ◌≤ℤ◌, List, map, unsigned_abs}
+use Rattle.std.specs.Prelude.{ℕ, ℤ, ◌≡◌, ◌<◌, ◌≤ℤ◌, List, map}
+use Rattle.whole_number.specs.Range.{IsValue}
 use Rattle.chart_grid.specs.Projection.{height}
 use Rattle.m4_groups.specs.declared.row.Row.{Row}
 
@@ -16,10 +17,6 @@ row_heights lo hi h rows = map (row_height lo hi h) rows
 -- the rows have the same columns, and field by field the same heights
 abbrev pub HaveSameHeights : ℤ → ℤ → ℕ → List Row → List Row → Type 0
 HaveSameHeights lo hi h a b = row_heights lo hi h a ≡ row_heights lo hi h b
-
--- a value that a series can hold
-abbrev pub IsValue : ℤ → Type 0
-IsValue v = unsigned_abs v ≤ 10 ^ 18
 
 -- a row that a canvas of w columns can show
 pub record IsDrawable (w : ℕ) (r : Row) : Type 0 where

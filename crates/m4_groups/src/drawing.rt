@@ -6,7 +6,8 @@ ghost use Rattle.line_raster.specs.Segment.{On, InFill};
 ghost use Rattle.line_raster.specs.Raster.{InRaster};
 ghost use Rattle.m4_groups.specs.Points.{AreInOrder, pixels};
 ghost use Rattle.m4_groups.specs.Rows.{AreRising, AreRowsOf};
-ghost use Rattle.m4_groups.specs.Heights.{HaveSameHeights, row_height, row_heights, IsDrawable, IsValue};
+ghost use Rattle.m4_groups.specs.Heights.{HaveSameHeights, row_height, row_heights, IsDrawable};
+ghost use Rattle.whole_number.specs.Range.{IsValue};
 ghost use Rattle.m4_groups.specs.Drawn.{Drawn, first_of, last_of};
 ghost use Rattle.m4_groups.specs.declared.row.Row.{Row};
 

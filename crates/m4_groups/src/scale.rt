@@ -1,6 +1,6 @@
 ghost use Rattle.std.specs.Prelude.{◌≡◌, pos, ◌^◌, ◌≤◌, ◌≤ℤ◌, unsigned_abs};
 ghost use Rattle.chart_grid.specs.Projection.{height};
-ghost use Rattle.m4_groups.specs.Heights.{IsValue};
+ghost use Rattle.whole_number.specs.Range.{IsValue};
 
 use chart_grid::height_of;
 use line_raster::Point;

@@ -6,59 +6,20 @@ use Rattle.std.proofs.lemmas.Nat.Bits.{same_from_bits_below, bit_at-lt}
 use Rattle.std.proofs.lemmas.Int.{of_z-to_z}
 use Rattle.std.proofs.lemmas.Grind.{same_number_lists}
 use Rattle.std.specs.Int.{w64, bit_at, cast_unsigned}
+use Rattle.block_disk.specs.Blocks.{block_size, IsBlock}
 use Rattle.byteorder.specs.Endian.{big_from}
 use Rattle.byteorder.specs.Numbers.{big_from-lt}
 use Rattle.om3_coeff.specs.declared.coef.Coef.{Coef}
 use Rattle.node_page.specs.Fields.{number_at, signed_at, flag_at, level_at, coef_at, child_at}
 use Rattle.node_page.specs.Layout.{KeepsLayout}
-
-abbrev pub IsBytes : List ℕ → Type 0
-IsBytes page = (k : ℕ) → get_or page k 0 < 256
-
--- the same number in so many bytes has the same bytes
-big_bytes : (n i : ℕ) (xs ys : List ℕ) → IsBytes xs → IsBytes ys → big_from i n xs ≡ big_from i n ys → (k : ℕ) → i ≤ k → k < i + n → get_or xs k 0 ≡ get_or ys k 0
-big_bytes zero i xs ys fits fits' same k low high = absurd (omega (arith, low, high))
-big_bytes (suc n) i xs ys fits fits' same k low high =
-    let w = 256 ^ n in
-    let a = get_or xs i 0 in
-    let b = get_or ys i 0 in
-    let x = big_from (suc i) n xs in
-    let y = big_from (suc i) n ys in
-    let below : x < w = big_from-lt (suc i) n xs fits in
-    let below' : y < w = big_from-lt (suc i) n ys fits' in
-    let head : a ≡ b = sym (div-mul-add a w x below) ∙ ap (λ (m : ℕ). m / w) same ∙ div-mul-add b w y below' in
-    let tail : x ≡ y = sym (mod-mul-add a w x below) ∙ ap (λ (m : ℕ). m % w) same ∙ mod-mul-add b w y below' in
-    elim (cases_lt i k) [
-      | inl less ↦ big_bytes n (suc i) xs ys fits fits' tail k less (omega (arith, high))
-      | inr more ↦
-          let here : k ≡ i = omega (arith, low, more) in
-          ap (λ (j : ℕ). get_or xs j 0) here ∙ head ∙ ap (λ (j : ℕ). get_or ys j 0) (sym here)
-    ]
-
-number_bytes : (size at : ℕ) (one other : List ℕ) → IsBytes one → IsBytes other → number_at one size at ≡ number_at other size at → (k : ℕ) → at ≤ k → k < at + size → get_or one k 0 ≡ get_or other k 0
-unfolding number_at
-number_bytes size at one other fits fits' same = big_bytes size at one other fits fits' same
-
-number_below : (size at : ℕ) (page : List ℕ) → IsBytes page → number_at page size at < 256 ^ size
-unfolding number_at
-number_below size at page fits = big_from-lt at size page fits
-
-signed_bytes : (at : ℕ) (one other : List ℕ) → IsBytes one → IsBytes other → signed_at one at ≡ signed_at other at → (k : ℕ) → at ≤ k → k < at + 8 → get_or one k 0 ≡ get_or other k 0
-unfolding signed_at
-signed_bytes at one other fits fits' same =
-    let x = number_at one 8 at in
-    let y = number_at other 8 at in
-    let below : x < 2 ^ 64 = number_below 8 at one fits in
-    let below' : y < 2 ^ 64 = number_below 8 at other fits' in
-    let equal : x ≡ y = sym (of_z-to_z w64 x below) ∙ ap (cast_unsigned w64) same ∙ of_z-to_z w64 y below' in
-    number_bytes 8 at one other fits fits' equal
+use Rattle.node_page.specs.Numbers.{IsBytes, number_bytes, number_below, signed_bytes}
 
 one_bit : (x y : ℕ) → x < 2 → y < 2 → (x == 1) ≡ (y == 1) → x ≡ y
 one_bit x y low low' same = grind arith
 
 pub record AreAlike (one other : List ℕ) : Type 0 where
-  pub size : length one ≡ 4096
-  pub size' : length other ≡ 4096
+  pub size : IsBlock one
+  pub size' : IsBlock other
   pub fits : IsBytes one
   pub fits' : IsBytes other
   pub keeps : KeepsLayout one
@@ -140,7 +101,7 @@ front_byte (suc zero) one other alike high = alike.level
 front_byte (suc (suc k)) one other alike high =
     alike.keeps.reserved (suc (suc k)) (inl (omega arith, high)) ∙ sym (alike.keeps'.reserved (suc (suc k)) (inl (omega arith, high)))
 
-any_byte : (k : ℕ) (one other : List ℕ) → AreAlike one other → k < 4096 → get_or one k 0 ≡ get_or other k 0
+any_byte : (k : ℕ) (one other : List ℕ) → AreAlike one other → k < block_size → get_or one k 0 ≡ get_or other k 0
 any_byte k one other alike within = elim (cases_lt k 8) [
   | inl front ↦ front_byte k one other alike front
   | inr flags ↦ elim (cases_lt k 40) [

@@ -1,5 +1,7 @@
 -- The rules of a tree page's fields, in the order in which they are named.
 use Rattle.std.specs.Prelude.{ℕ, ◌≡◌, ◌+◌, ◌*◌, ◌/◌, ◌%◌, ◌^◌, ◌<◌, ◌≤◌, ◌⊎◌, ◌==◌, Bool, true, false, ◌&&◌, ◌||◌, unsigned_abs, if◌then◌else◌, List, slice_index}
+use Rattle.whole_number.specs.Range.{IsTime}
+use Rattle.block_disk.specs.Blocks.{block_size}
 use Rattle.om3_coeff.specs.declared.coef.Coef.{Coef}
 use Rattle.om3_coeff.specs.Coefs.{IsFlat}
 use Rattle.node_page.specs.Fields.{flag_at, level_at, coef_at, child_at}
@@ -14,7 +16,7 @@ IsLevel page = (1 ≤ level_at page) × (level_at page ≤ 5)
 
 -- a byte of no field
 abbrev pub IsSpare : ℕ → Type 0
-IsSpare k = ((2 ≤ k) × (k < 8)) ⊎ ((2584 ≤ k) × (k < 4096))
+IsSpare k = ((2 ≤ k) × (k < 8)) ⊎ ((2584 ≤ k) × (k < block_size))
 
 abbrev pub IsReserved : List ℕ → Type 0
 IsReserved page = (k : ℕ) → IsSpare k → slice_index page k ≡ 0
@@ -34,8 +36,8 @@ pub record AreFlags (page : List ℕ) : Type 0 where
 
 -- differences are at most 2 * 10^18 in size, and 0 beside fewer than two flags
 pub record HasDifferences (c : Coef) : Type 0 where
-  pub least : unsigned_abs c.dmin ≤ 2 * 10 ^ 18
-  pub greatest : unsigned_abs c.dmax ≤ 2 * 10 ^ 18
+  pub least : IsTime c.dmin
+  pub greatest : IsTime c.dmax
   pub flat : (c.left && c.right) ≡ false → IsFlat c
 
 abbrev pub AreDifferences : List ℕ → Type 0

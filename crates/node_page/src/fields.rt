@@ -1,5 +1,6 @@
 //! The fields of a page, read.
-ghost use Rattle.std.specs.Prelude.{◌≡◌, ◌≤◌, ◌<◌, ◌+◌, length};
+ghost use Rattle.std.specs.Prelude.{◌≡◌, ◌≤◌, ◌<◌, ◌+◌};
+ghost use Rattle.block_disk.specs.Blocks.{block_size, IsBlock};
 ghost use Rattle.node_page.specs.Fields.{number_at, signed_at, flag_at, coef_at as coef_of_page, child_at as child_of_page};
 
 use crate::layout::{CHILDREN, DIFFERENCES, FLAGS};
@@ -9,7 +10,7 @@ use om3_coeff::Coef;
 /// A flag.
 #[tactic(auto, unfolding(crate::specs::Fields::flag_at))]
 pub(crate) fn is_set(page: &[u8], flag: u8) -> bool
-    requires whole { length page.now ≡ 4096 }
+    requires whole { IsBlock page.now }
     ensures { result ≡ flag_at page.now flag }
 {
     let byte = page[FLAGS + usize::from(flag / 8)];
@@ -19,8 +20,8 @@ pub(crate) fn is_set(page: &[u8], flag: u8) -> bool
 /// The signed number at an offset.
 #[tactic(auto, unfolding(crate::specs::Fields::signed_at))]
 pub(crate) fn difference_at(page: &[u8], offset: usize) -> i64
-    requires whole { length page.now ≡ 4096 }
-    requires within { offset + 8 ≤ 4096 }
+    requires whole { IsBlock page.now }
+    requires within { offset + 8 ≤ block_size }
     ensures { result ≡ signed_at page.now offset }
 {
     BigEndian::read_i64(&page[offset..])
@@ -29,7 +30,7 @@ pub(crate) fn difference_at(page: &[u8], offset: usize) -> i64
 /// The coefficient of a node.
 #[tactic(auto, unfolding(crate::specs::Fields::coef_at))]
 pub(crate) fn coef_of(page: &[u8], node: u8) -> Coef
-    requires whole { length page.now ≡ 4096 }
+    requires whole { IsBlock page.now }
     requires node { node < 127 }
     ensures { result ≡ coef_of_page page.now node }
 {
@@ -46,7 +47,7 @@ pub(crate) fn coef_of(page: &[u8], node: u8) -> Coef
 /// there is none.
 #[tactic(auto, unfolding(crate::specs::Fields::child_at))]
 pub fn child_of(page: &[u8], child: u8) -> u32
-    requires whole { length page.now ≡ 4096 }
+    requires whole { IsBlock page.now }
     requires child { child < 128 }
     ensures { result ≡ child_of_page page.now child }
 {

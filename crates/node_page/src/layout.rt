@@ -1,7 +1,6 @@
 //! Where the fields of a tree page stand.
 
-/// The bytes of a page.
-pub(crate) const PAGE: usize = 4096;
+use whole_number::limits::GREATEST_TIME;
 
 /// The kind of a tree page, its byte 0.
 pub(crate) const KIND: u8 = 2;
@@ -19,4 +18,4 @@ pub(crate) const CHILDREN: usize = 2072;
 pub(crate) const END: usize = 2584;
 
 /// The greatest size of a difference.
-pub(crate) const GREATEST_DIFFERENCE: u64 = 2_000_000_000_000_000_000;
+pub(crate) const GREATEST_DIFFERENCE: u64 = GREATEST_TIME;

@@ -10,6 +10,7 @@
 //! Whether the coefficients are those of a series is left to the layers above. No call takes memory.
 #![tactic(auto)]
 
+pub mod byte_fields;
 mod errors;
 mod fields;
 pub mod laws;

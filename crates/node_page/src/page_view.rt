@@ -1,5 +1,6 @@
 //! A tree page that keeps its layout.
-ghost use Rattle.std.specs.Prelude.{◌≡◌, length};
+ghost use Rattle.std.specs.Prelude.{◌≡◌};
+ghost use Rattle.block_disk.specs.Blocks.{IsBlock};
 ghost use Rattle.node_page.specs.Layout.{KeepsLayout};
 
 use crate::errors::BadPage;
@@ -12,18 +13,18 @@ use om3_coeff::Coef;
 #[derive(Drop)]
 pub struct PageView<'a> {
     bytes: &'a [u8],
-    ghost whole: { length bytes.now ≡ 4096 },
+    ghost whole: { IsBlock bytes.now },
     ghost keeps: { KeepsLayout bytes.now },
 }
 
 impl<'a> PageView<'a> {
-    ghost use Rattle.std.specs.Prelude.{◌≡◌, ◌≤◌, ◌<◌, length, IfOk, IfErr};
+    ghost use Rattle.std.specs.Prelude.{◌≡◌, ◌≤◌, ◌<◌, IfOk, IfErr};
     ghost use Rattle.node_page.specs.Fields.{level_at, coef_at, child_at};
     ghost use Rattle.node_page.specs.Layout.{KeepsLayout, IsFirstBad, HasDifferences};
 
     /// The page with these bytes, 4,096 of them. `BadPage` names the first field that breaks its rule.
     pub fn new(bytes: &'a [u8]) -> Result<PageView<'a>, BadPage>
-        requires whole { length bytes.now ≡ 4096 }
+        requires whole { IsBlock bytes.now }
         ensures bytes { IfOk result (λ view. view.bytes.now ≡ bytes.now) }
         ensures keeps { IfOk result (λ view. KeepsLayout bytes.now) }
         ensures bad { IfErr result (λ field. IsFirstBad field bytes.now) }
@@ -51,7 +52,7 @@ impl<'a> PageView<'a> {
 
     /// The page with these bytes, which were found to keep the layout.
     pub fn of(bytes: &'a [u8]) -> PageView<'a>
-        requires whole { length bytes.now ≡ 4096 }
+        requires whole { IsBlock bytes.now }
         requires keeps { KeepsLayout bytes.now }
         ensures bytes { result.bytes.now ≡ bytes.now }
     {

@@ -1,8 +1,10 @@
 //! The rules of the fields, each as a test.
-ghost use Rattle.std.specs.Prelude.{◌≡◌, ◌<◌, ◌↔◌, ℕ, length, slice_index, IsTrue};
+ghost use Rattle.std.specs.Prelude.{◌≡◌, ◌<◌, ◌↔◌, IsTrue};
+ghost use Rattle.block_disk.specs.Blocks.{IsBlock};
 ghost use Rattle.om3_coeff.specs.declared.coef.Coef.{Coef};
 ghost use Rattle.node_page.specs.Layout.{IsLevel, IsReserved, AreFlags, HasDifferences, AreDifferences, IsChild, AreChildren, has_value, side_of};
 
+use crate::byte_fields::are_zero;
 use crate::fields::{child_of, coef_of, is_set};
 use crate::layout::{END, FLAGS, GREATEST_DIFFERENCE, MOST_LEVELS};
 use om3_coeff::Coef;
@@ -10,27 +12,15 @@ use om3_coeff::Coef;
 /// Whether the page level is in range.
 #[tactic(auto, unfolding(crate::specs::Fields::level_at))]
 pub(crate) fn has_level(page: &[u8]) -> bool
-    requires whole { length page.now ≡ 4096 }
+    requires whole { IsBlock page.now }
     ensures { IsTrue result ↔ IsLevel page.now }
 {
     1 <= page[1] && page[1] <= MOST_LEVELS
 }
 
-/// Whether all bytes are 0.
-fn are_zero(bytes: &[u8]) -> bool
-    ensures { IsTrue result ↔ ((k : ℕ) → k < length bytes.now → slice_index bytes.now k ≡ 0) }
-{
-    for byte in bytes {
-        if *byte != 0 {
-            return false;
-        }
-    }
-    true
-}
-
 /// Whether the bytes of no field are 0.
 pub(crate) fn is_reserved(page: &[u8]) -> bool
-    requires whole { length page.now ≡ 4096 }
+    requires whole { IsBlock page.now }
     ensures { IsTrue result ↔ IsReserved page.now }
 {
     are_zero(&page[2..FLAGS]) && are_zero(&page[END..])
@@ -45,7 +35,7 @@ fn is_stored(coef: Coef) -> bool
 
 /// Whether the flags of each node agree with its parent's flag for it.
 pub(crate) fn are_flags(page: &[u8]) -> bool
-    requires whole { length page.now ≡ 4096 }
+    requires whole { IsBlock page.now }
     ensures { IsTrue result ↔ AreFlags page.now }
 {
     if !is_stored(coef_of(page, 0)) || is_set(page, 254) || is_set(page, 255) {
@@ -74,7 +64,7 @@ fn has_differences(coef: Coef) -> bool
 
 /// Whether the differences of all nodes are in range.
 pub(crate) fn are_differences(page: &[u8]) -> bool
-    requires whole { length page.now ≡ 4096 }
+    requires whole { IsBlock page.now }
     ensures { IsTrue result ↔ AreDifferences page.now }
 {
     for node in 0..127 {
@@ -98,7 +88,7 @@ fn side(coef: Coef, child: u8) -> bool
 
 /// Whether a child is there exactly where it has to be.
 fn is_child(page: &[u8], child: u8) -> bool
-    requires whole { length page.now ≡ 4096 }
+    requires whole { IsBlock page.now }
     requires child { child < 128 }
     requires level { IsLevel page.now }
     ensures { IsTrue result ↔ IsChild page.now child }
@@ -109,7 +99,7 @@ fn is_child(page: &[u8], child: u8) -> bool
 
 /// Whether all children are there exactly where they have to be.
 pub(crate) fn are_children(page: &[u8]) -> bool
-    requires whole { length page.now ≡ 4096 }
+    requires whole { IsBlock page.now }
     requires level { IsLevel page.now }
     ensures { IsTrue result ↔ AreChildren page.now }
 {

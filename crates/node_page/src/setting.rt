@@ -1,17 +1,19 @@
 //! The fields of a page, set.
-ghost use Rattle.std.specs.Prelude.{◌≡◌, ◌≢◌, ◌≤◌, ◌<◌, ◌+◌, ◌*◌, ◌⊎◌, ◌==◌, ℕ, length, slice_index};
+ghost use Rattle.std.specs.Prelude.{◌≡◌, ◌≢◌, ◌≤◌, ◌<◌, ◌+◌, ◌*◌, ◌⊎◌, ◌==◌, ℕ, slice_index};
 ghost use Rattle.std.specs.Int.{bit_at};
-ghost use Rattle.node_page.specs.Fields.{signed_at, flag_at, level_at, coef_at, child_at, with_bytes};
+ghost use Rattle.block_disk.specs.Blocks.{block_size, IsBlock};
+ghost use Rattle.node_page.specs.Fields.{signed_at, flag_at, level_at, coef_at, child_at};
 ghost use Rattle.node_page.specs.Layout.{IsKind};
 
+use crate::byte_fields::put;
 use crate::layout::{CHILDREN, DIFFERENCES, FLAGS, KIND};
 use om3_coeff::Coef;
 
 /// Makes a page of 4,096 bytes a tree page of this page level. All other bytes stay.
 #[tactic(auto, unfolding(crate::specs::Fields::level_at))]
 pub fn set_level(bytes: &mut [u8], level: u8)
-    requires whole { length bytes.old ≡ 4096 }
-    ensures whole { length bytes.new ≡ 4096 }
+    requires whole { IsBlock bytes.old }
+    ensures whole { IsBlock bytes.new }
     ensures kind { IsKind bytes.new }
     ensures level { level_at bytes.new ≡ level }
     ensures coefs { (n : ℕ) → n < 127 → coef_at bytes.new n ≡ coef_at bytes.old n }
@@ -37,8 +39,8 @@ fn with_bit(byte: u8, bit: u8, on: bool) -> u8
 
 /// Sets a flag.
 fn set_flag(bytes: &mut [u8], flag: u8, on: bool)
-    requires whole { length bytes.old ≡ 4096 }
-    ensures whole { length bytes.new ≡ 4096 }
+    requires whole { IsBlock bytes.old }
+    ensures whole { IsBlock bytes.new }
     ensures flag { flag_at bytes.new flag ≡ on }
     ensures others { (b : ℕ) → b < 256 → b ≢ flag → flag_at bytes.new b ≡ flag_at bytes.old b }
     ensures rest { (k : ℕ) → (k < 8) ⊎ (40 ≤ k) → slice_index bytes.new k ≡ slice_index bytes.old k }
@@ -47,19 +49,11 @@ fn set_flag(bytes: &mut [u8], flag: u8, on: bool)
     bytes[at] = with_bit(bytes[at], flag % 8, on);
 }
 
-/// Puts bytes in the place of those from an offset on.
-fn put(bytes: &mut [u8], offset: usize, from: &[u8])
-    requires within { offset + length from.now ≤ length bytes.old }
-    ensures { bytes.new ≡ with_bytes bytes.old offset from.now }
-{
-    bytes[offset..offset + from.len()].copy_from_slice(from);
-}
-
 /// Sets the signed number at an offset.
 fn set_difference(bytes: &mut [u8], offset: usize, difference: i64)
-    requires whole { length bytes.old ≡ 4096 }
-    requires within { offset + 8 ≤ 4096 }
-    ensures whole { length bytes.new ≡ 4096 }
+    requires whole { IsBlock bytes.old }
+    requires within { offset + 8 ≤ block_size }
+    ensures whole { IsBlock bytes.new }
     ensures set { signed_at bytes.new offset ≡ difference }
     ensures rest { (k : ℕ) → (k < offset) ⊎ (offset + 8 ≤ k) → slice_index bytes.new k ≡ slice_index bytes.old k }
 {
@@ -68,9 +62,9 @@ fn set_difference(bytes: &mut [u8], offset: usize, difference: i64)
 
 /// Sets the coefficient of a node, 0 to 126, in a page of 4,096 bytes. Nothing else changes.
 pub fn set_coef(bytes: &mut [u8], node: u8, coef: Coef)
-    requires whole { length bytes.old ≡ 4096 }
+    requires whole { IsBlock bytes.old }
     requires node { node < 127 }
-    ensures whole { length bytes.new ≡ 4096 }
+    ensures whole { IsBlock bytes.new }
     ensures coef { coef_at bytes.new node ≡ coef }
     ensures others { (n : ℕ) → n < 127 → n ≢ node → coef_at bytes.new n ≡ coef_at bytes.old n }
     ensures children { (c : ℕ) → c < 128 → child_at bytes.new c ≡ child_at bytes.old c }
@@ -86,9 +80,9 @@ pub fn set_coef(bytes: &mut [u8], node: u8, coef: Coef)
 
 /// Sets the page of a child, 0 to 127, in a page of 4,096 bytes. All bytes but its four stay.
 pub fn set_child(bytes: &mut [u8], child: u8, page: u32)
-    requires whole { length bytes.old ≡ 4096 }
+    requires whole { IsBlock bytes.old }
     requires child { child < 128 }
-    ensures whole { length bytes.new ≡ 4096 }
+    ensures whole { IsBlock bytes.new }
     ensures child { child_at bytes.new child ≡ page }
     ensures others { (c : ℕ) → c ≢ child → child_at bytes.new c ≡ child_at bytes.old c }
     ensures coefs { (n : ℕ) → n < 127 → coef_at bytes.new n ≡ coef_at bytes.old n }

@@ -8,7 +8,8 @@ use Rattle.om3_coeff.specs.declared.span.Span.{Span}
 use Rattle.om3_coeff.specs.declared.places.Place.{Place}
 use Rattle.om3_coeff.specs.declared.places.Place.TheVariants.{Outside, Within, Cut}
 use Rattle.om3_coeff.specs.Keys.{first_slot, end_slot, left_of, right_of, height, top_key}
-use Rattle.om3_coeff.specs.Spans.{IsValue, IsProper, IsProperIfAny, Holds, IsClear, AreExtremes, IsSpanOf, hull, span_over}
+use Rattle.om3_coeff.specs.Spans.{IsProper, IsProperIfAny, Holds, IsClear, AreExtremes, IsSpanOf, hull, span_over}
+use Rattle.whole_number.specs.Range.{IsValue}
 use Rattle.om3_coeff.specs.View.{NodesView, Agrees}
 use Rattle.om3_coeff.specs.Walks.{IsPlace, IsReached, IsFirstStored, IsLastStored, IsSlotIn, cut_keys, most_cut}
 use Rattle.om3_coeff.proofs.ExtremeLemmas.{span_over_is, none-clear}
@@ -228,7 +229,7 @@ found_left a b k left right l r s none found halves whole is in_right in_left fr
     (omega (arith, from, halves.first)) (omega (arith, to, halves.high))
 
 -- the reads of a walk that goes down to one slot
-no_cuts : (a b first end level : ℕ) → a ≤ first → end ≤ b → cut_keys a b first end level ≡ 0
+pub no_cuts : (a b first end level : ℕ) → a ≤ first → end ≤ b → cut_keys a b first end level ≡ 0
 unfolding cut_keys
 no_cuts a b first end level from to = grind (arith, nat_tests)
 

@@ -4,7 +4,8 @@ use Rattle.std.proofs.lemmas.Option.{same_Some}
 use Rattle.std.specs.Prelude.{Option, Some, None, IfSome, slice_get}
 use Rattle.std.specs.Int.{int_min, int_max}
 use Rattle.om3_coeff.specs.declared.span.Span.{Span}
-use Rattle.om3_coeff.specs.Spans.{IsValue, AreSlots, IsProperIfAny, Holds, IsClear, IsStored, IsSpanOf, hull, span_of_slot, span_of, span_over}
+use Rattle.om3_coeff.specs.Spans.{AreSlots, IsProperIfAny, Holds, IsClear, IsStored, IsSpanOf, hull, span_of_slot, span_of, span_over}
+use Rattle.whole_number.specs.Range.{IsValue}
 
 -- s has the least and the greatest value of a whole list
 record IsWhole (list : List (Option ℤ)) (s : Span) : Type 0 where

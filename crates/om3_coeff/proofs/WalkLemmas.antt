@@ -9,7 +9,8 @@ use Rattle.std.specs.Prelude.{Option, Some, None, slice_get}
 use Rattle.om3_coeff.specs.declared.key.Key.{Key}
 use Rattle.om3_coeff.specs.declared.span.Span.{Span}
 use Rattle.om3_coeff.specs.Keys.{first_slot, end_slot, left_of, right_of, height, top_key, IsKey, IsNode, IsAtOrAbove, IsOver}
-use Rattle.om3_coeff.specs.Spans.{IsValue, IsProperIfAny, AreExtremes, IsSpanOf, hull, span_of_slot, span_over, span}
+use Rattle.om3_coeff.specs.Spans.{IsProperIfAny, AreExtremes, IsSpanOf, hull, span_of_slot, span_over, span}
+use Rattle.whole_number.specs.Range.{IsValue}
 use Rattle.om3_coeff.specs.Known.{known}
 use Rattle.om3_coeff.specs.View.{NodesView, Agrees, known_of, StaysSame, MayAsk}
 use Rattle.om3_coeff.specs.declared.places.Place.TheVariants.{Outside, Within, Cut}
@@ -56,7 +57,7 @@ still_agrees old new list same agrees = record {
 }
 
 -- tree order
-over_weaker : (u w : Key) (last : Option Key) → IsAtOrAbove u w → IsOver w last → IsOver u last
+pub over_weaker : (u w : Key) (last : Option Key) → IsAtOrAbove u w → IsOver w last → IsOver u last
 over_weaker u w None above over = over
 over_weaker u w (Some k) above over = above_on u w k above over
 

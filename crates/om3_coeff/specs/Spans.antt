@@ -1,13 +1,10 @@
 -- What a list of slots stores in a range, and the least and the greatest of it.
-use Rattle.std.specs.Prelude.{ℕ, ℤ, ◌≡◌, ◌-◌, ◌^◌, ◌<◌, ◌≤◌, ◌≤ℤ◌, Bool, ◌&&◌, nat_le, int_le, unsigned_abs, List, [], ◌∷◌, take, drop, slice_get, Option, None, Some, IfSome}
+use Rattle.std.specs.Prelude.{ℕ, ℤ, ◌≡◌, ◌-◌, ◌<◌, ◌≤◌, ◌≤ℤ◌, Bool, ◌&&◌, int_le, List, [], ◌∷◌, take, drop, slice_get, Option, None, Some, IfSome}
 use Rattle.std.specs.Int.{int_min, int_max}
+use Rattle.whole_number.specs.Range.{IsValue, is_value}
 use Rattle.om3_coeff.specs.declared.key.Key.{Key}
 use Rattle.om3_coeff.specs.declared.span.Span.{Span}
 use Rattle.om3_coeff.specs.Keys.{first_slot, end_slot}
-
--- a value that a slot can hold
-abbrev pub IsValue : ℤ → Type 0
-IsValue v = unsigned_abs v ≤ 10 ^ 18
 
 -- the span is ordered, and its ends are values that a slot can hold
 pub record IsProper (s : Span) : Type 0 where
@@ -76,4 +73,4 @@ span list k = span_over list (first_slot k) (end_slot k)
 
 -- the same as IsProper, as a test
 unfoldable pub is_proper : Span → Bool
-is_proper s = int_le s.min s.max && nat_le (unsigned_abs s.min) (10 ^ 18) && nat_le (unsigned_abs s.max) (10 ^ 18)
+is_proper s = int_le s.min s.max && is_value s.min && is_value s.max

@@ -5,7 +5,8 @@ use Rattle.om3_coeff.specs.declared.span.Span.{Span}
 use Rattle.om3_coeff.specs.declared.places.Place.{Place}
 use Rattle.om3_coeff.specs.declared.places.Place.TheVariants.{Outside, Within, Cut}
 use Rattle.om3_coeff.specs.Keys.{first_slot, end_slot, height, IsKey, IsOver}
-use Rattle.om3_coeff.specs.Spans.{IsValue, IsProperIfAny, Holds, IsClear}
+use Rattle.om3_coeff.specs.Spans.{IsProperIfAny, Holds, IsClear}
+use Rattle.whole_number.specs.Range.{IsValue}
 use Rattle.om3_coeff.specs.View.{NodesView, known_of}
 
 -- the first stored slot from a on and below b with its value, or nothing where none is stored

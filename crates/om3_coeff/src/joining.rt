@@ -1,11 +1,13 @@
 ghost use Rattle.std.specs.Prelude.{◌≡◌, ◌↔◌, ◌&&◌, ◌+ℤ◌, ◌-ℤ◌, if◌then◌else◌, is_some, Option, Some, None, Ok, IfOk, IfSome, IsErr, IsTrue, OnErr};
 ghost use Rattle.om3_coeff.specs.declared.span.Span.{Span};
-ghost use Rattle.om3_coeff.specs.Spans.{hull, IsValue, IsProperIfAny, is_proper};
+ghost use Rattle.om3_coeff.specs.Spans.{hull, IsProperIfAny, is_proper};
+ghost use Rattle.whole_number.specs.Range.{IsValue};
 ghost use Rattle.om3_coeff.specs.Coefs.{coef_of, parts, proper_only, left_part, right_part, is_flat, IsBad};
 
 use crate::coef::Coef;
 use crate::errors::BadCoef;
 use crate::span::Span;
+use whole_number::limits::GREATEST_VALUE;
 
 /// The coefficient of a key whose halves have these spans, and the span of the key.
 pub fn join(left: Option<Span>, right: Option<Span>) -> (Coef, Option<Span>)
@@ -173,8 +175,6 @@ fn lowered_or_same(lower: bool, end: i64, by: i64) -> i128
     }
 }
 
-const GREATEST: u128 = 1_000_000_000_000_000_000;
-
 // The span with these ends, where it is ordered and in range.
 fn checked(min: i128, max: i128) -> Option<Span>
     ensures span { IfSome result (λ span. span ≡ record { min = min; max = max }) }
@@ -196,5 +196,7 @@ fn fits(min: i128, max: i128) -> bool
     ensures low { IsTrue result → IsValue min }
     ensures high { IsTrue result → IsValue max }
 {
-    min <= max && min.unsigned_abs() <= GREATEST && max.unsigned_abs() <= GREATEST
+    min <= max
+        && min.unsigned_abs() <= u128::from(GREATEST_VALUE)
+        && max.unsigned_abs() <= u128::from(GREATEST_VALUE)
 }

@@ -1,6 +1,7 @@
 ghost use Rattle.std.specs.Prelude.{◌≡◌, ℤ, ◌+◌, ◌*◌, ◌<◌, ◌≤◌, min, max, List, Option, Some, IfOk, IfErr, IfSome, OnOk, slice_get};
 ghost use Rattle.om3_coeff.specs.Keys.{first_slot, end_slot, height};
-ghost use Rattle.om3_coeff.specs.Spans.{IsValue, IsProperIfAny, span_of_slot, span_over};
+ghost use Rattle.om3_coeff.specs.Spans.{IsProperIfAny, span_of_slot, span_over};
+ghost use Rattle.whole_number.specs.Range.{IsValue};
 ghost use Rattle.om3_coeff.specs.View.{Agrees, HasCause, MayAsk};
 ghost use Rattle.om3_coeff.specs.Walks.{IsReached, StaysBelow, most_cut};
 

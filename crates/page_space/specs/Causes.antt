@@ -56,3 +56,7 @@ Uninitialized (Full needed have) old new = ⊥
 Uninitialized DiskFault old new = HasRisen old.faults new.faults
 Uninitialized (Damaged at) old new = ⊥
 Uninitialized NoMemory old new = Unit {0}
+
+-- the disk failed, or there was no memory
+abbrev pub IsOutside : SpaceError → Type 0
+IsOutside cause = (cause ≡ DiskFault) ⊎ (cause ≡ NoMemory)

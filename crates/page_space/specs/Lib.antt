@@ -5,3 +5,5 @@ pub mod Transactions
 pub mod Causes
 pub mod Opened
 pub mod Firsts
+pub mod Shown
+pub mod Changing

@@ -1,14 +1,15 @@
 //! Fields of a page.
 ghost use Rattle.std.specs.Prelude.{◌≡◌, ◌≤◌, ◌<◌, ◌+◌, ◌-◌, ◌^◌, ◌++◌, ◌↔◌, length, take, drop, replicate, IsTrue};
+ghost use Rattle.block_disk.specs.Blocks.{block_size, IsBlock};
 ghost use Rattle.page_space.specs.Layout.{word};
 
 use byteorder::{BigEndian, ByteOrder};
 
 /// Makes a page one that begins with these bytes and is zero behind them.
 pub(crate) fn start(page: &mut [u8], front: &[u8])
-    requires whole { length page.old ≡ 4096 }
-    requires few { length front.now ≤ 4096 }
-    ensures { page.new ≡ front.now ++ replicate (4096 - length front.now) 0 }
+    requires whole { IsBlock page.old }
+    requires few { length front.now ≤ block_size }
+    ensures { page.new ≡ front.now ++ replicate (block_size - length front.now) 0 }
 {
     page.fill(0);
     page[..front.len()].copy_from_slice(front);

@@ -1,5 +1,6 @@
 //! A page of the chain, written and read.
-ghost use Rattle.std.specs.Prelude.{◌≡◌, ◌<◌, ◌^◌, ◌↔◌, ℕ, length, IfSome, IfNone, IsTrue};
+ghost use Rattle.std.specs.Prelude.{◌≡◌, ◌<◌, ◌^◌, ◌↔◌, ℕ, IfSome, IfNone, IsTrue};
+ghost use Rattle.block_disk.specs.Blocks.{IsBlock};
 ghost use Rattle.page_space.specs.Layout.{freed_page, IsNext, Links};
 
 use crate::fields::{all_zero, put_word, start, word_at};
@@ -8,7 +9,7 @@ use crate::superblock::Superblock;
 
 /// Makes a page a page of the chain that names this next one.
 pub(crate) fn write_freed(page: &mut [u8], next: u32)
-    requires { length page.old ≡ 4096 }
+    requires { IsBlock page.old }
     ensures { page.new ≡ freed_page next }
 {
     start(page, &FREED);
@@ -17,7 +18,7 @@ pub(crate) fn write_freed(page: &mut [u8], next: u32)
 
 /// The page that a page of the chain names, where its other bytes are as they should be.
 fn named_by(page: &[u8]) -> Option<u32>
-    requires { length page.now ≡ 4096 }
+    requires { IsBlock page.now }
     ensures named { IfSome result (λ next. page.now ≡ freed_page next) }
     ensures small { IfSome result (λ next. next < 2 ^ 32) }
     ensures none { IfNone result ((next : ℕ) → page.now ≡ freed_page next → ⊥) }
@@ -34,7 +35,7 @@ fn named_by(page: &[u8]) -> Option<u32>
 
 /// The page behind the head of the chain, 0 for none, where the head keeps its layout.
 pub(crate) fn next_of(page: &[u8], superblock: &Superblock) -> Option<u32>
-    requires { length page.now ≡ 4096 }
+    requires { IsBlock page.now }
     ensures next { IfSome result (λ next. Links superblock.now next page.now) }
     ensures none { IfNone result ((next : ℕ) → Links superblock.now next page.now → ⊥) }
 {

@@ -1,5 +1,6 @@
 //! The pages of an empty store.
 ghost use Rattle.std.specs.Prelude.{◌≡◌, ℕ, length, IfOk, IfErr};
+ghost use Rattle.block_disk.specs.Blocks.{IsBlock};
 ghost use Rattle.gate_pages.specs.Batch.{page_in};
 ghost use Rattle.gate_pages.specs.Entries.{entries};
 ghost use Rattle.page_space.specs.Firsts.{first_pages};
@@ -15,7 +16,7 @@ use std::alloc::Global;
 
 /// Makes a page an empty page of the catalog.
 pub(crate) fn write_catalog(page: &mut [u8])
-    requires { length page.old ≡ 4096 }
+    requires { IsBlock page.old }
     ensures { page.new ≡ catalog_page }
 {
     start(page, &CATALOG);

@@ -1,12 +1,13 @@
 //! A space is made, and opened.
-ghost use Rattle.std.specs.Prelude.{◌≡◌, ◌≤◌, ◌⊎◌, ℕ, [], length, IfOk, IfErr, OnOk};
-ghost use Rattle.block_disk.specs.View.{View};
+ghost use Rattle.std.specs.Prelude.{◌≡◌, ◌≤◌, ℕ, [], IfOk, IfErr, OnOk};
+ghost use Rattle.block_disk.specs.Blocks.{IsBlock};
 ghost use Rattle.gate_pages.specs.Batch.{put_all};
 ghost use Rattle.gate_pages.specs.Pages.{Reads, Commits, GoesOn};
-ghost use Rattle.page_space.specs.Causes.{Unopened, Uninitialized};
+ghost use Rattle.page_space.specs.Causes.{Unopened, Uninitialized, IsOutside};
 ghost use Rattle.page_space.specs.Firsts.{first_pages, empty_over};
 ghost use Rattle.page_space.specs.Layout.{Keeps, IsSuperblock, empty_of};
 ghost use Rattle.page_space.specs.Opened.{pages_in};
+ghost use Rattle.page_space.specs.Shown as shown;
 ghost use Rattle.page_space.specs.Spaces.{Stands};
 ghost use Rattle.page_space.specs.declared.superblock.Superblock.{Superblock};
 ghost use Rattle.page_space.specs.declared.errors.SpaceError.{SpaceError};
@@ -33,13 +34,13 @@ impl<P: Pages> Space<P> {
         // whole or absent at every moment
         ensures commits { Commits (first_pages (P.view pages).size) (P.told pages) (P.told (pages_in result)) (P.view pages) (P.view (pages_in result)) }
         ensures goes_on { GoesOn (P.under pages) (P.under (pages_in result)) }
-        ensures done { IfOk result (λ space. P.told pages → (P.view space.pages).image ≡ put_all (first_pages (P.view pages).size) (P.view pages).image) }
-        ensures sound { IfOk result (λ space. (P.view space.pages).fit) }
-        ensures superblock { IfOk result (λ space. space.superblock ≡ empty_of (P.view pages).size) }
+        ensures done { IfOk result (λ space. P.told pages → shown.image space ≡ put_all (first_pages (P.view pages).size) (P.view pages).image) }
+        ensures sound { IfOk result (λ space. shown.IsSound space) }
+        ensures superblock { IfOk result (λ space. shown.numbers space ≡ empty_of (P.view pages).size) }
         // page 0 and the catalog, and behind them the pages from before: no page is in use there, and none is freed
         ensures first { (p : ℕ) → put_all (first_pages (P.view pages).size) (P.view pages).image p ≡ empty_over (P.view pages).size (P.view pages).image p }
         ensures empty { Stands (P.view pages).size (put_all (first_pages (P.view pages).size) (P.view pages).image) (empty_of (P.view pages).size) [] [] }
-        ensures stands { IfOk result (λ space. P.told pages → Stands (P.view pages).size (P.view space.pages).image space.superblock [] []) }
+        ensures stands { IfOk result (λ space. P.told pages → Stands (P.view pages).size (shown.image space) (shown.numbers space) [] []) }
     {
         match write_first(alloc, &mut pages) {
             Ok(superblock) => Ok(Space { pages, superblock }),
@@ -59,10 +60,10 @@ impl<P: Pages> Space<P> {
         ensures cause { IfErr result (λ back. Unopened back.cause (P.told pages) (P.view pages) (P.view back.value)) }
         ensures reads { Reads (P.told pages) (P.told (pages_in result)) (P.view pages) (P.view (pages_in result)) }
         ensures goes_on { GoesOn (P.under pages) (P.under (pages_in result)) }
-        ensures superblock { IfOk result (λ space. P.told pages → Keeps (P.view pages).size space.superblock ((P.view pages).image 0)) }
-        ensures only { IfOk result (λ space. P.told pages → (s : Superblock) → Keeps (P.view pages).size s ((P.view pages).image 0) → s ≡ space.superblock) }
+        ensures superblock { IfOk result (λ space. P.told pages → Keeps (P.view pages).size (shown.numbers space) ((P.view pages).image 0)) }
+        ensures only { IfOk result (λ space. P.told pages → (s : Superblock) → Keeps (P.view pages).size s ((P.view pages).image 0) → s ≡ shown.numbers space) }
         // where page 0 keeps its layout, the disk and the memory alone may fail
-        ensures a_store { P.told pages → (s : Superblock) → Keeps (P.view pages).size s ((P.view pages).image 0) → IfErr result (λ back. (back.cause ≡ SpaceError.DiskFault) ⊎ (back.cause ≡ SpaceError.NoMemory)) }
+        ensures a_store { P.told pages → (s : Superblock) → Keeps (P.view pages).size s ((P.view pages).image 0) → IfErr result (λ back. IsOutside back.cause) }
     {
         match read_first(alloc, &mut pages) {
             Ok(superblock) => Ok(Space { pages, superblock }),
@@ -111,7 +112,7 @@ fn read_first<P: Pages>(alloc: Global, pages: &mut P) -> Result<Superblock, Spac
 fn first_in<P: Pages>(pages: &mut P, page: &mut [u8]) -> Result<Superblock, SpaceError>
     requires sound { (P.view pages.old).fit }
     requires many { 62 ≤ (P.view pages.old).size }
-    requires whole { length page.old ≡ 4096 }
+    requires whole { IsBlock page.old }
     ensures cause { IfErr result (λ cause. Unopened cause (P.told pages.old) (P.view pages.old) (P.view pages.new)) }
     ensures reads { Reads (P.told pages.old) (P.told pages.new) (P.view pages.old) (P.view pages.new) }
     ensures goes_on { GoesOn (P.under pages.old) (P.under pages.new) }

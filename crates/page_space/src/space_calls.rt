@@ -1,11 +1,13 @@
 //! The calls of a space, but those that take a page.
-ghost use Rattle.std.specs.Prelude.{◌≡◌, ◌≢◌, ◌≤◌, ◌<◌, ◌+◌, ◌==◌, ◌↔◌, ℕ, List, Some, None, ◌∷◌, is_some, length, if◌then◌else◌, IfOk, OnOk, OnErr, IsOk, IsTrue};
+ghost use Rattle.std.specs.Prelude.{◌≡◌, ◌≢◌, ◌≤◌, ◌<◌, ◌+◌, ◌==◌, ◌↔◌, ℕ, List, Some, None, is_some, length, if◌then◌else◌, IfOk, OnOk, OnErr, IsOk, IsTrue};
+ghost use Rattle.block_disk.specs.Blocks.{IsBlock};
 ghost use Rattle.block_disk.specs.Counts.{HasRisen};
-ghost use Rattle.block_disk.specs.View.{View, Image};
-ghost use Rattle.gate_pages.specs.Pages.{Reads, Commits, GoesOn};
+ghost use Rattle.block_disk.specs.View.{Image};
+ghost use Rattle.page_space.specs.Changing.{StandsAs, KeepsStanding, KeepsStandingOff, Frees, StandsWith};
 ghost use Rattle.page_space.specs.Layout.{superblock_page, freed_page, IsGiven, in_use, with_head, with_series};
-ghost use Rattle.page_space.specs.Spaces.{times, Stands};
-ghost use Rattle.page_space.specs.Transactions.{held, held_page, left_by, HasRoom, OnlyFirst};
+ghost use Rattle.page_space.specs.Shown as shown;
+ghost use Rattle.page_space.specs.Spaces.{Stands};
+ghost use Rattle.page_space.specs.Transactions.{held, held_page, HasRoom, OnlyFirst};
 
 use crate::errors::NoMemory;
 use crate::freed_page::write_freed;
@@ -20,32 +22,32 @@ use std::alloc::Global;
 impl<P: Pages> Space<P> {
     /// The number of pages of the store. It never changes.
     pub fn total(&self) -> u32
-        ensures total { result ≡ self.now.superblock.total }
-        ensures within { (62 ≤ result) × (result ≤ (P.view self.now.pages).size) }
+        ensures total { result ≡ shown.total self.now }
+        ensures within { (62 ≤ result) × (result ≤ shown.count self.now) }
     {
         self.superblock.total
     }
 
     /// How many pages are in use, page 0 and the catalog among them.
     pub fn used(&self) -> u32
-        ensures used { result ≡ in_use self.now.superblock }
+        ensures used { result ≡ in_use (shown.numbers self.now) }
         // where the pages stand, page 0 and the catalog, and those behind it that are in use
-        ensures counts { (count : ℕ) (image : Image) (taken freed : List ℕ) → Stands count image self.now.superblock taken freed → result ≡ 17 + length taken }
+        ensures counts { (count : ℕ) (image : Image) (taken freed : List ℕ) → Stands count image (shown.numbers self.now) taken freed → result ≡ 17 + length taken }
     {
         self.superblock.used()
     }
 
     /// The first page that was never used.
     pub fn fresh(&self) -> u32
-        ensures fresh { result ≡ self.now.superblock.fresh }
-        ensures within { (17 ≤ result) × (result ≤ self.now.superblock.total) }
+        ensures fresh { result ≡ (shown.numbers self.now).fresh }
+        ensures within { (17 ≤ result) × (result ≤ shown.total self.now) }
     {
         self.superblock.fresh
     }
 
     /// How many series the catalog has.
     pub fn series(&self) -> u32
-        ensures series { result ≡ self.now.superblock.series }
+        ensures series { result ≡ (shown.numbers self.now).series }
         ensures most { result ≤ 512 }
     {
         self.superblock.series
@@ -53,14 +55,14 @@ impl<P: Pages> Space<P> {
 
     /// Whether more calls may be made. After a fault in a commit they may not.
     pub fn is_sound(&self) -> bool
-        ensures { IsTrue result ↔ (P.view self.now.pages).fit }
+        ensures { IsTrue result ↔ shown.IsSound self.now }
     {
         self.pages.is_sound()
     }
 
     /// Whether a transaction is over a store of as many pages. It is where it was begun over this space.
     pub fn fits(&self, txn: &Txn) -> bool
-        ensures { IsTrue result ↔ (txn.now.superblock.total ≡ self.now.superblock.total) }
+        ensures { IsTrue result ↔ (txn.now.superblock.total ≡ shown.total self.now) }
     {
         txn.superblock.total == self.superblock.total
     }
@@ -74,14 +76,14 @@ impl<P: Pages> Space<P> {
 
     /// Reads a page. After `DiskFault`, `out` may hold anything.
     pub fn get(&mut self, p: u32, out: &mut [u8]) -> Result<(), DiskFault>
-        requires sound { (P.view self.old.pages).fit }
-        requires p_in_total { p < self.old.superblock.total }
-        requires whole { length out.old ≡ 4096 }
-        ensures page { P.told self.old.pages → OnOk result (out.new ≡ (P.view self.old.pages).image p) }
-        ensures reads { Reads (P.told self.old.pages) (P.told self.new.pages) (P.view self.old.pages) (P.view self.new.pages) }
-        ensures goes_on { GoesOn (P.under self.old.pages) (P.under self.new.pages) }
-        ensures superblock { self.new.superblock ≡ self.old.superblock }
-        ensures cause { OnErr result (HasRisen (P.view self.old.pages).faults (P.view self.new.pages).faults) }
+        requires sound { shown.IsSound self.old }
+        requires p_in_total { p < shown.total self.old }
+        requires whole { IsBlock out.old }
+        ensures page { shown.IsTold self.old → OnOk result (out.new ≡ shown.image self.old p) }
+        ensures reads { shown.ReadsOne self.old self.new }
+        ensures goes_on { shown.TimeGoesOn self.old self.new }
+        ensures superblock { shown.numbers self.new ≡ shown.numbers self.old }
+        ensures cause { OnErr result (HasRisen (shown.view self.old).faults (shown.view self.new).faults) }
     {
         self.pages.get(p, out)
     }
@@ -89,27 +91,27 @@ impl<P: Pages> Space<P> {
     /// A transaction over the pages as they are. It holds page 0 alone.
     pub fn begin(&mut self, alloc: Global) -> Result<Txn, NoMemory>
         ensures same { self.new ≡ self.old }
-        ensures superblock { IfOk result (λ txn. txn.superblock ≡ self.old.superblock) }
+        ensures superblock { IfOk result (λ txn. txn.superblock ≡ shown.numbers self.old) }
         ensures len { IfOk result (λ txn. length (held txn) ≡ 1) }
-        ensures pages { IfOk result (λ txn. (p : ℕ) → held_page txn p ≡ (if p == 0 then Some (superblock_page self.old.superblock) else None)) }
-        ensures stands { IfOk result (λ txn. (count : ℕ) (image : Image) (taken freed : List ℕ) → Stands count image self.old.superblock taken freed → Stands count (left_by txn image) txn.superblock taken freed) }
+        ensures pages { IfOk result (λ txn. (p : ℕ) → held_page txn p ≡ (if p == 0 then Some (superblock_page (shown.numbers self.old)) else None)) }
+        ensures stands { IfOk result (λ txn. StandsAs (shown.numbers self.old) txn) }
         // it would leave the pages as they are
-        ensures left { IfOk result (λ txn. (P.view self.old.pages).fit → P.told self.old.pages → (p : ℕ) → left_by txn (P.view self.old.pages).image p ≡ (P.view self.old.pages).image p) }
+        ensures left { IfOk result (λ txn. shown.IsSound self.old → shown.IsTold self.old → (p : ℕ) → shown.left self.old txn p ≡ shown.image self.old p) }
     {
         Txn::new(alloc, self.superblock)
     }
 
     /// Reads a page as a transaction would leave it. One that it holds is read without the disk.
     pub fn read(&mut self, txn: &Txn, p: u32, out: &mut [u8]) -> Result<(), DiskFault>
-        requires sound { (P.view self.old.pages).fit }
-        requires p_in_total { p < self.old.superblock.total }
-        requires whole { length out.old ≡ 4096 }
-        ensures page { P.told self.old.pages → OnOk result (out.new ≡ left_by txn.now (P.view self.old.pages).image p) }
+        requires sound { shown.IsSound self.old }
+        requires p_in_total { p < shown.total self.old }
+        requires whole { IsBlock out.old }
+        ensures page { shown.IsTold self.old → OnOk result (out.new ≡ shown.left self.old txn.now p) }
         ensures held { IsTrue (is_some (held_page txn.now p)) → IsOk result × ((self.new ≡ self.old) × (held_page txn.now p ≡ Some out.new)) }
-        ensures reads { Reads (P.told self.old.pages) (P.told self.new.pages) (P.view self.old.pages) (P.view self.new.pages) }
-        ensures goes_on { GoesOn (P.under self.old.pages) (P.under self.new.pages) }
-        ensures superblock { self.new.superblock ≡ self.old.superblock }
-        ensures cause { OnErr result (HasRisen (P.view self.old.pages).faults (P.view self.new.pages).faults) }
+        ensures reads { shown.ReadsOne self.old self.new }
+        ensures goes_on { shown.TimeGoesOn self.old self.new }
+        ensures superblock { shown.numbers self.new ≡ shown.numbers self.old }
+        ensures cause { OnErr result (HasRisen (shown.view self.old).faults (shown.view self.new).faults) }
     {
         match txn.batch.get(p) {
             Some(page) => {
@@ -125,7 +127,7 @@ impl<P: Pages> Space<P> {
         requires few { n ≤ 512 }
         ensures superblock { txn.new.superblock ≡ with_series txn.old.superblock n }
         ensures pages { OnlyFirst txn.old txn.new }
-        ensures stands { (count : ℕ) (image : Image) (taken freed : List ℕ) → Stands count (left_by txn.old image) txn.old.superblock taken freed → Stands count (left_by txn.new image) txn.new.superblock taken freed }
+        ensures stands { KeepsStanding txn.old txn.new }
     {
         txn.settle(Superblock {
             series: n,
@@ -146,7 +148,7 @@ impl<P: Pages> Space<P> {
         ensures others { (number : ℕ) → 0 < number → number ≢ p → held_page txn.new number ≡ held_page txn.old number }
         ensures len { length (held txn.new) ≤ (if is_some (held_page txn.old p) then length (held txn.old) else length (held txn.old) + 1) }
         // where the page is in use, it is freed, and the others stay
-        ensures stands { (count : ℕ) (image : Image) (taken rest freed : List ℕ) → Stands count (left_by txn.old image) txn.old.superblock taken freed → ((q : ℕ) → times q taken ≡ times q (p ∷ rest)) → Stands count (left_by txn.new image) txn.new.superblock rest (p ∷ freed) }
+        ensures stands { Frees p txn.old txn.new }
     {
         let superblock = txn.superblock;
         if p < FIRST || p >= superblock.fresh || superblock.chain >= superblock.fresh - FIRST {
@@ -164,7 +166,7 @@ impl<P: Pages> Space<P> {
 
     /// Replaces a page other than page 0 in a transaction.
     pub fn put(&mut self, txn: &mut Txn, p: u32, bytes: &[u8])
-        requires whole { length bytes.now ≡ 4096 }
+        requires whole { IsBlock bytes.now }
         requires first { 1 ≤ p }
         requires below { p < txn.old.superblock.total }
         requires room { HasRoom txn.old p }
@@ -173,25 +175,25 @@ impl<P: Pages> Space<P> {
         ensures page { (number : ℕ) → held_page txn.new number ≡ (if number == p then Some bytes.now else held_page txn.old number) }
         ensures len { length (held txn.new) ≡ (if is_some (held_page txn.old p) then length (held txn.old) else length (held txn.old) + 1) }
         // which pages are in use and which are freed stays, where it is none of the freed ones
-        ensures stands { (count : ℕ) (image : Image) (taken freed : List ℕ) → Stands count (left_by txn.old image) txn.old.superblock taken freed → times p freed ≡ 0 → Stands count (left_by txn.new image) txn.new.superblock taken freed }
+        ensures stands { KeepsStandingOff p txn.old txn.new }
     {
         txn.put(p, bytes);
     }
 
     /// Commits a transaction. After `DiskFault` the pages aren't sound, and have to be opened again.
     pub fn commit(&mut self, txn: Txn) -> Result<(), DiskFault>
-        requires sound { (P.view self.old.pages).fit }
-        requires total { txn.superblock.total ≡ self.old.superblock.total }
+        requires sound { shown.IsSound self.old }
+        requires total { txn.superblock.total ≡ shown.total self.old }
         // whole or absent at every moment
-        ensures commits { Commits (held txn) (P.told self.old.pages) (P.told self.new.pages) (P.view self.old.pages) (P.view self.new.pages) }
-        ensures goes_on { GoesOn (P.under self.old.pages) (P.under self.new.pages) }
-        ensures done { P.told self.old.pages → OnOk result ((P.view self.new.pages).image ≡ left_by txn (P.view self.old.pages).image) }
-        ensures superblock { OnOk result (self.new.superblock ≡ txn.superblock) }
-        ensures stands { P.told self.old.pages → OnOk result ((count : ℕ) (taken freed : List ℕ) → Stands count (left_by txn (P.view self.old.pages).image) txn.superblock taken freed → Stands count (P.view self.new.pages).image self.new.superblock taken freed) }
-        ensures old_superblock { OnErr result (self.new.superblock ≡ self.old.superblock) }
-        ensures sound { OnOk result (P.view self.new.pages).fit }
-        ensures unsound { OnErr result ((P.view self.new.pages).fit → ⊥) }
-        ensures cause { OnErr result (HasRisen (P.view self.old.pages).faults (P.view self.new.pages).faults) }
+        ensures commits { shown.CommitsAll txn self.old self.new }
+        ensures goes_on { shown.TimeGoesOn self.old self.new }
+        ensures done { shown.IsTold self.old → OnOk result (shown.image self.new ≡ shown.left self.old txn) }
+        ensures superblock { OnOk result (shown.numbers self.new ≡ txn.superblock) }
+        ensures stands { shown.IsTold self.old → OnOk result (StandsWith (shown.left self.old txn) txn.superblock (shown.image self.new) (shown.numbers self.new)) }
+        ensures old_superblock { OnErr result (shown.numbers self.new ≡ shown.numbers self.old) }
+        ensures sound { OnOk result (shown.IsSound self.new) }
+        ensures unsound { OnErr result (shown.IsSound self.new → ⊥) }
+        ensures cause { OnErr result (HasRisen (shown.view self.old).faults (shown.view self.new).faults) }
     {
         self.pages.commit(&txn.batch)?;
         self.superblock = txn.superblock;

@@ -1,5 +1,6 @@
 //! Page 0, written and read.
 ghost use Rattle.std.specs.Prelude.{◌≡◌, ◌≤◌, ◌++◌, ◌↔◌, length, IfOk, IfErr, IfSome, IfNone, IsTrue};
+ghost use Rattle.block_disk.specs.Blocks.{IsBlock};
 ghost use Rattle.page_space.specs.Causes.{Unreadable};
 ghost use Rattle.page_space.specs.declared.superblock.Superblock.{Superblock};
 ghost use Rattle.page_space.specs.Layout.{magic, superblock_page, IsSuperblock, IsSmall, Keeps, empty_of, in_use};
@@ -54,7 +55,7 @@ impl Superblock {
 
     /// Makes a page the page 0 of these numbers.
     pub(crate) fn write(&self, page: &mut [u8])
-        requires { length page.old ≡ 4096 }
+        requires { IsBlock page.old }
         ensures { page.new ≡ superblock_page self.now }
     {
         start(page, &MAGIC);
@@ -92,7 +93,7 @@ impl Superblock {
 
 /// The numbers of a page 0 that keeps its layout, over so many pages.
 pub(crate) fn superblock_in(page: &[u8], count: u32) -> Result<Superblock, SpaceError>
-    requires { length page.now ≡ 4096 }
+    requires { IsBlock page.now }
     ensures keeps { IfOk result (λ s. Keeps count s page.now) }
     ensures only { IfOk result (λ s. (t : Superblock) → Keeps count t page.now → t ≡ s) }
     ensures cause { IfErr result (λ cause. Unreadable cause count page.now) }

@@ -1,11 +1,10 @@
 //! A page is taken.
-ghost use Rattle.std.specs.Prelude.{◌≡◌, ◌≢◌, ◌<◌, ◌+◌, ◌^◌, ◌∷◌, ℕ, List, drop, IfOk, IfErr, OnErr};
-ghost use Rattle.block_disk.specs.View.{View};
-ghost use Rattle.gate_pages.specs.Pages.{Reads, GoesOn};
-ghost use Rattle.page_space.specs.Causes.{Takes, FromFresh, Refuses};
+ghost use Rattle.std.specs.Prelude.{◌≡◌, ◌≢◌, ◌<◌, ◌+◌, ◌^◌, is_some, IsTrue, IfOk, IfErr, OnErr};
+ghost use Rattle.page_space.specs.Causes.{FromFresh};
+ghost use Rattle.page_space.specs.Changing.{TakesInto};
 ghost use Rattle.page_space.specs.Layout.{IsGiven, IsSuperblock, IsNext, IsFull, in_use, without_head};
-ghost use Rattle.page_space.specs.Spaces.{Stands};
-ghost use Rattle.page_space.specs.Transactions.{left_by, OnlyFirst};
+ghost use Rattle.page_space.specs.Shown as shown;
+ghost use Rattle.page_space.specs.Transactions.{held_page, OnlyFirst};
 ghost use Rattle.page_space.specs.declared.errors.SpaceError.{SpaceError};
 
 use crate::errors::SpaceError;
@@ -23,23 +22,25 @@ impl<P: Pages> Space<P> {
     /// needed, and the store has so many. `Damaged` where the head of the chain breaks its layout. After
     /// an error the transaction is as it was.
     pub fn alloc(&mut self, txn: &mut Txn) -> Result<u32, SpaceError>
-        requires sound { (P.view self.old.pages).fit }
-        requires total { txn.old.superblock.total ≡ self.old.superblock.total }
-        ensures takes { IfOk result (λ p. Takes (P.told self.old.pages) (left_by txn.old (P.view self.old.pages).image) txn.old.superblock txn.new.superblock p) }
-        ensures cause { IfErr result (λ cause. Refuses cause (P.told self.old.pages) (left_by txn.old (P.view self.old.pages).image) txn.old.superblock (P.view self.old.pages).faults (P.view self.new.pages).faults) }
+        requires sound { shown.IsSound self.old }
+        requires total { txn.old.superblock.total ≡ shown.total self.old }
+        ensures takes { IfOk result (λ p. shown.TakesPage self.old txn.old txn.new.superblock p) }
+        ensures cause { IfErr result (λ cause. shown.RefusesPage cause txn.old self.old self.new) }
         ensures given { IfOk result (λ p. IsGiven txn.new.superblock.fresh p) }
         ensures one_more { IfOk result (λ p. in_use txn.new.superblock ≡ in_use txn.old.superblock + 1) }
         ensures same_total { txn.new.superblock.total ≡ txn.old.superblock.total }
         ensures pages { OnlyFirst txn.old txn.new }
         ensures same { OnErr result (txn.new ≡ txn.old) }
-        ensures reads { Reads (P.told self.old.pages) (P.told self.new.pages) (P.view self.old.pages) (P.view self.new.pages) }
-        ensures goes_on { GoesOn (P.under self.old.pages) (P.under self.new.pages) }
-        ensures superblock { self.new.superblock ≡ self.old.superblock }
+        ensures reads { shown.ReadsOne self.old self.new }
+        ensures goes_on { shown.TimeGoesOn self.old self.new }
+        ensures superblock { shown.numbers self.new ≡ shown.numbers self.old }
+        // no block is read where the chain is empty, or the transaction holds its head: it freed that page
         ensures unread { txn.old.superblock.chain ≡ 0 → self.new ≡ self.old }
+        ensures freed { IsTrue (is_some (held_page txn.old txn.old.superblock.head)) → self.new ≡ self.old }
         // the page was not in use, and now it is
-        ensures stands { P.told self.old.pages → IfOk result (λ p. (count : ℕ) (taken freed : List ℕ) → Stands count (left_by txn.old (P.view self.old.pages).image) txn.old.superblock taken freed → Stands count (left_by txn.new (P.view self.old.pages).image) txn.new.superblock (p ∷ taken) (drop 1 freed)) }
+        ensures stands { shown.IsTold self.old → IfOk result (λ p. TakesInto (shown.image self.old) p txn.old txn.new) }
         // where the pages stand, none is damaged
-        ensures undamaged { P.told self.old.pages → (count page : ℕ) (taken freed : List ℕ) → Stands count (left_by txn.old (P.view self.old.pages).image) txn.old.superblock taken freed → IfErr result (λ cause. cause ≢ SpaceError.Damaged page) }
+        ensures undamaged { shown.ForStanding self.old txn.old (λ page. IfErr result (λ cause. cause ≢ SpaceError.Damaged page)) }
     {
         let (p, superblock) = self.next_free(txn)?;
         txn.settle(superblock);
@@ -48,14 +49,15 @@ impl<P: Pages> Space<P> {
 
     /// The page that is taken next, and the numbers of page 0 once it is.
     fn next_free(&mut self, txn: &Txn) -> Result<(u32, Superblock), SpaceError>
-        requires sound { (P.view self.old.pages).fit }
-        requires total { txn.now.superblock.total ≡ self.old.superblock.total }
-        ensures takes { IfOk result (λ found. Takes (P.told self.old.pages) (left_by txn.now (P.view self.old.pages).image) txn.now.superblock found.1 found.0) }
-        ensures cause { IfErr result (λ cause. Refuses cause (P.told self.old.pages) (left_by txn.now (P.view self.old.pages).image) txn.now.superblock (P.view self.old.pages).faults (P.view self.new.pages).faults) }
-        ensures reads { Reads (P.told self.old.pages) (P.told self.new.pages) (P.view self.old.pages) (P.view self.new.pages) }
-        ensures goes_on { GoesOn (P.under self.old.pages) (P.under self.new.pages) }
-        ensures superblock { self.new.superblock ≡ self.old.superblock }
+        requires sound { shown.IsSound self.old }
+        requires total { txn.now.superblock.total ≡ shown.total self.old }
+        ensures takes { IfOk result (λ found. shown.TakesPage self.old txn.now found.1 found.0) }
+        ensures cause { IfErr result (λ cause. shown.RefusesPage cause txn.now self.old self.new) }
+        ensures reads { shown.ReadsOne self.old self.new }
+        ensures goes_on { shown.TimeGoesOn self.old self.new }
+        ensures superblock { shown.numbers self.new ≡ shown.numbers self.old }
         ensures unread { txn.now.superblock.chain ≡ 0 → self.new ≡ self.old }
+        ensures freed { IsTrue (is_some (held_page txn.now txn.now.superblock.head)) → self.new ≡ self.old }
         ensures rules { IfOk result (λ found. IsSuperblock found.1.total found.1) }
         ensures same_total { IfOk result (λ found. found.1.total ≡ txn.now.superblock.total) }
         ensures small { IfOk result (λ found. (txn.now.superblock.fresh < 2 ^ 32) × (found.1.head < 2 ^ 32)) }

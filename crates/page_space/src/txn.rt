@@ -1,5 +1,6 @@
 //! A transaction.
-ghost use Rattle.std.specs.Prelude.{◌≡◌, ℕ, List, Some, length};
+ghost use Rattle.std.specs.Prelude.{◌≡◌, ℕ, List, Some};
+ghost use Rattle.block_disk.specs.Blocks.{IsBlock};
 ghost use Rattle.gate_pages.specs.Batch.{page_in, AllBelow};
 ghost use Rattle.gate_pages.specs.Entries.{entries};
 ghost use Rattle.page_space.specs.Layout.{superblock_page, IsSuperblock};
@@ -15,5 +16,5 @@ pub struct Txn {
     ghost rules: { IsSuperblock superblock.total superblock },
     ghost first: { page_in (entries batch) 0 ≡ Some (superblock_page superblock) },
     ghost below: { AllBelow superblock.total (entries batch) },
-    ghost whole: { (p : ℕ) (page : List ℕ) → page_in (entries batch) p ≡ Some page → length page ≡ 4096 },
+    ghost whole: { (p : ℕ) (page : List ℕ) → page_in (entries batch) p ≡ Some page → IsBlock page },
 }

@@ -1,5 +1,6 @@
 //! The calls of a transaction.
 ghost use Rattle.std.specs.Prelude.{◌≡◌, ◌≤◌, ◌<◌, ◌+◌, ◌==◌, ℕ, List, Some, None, is_some, length, if◌then◌else◌, IfOk};
+ghost use Rattle.block_disk.specs.Blocks.{IsBlock};
 ghost use Rattle.block_disk.specs.View.{Image};
 ghost use Rattle.page_space.specs.Layout.{superblock_page, IsSuperblock, in_use};
 ghost use Rattle.page_space.specs.Spaces.{Stands};
@@ -67,7 +68,7 @@ impl Txn {
 
     /// Keeps another page than page 0.
     pub(crate) fn put(&mut self, p: u32, bytes: &[u8])
-        requires whole { length bytes.now ≡ 4096 }
+        requires whole { IsBlock bytes.now }
         requires first { 1 ≤ p }
         requires below { p < self.old.superblock.total }
         requires room { HasRoom self.old p }

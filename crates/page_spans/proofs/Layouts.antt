@@ -5,7 +5,8 @@ use Rattle.std.proofs.lemmas.Bool.{eqb-true, eqb-false}
 use Rattle.std.specs.Prelude.{Option, None, Some, Result, Ok, Err, OnOk, is_some, IsSome}
 use Rattle.om3_coeff.specs.declared.span.Span.{Span}
 use Rattle.om3_coeff.specs.declared.coef.Coef.{Coef}
-use Rattle.om3_coeff.specs.Spans.{IsProperIfAny, IsValue, hull}
+use Rattle.om3_coeff.specs.Spans.{IsProperIfAny, hull}
+use Rattle.whole_number.specs.Range.{IsValue, IsTime}
 use Rattle.om3_coeff.specs.Coefs.{coef_of}
 use Rattle.node_page.specs.Fields.{flag_at, coef_at}
 use Rattle.node_page.specs.Layout.{AreFlags, AreDifferences, HasDifferences, has_value, has_child}
@@ -37,7 +38,7 @@ heap_flags spans page heap some even odd = record {
   spare_odd = odd;
 }
 
-apart : (a b : ℤ) → IsValue a → IsValue b → unsigned_abs (a -ℤ b) ≤ 2 * 10 ^ 18
+apart : (a b : ℤ) → IsValue a → IsValue b → IsTime (a -ℤ b)
 apart a b va vb = grind (arith, ints, va, vb)
 
 differences : (l r : Option Span) → IsProperIfAny l → IsProperIfAny r → HasDifferences (coef_of l r)

@@ -1,5 +1,6 @@
 //! The spans of a page's places.
-ghost use Rattle.std.specs.Prelude.{◌≡◌, ◌≢◌, ◌<◌, ◌≤◌, ◌+◌, ℕ, ℤ, false, List, length, Option, None, Some, is_some, IsSome, OnOk, OnErr, IfErr};
+ghost use Rattle.std.specs.Prelude.{◌≡◌, ◌≢◌, ◌<◌, ◌≤◌, ◌+◌, ℕ, ℤ, false, List, Option, None, Some, is_some, IsSome, OnOk, OnErr, IfErr};
+ghost use Rattle.block_disk.specs.Blocks.{IsBlock};
 ghost use Rattle.om3_coeff.specs.declared.key.Key.{Key};
 ghost use Rattle.om3_coeff.specs.declared.span.Span.{Span};
 ghost use Rattle.om3_coeff.specs.declared.coef.Coef.{Coef};
@@ -33,7 +34,7 @@ pub struct PageSpans {
 }
 
 impl Model for PageSpans {
-    ghost use Rattle.std.specs.Prelude.{◌≡◌, List, Option, length};
+    ghost use Rattle.std.specs.Prelude.{◌≡◌, List, Option};
     ghost use Rattle.om3_coeff.specs.declared.span.Span.{Span};
     ghost use Rattle.page_spans.specs.Heaps.{span_at, AreProper};
 
@@ -119,8 +120,8 @@ impl PageSpans {
     /// Joins the nodes' spans from the leaves, and writes all coefficients into a page of 4,096 bytes.
     /// The leaves stay, and so does all else in the page.
     pub fn gather(&mut self, bytes: &mut [u8])
-        requires whole { length bytes.old ≡ 4096 }
-        ensures whole { length bytes.new ≡ 4096 }
+        requires whole { IsBlock bytes.old }
+        ensures whole { IsBlock bytes.new }
         ensures heap { IsHeap (span_at self.new) (coef_at bytes.new) }
         ensures proper { AreProper (span_at self.new) }
         ensures leaves { (n : ℕ) → 127 ≤ n → span_at self.new n ≡ span_at self.old n }
@@ -138,11 +139,11 @@ impl PageSpans {
     /// Sets the span of one leaf, 0 to 127, of spans that agree with the page's coefficients, and joins
     /// the seven nodes above it. It answers what `set_leaf` and `gather` do.
     pub fn put_leaf(&mut self, bytes: &mut [u8], leaf: u8, leaf_span: Option<Span>)
-        requires whole { length bytes.old ≡ 4096 }
+        requires whole { IsBlock bytes.old }
         requires leaf { leaf < 128 }
         requires proper { IsProperIfAny leaf_span }
         requires heap { IsHeap (span_at self.old) (coef_at bytes.old) }
-        ensures whole { length bytes.new ≡ 4096 }
+        ensures whole { IsBlock bytes.new }
         ensures heap { IsHeap (span_at self.new) (coef_at bytes.new) }
         ensures proper { AreProper (span_at self.new) }
         ensures leaf { span_at self.new (127 + leaf) ≡ leaf_span }

@@ -7,7 +7,8 @@ use Rattle.std.proofs.Math.Nat.{pow-le-pow_right}
 use Rattle.block_disk.specs.View.{Image}
 use Rattle.om3_coeff.specs.declared.span.Span.{Span}
 use Rattle.om3_coeff.specs.Keys.{page_levels, first_slot, end_slot}
-use Rattle.om3_coeff.specs.Spans.{IsValue, span, span_over, span_of}
+use Rattle.om3_coeff.specs.Spans.{span, span_over, span_of}
+use Rattle.whole_number.specs.Range.{IsValue}
 use Rattle.om3_coeff.proofs.SpanLemmas.{span_over-all}
 use Rattle.om3_coeff.proofs.KeyLemmas.{height_covers, height_few, height_some}
 use Rattle.page_space.specs.Layout.{in_use}

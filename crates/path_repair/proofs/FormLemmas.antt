@@ -5,6 +5,7 @@ use Rattle.std.specs.Result.{is_err}
 use Rattle.std.specs.Int.{bit_at}
 use Rattle.std.proofs.lemmas.Bool.{cases_lt}
 use Rattle.std.proofs.lemmas.Bool.Decides.{eqb_tells}
+use Rattle.block_disk.specs.Blocks.{IsBlock}
 use Rattle.om3_coeff.specs.declared.span.Span.{Span}
 use Rattle.om3_coeff.specs.Spans.{span}
 use Rattle.node_page.specs.Fields.{level_at, child_at, flag_at}
@@ -14,7 +15,7 @@ use Rattle.tree_walk.specs.Trees.{top_of_page}
 use Rattle.page_spans.specs.Lists.{AreLeavesOf}
 use Rattle.path_repair.specs.Forms.{IsForm, AreTops}
 
-pub kept_form : (level total : ℕ) (page bytes : List ℕ) → page ≡ bytes → length bytes ≡ 4096 → KeepsLayout bytes → level_at page ≡ level → ((c : ℕ) → c < 128 → child_at page c < total) → IsForm level total bytes
+pub kept_form : (level total : ℕ) (page bytes : List ℕ) → page ≡ bytes → IsBlock bytes → KeepsLayout bytes → level_at page ≡ level → ((c : ℕ) → c < 128 → child_at page c < total) → IsForm level total bytes
 kept_form level total page bytes same whole keeps level_is below =
     let P : List ℕ → Type 0 = λ b. (c : ℕ) → c < 128 → child_at b c < total in
     record {
@@ -39,7 +40,7 @@ flag_same : (old new : List ℕ) (b : ℕ) → b < 256 → ((k : ℕ) → k < 20
 unfolding flag_at
 flag_same old new b small same = ap (λ byte. bit_at byte (b % 8) == 1) (same (8 + b / 8) (omega (arith, small)))
 
-pub set_form : (level total child page : ℕ) (old new : List ℕ) → length new ≡ 4096 → child_at new child ≡ page → ((c : ℕ) → c ≢ child → child_at new c ≡ child_at old c)
+pub set_form : (level total child page : ℕ) (old new : List ℕ) → IsBlock new → child_at new child ≡ page → ((c : ℕ) → c ≢ child → child_at new c ≡ child_at old c)
     → ((k : ℕ) → (k < 2072 + 4 * child) ⊎ (2076 + 4 * child ≤ k) → slice_index new k ≡ slice_index old k) → page < total → child < 128 → IsForm level total old → IsForm level total new
 unfolding level_at
 set_form level total child page old new whole here others rest below within form = record {
@@ -75,8 +76,8 @@ level_blank zeros level none rest k low high = rest k (omega (arith, low)) ∙ n
 pub start_child : (zeros level : List ℕ) → ((k : ℕ) → slice_index zeros k ≡ 0) → ((k : ℕ) → 2 ≤ k → slice_index level k ≡ slice_index zeros k) → (c : ℕ) → c < 128 → child_at level c ≡ 0
 start_child zeros level none rest c within = child_blank level (level_blank zeros level none rest) c within
 
-pub start_form : (level total page : ℕ) (zeros bytes new : List ℕ) → ((k : ℕ) → slice_index zeros k ≡ 0) → length bytes ≡ 4096 → IsKind bytes → level_at bytes ≡ level → ((k : ℕ) → 2 ≤ k → slice_index bytes k ≡ slice_index zeros k)
-    → length new ≡ 4096 → child_at new 0 ≡ page → ((c : ℕ) → c ≢ 0 → child_at new c ≡ child_at bytes c) → ((k : ℕ) → (k < 2072 + 4 * 0) ⊎ (2076 + 4 * 0 ≤ k) → slice_index new k ≡ slice_index bytes k) → page < total
+pub start_form : (level total page : ℕ) (zeros bytes new : List ℕ) → ((k : ℕ) → slice_index zeros k ≡ 0) → IsBlock bytes → IsKind bytes → level_at bytes ≡ level → ((k : ℕ) → 2 ≤ k → slice_index bytes k ≡ slice_index zeros k)
+    → IsBlock new → child_at new 0 ≡ page → ((c : ℕ) → c ≢ 0 → child_at new c ≡ child_at bytes c) → ((k : ℕ) → (k < 2072 + 4 * 0) ⊎ (2076 + 4 * 0 ≤ k) → slice_index new k ≡ slice_index bytes k) → page < total
     → IsForm level total new
 start_form level total page zeros bytes new none whole kind level_is rest whole' here others rest' below =
     set_form level total 0 page bytes new whole' here others rest' below (omega arith) (record {

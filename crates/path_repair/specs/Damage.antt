@@ -1,5 +1,5 @@
 -- Which page is damaged, and how. The pages are those that a transaction holds.
-use Rattle.std.specs.Prelude.{ℕ, zero, suc, ◌≡◌, ◌≢◌, ◌+◌, ◌<◌, ◌⊎◌, Option, None, Some, List}
+use Rattle.std.specs.Prelude.{ℕ, zero, suc, ◌≡◌, ◌≢◌, ◌+◌, ◌<◌, ◌≤◌, ◌⊎◌, Option, None, Some, List}
 use Rattle.block_disk.specs.View.{Image}
 use Rattle.om3_coeff.specs.declared.span.Span.{Span}
 use Rattle.node_page.specs.Fields.{level_at, coef_at, child_at}
@@ -48,29 +48,33 @@ IsBadAt image total level page top DiskFault = Unit {0}
 IsBadAt image total level page top (Damaged at) = (at ≡ page) × (IsUnfit total level (image page) ⊎ IsUnsplitPage top (image page))
 IsBadAt image total level page top NoMemory = ⊥
 
--- A page above, as it was read: it keeps its layout and is of this page level. Where it was ever in use, the
--- transaction holds it so.
-pub record IsAbove (image : Image) (fresh level page : ℕ) (bytes : List ℕ) : Type 0 where
+-- the page isn't one of those from fresh on and below last, which a change took from those that were never in use
+abbrev pub IsNoNew : ℕ → ℕ → ℕ → Type 0
+IsNoNew fresh last page = (page < fresh) ⊎ (last ≤ page)
+
+-- A page above, as it was read: it keeps its layout and is of this page level. The transaction holds it so, unless
+-- the change itself took it from those that were never in use.
+pub record IsAbove (image : Image) (fresh last level page : ℕ) (bytes : List ℕ) : Type 0 where
   pub some : page ≢ 0
   pub keeps : KeepsLayout bytes
   pub level_is : level_at bytes ≡ level
-  pub same : page < fresh → bytes ≡ image page
+  pub same : IsNoNew fresh last page → bytes ≡ image page
 
 -- of the tree below a page of this page level, the page itself first, this one is unfit for its place
-abbrev pub HasUnfit : Image → ℕ → ℕ → ℕ → ℕ → ℕ → Type 0
-HasUnfit image fresh total zero page at = ⊥
-HasUnfit image fresh total (suc level) page at =
+abbrev pub HasUnfit : Image → ℕ → ℕ → ℕ → ℕ → ℕ → ℕ → Type 0
+HasUnfit image fresh last total zero page at = ⊥
+HasUnfit image fresh last total (suc level) page at =
     ((page ≢ 0) × (at ≡ page) × IsUnfit total (suc level) (image page))
-    ⊎ ((bytes : List ℕ) × (child : ℕ) × IsAbove image fresh (suc level) page bytes × (child < 128) × HasUnfit image fresh total level (child_at bytes child) at)
+    ⊎ ((bytes : List ℕ) × (child : ℕ) × IsAbove image fresh last (suc level) page bytes × (child < 128) × HasUnfit image fresh last total level (child_at bytes child) at)
 
 -- of the tree below a page of this page level, whose top has this span, this one has a coefficient that doesn't
 -- split the span that those above it give
-abbrev pub HasUnsplit : Image → ℕ → ℕ → ℕ → Option Span → ℕ → Type 0
-HasUnsplit image fresh zero page top at = ⊥
-HasUnsplit image fresh (suc level) page top at =
+abbrev pub HasUnsplit : Image → ℕ → ℕ → ℕ → ℕ → Option Span → ℕ → Type 0
+HasUnsplit image fresh last zero page top at = ⊥
+HasUnsplit image fresh last (suc level) page top at =
     ((page ≢ 0) × (at ≡ page) × IsUnsplitPage top (image page))
-    ⊎ ((bytes : List ℕ) × (spans : ℕ → Option Span) × (child : ℕ) × IsAbove image fresh (suc level) page bytes × AreBelow top bytes spans × (child < 128)
-    × HasUnsplit image fresh level (child_at bytes child) (spans (127 + child)) at)
+    ⊎ ((bytes : List ℕ) × (spans : ℕ → Option Span) × (child : ℕ) × IsAbove image fresh last (suc level) page bytes × AreBelow top bytes spans × (child < 128)
+    × HasUnsplit image fresh last level (child_at bytes child) (spans (127 + child)) at)
 
 -- the page is the head of the chain, and breaks its layout
 pub record IsBadHead (image : Image) (s : Superblock) (at : ℕ) : Type 0 where
@@ -79,9 +83,9 @@ pub record IsBadHead (image : Image) (s : Superblock) (at : ℕ) : Type 0 where
   pub unlinked : (next : ℕ) → Links s next (image s.head) → ⊥
 
 -- The page is damaged: it is one of the tree below this page, and unfit for its place or its span, or it
--- is the head of the chain. Pages below fresh were in use before.
+-- is the head of the chain. Pages below fresh were in use before, and those from s.fresh on still aren't.
 abbrev pub IsDamaged : Image → ℕ → Superblock → ℕ → ℕ → Option Span → ℕ → Type 0
-IsDamaged image fresh s level page top at = HasUnfit image fresh s.total level page at ⊎ (HasUnsplit image fresh level page top at ⊎ IsBadHead image s at)
+IsDamaged image fresh s level page top at = HasUnfit image fresh s.fresh s.total level page at ⊎ (HasUnsplit image fresh s.fresh level page top at ⊎ IsBadHead image s at)
 
 -- which page `Damaged` names, where reads tell what the pages are
 abbrev pub IsDamage : Image → ℕ → Superblock → ℕ → ℕ → Option Span → RepairError → Type 0
@@ -94,7 +98,7 @@ IsDamage image fresh s level page top NoMemory = Unit {0}
 abbrev pub IsUnfitBelow : Image → ℕ → ℕ → ℕ → ℕ → RepairError → Type 0
 IsUnfitBelow image fresh total level page (Full needed have) = ⊥
 IsUnfitBelow image fresh total level page DiskFault = Unit {0}
-IsUnfitBelow image fresh total level page (Damaged at) = HasUnfit image fresh total level page at
+IsUnfitBelow image fresh total level page (Damaged at) = HasUnfit image fresh fresh total level page at
 IsUnfitBelow image fresh total level page NoMemory = ⊥
 
 -- which page `Damaged` names where one was to be taken

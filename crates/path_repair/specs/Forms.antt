@@ -1,5 +1,6 @@
 -- A page whose nodes and children are being changed.
 use Rattle.std.specs.Prelude.{ℕ, ℤ, ◌≡◌, ◌+◌, ◌*◌, ◌<◌, ◌≤◌, false, List, length, Option}
+use Rattle.block_disk.specs.Blocks.{IsBlock}
 use Rattle.om3_coeff.specs.declared.span.Span.{Span}
 use Rattle.om3_coeff.specs.Spans.{span}
 use Rattle.node_page.specs.Fields.{level_at, child_at, flag_at}
@@ -8,7 +9,7 @@ use Rattle.tree_walk.specs.Trees.{top_of_page}
 
 -- what a page of this page level has beside its nodes
 pub record IsForm (level total : ℕ) (bytes : List ℕ) : Type 0 where
-  pub whole : length bytes ≡ 4096
+  pub whole : IsBlock bytes
   pub kind : IsKind bytes
   pub level_is : level_at bytes ≡ level
   pub reserved : IsReserved bytes

@@ -9,25 +9,25 @@ use Rattle.page_space.specs.declared.superblock.Superblock.{Superblock}
 use Rattle.page_space.specs.Layout.{IsGiven}
 use Rattle.tree_walk.specs.declared.tree.Tree.{Tree}
 use Rattle.path_repair.specs.Costs.{is_new_root, touch}
-use Rattle.path_repair.specs.Damage.{AreBelow}
+use Rattle.path_repair.specs.Damage.{AreBelow, IsNoNew}
 
 -- the pages of the catalog, none of which is of the kind of a tree page, are what they were
 abbrev pub KeepsCatalog : Image → Image → Type 0
 KeepsCatalog before after = (p : ℕ) → 1 ≤ p → p < 17 → (IsKind (before p) → ⊥) → after p ≡ before p
 
--- a page of the catalog that is no tree page, or a tree page of a higher page level that was in use
-abbrev pub IsSpared : ℕ → ℕ → ℕ → List ℕ → Type 0
-IsSpared level fresh p page = ((p < 17) × (IsKind page → ⊥)) ⊎ ((p < fresh) × IsKind page × (level < level_at page))
+-- a page of the catalog that is no tree page, or a tree page of a higher page level that the change didn't take
+abbrev pub IsSpared : ℕ → ℕ → ℕ → ℕ → List ℕ → Type 0
+IsSpared level fresh last p page = ((p < 17) × (IsKind page → ⊥)) ⊎ (IsNoNew fresh last p × IsKind page × (level < level_at page))
 
 -- a change of a page of this page level and of those below it spares the pages of the catalog and those above
-abbrev pub Spares : ℕ → ℕ → Image → Image → Type 0
-Spares level fresh before after = (p : ℕ) → 1 ≤ p → IsSpared level fresh p (before p) → after p ≡ before p
+abbrev pub Spares : ℕ → ℕ → ℕ → Image → Image → Type 0
+Spares level fresh last before after = (p : ℕ) → 1 ≤ p → IsSpared level fresh last p (before p) → after p ≡ before p
 
 -- a page that may be put: it is a tree page of this page level, or it was taken from the chain or never in use
-abbrev pub IsOwn : Image → ℕ → ℕ → ℕ → Type 0
-IsOwn image fresh level number =
+abbrev pub IsOwn : Image → ℕ → ℕ → ℕ → ℕ → Type 0
+IsOwn image fresh last level number =
     (IsKind (image number) × (level_at (image number) ≡ level))
-    ⊎ ((17 ≤ number) × ((IsKind (image number) → ⊥) ⊎ (fresh ≤ number)))
+    ⊎ ((17 ≤ number) × ((IsKind (image number) → ⊥) ⊎ ((fresh ≤ number) × (number < last))))
 
 -- the page level of the root below which a place lies in a tree of this height
 unfoldable pub root_level : ℕ → ℕ → ℕ → ℕ

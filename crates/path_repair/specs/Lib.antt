@@ -7,3 +7,5 @@ pub mod Forms
 pub mod Edited
 pub mod Damage
 pub mod Keeping
+pub mod Edits
+pub mod Repairs

@@ -1,18 +1,14 @@
 //! The changes of a tree.
-ghost use Rattle.std.specs.Prelude.{◌≡◌, ◌≢◌, ◌<◌, ◌≤◌, ◌+◌, ◌-◌, ◌*◌, ◌^◌, ◌++◌, ℕ, ℤ, suc, [], ◌∷◌, max, Some, Option, List, length, slice_get, IfOk, IfErr, OnOk};
-ghost use Rattle.block_disk.specs.View.{View, Image};
+ghost use Rattle.std.specs.Prelude.{◌≡◌, ◌<◌, ◌≤◌, ◌+◌, ◌-◌, ◌*◌, ◌^◌, ℕ, ℤ, [], ◌∷◌, max, Some, length, slice_get, IfOk, IfErr};
 ghost use Rattle.om3_coeff.specs.Keys.{page_levels as levels_of};
-ghost use Rattle.om3_coeff.specs.Spans.{IsProperIfAny, IsValue};
-ghost use Rattle.page_space.specs.Spaces.{Stands};
-ghost use Rattle.page_space.specs.Transactions.{left_by, held};
-ghost use Rattle.tree_walk.specs.Trees.{StandsFor};
-ghost use Rattle.path_repair.specs.Changes.{IsEdited};
-ghost use Rattle.path_repair.specs.Costs.{touch};
-ghost use Rattle.path_repair.specs.Damage.{IsDamage};
-ghost use Rattle.path_repair.specs.Keeping.{KeepsCatalog, IsNewTree};
-ghost use Rattle.path_repair.specs.TreePages.{tree_pages};
-ghost use Rattle.path_repair.specs.Standing.{AreTold, Moved, IsCause};
-ghost use Rattle.path_repair.specs.Edited.{IsHeldTree, IsEditedTree, IsFullFor, IsErrorFor};
+ghost use Rattle.om3_coeff.specs.Spans.{IsProperIfAny};
+ghost use Rattle.whole_number.specs.Range.{IsValue};
+ghost use Rattle.page_space.specs.Shown as shown;
+ghost use Rattle.page_space.specs.Transactions.{held};
+ghost use Rattle.path_repair.specs.Edited.{IsErrorFor};
+ghost use Rattle.path_repair.specs.Edits.{edit_of, run_in, slot_in, grow_to, clear_in, passed, IsAfter, IsDamageOf, LeavesCatalog};
+ghost use Rattle.path_repair.specs.Keeping.{IsNewTree};
+ghost use Rattle.path_repair.specs.Repairs as repairs;
 ghost use Rattle.path_repair.specs.declared.errors.RepairError.{RepairError};
 
 use crate::change::{Place, Root, Slots};
@@ -40,9 +36,9 @@ fn fill<P: Pages>(
     values: &[Option<i64>],
     len: u64,
 ) -> Result<Tree, RepairError>
-    requires sound { (P.view space.old.pages).fit }
-    requires total { txn.old.superblock.total ≡ space.old.superblock.total }
-    requires root { tree.root < space.old.superblock.total }
+    requires sound { shown.IsSound space.old }
+    requires total { txn.old.superblock.total ≡ shown.total space.old }
+    requires root { tree.root < shown.total space.old }
     requires proper { IsProperIfAny tree.span }
     requires few { tree.slots ≤ 2 ^ 35 }
     requires few_new { len ≤ 2 ^ 35 }
@@ -50,18 +46,16 @@ fn fill<P: Pages>(
     requires fills { slots.end ≤ slots.first + length values.now }
     requires within { slots.end ≤ len }
     requires values { (i : ℕ) (value : ℤ) → slice_get values.now i ≡ Some (Some value) → IsValue value }
-    requires room { length (held txn.old) + touch slots.first slots.end (levels_of tree.slots) (levels_of len) 0 ≤ 64 }
-    ensures moved { Moved (touch slots.first slots.end (levels_of tree.slots) (levels_of tree.slots) 0 + touch slots.first slots.end (levels_of tree.slots) (levels_of len) 0) (touch slots.first slots.end (levels_of tree.slots) (levels_of len) 0) (P.told space.old.pages) (P.told space.new.pages) (P.view space.old.pages) (P.view space.new.pages) (P.under space.old.pages) (P.under space.new.pages) space.old.superblock space.new.superblock txn.old txn.new }
-    ensures cause { IfErr result (λ e. IsCause space.old.superblock.total e (P.view space.old.pages).faults (P.view space.new.pages).faults) }
-    ensures catalog { (base : Image) → AreTold (P.told space.old.pages) (P.view space.old.pages) base → KeepsCatalog (left_by txn.old base) (left_by txn.new base) }
+    requires room { length (held txn.old) + passed tree (edit_of slots.first slots.end len values.now) ≤ 64 }
+    ensures moved { repairs.Passes space.old space.new txn.old txn.new tree (edit_of slots.first slots.end len values.now) }
+    ensures cause { IfErr result (λ e. repairs.Explains e space.old space.new) }
+    ensures catalog { repairs.ForPages space.old (λ base. LeavesCatalog txn.old txn.new base) }
     ensures tree { IfOk result (λ new. IsNewTree len txn.new.superblock tree new) }
-    ensures damaged { (base : Image) → AreTold (P.told space.old.pages) (P.view space.old.pages) base → IfErr result (λ e. IsDamage (left_by txn.new base) txn.old.superblock.fresh txn.new.superblock (levels_of tree.slots) tree.root tree.span e) }
-    ensures edited { (base : Image) (count : ℕ) (list list' : List (Option ℤ)) (others : List ℕ) → AreTold (P.told space.old.pages) (P.view space.old.pages) base
-        → IsHeldTree count (left_by txn.old base) txn.old.superblock tree list others → IsEdited slots.first slots.end len values.now list list'
-        → IfOk result (λ new. IsEditedTree count (left_by txn.old base) (left_by txn.new base) txn.new.superblock new list' others) }
-    ensures errors { (base : Image) (count : ℕ) (list list' : List (Option ℤ)) (others : List ℕ) → AreTold (P.told space.old.pages) (P.view space.old.pages) base
-        → IsHeldTree count (left_by txn.old base) txn.old.superblock tree list others → IsEdited slots.first slots.end len values.now list list'
-        → IfErr result (λ e. IsErrorFor txn.old txn.new list list' e) }
+    ensures damaged { repairs.ForPages space.old (λ base. IfErr result (λ e. IsDamageOf txn.old txn.new base tree e)) }
+    ensures edited { repairs.ForEdit space.old txn.old tree (edit_of slots.first slots.end len values.now)
+        (λ base count list list' others. IfOk result (λ new. IsAfter txn.old txn.new base count new list' others)) }
+    ensures errors { repairs.ForEdit space.old txn.old tree (edit_of slots.first slots.end len values.now)
+        (λ base count list list' others. IfErr result (λ e. IsErrorFor txn.old txn.new list list' e)) }
 {
     let height = page_levels(tree.slots);
     let level = page_levels(len);
@@ -101,26 +95,22 @@ pub fn put_run<P: Pages>(
     slot: u64,
     values: &[Option<i64>],
 ) -> Result<Tree, RepairError>
-    requires sound { (P.view space.old.pages).fit }
-    requires total { txn.old.superblock.total ≡ space.old.superblock.total }
-    requires root { tree.root < space.old.superblock.total }
+    requires sound { shown.IsSound space.old }
+    requires total { txn.old.superblock.total ≡ shown.total space.old }
+    requires root { tree.root < shown.total space.old }
     requires proper { IsProperIfAny tree.span }
     requires few { tree.slots ≤ 2 ^ 35 }
     requires within { slot + length values.now ≤ 2 ^ 35 }
     requires values { (i : ℕ) (value : ℤ) → slice_get values.now i ≡ Some (Some value) → IsValue value }
-    requires room { length (held txn.old) + touch slot (slot + length values.now) (levels_of tree.slots) (levels_of (max tree.slots (slot + length values.now))) 0 ≤ 64 }
-    ensures moved { Moved (2 * touch slot (slot + length values.now) (levels_of tree.slots) (levels_of (max tree.slots (slot + length values.now))) 0) (touch slot (slot + length values.now) (levels_of tree.slots) (levels_of (max tree.slots (slot + length values.now))) 0) (P.told space.old.pages) (P.told space.new.pages) (P.view space.old.pages) (P.view space.new.pages) (P.under space.old.pages) (P.under space.new.pages) space.old.superblock space.new.superblock txn.old txn.new }
-    ensures cause { IfErr result (λ e. IsCause space.old.superblock.total e (P.view space.old.pages).faults (P.view space.new.pages).faults) }
-    ensures catalog { (base : Image) → AreTold (P.told space.old.pages) (P.view space.old.pages) base → KeepsCatalog (left_by txn.old base) (left_by txn.new base) }
+    requires room { length (held txn.old) + passed tree (run_in tree slot values.now) ≤ 64 }
+    ensures moved { repairs.Edits space.old space.new txn.old txn.new tree (run_in tree slot values.now) }
+    ensures cause { IfErr result (λ e. repairs.Explains e space.old space.new) }
+    ensures catalog { repairs.ForPages space.old (λ base. LeavesCatalog txn.old txn.new base) }
     ensures tree { IfOk result (λ new. IsNewTree (max tree.slots (slot + length values.now)) txn.new.superblock tree new) }
-    ensures damaged { (base : Image) → AreTold (P.told space.old.pages) (P.view space.old.pages) base → IfErr result (λ e. IsDamage (left_by txn.new base) txn.old.superblock.fresh txn.new.superblock (levels_of tree.slots) tree.root tree.span e) }
+    ensures damaged { repairs.ForPages space.old (λ base. IfErr result (λ e. IsDamageOf txn.old txn.new base tree e)) }
     ensures few_puts { length values.now ≤ 256 → length (held txn.new) ≤ length (held txn.old) + (30 + 2 * levels_of (max tree.slots (slot + length values.now))) }
-    ensures edited { (base : Image) (count : ℕ) (list list' : List (Option ℤ)) (others : List ℕ) → AreTold (P.told space.old.pages) (P.view space.old.pages) base
-        → IsHeldTree count (left_by txn.old base) txn.old.superblock tree list others → IsEdited slot (slot + length values.now) (max tree.slots (slot + length values.now)) values.now list list'
-        → IfOk result (λ new. IsEditedTree count (left_by txn.old base) (left_by txn.new base) txn.new.superblock new list' others) }
-    ensures errors { (base : Image) (count : ℕ) (list list' : List (Option ℤ)) (others : List ℕ) → AreTold (P.told space.old.pages) (P.view space.old.pages) base
-        → IsHeldTree count (left_by txn.old base) txn.old.superblock tree list others → IsEdited slot (slot + length values.now) (max tree.slots (slot + length values.now)) values.now list list'
-        → IfErr result (λ e. IsErrorFor txn.old txn.new list list' e) }
+    ensures edited { repairs.ForEdit space.old txn.old tree (run_in tree slot values.now) (λ base count list list' others. IfOk result (λ new. IsAfter txn.old txn.new base count new list' others)) }
+    ensures errors { repairs.ForEdit space.old txn.old tree (run_in tree slot values.now) (λ base count list list' others. IfErr result (λ e. IsErrorFor txn.old txn.new list list' e)) }
 {
     let end = slot + values.len() as u64;
     let slots = Slots { first: slot, end };
@@ -135,27 +125,23 @@ pub fn put_slot<P: Pages>(
     slot: u64,
     value: i64,
 ) -> Result<Tree, RepairError>
-    requires sound { (P.view space.old.pages).fit }
-    requires total { txn.old.superblock.total ≡ space.old.superblock.total }
-    requires root { tree.root < space.old.superblock.total }
+    requires sound { shown.IsSound space.old }
+    requires total { txn.old.superblock.total ≡ shown.total space.old }
+    requires root { tree.root < shown.total space.old }
     requires proper { IsProperIfAny tree.span }
     requires few { tree.slots ≤ 2 ^ 35 }
     requires within { slot < 2 ^ 35 }
     requires value { IsValue value }
-    requires room { length (held txn.old) + touch slot (slot + 1) (levels_of tree.slots) (levels_of (max tree.slots (slot + 1))) 0 ≤ 64 }
-    ensures moved { Moved (2 * touch slot (slot + 1) (levels_of tree.slots) (levels_of (max tree.slots (slot + 1))) 0) (touch slot (slot + 1) (levels_of tree.slots) (levels_of (max tree.slots (slot + 1))) 0) (P.told space.old.pages) (P.told space.new.pages) (P.view space.old.pages) (P.view space.new.pages) (P.under space.old.pages) (P.under space.new.pages) space.old.superblock space.new.superblock txn.old txn.new }
-    ensures cause { IfErr result (λ e. IsCause space.old.superblock.total e (P.view space.old.pages).faults (P.view space.new.pages).faults) }
-    ensures catalog { (base : Image) → AreTold (P.told space.old.pages) (P.view space.old.pages) base → KeepsCatalog (left_by txn.old base) (left_by txn.new base) }
+    requires room { length (held txn.old) + passed tree (slot_in tree slot value) ≤ 64 }
+    ensures moved { repairs.Edits space.old space.new txn.old txn.new tree (slot_in tree slot value) }
+    ensures cause { IfErr result (λ e. repairs.Explains e space.old space.new) }
+    ensures catalog { repairs.ForPages space.old (λ base. LeavesCatalog txn.old txn.new base) }
     ensures tree { IfOk result (λ new. IsNewTree (max tree.slots (slot + 1)) txn.new.superblock tree new) }
-    ensures damaged { (base : Image) → AreTold (P.told space.old.pages) (P.view space.old.pages) base → IfErr result (λ e. IsDamage (left_by txn.new base) txn.old.superblock.fresh txn.new.superblock (levels_of tree.slots) tree.root tree.span e) }
-    ensures few_reads { (P.view space.new.pages).reads ≤ (P.view space.old.pages).reads + 2 * levels_of (max tree.slots (slot + 1)) }
+    ensures damaged { repairs.ForPages space.old (λ base. IfErr result (λ e. IsDamageOf txn.old txn.new base tree e)) }
+    ensures few_reads { (shown.view space.new).reads ≤ (shown.view space.old).reads + 2 * levels_of (max tree.slots (slot + 1)) }
     ensures few_puts { length (held txn.new) ≤ length (held txn.old) + 2 * levels_of (max tree.slots (slot + 1)) }
-    ensures edited { (base : Image) (count : ℕ) (list list' : List (Option ℤ)) (others : List ℕ) → AreTold (P.told space.old.pages) (P.view space.old.pages) base
-        → IsHeldTree count (left_by txn.old base) txn.old.superblock tree list others → IsEdited slot (slot + 1) (max tree.slots (slot + 1)) (Some value ∷ []) list list'
-        → IfOk result (λ new. IsEditedTree count (left_by txn.old base) (left_by txn.new base) txn.new.superblock new list' others) }
-    ensures errors { (base : Image) (count : ℕ) (list list' : List (Option ℤ)) (others : List ℕ) → AreTold (P.told space.old.pages) (P.view space.old.pages) base
-        → IsHeldTree count (left_by txn.old base) txn.old.superblock tree list others → IsEdited slot (slot + 1) (max tree.slots (slot + 1)) (Some value ∷ []) list list'
-        → IfErr result (λ e. IsErrorFor txn.old txn.new list list' e) }
+    ensures edited { repairs.ForEdit space.old txn.old tree (slot_in tree slot value) (λ base count list list' others. IfOk result (λ new. IsAfter txn.old txn.new base count new list' others)) }
+    ensures errors { repairs.ForEdit space.old txn.old tree (slot_in tree slot value) (λ base count list list' others. IfErr result (λ e. IsErrorFor txn.old txn.new list list' e)) }
 {
     let end = slot + 1;
     let slots = Slots { first: slot, end };
@@ -170,26 +156,22 @@ pub fn grow<P: Pages>(
     tree: Tree,
     slots: u64,
 ) -> Result<Tree, RepairError>
-    requires sound { (P.view space.old.pages).fit }
-    requires total { txn.old.superblock.total ≡ space.old.superblock.total }
-    requires root { tree.root < space.old.superblock.total }
+    requires sound { shown.IsSound space.old }
+    requires total { txn.old.superblock.total ≡ shown.total space.old }
+    requires root { tree.root < shown.total space.old }
     requires proper { IsProperIfAny tree.span }
     requires few { tree.slots ≤ 2 ^ 35 }
     requires within { slots ≤ 2 ^ 35 }
     requires longer { tree.slots ≤ slots }
-    requires room { length (held txn.old) + touch 0 0 (levels_of tree.slots) (levels_of slots) 0 ≤ 64 }
-    ensures moved { Moved (2 * touch 0 0 (levels_of tree.slots) (levels_of slots) 0) (touch 0 0 (levels_of tree.slots) (levels_of slots) 0) (P.told space.old.pages) (P.told space.new.pages) (P.view space.old.pages) (P.view space.new.pages) (P.under space.old.pages) (P.under space.new.pages) space.old.superblock space.new.superblock txn.old txn.new }
-    ensures cause { IfErr result (λ e. IsCause space.old.superblock.total e (P.view space.old.pages).faults (P.view space.new.pages).faults) }
-    ensures catalog { (base : Image) → AreTold (P.told space.old.pages) (P.view space.old.pages) base → KeepsCatalog (left_by txn.old base) (left_by txn.new base) }
+    requires room { length (held txn.old) + passed tree (grow_to slots) ≤ 64 }
+    ensures moved { repairs.Edits space.old space.new txn.old txn.new tree (grow_to slots) }
+    ensures cause { IfErr result (λ e. repairs.Explains e space.old space.new) }
+    ensures catalog { repairs.ForPages space.old (λ base. LeavesCatalog txn.old txn.new base) }
     ensures tree { IfOk result (λ new. IsNewTree slots txn.new.superblock tree new) }
-    ensures damaged { (base : Image) → AreTold (P.told space.old.pages) (P.view space.old.pages) base → IfErr result (λ e. IsDamage (left_by txn.new base) txn.old.superblock.fresh txn.new.superblock (levels_of tree.slots) tree.root tree.span e) }
+    ensures damaged { repairs.ForPages space.old (λ base. IfErr result (λ e. IsDamageOf txn.old txn.new base tree e)) }
     ensures few_puts { length (held txn.new) ≤ length (held txn.old) + (levels_of slots - levels_of tree.slots) }
-    ensures edited { (base : Image) (count : ℕ) (list list' : List (Option ℤ)) (others : List ℕ) → AreTold (P.told space.old.pages) (P.view space.old.pages) base
-        → IsHeldTree count (left_by txn.old base) txn.old.superblock tree list others → IsEdited 0 0 slots [] list list'
-        → IfOk result (λ new. IsEditedTree count (left_by txn.old base) (left_by txn.new base) txn.new.superblock new list' others) }
-    ensures errors { (base : Image) (count : ℕ) (list list' : List (Option ℤ)) (others : List ℕ) → AreTold (P.told space.old.pages) (P.view space.old.pages) base
-        → IsHeldTree count (left_by txn.old base) txn.old.superblock tree list others → IsEdited 0 0 slots [] list list'
-        → IfErr result (λ e. IsErrorFor txn.old txn.new list list' e) }
+    ensures edited { repairs.ForEdit space.old txn.old tree (grow_to slots) (λ base count list list' others. IfOk result (λ new. IsAfter txn.old txn.new base count new list' others)) }
+    ensures errors { repairs.ForEdit space.old txn.old tree (grow_to slots) (λ base count list list' others. IfErr result (λ e. IsErrorFor txn.old txn.new list list' e)) }
 {
     fill(space, txn, tree, Slots { first: 0, end: 0 }, &[], slots)
 }
@@ -203,25 +185,21 @@ pub fn clear_run<P: Pages>(
     slot: u64,
     count: u64,
 ) -> Result<Tree, RepairError>
-    requires sound { (P.view space.old.pages).fit }
-    requires total { txn.old.superblock.total ≡ space.old.superblock.total }
-    requires root { tree.root < space.old.superblock.total }
+    requires sound { shown.IsSound space.old }
+    requires total { txn.old.superblock.total ≡ shown.total space.old }
+    requires root { tree.root < shown.total space.old }
     requires proper { IsProperIfAny tree.span }
     requires few { tree.slots ≤ 2 ^ 35 }
     requires within { slot + count ≤ 2 ^ 35 }
-    requires room { length (held txn.old) + touch slot (slot + count) (levels_of tree.slots) (levels_of tree.slots) 0 ≤ 64 }
-    ensures moved { Moved (1 * touch slot (slot + count) (levels_of tree.slots) (levels_of tree.slots) 0) (touch slot (slot + count) (levels_of tree.slots) (levels_of tree.slots) 0) (P.told space.old.pages) (P.told space.new.pages) (P.view space.old.pages) (P.view space.new.pages) (P.under space.old.pages) (P.under space.new.pages) space.old.superblock space.new.superblock txn.old txn.new }
-    ensures cause { IfErr result (λ e. IsCause space.old.superblock.total e (P.view space.old.pages).faults (P.view space.new.pages).faults) }
-    ensures catalog { (base : Image) → AreTold (P.told space.old.pages) (P.view space.old.pages) base → KeepsCatalog (left_by txn.old base) (left_by txn.new base) }
+    requires room { length (held txn.old) + passed tree (clear_in tree slot count) ≤ 64 }
+    ensures moved { repairs.Moves (1 * passed tree (clear_in tree slot count)) (passed tree (clear_in tree slot count)) space.old space.new txn.old txn.new }
+    ensures cause { IfErr result (λ e. repairs.Explains e space.old space.new) }
+    ensures catalog { repairs.ForPages space.old (λ base. LeavesCatalog txn.old txn.new base) }
     ensures tree { IfOk result (λ new. IsNewTree tree.slots txn.new.superblock tree new) }
-    ensures damaged { (base : Image) → AreTold (P.told space.old.pages) (P.view space.old.pages) base → IfErr result (λ e. IsDamage (left_by txn.new base) txn.old.superblock.fresh txn.new.superblock (levels_of tree.slots) tree.root tree.span e) }
+    ensures damaged { repairs.ForPages space.old (λ base. IfErr result (λ e. IsDamageOf txn.old txn.new base tree e)) }
     ensures few_puts { count ≤ 4096 → length (held txn.new) ≤ length (held txn.old) + (30 + 2 * levels_of tree.slots) }
-    ensures edited { (base : Image) (size : ℕ) (list list' : List (Option ℤ)) (others : List ℕ) → AreTold (P.told space.old.pages) (P.view space.old.pages) base
-        → IsHeldTree size (left_by txn.old base) txn.old.superblock tree list others → IsEdited slot (slot + count) tree.slots [] list list'
-        → IfOk result (λ new. IsEditedTree size (left_by txn.old base) (left_by txn.new base) txn.new.superblock new list' others) }
-    ensures errors { (base : Image) (size : ℕ) (list list' : List (Option ℤ)) (others : List ℕ) → AreTold (P.told space.old.pages) (P.view space.old.pages) base
-        → IsHeldTree size (left_by txn.old base) txn.old.superblock tree list others → IsEdited slot (slot + count) tree.slots [] list list'
-        → IfErr result (λ e. e ≡ RepairError.DiskFault) }
+    ensures edited { repairs.ForEdit space.old txn.old tree (clear_in tree slot count) (λ base size list list' others. IfOk result (λ new. IsAfter txn.old txn.new base size new list' others)) }
+    ensures errors { repairs.ForEdit space.old txn.old tree (clear_in tree slot count) (λ base size list list' others. IfErr result (λ e. e ≡ RepairError.DiskFault)) }
 {
     let levels = page_levels(tree.slots);
     let at = Place {

@@ -1,12 +1,14 @@
 //! A page that was changed is put, or given back where nothing is stored below it.
-ghost use Rattle.std.specs.Prelude.{◌≡◌, ◌≢◌, ◌<◌, ◌≤◌, ◌+◌, ◌^◌, ◌⊎◌, ℕ, ℤ, suc, Some, Option, List, length, IsTrue, IsSome};
-ghost use Rattle.block_disk.specs.View.{View, Image};
+ghost use Rattle.std.specs.Prelude.{◌≡◌, ◌≢◌, ◌<◌, ◌≤◌, ◌+◌, ◌⊎◌, ℕ, ℤ, suc, Option, List, length};
+ghost use Rattle.block_disk.specs.View.{Image};
 ghost use Rattle.om3_coeff.specs.Spans.{IsProperIfAny, AreSlots};
 ghost use Rattle.page_space.specs.Transactions.{left_by, held, held_page};
 ghost use Rattle.page_spans.specs.Heaps.{span_at};
 ghost use Rattle.path_repair.specs.Forms.{IsForm};
 ghost use Rattle.path_repair.specs.Keeping.{IsMatched};
-ghost use Rattle.path_repair.specs.Standing.{Moved, IsPartWay, IsRepaired};
+ghost use Rattle.page_space.specs.Shown as shown;
+ghost use Rattle.path_repair.specs.Repairs as repairs;
+ghost use Rattle.path_repair.specs.Standing.{IsPartWay, IsRepaired};
 
 use crate::change::{Place, Root};
 use gate_pages::Pages;
@@ -22,15 +24,15 @@ pub(crate) fn close_page<P: Pages>(
     bytes: &mut [u8],
     spans: &mut PageSpans,
 ) -> Root
-    requires total { txn.old.superblock.total ≡ space.old.superblock.total }
+    requires total { txn.old.superblock.total ≡ shown.total space.old }
     requires level { (1 ≤ at.level) × (at.level ≤ 5) }
     requires first { 1 ≤ number }
-    requires below { number < space.old.superblock.total }
-    requires form { IsForm at.level space.old.superblock.total bytes.old }
+    requires below { number < shown.total space.old }
+    requires form { IsForm at.level (shown.total space.old) bytes.old }
     requires room { length (held txn.old) < 64 }
-    ensures moved { Moved 0 1 (P.told space.old.pages) (P.told space.new.pages) (P.view space.old.pages) (P.view space.new.pages) (P.under space.old.pages) (P.under space.new.pages) space.old.superblock space.new.superblock txn.old txn.new }
+    ensures moved { repairs.Moves 0 1 space.old space.new txn.old txn.new }
     ensures same { space.new ≡ space.old }
-    ensures page { result.page < space.old.superblock.total }
+    ensures page { result.page < shown.total space.old }
     ensures proper { IsProperIfAny result.span }
     ensures root { (result.page ≡ 0) ⊎ (result.page ≡ number) }
     ensures matched { IsMatched result.page result.span }

@@ -22,3 +22,4 @@ mod repairing;
 
 pub use calls::{clear_run, grow, put_run, put_slot};
 pub use errors::RepairError;
+pub use reading::names_within;

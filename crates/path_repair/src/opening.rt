@@ -1,17 +1,20 @@
 //! A page is opened to be changed: it is read, or a new one is taken.
-ghost use Rattle.std.specs.Prelude.{◌≡◌, ◌≢◌, ◌<◌, ◌≤◌, ◌+◌, ◌^◌, ◌⊎◌, ℕ, ℤ, suc, Some, Option, List, None, true, false, length, slice_index, IsTrue, IsSome, IsOk, IfOk, IfErr, OnOk};
-ghost use Rattle.block_disk.specs.View.{View, Image};
+ghost use Rattle.std.specs.Prelude.{◌≡◌, ◌<◌, ◌≤◌, ◌+◌, ◌⊎◌, ℕ, ℤ, suc, Option, List, None, true, length, slice_index, IfOk, IfErr, OnOk};
+ghost use Rattle.block_disk.specs.Blocks.{IsBlock};
+ghost use Rattle.block_disk.specs.View.{Image};
 ghost use Rattle.om3_coeff.specs.Spans.{IsProperIfAny, AreSlots};
 ghost use Rattle.node_page.specs.Fields.{child_at};
-ghost use Rattle.page_space.specs.Spaces.{Stands};
 ghost use Rattle.page_space.specs.Layout.{IsGiven};
-ghost use Rattle.page_space.specs.Transactions.{left_by, held, OnlyFirst};
+ghost use Rattle.page_space.specs.Transactions.{left_by, OnlyFirst};
 ghost use Rattle.page_spans.specs.Heaps.{span_at};
 ghost use Rattle.path_repair.specs.Forms.{IsForm};
 ghost use Rattle.path_repair.specs.TreePages.{is_stored};
-ghost use Rattle.path_repair.specs.Standing.{AreTold, Moved, IsCause, IsPlaced, IsPartWay, SameOn, IsTaken};
-ghost use Rattle.path_repair.specs.Damage.{IsDamage, IsHeadCause};
-ghost use Rattle.path_repair.specs.Keeping.{IsOwn, IsOpened, IsAsTold, root_level};
+ghost use Rattle.path_repair.specs.Standing.{AreTold, IsPlaced, IsPartWay, IsTaken};
+ghost use Rattle.path_repair.specs.Damage.{IsHeadCause};
+ghost use Rattle.path_repair.specs.Keeping.{IsOwn, IsOpened, IsAsTold};
+ghost use Rattle.page_space.specs.Shown as shown;
+ghost use Rattle.path_repair.specs.Edits.{IsDamageAt};
+ghost use Rattle.path_repair.specs.Repairs as repairs;
 ghost use Rattle.path_repair.specs.declared.errors.RepairError.{RepairError};
 
 use crate::change::{Place, Root};
@@ -24,19 +27,18 @@ use page_spans::PageSpans;
 
 /// Takes a page.
 fn take<P: Pages>(space: &mut Space<P>, txn: &mut Txn) -> Result<u32, RepairError>
-    requires sound { (P.view space.old.pages).fit }
-    requires total { txn.old.superblock.total ≡ space.old.superblock.total }
-    ensures moved { Moved 1 0 (P.told space.old.pages) (P.told space.new.pages) (P.view space.old.pages) (P.view space.new.pages) (P.under space.old.pages) (P.under space.new.pages) space.old.superblock space.new.superblock txn.old txn.new }
-    ensures cause { IfErr result (λ e. IsCause space.old.superblock.total e (P.view space.old.pages).faults (P.view space.new.pages).faults) }
+    requires sound { shown.IsSound space.old }
+    requires total { txn.old.superblock.total ≡ shown.total space.old }
+    ensures moved { repairs.Moves 1 0 space.old space.new txn.old txn.new }
+    ensures cause { IfErr result (λ e. repairs.Explains e space.old space.new) }
     ensures given { IfOk result (λ p. (1 ≤ p) × (p < txn.new.superblock.total)) }
     ensures first { OnlyFirst txn.old txn.new }
     ensures behind { IfOk result (λ p. IsGiven txn.new.superblock.fresh p) }
-    ensures own { (base : Image) (level : ℕ) → AreTold (P.told space.old.pages) (P.view space.old.pages) base → IfOk result (λ p. IsOwn (left_by txn.old base) txn.old.superblock.fresh level p) }
-    ensures head { (base : Image) → AreTold (P.told space.old.pages) (P.view space.old.pages) base → IfErr result (λ e. IsHeadCause (left_by txn.new base) txn.new.superblock e) }
-    ensures taken { (base : Image) (count : ℕ) (used freed : List ℕ) → AreTold (P.told space.old.pages) (P.view space.old.pages) base → Stands count (left_by txn.old base) txn.old.superblock used freed
-        → IfOk result (λ p. IsTaken count (left_by txn.old base) (left_by txn.new base) txn.new.superblock used p) }
-    ensures sound { (base : Image) (count : ℕ) (used freed : List ℕ) → AreTold (P.told space.old.pages) (P.view space.old.pages) base → Stands count (left_by txn.old base) txn.old.superblock used freed
-        → 18 + length used ≤ txn.old.superblock.total → IfErr result (λ e. e ≡ RepairError.DiskFault) }
+    ensures own { (base : Image) (level : ℕ) → AreTold (shown.IsTold space.old) (shown.view space.old) base
+        → IfOk result (λ p. IsOwn (left_by txn.old base) txn.old.superblock.fresh txn.new.superblock.fresh level p) }
+    ensures head { repairs.ForPages space.old (λ base. IfErr result (λ e. IsHeadCause (left_by txn.new base) txn.new.superblock e)) }
+    ensures taken { repairs.ForStanding space.old txn.old (λ base count used. IfOk result (λ p. IsTaken count (left_by txn.old base) (left_by txn.new base) txn.new.superblock used p)) }
+    ensures sound { repairs.ForStanding space.old txn.old (λ base count used. 18 + length used ≤ txn.old.superblock.total → IfErr result (λ e. e ≡ RepairError.DiskFault)) }
 {
     match space.alloc(txn) {
         Ok(page) => Ok(page),
@@ -57,7 +59,7 @@ fn blank(bytes: &mut [u8])
 
 /// Makes the bytes a page of this page level whose first child is this page, and no other one is there.
 pub(crate) fn start_bytes(bytes: &mut [u8], level: u8, page: u32)
-    requires whole { length bytes.old ≡ 4096 }
+    requires whole { IsBlock bytes.old }
     ensures form { (total : ℕ) → page < total → IsForm level total bytes.new }
     ensures first { child_at bytes.new 0 ≡ page }
     ensures none { (child : ℕ) → 0 < child → child < 128 → child_at bytes.new child ≡ 0 }
@@ -69,7 +71,7 @@ pub(crate) fn start_bytes(bytes: &mut [u8], level: u8, page: u32)
 
 /// The same, with the root's span at the first leaf, and no other one.
 fn start(bytes: &mut [u8], spans: &mut PageSpans, level: u8, root: Root)
-    requires whole { length bytes.old ≡ 4096 }
+    requires whole { IsBlock bytes.old }
     requires proper { IsProperIfAny root.span }
     ensures form { (total : ℕ) → root.page < total → IsForm level total bytes.new }
     ensures first { child_at bytes.new 0 ≡ root.page }
@@ -91,25 +93,27 @@ pub(crate) fn open_page<P: Pages>(
     bytes: &mut [u8],
     spans: &mut PageSpans,
 ) -> Result<u32, RepairError>
-    requires sound { (P.view space.old.pages).fit }
-    requires total { txn.old.superblock.total ≡ space.old.superblock.total }
-    requires page { root.page < space.old.superblock.total }
+    requires sound { shown.IsSound space.old }
+    requires total { txn.old.superblock.total ≡ shown.total space.old }
+    requires page { root.page < shown.total space.old }
     requires proper { IsProperIfAny root.span }
-    requires whole { length bytes.old ≡ 4096 }
-    ensures moved { Moved 1 0 (P.told space.old.pages) (P.told space.new.pages) (P.view space.old.pages) (P.view space.new.pages) (P.under space.old.pages) (P.under space.new.pages) space.old.superblock space.new.superblock txn.old txn.new }
-    ensures cause { IfErr result (λ e. IsCause space.old.superblock.total e (P.view space.old.pages).faults (P.view space.new.pages).faults) }
-    ensures form { OnOk result (IsForm at.level space.old.superblock.total bytes.new) }
-    ensures number { IfOk result (λ number. (1 ≤ number) × (number < space.old.superblock.total)) }
+    requires whole { IsBlock bytes.old }
+    ensures moved { repairs.Moves 1 0 space.old space.new txn.old txn.new }
+    ensures cause { IfErr result (λ e. repairs.Explains e space.old space.new) }
+    ensures form { OnOk result (IsForm at.level (shown.total space.old) bytes.new) }
+    ensures number { IfOk result (λ number. (1 ≤ number) × (number < shown.total space.old)) }
     ensures first { OnlyFirst txn.old txn.new }
     ensures root { IfOk result (λ number. (number ≡ root.page) ⊎ IsGiven txn.new.superblock.fresh number) }
-    ensures own { (base : Image) → AreTold (P.told space.old.pages) (P.view space.old.pages) base → IfOk result (λ number. IsOwn (left_by txn.old base) txn.old.superblock.fresh at.level number) }
+    ensures own { repairs.ForPages space.old (λ base. IfOk result (λ number. IsOwn (left_by txn.old base) txn.old.superblock.fresh txn.new.superblock.fresh at.level number)) }
     ensures opened { OnOk result (IsOpened at.height at.level at.index root.page root.span bytes.new (span_at spans.new)) }
-    ensures as_told { (base : Image) → AreTold (P.told space.old.pages) (P.view space.old.pages) base → OnOk result (IsAsTold (left_by txn.old base) at.height at.level at.index root.page bytes.new) }
-    ensures damaged { (base : Image) (below : ℕ) → AreTold (P.told space.old.pages) (P.view space.old.pages) base → at.level ≡ suc below → IfErr result (λ e. IsDamage (left_by txn.new base) txn.old.superblock.fresh txn.new.superblock (root_level at.height at.level at.index) root.page root.span e) }
-    ensures part { (base : Image) (count : ℕ) (list list' : List (Option ℤ)) (others : List ℕ) (below : ℕ) → AreTold (P.told space.old.pages) (P.view space.old.pages) base → at.level ≡ suc below → AreSlots list
+    ensures as_told { repairs.ForPages space.old (λ base. OnOk result (IsAsTold (left_by txn.old base) at.height at.level at.index root.page bytes.new)) }
+    ensures damaged { repairs.ForPagesAbove space.old at.level (λ base below. IfErr result (λ e. IsDamageAt txn.old txn.new base at.height at.level at.index root.page root.span e)) }
+    ensures part { (base : Image) (count : ℕ) (list list' : List (Option ℤ)) (others : List ℕ) (below : ℕ) → AreTold (shown.IsTold space.old) (shown.view space.old) base
+        → at.level ≡ suc below → AreSlots list
         → IsPlaced count (left_by txn.old base) txn.old.superblock list list' at.height at.level at.index root.page root.span others → (root.page ≡ 0 → is_stored list' at.level at.index ≡ true)
         → IfOk result (λ number. IsPartWay count (left_by txn.old base) (left_by txn.new base) txn.new.superblock list list' at.height below at.index number bytes.new (λ child. span_at spans.new (127 + child)) 0 others) }
-    ensures only_faults { (base : Image) (count : ℕ) (list list' : List (Option ℤ)) (others : List ℕ) (below : ℕ) → AreTold (P.told space.old.pages) (P.view space.old.pages) base → at.level ≡ suc below → AreSlots list
+    ensures only_faults { (base : Image) (count : ℕ) (list list' : List (Option ℤ)) (others : List ℕ) (below : ℕ) → AreTold (shown.IsTold space.old) (shown.view space.old) base
+        → at.level ≡ suc below → AreSlots list
         → IsPlaced count (left_by txn.old base) txn.old.superblock list list' at.height at.level at.index root.page root.span others → (root.page ≡ 0 → is_stored list' at.level at.index ≡ true)
         → IfErr result (λ e. e ≡ RepairError.DiskFault) }
 {

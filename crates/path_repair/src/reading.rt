@@ -1,6 +1,7 @@
 //! A page of a tree is read, and its spans with it.
-ghost use Rattle.std.specs.Prelude.{◌≡◌, ◌≢◌, ◌<◌, ◌≤◌, ◌+◌, ◌^◌, ◌⊎◌, ℕ, ℤ, suc, Some, Option, List, false, length, slice_index, IsTrue, IsSome, IsOk, IfOk, IfErr, OnOk, OnErr};
-ghost use Rattle.block_disk.specs.View.{View, Image};
+ghost use Rattle.std.specs.Prelude.{◌≡◌, ◌<◌, ◌+◌, ◌⊎◌, ℕ, ℤ, suc, Some, Option, List, false, IsTrue, IsSome, IsOk, IfErr, OnOk, OnErr};
+ghost use Rattle.block_disk.specs.Blocks.{IsBlock};
+ghost use Rattle.block_disk.specs.View.{Image};
 ghost use Rattle.om3_coeff.specs.Spans.{IsProperIfAny, AreSlots, span};
 ghost use Rattle.node_page.specs.Fields.{child_at, level_at};
 ghost use Rattle.node_page.specs.Layout.{KeepsLayout};
@@ -8,9 +9,11 @@ ghost use Rattle.page_space.specs.Transactions.{left_by};
 ghost use Rattle.tree_walk.specs.Trees.{top_of_page, HoldsNodes};
 ghost use Rattle.page_spans.specs.Heaps.{span_at};
 ghost use Rattle.path_repair.specs.Forms.{IsForm, AreTops};
-ghost use Rattle.path_repair.specs.Standing.{AreTold, Moved, IsCause};
+ghost use Rattle.path_repair.specs.Standing.{AreTold};
 ghost use Rattle.tree_walk.specs.Paths.{NamesBeyond};
 ghost use Rattle.path_repair.specs.Damage.{IsUnfit, IsUnfitAt, IsBadAt, AreBelow, IsUnsplitPage};
+ghost use Rattle.page_space.specs.Shown as shown;
+ghost use Rattle.path_repair.specs.Repairs as repairs;
 ghost use Rattle.path_repair.specs.declared.errors.RepairError.{RepairError};
 
 use crate::change::{Place, Root};
@@ -20,8 +23,8 @@ use node_page::PageView;
 use page_space::{Space, Txn};
 use page_spans::PageSpans;
 
-/// Whether each child of a page is below the total.
-fn names_within(page: &PageView, total: u32) -> bool
+/// Whether each of the 128 children that a page names is below the total. A child that is not there is 0.
+pub fn names_within(page: &PageView, total: u32) -> bool
     ensures within { IsTrue result → (child : ℕ) → child < 128 → child_at page.now.bytes.now child < total }
     ensures all { ((child : ℕ) → child < 128 → child_at page.now.bytes.now child < total) → IsTrue result }
     ensures beyond { result ≡ false → NamesBeyond total page.now.bytes.now }
@@ -36,7 +39,7 @@ fn names_within(page: &PageView, total: u32) -> bool
 
 /// Whether the bytes are a page of this page level, whose children are below the total.
 fn is_page(bytes: &[u8], level: u8, total: u32) -> bool
-    requires whole { length bytes.now ≡ 4096 }
+    requires whole { IsBlock bytes.now }
     ensures form { IsTrue result → IsForm level total bytes.now }
     ensures sound { KeepsLayout bytes.now → level_at bytes.now ≡ level → ((child : ℕ) → child < 128 → child_at bytes.now child < total) → IsTrue result }
     ensures keeps { IsTrue result → KeepsLayout bytes.now }
@@ -56,17 +59,17 @@ pub(crate) fn read_bytes<P: Pages>(
     page: u32,
     bytes: &mut [u8],
 ) -> Result<(), RepairError>
-    requires sound { (P.view space.old.pages).fit }
-    requires page { page < space.old.superblock.total }
-    requires whole { length bytes.old ≡ 4096 }
-    ensures moved { Moved 1 0 (P.told space.old.pages) (P.told space.new.pages) (P.view space.old.pages) (P.view space.new.pages) (P.under space.old.pages) (P.under space.new.pages) space.old.superblock space.new.superblock txn.now txn.now }
-    ensures cause { IfErr result (λ e. IsCause space.old.superblock.total e (P.view space.old.pages).faults (P.view space.new.pages).faults) }
-    ensures form { OnOk result (IsForm at.level space.old.superblock.total bytes.new) }
-    ensures bytes { (base : Image) → AreTold (P.told space.old.pages) (P.view space.old.pages) base → OnOk result (bytes.new ≡ left_by txn.now base page) }
-    ensures sound { (base : Image) → AreTold (P.told space.old.pages) (P.view space.old.pages) base → KeepsLayout (left_by txn.now base page) → level_at (left_by txn.now base page) ≡ at.level
-        → ((child : ℕ) → child < 128 → child_at (left_by txn.now base page) child < space.old.superblock.total) → IfErr result (λ e. e ≡ RepairError.DiskFault) }
+    requires sound { shown.IsSound space.old }
+    requires page { page < shown.total space.old }
+    requires whole { IsBlock bytes.old }
+    ensures moved { repairs.Moves 1 0 space.old space.new txn.now txn.now }
+    ensures cause { IfErr result (λ e. repairs.Explains e space.old space.new) }
+    ensures form { OnOk result (IsForm at.level (shown.total space.old) bytes.new) }
+    ensures bytes { repairs.ForPages space.old (λ base. OnOk result (bytes.new ≡ left_by txn.now base page)) }
+    ensures sound { (base : Image) → AreTold (shown.IsTold space.old) (shown.view space.old) base → KeepsLayout (left_by txn.now base page) → level_at (left_by txn.now base page) ≡ at.level
+        → ((child : ℕ) → child < 128 → child_at (left_by txn.now base page) child < shown.total space.old) → IfErr result (λ e. e ≡ RepairError.DiskFault) }
     ensures keeps { OnOk result (KeepsLayout bytes.new) }
-    ensures unfit { (base : Image) → AreTold (P.told space.old.pages) (P.view space.old.pages) base → IfErr result (λ e. IsUnfitAt (left_by txn.now base) space.old.superblock.total at.level page e) }
+    ensures unfit { repairs.ForPages space.old (λ base. IfErr result (λ e. IsUnfitAt (left_by txn.now base) (shown.total space.old) at.level page e)) }
 {
     let Ok(()) = space.read(txn, page, bytes) else {
         return Err(RepairError::DiskFault);
@@ -85,7 +88,7 @@ fn spread(
     root: Root,
     spans: &mut PageSpans,
 ) -> Result<(), RepairError>
-    requires whole { length bytes.now ≡ 4096 }
+    requires whole { IsBlock bytes.now }
     requires proper { IsProperIfAny root.span }
     ensures form { OnOk result (IsForm level total bytes.now) }
     ensures damaged { IfErr result (λ e. e ≡ RepairError.Damaged root.page) }
@@ -122,23 +125,25 @@ pub(crate) fn read_page<P: Pages>(
     bytes: &mut [u8],
     spans: &mut PageSpans,
 ) -> Result<(), RepairError>
-    requires sound { (P.view space.old.pages).fit }
-    requires page { root.page < space.old.superblock.total }
+    requires sound { shown.IsSound space.old }
+    requires page { root.page < shown.total space.old }
     requires proper { IsProperIfAny root.span }
-    requires whole { length bytes.old ≡ 4096 }
-    ensures moved { Moved 1 0 (P.told space.old.pages) (P.told space.new.pages) (P.view space.old.pages) (P.view space.new.pages) (P.under space.old.pages) (P.under space.new.pages) space.old.superblock space.new.superblock txn.now txn.now }
-    ensures cause { IfErr result (λ e. IsCause space.old.superblock.total e (P.view space.old.pages).faults (P.view space.new.pages).faults) }
-    ensures form { OnOk result (IsForm at.level space.old.superblock.total bytes.new) }
-    ensures bytes { (base : Image) → AreTold (P.told space.old.pages) (P.view space.old.pages) base → OnOk result (bytes.new ≡ left_by txn.now base root.page) }
-    ensures tops { (base : Image) (list : List (Option ℤ)) (below : ℕ) → AreTold (P.told space.old.pages) (P.view space.old.pages) base → at.level ≡ suc below → AreSlots list
+    requires whole { IsBlock bytes.old }
+    ensures moved { repairs.Moves 1 0 space.old space.new txn.now txn.now }
+    ensures cause { IfErr result (λ e. repairs.Explains e space.old space.new) }
+    ensures form { OnOk result (IsForm at.level (shown.total space.old) bytes.new) }
+    ensures bytes { repairs.ForPages space.old (λ base. OnOk result (bytes.new ≡ left_by txn.now base root.page)) }
+    ensures tops { (base : Image) (list : List (Option ℤ)) (below : ℕ) → AreTold (shown.IsTold space.old) (shown.view space.old) base
+        → at.level ≡ suc below → AreSlots list
         → HoldsNodes list at.level at.index (left_by txn.now base root.page) → root.span ≡ span list (top_of_page at.level at.index)
         → OnOk result (AreTops list below at.index (λ child. span_at spans.new (127 + child))) }
-    ensures sound { (base : Image) (list : List (Option ℤ)) (below : ℕ) → AreTold (P.told space.old.pages) (P.view space.old.pages) base → at.level ≡ suc below → AreSlots list
+    ensures sound { (base : Image) (list : List (Option ℤ)) (below : ℕ) → AreTold (shown.IsTold space.old) (shown.view space.old) base
+        → at.level ≡ suc below → AreSlots list
         → HoldsNodes list at.level at.index (left_by txn.now base root.page) → root.span ≡ span list (top_of_page at.level at.index) → IsSome root.span
-        → ((child : ℕ) → child < 128 → child_at (left_by txn.now base root.page) child < space.old.superblock.total) → IfErr result (λ e. e ≡ RepairError.DiskFault) }
+        → ((child : ℕ) → child < 128 → child_at (left_by txn.now base root.page) child < shown.total space.old) → IfErr result (λ e. e ≡ RepairError.DiskFault) }
     ensures keeps { OnOk result (KeepsLayout bytes.new) }
     ensures below { OnOk result (AreBelow root.span bytes.new (span_at spans.new)) }
-    ensures bad { (base : Image) → AreTold (P.told space.old.pages) (P.view space.old.pages) base → IfErr result (λ e. IsBadAt (left_by txn.now base) space.old.superblock.total at.level root.page root.span e) }
+    ensures bad { repairs.ForPages space.old (λ base. IfErr result (λ e. IsBadAt (left_by txn.now base) (shown.total space.old) at.level root.page root.span e)) }
 {
     let Ok(()) = space.read(txn, root.page, bytes) else {
         return Err(RepairError::DiskFault);

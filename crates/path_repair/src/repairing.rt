@@ -1,23 +1,28 @@
 //! The change of a tree, page by page.
-ghost use Rattle.std.specs.Prelude.{◌≡◌, ◌≢◌, ◌<◌, ◌≤◌, ◌+◌, ◌*◌, ◌^◌, ℕ, ℤ, suc, Some, Option, List, length, slice_get, IfOk, IfErr, OnOk};
-ghost use Rattle.block_disk.specs.View.{View, Image};
+ghost use Rattle.std.specs.Prelude.{◌≡◌, ◌≢◌, ◌<◌, ◌≤◌, ◌+◌, ◌^◌, ℕ, ℤ, Some, Option, List, length, slice_get, IfOk, IfErr};
+ghost use Rattle.block_disk.specs.Blocks.{IsBlock};
+ghost use Rattle.block_disk.specs.View.{Image};
 ghost use Rattle.om3_coeff.specs.Keys.{end_slot};
-ghost use Rattle.om3_coeff.specs.Spans.{IsProperIfAny, IsValue};
+ghost use Rattle.om3_coeff.specs.Spans.{IsProperIfAny};
+ghost use Rattle.whole_number.specs.Range.{IsValue};
 ghost use Rattle.node_page.specs.Fields.{child_at};
 ghost use Rattle.page_space.specs.Transactions.{left_by, held};
 ghost use Rattle.tree_walk.specs.Trees.{top_of_page};
 ghost use Rattle.page_spans.specs.Heaps.{span_at};
 ghost use Rattle.path_repair.specs.Forms.{IsForm};
 ghost use Rattle.path_repair.specs.Costs.{touch};
-ghost use Rattle.path_repair.specs.Standing.{AreTold, AreLists, Moved, IsCause, IsPlaced, IsRepaired};
-ghost use Rattle.path_repair.specs.Damage.{IsDamage};
-ghost use Rattle.path_repair.specs.Keeping.{IsNewRoot, IsMatched, Spares, root_level};
+ghost use Rattle.path_repair.specs.Standing.{AreTold, AreLists, IsPlaced, IsRepaired};
+ghost use Rattle.path_repair.specs.Keeping.{IsNewRoot, IsMatched, Spares};
+ghost use Rattle.page_space.specs.Shown as shown;
+ghost use Rattle.path_repair.specs.Edits.{IsDamageAt};
+ghost use Rattle.path_repair.specs.Repairs as repairs;
 ghost use Rattle.path_repair.specs.declared.errors.RepairError.{RepairError};
 
 use crate::change::{Place, Root, Slots, slot_after};
 use crate::closing::close_page;
 use crate::errors::RepairError;
 use crate::opening::open_page;
+use block_disk::BLOCK;
 use gate_pages::Pages;
 use node_page::{child_of, set_child};
 use page_space::{Space, Txn};
@@ -25,7 +30,7 @@ use page_spans::PageSpans;
 
 /// The root of a child of a page.
 fn child_root(bytes: &[u8], spans: &PageSpans, child: u8) -> Root
-    requires whole { length bytes.now ≡ 4096 }
+    requires whole { IsBlock bytes.now }
     requires child { child < 128 }
     ensures page { result.page ≡ child_at bytes.now child }
     ensures span { result.span ≡ span_at spans.now (127 + child) }
@@ -39,7 +44,7 @@ fn child_root(bytes: &[u8], spans: &PageSpans, child: u8) -> Root
 
 /// Sets the root of a child of a page.
 fn set_root(bytes: &mut [u8], spans: &mut PageSpans, child: u8, root: Root)
-    requires whole { length bytes.old ≡ 4096 }
+    requires whole { IsBlock bytes.old }
     requires child { child < 128 }
     requires proper { IsProperIfAny root.span }
     ensures form { (level total : ℕ) → IsForm level total bytes.old → root.page < total → IsForm level total bytes.new }
@@ -61,26 +66,26 @@ pub(crate) fn repair<P: Pages>(
     slots: Slots,
     values: &[Option<i64>],
 ) -> Result<Root, RepairError>
-    requires sound { (P.view space.old.pages).fit }
-    requires total { txn.old.superblock.total ≡ space.old.superblock.total }
+    requires sound { shown.IsSound space.old }
+    requires total { txn.old.superblock.total ≡ shown.total space.old }
     requires level { at.level ≤ 5 }
     requires small { end_slot (top_of_page at.level at.index) ≤ 2 ^ 35 }
-    requires page { root.page < space.old.superblock.total }
+    requires page { root.page < shown.total space.old }
     requires proper { IsProperIfAny root.span }
     requires values { (i : ℕ) (value : ℤ) → slice_get values.now i ≡ Some (Some value) → IsValue value }
     requires room { length (held txn.old) + touch slots.first slots.end at.height at.level at.index ≤ 64 }
-    ensures moved { Moved (touch slots.first slots.end at.height at.level at.index) (touch slots.first slots.end at.height at.level at.index) (P.told space.old.pages) (P.told space.new.pages) (P.view space.old.pages) (P.view space.new.pages) (P.under space.old.pages) (P.under space.new.pages) space.old.superblock space.new.superblock txn.old txn.new }
-    ensures cause { IfErr result (λ e. IsCause space.old.superblock.total e (P.view space.old.pages).faults (P.view space.new.pages).faults) }
-    ensures page { IfOk result (λ next. next.page < space.old.superblock.total) }
+    ensures moved { repairs.Moves (touch slots.first slots.end at.height at.level at.index) (touch slots.first slots.end at.height at.level at.index) space.old space.new txn.old txn.new }
+    ensures cause { IfErr result (λ e. repairs.Explains e space.old space.new) }
+    ensures page { IfOk result (λ next. next.page < shown.total space.old) }
     ensures proper { IfOk result (λ next. IsProperIfAny next.span) }
     ensures root { IfOk result (λ next. IsNewRoot txn.new.superblock.fresh root.page next.page) }
     ensures matched { IfOk result (λ next. 1 ≤ at.level → IsMatched root.page root.span → IsMatched next.page next.span) }
-    ensures spares { (base : Image) → AreTold (P.told space.old.pages) (P.view space.old.pages) base → Spares at.level txn.old.superblock.fresh (left_by txn.old base) (left_by txn.new base) }
-    ensures damaged { (base : Image) → AreTold (P.told space.old.pages) (P.view space.old.pages) base → IfErr result (λ e. IsDamage (left_by txn.new base) txn.old.superblock.fresh txn.new.superblock (root_level at.height at.level at.index) root.page root.span e) }
-    ensures repaired { (base : Image) (count : ℕ) (list list' : List (Option ℤ)) (others : List ℕ) → AreTold (P.told space.old.pages) (P.view space.old.pages) base
+    ensures spares { repairs.ForPages space.old (λ base. Spares at.level txn.old.superblock.fresh txn.new.superblock.fresh (left_by txn.old base) (left_by txn.new base)) }
+    ensures damaged { repairs.ForPages space.old (λ base. IfErr result (λ e. IsDamageAt txn.old txn.new base at.height at.level at.index root.page root.span e)) }
+    ensures repaired { (base : Image) (count : ℕ) (list list' : List (Option ℤ)) (others : List ℕ) → AreTold (shown.IsTold space.old) (shown.view space.old) base
         → AreLists slots.first slots.end values.now list list' → IsPlaced count (left_by txn.old base) txn.old.superblock list list' at.height at.level at.index root.page root.span others
         → IfOk result (λ next. IsRepaired count (left_by txn.old base) (left_by txn.new base) txn.new.superblock list' at.level at.index next.page next.span others) }
-    ensures only_faults { (base : Image) (count : ℕ) (list list' : List (Option ℤ)) (others : List ℕ) → AreTold (P.told space.old.pages) (P.view space.old.pages) base
+    ensures only_faults { (base : Image) (count : ℕ) (list list' : List (Option ℤ)) (others : List ℕ) → AreTold (shown.IsTold space.old) (shown.view space.old) base
         → AreLists slots.first slots.end values.now list list' → IsPlaced count (left_by txn.old base) txn.old.superblock list list' at.height at.level at.index root.page root.span others
         → IfErr result (λ e. e ≡ RepairError.DiskFault) }
 {
@@ -91,7 +96,7 @@ pub(crate) fn repair<P: Pages>(
     if at.is_settled(root.page, slots, values) {
         return Ok(root);
     }
-    let mut bytes = [0; 4096];
+    let mut bytes = [0; BLOCK];
     let mut spans = PageSpans::new();
     let number = open_page(space, txn, at, root, &mut bytes, &mut spans)?;
     for child in 0..128 {

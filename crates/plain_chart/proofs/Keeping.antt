@@ -8,7 +8,8 @@ use Rattle.std.specs.Option.{option_to_list}
 use Rattle.chart_grid.specs.declared.grid.Grid.{Grid}
 use Rattle.chart_grid.specs.declared.axis.Axis.{Axis}
 use Rattle.plain_chart.specs.declared.sample.Sample.{Sample}
-use Rattle.plain_chart.specs.Samples.{kept, kept_at, values_of, in_window, time_at}
+use Rattle.plain_chart.specs.Samples.{kept, kept_at, values_of, in_window}
+use Rattle.chart_grid.specs.Slots.{slot_time}
 
 enumerated : {X : Type 0} (n i : ℕ) (xs : List X) (x : X) → i ≡ n + length xs → enumerate_from n (xs ++ (x ∷ [])) ≡ enumerate_from n xs ++ ((i, x) ∷ [])
 enumerated n i [] x at = ap (λ k. (k, x) ∷ []) (omega (arith, at))
@@ -43,7 +44,7 @@ values_hold P Q g axis n (None ∷ slots) same all = values_hold P Q g axis (n +
 values_hold P Q g axis n (Some v ∷ slots) same all =
     let rest = values_hold P Q g axis (n + 1) slots same (All-tail Q (Some v) slots all) in
     let here : P v = same v (All-head Q (Some v) slots all) in
-    elim (in_window g (time_at axis n)) as (λ b. All P (values_of (cons_option (if b then Some (record { time = time_at axis n; value = v }) else None) (filter_map (kept_at g axis) (enumerate_from (n + 1) slots))))) [
+    elim (in_window g (slot_time axis n)) as (λ b. All P (values_of (cons_option (if b then Some (record { time = slot_time axis n; value = v }) else None) (filter_map (kept_at g axis) (enumerate_from (n + 1) slots))))) [
       | true ↦ All-cons P v (values_of (filter_map (kept_at g axis) (enumerate_from (n + 1) slots))) here rest
       | false ↦ rest
     ]

@@ -1,5 +1,5 @@
 -- Drawing, one slot more.
-use Rattle.std.proofs.Common.{◌≡◌, ℕ, ℤ, pos, ◌+◌, ◌-◌, ◌*◌, ◌<◌, ◌≤◌, ◌≤ℤ◌, ◌↔◌, ◌⊎◌, inl, inr, List, [], ◌∷◌, ◌++◌, length, take, get_or, map, Option, None, Some, IfSome, sym, ap, subst, ◌∙◌, refl, arith, length-append}
+use Rattle.std.proofs.Common.{◌≡◌, ℕ, ℤ, pos, ◌+◌, ◌-◌, ◌*◌, ◌≤◌, ◌≤ℤ◌, ◌↔◌, ◌⊎◌, inl, inr, List, [], ◌∷◌, ◌++◌, length, map, Option, None, Some, IfSome, sym, ap, subst, ◌∙◌, refl, arith, length-append}
 use Rattle.std.proofs.lemmas.Int.{ints}
 use Rattle.std.proofs.lemmas.Nat.{mul-le}
 use Rattle.std.proofs.lemmas.List.{map-append, append-nil, length-map}
@@ -15,22 +15,23 @@ use Rattle.line_raster.specs.declared.position.Point.{Point}
 use Rattle.line_raster.proofs.Drawn.{both, alike}
 use Rattle.plain_chart.specs.declared.sample.Sample.{Sample}
 use Rattle.plain_chart.specs.declared.value_range.ValueRange.{ValueRange}
-use Rattle.plain_chart.specs.Samples.{kept_at, time_at, in_window, IsSlot}
+use Rattle.plain_chart.specs.Samples.{kept_at, in_window, IsSlot}
+use Rattle.chart_grid.specs.Slots.{slot_time}
 use Rattle.plain_chart.specs.Chart.{place, places, last_of, last_with, Joins, OnFrom, IsDrawable, IsBefore}
 use Rattle.plain_chart.proofs.Rastering.{raster_more, new_in_more}
 use Rattle.plain_chart.proofs.Places.{column-rising}
 
-kept_parts : (g : Grid) (axis : Axis) (slot : ℕ) (v : ℤ) (b : Bool) (s : Sample) → (if b then Some (record { time = time_at axis slot; value = v }) else None) ≡ Some s → (s.time ≡ time_at axis slot) × (s.value ≡ v)
+kept_parts : (g : Grid) (axis : Axis) (slot : ℕ) (v : ℤ) (b : Bool) (s : Sample) → (if b then Some (record { time = slot_time axis slot; value = v }) else None) ≡ Some s → (s.time ≡ slot_time axis slot) × (s.value ≡ v)
 kept_parts g axis slot v true s is =
-    let e : record { time = time_at axis slot; value = v } ≡ s = cc in
+    let e : record { time = slot_time axis slot; value = v } ≡ s = cc in
     (sym (ap (λ k. k.time) e), sym (ap (λ k. k.value) e))
 kept_parts g axis slot v false s is = cc
 
 -- a slot's sample has the slot's time and value
-pub kept_is : (g : Grid) (axis : Axis) (slot : ℕ) (stored : Option ℤ) (s : Sample) → kept_at g axis (slot, stored) ≡ Some s → (s.time ≡ time_at axis slot) × (stored ≡ Some s.value)
+pub kept_is : (g : Grid) (axis : Axis) (slot : ℕ) (stored : Option ℤ) (s : Sample) → kept_at g axis (slot, stored) ≡ Some s → (s.time ≡ slot_time axis slot) × (stored ≡ Some s.value)
 kept_is g axis slot None s is = cc
 kept_is g axis slot (Some v) s is =
-    let parts = kept_parts g axis slot v (in_window g (time_at axis slot)) s is in
+    let parts = kept_parts g axis slot v (in_window g (slot_time axis slot)) s is in
     (parts.0, ap Some (sym parts.1))
 
 -- a kept sample may be drawn
@@ -80,12 +81,12 @@ later_more P Q last None weaker old next = λ s is. weaker s (old s is)
 later_more P Q last (Some t) weaker old next = next
 
 -- the next sample isn't before the last
-pub before_next : (axis : Axis) (slot : ℕ) (last o : Option Sample) → ForSome last (λ s. s.time ≤ℤ time_at axis slot) → ForSome o (λ s. s.time ≡ time_at axis slot) → ForSome o (IsBefore last)
+pub before_next : (axis : Axis) (slot : ℕ) (last o : Option Sample) → ForSome last (λ s. s.time ≤ℤ slot_time axis slot) → ForSome o (λ s. s.time ≡ slot_time axis slot) → ForSome o (IsBefore last)
 before_next axis slot None o earlier at = λ s is. tt
 before_next axis slot (Some t) o earlier at = λ s is. omega (arith, ints, earlier t refl, at s is)
 
 -- a later slot has no earlier time
-pub time-rising : (axis : Axis) (slot : ℕ) → time_at axis slot ≤ℤ time_at axis (slot + 1)
+pub time-rising : (axis : Axis) (slot : ℕ) → slot_time axis slot ≤ℤ slot_time axis (slot + 1)
 time-rising axis slot =
     let more : slot * axis.step ≤ (slot + 1) * axis.step = mul-le slot axis.step (slot + 1) axis.step (omega arith) (omega arith) in
     omega (arith, ints, more)

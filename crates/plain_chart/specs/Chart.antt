@@ -9,7 +9,7 @@ use Rattle.line_raster.specs.Raster.{InRaster, IsAt}
 use Rattle.line_raster.specs.Segment.{On}
 use Rattle.plain_chart.specs.declared.sample.Sample.{Sample}
 use Rattle.plain_chart.specs.declared.value_range.ValueRange.{ValueRange}
-use Rattle.plain_chart.specs.Samples.{IsValue}
+use Rattle.whole_number.specs.Range.{IsValue}
 
 -- the height of a sample over a range of values
 abbrev pub height_in : Grid → ValueRange → Sample → ℤ

@@ -1,23 +1,17 @@
 -- The samples of a series that a view keeps.
-use Rattle.std.specs.Prelude.{◌≡◌, ℕ, ℤ, pos, ◌*◌, ◌^◌, ◌≤◌, ◌+ℤ◌, ◌≤ℤ◌, Bool, ◌&&◌, int_lt, int_le, if◌then◌else◌, List, [], ◌∷◌, map, All, Contains, Option, None, Some, unsigned_abs, ⊤}
+use Rattle.std.specs.Prelude.{◌≡◌, ℕ, ℤ, pos, ◌^◌, ◌≤◌, ◌≤ℤ◌, Bool, ◌&&◌, int_lt, int_le, if◌then◌else◌, List, [], ◌∷◌, map, All, Contains, Option, None, Some, ⊤}
 use Rattle.std.specs.List.{enumerate_from, filter_map}
+use Rattle.chart_grid.specs.Slots.{slot_time}
+use Rattle.whole_number.specs.Range.{IsValue}
 use Rattle.chart_grid.specs.declared.grid.Grid.{Grid}
 use Rattle.chart_grid.specs.declared.axis.Axis.{Axis}
 use Rattle.plain_chart.specs.declared.sample.Sample.{Sample}
 use Rattle.plain_chart.specs.declared.value_range.ValueRange.{ValueRange}
 
--- a number that a series may hold
-abbrev pub IsValue : ℤ → Type 0
-IsValue v = unsigned_abs v ≤ 10 ^ 18
-
 -- what a slot may hold
 abbrev pub IsSlot : Option ℤ → Type 0
 IsSlot None = ⊤
 IsSlot (Some v) = IsValue v
-
--- the time of a slot of a series
-abbrev pub time_at : Axis → ℕ → ℤ
-time_at axis slot = axis.start +ℤ pos (slot * axis.step)
 
 -- the time lies in the grid's window
 abbrev pub in_window : Grid → ℤ → Bool
@@ -27,11 +21,15 @@ in_window g t = int_le g.t0 t && int_lt t g.t1
 abbrev pub kept_at : Grid → Axis → ℕ × Option ℤ → Option Sample
 kept_at g axis (slot, None) = None
 kept_at g axis (slot, Some value) =
-    if in_window g (time_at axis slot) then Some (record { time = time_at axis slot; value = value }) else None
+    if in_window g (slot_time axis slot) then Some (record { time = slot_time axis slot; value = value }) else None
 
 -- the samples of the slots that the view keeps, in order of time
 abbrev pub kept : Grid → Axis → List (Option ℤ) → List Sample
 kept g axis slots = filter_map (kept_at g axis) (enumerate_from 0 slots)
+
+-- the points of samples, each a time and a value
+abbrev pub sample_points : List Sample → List (ℤ × ℤ)
+sample_points samples = map (λ s. (s.time, s.value)) samples
 
 -- the values of samples
 abbrev pub values_of : List Sample → List ℤ
@@ -56,6 +54,6 @@ SpansSoFar (Some range) values = Spans values range
 
 -- the start, the step and the number of slots are those of a series
 pub record IsSeries (axis : Axis) : Type 0 where
-  pub start : unsigned_abs axis.start ≤ 10 ^ 18
+  pub start : IsValue axis.start
   pub step : axis.step ≤ 2 ^ 31
   pub slots : axis.slots ≤ 2 ^ 28

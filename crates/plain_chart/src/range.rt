@@ -1,7 +1,8 @@
 ghost use Rattle.std.specs.Prelude.{◌≡◌, ℤ, ◌≤ℤ◌, ◌++◌, Option, List, length, All};
 ghost use Rattle.std.specs.Int.{int_min, int_max};
 ghost use Rattle.std.specs.Option.{option_to_list};
-ghost use Rattle.plain_chart.specs.Samples.{kept, values_of, IsRange, IsSlot, IsValue, IsSeries, SpansSoFar};
+ghost use Rattle.plain_chart.specs.Samples.{kept, values_of, IsRange, IsSlot, IsSeries, SpansSoFar};
+ghost use Rattle.whole_number.specs.Range.{IsValue};
 
 use crate::{Sample, ValueRange, sample_at};
 use chart_grid::{Axis, Grid};

@@ -1,6 +1,7 @@
 ghost use Rattle.std.specs.Prelude.{◌≡◌, ◌<◌, IfSome};
 ghost use Rattle.chart_grid.specs.Projection.{InWindow};
-ghost use Rattle.plain_chart.specs.Samples.{kept_at, time_at, in_window, IsSeries};
+ghost use Rattle.plain_chart.specs.Samples.{kept_at, in_window, IsSeries};
+ghost use Rattle.chart_grid.specs.Slots.{slot_time};
 
 use crate::Sample;
 use chart_grid::{Axis, Grid};
@@ -29,7 +30,7 @@ pub fn sample_at(grid: Grid, axis: Axis, slot: usize, stored: Option<i64>) -> Op
 pub fn time_of(axis: Axis, slot: usize) -> i64
     requires series { IsSeries axis }
     requires slot { slot < axis.slots }
-    ensures { result ≡ time_at axis slot }
+    ensures { result ≡ slot_time axis slot }
 {
     axis.start + slot as i64 * i64::from(axis.step)
 }

@@ -1,29 +1,13 @@
 -- The slots of a window, and their times.
-use Rattle.std.proofs.Common.{ℕ, ℤ, ◌≡◌, ◌+◌, ◌<◌, ◌≤◌, ◌≤ℤ◌, inl, inr, arith, subst, ◌*◌}
+use Rattle.std.proofs.Common.{ℕ, ◌<◌, ◌≤◌, ◌≤ℤ◌, inl, inr, arith, ◌*◌}
 use Rattle.std.proofs.Math.Nat.{mul-le-mul_right}
 use Rattle.std.proofs.lemmas.Int.{ints, by_lt_z}
 use Rattle.std.proofs.lemmas.Bool.{cases_lt}
 use Rattle.chart_grid.specs.Projection.{InWindow}
-use Rattle.chart_grid.specs.Slots.{slot_time, AreSlotsBefore, border}
-use Rattle.chart_grid.proofs.Slots.{AreSlotsBefore-rising}
+use Rattle.chart_grid.specs.Slots.{slot_time, AreSlotsBefore}
 use Rattle.chart_grid.specs.declared.axis.Axis.{Axis}
 use Rattle.chart_grid.specs.declared.grid.Grid.{Grid}
 use Rattle.query_rewriter.specs.Scans.{AreShown}
-
-pub window_start : (axis : Axis) (g : Grid) (c n : ℕ) → c ≡ 0 → border g 0 ≡ g.t0 → AreSlotsBefore axis (border g c) n → AreSlotsBefore axis g.t0 n
-window_start axis g c n is first h =
-    let P : ℕ → Type 0 = λ c. AreSlotsBefore axis (border g c) n in
-    let Q : ℤ → Type 0 = λ t. AreSlotsBefore axis t n in
-    subst Q first (subst P is h)
-
-pub window_stop : (axis : Axis) (g : Grid) (c n : ℕ) → c + 1 ≡ g.w → border g g.w ≡ g.t1 → AreSlotsBefore axis (border g (c + 1)) n → AreSlotsBefore axis g.t1 n
-window_stop axis g c n is last h =
-    let P : ℕ → Type 0 = λ c. AreSlotsBefore axis (border g c) n in
-    let Q : ℤ → Type 0 = λ t. AreSlotsBefore axis t n in
-    subst Q last (subst P is h)
-
-pub window_order : (axis : Axis) (g : Grid) (a b : ℕ) → AreSlotsBefore axis g.t0 a → AreSlotsBefore axis g.t1 b → a ≤ b
-window_order axis g a b start stop = AreSlotsBefore-rising axis g.t0 g.t1 a b (omega (arith, ints, g.window.rising)) start stop
 
 -- the slots of a window are those whose times it shows
 pub slots_shown : (axis : Axis) (g : Grid) (a b : ℕ) → AreSlotsBefore axis g.t0 a → AreSlotsBefore axis g.t1 b → AreShown axis g a b

@@ -3,7 +3,8 @@ use Rattle.std.specs.Prelude.{ℕ, ℤ, Bool, true, ◌&&◌, nat_le, nat_lt, if
 use Rattle.std.specs.List.{enumerate_from, filter_map}
 use Rattle.chart_grid.specs.declared.axis.Axis.{Axis}
 use Rattle.plain_chart.specs.declared.sample.Sample.{Sample}
-use Rattle.plain_chart.specs.Samples.{kept, time_at}
+use Rattle.plain_chart.specs.Samples.{kept}
+use Rattle.chart_grid.specs.Slots.{slot_time}
 use Rattle.value_filter.specs.declared.steps.Step.{Step}
 use Rattle.value_filter.specs.Expressions.{holds_at}
 use Rattle.value_filter.specs.Steps.{expression_of}
@@ -24,7 +25,7 @@ query_keeps query slots = filter (passes query.filter) (kept query.grid query.ax
 abbrev pub stored_at : Axis → ℕ × ℕ → ℕ × Option ℤ → Option Sample
 stored_at axis range (slot, None) = None
 stored_at axis range (slot, Some value) =
-    if nat_le range.0 slot && nat_lt slot range.1 then Some (record { time = time_at axis slot; value = value }) else None
+    if nat_le range.0 slot && nat_lt slot range.1 then Some (record { time = slot_time axis slot; value = value }) else None
 
 -- the samples of the stored slots in a range
 abbrev pub stored_in : Axis → ℕ × ℕ → List (Option ℤ) → List Sample

@@ -4,7 +4,7 @@ use Rattle.chart_grid.specs.declared.axis.Axis.{Axis}
 use Rattle.chart_grid.specs.declared.grid.Grid.{Grid}
 use Rattle.chart_grid.specs.Projection.{InWindow}
 use Rattle.chart_grid.specs.Slots.{slot_time}
-use Rattle.plain_chart.specs.Samples.{IsValue}
+use Rattle.whole_number.specs.Range.{IsValue}
 use Rattle.value_filter.specs.declared.steps.Step.{Step}
 use Rattle.value_filter.specs.declared.box_answers.BoxAnswer.{BoxAnswer}
 use Rattle.value_filter.specs.declared.box_answers.BoxAnswer.TheVariants.{All, Nothing, Mixed}

@@ -7,11 +7,12 @@ use crate::queries::{Plan, ViewQuery};
 use crate::slots::window_slots;
 use crate::trimming::{holds_everywhere, trimmed};
 use chart_grid::{Axis, Grid};
+use std::alloc::Global;
 use value_filter::{Filter, NoMemory};
 
 /// The plan of a query. It keeps exactly the points that the query keeps, of whichever slots the series
 /// has; its slots are a range of the series' slots, all in the window.
-pub fn rewrite(query: &ViewQuery) -> Result<Plan, NoMemory>
+pub fn rewrite(alloc: Global, query: &ViewQuery) -> Result<Plan, NoMemory>
     requires { 0 < query.now.axis.step }
     ensures grid { IfOk result (λ plan. plan.grid ≡ query.now.grid) }
     ensures scan { IfOk result (IsScan query.now.axis) }
@@ -30,12 +31,13 @@ pub fn rewrite(query: &ViewQuery) -> Result<Plan, NoMemory>
     Ok(Plan {
         grid: query.grid,
         slots,
-        filter: left_over(filter, query.axis, query.grid, slots)?,
+        filter: left_over(alloc, filter, query.axis, query.grid, slots)?,
     })
 }
 
 /// What is left of a filter to ask at these slots: nothing, where it holds of every value at each.
 fn left_over(
+    alloc: Global,
     filter: &Filter,
     axis: Axis,
     grid: Grid,
@@ -48,5 +50,5 @@ fn left_over(
     if holds_everywhere(filter, axis, grid, slots) {
         return Ok(None);
     }
-    Ok(Some(filter.copy()?))
+    Ok(Some(filter.copy_in(alloc)?))
 }

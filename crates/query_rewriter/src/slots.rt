@@ -1,12 +1,11 @@
-ghost use Rattle.std.specs.Prelude.{◌≡◌, ◌+ℤ◌, ◌<◌, ◌≤◌, ◌≤ℤ◌, pos, FitsSigned};
-ghost use Rattle.std.specs.Int.{w64};
+ghost use Rattle.std.specs.Prelude.{◌≡◌, ◌<◌, ◌≤◌, ◌≤ℤ◌};
 ghost use Rattle.chart_grid.specs.Projection.{InWindow};
 ghost use Rattle.chart_grid.specs.Slots.{slot_time, AreSlotsBefore};
 ghost use Rattle.value_filter.specs.Steps.{expression_of};
 ghost use Rattle.query_rewriter.specs.Scans.{AreShown, Says};
 
 use chart_grid::laws::borders_part_columns;
-use chart_grid::{Axis, Grid};
+use chart_grid::{Axis, Grid, later};
 use value_filter::laws::answers_hold_everywhere;
 use value_filter::{BoxAnswer, Filter};
 
@@ -31,14 +30,6 @@ pub fn time_of(axis: Axis, grid: Grid, slot: u64) -> i64
 {
     let _window = grid.t1();
     later(axis.start, slot * u64::from(axis.step))
-}
-
-/// The time so many steps after another one.
-fn later(start: i64, steps: u64) -> i64
-    requires { FitsSigned w64 (start +ℤ pos steps) }
-    ensures { result ≡ start +ℤ pos steps }
-{
-    (i128::from(start) + i128::from(steps)) as i64
 }
 
 /// What a filter says of all points at these slots, of which there is one, with these values: the slots

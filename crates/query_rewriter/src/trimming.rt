@@ -5,13 +5,12 @@ ghost use Rattle.query_rewriter.specs.Scans.{AreShown, KeepsNone, KeepsAll};
 use crate::slots::on_slots;
 use chart_grid::{Axis, Grid};
 use value_filter::{BoxAnswer, Filter};
+use whole_number::limits::GREATEST_VALUE;
 
-const LEAST: i64 = -1_000_000_000_000_000_000;
-
-const GREATEST: i64 = 1_000_000_000_000_000_000;
+const GREATEST: i64 = GREATEST_VALUE as i64;
 
 /// The values that a slot can hold: at most 10^18 in size.
-pub(crate) const VALUES: (i64, i64) = (LEAST, GREATEST);
+pub(crate) const VALUES: (i64, i64) = (-GREATEST, GREATEST);
 
 /// The slots without those at both ends at which the filter holds of no value.
 pub(crate) fn trimmed(filter: &Filter, axis: Axis, grid: Grid, slots: (u64, u64)) -> (u64, u64)

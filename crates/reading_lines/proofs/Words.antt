@@ -1,5 +1,5 @@
 -- The line of a series, cut at its spaces.
-use Rattle.std.proofs.Common.{◌≡◌, ℕ, zero, suc, ℤ, pos, negsuc, unsigned_abs, ◌^◌, ◌<◌, ◌≤◌, Bool, true, false, List, [], ◌∷◌, ◌++◌, length, get_or, refl, ap, sym, ◌∙◌, arith}
+use Rattle.std.proofs.Common.{◌≡◌, ℕ, zero, suc, ℤ, pos, negsuc, ◌^◌, ◌<◌, Bool, true, false, List, [], ◌∷◌, ◌++◌, length, get_or, refl, ap, sym, ◌∙◌, arith}
 use Rattle.std.specs.Prelude.{nat_le, ◌&&◌}
 use Rattle.std.specs.Bool.{IsTrue}
 use Rattle.std.specs.List.{All, AllByRecursion, list_all, slice_split}
@@ -8,6 +8,7 @@ use Rattle.std.proofs.lemmas.Bool.Decides.{nat_tests}
 use Rattle.std.proofs.lemmas.List.Splits.{slice_split_at, slice_split_none}
 use Rattle.std.proofs.lemmas.List.Sums.{AllPass-from_list_all}
 use Rattle.std.proofs.lemmas.Fmt.{decimal_is_IsNumeral, decimal_injective, signed_decimal_injective}
+use Rattle.whole_number.specs.Range.{IsValue}
 use lib.Signed.{mag}
 use Rattle.csv_load.specs.Fields.{is_space}
 use Rattle.series_book.specs.declared.axis.Axis.{Axis}
@@ -58,7 +59,7 @@ row_words name axis scale told =
 one_of_five : (a b c d e a' b' c' d' e' : List ℕ) → a ∷ b ∷ c ∷ d ∷ e ∷ [] ≡ a' ∷ b' ∷ c' ∷ d' ∷ e' ∷ [] → (a ≡ a') × (b ≡ b') × (c ≡ c') × (d ≡ d') × (e ≡ e')
 one_of_five a b c d e a' b' c' d' e' same = (cc, cc, cc, cc, cc)
 
-small_start : (z : ℤ) → unsigned_abs z ≤ 10 ^ 18 → mag z < 2 ^ 63
+small_start : (z : ℤ) → IsValue z → mag z < 2 ^ 63
 small_start (pos n) small = omega (arith, small)
 small_start (negsuc n) small = omega (arith, small)
 

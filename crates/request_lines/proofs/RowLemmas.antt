@@ -10,7 +10,7 @@ use Rattle.request_lines.specs.declared.line_errors.LineError.TheVariants.{BadLi
 use Rattle.request_lines.specs.declared.ranges.RangeWord.{RangeWord}
 use Rattle.request_lines.specs.declared.requests.Request.{Request}
 use Rattle.request_lines.specs.declared.requests.Request.TheVariants.{Edit as EditRequest, Open, View, Zoom, Pan, Close}
-use Rattle.request_lines.specs.Numbers.{natural_value, integer_value}
+use Rattle.whole_number.specs.Numbers.{natural_value, integer_value}
 use Rattle.request_lines.specs.Ranges.{range_of}
 use Rattle.request_lines.specs.Tokens.{tokens, Cursor, tokens_left, next_token, past_token}
 use Rattle.request_lines.specs.Grammar.{Ending, kind_of, form_of, fault, tokens_fault, fault_of, Takes, Misses, MissesEnd}

@@ -7,7 +7,7 @@ use Rattle.request_lines.specs.declared.places.Place.{Place}
 use Rattle.request_lines.specs.declared.places.Place.TheVariants.{Name, Start, Step, Scale, Integer, Value, Natural, Session, Range, Where}
 use Rattle.request_lines.specs.declared.line_kinds.LineKind.{LineKind}
 use Rattle.request_lines.specs.declared.line_kinds.LineKind.TheVariants.{Create, Append, Set, Clear, Open, View, Zoom, Pan, Close}
-use Rattle.request_lines.specs.Numbers.{is_natural, natural_value, is_integer, integer_value}
+use Rattle.whole_number.specs.Numbers.{is_natural, natural_value, is_integer, integer_value}
 use Rattle.request_lines.specs.Ranges.{is_range}
 use Rattle.request_lines.specs.Tokens.{tokens, Cursor, tokens_left, next_token, past_token}
 use Rattle.request_lines.specs.declared.line_errors.LineError.{LineError}

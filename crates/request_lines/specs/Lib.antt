@@ -1,5 +1,5 @@
 pub mod Tokens
-pub mod Numbers
 pub mod Ranges
 pub mod Grammar
 pub mod Requests
+pub mod Spelling

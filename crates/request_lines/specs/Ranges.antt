@@ -1,9 +1,9 @@
-use Rattle.std.specs.Prelude.{ℕ, ◌+◌, Bool, ◌==◌, ◌&&◌, ◌||◌, nat_le, if◌then◌else◌, List, length, drop, slice_index, codes}
+use Rattle.std.specs.Prelude.{ℕ, Bool, ◌==◌, ◌&&◌, ◌||◌, nat_le, if◌then◌else◌, List, length, drop, slice_index, codes}
 use Rattle.std.specs.Str.{bytes_eq}
 use Rattle.std.specs.List.{before_first}
 use Rattle.request_lines.specs.declared.ranges.RangeWord.{RangeWord}
 use Rattle.request_lines.specs.declared.ranges.RangeWord.TheVariants.{Auto, Fixed}
-use Rattle.request_lines.specs.Numbers.{is_integer, integer_value}
+use Rattle.whole_number.specs.Numbers.{is_integer, integer_value}
 
 -- the bytes before the first point
 abbrev pub low_end : List ℕ → List ℕ

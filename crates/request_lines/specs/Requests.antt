@@ -8,7 +8,7 @@ use Rattle.request_lines.specs.declared.requests.Request.{Request}
 use Rattle.request_lines.specs.declared.requests.Request.TheVariants.{Edit as EditRequest, Open, View, Zoom, Pan, Close}
 use Rattle.request_lines.specs.declared.line_errors.LineError.{LineError}
 use Rattle.request_lines.specs.declared.line_errors.LineError.TheVariants.{BadLine, NoMemory}
-use Rattle.request_lines.specs.Numbers.{natural_value, integer_value}
+use Rattle.whole_number.specs.Numbers.{natural_value, integer_value}
 use Rattle.request_lines.specs.Ranges.{range_of}
 use Rattle.request_lines.specs.Tokens.{tokens, Cursor, tokens_left}
 use Rattle.request_lines.specs.declared.line_kinds.LineKind.{LineKind}

@@ -17,10 +17,10 @@
 #![tactic(auto)]
 
 pub mod filter_texts;
+pub mod laws;
 pub mod line_errors;
 pub mod line_kinds;
 pub mod lines;
-pub mod numbers;
 pub mod places;
 pub mod ranges;
 mod readers;

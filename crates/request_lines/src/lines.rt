@@ -1,5 +1,8 @@
-ghost use Rattle.std.specs.Prelude.{◌≡◌, ◌≤◌, length, IfOk, IfErr};
+ghost use Rattle.std.specs.Prelude.{◌≡◌, ◌⊎◌, ◌≤◌, length, Ok, Err, IfOk, IfErr};
 ghost use Rattle.request_lines.specs.declared.line_kinds.LineKind.TheVariants.{Create, Append, Set, Clear, Open, View, Zoom, Pan, Close};
+ghost use Rattle.request_lines.specs.declared.requests.Request.{Request};
+ghost use Rattle.request_lines.specs.declared.line_errors.LineError.TheVariants.{NoMemory};
+ghost use Rattle.request_lines.specs.Spelling.{Spells};
 ghost use Rattle.request_lines.specs.Requests.{IsRequest, IsInRange, RefusesLine, read_line, ReadsAs, Reads};
 
 use crate::line_errors::LineError;
@@ -17,6 +20,10 @@ pub fn parse_line(alloc: Global, line: &[u8]) -> Result<Request, LineError>
     ensures in_range { IfOk result IsInRange }
     ensures err { IfErr result (RefusesLine line.now) }
     ensures reading { ReadsAs (read_line line.now) result }
+
+    // The answer is a request exactly where the line spells it, but for want of memory.
+    ensures spelt { IfOk result (λ request. Spells request line.now) }
+    ensures only { (request : Request) → Spells request line.now → (result ≡ Ok request) ⊎ (result ≡ Err NoMemory) }
 {
     let mut reader = Reader::new(line);
     let word = reader.word();

@@ -1,11 +1,11 @@
 ghost use Rattle.std.specs.Prelude.{◌≡◌, ◌&&◌, nat_le};
-ghost use Rattle.request_lines.specs.Numbers.{is_natural, natural_value};
+ghost use Rattle.whole_number.specs.Numbers.{is_natural, natural_value};
 ghost use Rattle.request_lines.specs.Grammar.{allows, is_digit_token};
 
-use crate::numbers::{integer_value, is_integer, is_natural, natural_value};
 use crate::ranges::is_range;
 use series_book::limits::{GREATEST_START, GREATEST_STEP};
 use series_book::names::is_name;
+use whole_number::numbers::{integer_value, is_integer, is_natural, natural_value};
 
 /// What a place of a line allows.
 #[derive(Clone, Copy, Debug, PartialEq, Eq)]

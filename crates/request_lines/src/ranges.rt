@@ -1,9 +1,9 @@
 ghost use Rattle.std.specs.Prelude.{◌≡◌, ◌<◌, ◌≤◌, ◌==◌, length, IsTrue, IfSome, position};
 ghost use Rattle.std.specs.List.{before_first};
-ghost use Rattle.request_lines.specs.Numbers.{integer_value};
+ghost use Rattle.whole_number.specs.Numbers.{integer_value};
 ghost use Rattle.request_lines.specs.Ranges.{low_end, after_low, is_fixed, is_range, range_of};
 
-use crate::numbers::{integer_value, is_integer};
+use whole_number::numbers::{integer_value, is_integer};
 
 /// The range of values that a view asks for.
 #[derive(Clone, Copy, Debug, PartialEq, Eq)]

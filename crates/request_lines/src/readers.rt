@@ -4,7 +4,7 @@ ghost use Rattle.std.specs.List.{before_first};
 ghost use Rattle.series_book.specs.Names.{is_name};
 ghost use Rattle.series_book.specs.declared.limits.TheConstants.{GREATEST_START, GREATEST_STEP, GREATEST_SCALE};
 ghost use Rattle.request_lines.specs.declared.places.Place.TheVariants.{Name as NamePlace, Start, Step, Scale, Integer, Value, Natural, Session, Range, Where};
-ghost use Rattle.request_lines.specs.Numbers.{is_integer, natural_value, integer_value};
+ghost use Rattle.whole_number.specs.Numbers.{is_integer, natural_value, integer_value};
 ghost use Rattle.request_lines.specs.Ranges.{range_of};
 ghost use Rattle.request_lines.specs.Tokens.{is_space, tokens_left, next_token, past_token};
 ghost use Rattle.request_lines.specs.Grammar.{fault, Takes, Misses, MissesEnd, nothing, one_or_more, any_behind, value_place};
@@ -12,12 +12,12 @@ ghost use Rattle.request_lines.specs.Requests.{value_of, filter_of};
 
 use crate::filter_texts::FilterText;
 use crate::line_errors::LineError;
-use crate::numbers::{integer_value, natural_value};
 use crate::places::Place;
 use crate::ranges::{RangeWord, range_of};
 use series_book::{Name, Values};
 use std::alloc::Global;
 use std::marker::Model;
+use whole_number::numbers::{integer_value, natural_value};
 
 /// Takes the tokens of a line one by one. It is seen as the line and the offset of the next token.
 #[derive(Drop)]
@@ -172,7 +172,8 @@ impl<'a> Reader<'a> {
 
     /// Takes all tokens that are left, one at least, as values; missing ones only where they may be.
     pub(crate) fn values(&mut self, alloc: Global, may_miss: bool) -> Result<Values, LineError>
-        ensures ok { IfOk result (λ values. (fault (length self.old.line) [] (one_or_more (value_place may_miss)) (tokens_left self.old) self.old.at ≡ None) × (values ≡ map value_of (tokens_left self.old))) }
+        ensures ok { IfOk result (λ values. (fault (length self.old.line) [] (one_or_more (value_place may_miss)) (tokens_left self.old) self.old.at ≡ None)
+            × (values ≡ map value_of (tokens_left self.old))) }
         ensures some { IfOk result (λ values. 0 < length values) }
         ensures there { may_miss ≡ false → IfOk result (λ values. All (λ value. IsSome value) values) }
         ensures err { IfErr result (MissesEnd (one_or_more (value_place may_miss)) self.old) }

@@ -1,20 +1,20 @@
 -- The range of values that rows show is that of their points.
-use Rattle.std.proofs.Common.{◌≡◌, ◌≢◌, ℕ, ℤ, pos, ◌+◌, ◌<◌, ◌≤ℤ◌, ◌⊎◌, inl, inr, zero, suc, List, [], ◌∷◌, ◌++◌, length, map, get_or, Option, None, Some, unwrap_or, All, Contains, sym, ap, subst, ◌∙◌, refl, arith}
+use Rattle.std.proofs.Common.{◌≡◌, ℕ, ℤ, pos, ◌<◌, ◌≤ℤ◌, ◌⊎◌, inl, inr, zero, suc, List, [], ◌∷◌, ◌++◌, length, map, get_or, Option, None, Some, unwrap_or, All, Contains, sym, ap, subst, refl, arith}
 use Rattle.std.specs.Int.{int_min, int_max}
 use Rattle.std.proofs.lemmas.Int.{ints}
 use Rattle.std.proofs.lemmas.Bool.{cases_eq}
 use Rattle.std.proofs.lemmas.List.{map-append}
-use Rattle.std.proofs.lemmas.List.Elements.{All-nil, All-cons, All-head, All-tail, All-append, All-contains, Contains-append_left, Contains-append_right}
+use Rattle.std.proofs.lemmas.List.Elements.{All-nil, All-cons, All-append, All-contains, Contains-append_left, Contains-append_right}
 use Rattle.chart_grid.specs.declared.grid.Grid.{Grid}
 use Rattle.chart_grid.specs.Projection.{column}
 use Rattle.line_raster.specs.declared.position.Point.{Point}
 use Rattle.plain_chart.specs.declared.value_range.ValueRange.{ValueRange}
-use Rattle.plain_chart.specs.Samples.{Spans, IsRange, IsValue, values_of}
+use Rattle.plain_chart.specs.Samples.{Spans, IsRange, values_of, sample_points}
+use Rattle.whole_number.specs.Range.{IsValue}
 use Rattle.plain_chart.specs.declared.sample.Sample.{Sample}
-use Rattle.row_chart.specs.Points.{points_of}
 use Rattle.m4_groups.specs.declared.row.Row.{Row}
 use Rattle.m4_groups.specs.Points.{spots, values_in}
-use Rattle.m4_groups.specs.Rows.{Sums, columns_of, AreRows, AreRowsOf}
+use Rattle.m4_groups.specs.Rows.{columns_of, AreRowsOf}
 use Rattle.m4_groups.specs.Heights.{IsDrawable}
 use Rattle.m4_groups.proofs.Values.{values_in-own, values_in-other, Contains-here, Contains-later}
 use Rattle.row_chart.specs.Ranges.{values_at, SpanRows, SpansRows}
@@ -214,7 +214,7 @@ range_sizes w rows (Some a) z low high drawable s =
     )
 
 -- samples as points have their values
-pub values-same : (samples : List Sample) → values_at (points_of samples) ≡ values_of samples
+pub values-same : (samples : List Sample) → values_at (sample_points samples) ≡ values_of samples
 values-same [] = refl
 values-same (s ∷ samples) = ap (λ vs. s.value ∷ vs) (values-same samples)
 

@@ -1,7 +1,6 @@
 -- The range of values that rows show.
 use Rattle.std.specs.Prelude.{ℤ, ◌≡◌, List, [], map, Option, None, Some}
 use Rattle.plain_chart.specs.declared.value_range.ValueRange.{ValueRange}
-use Rattle.plain_chart.specs.Samples.{Spans}
 use Rattle.m4_groups.specs.declared.row.Row.{Row}
 use Rattle.std.specs.Prelude.{◌≤ℤ◌, All, Contains}
 

@@ -1,10 +1,10 @@
 ghost use Rattle.std.specs.Prelude.{◌≡◌, ℤ, ◌<◌, List, Option, All, IfOk};
 ghost use Rattle.chart_grid.specs.declared.axis.Axis.{Axis};
-ghost use Rattle.plain_chart.specs.Samples.{kept, IsValue};
+ghost use Rattle.plain_chart.specs.Samples.{kept, sample_points};
+ghost use Rattle.whole_number.specs.Range.{IsValue};
 ghost use Rattle.plain_chart.specs.Chart.{IsChart, IsScale};
 ghost use Rattle.m4_groups.specs.Rows.{AreRowsOf, AreRising};
 ghost use Rattle.m4_groups.specs.Heights.{IsDrawable};
-ghost use Rattle.row_chart.specs.Points.{points_of};
 
 use crate::no_memory::NoMemory;
 use chart_grid::Grid;
@@ -26,7 +26,7 @@ pub fn chart_of_rows(
     requires scale { IsScale range }
     requires high { IsValue range.hi }
     ensures { IfOk result (λ drawing. (axis : Axis) (slots : List (Option ℤ)) → 0 < axis.step →
-        AreRowsOf grid (points_of (kept grid axis slots)) rows.now → IsChart grid range (kept grid axis slots) drawing) }
+        AreRowsOf grid (sample_points (kept grid axis slots)) rows.now → IsChart grid range (kept grid axis slots) drawing) }
 {
     let mut bitmap = Bitmap::new(alloc, grid.w(), grid.h())?;
     draw_rows(&mut bitmap, rows, range.lo, range.hi);

@@ -1,8 +1,8 @@
 //! The chart of a series' slots, drawn from at most four values a column.
 //!
-//! The slots of a pixel column are one range of slots. Each column is drawn once, from the first, the
-//! least, the greatest and the last value that its slots store, however many they are. The picture is
-//! the same as that of every segment between consecutive samples, pixel for pixel.
+//! Samples are gathered one by one. Each column is drawn once, from the first, the least, the greatest
+//! and the last value that its slots store, however many they are. The picture is the same as that of
+//! every segment between consecutive samples, pixel for pixel.
 //!
 //! Nothing is kept between calls. Which range of values is shown is left to the layer above.
 #![tactic(auto)]
@@ -11,7 +11,6 @@ mod drawing;
 mod gathering;
 mod no_memory;
 mod range;
-mod summary;
 
 pub use drawing::chart_of_rows;
 pub use gathering::rows_of_slots;

@@ -23,3 +23,9 @@ impl From<line_raster::NoMemory> for NoMemory {
         NoMemory
     }
 }
+
+impl From<m4_groups::NoMemory> for NoMemory {
+    fn from(_error: m4_groups::NoMemory) -> NoMemory {
+        NoMemory
+    }
+}

@@ -1,9 +1,9 @@
 ghost use Rattle.std.specs.Prelude.{◌≡◌, ℕ, ◌≤ℤ◌, ◌∷◌, [], ◌++◌, List, Some, All};
 ghost use Rattle.std.specs.Int.{int_min, int_max};
 ghost use Rattle.chart_grid.specs.declared.grid.Grid.{Grid};
-ghost use Rattle.plain_chart.specs.Samples.{values_of, IsRange, IsValue};
+ghost use Rattle.plain_chart.specs.Samples.{values_of, IsRange, sample_points};
+ghost use Rattle.whole_number.specs.Range.{IsValue};
 ghost use Rattle.plain_chart.specs.declared.sample.Sample.{Sample};
-ghost use Rattle.row_chart.specs.Points.{points_of};
 ghost use Rattle.m4_groups.specs.declared.row.Row.{Row};
 ghost use Rattle.m4_groups.specs.Rows.{AreRowsOf};
 ghost use Rattle.m4_groups.specs.Heights.{IsDrawable};
@@ -15,7 +15,7 @@ use plain_chart::ValueRange;
 /// The least and the greatest value of the samples whose rows these are, and 0 and 0 where there are
 /// none.
 pub fn range_of_rows(rows: &Rows) -> ValueRange
-    ensures range { (grid : Grid) (samples : List Sample) → AreRowsOf grid (points_of samples) rows.now → IsRange (values_of samples) result }
+    ensures range { (grid : Grid) (samples : List Sample) → AreRowsOf grid (sample_points samples) rows.now → IsRange (values_of samples) result }
     ensures order { (w : ℕ) → All (IsDrawable w) rows.now → result.lo ≤ℤ result.hi }
     ensures sizes { (w : ℕ) → All (IsDrawable w) rows.now → IsValue result.lo × IsValue result.hi }
 {

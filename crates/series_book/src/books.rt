@@ -124,7 +124,8 @@ impl Book {
         requires shorter { IfSome (slice_get self.old id) (λ series. before ≤ length series.slots) }
         requires fits { length displaced.now ≤ before - place }
         requires in_range { All (λ value. is_too_large value ≡ false) displaced.now }
-        ensures { (series : Series) (old run : List (Option ℤ)) → self.old ≡ with_slots self.old id series (overwritten old place run) → displaced.now ≡ take (length run) (drop place old) → before ≡ length old → self.new ≡ with_slots self.old id series old }
+        ensures { (series : Series) (old run : List (Option ℤ)) → self.old ≡ with_slots self.old id series (overwritten old place run)
+            → displaced.now ≡ take (length run) (drop place old) → before ≡ length old → self.new ≡ with_slots self.old id series old }
     {
         let series = &mut self.series[id];
         series.slots.take_back(place, displaced, before);

@@ -8,15 +8,17 @@ ghost use Rattle.series_book.specs.Edits.{is_too_large, place_of, distance, over
 ghost use Rattle.series_book.specs.Axes.{IsAxisOf};
 
 use crate::axis::Axis;
-use crate::limits::{GREATEST_VALUE, MOST_CLEARED, MOST_SLOTS, MOST_VALUES};
+use crate::limits::{MOST_CLEARED, MOST_SLOTS, MOST_VALUES};
 use crate::refusals::Refusal;
 use crate::value_list::Values;
+use whole_number::limits::GREATEST_VALUE;
 
 /// The refusal of an append that stands before the pages are counted.
 #[tactic(auto, unfolding(crate::specs::Edits::appended))]
 pub fn append_refusal(axis: Axis, values: &Values) -> Option<Refusal>
     requires slots { axis.slots ≤ MOST_SLOTS }
-    ensures refusal { (series : Series) → IsAxisOf series axis → MatchOption result (appended series values.now ≡ Ok (overwritten series.slots (length series.slots) values.now)) (λ refusal. appended series values.now ≡ Err refusal) }
+    ensures refusal { (series : Series) → IsAxisOf series axis
+        → MatchOption result (appended series values.now ≡ Ok (overwritten series.slots (length series.slots) values.now)) (λ refusal. appended series values.now ≡ Err refusal) }
     ensures in_range { IfNone result (list_any is_too_large values.now ≡ false) }
     ensures few { IfNone result (length values.now ≤ MOST_VALUES) }
     ensures room { IfNone result (axis.slots + length values.now ≤ MOST_SLOTS) }
@@ -38,7 +40,8 @@ pub fn append_refusal(axis: Axis, values: &Values) -> Option<Refusal>
 pub fn set_refusal(axis: Axis, time: i128, values: &Values) -> Option<Refusal>
     requires slots { axis.slots ≤ MOST_SLOTS }
     requires step { 1 ≤ axis.step }
-    ensures refusal { (series : Series) → IsAxisOf series axis → MatchOption result (set_at series time values.now ≡ Ok (overwritten series.slots (place_of series time) values.now)) (λ refusal. set_at series time values.now ≡ Err refusal) }
+    ensures refusal { (series : Series) → IsAxisOf series axis
+        → MatchOption result (set_at series time values.now ≡ Ok (overwritten series.slots (place_of series time) values.now)) (λ refusal. set_at series time values.now ≡ Err refusal) }
     ensures in_range { IfNone result (list_any is_too_large values.now ≡ false) }
     ensures few { IfNone result (length values.now ≤ MOST_VALUES) }
     ensures room { (series : Series) → IsAxisOf series axis → IfNone result (place_of series time + length values.now ≤ MOST_SLOTS) }
@@ -63,7 +66,8 @@ pub fn set_refusal(axis: Axis, time: i128, values: &Values) -> Option<Refusal>
 #[tactic(auto, unfolding(crate::specs::Edits::cleared_at))]
 pub fn clear_refusal(axis: Axis, time: i128, count: u64) -> Option<Refusal>
     requires { 1 ≤ axis.step }
-    ensures refusal { (series : Series) → IsAxisOf series axis → MatchOption result (cleared_at series time count ≡ Ok (cleared series.slots (place_of series time) count)) (λ refusal. cleared_at series time count ≡ Err refusal) }
+    ensures refusal { (series : Series) → IsAxisOf series axis
+        → MatchOption result (cleared_at series time count ≡ Ok (cleared series.slots (place_of series time) count)) (λ refusal. cleared_at series time count ≡ Err refusal) }
     ensures few { IfNone result (count ≤ MOST_CLEARED) }
 {
     if let Some(refusal) = time_refusal(axis, time) {

@@ -1,3 +1,5 @@
+use whole_number::limits::GREATEST_VALUE;
+
 /// The most slots that a series has: 128^4.
 pub const MOST_SLOTS: u64 = 268_435_456;
 
@@ -13,11 +15,8 @@ pub const MOST_VALUES: usize = 256;
 /// The most slots of a clear.
 pub const MOST_CLEARED: u64 = 4_096;
 
-/// The greatest size of a stored value.
-pub const GREATEST_VALUE: u64 = 1_000_000_000_000_000_000;
-
 /// The greatest size of a start.
-pub const GREATEST_START: u64 = 1_000_000_000_000_000_000;
+pub const GREATEST_START: u64 = GREATEST_VALUE;
 
 /// The greatest step.
 pub const GREATEST_STEP: u32 = 2_147_483_648;

@@ -189,8 +189,10 @@ impl ListBook {
         requires there { id < length self.old.book }
         requires room { place + length run.now ≤ MOST_SLOTS }
         requires in_range { All (λ value. is_too_large value ≡ false) run.now }
-        ensures ok { IfOk result (λ outcome. IfSome (slice_get self.old.book id) (λ series. within self.old.total self.old.book id series (Ok (overwritten series.slots place run.now)) ≡ Ok (record { book = self.new.book; slots = outcome.slots }))) }
-        ensures refused { IfErr result (λ error. IfSome (slice_get self.old.book id) (λ series. RefusesEdit (within self.old.total self.old.book id series (Ok (overwritten series.slots place run.now))) error)) }
+        ensures ok { IfOk result (λ outcome. IfSome (slice_get self.old.book id)
+            (λ series. within self.old.total self.old.book id series (Ok (overwritten series.slots place run.now)) ≡ Ok (record { book = self.new.book; slots = outcome.slots }))) }
+        ensures refused { IfErr result (λ error. IfSome (slice_get self.old.book id)
+            (λ series. RefusesEdit (within self.old.total self.old.book id series (Ok (overwritten series.slots place run.now))) error)) }
         ensures err { OnErr result (self.new ≡ self.old) }
         ensures total { self.new.total ≡ self.old.total }
     {

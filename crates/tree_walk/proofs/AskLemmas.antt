@@ -17,10 +17,10 @@ use Rattle.node_page.specs.Places.{page_level, node_number}
 use Rattle.tree_walk.specs.declared.tree.Tree.{Tree}
 use Rattle.tree_walk.specs.declared.trail.Trail.{Trail}
 use Rattle.tree_walk.specs.declared.held_page.HeldPage.{HeldPage}
-use Rattle.tree_walk.specs.Paths.{path_index, path_child, page_below, page_on_path, told_by_pages, HasFault, IsDamaged}
+use Rattle.tree_walk.specs.Paths.{path_index, path_child, page_below, page_on_path, told_by_pages, HasFault, IsDamaged, IsDamagedFor}
 use Rattle.tree_walk.specs.Trails.{number_at, bytes_at, AreHeld, LeadsTo, LeadsToAny}
 use Rattle.tree_walk.specs.Holding.{KeptWalking, IsBadOnPath, IsCauseOf}
-use Rattle.tree_walk.specs.PagedNodes.{Ground, IsSeen, paged_view}
+use Rattle.tree_walk.specs.PagedNodes.{Ground, IsSeen, IsWayError, paged_view}
 use Rattle.tree_walk.proofs.PathLemmas.{level_low, level_few, level_some, child_few, held_below, on_path, told_at}
 use Rattle.tree_walk.proofs.SeenLemmas.{child_is_there}
 
@@ -74,21 +74,32 @@ pub splits_none : {T E : Type 0} (r : Result T E) (s : Span) (c : Coef) → is_e
 splits_none (Ok p) s c is none = absurd (cc)
 splits_none (Err e) s c is none = none
 
+-- what is damaged on the way to a key is damaged
+pub damaged_by : (image : Image) (total : ℕ) (tree : Tree) (k : Key) (s : Span) (page : ℕ) → IsNode (height tree.slots) k → known tree.span (told_by_pages image tree) (height tree.slots) k ≡ Some (Some s)
+    → IsDamagedFor image total tree k s page → IsDamaged image total tree page
+damaged_by image total tree k s page node seen bad = record {
+  key = k;
+  node = node;
+  span = s;
+  seen = seen;
+  level = bad.level;
+  above = bad.above;
+  below = bad.below;
+  there = bad.there;
+  fault = bad.fault;
+}
+
 -- it doesn't split
-pub end_bad : (told told' : Type 0) (old new : View) (tree : Tree) (pages : List HeldPage) (len : ℕ) (k : Key) (s : Span) (depth number : ℕ) (c : Coef) → KeptWalking told told' old new
+pub end_way : (told told' : Type 0) (old new : View) (tree : Tree) (pages : List HeldPage) (len : ℕ) (k : Key) (s : Span) (depth number : ℕ) (c : Coef) → KeptWalking told told' old new
     → AreHeld told' new.image new.size (page_levels tree.slots) pages len → LeadsTo tree pages len k → depth ≡ page_levels tree.slots - page_level k.level
-    → IsSeen told old tree k s → number_at pages depth ≡ number → c ≡ coef_at (bytes_at pages depth) (node_number k) → parts s c ≡ None → told → IsDamaged old.image old.size tree number
-end_bad told told' old new tree pages len k s depth number c kept held leads is seen same coef bad tells =
+    → number_at pages depth ≡ number → c ≡ coef_at (bytes_at pages depth) (node_number k) → parts s c ≡ None → told → IsDamagedFor old.image old.size tree k s number
+end_way told told' old new tree pages len k s depth number c kept held leads is same coef bad tells =
     let own : ℕ = page_level k.level in
     let there = end_there told told' old new tree pages len k depth kept held leads is tells in
     let bytes = end_bytes told told' old new tree pages len k depth kept held leads is tells in
-    let P : ℕ → Type 0 = λ p. IsDamaged old.image old.size tree p in
+    let P : ℕ → Type 0 = λ p. IsDamagedFor old.image old.size tree k s p in
     let F : List ℕ → Type 0 = λ b. HasFault old.size k s own b in
     let here : P (number_at pages depth) = record {
-      key = k;
-      node = leads.node;
-      span = s;
-      seen = seen tells;
       level = own;
       above = omega arith;
       below = level_few k.level (page_levels tree.slots) leads.node.high;
@@ -96,6 +107,12 @@ end_bad told told' old new tree pages len k s depth number c kept held leads is 
       fault = subst F bytes (inr (inr (inr (refl, ap (parts s) (sym coef) ∙ bad))));
     } in
     subst P same here
+
+pub end_bad : (told told' : Type 0) (old new : View) (tree : Tree) (pages : List HeldPage) (len : ℕ) (k : Key) (s : Span) (depth number : ℕ) (c : Coef) → KeptWalking told told' old new
+    → AreHeld told' new.image new.size (page_levels tree.slots) pages len → LeadsTo tree pages len k → depth ≡ page_levels tree.slots - page_level k.level
+    → IsSeen told old tree k s → number_at pages depth ≡ number → c ≡ coef_at (bytes_at pages depth) (node_number k) → parts s c ≡ None → told → IsDamaged old.image old.size tree number
+end_bad told told' old new tree pages len k s depth number c kept held leads is seen same coef bad tells =
+    damaged_by old.image old.size tree k s number leads.node (seen tells) (end_way told told' old new tree pages len k s depth number c kept held leads is same coef bad tells)
 
 -- a page on the way that is found bad is damaged
 path_fault : (view : View) (tree : Tree) (k : Key) (s : Span) (page : ℕ) → IsNode (height tree.slots) k → known tree.span (told_by_pages view.image tree) (height tree.slots) k ≡ Some (Some s)
@@ -116,12 +133,8 @@ path_fault view tree k s page node seen bad = elim bad.bad [
 ]
 
 pub path_damaged : (view : View) (tree : Tree) (k : Key) (s : Span) (page : ℕ) → IsNode (height tree.slots) k → known tree.span (told_by_pages view.image tree) (height tree.slots) k ≡ Some (Some s)
-    → IsBadOnPath view tree k page → IsDamaged view.image view.size tree page
+    → IsBadOnPath view tree k page → IsDamagedFor view.image view.size tree k s page
 path_damaged view tree k s page node seen bad = record {
-  key = k;
-  node = node;
-  span = s;
-  seen = seen;
   level = bad.level;
   above = bad.above;
   below = bad.below;
@@ -129,10 +142,18 @@ path_damaged view tree k s page node seen bad = record {
   fault = path_fault view tree k s page node seen bad;
 }
 
+pub path_way : (told : Type 0) (old new : View) (tree : Tree) (k : Key) (s : Span) (e : NodeError) → IsNode (height tree.slots) k → IsSeen told old tree k s
+    → IsCauseOf told old new tree k e → IsWayError told old tree k s e
+path_way told old new tree k s DiskFault node seen cause = tt
+path_way told old new tree k s (Damaged page) node seen cause = λ tells. path_damaged old tree k s page node (seen tells) (cause tells)
+path_way told old new tree k s (Missing key) node seen cause = cause
+path_way told old new tree k s (BadCoefficient key) node seen cause = cause
+
 pub path_cause : (old new : Ground) (trail trail' : Trail) (k : Key) (s : Span) (e : NodeError) → IsNode (height old.tree.slots) k → IsSeen old.told old.view old.tree k s
     → IsCauseOf old.told old.view new.view old.tree k e → HasCause (paged_view old trail) (paged_view new trail') e
 path_cause old new trail trail' k s DiskFault node seen cause = cause
-path_cause old new trail trail' k s (Damaged page) node seen cause = λ tells. path_damaged old.view old.tree k s page node (seen tells) (cause tells)
+path_cause old new trail trail' k s (Damaged page) node seen cause = λ tells.
+    damaged_by old.view.image old.view.size old.tree k s page node (seen tells) (path_damaged old.view old.tree k s page node (seen tells) (cause tells))
 path_cause old new trail trail' k s (Missing key) node seen cause = cause
 path_cause old new trail trail' k s (BadCoefficient key) node seen cause = cause
 

@@ -4,3 +4,4 @@ pub mod Trees
 pub mod Trails
 pub mod Holding
 pub mod PagedNodes
+pub mod Walk

@@ -18,7 +18,7 @@ use Rattle.page_space.specs.declared.superblock.Superblock.{Superblock}
 use Rattle.tree_walk.specs.declared.tree.Tree.{Tree}
 use Rattle.tree_walk.specs.declared.trail.Trail.{Trail}
 use Rattle.tree_walk.specs.SpaceViews.{space_view}
-use Rattle.tree_walk.specs.Paths.{told_by_pages, IsDamaged}
+use Rattle.tree_walk.specs.Paths.{told_by_pages, IsDamaged, IsDamagedFor}
 use Rattle.tree_walk.specs.Trails.{IsTrailOf}
 
 -- the trail of this tree over these pages
@@ -40,6 +40,13 @@ IsPageError tells pages tree DiskFault = ⊥
 IsPageError tells pages tree (Damaged page) = tells → IsDamaged pages.image pages.size tree page
 IsPageError tells pages tree (Missing key) = ⊥
 IsPageError tells pages tree (BadCoefficient key) = ⊥
+
+-- where an ask for this key tells of a damaged page, and the pages tell what they are, it is one on the way to the key
+abbrev pub IsWayError : Type 0 → View → Tree → Key → Span → NodeError → Type 0
+IsWayError tells pages tree k s DiskFault = Unit {0}
+IsWayError tells pages tree k s (Damaged page) = tells → IsDamagedFor pages.image pages.size tree k s page
+IsWayError tells pages tree k s (Missing key) = ⊥
+IsWayError tells pages tree k s (BadCoefficient key) = ⊥
 
 -- what nodes stand on: whether reads tell the pages, the pages of the space, how many pages there are,
 -- what these lie on, the numbers of page 0, and the tree

@@ -67,3 +67,11 @@ pub record IsDamaged (image : Image) (total : ℕ) (tree : Tree) (page : ℕ) : 
   pub below : level ≤ page_levels tree.slots
   pub there : page_on_path image tree key level ≡ Some page
   pub fault : HasFault total key span level (image page)
+
+-- a page with a fault is on the way to this key, which has this span
+pub record IsDamagedFor (image : Image) (total : ℕ) (tree : Tree) (key : Key) (span : Span) (page : ℕ) : Type 0 where
+  pub level : ℕ
+  pub above : page_level key.level ≤ level
+  pub below : level ≤ page_levels tree.slots
+  pub there : page_on_path image tree key level ≡ Some page
+  pub fault : HasFault total key span level (image page)

@@ -3,10 +3,9 @@ ghost use Rattle.std.specs.Prelude.{◌≡◌, ◌≤◌, ◌+◌, None, Some, I
 ghost use Rattle.om3_coeff.specs.Keys.{page_levels, height, IsNode, MayFollow};
 ghost use Rattle.om3_coeff.specs.Spans.{IsProper};
 ghost use Rattle.om3_coeff.specs.Coefs.{parts};
-ghost use Rattle.om3_coeff.specs.View.{HasCause};
+ghost use Rattle.page_space.specs.Shown as shown;
 ghost use Rattle.tree_walk.specs.Paths.{told_by_pages};
-ghost use Rattle.tree_walk.specs.SpaceViews.{space_view};
-ghost use Rattle.tree_walk.specs.PagedNodes.{IsFit, IsSeen, Keeps, ground, paged_view};
+ghost use Rattle.tree_walk.specs.Walk as walk;
 
 use crate::paths::descend;
 use crate::trail::Trail;
@@ -29,25 +28,27 @@ pub fn coef_at<P: Pages>(
     key: Key,
     span: Span,
 ) -> Result<Coef, NodeError>
-    requires fit { IsFit (P.told space.old.pages) (space_view space.old.superblock (P.view space.old.pages)) tree trail.old }
+    requires fit { walk.MayBeAsked space.old tree trail.old }
     requires key { IsNode (height tree.slots) key }
     requires span { IsProper span }
-    requires seen { IsSeen (P.told space.old.pages) (space_view space.old.superblock (P.view space.old.pages)) tree key span }
+    requires seen { walk.HasSpan space.old tree key span }
 
-    ensures fit { IsFit (P.told space.new.pages) (space_view space.new.superblock (P.view space.new.pages)) tree trail.new }
-    ensures kept { Keeps (ground (P.told space.old.pages) (P.view space.old.pages) (P.under space.old.pages) space.old.superblock tree) (ground (P.told space.new.pages) (P.view space.new.pages) (P.under space.new.pages) space.new.superblock tree) }
-    ensures told { IfOk result (λ coef. P.told space.old.pages → told_by_pages (P.view space.old.pages).image tree key ≡ Some coef) }
+    ensures fit { walk.MayBeAsked space.new tree trail.new }
+    ensures kept { walk.Asks space.old space.new tree }
+    ensures told { IfOk result (λ coef. shown.IsTold space.old → told_by_pages (shown.image space.old) tree key ≡ Some coef) }
     ensures splits { IfOk result (λ coef. IsSome (parts span coef)) }
 
     ensures asked { OnOk result (trail.new.asked ≡ Some key) }
     ensures failed { OnErr result (trail.new.asked ≡ None) }
 
     // an ask in tree order reads one page at most, another one a page a page level
-    ensures one_read { MayFollow (height tree.slots) trail.old.asked key → (P.view space.new.pages).reads ≤ (P.view space.old.pages).reads + 1 }
-    ensures reads { (P.view space.new.pages).reads ≤ (P.view space.old.pages).reads + page_levels tree.slots }
+    ensures one_read { MayFollow (height tree.slots) trail.old.asked key → (shown.view space.new).reads ≤ (shown.view space.old).reads + 1 }
+    ensures reads { (shown.view space.new).reads ≤ (shown.view space.old).reads + page_levels tree.slots }
 
-    ensures faults { (P.view space.old.pages).faults ≤ (P.view space.new.pages).faults }
-    ensures cause { IfErr result (HasCause (paged_view (ground (P.told space.old.pages) (P.view space.old.pages) (P.under space.old.pages) space.old.superblock tree) trail.old) (paged_view (ground (P.told space.new.pages) (P.view space.new.pages) (P.under space.new.pages) space.new.superblock tree) trail.new)) }
+    ensures faults { (shown.view space.old).faults ≤ (shown.view space.new).faults }
+    ensures cause { IfErr result (λ cause. walk.Explains cause space.old space.new tree trail.old trail.new) }
+    // the damaged page stands on the way to this key
+    ensures damaged { IfErr result (λ cause. walk.BlamesWay cause space.old tree key span) }
 {
     trail.asked = None;
     let depth = descend(space, trail, tree, key)?;

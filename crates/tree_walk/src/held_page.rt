@@ -1,7 +1,8 @@
 //! A page that was read, with its number.
-ghost use Rattle.std.specs.Prelude.{◌≡◌, length};
+ghost use Rattle.block_disk.specs.Blocks.{IsBlock};
 
 use crate::errors::NoMemory;
+use block_disk::BLOCK;
 use std::alloc::Global;
 
 /// A page that was read, with its number.
@@ -9,13 +10,13 @@ use std::alloc::Global;
 pub struct HeldPage {
     pub(crate) number: u32,
     pub(crate) bytes: Vec<u8>,
-    ghost whole: { length bytes.items ≡ 4096 },
+    ghost whole: { IsBlock bytes.items },
 }
 
 impl HeldPage {
     /// A buffer for a page.
     pub(crate) fn new(alloc: Global) -> Result<HeldPage, NoMemory> {
-        let bytes = vec![in alloc; 0; 4096]?;
+        let bytes = vec![in alloc; 0; BLOCK]?;
         Ok(HeldPage { number: 0, bytes })
     }
 }

@@ -3,12 +3,12 @@
 ghost use Rattle.std.specs.Prelude.{ℕ, ℤ, List, Option};
 ghost use Rattle.block_disk.specs.View.{Image};
 ghost use Rattle.om3_coeff.specs.View.{Agrees};
+ghost use Rattle.page_space.specs.Shown as shown;
 ghost use Rattle.tree_walk.specs.declared.tree.Tree.{Tree};
 ghost use Rattle.tree_walk.specs.Paths.{IsDamaged};
 ghost use Rattle.tree_walk.specs.Trails.{IsTrailOfAny};
 ghost use Rattle.tree_walk.specs.Trees.{StandsFor};
-ghost use Rattle.tree_walk.specs.SpaceViews.{space_view};
-ghost use Rattle.tree_walk.specs.PagedNodes.{IsTrail, ground, paged_view};
+ghost use Rattle.tree_walk.specs.Walk as walk;
 
 use crate::paged_nodes::PagedNodes;
 use crate::trail::Trail;
@@ -18,11 +18,11 @@ use page_space::Space;
 /// Where the pages of a space tell what they are, and stand with a tree for a list, the nodes over them
 /// agree with the list. They are fit where the pages are sound and the trail is theirs.
 pub fn standing_pages_agree<P: Pages>(nodes: &PagedNodes<P>)
-    ensures agrees { (list : List (Option ℤ)) → P.told nodes.now.space.pages → StandsFor (P.view nodes.now.space.pages).image nodes.now.space.superblock.total nodes.now.tree list
-        → Agrees (paged_view (ground (P.told nodes.now.space.pages) (P.view nodes.now.space.pages) (P.under nodes.now.space.pages) nodes.now.space.superblock nodes.now.tree) nodes.now.trail) list }
-    ensures fit { (list : List (Option ℤ)) → (P.view nodes.now.space.pages).fit → StandsFor (P.view nodes.now.space.pages).image nodes.now.space.superblock.total nodes.now.tree list
-        → IsTrail (P.told nodes.now.space.pages) (space_view nodes.now.space.superblock (P.view nodes.now.space.pages)) nodes.now.tree nodes.now.trail
-        → (paged_view (ground (P.told nodes.now.space.pages) (P.view nodes.now.space.pages) (P.under nodes.now.space.pages) nodes.now.space.superblock nodes.now.tree) nodes.now.trail).fit }
+    ensures agrees { (list : List (Option ℤ)) → shown.IsTold nodes.now.space → StandsFor (shown.image nodes.now.space) (shown.total nodes.now.space) nodes.now.tree list
+        → Agrees (walk.nodes nodes.now.space nodes.now.tree nodes.now.trail) list }
+    ensures fit { (list : List (Option ℤ)) → shown.IsSound nodes.now.space → StandsFor (shown.image nodes.now.space) (shown.total nodes.now.space) nodes.now.tree list
+        → walk.HasTrail nodes.now.space nodes.now.tree nodes.now.trail
+        → (walk.nodes nodes.now.space nodes.now.tree nodes.now.trail).fit }
 {
     let _total = nodes.space.total();
 }
@@ -35,7 +35,7 @@ pub fn standing_pages_are_sound()
 
 /// An empty trail is one of any tree over any pages.
 pub fn empty_trails_fit<P: Pages>(space: &Space<P>, trail: &Trail)
-    ensures { (tree : Tree) → IsTrailOfAny trail.now.pages.items trail.now.len trail.now.asked → IsTrail (P.told space.now.pages) (space_view space.now.superblock (P.view space.now.pages)) tree trail.now }
+    ensures { (tree : Tree) → IsTrailOfAny trail.now.pages.items trail.now.len trail.now.asked → walk.HasTrail space.now tree trail.now }
 {
     let _space = space;
     let _trail = trail;

@@ -17,11 +17,12 @@ pub struct PagedNodes<P: Pages> {
 }
 
 impl<P: Pages> Nodes for PagedNodes<P> {
-    ghost use Rattle.tree_walk.specs.PagedNodes.{ground, paged_view, Keeps, pages_keep, pages_keep_on, pages_stay};
+    ghost use Rattle.tree_walk.specs.PagedNodes.{Keeps, pages_keep, pages_keep_on, pages_stay};
+    ghost use Rattle.tree_walk.specs.Walk as walk;
 
-    ghost view = { λ nodes. paged_view (ground (P.told nodes.space.pages) (P.view nodes.space.pages) (P.under nodes.space.pages) nodes.space.superblock nodes.tree) nodes.trail };
+    ghost view = { λ nodes. walk.nodes nodes.space nodes.tree nodes.trail };
 
-    ghost keeps = { λ old new. Keeps (ground (P.told old.space.pages) (P.view old.space.pages) (P.under old.space.pages) old.space.superblock old.tree) (ground (P.told new.space.pages) (P.view new.space.pages) (P.under new.space.pages) new.space.superblock new.tree) };
+    ghost keeps = { λ old new. Keeps (walk.under old.space old.tree) (walk.under new.space new.tree) };
 
     fn slots(&self) -> u64 {
         self.tree.slots
@@ -35,9 +36,9 @@ impl<P: Pages> Nodes for PagedNodes<P> {
         coef_at(&mut self.space, &mut self.trail, self.tree, key, span)
     }
 
-    ghost keeps_itself = { λ nodes. pages_keep (ground (P.told nodes.space.pages) (P.view nodes.space.pages) (P.under nodes.space.pages) nodes.space.superblock nodes.tree) };
+    ghost keeps_itself = { λ nodes. pages_keep (walk.under nodes.space nodes.tree) };
 
-    ghost keeps_on = { λ old between new. pages_keep_on (ground (P.told old.space.pages) (P.view old.space.pages) (P.under old.space.pages) old.space.superblock old.tree) (ground (P.told between.space.pages) (P.view between.space.pages) (P.under between.space.pages) between.space.superblock between.tree) (ground (P.told new.space.pages) (P.view new.space.pages) (P.under new.space.pages) new.space.superblock new.tree) };
+    ghost keeps_on = { λ old between new. pages_keep_on (walk.under old.space old.tree) (walk.under between.space between.tree) (walk.under new.space new.tree) };
 
-    ghost keeps_same = { λ old new. pages_stay (ground (P.told old.space.pages) (P.view old.space.pages) (P.under old.space.pages) old.space.superblock old.tree) (ground (P.told new.space.pages) (P.view new.space.pages) (P.under new.space.pages) new.space.superblock new.tree) old.trail new.trail };
+    ghost keeps_same = { λ old new. pages_stay (walk.under old.space old.tree) (walk.under new.space new.tree) old.trail new.trail };
 }

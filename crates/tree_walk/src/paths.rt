@@ -1,16 +1,17 @@
 //! The way from the root to a key.
-ghost use Rattle.std.specs.Prelude.{◌≡◌, ◌≢◌, ◌≤◌, ◌<◌, ◌+◌, ◌-◌, ◌*◌, ◌^◌, ◌⊎◌, Some, false, length, IsTrue, IfOk, IfErr, OnOk, OnErr};
-ghost use Rattle.gate_pages.specs.Pages.{Reads};
+ghost use Rattle.std.specs.Prelude.{◌≡◌, ◌≢◌, ◌≤◌, ◌<◌, ◌+◌, ◌-◌, ◌*◌, ◌^◌, ◌⊎◌, Some, false, IsTrue, IfOk, IfErr, OnOk, OnErr};
+ghost use Rattle.block_disk.specs.Blocks.{IsBlock};
 ghost use Rattle.om3_coeff.specs.declared.errors.NodeError.TheVariants.{Damaged};
 ghost use Rattle.om3_coeff.specs.Keys.{page_levels as levels_of, height, IsNode, MayFollow};
 ghost use Rattle.om3_coeff.specs.declared.key.Key.{Key};
 ghost use Rattle.node_page.specs.Fields.{level_at, child_at};
 ghost use Rattle.node_page.specs.Layout.{KeepsLayout};
 ghost use Rattle.node_page.specs.Places.{page_level as level_of_page};
-ghost use Rattle.tree_walk.specs.SpaceViews.{space_view, StaysOn};
+ghost use Rattle.page_space.specs.Shown as shown;
 ghost use Rattle.tree_walk.specs.Paths.{path_child as child_on_path};
-ghost use Rattle.tree_walk.specs.Trails.{IsHeld, AreHeld, IsLinked, LeadsTo};
-ghost use Rattle.tree_walk.specs.Holding.{IsBadPage, IsHit, IsSameAbove, KeptWalking, IsHoldCause, IsStepCause, IsCauseOf};
+ghost use Rattle.tree_walk.specs.Trails.{IsLinked, LeadsTo};
+ghost use Rattle.tree_walk.specs.Holding.{IsBadPage, IsHit, IsSameAbove};
+ghost use Rattle.tree_walk.specs.Walk as walk;
 
 use crate::held_page::HeldPage;
 use crate::trail::Trail;
@@ -54,7 +55,7 @@ fn next_page(page: &HeldPage, total: u32, child: u8) -> Result<u32, NodeError>
 
 /// Whether a page keeps its layout and is of this page level.
 fn is_sound(bytes: &[u8], level: usize) -> bool
-    requires whole { length bytes.now ≡ 4096 }
+    requires whole { IsBlock bytes.now }
     ensures keeps { IsTrue result → KeepsLayout bytes.now }
     ensures level { IsTrue result → level_at bytes.now ≡ level }
     ensures bad { result ≡ false → IsBadPage bytes.now level }
@@ -72,14 +73,14 @@ fn read_page<P: Pages>(
     number: u32,
     level: usize,
 ) -> Result<(), NodeError>
-    requires sound { (space_view space.old.superblock (P.view space.old.pages)).fit }
-    requires number { number < (space_view space.old.superblock (P.view space.old.pages)).size }
-    ensures reads { Reads (P.told space.old.pages) (P.told space.new.pages) (space_view space.old.superblock (P.view space.old.pages)) (space_view space.new.superblock (P.view space.new.pages)) }
-    ensures over { StaysOn space.old.superblock space.new.superblock (P.under space.old.pages) (P.under space.new.pages) }
-    ensures count { (P.view space.new.pages).size ≡ (P.view space.old.pages).size }
-    ensures held { OnOk result (IsHeld (P.told space.new.pages) (space_view space.new.superblock (P.view space.new.pages)).image (space_view space.new.superblock (P.view space.new.pages)).size level page.new.number page.new.bytes.items) }
+    requires sound { shown.IsSound space.old }
+    requires number { number < shown.total space.old }
+    ensures reads { walk.ReadsOne space.old space.new }
+    ensures over { walk.Stays space.old space.new }
+    ensures count { shown.count space.new ≡ shown.count space.old }
+    ensures held { OnOk result (walk.HasRead space.new level page.new) }
     ensures number { OnOk result (page.new.number ≡ number) }
-    ensures cause { IfErr result (IsHoldCause (P.told space.old.pages) (space_view space.old.superblock (P.view space.old.pages)) (space_view space.new.superblock (P.view space.new.pages)) number level) }
+    ensures cause { IfErr result (λ cause. walk.FailsToRead cause space.old space.new number level) }
 {
     let Ok(()) = space.get(number, page.bytes.as_mut_slice()) else {
         return Err(NodeError::DiskFault);
@@ -100,23 +101,23 @@ fn hold<P: Pages>(
     depth: usize,
     number: u32,
 ) -> Result<(), NodeError>
-    requires sound { (space_view space.old.superblock (P.view space.old.pages)).fit }
-    requires number { number < (space_view space.old.superblock (P.view space.old.pages)).size }
+    requires sound { shown.IsSound space.old }
+    requires number { number < shown.total space.old }
     requires few { levels ≤ 5 }
     requires deep { depth < levels }
     requires reached { depth ≤ trail.old.len }
-    requires held { AreHeld (P.told space.old.pages) (space_view space.old.superblock (P.view space.old.pages)).image (space_view space.old.superblock (P.view space.old.pages)).size levels trail.old.pages.items trail.old.len }
+    requires held { walk.Holds space.old levels trail.old }
 
-    ensures reads { Reads (P.told space.old.pages) (P.told space.new.pages) (space_view space.old.superblock (P.view space.old.pages)) (space_view space.new.superblock (P.view space.new.pages)) }
-    ensures over { StaysOn space.old.superblock space.new.superblock (P.under space.old.pages) (P.under space.new.pages) }
-    ensures count { (P.view space.new.pages).size ≡ (P.view space.old.pages).size }
+    ensures reads { walk.ReadsOne space.old space.new }
+    ensures over { walk.Stays space.old space.new }
+    ensures count { shown.count space.new ≡ shown.count space.old }
     ensures hit { IsHit trail.old depth number → space.new ≡ space.old }
     ensures still { IsHit trail.old depth number → trail.new ≡ trail.old }
-    ensures held { AreHeld (P.told space.new.pages) (space_view space.new.superblock (P.view space.new.pages)).image (space_view space.new.superblock (P.view space.new.pages)).size levels trail.new.pages.items trail.new.len }
+    ensures held { walk.Holds space.new levels trail.new }
     ensures above { IsSameAbove depth trail.old.pages.items trail.new.pages.items }
     ensures reached { OnOk result (IsHit trail.new depth number) }
     ensures asked { trail.new.asked ≡ trail.old.asked }
-    ensures cause { IfErr result (IsHoldCause (P.told space.old.pages) (space_view space.old.superblock (P.view space.old.pages)) (space_view space.new.superblock (P.view space.new.pages)) number (levels - depth)) }
+    ensures cause { IfErr result (λ cause. walk.FailsToRead cause space.old space.new number (levels - depth)) }
 {
     if trail.holds(depth, number) {
         return Ok(());
@@ -135,24 +136,24 @@ fn step<P: Pages>(
     key: Key,
     depth: usize,
 ) -> Result<(), NodeError>
-    requires sound { (space_view space.old.superblock (P.view space.old.pages)).fit }
+    requires sound { shown.IsSound space.old }
     requires few { levels ≤ 5 }
     requires deep { depth + 1 < levels }
     requires above { key.level ≤ 7 * (levels - depth - 1) }
     requires reached { depth < trail.old.len }
-    requires held { AreHeld (P.told space.old.pages) (space_view space.old.superblock (P.view space.old.pages)).image (space_view space.old.superblock (P.view space.old.pages)).size levels trail.old.pages.items trail.old.len }
+    requires held { walk.Holds space.old levels trail.old }
 
-    ensures reads { Reads (P.told space.old.pages) (P.told space.new.pages) (space_view space.old.superblock (P.view space.old.pages)) (space_view space.new.superblock (P.view space.new.pages)) }
-    ensures over { StaysOn space.old.superblock space.new.superblock (P.under space.old.pages) (P.under space.new.pages) }
-    ensures count { (P.view space.new.pages).size ≡ (P.view space.old.pages).size }
+    ensures reads { walk.ReadsOne space.old space.new }
+    ensures over { walk.Stays space.old space.new }
+    ensures count { shown.count space.new ≡ shown.count space.old }
     ensures hit { depth + 1 < trail.old.len → IsLinked trail.old.pages.items key levels depth → space.new ≡ space.old }
     ensures still { depth + 1 < trail.old.len → IsLinked trail.old.pages.items key levels depth → trail.new ≡ trail.old }
-    ensures held { AreHeld (P.told space.new.pages) (space_view space.new.superblock (P.view space.new.pages)).image (space_view space.new.superblock (P.view space.new.pages)).size levels trail.new.pages.items trail.new.len }
+    ensures held { walk.Holds space.new levels trail.new }
     ensures above { IsSameAbove (depth + 1) trail.old.pages.items trail.new.pages.items }
     ensures reached { OnOk result (depth + 1 < trail.new.len) }
     ensures linked { OnOk result (IsLinked trail.new.pages.items key levels depth) }
     ensures asked { trail.new.asked ≡ trail.old.asked }
-    ensures cause { IfErr result (IsStepCause (P.told space.old.pages) (space_view space.old.superblock (P.view space.old.pages)) (space_view space.new.superblock (P.view space.new.pages)) trail.old.pages.items key levels depth) }
+    ensures cause { IfErr result (λ cause. walk.FailsToStep cause space.old space.new trail.old key levels depth) }
 {
     let child = path_child(key, levels - depth);
     let number = next_page(&trail.pages[depth], space.total(), child)?;
@@ -166,24 +167,24 @@ pub(crate) fn descend<P: Pages>(
     tree: Tree,
     key: Key,
 ) -> Result<usize, NodeError>
-    requires sound { (space_view space.old.superblock (P.view space.old.pages)).fit }
+    requires sound { shown.IsSound space.old }
     requires few { tree.slots ≤ 2 ^ 35 }
-    requires root { tree.root < (space_view space.old.superblock (P.view space.old.pages)).size }
+    requires root { tree.root < shown.total space.old }
     requires key { IsNode (height tree.slots) key }
-    requires held { AreHeld (P.told space.old.pages) (space_view space.old.superblock (P.view space.old.pages)).image (space_view space.old.superblock (P.view space.old.pages)).size (levels_of tree.slots) trail.old.pages.items trail.old.len }
+    requires held { walk.Holds space.old (levels_of tree.slots) trail.old }
 
-    ensures kept { KeptWalking (P.told space.old.pages) (P.told space.new.pages) (space_view space.old.superblock (P.view space.old.pages)) (space_view space.new.superblock (P.view space.new.pages)) }
-    ensures over { StaysOn space.old.superblock space.new.superblock (P.under space.old.pages) (P.under space.new.pages) }
-    ensures count { (P.view space.new.pages).size ≡ (P.view space.old.pages).size }
-    ensures held { AreHeld (P.told space.new.pages) (space_view space.new.superblock (P.view space.new.pages)).image (space_view space.new.superblock (P.view space.new.pages)).size (levels_of tree.slots) trail.new.pages.items trail.new.len }
+    ensures kept { walk.Walks space.old space.new }
+    ensures over { walk.Stays space.old space.new }
+    ensures count { shown.count space.new ≡ shown.count space.old }
+    ensures held { walk.Holds space.new (levels_of tree.slots) trail.new }
     ensures depth { IfOk result (λ depth. depth ≡ levels_of tree.slots - level_of_page key.level) }
     ensures leads { OnOk result (LeadsTo tree trail.new.pages.items trail.new.len key) }
     ensures asked { trail.new.asked ≡ trail.old.asked }
     ensures one_read { (last : Key) → LeadsTo tree trail.old.pages.items trail.old.len last → MayFollow (height tree.slots) (Some last) key
-        → (space_view space.new.superblock (P.view space.new.pages)).reads ≤ (space_view space.old.superblock (P.view space.old.pages)).reads + 1 }
-    ensures top_read { key.level ≡ height tree.slots → (space_view space.new.superblock (P.view space.new.pages)).reads ≤ (space_view space.old.superblock (P.view space.old.pages)).reads + 1 }
-    ensures reads { (space_view space.new.superblock (P.view space.new.pages)).reads ≤ (space_view space.old.superblock (P.view space.old.pages)).reads + levels_of tree.slots }
-    ensures cause { IfErr result (IsCauseOf (P.told space.old.pages) (space_view space.old.superblock (P.view space.old.pages)) (space_view space.new.superblock (P.view space.new.pages)) tree key) }
+        → (shown.view space.new).reads ≤ (shown.view space.old).reads + 1 }
+    ensures top_read { key.level ≡ height tree.slots → (shown.view space.new).reads ≤ (shown.view space.old).reads + 1 }
+    ensures reads { (shown.view space.new).reads ≤ (shown.view space.old).reads + levels_of tree.slots }
+    ensures cause { IfErr result (λ cause. walk.FailsOnWay cause space.old space.new tree key) }
 {
     let levels = usize::from(page_levels(tree.slots));
     let depth = levels - usize::from(page_level(key.level));

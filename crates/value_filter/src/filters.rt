@@ -88,4 +88,13 @@ impl Filter {
             steps: self.steps.clone()?,
         })
     }
+
+    /// An equal filter, in memory of `alloc`.
+    pub fn copy_in(&self, alloc: Global) -> Result<Filter, NoMemory>
+        ensures { IfOk result (λ filter. filter ≡ self.now) }
+    {
+        let mut steps = Vec::with_capacity(alloc, self.steps.len())?;
+        steps.extend_from_slice(&self.steps)?;
+        Ok(Filter { steps })
+    }
 }

@@ -1,10 +1,6 @@
 -- Digits, their value, and the one spelling of a number.
-use Rattle.std.proofs.Common.{◌≡◌, ℕ, ◌<◌, ◌≤◌, ◌^◌, ◌+◌, ◌*◌, ◌-◌, zero, suc, List, [], ◌∷◌, length, take, get_or, length-take, arith, subst, sym, ap, ◌∙◌, drop, ℤ, pos, negsuc, Option, Some, None, IfSome, IfNone}
+use Rattle.std.proofs.Common.{◌≡◌, ℕ, ◌<◌, ◌≤◌, ◌^◌, zero, suc, List, [], ◌∷◌, length, get_or, arith, subst, sym, ap, ◌∙◌, drop, ℤ, pos, negsuc}
 use Rattle.std.specs.Str.Parse.{AllDigits, digits_value}
-use Rattle.std.specs.Char.{digit_value}
-use Rattle.std.specs.Int.{IsInRange}
-use Rattle.std.proofs.lemmas.Int.Digits.{digits_value_more, digits_more}
-use Rattle.std.proofs.lemmas.Str.{digit_value_digit}
 use Rattle.std.specs.Fmt.{decimal}
 use Rattle.std.proofs.lemmas.Str.Parse.{IsNumeralModel, numerals_by_value, tells_digits, digits_value_short}
 use Rattle.std.proofs.lemmas.Fmt.{decimal_is_IsNumeral, length-decimal-le, first_decimal, decimal_digit, decimal-digits_value, decimal_injective}
@@ -48,32 +44,6 @@ pub spells_value : (ds : List ℕ) → AllDigits 10 ds → 0 < length ds → len
 spells_value ds digits some short first =
     let small : digits_value 10 ds < 10 ^ 19 = below 19 ds digits short in
     (sym (decimal-digits_value own ds digits some first (omega (arith, small))), small)
-
--- a digit more: the number so far has room for it, and its value follows
-pub room : (value i c : ℕ) (ds : List ℕ) → i < length ds → length ds ≤ 19 → AllDigits 10 (take i ds) → value ≡ digits_value 10 (take i ds) → value < 10 ^ 18
-room value i c ds inside short digits is =
-    let few : length (take i ds) ≤ 18 = simp length-take (omega arith) in
-    omega (arith, below 18 (take i ds) digits few, is)
-
-pub more_digits : (i : ℕ) (ds : List ℕ) → i < length ds → AllDigits 10 (take i ds) → IsInRange 48 57 (get_or ds i 0) → AllDigits 10 (take (i + 1) ds)
-more_digits i ds inside digits digit =
-    let small : digit_value (get_or ds i 0) < 10 = omega (arith, digit_value_digit (get_or ds i 0) digit, digit) in
-    digits_more 10 ds i inside digits small
-
-pub more_value : (value i d : ℕ) (ds : List ℕ) → i < length ds → value ≡ digits_value 10 (take i ds) → IsInRange 48 57 (get_or ds i 0) → d ≡ get_or ds i 0 - 48 → value * 10 + d ≡ digits_value 10 (take (i + 1) ds)
-more_value value i d ds inside is digit d_is =
-    omega (arith, digits_value_more 10 ds i inside, digit_value_digit (get_or ds i 0) digit, is, d_is, digit)
-
--- the value of digits with no leading zero is the number that they spell, and where there are none they spell nothing
-pub found_value : (ds : List ℕ) (r : Option ℕ) → 0 < length ds → length ds ≤ 19 → (get_or ds 0 0 ≡ 48 → length ds ≡ 1) → IfSome r (λ n. AllDigits 10 ds × (n ≡ digits_value 10 ds)) → IfSome r (λ n. SpellsNatural ds n)
-found_value ds None some short first h = tt
-found_value ds (Some n) some short first h =
-    let P : ℕ → Type 0 = λ m. SpellsNatural ds m in
-    subst P (sym h.1) (spells_value ds h.0 some short first)
-
-pub none_value : (ds : List ℕ) (r : Option ℕ) → IfNone r (AllDigits 10 ds → ⊥) → IfNone r ((n : ℕ) → SpellsNatural ds n → ⊥)
-none_value ds None none = λ n spells. none (spelling_digits ds n spells)
-none_value ds (Some n) none = tt
 
 -- no number's digits begin with `-`
 pub no_dash : (n : ℕ) (ds : List ℕ) → SpellsNatural (45 ∷ ds) n → ⊥

@@ -1,24 +1,15 @@
-use Rattle.std.proofs.Common.{◌≡◌, ◌<◌, ◌-◌, length, take, drop, arith, subst, sym, ℕ, List, ℤ, IfNone, Option}
-use Rattle.std.proofs.lemmas.Grind.{common_steps}
-use Rattle.whole_number.specs.Spelling.{SpellsNatural, SpellsInteger}
-use Rattle.whole_number.proofs.Digits.{none_dash, zero_dash}
+use Rattle.std.proofs.Common.{◌∙◌, ℤ, sym, subst, SFits, rules}
+use Rattle.std.specs.Int.{w128}
+use Rattle.std.proofs.lemmas.Int.{to_z-of_z}
+use Rattle.whole_number.specs.Spelling.{SpellsInteger}
+use Rattle.whole_number.proofs.Tests.{integer_spelt, none_integer}
 use Rattle.whole_number.proofs.integer.Goals as goal
 
--- the text behind its first byte
-behind : (text : List ℕ) → 0 < length text → take (length text - 1) (drop 1 text) ≡ drop 1 text
-behind text some = grind (arith, common_steps)
+pub returns-then-not-is_integer-clause-none : goal.returns-then-not-is_integer-clause-none
+returns-then-not-is_integer-clause-none c = none_integer c.args.text.now (sym c.is_integer.ensures ∙ c.if-not-is_integer.true)
 
-pub returns-in_err-n-2-clause-none : goal.returns-in_err-n-2-clause-none
-returns-in_err-n-2-clause-none c =
-    let some : 0 < length c.args.text.now = grind (arith, common_steps, c.if-is_empty.ensures) in
-    let P : List ℕ → Type 0 = λ ds. (n : ℕ) → SpellsNatural ds n → ⊥ in
-    let none = none_dash c.args.text.now some c.if-text-ne45.false (subst P (behind c.args.text.now some) c.in_err-n-2.ensures.none) in
-    let Q : Option ℤ → Type 0 = λ r. IfNone r ((z : ℤ) → SpellsInteger c.args.text.now z → ⊥) in
-    subst Q (sym c.from_residual-in_err-n-2.ensures) none
-
-pub returns-then-n-eq0-clause-none : goal.returns-then-n-eq0-clause-none
-returns-then-n-eq0-clause-none c =
-    let some : 0 < length c.args.text.now = grind (arith, common_steps, c.if-is_empty.ensures) in
-    let P : ℕ → Type 0 = λ n. SpellsNatural (take (length c.args.text.now - 1) (drop 1 c.args.text.now)) n in
-    let Q : List ℕ → Type 0 = λ ds. SpellsNatural ds 0 in
-    zero_dash c.args.text.now some c.if-text-ne45.false (subst Q (behind c.args.text.now some) (subst P c.if-n-eq0.true c.in_ok-n-2.ensures.found))
+pub returns-clause-found : goal.returns-clause-found
+returns-clause-found c =
+    let P : ℤ → Type 0 = λ z. SpellsInteger c.args.text.now z in
+    let fits : SFits w128 c.integer_value.result = search rules in
+    subst P (sym (to_z-of_z w128 c.integer_value.result fits ∙ c.integer_value.ensures.value)) (integer_spelt c.args.text.now (sym c.is_integer.ensures ∙ c.if-not-is_integer.false))

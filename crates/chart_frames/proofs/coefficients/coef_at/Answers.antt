@@ -1,7 +1,8 @@
 use Rattle.std.proofs.Common.{◌≡◌, ◌≢◌, ℕ, ℤ, pos, false, ◌&&◌, ◌||◌, List, ◌++◌, sym, ap, ◌∙◌, subst, IsTrue}
 use Rattle.om3_coeff.specs.declared.coef.Coef.{Coef}
 use Rattle.chart_frames.specs.Format.{number_bytes}
-use Rattle.chart_frames.specs.Frames.{IsTime, IsCoef, flags_of}
+use Rattle.chart_frames.specs.Frames.{IsCoef, flags_of}
+use Rattle.whole_number.specs.Range.{IsTime}
 use Rattle.chart_frames.specs.Spelled.{signed_bytes, two_before}
 use Rattle.chart_frames.proofs.Meets.{round}
 use Rattle.chart_frames.proofs.coefficients.coef_at.Goals as goal

@@ -1,7 +1,7 @@
 use Rattle.chart_frames.specs.Frames.{AreOrdered}
 use Rattle.std.specs.Prelude.{◌≤ℤ◌}
 use Rattle.std.proofs.Common.{◌≡◌, ℕ, ℤ, w64, to_z, of_z, List, ◌++◌, sym, ap, ◌∙◌, arith, subst}
-use Rattle.m4_groups.specs.Heights.{IsValue}
+use Rattle.whole_number.specs.Range.{IsValue}
 use Rattle.chart_frames.specs.Spelled.{signed_bytes, two_before}
 use Rattle.chart_frames.proofs.Meets.{round}
 use Rattle.chart_frames.proofs.rows.values_at.Goals as goal

@@ -1,4 +1,4 @@
-use Rattle.chart_world.proofs.LineLaws.{lines_first, joined_lines, rest_line}
+use Rattle.chart_world.specs.LineLaws.{lines_first, joined_lines, rest_line}
 use Rattle.chart_world.proofs.laws.lines_join_back.Goals as goal
 
 pub returns-clause-first : goal.returns-clause-first

@@ -3,7 +3,7 @@ use Rattle.std.proofs.lemmas.Grind.{common_steps}
 use Rattle.std.specs.Int.{IsInRange}
 use Rattle.std.specs.Str.Parse.{digits_value_after}
 use Rattle.std.proofs.lemmas.Str.Parse.{digit_at}
-use Rattle.csv_load.proofs.DigitLemmas.{more_value, more_digits, value_full}
+use Rattle.csv_load.proofs.DigitLemmas.{more_value, value_full, more_digits}
 use Rattle.csv_load.proofs.decimals.digits_after.Goals as goal
 use Rattle.csv_load.proofs.decimals.digits_after.Goals.{then-not-is_ascii_digit-via-then-not-is_ascii_digit, then-not-is_ascii_digit-via-else-not-is_ascii_digit+then-value-ge-FULL}
 

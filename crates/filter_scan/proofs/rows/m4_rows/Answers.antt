@@ -3,13 +3,13 @@ use Rattle.std.specs.Prelude.{filter}
 use Rattle.m4_groups.specs.declared.row.Row.{Row}
 use Rattle.m4_groups.specs.Rows.{AreRowsOf}
 use Rattle.query_rewriter.specs.Kept.{passes, stored_in}
-use Rattle.filter_scan.specs.Answers.{points_of}
+use Rattle.plain_chart.specs.Samples.{sample_points}
 use Rattle.filter_scan.proofs.PointLaws.{plan_rows}
 use Rattle.filter_scan.proofs.rows.m4_rows.Goals as goal
 
 pub returns-clause-rows : goal.returns-clause-rows
 returns-clause-rows g c = λ list agrees.
     let P : List Row → Type 0 = λ rows.
-    AreRowsOf c.of-scan.result.grid (points_of (filter (passes c.args.plan.now.filter) (stored_in c.of-scan.result.axis (c.of-scan.result.from, c.of-scan.result.end) list))) rows in
+    AreRowsOf c.of-scan.result.grid (sample_points (filter (passes c.args.plan.now.filter) (stored_in c.of-scan.result.axis (c.of-scan.result.from, c.of-scan.result.end) list))) rows in
     plan_rows c.of-scan.result c.args.axis c.args.plan.now list c.from_vec.result c.of-scan.ensures.axis c.of-scan.ensures.grid c.of-scan.ensures.from c.of-scan.ensures.end
     (subst P (sym c.from_vec.ensures) (c.in_ok-rows.ensures.found.of_list list agrees))

@@ -1,5 +1,6 @@
 use Rattle.std.proofs.Common.{◌≡◌, ◌∙◌, ◌<◌, ◌^◌, length, take, drop, ap, arith}
 use Rattle.std.specs.Int.{w32, to_be_bytes}
+use Rattle.block_disk.specs.Blocks.{IsBlock}
 use Rattle.block_disk.proofs.Blocks.{length-replaced, replaced_before, replaced_there}
 use Rattle.gate_pages.specs.Batch.{numbers}
 use Rattle.gate_pages.specs.Entries.{entries}
@@ -15,8 +16,8 @@ returns c count below =
     let marked = c.put_bytes.new.block in
     let counted = c.put_number.new.block in
     let done = c.put_numbers.new.block in
-    let filled_len : length filled ≡ 4096 = omega (arith, c.fill.ensures.len, c.requires.whole) in
-    let marked_len : length marked ≡ 4096 = ap length c.put_bytes.ensures ∙ length-replaced filled 0 magic (omega (arith, filled_len)) ∙ filled_len in
+    let filled_len : IsBlock filled = omega (arith, c.fill.ensures.len, c.requires.whole) in
+    let marked_len : IsBlock marked = ap length c.put_bytes.ensures ∙ length-replaced filled 0 magic (omega (arith, filled_len)) ∙ filled_len in
     let front : take 8 done ≡ magic =
     c.put_numbers.ensures.front 0 8 (omega arith)
     ∙ ap (λ l. take 8 (drop 0 l)) c.put_number.ensures

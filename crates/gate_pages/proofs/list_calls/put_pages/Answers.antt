@@ -1,5 +1,6 @@
 use Rattle.std.proofs.Common.{◌∙◌, ◌+◌, ◌*◌, ◌<◌, ◌≤◌, [], get_or, take, length, ap, arith}
 use Rattle.std.proofs.Math.Nat.{mul-le-mul_left}
+use Rattle.block_disk.specs.Blocks.{block_size}
 use Rattle.block_disk.specs.MemDisk.{put, blocks_of, replaced}
 use Rattle.block_disk.specs.View.{Image}
 use Rattle.block_disk.proofs.Blocks.{blocks_put, length-replaced}
@@ -16,7 +17,7 @@ replace-requires c =
     let less = below_from_all c.args.count (numbers batch) (get_or batch i (0, [])).0 (numbers_below c.args.count batch c.requires.below) (one_of_at batch i below) in
     let n = c.page-page.result.now.number in
     let same : n < c.args.count = omega (arith, less, ap (λ (e : Entry). e.0) c.page-page.ensures) in
-    omega (arith, mul-le-mul_left 4096 same, c.loop-i.invariant.whole, c.as_slice.ensures.len, c.page-page.result.now.whole, ap length c.as_slice.ensures.value)
+    omega (arith, mul-le-mul_left block_size same, c.loop-i.invariant.whole, c.as_slice.ensures.len, c.page-page.result.now.whole, ap length c.as_slice.ensures.value)
 
 pub loop-i-preserved : goal.loop-i-preserved
 loop-i-preserved c =
@@ -28,10 +29,10 @@ loop-i-preserved c =
     let n = c.page-page.result.now.number in
     let page = c.page-page.result.now.bytes.items in
     let same : n < c.args.count = omega (arith, less, ap (λ (e : Entry). e.0) c.page-page.ensures) in
-    let within : 4096 * n + 4096 ≤ length bytes = omega (arith, mul-le-mul_left 4096 same, c.loop-i.invariant.whole) in
-    let is = c.replace.ensures ∙ ap (λ l. replaced bytes (4096 * n) l) c.as_slice.ensures.value in
+    let within : block_size * n + block_size ≤ length bytes = omega (arith, mul-le-mul_left block_size same, c.loop-i.invariant.whole) in
+    let is = c.replace.ensures ∙ ap (λ l. replaced bytes (block_size * n) l) c.as_slice.ensures.value in
     record {
-      whole = ap length is ∙ length-replaced bytes (4096 * n) page (omega (arith, within, c.page-page.result.now.whole)) ∙ c.loop-i.invariant.whole;
+      whole = ap length is ∙ length-replaced bytes (block_size * n) page (omega (arith, within, c.page-page.result.now.whole)) ∙ c.loop-i.invariant.whole;
       so_far = ap (λ l. blocks_of l) is
           ∙ blocks_put bytes n page c.page-page.result.now.whole within
           ∙ ap (λ (m : Image). put n page m) c.loop-i.invariant.so_far

@@ -1,3 +1,4 @@
+use Rattle.std.proofs.lemmas.Result.{err_from_is_err_and}
 use Rattle.std.proofs.Common.{inl, inr, arith}
 use Rattle.block_disk.specs.View.{Nowhere, At}
 use Rattle.gate_pages.proofs.Moving.{moves_then, moves_weaker, moves_among}
@@ -24,5 +25,7 @@ returns-in-Err-clause-cause g c = elim c.in-Err.ensures.cause [
 pub returns-in_err-count-clause-moves : goal.returns-in_err-count-clause-moves
 returns-in_err-count-clause-moves g c = moves_among (λ number nothing. absurd nothing) (omega arith) (omega arith) (omega arith) c.pages_on.ensures.moves
 
-pub returns-in_err-buffer-clause-moves : goal.returns-in_err-buffer-clause-moves
-returns-in_err-buffer-clause-moves g c = moves_among (λ number nothing. absurd nothing) (omega arith) (omega arith) (omega arith) c.pages_on.ensures.moves
+pub returns-in_err-count-clause-no_memory : goal.returns-in_err-count-clause-no_memory
+returns-in_err-count-clause-no_memory g c =
+    let p = err_from_is_err_and c.from_residual-in_err-count.result c.from_residual-in_err-count.ensures.1 in
+    rw (p.1, p.2) c.in_err-count.ensures.no_memory

@@ -1,10 +1,11 @@
+use Rattle.std.proofs.lemmas.Result.{err_from_is_err_and}
 use Rattle.gate_pages.proofs.Replaying.{stands_quiet}
 use Rattle.std.proofs.Common.{◌∙◌, ap, arith}
 use Rattle.block_disk.specs.View.{Nowhere}
 use Rattle.gate_pages.specs.Journal.{page_count, pages_of}
 use Rattle.gate_pages.specs.Steps.{Anywhere}
 use Rattle.gate_pages.proofs.Moving.{moves_then, moves_weaker, untouched, moves_among}
-use Rattle.gate_pages.proofs.OpeningLemmas.{explains_back, leaves_back, moments_back, counted_moments}
+use Rattle.gate_pages.proofs.OpeningLemmas.{explains_back, leaves_back, unwritten_back, moments_back, counted_moments}
 use Rattle.gate_pages.proofs.opening.opened.Goals as goal
 
 pub returns-in-Err-clause-cause : goal.returns-in-Err-clause-cause
@@ -53,15 +54,25 @@ returns-in-Ok-clause-pages g c honest =
 pub returns-in_err-count-clause-moves : goal.returns-in_err-count-clause-moves
 returns-in_err-count-clause-moves g c = moves_among (λ number nothing. tt) (omega arith) (omega arith) (omega arith) c.pages_on.ensures.moves
 
-pub returns-in_err-buffer-clause-moves : goal.returns-in_err-buffer-clause-moves
-returns-in_err-buffer-clause-moves g c = moves_among (λ number nothing. tt) (omega arith) (omega arith) (omega arith) c.pages_on.ensures.moves
-
 pub returns-in_err-count-clause-moments : goal.returns-in_err-count-clause-moments
 returns-in_err-count-clause-moments g c =
     let view = g.D.Disk.view in
     stands_quiet (page_count (view c.args.disk.now).size) 0 0 0 (view c.args.disk.now) (view c.pages_on.new.disk) c.pages_on.ensures.moves
 
-pub returns-in_err-buffer-clause-moments : goal.returns-in_err-buffer-clause-moments
-returns-in_err-buffer-clause-moments g c =
+pub returns-in_err-count-clause-unwritten : goal.returns-in_err-count-clause-unwritten
+returns-in_err-count-clause-unwritten g c = λ closed. moves_among (λ number nothing. nothing) (omega arith) (omega arith) (omega arith) c.pages_on.ensures.moves
+
+pub returns-in-Ok-clause-unwritten : goal.returns-in-Ok-clause-unwritten
+returns-in-Ok-clause-unwritten g c =
     let view = g.D.Disk.view in
-    stands_quiet (page_count (view c.args.disk.now).size) 0 0 0 (view c.args.disk.now) (view c.pages_on.new.disk) c.pages_on.ensures.moves
+    unwritten_back (view c.args.disk.now) (view c.pages_on.new.disk) (view c.recover.new.disk) c.pages_on.ensures.moves c.recover.ensures.unwritten
+
+pub returns-in-Err-clause-unwritten : goal.returns-in-Err-clause-unwritten
+returns-in-Err-clause-unwritten g c =
+    let view = g.D.Disk.view in
+    unwritten_back (view c.args.disk.now) (view c.pages_on.new.disk) (view c.recover.new.disk) c.pages_on.ensures.moves c.recover.ensures.unwritten
+
+pub returns-in_err-count-clause-no_memory : goal.returns-in_err-count-clause-no_memory
+returns-in_err-count-clause-no_memory g c =
+    let p = err_from_is_err_and c.from_residual-in_err-count.result c.from_residual-in_err-count.ensures.1 in
+    rw (p.1, p.2) c.in_err-count.ensures.no_memory

@@ -1,5 +1,5 @@
-use Rattle.std.proofs.Common.{◌≡◌, ◌∙◌, ◌≤◌, ◌+◌, ℕ, List, length, Some, Vec, ap, sym, subst, arith, option_map, Option, IfSome, IsTrue}
-use Rattle.std.specs.declared.alloc.Global.{Global}
+use Rattle.std.proofs.Common.{◌≡◌, ◌∙◌, ◌≤◌, ◌+◌, ℕ, List, length, Some, ap, sym, subst, arith, option_map, Option, IfSome, IsTrue}
+use Rattle.arrayvec.specs.ArrayVec.{ArrayVec}
 use Rattle.block_disk.specs.View.{View, Honest, Moves, Nowhere}
 use Rattle.block_disk.proofs.Passing.{passes_weaker}
 use Rattle.gate_pages.specs.Batch.{is_one_of, all_below}
@@ -11,6 +11,9 @@ use Rattle.gate_pages.proofs.Moving.{moves_then, moves_weaker, time_then, untouc
 use Rattle.gate_pages.proofs.Puts.{below_from_all}
 use Rattle.gate_pages.proofs.Replaying.{stands_quiet, stands_back}
 use Rattle.gate_pages.proofs.recovery.recover.Goals as goal
+
+abbrev Numbers : Type 0
+Numbers = ArrayVec ℕ
 
 -- calls that touch nothing are among those of a recovery
 quiet_moves : (reads syncs : ℕ) (old new : View) → reads ≤ 66 → syncs ≤ 3 → Moves Nowhere reads syncs 0 old new → Moves Anywhere 66 3 65 old new
@@ -27,8 +30,8 @@ replay_moves n old mid new few before moves =
 pub replay-requires-clause-within : goal.replay-requires-clause-within
 replay-requires-clause-within g c n is =
     let count = c.args.count in
-    let F : Option (Vec ℕ Global) → Type 0 = λ o. IfSome o (λ v. IsTrue (all_below count v.items)) in
-    let below = subst F c.in-Some.is c.in_ok-numbers.ensures.below in
+    let F : Option Numbers → Type 0 = λ o. IfSome o (λ v. IsTrue (all_below count v.items)) in
+    let below = subst F c.in-Some.is c.directory.ensures.below in
     let P : List ℕ → Type 0 = λ l. IsTrue (is_one_of l n) in
     let less = below_from_all count c.in-Some.numbers.items n below (subst P c.as_slice.ensures.value is) in
     omega (arith, less, c.requires.count, c.requires.large, c.sync.ensures.moves.size, c.read_block.ensures.moves.size, c.read_block-2.ensures.moves.size)
@@ -65,18 +68,6 @@ returns-in_err-read_block-2-clause-moments g c =
     let quiet3 = moves_then Nowhere 1 1 0 1 0 0 view0 view2 view3 quiet2 c.read_block-2.ensures.moves in
     stands_quiet count 2 1 0 view0 view3 quiet3
 
-pub returns-in_err-numbers-clause-moments : goal.returns-in_err-numbers-clause-moments
-returns-in_err-numbers-clause-moments g c =
-    let view = g.D.Disk.view in
-    let count = c.args.count in
-    let view0 = view c.args.disk.now in
-    let view1 = view c.sync.new.self in
-    let view2 = view c.read_block.new.self in
-    let quiet2 = moves_then Nowhere 0 1 0 1 0 0 view0 view1 view2 c.sync.ensures.moves c.read_block.ensures.moves in
-    let view3 = view c.read_block-2.new.self in
-    let quiet3 = moves_then Nowhere 1 1 0 1 0 0 view0 view2 view3 quiet2 c.read_block-2.ensures.moves in
-    stands_quiet count 2 1 0 view0 view3 quiet3
-
 pub returns-in_default-clause-moments : goal.returns-in_default-clause-moments
 returns-in_default-clause-moments g c =
     let view = g.D.Disk.view in
@@ -101,10 +92,10 @@ returns-in_err-replay-clause-moments g c =
     let quiet3 = moves_then Nowhere 1 1 0 1 0 0 view0 view2 view3 quiet2 c.read_block-2.ensures.moves in
     let listed = λ (honest : Honest view3).
     let honest2 = c.read_block-2.ensures.moves.was_honest honest in
-    let found : option_map (λ (v : Vec ℕ Global). v.items) c.in_ok-numbers.field-0 ≡ Some c.as_slice.result.now =
-    ap (λ o. option_map (λ (v : Vec ℕ Global). v.items) o) c.in-Some.is ∙ ap (λ (l : List ℕ). Some l) (sym c.as_slice.ensures.value) in
+    let found : option_map (λ (v : Numbers). v.items) c.directory.result ≡ Some c.as_slice.result.now =
+    ap (λ o. option_map (λ (v : Numbers). v.items) o) c.in-Some.is ∙ ap (λ (l : List ℕ). Some l) (sym c.as_slice.ensures.value) in
     ap (λ block. directory count block) (c.read_block-2.ensures.moves.off honest2 1 (λ nothing. nothing) ∙ sym (c.in_ok-read_block-2.ensures.bytes honest2))
-    ∙ sym c.in_ok-numbers.ensures.directory ∙ found in
+    ∙ sym c.directory.ensures.directory ∙ found in
     let view4 = view c.replay.new.disk in
     time_then view0 view3 view4 (StandsAsBefore count view0) (stands_quiet count 2 1 0 view0 view3 quiet3)
     (passes_weaker view3 view4 (StandsAsBefore count view3) (StandsAsBefore count view0) (Quiet view3) (Quiet view3) (λ image stands. stands_back count 2 1 0 view0 view3 image quiet3 stands) (λ sent quiet. quiet) (c.replay.ensures.moments count listed))
@@ -121,10 +112,10 @@ returns-clause-moments g c =
     let quiet3 = moves_then Nowhere 1 1 0 1 0 0 view0 view2 view3 quiet2 c.read_block-2.ensures.moves in
     let listed = λ (honest : Honest view3).
     let honest2 = c.read_block-2.ensures.moves.was_honest honest in
-    let found : option_map (λ (v : Vec ℕ Global). v.items) c.in_ok-numbers.field-0 ≡ Some c.as_slice.result.now =
-    ap (λ o. option_map (λ (v : Vec ℕ Global). v.items) o) c.in-Some.is ∙ ap (λ (l : List ℕ). Some l) (sym c.as_slice.ensures.value) in
+    let found : option_map (λ (v : Numbers). v.items) c.directory.result ≡ Some c.as_slice.result.now =
+    ap (λ o. option_map (λ (v : Numbers). v.items) o) c.in-Some.is ∙ ap (λ (l : List ℕ). Some l) (sym c.as_slice.ensures.value) in
     ap (λ block. directory count block) (c.read_block-2.ensures.moves.off honest2 1 (λ nothing. nothing) ∙ sym (c.in_ok-read_block-2.ensures.bytes honest2))
-    ∙ sym c.in_ok-numbers.ensures.directory ∙ found in
+    ∙ sym c.directory.ensures.directory ∙ found in
     let view4 = view c.replay.new.disk in
     time_then view0 view3 view4 (StandsAsBefore count view0) (stands_quiet count 2 1 0 view0 view3 quiet3)
     (passes_weaker view3 view4 (StandsAsBefore count view3) (StandsAsBefore count view0) (Quiet view3) (Quiet view3) (λ image stands. stands_back count 2 1 0 view0 view3 image quiet3 stands) (λ sent quiet. quiet) (c.replay.ensures.moments count listed))
@@ -141,10 +132,10 @@ returns-clause-pages g c honest =
     let quiet3 = moves_then Nowhere 1 1 0 1 0 0 view0 view2 view3 quiet2 c.read_block-2.ensures.moves in
     let listed = λ (honest : Honest view3).
     let honest2 = c.read_block-2.ensures.moves.was_honest honest in
-    let found : option_map (λ (v : Vec ℕ Global). v.items) c.in_ok-numbers.field-0 ≡ Some c.as_slice.result.now =
-    ap (λ o. option_map (λ (v : Vec ℕ Global). v.items) o) c.in-Some.is ∙ ap (λ (l : List ℕ). Some l) (sym c.as_slice.ensures.value) in
+    let found : option_map (λ (v : Numbers). v.items) c.directory.result ≡ Some c.as_slice.result.now =
+    ap (λ o. option_map (λ (v : Numbers). v.items) o) c.in-Some.is ∙ ap (λ (l : List ℕ). Some l) (sym c.as_slice.ensures.value) in
     ap (λ block. directory count block) (c.read_block-2.ensures.moves.off honest2 1 (λ nothing. nothing) ∙ sym (c.in_ok-read_block-2.ensures.bytes honest2))
-    ∙ sym c.in_ok-numbers.ensures.directory ∙ found in
+    ∙ sym c.directory.ensures.directory ∙ found in
     let honest3 = quiet3.honest honest in
     c.in_ok-replay.ensures.done count honest3 (listed honest3) ∙ ap (λ image. pages_of count image) (untouched 2 1 0 view0 view3 quiet3 honest)
 
@@ -182,17 +173,6 @@ returns-in_err-read_block-2-clause-moves g c =
     let quiet3 = moves_then Nowhere 1 1 0 1 0 0 view0 view2 view3 quiet2 c.read_block-2.ensures.moves in
     quiet_moves 2 1 view0 view3 (omega arith) (omega arith) quiet3
 
-pub returns-in_err-numbers-clause-moves : goal.returns-in_err-numbers-clause-moves
-returns-in_err-numbers-clause-moves g c =
-    let view = g.D.Disk.view in
-    let view0 = view c.args.disk.now in
-    let view1 = view c.sync.new.self in
-    let view2 = view c.read_block.new.self in
-    let quiet2 = moves_then Nowhere 0 1 0 1 0 0 view0 view1 view2 c.sync.ensures.moves c.read_block.ensures.moves in
-    let view3 = view c.read_block-2.new.self in
-    let quiet3 = moves_then Nowhere 1 1 0 1 0 0 view0 view2 view3 quiet2 c.read_block-2.ensures.moves in
-    quiet_moves 2 1 view0 view3 (omega arith) (omega arith) quiet3
-
 pub returns-in_default-clause-moves : goal.returns-in_default-clause-moves
 returns-in_default-clause-moves g c =
     let view = g.D.Disk.view in
@@ -213,8 +193,8 @@ returns-in_err-replay-clause-moves g c =
     let quiet2 = moves_then Nowhere 0 1 0 1 0 0 view0 view1 view2 c.sync.ensures.moves c.read_block.ensures.moves in
     let view3 = view c.read_block-2.new.self in
     let quiet3 = moves_then Nowhere 1 1 0 1 0 0 view0 view2 view3 quiet2 c.read_block-2.ensures.moves in
-    let F : Option (Vec ℕ Global) → Type 0 = λ o. IfSome o (λ v. length v.items ≤ 64) in
-    let few : length c.in-Some.numbers.items ≤ 64 = subst F c.in-Some.is c.in_ok-numbers.ensures.few in
+    let F : Option Numbers → Type 0 = λ o. IfSome o (λ v. length v.items ≤ 64) in
+    let few : length c.in-Some.numbers.items ≤ 64 = subst F c.in-Some.is c.directory.ensures.few in
     let same = ap (λ (ns : List ℕ). length ns) c.as_slice.ensures.value in
     replay_moves (length c.as_slice.result.now) view0 view3 (view c.replay.new.disk) (omega (arith, few, same)) quiet3 c.replay.ensures.moves
 
@@ -227,7 +207,7 @@ returns-clause-moves g c =
     let quiet2 = moves_then Nowhere 0 1 0 1 0 0 view0 view1 view2 c.sync.ensures.moves c.read_block.ensures.moves in
     let view3 = view c.read_block-2.new.self in
     let quiet3 = moves_then Nowhere 1 1 0 1 0 0 view0 view2 view3 quiet2 c.read_block-2.ensures.moves in
-    let F : Option (Vec ℕ Global) → Type 0 = λ o. IfSome o (λ v. length v.items ≤ 64) in
-    let few : length c.in-Some.numbers.items ≤ 64 = subst F c.in-Some.is c.in_ok-numbers.ensures.few in
+    let F : Option Numbers → Type 0 = λ o. IfSome o (λ v. length v.items ≤ 64) in
+    let few : length c.in-Some.numbers.items ≤ 64 = subst F c.in-Some.is c.directory.ensures.few in
     let same = ap (λ (ns : List ℕ). length ns) c.as_slice.ensures.value in
     replay_moves (length c.as_slice.result.now) view0 view3 (view c.replay.new.disk) (omega (arith, few, same)) quiet3 c.replay.ensures.moves

@@ -12,6 +12,7 @@ use Rattle.path_repair.proofs.CallLemmas.{same_touch, clear_puts}
 use Rattle.path_repair.proofs.DamageLemmas.{root_top}
 use Rattle.path_repair.proofs.EditLemmas.{top_small, lists_of, cleared_for, cleared_fewer, edited_for}
 use Rattle.path_repair.proofs.MoveLemmas.{moved_more}
+use Rattle.page_space.specs.Shown as shown
 use Rattle.path_repair.proofs.calls.clear_run.Goals as goal
 
 pub repair-requires-clause-small : goal.repair-requires-clause-small
@@ -29,7 +30,7 @@ pub returns-in_err-next-clause-moved : goal.returns-in_err-next-clause-moved
 returns-in_err-next-clause-moved g c =
     let levels_is : c.page_levels-levels.result ≡ page_levels c.args.tree.slots = c.page_levels-levels.ensures.levels in
     let cost : touch c.args.slot (c.args.slot + c.args.count) c.page_levels-levels.result c.page_levels-levels.result 0 ≡ touch c.args.slot (c.args.slot + c.args.count) (page_levels c.args.tree.slots) (page_levels c.args.tree.slots) 0 = ap (λ l. touch c.args.slot (c.args.slot + c.args.count) l l 0) levels_is in
-    moved_more (touch c.args.slot (c.args.slot + c.args.count) c.page_levels-levels.result c.page_levels-levels.result 0) (1 * touch c.args.slot (c.args.slot + c.args.count) (page_levels c.args.tree.slots) (page_levels c.args.tree.slots) 0) (touch c.args.slot (c.args.slot + c.args.count) c.page_levels-levels.result c.page_levels-levels.result 0) (touch c.args.slot (c.args.slot + c.args.count) (page_levels c.args.tree.slots) (page_levels c.args.tree.slots) 0) (g.P.Pages.told c.args.space.now.pages) (g.P.Pages.told c.repair.new.space.pages) (g.P.Pages.view c.args.space.now.pages) (g.P.Pages.view c.repair.new.space.pages) (g.P.Pages.under c.args.space.now.pages) (g.P.Pages.under c.repair.new.space.pages) c.args.space.now.superblock c.repair.new.space.superblock c.args.txn.now c.repair.new.txn (omega (arith, cost)) (omega (arith, cost)) c.repair.ensures.moved
+    moved_more (touch c.args.slot (c.args.slot + c.args.count) c.page_levels-levels.result c.page_levels-levels.result 0) (1 * touch c.args.slot (c.args.slot + c.args.count) (page_levels c.args.tree.slots) (page_levels c.args.tree.slots) 0) (touch c.args.slot (c.args.slot + c.args.count) c.page_levels-levels.result c.page_levels-levels.result 0) (touch c.args.slot (c.args.slot + c.args.count) (page_levels c.args.tree.slots) (page_levels c.args.tree.slots) 0) (shown.IsTold c.args.space.now) (shown.IsTold c.repair.new.space) (shown.view c.args.space.now) (shown.view c.repair.new.space) (shown.under c.args.space.now) (shown.under c.repair.new.space) (shown.numbers c.args.space.now) (shown.numbers c.repair.new.space) c.args.txn.now c.repair.new.txn (omega (arith, cost)) (omega (arith, cost)) c.repair.ensures.moved
 
 pub returns-in_err-next-clause-errors : goal.returns-in_err-next-clause-errors
 returns-in_err-next-clause-errors g c = λ base size list list' others told holds edited.
@@ -44,7 +45,7 @@ pub returns-clause-moved : goal.returns-clause-moved
 returns-clause-moved g c =
     let levels_is : c.page_levels-levels.result ≡ page_levels c.args.tree.slots = c.page_levels-levels.ensures.levels in
     let cost : touch c.args.slot (c.args.slot + c.args.count) c.page_levels-levels.result c.page_levels-levels.result 0 ≡ touch c.args.slot (c.args.slot + c.args.count) (page_levels c.args.tree.slots) (page_levels c.args.tree.slots) 0 = ap (λ l. touch c.args.slot (c.args.slot + c.args.count) l l 0) levels_is in
-    moved_more (touch c.args.slot (c.args.slot + c.args.count) c.page_levels-levels.result c.page_levels-levels.result 0) (1 * touch c.args.slot (c.args.slot + c.args.count) (page_levels c.args.tree.slots) (page_levels c.args.tree.slots) 0) (touch c.args.slot (c.args.slot + c.args.count) c.page_levels-levels.result c.page_levels-levels.result 0) (touch c.args.slot (c.args.slot + c.args.count) (page_levels c.args.tree.slots) (page_levels c.args.tree.slots) 0) (g.P.Pages.told c.args.space.now.pages) (g.P.Pages.told c.repair.new.space.pages) (g.P.Pages.view c.args.space.now.pages) (g.P.Pages.view c.repair.new.space.pages) (g.P.Pages.under c.args.space.now.pages) (g.P.Pages.under c.repair.new.space.pages) c.args.space.now.superblock c.repair.new.space.superblock c.args.txn.now c.repair.new.txn (omega (arith, cost)) (omega (arith, cost)) c.repair.ensures.moved
+    moved_more (touch c.args.slot (c.args.slot + c.args.count) c.page_levels-levels.result c.page_levels-levels.result 0) (1 * touch c.args.slot (c.args.slot + c.args.count) (page_levels c.args.tree.slots) (page_levels c.args.tree.slots) 0) (touch c.args.slot (c.args.slot + c.args.count) c.page_levels-levels.result c.page_levels-levels.result 0) (touch c.args.slot (c.args.slot + c.args.count) (page_levels c.args.tree.slots) (page_levels c.args.tree.slots) 0) (shown.IsTold c.args.space.now) (shown.IsTold c.repair.new.space) (shown.view c.args.space.now) (shown.view c.repair.new.space) (shown.under c.args.space.now) (shown.under c.repair.new.space) (shown.numbers c.args.space.now) (shown.numbers c.repair.new.space) c.args.txn.now c.repair.new.txn (omega (arith, cost)) (omega (arith, cost)) c.repair.ensures.moved
 
 pub returns-clause-edited : goal.returns-clause-edited
 returns-clause-edited g c = λ base size list list' others told holds edited.

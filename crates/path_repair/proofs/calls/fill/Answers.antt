@@ -15,6 +15,7 @@ use Rattle.path_repair.proofs.CallLemmas.{same_touch, first_reads}
 use Rattle.path_repair.proofs.DamageLemmas.{root_top, unfit_damage}
 use Rattle.path_repair.proofs.EditLemmas.{levels_more, top_small, root_for, lists_of, placed_for, edited_for, full_for, disk_error}
 use Rattle.path_repair.proofs.MoveLemmas.{moved_then, moved_more, told_on}
+use Rattle.page_space.specs.Shown as shown
 use Rattle.path_repair.proofs.calls.fill.Goals as goal
 
 pub new_pages-requires-clause-small : goal.new_pages-requires-clause-small
@@ -35,14 +36,14 @@ returns-in_err-more-clause-moved g c =
     let height_is : c.page_levels-height.result ≡ page_levels c.args.tree.slots = c.page_levels-height.ensures.levels in
     let level_is : c.page_levels-level.result ≡ page_levels c.args.len = c.page_levels-level.ensures.levels in
     let few : count_most c.args.tree.root c.args.slots.first c.args.slots.end c.page_levels-height.result c.page_levels-level.result 0 ≤ touch c.args.slots.first c.args.slots.end (page_levels c.args.tree.slots) (page_levels c.args.tree.slots) 0 = first_reads c.args.tree.root c.args.slots.first c.args.slots.end (page_levels c.args.tree.slots) (page_levels c.args.len) c.page_levels-height.result c.page_levels-level.result height_is level_is (levels_more c.args.tree.slots c.args.len c.requires.longer) in
-    moved_more (count_most c.args.tree.root c.args.slots.first c.args.slots.end c.page_levels-height.result c.page_levels-level.result 0) (touch c.args.slots.first c.args.slots.end (page_levels c.args.tree.slots) (page_levels c.args.tree.slots) 0 + touch c.args.slots.first c.args.slots.end (page_levels c.args.tree.slots) (page_levels c.args.len) 0) 0 (touch c.args.slots.first c.args.slots.end (page_levels c.args.tree.slots) (page_levels c.args.len) 0) (g.P.Pages.told c.args.space.now.pages) (g.P.Pages.told c.new_pages.new.space.pages) (g.P.Pages.view c.args.space.now.pages) (g.P.Pages.view c.new_pages.new.space.pages) (g.P.Pages.under c.args.space.now.pages) (g.P.Pages.under c.new_pages.new.space.pages) c.args.space.now.superblock c.new_pages.new.space.superblock c.args.txn.now c.args.txn.now (omega (arith, few)) (omega arith) c.new_pages.ensures.moved
+    moved_more (count_most c.args.tree.root c.args.slots.first c.args.slots.end c.page_levels-height.result c.page_levels-level.result 0) (touch c.args.slots.first c.args.slots.end (page_levels c.args.tree.slots) (page_levels c.args.tree.slots) 0 + touch c.args.slots.first c.args.slots.end (page_levels c.args.tree.slots) (page_levels c.args.len) 0) 0 (touch c.args.slots.first c.args.slots.end (page_levels c.args.tree.slots) (page_levels c.args.len) 0) (shown.IsTold c.args.space.now) (shown.IsTold c.new_pages.new.space) (shown.view c.args.space.now) (shown.view c.new_pages.new.space) (shown.under c.args.space.now) (shown.under c.new_pages.new.space) (shown.numbers c.args.space.now) (shown.numbers c.new_pages.new.space) c.args.txn.now c.args.txn.now (omega (arith, few)) (omega arith) c.new_pages.ensures.moved
 
 pub returns-then-needed-have-clause-moved : goal.returns-then-needed-have-clause-moved
 returns-then-needed-have-clause-moved g c =
     let height_is : c.page_levels-height.result ≡ page_levels c.args.tree.slots = c.page_levels-height.ensures.levels in
     let level_is : c.page_levels-level.result ≡ page_levels c.args.len = c.page_levels-level.ensures.levels in
     let few : count_most c.args.tree.root c.args.slots.first c.args.slots.end c.page_levels-height.result c.page_levels-level.result 0 ≤ touch c.args.slots.first c.args.slots.end (page_levels c.args.tree.slots) (page_levels c.args.tree.slots) 0 = first_reads c.args.tree.root c.args.slots.first c.args.slots.end (page_levels c.args.tree.slots) (page_levels c.args.len) c.page_levels-height.result c.page_levels-level.result height_is level_is (levels_more c.args.tree.slots c.args.len c.requires.longer) in
-    moved_more (count_most c.args.tree.root c.args.slots.first c.args.slots.end c.page_levels-height.result c.page_levels-level.result 0) (touch c.args.slots.first c.args.slots.end (page_levels c.args.tree.slots) (page_levels c.args.tree.slots) 0 + touch c.args.slots.first c.args.slots.end (page_levels c.args.tree.slots) (page_levels c.args.len) 0) 0 (touch c.args.slots.first c.args.slots.end (page_levels c.args.tree.slots) (page_levels c.args.len) 0) (g.P.Pages.told c.args.space.now.pages) (g.P.Pages.told c.new_pages.new.space.pages) (g.P.Pages.view c.args.space.now.pages) (g.P.Pages.view c.new_pages.new.space.pages) (g.P.Pages.under c.args.space.now.pages) (g.P.Pages.under c.new_pages.new.space.pages) c.args.space.now.superblock c.new_pages.new.space.superblock c.args.txn.now c.args.txn.now (omega (arith, few)) (omega arith) c.new_pages.ensures.moved
+    moved_more (count_most c.args.tree.root c.args.slots.first c.args.slots.end c.page_levels-height.result c.page_levels-level.result 0) (touch c.args.slots.first c.args.slots.end (page_levels c.args.tree.slots) (page_levels c.args.tree.slots) 0 + touch c.args.slots.first c.args.slots.end (page_levels c.args.tree.slots) (page_levels c.args.len) 0) 0 (touch c.args.slots.first c.args.slots.end (page_levels c.args.tree.slots) (page_levels c.args.len) 0) (shown.IsTold c.args.space.now) (shown.IsTold c.new_pages.new.space) (shown.view c.args.space.now) (shown.view c.new_pages.new.space) (shown.under c.args.space.now) (shown.under c.new_pages.new.space) (shown.numbers c.args.space.now) (shown.numbers c.new_pages.new.space) c.args.txn.now c.args.txn.now (omega (arith, few)) (omega arith) c.new_pages.ensures.moved
 
 pub returns-in_err-more-clause-errors : goal.returns-in_err-more-clause-errors
 returns-in_err-more-clause-errors g c = λ base count list list' others told holds edited.
@@ -95,9 +96,9 @@ returns-in_err-next-clause-moved g c =
     let level_is : c.page_levels-level.result ≡ page_levels c.args.len = c.page_levels-level.ensures.levels in
     let few : count_most c.args.tree.root c.args.slots.first c.args.slots.end c.page_levels-height.result c.page_levels-level.result 0 ≤ touch c.args.slots.first c.args.slots.end (page_levels c.args.tree.slots) (page_levels c.args.tree.slots) 0 = first_reads c.args.tree.root c.args.slots.first c.args.slots.end (page_levels c.args.tree.slots) (page_levels c.args.len) c.page_levels-height.result c.page_levels-level.result height_is level_is (levels_more c.args.tree.slots c.args.len c.requires.longer) in
     let cost : touch c.args.slots.first c.args.slots.end c.page_levels-height.result c.page_levels-level.result 0 ≡ touch c.args.slots.first c.args.slots.end (page_levels c.args.tree.slots) (page_levels c.args.len) 0 = same_touch c.args.slots.first c.args.slots.end (page_levels c.args.tree.slots) (page_levels c.args.len) c.page_levels-height.result c.page_levels-level.result height_is level_is in
-    moved_more (count_most c.args.tree.root c.args.slots.first c.args.slots.end c.page_levels-height.result c.page_levels-level.result 0 + touch c.args.slots.first c.args.slots.end c.page_levels-height.result c.page_levels-level.result 0) (touch c.args.slots.first c.args.slots.end (page_levels c.args.tree.slots) (page_levels c.args.tree.slots) 0 + touch c.args.slots.first c.args.slots.end (page_levels c.args.tree.slots) (page_levels c.args.len) 0) (0 + touch c.args.slots.first c.args.slots.end c.page_levels-height.result c.page_levels-level.result 0) (touch c.args.slots.first c.args.slots.end (page_levels c.args.tree.slots) (page_levels c.args.len) 0) (g.P.Pages.told c.args.space.now.pages) (g.P.Pages.told c.repair.new.space.pages) (g.P.Pages.view c.args.space.now.pages) (g.P.Pages.view c.repair.new.space.pages) (g.P.Pages.under c.args.space.now.pages) (g.P.Pages.under c.repair.new.space.pages) c.args.space.now.superblock c.repair.new.space.superblock c.args.txn.now c.repair.new.txn
+    moved_more (count_most c.args.tree.root c.args.slots.first c.args.slots.end c.page_levels-height.result c.page_levels-level.result 0 + touch c.args.slots.first c.args.slots.end c.page_levels-height.result c.page_levels-level.result 0) (touch c.args.slots.first c.args.slots.end (page_levels c.args.tree.slots) (page_levels c.args.tree.slots) 0 + touch c.args.slots.first c.args.slots.end (page_levels c.args.tree.slots) (page_levels c.args.len) 0) (0 + touch c.args.slots.first c.args.slots.end c.page_levels-height.result c.page_levels-level.result 0) (touch c.args.slots.first c.args.slots.end (page_levels c.args.tree.slots) (page_levels c.args.len) 0) (shown.IsTold c.args.space.now) (shown.IsTold c.repair.new.space) (shown.view c.args.space.now) (shown.view c.repair.new.space) (shown.under c.args.space.now) (shown.under c.repair.new.space) (shown.numbers c.args.space.now) (shown.numbers c.repair.new.space) c.args.txn.now c.repair.new.txn
     (omega (arith, few, cost)) (omega (arith, cost))
-    (moved_then (count_most c.args.tree.root c.args.slots.first c.args.slots.end c.page_levels-height.result c.page_levels-level.result 0) (touch c.args.slots.first c.args.slots.end c.page_levels-height.result c.page_levels-level.result 0) 0 (touch c.args.slots.first c.args.slots.end c.page_levels-height.result c.page_levels-level.result 0) (g.P.Pages.told c.args.space.now.pages) (g.P.Pages.told c.new_pages.new.space.pages) (g.P.Pages.told c.repair.new.space.pages) (g.P.Pages.view c.args.space.now.pages) (g.P.Pages.view c.new_pages.new.space.pages) (g.P.Pages.view c.repair.new.space.pages) (g.P.Pages.under c.args.space.now.pages) (g.P.Pages.under c.new_pages.new.space.pages) (g.P.Pages.under c.repair.new.space.pages) c.args.space.now.superblock c.new_pages.new.space.superblock c.repair.new.space.superblock c.args.txn.now c.args.txn.now c.repair.new.txn c.new_pages.ensures.moved c.repair.ensures.moved)
+    (moved_then (count_most c.args.tree.root c.args.slots.first c.args.slots.end c.page_levels-height.result c.page_levels-level.result 0) (touch c.args.slots.first c.args.slots.end c.page_levels-height.result c.page_levels-level.result 0) 0 (touch c.args.slots.first c.args.slots.end c.page_levels-height.result c.page_levels-level.result 0) (shown.IsTold c.args.space.now) (shown.IsTold c.new_pages.new.space) (shown.IsTold c.repair.new.space) (shown.view c.args.space.now) (shown.view c.new_pages.new.space) (shown.view c.repair.new.space) (shown.under c.args.space.now) (shown.under c.new_pages.new.space) (shown.under c.repair.new.space) (shown.numbers c.args.space.now) (shown.numbers c.new_pages.new.space) (shown.numbers c.repair.new.space) c.args.txn.now c.args.txn.now c.repair.new.txn c.new_pages.ensures.moved c.repair.ensures.moved)
 
 pub returns-in_err-next-clause-errors : goal.returns-in_err-next-clause-errors
 returns-in_err-next-clause-errors g c = λ base count list list' others told holds edited.
@@ -118,7 +119,7 @@ returns-in_err-next-clause-errors g c = λ base count list list' others told hol
     let PH : ℕ → Type 0 = λ h. IsPlaced count (left_by c.args.txn.now base) c.args.txn.now.superblock list list' h (page_levels c.args.len) 0 c.args.tree.root c.args.tree.span others in
     let PL : ℕ → Type 0 = λ l. IsPlaced count (left_by c.args.txn.now base) c.args.txn.now.superblock list list' c.page_levels-height.result l 0 c.args.tree.root c.args.tree.span others in
     let placed = subst PL (sym level_is) (subst PH (sym height_is) place) in
-    let told' = told_on (count_most c.args.tree.root c.args.slots.first c.args.slots.end c.page_levels-height.result c.page_levels-level.result 0) (g.P.Pages.told c.args.space.now.pages) (g.P.Pages.told c.new_pages.new.space.pages) (g.P.Pages.view c.args.space.now.pages) (g.P.Pages.view c.new_pages.new.space.pages) base c.new_pages.ensures.moved.reads told in
+    let told' = told_on (count_most c.args.tree.root c.args.slots.first c.args.slots.end c.page_levels-height.result c.page_levels-level.result 0) (shown.IsTold c.args.space.now) (shown.IsTold c.new_pages.new.space) (shown.view c.args.space.now) (shown.view c.new_pages.new.space) base c.new_pages.ensures.moved.reads told in
     error_so _ _ c.from_residual-in_err-next.result c.from_residual-in_err-next.ensures.1
     (λ e same. disk_error c.args.txn.now _ list list' e (same ∙ c.in_err-next.ensures.only_faults base count list list' others told' lists placed))
 
@@ -128,9 +129,9 @@ returns-clause-moved g c =
     let level_is : c.page_levels-level.result ≡ page_levels c.args.len = c.page_levels-level.ensures.levels in
     let few : count_most c.args.tree.root c.args.slots.first c.args.slots.end c.page_levels-height.result c.page_levels-level.result 0 ≤ touch c.args.slots.first c.args.slots.end (page_levels c.args.tree.slots) (page_levels c.args.tree.slots) 0 = first_reads c.args.tree.root c.args.slots.first c.args.slots.end (page_levels c.args.tree.slots) (page_levels c.args.len) c.page_levels-height.result c.page_levels-level.result height_is level_is (levels_more c.args.tree.slots c.args.len c.requires.longer) in
     let cost : touch c.args.slots.first c.args.slots.end c.page_levels-height.result c.page_levels-level.result 0 ≡ touch c.args.slots.first c.args.slots.end (page_levels c.args.tree.slots) (page_levels c.args.len) 0 = same_touch c.args.slots.first c.args.slots.end (page_levels c.args.tree.slots) (page_levels c.args.len) c.page_levels-height.result c.page_levels-level.result height_is level_is in
-    moved_more (count_most c.args.tree.root c.args.slots.first c.args.slots.end c.page_levels-height.result c.page_levels-level.result 0 + touch c.args.slots.first c.args.slots.end c.page_levels-height.result c.page_levels-level.result 0) (touch c.args.slots.first c.args.slots.end (page_levels c.args.tree.slots) (page_levels c.args.tree.slots) 0 + touch c.args.slots.first c.args.slots.end (page_levels c.args.tree.slots) (page_levels c.args.len) 0) (0 + touch c.args.slots.first c.args.slots.end c.page_levels-height.result c.page_levels-level.result 0) (touch c.args.slots.first c.args.slots.end (page_levels c.args.tree.slots) (page_levels c.args.len) 0) (g.P.Pages.told c.args.space.now.pages) (g.P.Pages.told c.repair.new.space.pages) (g.P.Pages.view c.args.space.now.pages) (g.P.Pages.view c.repair.new.space.pages) (g.P.Pages.under c.args.space.now.pages) (g.P.Pages.under c.repair.new.space.pages) c.args.space.now.superblock c.repair.new.space.superblock c.args.txn.now c.repair.new.txn
+    moved_more (count_most c.args.tree.root c.args.slots.first c.args.slots.end c.page_levels-height.result c.page_levels-level.result 0 + touch c.args.slots.first c.args.slots.end c.page_levels-height.result c.page_levels-level.result 0) (touch c.args.slots.first c.args.slots.end (page_levels c.args.tree.slots) (page_levels c.args.tree.slots) 0 + touch c.args.slots.first c.args.slots.end (page_levels c.args.tree.slots) (page_levels c.args.len) 0) (0 + touch c.args.slots.first c.args.slots.end c.page_levels-height.result c.page_levels-level.result 0) (touch c.args.slots.first c.args.slots.end (page_levels c.args.tree.slots) (page_levels c.args.len) 0) (shown.IsTold c.args.space.now) (shown.IsTold c.repair.new.space) (shown.view c.args.space.now) (shown.view c.repair.new.space) (shown.under c.args.space.now) (shown.under c.repair.new.space) (shown.numbers c.args.space.now) (shown.numbers c.repair.new.space) c.args.txn.now c.repair.new.txn
     (omega (arith, few, cost)) (omega (arith, cost))
-    (moved_then (count_most c.args.tree.root c.args.slots.first c.args.slots.end c.page_levels-height.result c.page_levels-level.result 0) (touch c.args.slots.first c.args.slots.end c.page_levels-height.result c.page_levels-level.result 0) 0 (touch c.args.slots.first c.args.slots.end c.page_levels-height.result c.page_levels-level.result 0) (g.P.Pages.told c.args.space.now.pages) (g.P.Pages.told c.new_pages.new.space.pages) (g.P.Pages.told c.repair.new.space.pages) (g.P.Pages.view c.args.space.now.pages) (g.P.Pages.view c.new_pages.new.space.pages) (g.P.Pages.view c.repair.new.space.pages) (g.P.Pages.under c.args.space.now.pages) (g.P.Pages.under c.new_pages.new.space.pages) (g.P.Pages.under c.repair.new.space.pages) c.args.space.now.superblock c.new_pages.new.space.superblock c.repair.new.space.superblock c.args.txn.now c.args.txn.now c.repair.new.txn c.new_pages.ensures.moved c.repair.ensures.moved)
+    (moved_then (count_most c.args.tree.root c.args.slots.first c.args.slots.end c.page_levels-height.result c.page_levels-level.result 0) (touch c.args.slots.first c.args.slots.end c.page_levels-height.result c.page_levels-level.result 0) 0 (touch c.args.slots.first c.args.slots.end c.page_levels-height.result c.page_levels-level.result 0) (shown.IsTold c.args.space.now) (shown.IsTold c.new_pages.new.space) (shown.IsTold c.repair.new.space) (shown.view c.args.space.now) (shown.view c.new_pages.new.space) (shown.view c.repair.new.space) (shown.under c.args.space.now) (shown.under c.new_pages.new.space) (shown.under c.repair.new.space) (shown.numbers c.args.space.now) (shown.numbers c.new_pages.new.space) (shown.numbers c.repair.new.space) c.args.txn.now c.args.txn.now c.repair.new.txn c.new_pages.ensures.moved c.repair.ensures.moved)
 
 pub returns-clause-edited : goal.returns-clause-edited
 returns-clause-edited g c = λ base count list list' others told holds edited.
@@ -151,7 +152,7 @@ returns-clause-edited g c = λ base count list list' others told holds edited.
     let PH : ℕ → Type 0 = λ h. IsPlaced count (left_by c.args.txn.now base) c.args.txn.now.superblock list list' h (page_levels c.args.len) 0 c.args.tree.root c.args.tree.span others in
     let PL : ℕ → Type 0 = λ l. IsPlaced count (left_by c.args.txn.now base) c.args.txn.now.superblock list list' c.page_levels-height.result l 0 c.args.tree.root c.args.tree.span others in
     let placed = subst PL (sym level_is) (subst PH (sym height_is) place) in
-    let told' = told_on (count_most c.args.tree.root c.args.slots.first c.args.slots.end c.page_levels-height.result c.page_levels-level.result 0) (g.P.Pages.told c.args.space.now.pages) (g.P.Pages.told c.new_pages.new.space.pages) (g.P.Pages.view c.args.space.now.pages) (g.P.Pages.view c.new_pages.new.space.pages) base c.new_pages.ensures.moved.reads told in
+    let told' = told_on (count_most c.args.tree.root c.args.slots.first c.args.slots.end c.page_levels-height.result c.page_levels-level.result 0) (shown.IsTold c.args.space.now) (shown.IsTold c.new_pages.new.space) (shown.view c.args.space.now) (shown.view c.new_pages.new.space) base c.new_pages.ensures.moved.reads told in
     let done = c.in_ok-next.ensures.repaired base count list list' others told' lists placed in
     edited_for count (left_by c.args.txn.now base) (left_by c.repair.new.txn base) c.repair.new.txn.superblock c.args.slots.first c.args.slots.end c.args.len c.in_ok-next.next.page c.in_ok-next.next.span _ c.args.values.now list list' others edited c.requires.few_new (subst (λ l. IsRepaired count (left_by c.args.txn.now base) (left_by c.repair.new.txn base) c.repair.new.txn.superblock list' l 0 c.in_ok-next.next.page c.in_ok-next.next.span others) level_is done) refl refl refl
 
@@ -165,7 +166,7 @@ returns-in_err-more-clause-damaged g c = λ base told.
     let s = c.args.txn.now.superblock in
     let D : RepairError → Type 0 = λ e. IsDamage image s.fresh s (page_levels c.args.tree.slots) c.args.tree.root c.args.tree.span e in
     error_so _ D c.from_residual.result c.from_residual.ensures.1
-    (λ e same. subst D (sym same) (unfit_damage image s.fresh c.args.space.now.superblock.total (root_level c.page_levels-height.result c.page_levels-level.result 0) (page_levels c.args.tree.slots) c.args.tree.root s c.args.tree.span c.in_err-more.field-0.0 (sym c.requires.total) root_is (c.in_err-more.ensures.unfit base told)))
+    (λ e same. subst D (sym same) (unfit_damage image (shown.total c.args.space.now) (root_level c.page_levels-height.result c.page_levels-level.result 0) (page_levels c.args.tree.slots) c.args.tree.root s c.args.tree.span c.in_err-more.field-0.0 (sym c.requires.total) root_is (c.in_err-more.ensures.unfit base told)))
 
 pub returns-in_err-next-clause-damaged : goal.returns-in_err-next-clause-damaged
 returns-in_err-next-clause-damaged g c = λ base told.
@@ -173,7 +174,7 @@ returns-in_err-next-clause-damaged g c = λ base told.
     let level_is : c.page_levels-level.result ≡ page_levels c.args.len = c.page_levels-level.ensures.levels in
     let root_is : root_level c.page_levels-height.result c.page_levels-level.result 0 ≡ page_levels c.args.tree.slots
     = root_top c.page_levels-height.result c.page_levels-level.result (omega (arith, height_is, level_is, levels_more c.args.tree.slots c.args.len c.requires.longer)) ∙ height_is in
-    let told' = told_on (count_most c.args.tree.root c.args.slots.first c.args.slots.end c.page_levels-height.result c.page_levels-level.result 0) (g.P.Pages.told c.args.space.now.pages) (g.P.Pages.told c.new_pages.new.space.pages) (g.P.Pages.view c.args.space.now.pages) (g.P.Pages.view c.new_pages.new.space.pages) base c.new_pages.ensures.moved.reads told in
+    let told' = told_on (count_most c.args.tree.root c.args.slots.first c.args.slots.end c.page_levels-height.result c.page_levels-level.result 0) (shown.IsTold c.args.space.now) (shown.IsTold c.new_pages.new.space) (shown.view c.args.space.now) (shown.view c.new_pages.new.space) base c.new_pages.ensures.moved.reads told in
     let L : ℕ → Type 0 = λ l. IsDamage (left_by c.repair.new.txn base) c.args.txn.now.superblock.fresh c.repair.new.txn.superblock l c.args.tree.root c.args.tree.span c.in_err-next.field-0.0 in
     let D : RepairError → Type 0 = λ e. IsDamage (left_by c.repair.new.txn base) c.args.txn.now.superblock.fresh c.repair.new.txn.superblock (page_levels c.args.tree.slots) c.args.tree.root c.args.tree.span e in
     error_so _ D c.from_residual-in_err-next.result c.from_residual-in_err-next.ensures.1

@@ -4,6 +4,7 @@ use Rattle.om3_coeff.specs.Keys.{page_levels}
 use Rattle.path_repair.specs.Costs.{touch}
 use Rattle.path_repair.proofs.MoveLemmas.{moved_more}
 use Rattle.path_repair.proofs.CallLemmas.{max_first, twice, run_puts}
+use Rattle.page_space.specs.Shown as shown
 use Rattle.path_repair.proofs.calls.put_run.Goals as goal
 
 pub returns-clause-edited : goal.returns-clause-edited
@@ -22,7 +23,7 @@ pub returns-clause-moved : goal.returns-clause-moved
 returns-clause-moved g c =
     let most : c.max.result ≡ max c.args.tree.slots (c.args.slot + length c.args.values.now) = c.max.ensures in
     let cost : touch c.args.slot (c.args.slot + length c.args.values.now) (page_levels c.args.tree.slots) (page_levels c.max.result) 0 ≡ touch c.args.slot (c.args.slot + length c.args.values.now) (page_levels c.args.tree.slots) (page_levels (max c.args.tree.slots (c.args.slot + length c.args.values.now))) 0 = ap (λ n. touch c.args.slot (c.args.slot + length c.args.values.now) (page_levels c.args.tree.slots) (page_levels n) 0) most in
-    moved_more (touch c.args.slot (c.args.slot + length c.args.values.now) (page_levels c.args.tree.slots) (page_levels c.args.tree.slots) 0 + touch c.args.slot (c.args.slot + length c.args.values.now) (page_levels c.args.tree.slots) (page_levels c.max.result) 0) (2 * touch c.args.slot (c.args.slot + length c.args.values.now) (page_levels c.args.tree.slots) (page_levels (max c.args.tree.slots (c.args.slot + length c.args.values.now))) 0) (touch c.args.slot (c.args.slot + length c.args.values.now) (page_levels c.args.tree.slots) (page_levels c.max.result) 0) (touch c.args.slot (c.args.slot + length c.args.values.now) (page_levels c.args.tree.slots) (page_levels (max c.args.tree.slots (c.args.slot + length c.args.values.now))) 0) (g.P.Pages.told c.args.space.now.pages) (g.P.Pages.told c.fill.new.space.pages) (g.P.Pages.view c.args.space.now.pages) (g.P.Pages.view c.fill.new.space.pages) (g.P.Pages.under c.args.space.now.pages) (g.P.Pages.under c.fill.new.space.pages) c.args.space.now.superblock c.fill.new.space.superblock c.args.txn.now c.fill.new.txn
+    moved_more (touch c.args.slot (c.args.slot + length c.args.values.now) (page_levels c.args.tree.slots) (page_levels c.args.tree.slots) 0 + touch c.args.slot (c.args.slot + length c.args.values.now) (page_levels c.args.tree.slots) (page_levels c.max.result) 0) (2 * touch c.args.slot (c.args.slot + length c.args.values.now) (page_levels c.args.tree.slots) (page_levels (max c.args.tree.slots (c.args.slot + length c.args.values.now))) 0) (touch c.args.slot (c.args.slot + length c.args.values.now) (page_levels c.args.tree.slots) (page_levels c.max.result) 0) (touch c.args.slot (c.args.slot + length c.args.values.now) (page_levels c.args.tree.slots) (page_levels (max c.args.tree.slots (c.args.slot + length c.args.values.now))) 0) (shown.IsTold c.args.space.now) (shown.IsTold c.fill.new.space) (shown.view c.args.space.now) (shown.view c.fill.new.space) (shown.under c.args.space.now) (shown.under c.fill.new.space) (shown.numbers c.args.space.now) (shown.numbers c.fill.new.space) c.args.txn.now c.fill.new.txn
     (omega (arith, cost, twice c.args.slot (c.args.slot + length c.args.values.now) c.args.tree.slots (max c.args.tree.slots (c.args.slot + length c.args.values.now)) (max_first c.args.tree.slots (c.args.slot + length c.args.values.now)))) (omega (arith, cost)) c.fill.ensures.moved
 
 pub returns-clause-few_puts : goal.returns-clause-few_puts

@@ -1,13 +1,14 @@
 use Rattle.std.proofs.Common.{◌≡◌, ◌∷◌, ◌+◌, ◌*◌, ℕ, ℤ, List, [], Option, Some, max, sym, ap, subst, arith, to_z, of_z, w64, ◌∙◌}
 use Rattle.std.proofs.lemmas.Int.{ints}
 use Rattle.path_repair.specs.Changes.{IsEdited}
-use Rattle.om3_coeff.specs.Spans.{IsValue}
+use Rattle.whole_number.specs.Range.{IsValue}
 use Rattle.std.proofs.Common.{slice_get}
 use Rattle.path_repair.proofs.EditLemmas.{one_value}
 use Rattle.om3_coeff.specs.Keys.{page_levels}
 use Rattle.path_repair.specs.Costs.{touch}
 use Rattle.path_repair.proofs.MoveLemmas.{moved_more}
 use Rattle.path_repair.proofs.CallLemmas.{max_first, twice, slot_reads, slot_puts}
+use Rattle.page_space.specs.Shown as shown
 use Rattle.path_repair.proofs.calls.put_slot.Goals as goal
 
 pub fill-requires-clause-values : goal.fill-requires-clause-values
@@ -39,7 +40,7 @@ pub returns-clause-moved : goal.returns-clause-moved
 returns-clause-moved g c =
     let most : c.max.result ≡ max c.args.tree.slots (c.args.slot + 1) = c.max.ensures in
     let cost : touch c.args.slot (c.args.slot + 1) (page_levels c.args.tree.slots) (page_levels c.max.result) 0 ≡ touch c.args.slot (c.args.slot + 1) (page_levels c.args.tree.slots) (page_levels (max c.args.tree.slots (c.args.slot + 1))) 0 = ap (λ n. touch c.args.slot (c.args.slot + 1) (page_levels c.args.tree.slots) (page_levels n) 0) most in
-    moved_more (touch c.args.slot (c.args.slot + 1) (page_levels c.args.tree.slots) (page_levels c.args.tree.slots) 0 + touch c.args.slot (c.args.slot + 1) (page_levels c.args.tree.slots) (page_levels c.max.result) 0) (2 * touch c.args.slot (c.args.slot + 1) (page_levels c.args.tree.slots) (page_levels (max c.args.tree.slots (c.args.slot + 1))) 0) (touch c.args.slot (c.args.slot + 1) (page_levels c.args.tree.slots) (page_levels c.max.result) 0) (touch c.args.slot (c.args.slot + 1) (page_levels c.args.tree.slots) (page_levels (max c.args.tree.slots (c.args.slot + 1))) 0) (g.P.Pages.told c.args.space.now.pages) (g.P.Pages.told c.fill.new.space.pages) (g.P.Pages.view c.args.space.now.pages) (g.P.Pages.view c.fill.new.space.pages) (g.P.Pages.under c.args.space.now.pages) (g.P.Pages.under c.fill.new.space.pages) c.args.space.now.superblock c.fill.new.space.superblock c.args.txn.now c.fill.new.txn
+    moved_more (touch c.args.slot (c.args.slot + 1) (page_levels c.args.tree.slots) (page_levels c.args.tree.slots) 0 + touch c.args.slot (c.args.slot + 1) (page_levels c.args.tree.slots) (page_levels c.max.result) 0) (2 * touch c.args.slot (c.args.slot + 1) (page_levels c.args.tree.slots) (page_levels (max c.args.tree.slots (c.args.slot + 1))) 0) (touch c.args.slot (c.args.slot + 1) (page_levels c.args.tree.slots) (page_levels c.max.result) 0) (touch c.args.slot (c.args.slot + 1) (page_levels c.args.tree.slots) (page_levels (max c.args.tree.slots (c.args.slot + 1))) 0) (shown.IsTold c.args.space.now) (shown.IsTold c.fill.new.space) (shown.view c.args.space.now) (shown.view c.fill.new.space) (shown.under c.args.space.now) (shown.under c.fill.new.space) (shown.numbers c.args.space.now) (shown.numbers c.fill.new.space) c.args.txn.now c.fill.new.txn
     (omega (arith, cost, twice c.args.slot (c.args.slot + 1) c.args.tree.slots (max c.args.tree.slots (c.args.slot + 1)) (max_first c.args.tree.slots (c.args.slot + 1)))) (omega (arith, cost)) c.fill.ensures.moved
 
 pub returns-clause-few_reads : goal.returns-clause-few_reads

@@ -5,6 +5,7 @@ use Rattle.page_space.specs.Transactions.{left_by, held_page}
 use Rattle.page_spans.specs.Heaps.{span_at}
 use Rattle.path_repair.proofs.CountLemmas.{none_of}
 use Rattle.path_repair.proofs.CloseLemmas.{close_none_at, close_some_at, free_numbers}
+use Rattle.page_space.specs.Shown as shown
 use Rattle.path_repair.proofs.closing.close_page.Goals as goal
 
 pub returns-then-is_none-clause-repaired : goal.returns-then-is_none-clause-repaired
@@ -14,7 +15,7 @@ returns-then-is_none-clause-repaired g c = λ base before count list list' other
 
 pub returns-clause-repaired : goal.returns-clause-repaired
 returns-clause-repaired g c = λ base before count list list' others below is slots way.
-    close_some_at count before (left_by c.args.txn.now base) (left_by c.put.new.txn base) c.args.txn.now.superblock c.put.new.txn.superblock list list' c.args.at.height c.args.at.level below c.args.at.index c.args.number c.args.space.now.superblock.total c.args.bytes.now c.gather.new.bytes (span_at c.args.spans.now) (span_at c.gather.new.self) c.top-span.result others is way
+    close_some_at count before (left_by c.args.txn.now base) (left_by c.put.new.txn base) c.args.txn.now.superblock c.put.new.txn.superblock list list' c.args.at.height c.args.at.level below c.args.at.index c.args.number (shown.total c.args.space.now) c.args.bytes.now c.gather.new.bytes (span_at c.args.spans.now) (span_at c.gather.new.self) c.top-span.result others is way
     c.requires.first (omega (arith, c.requires.below, c.requires.total)) (ap (λ (one : Superblock). one.total) c.put.ensures.superblock) c.requires.level.1 c.top-span.ensures.span c.if-is_none.ensures c.gather.ensures.top c.gather.ensures.nodes c.requires.form c.gather.ensures.kept c.gather.ensures.flags c.gather.ensures.differences c.gather.ensures.children
     (λ taken freed. c.put.ensures.stands count base taken freed)
     (ap (λ page. unwrap_or page (base c.args.number)) (c.put.ensures.page c.args.number ∙ ap (λ b. cond b (Some c.gather.new.bytes) (held_page c.args.txn.now c.args.number)) (eq-eqb c.args.number c.args.number refl)))

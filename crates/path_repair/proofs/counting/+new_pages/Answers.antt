@@ -10,6 +10,7 @@ use Rattle.path_repair.specs.Damage.{IsUnfitBelow}
 use Rattle.path_repair.specs.Keeping.{look_most, count_most, root_level}
 use Rattle.path_repair.proofs.DamageLemmas.{unfit_up}
 use Rattle.path_repair.proofs.ReadLemmas.{counted_below, look_less, look_children}
+use Rattle.page_space.specs.Shown as shown
 use Rattle.path_repair.proofs.counting.+new_pages.Goals as goal
 
 pub returns-then-at-eq0-clause-counts : goal.returns-then-at-eq0-clause-counts
@@ -19,18 +20,18 @@ returns-then-at-eq0-clause-counts g t c = λ base list list' told lists fills ro
 pub returns-then-is_settled-clause-counts : goal.returns-then-is_settled-clause-counts
 returns-then-is_settled-clause-counts g t c = λ base list list' told lists fills rooted.
     let is : c.args.at.level ≡ suc (c.args.at.level - 1) = omega (arith, c.if-at-eq0.false) in
-    omega (arith, settled_count (left_by c.args.txn.now base) c.args.space.now.superblock.total c.args.slots.first c.args.slots.end c.args.values.now list list' c.args.at.height c.args.at.level (c.args.at.level - 1) c.args.at.index c.args.page is lists rooted (c.if-is_settled.ensures.settled refl))
+    omega (arith, settled_count (left_by c.args.txn.now base) (shown.total c.args.space.now) c.args.slots.first c.args.slots.end c.args.values.now list list' c.args.at.height c.args.at.level (c.args.at.level - 1) c.args.at.index c.args.page is lists rooted (c.if-is_settled.ensures.settled refl))
 
 pub returns-in_err-pages-clause-moved : goal.returns-in_err-pages-clause-moved
 returns-in_err-pages-clause-moved g t c =
     let is : c.args.at.level ≡ suc (c.args.at.level - 1) = omega (arith, c.if-at-eq0.false) in
     let less = look_less c.args.slots.first c.args.slots.end c.args.at.height c.args.at.level (c.args.at.level - 1) c.args.at.index c.args.page is (c.if-is_settled.ensures.unsettled refl).passed in
-    moved_more (look_most c.args.at.height c.args.at.level c.args.at.index c.args.page) (count_most c.args.page c.args.slots.first c.args.slots.end c.args.at.height c.args.at.level c.args.at.index) 0 0 (g.P.Pages.told c.args.space.now.pages) (g.P.Pages.told c.look.new.space.pages) (g.P.Pages.view c.args.space.now.pages) (g.P.Pages.view c.look.new.space.pages) (g.P.Pages.under c.args.space.now.pages) (g.P.Pages.under c.look.new.space.pages) c.args.space.now.superblock c.look.new.space.superblock c.args.txn.now c.args.txn.now less (omega arith) c.look.ensures.moved
+    moved_more (look_most c.args.at.height c.args.at.level c.args.at.index c.args.page) (count_most c.args.page c.args.slots.first c.args.slots.end c.args.at.height c.args.at.level c.args.at.index) 0 0 (shown.IsTold c.args.space.now) (shown.IsTold c.look.new.space) (shown.view c.args.space.now) (shown.view c.look.new.space) (shown.under c.args.space.now) (shown.under c.look.new.space) (shown.numbers c.args.space.now) (shown.numbers c.look.new.space) c.args.txn.now c.args.txn.now less (omega arith) c.look.ensures.moved
 
 pub returns-in_err-pages-clause-unfit : goal.returns-in_err-pages-clause-unfit
 returns-in_err-pages-clause-unfit g t c = λ base told.
     let is : c.args.at.level ≡ suc (c.args.at.level - 1) = omega (arith, c.if-at-eq0.false) in
-    let U : RepairError → Type 0 = λ e. IsUnfitBelow (left_by c.args.txn.now base) c.args.txn.now.superblock.fresh c.args.space.now.superblock.total (root_level c.args.at.height c.args.at.level c.args.at.index) c.args.page e in
+    let U : RepairError → Type 0 = λ e. IsUnfitBelow (left_by c.args.txn.now base) c.args.txn.now.superblock.fresh (shown.total c.args.space.now) (root_level c.args.at.height c.args.at.level c.args.at.index) c.args.page e in
     error_so _ U c.from_residual.result c.from_residual.ensures.1
     (λ e same. subst U (sym same) (c.in_err-pages.ensures.unfit base (c.args.at.level - 1) told is))
 
@@ -42,7 +43,7 @@ returns-in_err-pages-clause-only_faults g t c = λ base list list' told lists fi
 
 pub loop-child-init : goal.loop-child-init
 loop-child-init g t c =
-    count_start (g.P.Pages.told c.args.space.now.pages) (g.P.Pages.told c.look.new.space.pages) (g.P.Pages.view c.args.space.now.pages) (g.P.Pages.view c.look.new.space.pages) (g.P.Pages.under c.args.space.now.pages) (g.P.Pages.under c.look.new.space.pages) c.args.space.now.superblock c.look.new.space.superblock c.args.txn.now c.args.slots.first c.args.slots.end c.args.values.now c.args.at.height c.args.at.level (c.args.at.level - 1) c.args.at.index c.args.page c.look.new.bytes c.in_ok-pages.pages c.look.ensures.moved c.in_ok-pages.ensures.few
+    count_start (shown.IsTold c.args.space.now) (shown.IsTold c.look.new.space) (shown.view c.args.space.now) (shown.view c.look.new.space) (shown.under c.args.space.now) (shown.under c.look.new.space) (shown.numbers c.args.space.now) (shown.numbers c.look.new.space) c.args.txn.now c.args.slots.first c.args.slots.end c.args.values.now c.args.at.height c.args.at.level (c.args.at.level - 1) c.args.at.index c.args.page c.look.new.bytes c.in_ok-pages.pages c.look.ensures.moved c.in_ok-pages.ensures.few
 
 pub new_pages-requires : goal.new_pages-requires
 new_pages-requires g t c κs within =
@@ -74,7 +75,7 @@ returns-in_err-more-clause-moved g t c =
     let is : c.args.at.level ≡ suc (c.args.at.level - 1) = omega (arith, c.if-at-eq0.false) in
     let child_level : c.child.result.level ≡ c.args.at.level - 1 = omega (arith, c.child.ensures.level) in
     let most = look_children c.args.slots.first c.args.slots.end c.args.at.height c.args.at.level (c.args.at.level - 1) c.args.at.index c.args.page c.look.new.bytes is (c.if-is_settled.ensures.unsettled refl).passed c.in_ok-pages.ensures.opened in
-    count_moved (g.P.Pages.told c.args.space.now.pages) (g.P.Pages.told c.loop-child.space.pages) (g.P.Pages.told c.new_pages.new.space.pages) (g.P.Pages.view c.args.space.now.pages) (g.P.Pages.view c.loop-child.space.pages) (g.P.Pages.view c.new_pages.new.space.pages) (g.P.Pages.under c.args.space.now.pages) (g.P.Pages.under c.loop-child.space.pages) (g.P.Pages.under c.new_pages.new.space.pages) c.args.space.now.superblock c.loop-child.space.superblock c.new_pages.new.space.superblock c.args.txn.now c.args.slots.first c.args.slots.end c.args.values.now c.args.at.height c.args.at.level (c.args.at.level - 1) c.args.at.index c.args.page c.look.new.bytes c.in_ok-pages.pages c.loop-child.pages c.loop-child.child c.child.result.height c.child.result.level c.child.result.index c.child_of-below.result
+    count_moved (shown.IsTold c.args.space.now) (shown.IsTold c.loop-child.space) (shown.IsTold c.new_pages.new.space) (shown.view c.args.space.now) (shown.view c.loop-child.space) (shown.view c.new_pages.new.space) (shown.under c.args.space.now) (shown.under c.loop-child.space) (shown.under c.new_pages.new.space) (shown.numbers c.args.space.now) (shown.numbers c.loop-child.space) (shown.numbers c.new_pages.new.space) c.args.txn.now c.args.slots.first c.args.slots.end c.args.values.now c.args.at.height c.args.at.level (c.args.at.level - 1) c.args.at.index c.args.page c.look.new.bytes c.in_ok-pages.pages c.loop-child.pages c.loop-child.child c.child.result.height c.child.result.level c.child.result.index c.child_of-below.result
     c.loop-child.invariant c.loop-child-test.true c.child.ensures.height child_level c.child.ensures.index c.child_of-below.ensures c.new_pages.ensures.moved most
 
 pub returns-in_err-more-clause-unfit : goal.returns-in_err-more-clause-unfit
@@ -83,15 +84,15 @@ returns-in_err-more-clause-unfit g t c = λ base told.
     let child_level : c.child.result.level ≡ c.args.at.level - 1 = omega (arith, c.child.ensures.level) in
     let way = c.loop-child.invariant in
     let image = left_by c.args.txn.now base in
-    let total_is : c.loop-child.space.superblock.total ≡ c.args.space.now.superblock.total = ap (λ (s : Superblock). s.total) way.moved.over.superblock in
+    let total_is : (shown.total c.loop-child.space) ≡ (shown.total c.args.space.now) = ap (λ (s : Superblock). s.total) way.moved.over.superblock in
     let T : ℕ → Type 0 = λ n. IsUnfitBelow image c.args.txn.now.superblock.fresh n (root_level c.child.result.height c.child.result.level c.child.result.index) c.child_of-below.result c.in_err-more.field-0.0 in
-    let U : RepairError → Type 0 = λ e. IsUnfitBelow image c.args.txn.now.superblock.fresh c.args.space.now.superblock.total (root_level c.args.at.height c.args.at.level c.args.at.index) c.args.page e in
+    let U : RepairError → Type 0 = λ e. IsUnfitBelow image c.args.txn.now.superblock.fresh (shown.total c.args.space.now) (root_level c.args.at.height c.args.at.level c.args.at.index) c.args.page e in
     error_so _ U c.from_residual-in_err-more.result c.from_residual-in_err-more.ensures.1
     (λ e same. subst U (sym same)
-    (unfit_up image c.args.txn.now.superblock.fresh c.args.space.now.superblock.total c.args.at.height c.args.at.level (c.args.at.level - 1) c.args.at.index c.loop-child.child c.child.result.height c.child.result.level c.child.result.index c.args.page c.child_of-below.result c.look.new.bytes c.in_err-more.field-0.0 is c.loop-child-test.true c.child.ensures.height child_level c.child.ensures.index c.child_of-below.ensures
+    (unfit_up image c.args.txn.now.superblock.fresh (shown.total c.args.space.now) c.args.at.height c.args.at.level (c.args.at.level - 1) c.args.at.index c.loop-child.child c.child.result.height c.child.result.level c.child.result.index c.args.page c.child_of-below.result c.look.new.bytes c.in_err-more.field-0.0 is c.loop-child-test.true c.child.ensures.height child_level c.child.ensures.index c.child_of-below.ensures
     c.in_ok-pages.ensures.opened (c.in_ok-pages.ensures.as_told base told)
     (subst T total_is (c.in_err-more.ensures.unfit base
-    (told_on (look_most c.args.at.height c.args.at.level c.args.at.index c.args.page + counted_below c.look.new.bytes c.args.slots.first c.args.slots.end c.args.at.height (c.args.at.level - 1) c.args.at.index c.loop-child.child) (g.P.Pages.told c.args.space.now.pages) (g.P.Pages.told c.loop-child.space.pages) (g.P.Pages.view c.args.space.now.pages) (g.P.Pages.view c.loop-child.space.pages) base way.moved.reads told)))))
+    (told_on (look_most c.args.at.height c.args.at.level c.args.at.index c.args.page + counted_below c.look.new.bytes c.args.slots.first c.args.slots.end c.args.at.height (c.args.at.level - 1) c.args.at.index c.loop-child.child) (shown.IsTold c.args.space.now) (shown.IsTold c.loop-child.space) (shown.view c.args.space.now) (shown.view c.loop-child.space) base way.moved.reads told)))))
 
 pub returns-in_err-more-clause-only_faults : goal.returns-in_err-more-clause-only_faults
 returns-in_err-more-clause-only_faults g t c = λ base list list' told lists fills rooted.
@@ -100,14 +101,14 @@ returns-in_err-more-clause-only_faults g t c = λ base list list' told lists fil
     let way = c.loop-child.invariant in
     error_so _ _ c.from_residual-in_err-more.result c.from_residual-in_err-more.ensures.1
     (λ e same. same ∙ c.in_err-more.ensures.only_faults base list list'
-    (told_on (look_most c.args.at.height c.args.at.level c.args.at.index c.args.page + counted_below c.look.new.bytes c.args.slots.first c.args.slots.end c.args.at.height (c.args.at.level - 1) c.args.at.index c.loop-child.child) (g.P.Pages.told c.args.space.now.pages) (g.P.Pages.told c.loop-child.space.pages) (g.P.Pages.view c.args.space.now.pages) (g.P.Pages.view c.loop-child.space.pages) base way.moved.reads told) lists fills
-    (count_child (g.P.Pages.told c.args.space.now.pages) (g.P.Pages.told c.loop-child.space.pages) (g.P.Pages.view c.args.space.now.pages) (g.P.Pages.view c.loop-child.space.pages) (g.P.Pages.under c.args.space.now.pages) (g.P.Pages.under c.loop-child.space.pages) c.args.space.now.superblock c.loop-child.space.superblock c.args.txn.now c.args.slots.first c.args.slots.end c.args.values.now c.args.at.height c.args.at.level (c.args.at.level - 1) c.args.at.index c.args.page c.look.new.bytes c.in_ok-pages.pages c.loop-child.pages c.loop-child.child c.child.result.height c.child.result.level c.child.result.index c.child_of-below.result way c.loop-child-test.true c.child.ensures.height child_level c.child.ensures.index c.child_of-below.ensures base list (c.in_ok-pages.ensures.seen base list (c.args.at.level - 1) told is rooted)))
+    (told_on (look_most c.args.at.height c.args.at.level c.args.at.index c.args.page + counted_below c.look.new.bytes c.args.slots.first c.args.slots.end c.args.at.height (c.args.at.level - 1) c.args.at.index c.loop-child.child) (shown.IsTold c.args.space.now) (shown.IsTold c.loop-child.space) (shown.view c.args.space.now) (shown.view c.loop-child.space) base way.moved.reads told) lists fills
+    (count_child (shown.IsTold c.args.space.now) (shown.IsTold c.loop-child.space) (shown.view c.args.space.now) (shown.view c.loop-child.space) (shown.under c.args.space.now) (shown.under c.loop-child.space) (shown.numbers c.args.space.now) (shown.numbers c.loop-child.space) c.args.txn.now c.args.slots.first c.args.slots.end c.args.values.now c.args.at.height c.args.at.level (c.args.at.level - 1) c.args.at.index c.args.page c.look.new.bytes c.in_ok-pages.pages c.loop-child.pages c.loop-child.child c.child.result.height c.child.result.level c.child.result.index c.child_of-below.result way c.loop-child-test.true c.child.ensures.height child_level c.child.ensures.index c.child_of-below.ensures base list (c.in_ok-pages.ensures.seen base list (c.args.at.level - 1) told is rooted)))
 
 pub loop-child-preserved : goal.loop-child-preserved
 loop-child-preserved g t c =
     let is : c.args.at.level ≡ suc (c.args.at.level - 1) = omega (arith, c.if-at-eq0.false) in
     let child_level : c.child.result.level ≡ c.args.at.level - 1 = omega (arith, c.child.ensures.level) in
-    count_on (g.P.Pages.told c.args.space.now.pages) (g.P.Pages.told c.loop-child.space.pages) (g.P.Pages.told c.new_pages.new.space.pages) (g.P.Pages.view c.args.space.now.pages) (g.P.Pages.view c.loop-child.space.pages) (g.P.Pages.view c.new_pages.new.space.pages) (g.P.Pages.under c.args.space.now.pages) (g.P.Pages.under c.loop-child.space.pages) (g.P.Pages.under c.new_pages.new.space.pages) c.args.space.now.superblock c.loop-child.space.superblock c.new_pages.new.space.superblock c.args.txn.now c.args.slots.first c.args.slots.end c.args.values.now c.args.at.height c.args.at.level (c.args.at.level - 1) c.args.at.index c.args.page c.look.new.bytes c.in_ok-pages.pages c.loop-child.pages c.in_ok-more.more c.loop-child.child c.child.result.height c.child.result.level c.child.result.index c.child_of-below.result
+    count_on (shown.IsTold c.args.space.now) (shown.IsTold c.loop-child.space) (shown.IsTold c.new_pages.new.space) (shown.view c.args.space.now) (shown.view c.loop-child.space) (shown.view c.new_pages.new.space) (shown.under c.args.space.now) (shown.under c.loop-child.space) (shown.under c.new_pages.new.space) (shown.numbers c.args.space.now) (shown.numbers c.loop-child.space) (shown.numbers c.new_pages.new.space) c.args.txn.now c.args.slots.first c.args.slots.end c.args.values.now c.args.at.height c.args.at.level (c.args.at.level - 1) c.args.at.index c.args.page c.look.new.bytes c.in_ok-pages.pages c.loop-child.pages c.in_ok-more.more c.loop-child.child c.child.result.height c.child.result.level c.child.result.index c.child_of-below.result
     c.loop-child.invariant c.loop-child-test.true c.child.ensures.height child_level c.child.ensures.index c.child_of-below.ensures c.new_pages.ensures.moved c.in_ok-more.ensures.few
     (λ base list list' told lists fills rooted. c.in_ok-more.ensures.counts base list list' told lists fills rooted)
     (λ base list told rooted. c.in_ok-pages.ensures.seen base list (c.args.at.level - 1) told is rooted)
@@ -117,7 +118,7 @@ returns-clause-moved g t c =
     let is : c.args.at.level ≡ suc (c.args.at.level - 1) = omega (arith, c.if-at-eq0.false) in
     let end : c.loop-child.child ≡ 128 = omega (arith, c.loop-child-test.false, c.loop-child.auto.child-end) in
     let most = look_children c.args.slots.first c.args.slots.end c.args.at.height c.args.at.level (c.args.at.level - 1) c.args.at.index c.args.page c.look.new.bytes is (c.if-is_settled.ensures.unsettled refl).passed c.in_ok-pages.ensures.opened in
-    moved_more (look_most c.args.at.height c.args.at.level c.args.at.index c.args.page + counted_below c.look.new.bytes c.args.slots.first c.args.slots.end c.args.at.height (c.args.at.level - 1) c.args.at.index c.loop-child.child) (count_most c.args.page c.args.slots.first c.args.slots.end c.args.at.height c.args.at.level c.args.at.index) 0 0 (g.P.Pages.told c.args.space.now.pages) (g.P.Pages.told c.loop-child.space.pages) (g.P.Pages.view c.args.space.now.pages) (g.P.Pages.view c.loop-child.space.pages) (g.P.Pages.under c.args.space.now.pages) (g.P.Pages.under c.loop-child.space.pages) c.args.space.now.superblock c.loop-child.space.superblock c.args.txn.now c.args.txn.now
+    moved_more (look_most c.args.at.height c.args.at.level c.args.at.index c.args.page + counted_below c.look.new.bytes c.args.slots.first c.args.slots.end c.args.at.height (c.args.at.level - 1) c.args.at.index c.loop-child.child) (count_most c.args.page c.args.slots.first c.args.slots.end c.args.at.height c.args.at.level c.args.at.index) 0 0 (shown.IsTold c.args.space.now) (shown.IsTold c.loop-child.space) (shown.view c.args.space.now) (shown.view c.loop-child.space) (shown.under c.args.space.now) (shown.under c.loop-child.space) (shown.numbers c.args.space.now) (shown.numbers c.loop-child.space) c.args.txn.now c.args.txn.now
     (omega (arith, most, ap (λ n. counted_below c.look.new.bytes c.args.slots.first c.args.slots.end c.args.at.height (c.args.at.level - 1) c.args.at.index n) end)) (omega arith) c.loop-child.invariant.moved
 
 pub returns-clause-few : goal.returns-clause-few
@@ -131,9 +132,9 @@ pub returns-clause-counts : goal.returns-clause-counts
 returns-clause-counts g t c = λ base list list' told lists fills rooted.
     let is : c.args.at.level ≡ suc (c.args.at.level - 1) = omega (arith, c.if-at-eq0.false) in
     let end : c.loop-child.child ≡ 128 = omega (arith, c.loop-child-test.false, c.loop-child.auto.child-end) in
-    count_end (left_by c.args.txn.now base) c.args.space.now.superblock.total c.args.slots.first c.args.slots.end c.args.values.now list list' c.args.at.height c.args.at.level (c.args.at.level - 1) c.args.at.index c.args.page c.look.new.bytes c.in_ok-pages.pages c.loop-child.pages c.loop-child.child is end
+    count_end (left_by c.args.txn.now base) (shown.total c.args.space.now) c.args.slots.first c.args.slots.end c.args.values.now list list' c.args.at.height c.args.at.level (c.args.at.level - 1) c.args.at.index c.args.page c.look.new.bytes c.in_ok-pages.pages c.loop-child.pages c.loop-child.child is end
     (c.loop-child.invariant.counts base list list' told lists fills rooted) (c.in_ok-pages.ensures.seen base list (c.args.at.level - 1) told is rooted)
-    (passed_stored (left_by c.args.txn.now base) c.args.space.now.superblock.total c.args.slots.first c.args.slots.end c.args.values.now list list' c.args.at.height c.args.at.level (c.args.at.level - 1) c.args.at.index c.args.page is lists fills rooted (c.if-is_settled.ensures.unsettled refl))
+    (passed_stored (left_by c.args.txn.now base) (shown.total c.args.space.now) c.args.slots.first c.args.slots.end c.args.values.now list list' c.args.at.height c.args.at.level (c.args.at.level - 1) c.args.at.index c.args.page is lists fills rooted (c.if-is_settled.ensures.unsettled refl))
 
 pub overflow_add-pages : goal.overflow_add-pages
 overflow_add-pages g t c =

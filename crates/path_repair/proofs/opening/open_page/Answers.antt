@@ -10,6 +10,7 @@ use Rattle.path_repair.specs.declared.errors.RepairError.{RepairError}
 use Rattle.path_repair.specs.Damage.{IsDamage}
 use Rattle.path_repair.specs.Keeping.{root_level}
 use Rattle.path_repair.proofs.DamageLemmas.{damage_here}
+use Rattle.page_space.specs.Shown as shown
 use Rattle.path_repair.proofs.opening.open_page.Goals as goal
 
 pub returns-in_err-read_page-clause-only_faults : goal.returns-in_err-read_page-clause-only_faults
@@ -50,7 +51,7 @@ returns-in_err-read_page-clause-damaged g c = λ base below told is.
     let s = c.args.txn.now.superblock in
     let D : RepairError → Type 0 = λ e. IsDamage image s.fresh s (root_level c.args.at.height c.args.at.level c.args.at.index) c.args.root.page c.args.root.span e in
     error_so _ D c.from_residual.result c.from_residual.ensures.1
-    (λ e same. subst D (sym same) (damage_here image s.fresh s c.args.at.height c.args.at.level below c.args.at.index c.args.root.page c.args.space.now.superblock.total c.args.root.span c.in_err-read_page.field-0.0 is (sym c.requires.total) c.if-root-ne0.true (sym c.if-not-is_new_root.ensures) (c.in_err-read_page.ensures.bad base told)))
+    (λ e same. subst D (sym same) (damage_here image s.fresh s c.args.at.height c.args.at.level below c.args.at.index c.args.root.page (shown.total c.args.space.now) c.args.root.span c.in_err-read_page.field-0.0 is (sym c.requires.total) c.if-root-ne0.true (sym c.if-not-is_new_root.ensures) (c.in_err-read_page.ensures.bad base told)))
 
 pub returns-clause-own : goal.returns-clause-own
 returns-clause-own g c = λ base told. c.in_ok-number.ensures.own base c.args.at.level told

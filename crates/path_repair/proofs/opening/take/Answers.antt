@@ -8,6 +8,7 @@ use Rattle.page_space.specs.declared.errors.SpaceError.{SpaceError}
 use Rattle.page_space.specs.declared.errors.SpaceError.TheVariants.{Full}
 use Rattle.path_repair.specs.Keeping.{IsOwn}
 use Rattle.path_repair.proofs.KeepLemmas.{taken_own}
+use Rattle.page_space.specs.Shown as shown
 use Rattle.path_repair.proofs.opening.take.Goals as goal
 
 pub returns-in-Ok-clause-taken : goal.returns-in-Ok-clause-taken
@@ -22,7 +23,7 @@ returns-in-Ok-clause-taken g c = λ base count used freed told stands.
 
 pub returns-in-Err-Full-clause-sound : goal.returns-in-Err-Full-clause-sound
 returns-in-Err-Full-clause-sound g c = λ base count used freed told stands room.
-    let P : SpaceError → Type 0 = λ e. Refuses e (g.P.Pages.told c.args.space.now.pages) (left_by c.args.txn.now (g.P.Pages.view c.args.space.now.pages).image) c.args.txn.now.superblock (g.P.Pages.view c.args.space.now.pages).faults (g.P.Pages.view c.alloc.new.self.pages).faults in
+    let P : SpaceError → Type 0 = λ e. Refuses e (shown.IsTold c.args.space.now) (left_by c.args.txn.now (shown.image c.args.space.now)) c.args.txn.now.superblock (shown.view c.args.space.now).faults (shown.view c.alloc.new.self).faults in
     let refused : P (Full c.in-Err-Full.needed c.in-Err-Full.have) = subst P c.in-Err-Full.field-0-is c.in-Err-Full.ensures.cause in
     let full = refused.0 in
     absurd (omega (arith, room, full.0, full.1, stands.chain_is, stands_counts count (left_by c.args.txn.now base) c.args.txn.now.superblock used freed stands))
@@ -34,5 +35,5 @@ returns-in-Err-Damaged-clause-sound g c = λ base count used freed told stands r
 
 pub returns-in-Ok-clause-own : goal.returns-in-Ok-clause-own
 returns-in-Ok-clause-own g c = λ base level told.
-    let P : Image → Type 0 = λ image. IsOwn (left_by c.args.txn.now image) c.args.txn.now.superblock.fresh level c.in-Ok.page in
-    subst P told.are (taken_own (g.P.Pages.told c.args.space.now.pages) (left_by c.args.txn.now (g.P.Pages.view c.args.space.now.pages).image) c.args.txn.now.superblock c.alloc.new.txn.superblock level c.in-Ok.page told.are_told c.in-Ok.ensures.takes c.in-Ok.ensures.given)
+    let P : Image → Type 0 = λ image. IsOwn (left_by c.args.txn.now image) c.args.txn.now.superblock.fresh c.alloc.new.txn.superblock.fresh level c.in-Ok.page in
+    subst P told.are (taken_own (shown.IsTold c.args.space.now) (left_by c.args.txn.now (shown.image c.args.space.now)) c.args.txn.now.superblock c.alloc.new.txn.superblock level c.in-Ok.page told.are_told c.in-Ok.ensures.takes c.in-Ok.ensures.given)

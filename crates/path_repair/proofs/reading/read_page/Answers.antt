@@ -6,6 +6,7 @@ use Rattle.page_space.specs.Transactions.{left_by}
 use Rattle.tree_walk.specs.Trees.{HoldsNodes}
 use Rattle.path_repair.specs.declared.errors.RepairError.TheVariants.{DiskFault}
 use Rattle.path_repair.proofs.FormLemmas.{ok_no_err}
+use Rattle.page_space.specs.Shown as shown
 use Rattle.path_repair.proofs.reading.read_page.Goals as goal
 
 pub returns-clause-tops : goal.returns-clause-tops
@@ -20,7 +21,7 @@ returns-clause-sound g c = λ base list below told is slots holds top some child
     let R : Image → Type 0 = λ image. c.read.new.out ≡ left_by c.args.txn.now image c.args.root.page in
     let read : c.read.new.out ≡ left_by c.args.txn.now base c.args.root.page = subst R told.are (c.in-Ok.ensures.page told.are_told) in
     let H : List ℕ → Type 0 = λ page. HoldsNodes list c.args.at.level c.args.at.index page in
-    let C : List ℕ → Type 0 = λ page. (child : ℕ) → child < 128 → child_at page child < c.args.space.now.superblock.total in
+    let C : List ℕ → Type 0 = λ page. (child : ℕ) → child < 128 → child_at page child < (shown.total c.args.space.now) in
     let within = subst C (sym read) children in
-    let same : c.read.new.self.superblock ≡ c.args.space.now.superblock = c.read.ensures.superblock in
+    let same : c.read.new.self.superblock ≡ (shown.numbers c.args.space.now) = c.read.ensures.superblock in
     ok_no_err c.spread.result (λ e. e ≡ DiskFault) (c.spread.ensures.sound list below c.args.at.index is slots (subst H (sym read) holds) top some (λ child low. omega (arith, within child low, c.total.ensures.total, ap (λ (one : Superblock). one.total) same)))

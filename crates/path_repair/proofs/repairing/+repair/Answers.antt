@@ -14,6 +14,7 @@ use Rattle.path_repair.specs.Damage.{IsDamage}
 use Rattle.path_repair.specs.Keeping.{root_level}
 use Rattle.path_repair.proofs.KeepLemmas.{spares_up}
 use Rattle.path_repair.proofs.SpareLemmas.{first_spares, none_spares, spare_start, spare_child, spare_on, spare_damage, spare_end, new_root}
+use Rattle.page_space.specs.Shown as shown
 use Rattle.path_repair.proofs.repairing.+repair.Goals as goal
 
 pub returns-then-at-eq0-clause-repaired : goal.returns-then-at-eq0-clause-repaired
@@ -31,7 +32,7 @@ pub returns-in_err-number-clause-moved : goal.returns-in_err-number-clause-moved
 returns-in_err-number-clause-moved g t c =
     let depth : (c.args.at.level - 1) + 1 ≡ c.args.at.level = omega (arith, c.if-at-eq0.false) in
     let whole = touch_level c.args.slots.first c.args.slots.end c.args.at.height c.args.at.level (c.args.at.level - 1) c.args.at.index depth (c.if-is_settled.ensures.unsettled refl).passed in
-    moved_more 1 (touch c.args.slots.first c.args.slots.end c.args.at.height c.args.at.level c.args.at.index) 0 (touch c.args.slots.first c.args.slots.end c.args.at.height c.args.at.level c.args.at.index) (g.P.Pages.told c.args.space.now.pages) (g.P.Pages.told c.open_page.new.space.pages) (g.P.Pages.view c.args.space.now.pages) (g.P.Pages.view c.open_page.new.space.pages) (g.P.Pages.under c.args.space.now.pages) (g.P.Pages.under c.open_page.new.space.pages) c.args.space.now.superblock c.open_page.new.space.superblock c.args.txn.now c.open_page.new.txn
+    moved_more 1 (touch c.args.slots.first c.args.slots.end c.args.at.height c.args.at.level c.args.at.index) 0 (touch c.args.slots.first c.args.slots.end c.args.at.height c.args.at.level c.args.at.index) (shown.IsTold c.args.space.now) (shown.IsTold c.open_page.new.space) (shown.view c.args.space.now) (shown.view c.open_page.new.space) (shown.under c.args.space.now) (shown.under c.open_page.new.space) (shown.numbers c.args.space.now) (shown.numbers c.open_page.new.space) c.args.txn.now c.open_page.new.txn
     (omega (arith, whole)) (omega arith) c.open_page.ensures.moved
 
 pub returns-in_err-number-clause-only_faults : goal.returns-in_err-number-clause-only_faults
@@ -43,10 +44,10 @@ returns-in_err-number-clause-only_faults g t c = λ base count list list' others
 pub loop-child-init : goal.loop-child-init
 loop-child-init g t c =
     let is : c.args.at.level ≡ suc (c.args.at.level - 1) = omega (arith, c.if-at-eq0.false) in (
-      way_start (g.P.Pages.told c.args.space.now.pages) (g.P.Pages.told c.open_page.new.space.pages) (g.P.Pages.view c.args.space.now.pages) (g.P.Pages.view c.open_page.new.space.pages) (g.P.Pages.under c.args.space.now.pages) (g.P.Pages.under c.open_page.new.space.pages) c.args.space.now.superblock c.open_page.new.space.superblock c.args.txn.now c.open_page.new.txn c.args.slots.first c.args.slots.end c.args.values.now c.args.at.height c.args.at.level (c.args.at.level - 1) c.args.at.index c.args.root.page c.args.root.span c.in_ok-number.number c.open_page.new.bytes (span_at c.open_page.new.spans)
+      way_start (shown.IsTold c.args.space.now) (shown.IsTold c.open_page.new.space) (shown.view c.args.space.now) (shown.view c.open_page.new.space) (shown.under c.args.space.now) (shown.under c.open_page.new.space) (shown.numbers c.args.space.now) (shown.numbers c.open_page.new.space) c.args.txn.now c.open_page.new.txn c.args.slots.first c.args.slots.end c.args.values.now c.args.at.height c.args.at.level (c.args.at.level - 1) c.args.at.index c.args.root.page c.args.root.span c.in_ok-number.number c.open_page.new.bytes (span_at c.open_page.new.spans)
           c.open_page.ensures.moved c.in_ok-number.ensures.form
           (λ base count list list' others told lists placed. c.in_ok-number.ensures.part base count list list' others (c.args.at.level - 1) told is lists.old_values placed (λ none. gives c.args.slots.first c.args.slots.end c.args.values.now list list' c.args.at.level c.args.at.index lists ((c.if-is_settled.ensures.unsettled refl).something none))),
-      spare_start (g.P.Pages.told c.args.space.now.pages) (g.P.Pages.view c.args.space.now.pages) c.args.txn.now c.open_page.new.txn (c.args.at.level - 1) c.open_page.new.bytes (span_at c.open_page.new.spans) c.open_page.ensures.first,
+      spare_start (shown.IsTold c.args.space.now) (shown.view c.args.space.now) c.args.txn.now c.open_page.new.txn (c.args.at.level - 1) c.open_page.new.bytes (span_at c.open_page.new.spans) c.open_page.ensures.first,
     )
 
 pub repair-requires : goal.repair-requires
@@ -72,7 +73,7 @@ repair-requires g t c κs within =
                     c.child_root-old.ensures.proper,
                     (
                       c.requires.values,
-                      way_room (g.P.Pages.told c.args.space.now.pages) (g.P.Pages.told c.loop-child.space.pages) (g.P.Pages.view c.args.space.now.pages) (g.P.Pages.view c.loop-child.space.pages) (g.P.Pages.under c.args.space.now.pages) (g.P.Pages.under c.loop-child.space.pages) c.args.space.now.superblock c.loop-child.space.superblock c.args.txn.now c.loop-child.txn c.args.slots.first c.args.slots.end c.args.values.now c.args.at.height c.args.at.level (c.args.at.level - 1) c.args.at.index c.args.root.page c.args.root.span c.in_ok-number.number c.loop-child.bytes (span_at c.loop-child.spans) c.loop-child.child c.child.result.height c.child.result.level c.child.result.index
+                      way_room (shown.IsTold c.args.space.now) (shown.IsTold c.loop-child.space) (shown.view c.args.space.now) (shown.view c.loop-child.space) (shown.under c.args.space.now) (shown.under c.loop-child.space) (shown.numbers c.args.space.now) (shown.numbers c.loop-child.space) c.args.txn.now c.loop-child.txn c.args.slots.first c.args.slots.end c.args.values.now c.args.at.height c.args.at.level (c.args.at.level - 1) c.args.at.index c.args.root.page c.args.root.span c.in_ok-number.number c.loop-child.bytes (span_at c.loop-child.spans) c.loop-child.child c.child.result.height c.child.result.level c.child.result.index
                           way c.loop-child-test.true c.child.ensures.height child_level c.child.ensures.index whole c.requires.room,
                     ),
                   ),
@@ -89,7 +90,7 @@ returns-in_err-next-clause-moved g t c =
     let depth : (c.args.at.level - 1) + 1 ≡ c.args.at.level = omega (arith, c.if-at-eq0.false) in
     let whole = touch_level c.args.slots.first c.args.slots.end c.args.at.height c.args.at.level (c.args.at.level - 1) c.args.at.index depth (c.if-is_settled.ensures.unsettled refl).passed in
     let child_level : c.child.result.level ≡ c.args.at.level - 1 = omega (arith, c.child.ensures.level) in
-    way_moved (g.P.Pages.told c.args.space.now.pages) (g.P.Pages.told c.loop-child.space.pages) (g.P.Pages.told c.repair.new.space.pages) (g.P.Pages.view c.args.space.now.pages) (g.P.Pages.view c.loop-child.space.pages) (g.P.Pages.view c.repair.new.space.pages) (g.P.Pages.under c.args.space.now.pages) (g.P.Pages.under c.loop-child.space.pages) (g.P.Pages.under c.repair.new.space.pages) c.args.space.now.superblock c.loop-child.space.superblock c.repair.new.space.superblock c.args.txn.now c.loop-child.txn c.repair.new.txn c.args.slots.first c.args.slots.end c.args.values.now c.args.at.height c.args.at.level (c.args.at.level - 1) c.args.at.index c.args.root.page c.args.root.span c.in_ok-number.number c.loop-child.bytes (span_at c.loop-child.spans) c.loop-child.child c.child.result.height c.child.result.level c.child.result.index
+    way_moved (shown.IsTold c.args.space.now) (shown.IsTold c.loop-child.space) (shown.IsTold c.repair.new.space) (shown.view c.args.space.now) (shown.view c.loop-child.space) (shown.view c.repair.new.space) (shown.under c.args.space.now) (shown.under c.loop-child.space) (shown.under c.repair.new.space) (shown.numbers c.args.space.now) (shown.numbers c.loop-child.space) (shown.numbers c.repair.new.space) c.args.txn.now c.loop-child.txn c.repair.new.txn c.args.slots.first c.args.slots.end c.args.values.now c.args.at.height c.args.at.level (c.args.at.level - 1) c.args.at.index c.args.root.page c.args.root.span c.in_ok-number.number c.loop-child.bytes (span_at c.loop-child.spans) c.loop-child.child c.child.result.height c.child.result.level c.child.result.index
     c.loop-child.invariant.0 c.loop-child-test.true c.child.ensures.height child_level c.child.ensures.index c.repair.ensures.moved whole
 
 pub returns-in_err-next-clause-only_faults : goal.returns-in_err-next-clause-only_faults
@@ -98,20 +99,20 @@ returns-in_err-next-clause-only_faults g t c = λ base count list list' others t
     let way = c.loop-child.invariant.0 in
     error_so _ _ c.from_residual-in_err-next.result c.from_residual-in_err-next.ensures.1
     (λ e same. same ∙ c.in_err-next.ensures.only_faults base count list list' (c.in_ok-number.number ∷ (rest (left_by c.loop-child.txn base) c.args.at.height (c.args.at.level - 1) c.loop-child.bytes c.loop-child.child ++ others))
-    (told_on (1 + passed_below c.args.slots.first c.args.slots.end c.args.at.height (c.args.at.level - 1) c.args.at.index c.loop-child.child) (g.P.Pages.told c.args.space.now.pages) (g.P.Pages.told c.loop-child.space.pages) (g.P.Pages.view c.args.space.now.pages) (g.P.Pages.view c.loop-child.space.pages) base way.moved.reads told) lists
-    (way_child (g.P.Pages.told c.args.space.now.pages) (g.P.Pages.told c.loop-child.space.pages) (g.P.Pages.view c.args.space.now.pages) (g.P.Pages.view c.loop-child.space.pages) (g.P.Pages.under c.args.space.now.pages) (g.P.Pages.under c.loop-child.space.pages) c.args.space.now.superblock c.loop-child.space.superblock c.args.txn.now c.loop-child.txn c.args.slots.first c.args.slots.end c.args.values.now c.args.at.height c.args.at.level (c.args.at.level - 1) c.args.at.index c.args.root.page c.args.root.span c.in_ok-number.number c.loop-child.bytes (span_at c.loop-child.spans) c.loop-child.child c.child.result.height c.child.result.level c.child.result.index c.child_root-old.result.page c.child_root-old.result.span
+    (told_on (1 + passed_below c.args.slots.first c.args.slots.end c.args.at.height (c.args.at.level - 1) c.args.at.index c.loop-child.child) (shown.IsTold c.args.space.now) (shown.IsTold c.loop-child.space) (shown.view c.args.space.now) (shown.view c.loop-child.space) base way.moved.reads told) lists
+    (way_child (shown.IsTold c.args.space.now) (shown.IsTold c.loop-child.space) (shown.view c.args.space.now) (shown.view c.loop-child.space) (shown.under c.args.space.now) (shown.under c.loop-child.space) (shown.numbers c.args.space.now) (shown.numbers c.loop-child.space) c.args.txn.now c.loop-child.txn c.args.slots.first c.args.slots.end c.args.values.now c.args.at.height c.args.at.level (c.args.at.level - 1) c.args.at.index c.args.root.page c.args.root.span c.in_ok-number.number c.loop-child.bytes (span_at c.loop-child.spans) c.loop-child.child c.child.result.height c.child.result.level c.child.result.index c.child_root-old.result.page c.child_root-old.result.span
     way c.loop-child-test.true c.child.ensures.height child_level c.child.ensures.index c.child_root-old.ensures.page c.child_root-old.ensures.span base count list list' others told lists placed))
 
 pub loop-child-preserved : goal.loop-child-preserved
 loop-child-preserved g t c =
     let child_level : c.child.result.level ≡ c.args.at.level - 1 = omega (arith, c.child.ensures.level) in (
-      way_on (g.P.Pages.told c.args.space.now.pages) (g.P.Pages.told c.loop-child.space.pages) (g.P.Pages.told c.repair.new.space.pages) (g.P.Pages.view c.args.space.now.pages) (g.P.Pages.view c.loop-child.space.pages) (g.P.Pages.view c.repair.new.space.pages) (g.P.Pages.under c.args.space.now.pages) (g.P.Pages.under c.loop-child.space.pages) (g.P.Pages.under c.repair.new.space.pages) c.args.space.now.superblock c.loop-child.space.superblock c.repair.new.space.superblock c.args.txn.now c.loop-child.txn c.repair.new.txn c.args.slots.first c.args.slots.end c.args.values.now c.args.at.height c.args.at.level (c.args.at.level - 1) c.args.at.index c.args.root.page c.args.root.span c.in_ok-number.number c.loop-child.bytes c.set_root.new.bytes (span_at c.loop-child.spans) (span_at c.set_root.new.spans) c.loop-child.child c.child.result.height c.child.result.level c.child.result.index c.child_root-old.result.page c.in_ok-next.next.page c.child_root-old.result.span c.in_ok-next.next.span
+      way_on (shown.IsTold c.args.space.now) (shown.IsTold c.loop-child.space) (shown.IsTold c.repair.new.space) (shown.view c.args.space.now) (shown.view c.loop-child.space) (shown.view c.repair.new.space) (shown.under c.args.space.now) (shown.under c.loop-child.space) (shown.under c.repair.new.space) (shown.numbers c.args.space.now) (shown.numbers c.loop-child.space) (shown.numbers c.repair.new.space) c.args.txn.now c.loop-child.txn c.repair.new.txn c.args.slots.first c.args.slots.end c.args.values.now c.args.at.height c.args.at.level (c.args.at.level - 1) c.args.at.index c.args.root.page c.args.root.span c.in_ok-number.number c.loop-child.bytes c.set_root.new.bytes (span_at c.loop-child.spans) (span_at c.set_root.new.spans) c.loop-child.child c.child.result.height c.child.result.level c.child.result.index c.child_root-old.result.page c.in_ok-next.next.page c.child_root-old.result.span c.in_ok-next.next.span
           c.loop-child.invariant.0 c.loop-child-test.true c.child.ensures.height child_level c.child.ensures.index c.child_root-old.ensures.page c.child_root-old.ensures.span c.repair.ensures.moved
           (λ base count list list' others told lists placed. c.in_ok-next.ensures.repaired base count list list' others told lists placed)
-          (c.set_root.ensures.form c.args.at.level c.args.space.now.superblock.total c.loop-child.invariant.0.form (let page : c.in_ok-next.next.page < c.loop-child.space.superblock.total = c.in_ok-next.ensures.page in omega (arith, page, ap (λ (s : Superblock). s.total) c.loop-child.invariant.0.moved.over.superblock)))
+          (c.set_root.ensures.form c.args.at.level (shown.total c.args.space.now) c.loop-child.invariant.0.form (let page : c.in_ok-next.next.page < (shown.total c.loop-child.space) = c.in_ok-next.ensures.page in omega (arith, page, ap (λ (s : Superblock). s.total) c.loop-child.invariant.0.moved.over.superblock)))
           c.set_root.ensures.page c.set_root.ensures.pages c.set_root.ensures.span c.set_root.ensures.spans,
-      spare_on (g.P.Pages.told c.args.space.now.pages) (g.P.Pages.view c.args.space.now.pages) c.args.txn.now c.open_page.new.txn c.loop-child.txn c.repair.new.txn (c.args.at.level - 1) c.child.result.level c.open_page.new.bytes c.loop-child.bytes c.set_root.new.bytes (span_at c.open_page.new.spans) (span_at c.loop-child.spans) (span_at c.set_root.new.spans) c.loop-child.child c.loop-child.invariant.1 child_level c.loop-child.invariant.0.moved.fresh c.repair.ensures.moved.fresh
-          (λ base at. c.repair.ensures.spares base (told_on (1 + passed_below c.args.slots.first c.args.slots.end c.args.at.height (c.args.at.level - 1) c.args.at.index c.loop-child.child) (g.P.Pages.told c.args.space.now.pages) (g.P.Pages.told c.loop-child.space.pages) (g.P.Pages.view c.args.space.now.pages) (g.P.Pages.view c.loop-child.space.pages) base c.loop-child.invariant.0.moved.reads at))
+      spare_on (shown.IsTold c.args.space.now) (shown.view c.args.space.now) c.args.txn.now c.open_page.new.txn c.loop-child.txn c.repair.new.txn (c.args.at.level - 1) c.child.result.level c.open_page.new.bytes c.loop-child.bytes c.set_root.new.bytes (span_at c.open_page.new.spans) (span_at c.loop-child.spans) (span_at c.set_root.new.spans) c.loop-child.child c.loop-child.invariant.1 child_level c.loop-child.invariant.0.moved.fresh c.repair.ensures.moved.fresh
+          (λ base at. c.repair.ensures.spares base (told_on (1 + passed_below c.args.slots.first c.args.slots.end c.args.at.height (c.args.at.level - 1) c.args.at.index c.loop-child.child) (shown.IsTold c.args.space.now) (shown.IsTold c.loop-child.space) (shown.view c.args.space.now) (shown.view c.loop-child.space) base c.loop-child.invariant.0.moved.reads at))
           c.set_root.ensures.pages c.set_root.ensures.spans,
     )
 
@@ -119,13 +120,13 @@ pub close_page-requires-clause-room : goal.close_page-requires-clause-room
 close_page-requires-clause-room g t c =
     let depth : (c.args.at.level - 1) + 1 ≡ c.args.at.level = omega (arith, c.if-at-eq0.false) in
     let whole = touch_level c.args.slots.first c.args.slots.end c.args.at.height c.args.at.level (c.args.at.level - 1) c.args.at.index depth (c.if-is_settled.ensures.unsettled refl).passed in
-    way_last (g.P.Pages.told c.args.space.now.pages) (g.P.Pages.told c.loop-child.space.pages) (g.P.Pages.view c.args.space.now.pages) (g.P.Pages.view c.loop-child.space.pages) (g.P.Pages.under c.args.space.now.pages) (g.P.Pages.under c.loop-child.space.pages) c.args.space.now.superblock c.loop-child.space.superblock c.args.txn.now c.loop-child.txn c.args.slots.first c.args.slots.end c.args.values.now c.args.at.height c.args.at.level (c.args.at.level - 1) c.args.at.index c.args.root.page c.args.root.span c.in_ok-number.number c.loop-child.bytes (span_at c.loop-child.spans) c.loop-child.child c.loop-child.invariant.0 (omega (arith, c.loop-child-test.false, c.loop-child.auto.child-end)) whole c.requires.room
+    way_last (shown.IsTold c.args.space.now) (shown.IsTold c.loop-child.space) (shown.view c.args.space.now) (shown.view c.loop-child.space) (shown.under c.args.space.now) (shown.under c.loop-child.space) (shown.numbers c.args.space.now) (shown.numbers c.loop-child.space) c.args.txn.now c.loop-child.txn c.args.slots.first c.args.slots.end c.args.values.now c.args.at.height c.args.at.level (c.args.at.level - 1) c.args.at.index c.args.root.page c.args.root.span c.in_ok-number.number c.loop-child.bytes (span_at c.loop-child.spans) c.loop-child.child c.loop-child.invariant.0 (omega (arith, c.loop-child-test.false, c.loop-child.auto.child-end)) whole c.requires.room
 
 pub returns-clause-moved : goal.returns-clause-moved
 returns-clause-moved g t c =
     let depth : (c.args.at.level - 1) + 1 ≡ c.args.at.level = omega (arith, c.if-at-eq0.false) in
     let whole = touch_level c.args.slots.first c.args.slots.end c.args.at.height c.args.at.level (c.args.at.level - 1) c.args.at.index depth (c.if-is_settled.ensures.unsettled refl).passed in
-    way_end (g.P.Pages.told c.args.space.now.pages) (g.P.Pages.told c.loop-child.space.pages) (g.P.Pages.told c.close_page.new.space.pages) (g.P.Pages.view c.args.space.now.pages) (g.P.Pages.view c.loop-child.space.pages) (g.P.Pages.view c.close_page.new.space.pages) (g.P.Pages.under c.args.space.now.pages) (g.P.Pages.under c.loop-child.space.pages) (g.P.Pages.under c.close_page.new.space.pages) c.args.space.now.superblock c.loop-child.space.superblock c.close_page.new.space.superblock c.args.txn.now c.loop-child.txn c.close_page.new.txn c.args.slots.first c.args.slots.end c.args.values.now c.args.at.height c.args.at.level (c.args.at.level - 1) c.args.at.index c.args.root.page c.args.root.span c.in_ok-number.number c.loop-child.bytes (span_at c.loop-child.spans) c.loop-child.child c.loop-child.invariant.0 (omega (arith, c.loop-child-test.false, c.loop-child.auto.child-end)) c.close_page.ensures.moved whole
+    way_end (shown.IsTold c.args.space.now) (shown.IsTold c.loop-child.space) (shown.IsTold c.close_page.new.space) (shown.view c.args.space.now) (shown.view c.loop-child.space) (shown.view c.close_page.new.space) (shown.under c.args.space.now) (shown.under c.loop-child.space) (shown.under c.close_page.new.space) (shown.numbers c.args.space.now) (shown.numbers c.loop-child.space) (shown.numbers c.close_page.new.space) c.args.txn.now c.loop-child.txn c.close_page.new.txn c.args.slots.first c.args.slots.end c.args.values.now c.args.at.height c.args.at.level (c.args.at.level - 1) c.args.at.index c.args.root.page c.args.root.span c.in_ok-number.number c.loop-child.bytes (span_at c.loop-child.spans) c.loop-child.child c.loop-child.invariant.0 (omega (arith, c.loop-child-test.false, c.loop-child.auto.child-end)) c.close_page.ensures.moved whole
 
 pub returns-clause-repaired : goal.returns-clause-repaired
 returns-clause-repaired g t c = λ base count list list' others told lists placed.
@@ -153,20 +154,20 @@ returns-in_err-number-clause-damaged g t c = λ base at.
 pub returns-in_err-next-clause-spares : goal.returns-in_err-next-clause-spares
 returns-in_err-next-clause-spares g t c = λ base at.
     let child_level : c.child.result.level ≡ c.args.at.level - 1 = omega (arith, c.child.ensures.level) in
-    spares_up (c.args.at.level - 1) c.args.at.level c.args.txn.now.superblock.fresh (left_by c.args.txn.now base) (left_by c.repair.new.txn base) (omega arith)
-    (spare_child (g.P.Pages.told c.args.space.now.pages) (g.P.Pages.view c.args.space.now.pages) c.args.txn.now c.open_page.new.txn c.loop-child.txn c.repair.new.txn (c.args.at.level - 1) c.child.result.level c.open_page.new.bytes c.loop-child.bytes (span_at c.open_page.new.spans) (span_at c.loop-child.spans) c.loop-child.child c.loop-child.invariant.1 child_level c.loop-child.invariant.0.moved.fresh base at
-    (c.repair.ensures.spares base (told_on (1 + passed_below c.args.slots.first c.args.slots.end c.args.at.height (c.args.at.level - 1) c.args.at.index c.loop-child.child) (g.P.Pages.told c.args.space.now.pages) (g.P.Pages.told c.loop-child.space.pages) (g.P.Pages.view c.args.space.now.pages) (g.P.Pages.view c.loop-child.space.pages) base c.loop-child.invariant.0.moved.reads at)))
+    spares_up (c.args.at.level - 1) c.args.at.level c.args.txn.now.superblock.fresh c.repair.new.txn.superblock.fresh (left_by c.args.txn.now base) (left_by c.repair.new.txn base) (omega arith)
+    (spare_child (shown.IsTold c.args.space.now) (shown.view c.args.space.now) c.args.txn.now c.open_page.new.txn c.loop-child.txn c.repair.new.txn (c.args.at.level - 1) c.child.result.level c.open_page.new.bytes c.loop-child.bytes (span_at c.open_page.new.spans) (span_at c.loop-child.spans) c.loop-child.child c.loop-child.invariant.1 child_level c.loop-child.invariant.0.moved.fresh c.repair.ensures.moved.fresh base at
+    (c.repair.ensures.spares base (told_on (1 + passed_below c.args.slots.first c.args.slots.end c.args.at.height (c.args.at.level - 1) c.args.at.index c.loop-child.child) (shown.IsTold c.args.space.now) (shown.IsTold c.loop-child.space) (shown.view c.args.space.now) (shown.view c.loop-child.space) base c.loop-child.invariant.0.moved.reads at)))
 
 pub returns-in_err-next-clause-damaged : goal.returns-in_err-next-clause-damaged
 returns-in_err-next-clause-damaged g t c = λ base at.
     let is : c.args.at.level ≡ suc (c.args.at.level - 1) = omega (arith, c.if-at-eq0.false) in
     let child_level : c.child.result.level ≡ c.args.at.level - 1 = omega (arith, c.child.ensures.level) in
-    let told = told_on (1 + passed_below c.args.slots.first c.args.slots.end c.args.at.height (c.args.at.level - 1) c.args.at.index c.loop-child.child) (g.P.Pages.told c.args.space.now.pages) (g.P.Pages.told c.loop-child.space.pages) (g.P.Pages.view c.args.space.now.pages) (g.P.Pages.view c.loop-child.space.pages) base c.loop-child.invariant.0.moved.reads at in
+    let told = told_on (1 + passed_below c.args.slots.first c.args.slots.end c.args.at.height (c.args.at.level - 1) c.args.at.index c.loop-child.child) (shown.IsTold c.args.space.now) (shown.IsTold c.loop-child.space) (shown.view c.args.space.now) (shown.view c.loop-child.space) base c.loop-child.invariant.0.moved.reads at in
     let D : RepairError → Type 0 = λ e. IsDamage (left_by c.repair.new.txn base) c.args.txn.now.superblock.fresh c.repair.new.txn.superblock (root_level c.args.at.height c.args.at.level c.args.at.index) c.args.root.page c.args.root.span e in
     error_so _ D c.from_residual-in_err-next.result c.from_residual-in_err-next.ensures.1
     (λ e same. subst D (sym same)
-    (spare_damage (g.P.Pages.told c.args.space.now.pages) (g.P.Pages.view c.args.space.now.pages) c.args.txn.now c.open_page.new.txn c.loop-child.txn c.repair.new.txn c.args.at.height c.args.at.level (c.args.at.level - 1) c.args.at.index c.args.root.page c.child.result.height c.child.result.level c.child.result.index c.child_root-old.result.page c.args.root.span c.child_root-old.result.span c.open_page.new.bytes c.loop-child.bytes (span_at c.open_page.new.spans) (span_at c.loop-child.spans) c.loop-child.child c.in_err-next.field-0.0
-    c.loop-child.invariant.1 is c.loop-child-test.true c.child.ensures.height child_level c.child.ensures.index c.child_root-old.ensures.page c.child_root-old.ensures.span c.loop-child.invariant.0.moved.fresh
+    (spare_damage (shown.IsTold c.args.space.now) (shown.view c.args.space.now) c.args.txn.now c.open_page.new.txn c.loop-child.txn c.repair.new.txn c.args.at.height c.args.at.level (c.args.at.level - 1) c.args.at.index c.args.root.page c.child.result.height c.child.result.level c.child.result.index c.child_root-old.result.page c.args.root.span c.child_root-old.result.span c.open_page.new.bytes c.loop-child.bytes (span_at c.open_page.new.spans) (span_at c.loop-child.spans) c.loop-child.child c.in_err-next.field-0.0
+    c.loop-child.invariant.1 is c.loop-child-test.true c.child.ensures.height child_level c.child.ensures.index c.child_root-old.ensures.page c.child_root-old.ensures.span c.loop-child.invariant.0.moved.fresh c.repair.ensures.moved.fresh
     c.in_ok-number.ensures.opened base at (c.in_ok-number.ensures.as_told base at) (c.repair.ensures.spares base told) (c.in_err-next.ensures.damaged base told)))
 
 pub returns-clause-root : goal.returns-clause-root
@@ -178,4 +179,4 @@ returns-clause-matched g t c = λ some was. c.close_page.ensures.matched
 
 pub returns-clause-spares : goal.returns-clause-spares
 returns-clause-spares g t c = λ base at.
-    spare_end (g.P.Pages.told c.args.space.now.pages) (g.P.Pages.view c.args.space.now.pages) c.args.txn.now c.open_page.new.txn c.loop-child.txn c.close_page.new.txn c.args.at.level (c.args.at.level - 1) c.in_ok-number.number c.open_page.new.bytes c.loop-child.bytes (span_at c.open_page.new.spans) (span_at c.loop-child.spans) c.loop-child.child c.loop-child.invariant.1 (omega arith) base at (c.in_ok-number.ensures.own base at) c.close_page.ensures.others
+    spare_end (shown.IsTold c.args.space.now) (shown.view c.args.space.now) c.args.txn.now c.open_page.new.txn c.loop-child.txn c.close_page.new.txn c.args.at.level (c.args.at.level - 1) c.in_ok-number.number c.open_page.new.bytes c.loop-child.bytes (span_at c.open_page.new.spans) (span_at c.loop-child.spans) c.loop-child.child c.loop-child.invariant.1 (omega arith) (omega (arith, c.loop-child.invariant.1.fresh, c.close_page.ensures.moved.fresh)) c.close_page.ensures.moved.fresh base at (c.in_ok-number.ensures.own base at) c.close_page.ensures.others

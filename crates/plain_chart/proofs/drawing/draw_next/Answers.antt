@@ -1,4 +1,4 @@
-use Rattle.std.proofs.Common.{◌≡◌, ℕ, ℤ, pos, subst, sym, ap, arith}
+use Rattle.std.proofs.Common.{pos, subst, sym}
 use Rattle.std.specs.Prelude.{Option, Some}
 use Rattle.plain_chart.specs.declared.sample.Sample.{Sample}
 use Rattle.plain_chart.specs.Chart.{Joins, place}

@@ -1,4 +1,4 @@
-use Rattle.std.proofs.Common.{ℕ, ℤ, ◌≤◌, ◌^◌, subst, sym, arith, rules}
+use Rattle.std.proofs.Common.{ℤ, ◌≤◌, ◌^◌, subst, sym, arith, rules}
 use Rattle.std.specs.Prelude.{unsigned_abs, FitsSigned}
 use Rattle.std.specs.Int.{w128}
 use Rattle.std.proofs.lemmas.Int.{to_z-of_z}

@@ -1,7 +1,8 @@
 use Rattle.std.proofs.Common.{◌≡◌, ℤ, List, take, Option, None, subst, sym, refl, arith}
 use Rattle.std.proofs.lemmas.Grind.{common_steps}
 use Rattle.plain_chart.specs.declared.value_range.ValueRange.{ValueRange}
-use Rattle.plain_chart.specs.Samples.{kept, values_of, SpansSoFar, IsRange, IsValue, IsSlot}
+use Rattle.plain_chart.specs.Samples.{kept, values_of, SpansSoFar, IsRange, IsSlot}
+use Rattle.whole_number.specs.Range.{IsValue}
 use Rattle.plain_chart.proofs.Keeping.{values_more, values_hold}
 use Rattle.plain_chart.proofs.Widening.{range_is, range_order, range_holds}
 use Rattle.plain_chart.proofs.range.range_of.Goals as goal

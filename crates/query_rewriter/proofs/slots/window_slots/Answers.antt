@@ -1,5 +1,5 @@
 use Rattle.std.proofs.Common.{refl, arith, ◌-◌}
-use Rattle.query_rewriter.proofs.Windows.{window_start, window_stop, window_order}
+use Rattle.chart_grid.proofs.Slots.{window_start, window_stop, window_order}
 use Rattle.query_rewriter.proofs.slots.window_slots.Goals as goal
 
 pub returns-clause-order : goal.returns-clause-order

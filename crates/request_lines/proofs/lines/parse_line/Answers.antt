@@ -3,6 +3,7 @@ use Rattle.request_lines.specs.Tokens.{Cursor, next_token, past_token}
 use Rattle.request_lines.specs.Grammar.{kind_of}
 use Rattle.request_lines.specs.Requests.{Reads, IsRequest, RefusesLine, read_line, ReadsAs}
 use Rattle.request_lines.proofs.RowLemmas.{line_start, line-reads, line-unknown}
+use Rattle.request_lines.proofs.SpeltLines.{spelt_so, only_read}
 use Rattle.request_lines.proofs.lines.parse_line.Goals as goal
 
 -- the answer of a line of a known kind
@@ -33,3 +34,12 @@ pub returns-in-None-clause-reading : goal.returns-in-None-clause-reading
 returns-in-None-clause-reading c =
     (line-unknown c.args.line.now
     (ap kind_of (ap next_token (sym c.new-reader.ensures) ∙ sym c.word-word.ensures.word) ∙ sym c.in-None.ensures)).1
+
+pub returns-in-Some-clause-spelt : goal.returns-in-Some-clause-spelt
+returns-in-Some-clause-spelt c = spelt_so c.args.line.now c.read.result (answer c).0
+
+pub returns-in-Some-clause-only : goal.returns-in-Some-clause-only
+returns-in-Some-clause-only c = λ request spells. only_read c.args.line.now request c.read.result spells (answer c).2
+
+pub returns-in-None-clause-only : goal.returns-in-None-clause-only
+returns-in-None-clause-only c = λ request spells. only_read c.args.line.now request _ spells (returns-in-None-clause-reading c)

@@ -1,4 +1,4 @@
-use Rattle.std.proofs.Common.{◌≡◌, take, sym, ap}
+use Rattle.std.proofs.Common.{take, sym, ap}
 use Rattle.std.proofs.lemmas.List.{take_all}
 use Rattle.request_lines.proofs.TokenLemmas.{place_found, place_missing}
 use Rattle.request_lines.proofs.ranges.low_end.Goals as goal

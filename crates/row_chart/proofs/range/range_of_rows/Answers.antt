@@ -1,10 +1,10 @@
-use Rattle.std.proofs.Common.{ℤ, pos, ◌≤ℤ◌, List, Option, refl, sym, subst, take, arith, ap, length}
+use Rattle.std.proofs.Common.{ℤ, pos, ◌≤ℤ◌, List, refl, sym, subst, arith, ap, length}
 use Rattle.std.proofs.lemmas.List.{take_all}
 use Rattle.plain_chart.specs.declared.value_range.ValueRange.{ValueRange}
-use Rattle.plain_chart.specs.Samples.{IsRange, IsValue, values_of}
+use Rattle.plain_chart.specs.Samples.{IsRange, values_of, sample_points}
+use Rattle.whole_number.specs.Range.{IsValue}
 use Rattle.m4_groups.specs.declared.row.Row.{Row}
 use Rattle.row_chart.specs.Ranges.{SpansRows}
-use Rattle.row_chart.specs.Points.{points_of}
 use Rattle.std.proofs.Common.{unwrap_or}
 use Rattle.row_chart.proofs.Ranged.{range_from, range_sizes, range_rises, values-same}
 use Rattle.row_chart.proofs.range.range_of_rows.Goals as goal
@@ -20,7 +20,7 @@ returns-clause-range c = λ grid samples own.
     let R : ValueRange → Type 0 = λ r. IsRange (values_of samples) r in
     let V : List ℤ → Type 0 = λ vs. IsRange vs (unwrap_or c.loop-row.range (record { lo = pos 0; hi = pos 0 })) in
     subst R (sym c.unwrap_or.ensures)
-    (subst V (values-same samples) (range_from grid (points_of samples) c.args.rows.now c.loop-row.range (record { lo = pos 0; hi = pos 0 }) refl refl own (whole c)))
+    (subst V (values-same samples) (range_from grid (sample_points samples) c.args.rows.now c.loop-row.range (record { lo = pos 0; hi = pos 0 }) refl refl own (whole c)))
 
 pub returns-clause-order : goal.returns-clause-order
 returns-clause-order c = λ w drawable.

@@ -1,8 +1,7 @@
-use Rattle.std.proofs.Common.{SFits, w64, rules, List, Option, Some, subst}
-use Rattle.m4_groups.specs.declared.row.Row.{Row}
+use Rattle.std.proofs.Common.{Option, subst}
 use Rattle.plain_chart.specs.declared.value_range.ValueRange.{ValueRange}
-use Rattle.row_chart.specs.Ranges.{SpansRows, SpanRows}
-use Rattle.row_chart.proofs.Ranged.{span_more, span_one}
+use Rattle.row_chart.specs.Ranges.{SpansRows}
+use Rattle.row_chart.proofs.Ranged.{span_more}
 use Rattle.row_chart.proofs.range.widened.Goals as goal
 
 pub returns-in-Some : goal.returns-in-Some

@@ -2,18 +2,25 @@ use Rattle.std.proofs.Common.{◌<◌, ◌∙◌, ℕ, List, length, sym, subst,
 use Rattle.om3_coeff.specs.declared.errors.NodeError.{NodeError}
 use Rattle.node_page.specs.Layout.{KeepsLayout}
 use Rattle.tree_walk.specs.Holding.{IsCauseOf}
-use Rattle.tree_walk.specs.SpaceViews.{space_view}
-use Rattle.tree_walk.specs.PagedNodes.{ground}
 use Rattle.tree_walk.proofs.TrailLemmas.{number_is, bytes_are}
 use Rattle.tree_walk.proofs.StepLemmas.{error_so}
-use Rattle.tree_walk.proofs.AskLemmas.{end_keeps, end_coef, end_told, end_bad, path_cause, asked_reads, splits_none}
+use Rattle.tree_walk.proofs.AskLemmas.{end_keeps, end_coef, end_told, end_bad, end_way, path_cause, path_way, asked_reads, splits_none}
+use Rattle.tree_walk.specs.Walk as walk
+use Rattle.page_space.specs.Shown as shown
 use Rattle.tree_walk.proofs.asking.coef_at.Goals as goal
 
 pub returns-in_err-depth-clause-cause : goal.returns-in_err-depth-clause-cause
 returns-in_err-depth-clause-cause g c =
-    let C : NodeError → Type 0 = λ e. IsCauseOf (g.P.Pages.told c.args.space.now.pages) (space_view c.args.space.now.superblock (g.P.Pages.view c.args.space.now.pages)) (space_view c.descend.new.space.superblock (g.P.Pages.view c.descend.new.space.pages)) c.args.tree c.args.key e in
+    let C : NodeError → Type 0 = λ e. IsCauseOf (shown.IsTold c.args.space.now) (walk.pages c.args.space.now) (walk.pages c.descend.new.space) c.args.tree c.args.key e in
     error_so _ _ c.from_residual.result c.from_residual.ensures.1
-    (λ e is. path_cause (ground (g.P.Pages.told c.args.space.now.pages) (g.P.Pages.view c.args.space.now.pages) (g.P.Pages.under c.args.space.now.pages) c.args.space.now.superblock c.args.tree) (ground (g.P.Pages.told c.descend.new.space.pages) (g.P.Pages.view c.descend.new.space.pages) (g.P.Pages.under c.descend.new.space.pages) c.descend.new.space.superblock c.args.tree) c.args.trail.now c.descend.new.trail c.args.key c.args.span e c.requires.key c.requires.seen
+    (λ e is. path_cause (walk.under c.args.space.now c.args.tree) (walk.under c.descend.new.space c.args.tree) c.args.trail.now c.descend.new.trail c.args.key c.args.span e c.requires.key c.requires.seen
+    (subst C (sym is) c.in_err-depth.ensures.cause))
+
+pub returns-in_err-depth-clause-damaged : goal.returns-in_err-depth-clause-damaged
+returns-in_err-depth-clause-damaged g c =
+    let C : NodeError → Type 0 = λ e. IsCauseOf (shown.IsTold c.args.space.now) (walk.pages c.args.space.now) (walk.pages c.descend.new.space) c.args.tree c.args.key e in
+    error_so _ _ c.from_residual.result c.from_residual.ensures.1
+    (λ e is. path_way (shown.IsTold c.args.space.now) (walk.pages c.args.space.now) (walk.pages c.descend.new.space) c.args.tree c.args.key c.args.span e c.requires.key c.requires.seen
     (subst C (sym is) c.in_err-depth.ensures.cause))
 
 pub of-requires-clause-keeps : goal.of-requires-clause-keeps
@@ -24,12 +31,12 @@ of-requires-clause-keeps g c =
     let bytes = bytes_are trail.pages.items depth page (omega (arith, trail.room, trail.few, c.in_ok-depth.ensures.depth, c.in_ok-depth.ensures.leads.long)) c.index-page.ensures in
     let P : List ℕ → Type 0 = λ b. KeepsLayout b in
     subst P (bytes ∙ sym c.as_slice.ensures.value)
-    (end_keeps (g.P.Pages.told c.descend.new.space.pages) (space_view c.descend.new.space.superblock (g.P.Pages.view c.descend.new.space.pages)).image (space_view c.descend.new.space.superblock (g.P.Pages.view c.descend.new.space.pages)).size c.args.tree trail.pages.items trail.len c.args.key depth c.descend.ensures.held c.in_ok-depth.ensures.leads c.in_ok-depth.ensures.depth)
+    (end_keeps (shown.IsTold c.descend.new.space) (walk.pages c.descend.new.space).image (walk.pages c.descend.new.space).size c.args.tree trail.pages.items trail.len c.args.key depth c.descend.ensures.held c.in_ok-depth.ensures.leads c.in_ok-depth.ensures.depth)
 
 pub returns-then-is_err-clause-one_read : goal.returns-then-is_err-clause-one_read
 returns-then-is_err-clause-one_read g c =
     let trail = c.args.trail.now in
-    asked_reads c.args.tree trail.pages.items trail.len trail.asked c.args.key (space_view c.args.space.now.superblock (g.P.Pages.view c.args.space.now.pages)).reads (space_view c.descend.new.space.superblock (g.P.Pages.view c.descend.new.space.pages)).reads c.requires.fit.trail_is.leads c.descend.ensures.one_read c.descend.ensures.top_read
+    asked_reads c.args.tree trail.pages.items trail.len trail.asked c.args.key (walk.pages c.args.space.now).reads (walk.pages c.descend.new.space).reads c.requires.fit.trail_is.leads c.descend.ensures.one_read c.descend.ensures.top_read
 
 pub returns-then-is_err-clause-cause : goal.returns-then-is_err-clause-cause
 returns-then-is_err-clause-cause g c =
@@ -40,8 +47,21 @@ returns-then-is_err-clause-cause g c =
     let bytes = bytes_are trail.pages.items depth page within c.index-page.ensures in
     let coef = end_coef trail.pages.items depth c.args.key c.coef_at-coef.result c.node_number.result c.of.result.bytes.now c.as_slice.result.now page.bytes.items
     c.coef_at-coef.ensures.coef c.of.ensures.bytes c.as_slice.ensures.value bytes c.node_number.ensures.node in
-    end_bad (g.P.Pages.told c.args.space.now.pages) (g.P.Pages.told c.descend.new.space.pages) (space_view c.args.space.now.superblock (g.P.Pages.view c.args.space.now.pages)) (space_view c.descend.new.space.superblock (g.P.Pages.view c.descend.new.space.pages)) c.args.tree trail.pages.items trail.len c.args.key c.args.span depth page.number c.coef_at-coef.result c.descend.ensures.kept c.descend.ensures.held
+    end_bad (shown.IsTold c.args.space.now) (shown.IsTold c.descend.new.space) (walk.pages c.args.space.now) (walk.pages c.descend.new.space) c.args.tree trail.pages.items trail.len c.args.key c.args.span depth page.number c.coef_at-coef.result c.descend.ensures.kept c.descend.ensures.held
     c.in_ok-depth.ensures.leads c.in_ok-depth.ensures.depth c.requires.seen (number_is trail.pages.items depth page within c.index-page.ensures) coef
+    (splits_none c.split.result c.args.span c.coef_at-coef.result (sym c.is_err.ensures.value ∙ c.if-is_err.true) c.split.ensures.none)
+
+pub returns-then-is_err-clause-damaged : goal.returns-then-is_err-clause-damaged
+returns-then-is_err-clause-damaged g c =
+    let trail = c.descend.new.trail in
+    let depth = c.in_ok-depth.depth in
+    let page = c.index-page.result.now in
+    let within : depth < length trail.pages.items = omega (arith, trail.room, trail.few, c.in_ok-depth.ensures.depth, c.in_ok-depth.ensures.leads.long) in
+    let bytes = bytes_are trail.pages.items depth page within c.index-page.ensures in
+    let coef = end_coef trail.pages.items depth c.args.key c.coef_at-coef.result c.node_number.result c.of.result.bytes.now c.as_slice.result.now page.bytes.items
+    c.coef_at-coef.ensures.coef c.of.ensures.bytes c.as_slice.ensures.value bytes c.node_number.ensures.node in
+    end_way (shown.IsTold c.args.space.now) (shown.IsTold c.descend.new.space) (walk.pages c.args.space.now) (walk.pages c.descend.new.space) c.args.tree trail.pages.items trail.len c.args.key c.args.span depth page.number c.coef_at-coef.result c.descend.ensures.kept c.descend.ensures.held
+    c.in_ok-depth.ensures.leads c.in_ok-depth.ensures.depth (number_is trail.pages.items depth page within c.index-page.ensures) coef
     (splits_none c.split.result c.args.span c.coef_at-coef.result (sym c.is_err.ensures.value ∙ c.if-is_err.true) c.split.ensures.none)
 
 pub returns-clause-told : goal.returns-clause-told
@@ -52,10 +72,10 @@ returns-clause-told g c =
     let bytes = bytes_are trail.pages.items depth page (omega (arith, trail.room, trail.few, c.in_ok-depth.ensures.depth, c.in_ok-depth.ensures.leads.long)) c.index-page.ensures in
     let coef = end_coef trail.pages.items depth c.args.key c.coef_at-coef.result c.node_number.result c.of.result.bytes.now c.as_slice.result.now page.bytes.items
     c.coef_at-coef.ensures.coef c.of.ensures.bytes c.as_slice.ensures.value bytes c.node_number.ensures.node in
-    end_told (g.P.Pages.told c.args.space.now.pages) (g.P.Pages.told c.descend.new.space.pages) (space_view c.args.space.now.superblock (g.P.Pages.view c.args.space.now.pages)) (space_view c.descend.new.space.superblock (g.P.Pages.view c.descend.new.space.pages)) c.args.tree trail.pages.items trail.len c.args.key depth c.coef_at-coef.result c.descend.ensures.kept c.descend.ensures.held
+    end_told (shown.IsTold c.args.space.now) (shown.IsTold c.descend.new.space) (walk.pages c.args.space.now) (walk.pages c.descend.new.space) c.args.tree trail.pages.items trail.len c.args.key depth c.coef_at-coef.result c.descend.ensures.kept c.descend.ensures.held
     c.in_ok-depth.ensures.leads c.in_ok-depth.ensures.depth coef
 
 pub returns-clause-one_read : goal.returns-clause-one_read
 returns-clause-one_read g c =
     let trail = c.args.trail.now in
-    asked_reads c.args.tree trail.pages.items trail.len trail.asked c.args.key (space_view c.args.space.now.superblock (g.P.Pages.view c.args.space.now.pages)).reads (space_view c.descend.new.space.superblock (g.P.Pages.view c.descend.new.space.pages)).reads c.requires.fit.trail_is.leads c.descend.ensures.one_read c.descend.ensures.top_read
+    asked_reads c.args.tree trail.pages.items trail.len trail.asked c.args.key (walk.pages c.args.space.now).reads (walk.pages c.descend.new.space).reads c.requires.fit.trail_is.leads c.descend.ensures.one_read c.descend.ensures.top_read

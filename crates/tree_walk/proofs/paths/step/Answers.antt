@@ -1,9 +1,10 @@
 use Rattle.std.proofs.Common.{◌<◌, ◌∙◌, List, ℕ, length, subst, arith}
 use Rattle.std.proofs.lemmas.Result.{on_ok_weaker, IfErr-weaker}
 use Rattle.node_page.specs.Layout.{KeepsLayout}
-use Rattle.tree_walk.specs.SpaceViews.{space_view}
 use Rattle.tree_walk.proofs.TrailLemmas.{number_is, bytes_are}
 use Rattle.tree_walk.proofs.StepLemmas.{error_so, next_is, step_none, step_bad, linked_hit, hit_linked}
+use Rattle.tree_walk.specs.Walk as walk
+use Rattle.page_space.specs.Shown as shown
 use Rattle.tree_walk.proofs.paths.step.Goals as goal
 
 pub next_page-requires-clause-keeps : goal.next_page-requires-clause-keeps
@@ -19,7 +20,7 @@ returns-in_err-number-clause-cause g c =
     let page = c.index.result.now in
     let within : c.args.depth < length trail.pages.items = omega (arith, trail.room, trail.few, c.requires.reached) in
     error_so _ _ c.from_residual.result c.from_residual.ensures.1
-    (λ e is. step_none (g.P.Pages.told c.args.space.now.pages) (space_view c.args.space.now.superblock (g.P.Pages.view c.args.space.now.pages)) (space_view c.args.space.now.superblock (g.P.Pages.view c.args.space.now.pages)) trail.pages.items c.args.key c.args.levels c.args.depth
+    (λ e is. step_none (shown.IsTold c.args.space.now) (walk.pages c.args.space.now) (walk.pages c.args.space.now) trail.pages.items c.args.key c.args.levels c.args.depth
     page.number c.path_child-child.result c.total.result page.bytes.items e (number_is trail.pages.items c.args.depth page within c.index.ensures) (bytes_are trail.pages.items c.args.depth page within c.index.ensures)
     c.path_child-child.ensures.child c.total.ensures.total c.in_err-number.ensures.missing (is ∙ c.in_err-number.ensures.names))
 
@@ -56,6 +57,6 @@ returns-clause-cause g c =
     let bytes = bytes_are trail.pages.items c.args.depth page (omega (arith, trail.room, trail.few, c.requires.reached)) c.index.ensures in
     let next = next_is trail.pages.items c.args.key c.args.levels c.args.depth c.in_ok-number.number c.path_child-child.result page.bytes.items bytes c.path_child-child.ensures.child c.in_ok-number.ensures.number in
     IfErr-weaker c.hold.result _ _
-    (λ e cause. step_bad (g.P.Pages.told c.args.space.now.pages) (space_view c.args.space.now.superblock (g.P.Pages.view c.args.space.now.pages)) (space_view c.hold.new.space.superblock (g.P.Pages.view c.hold.new.space.pages)) trail.pages.items c.args.key c.args.levels c.args.depth
+    (λ e cause. step_bad (shown.IsTold c.args.space.now) (walk.pages c.args.space.now) (walk.pages c.hold.new.space) trail.pages.items c.args.key c.args.levels c.args.depth
     c.in_ok-number.number e next c.in_ok-number.ensures.there cause)
     c.hold.ensures.cause

@@ -1,4 +1,5 @@
 use Rattle.std.proofs.Common.{◌≡◌, ◌∙◌, ◌+◌, ◌-◌, ◌*◌, ◌++◌, ◌∷◌, [], take, drop, refl, ap, arith}
+use Rattle.block_disk.specs.Blocks.{block_size}
 use Rattle.block_disk.specs.View.{Nowhere}
 use Rattle.block_disk.specs.declared.mem_disk.Call.TheVariants.{Asked}
 use Rattle.block_disk.proofs.MemMoves.{moves_quiet}
@@ -20,8 +21,8 @@ returns-clause-moves c =
 
 pub returns-clause-bytes : goal.returns-clause-bytes
 returns-clause-bytes c _ =
-    let start = 4096 * c.args.no in
-    let sum : start + 4096 - start ≡ 4096 = omega arith in
+    let start = block_size * c.args.no in
+    let sum : start + block_size - start ≡ block_size = omega arith in
     c.copy_from_slice.ensures.after
     ∙ ap (λ n. take n (drop start c.as_slice-bytes.result.now)) sum
-    ∙ ap (λ l. take 4096 (drop start l)) (c.as_slice-bytes.ensures.value ∙ c.note.ensures.bytes ∙ c.begin.ensures.bytes)
+    ∙ ap (λ l. take block_size (drop start l)) (c.as_slice-bytes.ensures.value ∙ c.note.ensures.bytes ∙ c.begin.ensures.bytes)
