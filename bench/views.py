@@ -7,21 +7,51 @@ import sys
 from measuring import HEIGHT, PROGRAM, ROOT, WIDTH, build_store, least_seconds, lines_of_series, measure_all, walk
 
 COUNT, VIEWS, ROUNDS = 1000000, 20, 5
+DAY, HOUR = 86400, 3600
 STORE, BLOCKS = "views.store", 16384
 CLIENT = f"{ROOT}/clients/python/chart_client.py"
 POINT, ROWS_HEAD, ROW = 16, 31, 34  # bytes: a time and a value; of a Rows frame the fields before its rows, and a row
 
 
-def view():
-    return f"view 1 s {WIDTH} {HEIGHT} 0 {COUNT} auto"
+def noise(count):
+    """Values from -1,000 to 1,000 in no order, from the generator of the random walk."""
+    before = 0
+    for value in walk(count):
+        yield (value - before) * 10
+        before = value
+
+
+def switched():
+    """A day of a machine that is switched once, at noon: a value a second, and one missing each hour."""
+    return [None if second % HOUR == HOUR // 2 else 2000 if second < DAY // 2 else 2500 for second in range(DAY)]
+
+
+def sunspots():
+    """The yearly numbers of sunspots of examples/, in tenths."""
+    with open(f"{ROOT}/examples/sunspots.txt") as file:
+        return [int(line) for line in file.read().split()]
+
+
+def series():
+    """The series that are looked at: a name, and the values of its slots."""
+    yield "noise", list(noise(COUNT))
+    yield "a day with a switch at noon", switched()
+    yield "sunspots", sunspots()
+    yield "a random walk", list(walk(COUNT))
+
+
+def view(count=COUNT):
+    return f"view 1 s {WIDTH} {HEIGHT} 0 {count} auto"
 
 
 def steps(values):
     """What a session asks, one after the other: a name, the request lines, and the slots of the window."""
-    half = COUNT // 2
-    yield "first view", ["open 1", view()], COUNT
-    yield "the same again", [view()], COUNT
-    yield "after one correction", [f"set s {half + 1} {max(values) + 1000}", view()], COUNT
+    count = len(values)
+    half = count // 2
+    greatest = max(value for value in values if value is not None)
+    yield "first view", ["open 1", view(count)], count
+    yield "the same again", [view(count)], count
+    yield "after one correction", [f"set s {half + 1} {greatest + 1000}", view(count)], count
     yield "zoom to the middle half", [f"zoom 1 {half - half // 2} {half + half // 2}"], half // 2 * 2
     yield "pan by a tenth of that", [f"pan 1 {half // 10}"], half // 2 * 2
 
@@ -48,15 +78,16 @@ def output_of(words, given):
         return subprocess.run(words, stdin=given, stdout=subprocess.PIPE, check=True).stdout
 
 
-def print_bytes(values):
+def print_bytes(name, values):
     asked = list(steps(values))
     write_lines("session", [line for _, added, _ in asked for line in added])
     sent = [sent for sent, _ in answers(output_of([PROGRAM, STORE, "run"], "session"))]
-    print(f"a session over {COUNT} values of a random walk, {WIDTH} by {HEIGHT} pixels: the bytes of each view's frame, and for")
-    print(f"comparison a frame of the first, least, greatest and last value of each column, and {POINT} bytes for each point")
+    print(f"a session over {len(values)} slots, {name}, {WIDTH} by {HEIGHT} pixels: the bytes of each view's frame, and for comparison")
+    print(f"a frame of the first, least, greatest and last value of each column, and {POINT} bytes for each point")
     print(f"{'request':26}{'sent':>12}{'columns':>12}{'points':>12}")
-    for (name, _, slots), count in zip(asked, sent, strict=True):
-        print(f"{name:26}{count:12}{ROWS_HEAD + ROW * WIDTH:12}{POINT * slots:12}")
+    for (request, _, slots), count in zip(asked, sent, strict=True):
+        print(f"{request:26}{count:12}{ROWS_HEAD + ROW * min(WIDTH, slots):12}{POINT * slots:12}")
+    print(f"{'all five':26}{sum(sent):12}{sum(ROWS_HEAD + ROW * min(WIDTH, slots) for _, _, slots in asked):12}")
 
 
 def piped(*programs):
@@ -111,7 +142,8 @@ def print_seconds():
 
 
 def measure_views():
-    values = list(walk(COUNT))
-    build_store(STORE, BLOCKS, lines_of_series(values))
-    print_bytes(values)
+    """The bytes for each series, and the seconds for the last one."""
+    for name, values in series():
+        build_store(STORE, BLOCKS, lines_of_series(values))
+        print_bytes(name, values)
     print_seconds()

@@ -120,12 +120,16 @@ class Series:
         return (flags[node], *differences[node]), parts
 
     def look(self):
-        """How many values the whole tree has, also behind the series' last slot, and the blocks of its pages that are bad for their place."""
+        """How many values the tree has, and the blocks of its pages that are bad for their place: one of which a slot holds two values, too,
+        or that has a value behind the series' last slot."""
         values, bad, found = 0, set(), [(self.top, self.span)] if self.span else []
         while found:
             key, span = found.pop()
-            if key[0] == 0:
+            level, index = key
+            if level == 0:
                 values += 1
+                if span[0] < span[1] or index >= self.slots:
+                    bad.add(FIRST_PAGE + self.page(1, index // CHILDREN)[0])
                 continue
             try:
                 found += self.split(key, span)[1]

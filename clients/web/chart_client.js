@@ -139,6 +139,9 @@ const least = (a, b) => (a < b ? a : b);
 const greatest = (a, b) => (a > b ? a : b);
 const isWithin = (size, number) => -size <= number && number <= size;
 
+/** The row of a value, from the bottom, over the range lo to hi on h rows, all `of` one kind; it may lie off the canvas. */
+const heightOf = (value, lo, hi, h, of) => (lo < hi ? divided((value - lo) * of(h - 1), hi - lo) : of(0));
+
 /** A canvas of w by h pixels, a byte each, 1 where it is black; rows count from the top. Its values are all `of` one kind. */
 export class Picture {
   constructor(w, h, lo, hi, rows, of) {
@@ -154,10 +157,8 @@ export class Picture {
     }
   }
 
-  /** The row of a value, from the bottom; it may lie off the canvas. */
   height(value) {
-    const { lo, hi, h, of } = this;
-    return lo < hi ? divided((value - lo) * of(h - 1), hi - lo) : of(0);
+    return heightOf(value, this.lo, this.hi, this.h, this.of);
   }
 
   /** Blackens what the canvas has of a column between two rows. */
@@ -468,9 +469,15 @@ class View {
     return { column, first: this.end(pieces[0], 0), least: min, greatest: max, last: this.end(pieces.at(-1), 1) };
   }
 
-  /** The first (side 0) or the last (side 1) stored value below a node. */
+  /** Whether all values below a node have one height. */
+  isFlat({ min, max }) {
+    const { lo, hi, h, of } = this;
+    return heightOf(min, of(lo), of(hi), h, of) === heightOf(max, of(lo), of(hi), h, of);
+  }
+
+  /** A value of the height of the first (side 0) or the last (side 1) stored one below a node. */
   end(node, side) {
-    while (node.level > 0) {
+    while (node.level > 0 && !this.isFlat(node)) {
       const coefficient = this.coefficient(node);
       node = this.half(node, coefficient, side) ?? this.half(node, coefficient, 1 - side);
     }

@@ -5,7 +5,7 @@ a stream; whoever calls it keeps the open sessions between two calls.
 """
 from collections import OrderedDict, namedtuple
 
-from .picture import Picture
+from .picture import Picture, height
 
 MOST = 10**18  # the greatest size of a value
 DONE, REFUSED, OPENED, CLOSED, VIEW, ROWS = range(1, 7)
@@ -152,8 +152,8 @@ class View:
         return column, self.end(*pieces[0], 0), least, greatest, self.end(*pieces[-1], -1)
 
     def end(self, key, span, side):
-        """The first (side 0) or the last (side -1) stored value below a key."""
-        while key[0] > 0:
+        """A value of the height of the first (side 0) or the last (side -1) stored one below a key."""
+        while key[0] > 0 and len({height(value, self.lo, self.hi, self.h) for value in span}) > 1:
             key, span = self.halves(key, span)[side]
         return span[0]
 

@@ -3,6 +3,11 @@ import struct
 import zlib
 
 
+def height(value, lo, hi, h):
+    """The row of a value, over the range lo to hi on h rows; it may lie off the canvas."""
+    return (value - lo) * (h - 1) // (hi - lo) if lo < hi else 0
+
+
 class Picture:
     """A canvas of w by h pixels; rows count from the bottom."""
 
@@ -17,8 +22,7 @@ class Picture:
             before = column, self.height(last)
 
     def height(self, value):
-        """The row of a value; it may lie off the canvas."""
-        return (value - self.lo) * (self.h - 1) // (self.hi - self.lo) if self.lo < self.hi else 0
+        return height(value, self.lo, self.hi, self.h)
 
     def fill(self, x, y1, y2):
         """Blackens what the canvas has of a column between two rows."""

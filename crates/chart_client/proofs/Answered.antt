@@ -30,7 +30,7 @@ missing seen slots k = IsMissing seen k
 
 -- a key of this view fails first
 record FailsAt (how : How) (key : Key) (view : ViewFrame) (h : Holding) (grid : Grid) : Type 0 where
-  first : IsFirstFailing (seen_by view h.cache) (axis_of view) grid key
+  first : IsFirstFailing (seen_by view h.cache) (axis_of view) grid view.lo view.hi key
   so : how (seen_by view h.cache) view.slots key
 
 same_view : (a b : ViewFrame) → ◌≡◌ {A = Frame} (View a) (View b) → a ≡ b

@@ -1,21 +1,26 @@
 -- The keys that fail in one column: those at which the searches from its two sides get stuck.
-use Rattle.std.proofs.Common.{ℕ, ◌≡◌, ◌+◌, ◌-◌, ◌*◌, ◌^◌, ◌<◌, ◌≤◌, ◌⊎◌, inl, inr, refl, subst, arith, pow_pos}
+use Rattle.std.proofs.Common.{ℕ, ◌≡◌, ◌+◌, ◌-◌, ◌*◌, ◌^◌, ◌<◌, ◌≤◌, ◌⊎◌, inl, inr, ℤ, refl, sym, ◌∙◌, subst, arith, pow_pos}
 use Rattle.std.proofs.lemmas.Bool.{cases_lt}
 use Rattle.std.specs.Prelude.{Option, Some, None}
 use Rattle.om3_coeff.specs.declared.key.Key.{Key}
-use Rattle.om3_coeff.specs.Keys.{first_slot, end_slot}
+use Rattle.om3_coeff.specs.declared.span.Span.{Span}
+use Rattle.om3_coeff.specs.declared.coef.Coef.{Coef}
+use Rattle.om3_coeff.specs.Keys.{first_slot, end_slot, height, IsAtOrAbove}
+use Rattle.om3_coeff.specs.Known.{known}
 use Rattle.chart_grid.specs.declared.axis.Axis.{Axis}
 use Rattle.chart_grid.specs.declared.grid.Grid.{Grid}
 use Rattle.chart_grid.specs.Slots.{IsInColumn}
 use Rattle.view_keys.specs.Ranges.{IsInRange, IsWithin, IsCut}
+use Rattle.view_keys.specs.Flat.{IsFlat}
+use Rattle.view_keys.proofs.Ranging.{shared-above, above-in_range}
 use Rattle.view_keys.specs.Wanted.{Seen, IsClearBefore, IsClearBehind}
-use Rattle.chart_client.specs.Searching.{IsNearer, IsEnd, IsFailing, FailsAs, Finds, IsWantedIn, failure_of}
+use Rattle.chart_client.specs.Searching.{IsSettled, IsNearer, IsEnd, IsFailing, FailsAs, Finds, IsWantedIn, failure_of}
 use Rattle.chart_client.specs.declared.failure.Failure.{Failure}
 use Rattle.chart_client.specs.declared.search.Side.{Side}
 use Rattle.chart_client.specs.declared.search.Side.TheVariants.{First, Last}
 use Rattle.chart_client.specs.declared.search.End.{End}
 use Rattle.chart_client.specs.declared.search.End.TheVariants.{Nowhere, Value, Stuck}
-use Rattle.chart_client.proofs.Unknown.{not_clear, not_known, same_failing}
+use Rattle.chart_client.proofs.Unknown.{unknown_below, not_clear, not_known, same_failing}
 
 -- the slots of column c are those from a on and below b
 pub record IsColumn (axis : Axis) (grid : Grid) (c a b : ℕ) : Type 0 where
@@ -23,13 +28,24 @@ pub record IsColumn (axis : Axis) (grid : Grid) (c a b : ℕ) : Type 0 where
   pub out : (i : ℕ) → a ≤ i → i < b → IsInColumn axis grid c i
 
 -- a search among the same slots
-pub finds_same : (seen : Seen) (slots : ℕ) (A B : ℕ → Type 0) → ((i : ℕ) → A i → B i) → ((i : ℕ) → B i → A i) → (side : Side) (e : End)
-    → Finds seen slots A side e → Finds seen slots B side e
-finds_same seen slots A B to from side Nowhere found = λ i among. found i (from i among)
-finds_same seen slots A B to from side Value found =
-    (found.0, record { among = to found.0 found.1.among; unclear = found.1.unclear; nearer = λ j among near. found.1.nearer j (from j among) near }, found.2)
-finds_same seen slots A B to from side (Stuck f) found =
-    (found.0, record { among = to found.0 found.1.among; unclear = found.1.unclear; nearer = λ j among near. found.1.nearer j (from j among) near }, found.2, found.3)
+settled_same : (seen : Seen) (slots : ℕ) (Flat : Span → Type 0) (X Y : ℕ → Type 0) → ((i : ℕ) → X i → Y i) → (k : Key) → IsSettled seen slots Flat X k → IsSettled seen slots Flat Y k
+settled_same seen slots Flat X Y to k h = record { high = h.high; span = h.span; known_so = h.known_so; flat = h.flat; within = λ i r. to i (h.within i r) }
+
+pub finds_same : (seen : Seen) (slots : ℕ) (Flat : Span → Type 0) (X Y A B : ℕ → Type 0) → ((i : ℕ) → X i → Y i) → ((i : ℕ) → Y i → X i) → ((i : ℕ) → A i → B i) → ((i : ℕ) → B i → A i) → (side : Side) (e : End)
+    → Finds seen slots Flat X A side e → Finds seen slots Flat Y B side e
+finds_same seen slots Flat X Y A B own back to from side Nowhere found = λ i among. found i (from i among)
+finds_same seen slots Flat X Y A B own back to from side Value found = (
+  found.0,
+  record { among = to found.0 found.1.among; unclear = found.1.unclear; nearer = λ j among near. found.1.nearer j (from j among) near },
+  elim found.2 [ inl value ↦ inl value | inr k ↦ inr (k.0, k.1, settled_same seen slots Flat X Y own k.0 k.2) ],
+)
+finds_same seen slots Flat X Y A B own back to from side (Stuck f) found = (
+  found.0,
+  record { among = to found.0 found.1.among; unclear = found.1.unclear; nearer = λ j among near. found.1.nearer j (from j among) near },
+  found.2,
+  found.3,
+  λ settled. found.4 (settled_same seen slots Flat Y X back f.key settled),
+)
 
 some_width : (q p : ℕ) → 0 < p → q * p < (q + 1) * p
 some_width q p some = let e : (q + 1) * p ≡ q * p + p = omega arith in omega (arith, e, some)
@@ -75,20 +91,23 @@ reason_by : (seen : Seen) (axis : Axis) (grid : Grid) (c i : ℕ) (side : Side) 
 reason_by seen axis grid c i First k end r = inl (λ j here before. end.nearer j here (omega (arith, before, r.from)))
 reason_by seen axis grid c i Last k end r = inr (λ j here behind. end.nearer j here (omega (arith, behind, r.to)))
 
-reason_of : (seen : Seen) (axis : Axis) (grid : Grid) (c i : ℕ) (side : Side) (k : Key) → IsEnd seen axis.slots (IsInColumn axis grid c) side i
-    → IsInRange k i → IsCut axis grid c k ⊎ IsWithin axis grid c k
-    → IsCut axis grid c k ⊎ (IsWithin axis grid c k × (IsClearBefore seen axis grid c k ⊎ IsClearBehind seen axis grid c k))
-reason_of seen axis grid c i side k end r (inl cut) = inl cut
-reason_of seen axis grid c i side k end r (inr within) = inr (within, reason_by seen axis grid c i side k end r)
+reason_of : (seen : Seen) (axis : Axis) (grid : Grid) (lo hi : ℤ) (c i : ℕ) (side : Side) (k : Key) (s : Span) → IsEnd seen axis.slots (IsInColumn axis grid c) side i
+    → IsInRange k i → (IsWithin axis grid c k → IsFlat lo hi grid.h s → ⊥) → IsCut axis grid c k ⊎ IsWithin axis grid c k
+    → IsCut axis grid c k ⊎ (IsWithin axis grid c k × (IsFlat lo hi grid.h s → ⊥) × (IsClearBefore seen axis grid c k ⊎ IsClearBehind seen axis grid c k))
+reason_of seen axis grid lo hi c i side k s end r uneven (inl cut) = inl cut
+reason_of seen axis grid lo hi c i side k s end r uneven (inr within) = inr (within, uneven within, reason_by seen axis grid c i side k end r)
 
 -- a key that fails above the end of a search is wanted
-pub stuck_wanted : (seen : Seen) (axis : Axis) (grid : Grid) (c a b i : ℕ) (side : Side) (k : Key) → IsColumn axis grid c a b
-    → IsEnd seen axis.slots (IsInColumn axis grid c) side i → IsInRange k i → IsFailing seen axis.slots k → IsWantedIn seen axis grid c k
-stuck_wanted seen axis grid c a b i side k column end r failing = record {
+pub stuck_wanted : (seen : Seen) (axis : Axis) (grid : Grid) (lo hi : ℤ) (c a b i : ℕ) (side : Side) (k : Key) → IsColumn axis grid c a b
+    → IsEnd seen axis.slots (IsInColumn axis grid c) side i → IsInRange k i → IsFailing seen axis.slots k
+    → (IsSettled seen axis.slots (IsFlat lo hi grid.h) (IsInColumn axis grid c) k → ⊥) → IsWantedIn seen axis grid lo hi c k
+stuck_wanted seen axis grid lo hi c a b i side k column end r failing unsettled = record {
   node = failing.node;
   span = failing.span;
   known_so = failing.known_so;
-  reason = reason_of seen axis grid c i side k end r (within_or_cut axis grid c a b k i column r end.among);
+  reason = reason_of seen axis grid lo hi c i side k failing.span end r
+      (λ within flat. unsettled (record { high = failing.node.high; span = failing.span; known_so = failing.known_so; flat = flat; within = within }))
+      (within_or_cut axis grid c a b k i column r end.among);
 }
 
 -- The search from this side ends within the key's range, which has a slot of the column.
@@ -162,12 +181,15 @@ behind_ends seen axis grid c k failing within clear = record {
 }
 
 -- from one of the sides the search ends in the range of a wanted key that fails
-pub wanted_ends : (seen : Seen) (axis : Axis) (grid : Grid) (c a b : ℕ) (k : Key) → IsColumn axis grid c a b → IsFailing seen axis.slots k
-    → IsCut axis grid c k ⊎ (IsWithin axis grid c k × (IsClearBefore seen axis grid c k ⊎ IsClearBehind seen axis grid c k))
-    → Ends seen axis grid c k First ⊎ Ends seen axis grid c k Last
-wanted_ends seen axis grid c a b k column failing (inl cut) = cut_ends seen axis grid c a b k column failing cut
-wanted_ends seen axis grid c a b k column failing (inr (within, inl clear)) = inl (before_ends seen axis grid c k failing within clear)
-wanted_ends seen axis grid c a b k column failing (inr (within, inr clear)) = inr (behind_ends seen axis grid c k failing within clear)
+pub wanted_ends : (seen : Seen) (axis : Axis) (grid : Grid) (lo hi : ℤ) (c a b : ℕ) (k : Key) → IsColumn axis grid c a b → IsFailing seen axis.slots k
+    → IsWantedIn seen axis grid lo hi c k → Ends seen axis grid c k First ⊎ Ends seen axis grid c k Last
+wanted_ends seen axis grid lo hi c a b k column failing wanted = elim wanted.reason [
+  | inl cut ↦ cut_ends seen axis grid c a b k column failing cut
+  | inr own ↦ elim own.2 [
+    | inl clear ↦ inl (before_ends seen axis grid c k failing own.0 clear)
+    | inr clear ↦ inr (behind_ends seen axis grid c k failing own.0 clear)
+  ]
+]
 
 -- the failure at which a search got stuck is that of k
 pub record IsOf (x : Option Failure) (k : Key) : Type 0 where
@@ -175,21 +197,48 @@ pub record IsOf (x : Option Failure) (k : Key) : Type 0 where
   pub is : x ≡ Some failure
   pub key : failure.key ≡ k
 
+-- what is seen below a flat key is flat
+abbrev pub FlatBelow : Type 0
+FlatBelow =
+    (root : Option Span) (told : Key → Option Coef) (top : ℕ) (w k : Key) (lo hi : ℤ) (h : ℕ) (s t : Span)
+    → w.level ≤ top → IsAtOrAbove w k → known root told top w ≡ Some (Some t) → known root told top k ≡ Some (Some s)
+    → IsFlat lo hi h t → IsFlat lo hi h s
+
+unseen : (s : Span) → ◌≡◌ {A = Option (Option Span)} None (Some (Some s)) → ⊥
+unseen s e = cc
+
+-- no wanted key that fails shares a slot with a settled one
+wanted_apart : FlatBelow → (seen : Seen) (axis : Axis) (grid : Grid) (lo hi : ℤ) (c i : ℕ) (k w : Key) → IsFailing seen axis.slots k → IsWantedIn seen axis grid lo hi c k
+    → IsSettled seen axis.slots (IsFlat lo hi grid.h) (IsInColumn axis grid c) w → IsInRange k i → IsInRange w i → ⊥
+wanted_apart below_flat seen axis grid lo hi c i k w failing wanted h rk rw = elim (cases_lt w.level k.level) [
+  | inl lower ↦
+      unseen h.span (sym (unknown_below seen axis.slots k w failing lower (shared-above k w i (omega (arith, lower)) rk rw)) ∙ h.known_so)
+  | inr above ↦
+      (let over : IsAtOrAbove w k = shared-above w k i above rw rk in
+      let within : IsWithin axis grid c k = λ j r. h.within j (above-in_range w k j over r) in
+      elim wanted.reason [
+        | inl cut ↦ cut.outside (within cut.other cut.other_in_range)
+        | inr own ↦ own.1 (below_flat seen.root seen.told (height axis.slots) w k lo hi grid.h wanted.span h.span h.high over h.known_so wanted.known_so h.flat)
+      ])
+]
+
 -- so the search gets stuck at that key
-pub ends_at : (seen : Seen) (axis : Axis) (grid : Grid) (c : ℕ) (k : Key) (side : Side) (e : End) → IsFailing seen axis.slots k
-    → Ends seen axis grid c k side → Finds seen axis.slots (IsInColumn axis grid c) side e → IsOf (failure_of e) k
-ends_at seen axis grid c k side Nowhere failing h found = absurd (not_clear seen axis.slots k h.slot failing h.in_range (found h.slot h.in_column))
-ends_at seen axis grid c k side Value failing h found =
-    absurd (not_known seen axis.slots k found.0 found.2.0 failing (h.ends found.0 found.1) found.2.1)
-ends_at seen axis grid c k side (Stuck f) failing h found = record {
+pub ends_at : FlatBelow → (seen : Seen) (axis : Axis) (grid : Grid) (lo hi : ℤ) (c : ℕ) (k : Key) (side : Side) (e : End) → IsFailing seen axis.slots k
+    → IsWantedIn seen axis grid lo hi c k → Ends seen axis grid c k side → Finds seen axis.slots (IsFlat lo hi grid.h) (IsInColumn axis grid c) (IsInColumn axis grid c) side e → IsOf (failure_of e) k
+ends_at below_flat seen axis grid lo hi c k side Nowhere failing wanted h found = absurd (not_clear seen axis.slots k h.slot failing h.in_range (found h.slot h.in_column))
+ends_at below_flat seen axis grid lo hi c k side Value failing wanted h found = elim found.2 [
+  | inl value ↦ absurd (not_known seen axis.slots k found.0 value.0 failing (h.ends found.0 found.1) value.1)
+  | inr w ↦ absurd (wanted_apart below_flat seen axis grid lo hi c found.0 k w.0 failing wanted w.2 (h.ends found.0 found.1) w.1)
+]
+ends_at below_flat seen axis grid lo hi c k side (Stuck f) failing wanted h found = record {
   failure = f;
   is = refl;
   key = same_failing seen axis.slots f.key k found.0 found.3.failing failing found.2 (h.ends found.0 found.1);
 }
 
 -- and what it gets stuck at is wanted and fails
-pub record IsGood (seen : Seen) (axis : Axis) (grid : Grid) (c : ℕ) (f : Failure) : Type 0 where
-  pub wanted : IsWantedIn seen axis grid c f.key
+pub record IsGood (seen : Seen) (axis : Axis) (grid : Grid) (lo hi : ℤ) (c : ℕ) (f : Failure) : Type 0 where
+  pub wanted : IsWantedIn seen axis grid lo hi c f.key
   pub how : FailsAs seen axis.slots f.key f.is_missing
 
 some_is : (f g : Failure) → ◌≡◌ {A = Option Failure} (Some f) (Some g) → f ≡ g
@@ -198,12 +247,12 @@ some_is f g e = cc
 none_is : (f : Failure) → ◌≡◌ {A = Option Failure} None (Some f) → ⊥
 none_is f e = cc
 
-pub stuck_good : (seen : Seen) (axis : Axis) (grid : Grid) (c a b : ℕ) (side : Side) (e : End) (f : Failure) → IsColumn axis grid c a b
-    → Finds seen axis.slots (IsInColumn axis grid c) side e → failure_of e ≡ Some f → IsGood seen axis grid c f
-stuck_good seen axis grid c a b side Nowhere f column found is = absurd (none_is f is)
-stuck_good seen axis grid c a b side Value f column found is = absurd (none_is f is)
-stuck_good seen axis grid c a b side (Stuck g) f column found is =
-    subst (λ (x : Failure). IsGood seen axis grid c x) (some_is g f is) (record {
-      wanted = stuck_wanted seen axis grid c a b found.0 side g.key column found.1 found.2 found.3.failing;
+pub stuck_good : (seen : Seen) (axis : Axis) (grid : Grid) (lo hi : ℤ) (c a b : ℕ) (side : Side) (e : End) (f : Failure) → IsColumn axis grid c a b
+    → Finds seen axis.slots (IsFlat lo hi grid.h) (IsInColumn axis grid c) (IsInColumn axis grid c) side e → failure_of e ≡ Some f → IsGood seen axis grid lo hi c f
+stuck_good seen axis grid lo hi c a b side Nowhere f column found is = absurd (none_is f is)
+stuck_good seen axis grid lo hi c a b side Value f column found is = absurd (none_is f is)
+stuck_good seen axis grid lo hi c a b side (Stuck g) f column found is =
+    subst (λ (x : Failure). IsGood seen axis grid lo hi c x) (some_is g f is) (record {
+      wanted = stuck_wanted seen axis grid lo hi c a b found.0 side g.key column found.1 found.2 found.3.failing found.4;
       how = found.3.how;
     })

@@ -1,11 +1,12 @@
 -- The first of the keys that fail.
-use Rattle.std.proofs.Common.{ℕ, ◌≡◌, ◌+◌, ◌<◌, ◌≤◌, ◌⊎◌, inl, inr, refl, sym, ◌∙◌, ap, subst, arith}
+use Rattle.std.proofs.Common.{ℕ, ℤ, ◌≡◌, ◌+◌, ◌<◌, ◌≤◌, ◌⊎◌, inl, inr, refl, sym, ◌∙◌, ap, subst, arith}
 use Rattle.std.proofs.lemmas.Bool.{cases_lt}
 use Rattle.std.specs.Prelude.{Option, Some, None}
 use Rattle.om3_coeff.specs.declared.key.Key.{Key}
 use Rattle.chart_grid.specs.declared.axis.Axis.{Axis}
 use Rattle.chart_grid.specs.declared.grid.Grid.{Grid}
 use Rattle.chart_grid.specs.Slots.{IsInColumn}
+use Rattle.view_keys.specs.Flat.{IsFlat}
 use Rattle.view_keys.specs.Wanted.{Seen, IsWanted}
 use Rattle.view_keys.specs.Listed.{ComesBefore}
 use Rattle.chart_client.specs.Failing.{Fails}
@@ -13,7 +14,7 @@ use Rattle.chart_client.specs.Searching.{IsFailing, IsFirst, IsFirstOf, IsEarlie
 use Rattle.chart_client.specs.declared.failure.Failure.{Failure}
 use Rattle.chart_client.specs.declared.search.Side.TheVariants.{First, Last}
 use Rattle.chart_client.specs.declared.search.End.{End}
-use Rattle.chart_client.proofs.Columns.{IsColumn, IsOf, IsGood, wanted_ends, ends_at, stuck_good}
+use Rattle.chart_client.proofs.Columns.{FlatBelow, IsColumn, IsOf, IsGood, wanted_ends, ends_at, stuck_good}
 
 -- ---- the order of keys
 
@@ -102,8 +103,8 @@ first_same seen slots A B (Some f) to from h = record {
 -- ---- one column
 
 -- a key that is wanted for the column, at which a search got stuck
-pub record IsFound (seen : Seen) (axis : Axis) (grid : Grid) (c : ℕ) (x : Option Failure) (k : Key) : Type 0 where
-  pub wanted : IsWantedIn seen axis grid c k
+pub record IsFound (seen : Seen) (axis : Axis) (grid : Grid) (lo hi : ℤ) (c : ℕ) (x : Option Failure) (k : Key) : Type 0 where
+  pub wanted : IsWantedIn seen axis grid lo hi c k
   pub of : IsOf x k
 
 no_failure : (f : Failure) → ◌≡◌ {A = Option Failure} None (Some f) → ⊥
@@ -112,11 +113,11 @@ no_failure f e = cc
 same_failure : (f g : Failure) → ◌≡◌ {A = Option Failure} (Some f) (Some g) → f.key ≡ g.key
 same_failure f g e = let h : f ≡ g = cc in ap (λ x. x.key) h
 
-found_first : (seen : Seen) (axis : Axis) (grid : Grid) (c : ℕ) (x : Option Failure) → ((f : Failure) → x ≡ Some f → IsGood seen axis grid c f)
-    → IsFirstOf seen axis.slots (IsFound seen axis grid c x) x
-found_first seen axis grid c None good = λ k found fails. no_failure found.of.failure found.of.is
-found_first seen axis grid c (Some f) good =
-    let h : IsGood seen axis grid c f = good f refl in record {
+found_first : (seen : Seen) (axis : Axis) (grid : Grid) (lo hi : ℤ) (c : ℕ) (x : Option Failure) → ((f : Failure) → x ≡ Some f → IsGood seen axis grid lo hi c f)
+    → IsFirstOf seen axis.slots (IsFound seen axis grid lo hi c x) x
+found_first seen axis grid lo hi c None good = λ k found fails. no_failure found.of.failure found.of.is
+found_first seen axis grid lo hi c (Some f) good =
+    let h : IsGood seen axis grid lo hi c f = good f refl in record {
       kind = record { wanted = h.wanted; of = record { failure = f; is = refl; key = refl } };
       how = h.how;
       first = λ k found fails less.
@@ -124,64 +125,64 @@ found_first seen axis grid c (Some f) good =
           not_itself f.key (subst (λ (w : Key). ComesBefore w f.key) (sym same) less);
     }
 
-failing_of : (seen : Seen) (axis : Axis) (grid : Grid) (c : ℕ) (k : Key) → IsWantedIn seen axis grid c k → Fails seen axis.slots k → IsFailing seen axis.slots k
-failing_of seen axis grid c k wanted fails = record { node = wanted.node; span = wanted.span; known_so = wanted.known_so; fails = fails }
+failing_of : (seen : Seen) (axis : Axis) (grid : Grid) (lo hi : ℤ) (c : ℕ) (k : Key) → IsWantedIn seen axis grid lo hi c k → Fails seen axis.slots k → IsFailing seen axis.slots k
+failing_of seen axis grid lo hi c k wanted fails = record { node = wanted.node; span = wanted.span; known_so = wanted.known_so; fails = fails }
 
 -- the earlier one of the failures from the two sides is the first in the column
-pub column_first : (seen : Seen) (axis : Axis) (grid : Grid) (c a b : ℕ) (near far : End) (r : Option Failure) → IsColumn axis grid c a b
-    → Finds seen axis.slots (IsInColumn axis grid c) First near → Finds seen axis.slots (IsInColumn axis grid c) Last far
-    → IsEarlier (failure_of near) (failure_of far) r → IsFirstOf seen axis.slots (IsWantedIn seen axis grid c) r
-column_first seen axis grid c a b near far r column hn hf is =
-    let A : Key → Type 0 = IsFound seen axis grid c (failure_of near) in
-    let B : Key → Type 0 = IsFound seen axis grid c (failure_of far) in
-    first_same seen axis.slots (Either A B) (IsWantedIn seen axis grid c) r
+pub column_first : FlatBelow → (seen : Seen) (axis : Axis) (grid : Grid) (lo hi : ℤ) (c a b : ℕ) (near far : End) (r : Option Failure) → IsColumn axis grid c a b
+    → Finds seen axis.slots (IsFlat lo hi grid.h) (IsInColumn axis grid c) (IsInColumn axis grid c) First near → Finds seen axis.slots (IsFlat lo hi grid.h) (IsInColumn axis grid c) (IsInColumn axis grid c) Last far
+    → IsEarlier (failure_of near) (failure_of far) r → IsFirstOf seen axis.slots (IsWantedIn seen axis grid lo hi c) r
+column_first below_flat seen axis grid lo hi c a b near far r column hn hf is =
+    let A : Key → Type 0 = IsFound seen axis grid lo hi c (failure_of near) in
+    let B : Key → Type 0 = IsFound seen axis grid lo hi c (failure_of far) in
+    first_same seen axis.slots (Either A B) (IsWantedIn seen axis grid lo hi c) r
     (λ k either. elim either [ inl found ↦ found.wanted | inr found ↦ found.wanted ])
     (λ k wanted fails.
-    let failing = failing_of seen axis grid c k wanted fails in
-    elim (wanted_ends seen axis grid c a b k column failing wanted.reason) [
-      | inl h ↦ inl (record { wanted = wanted; of = ends_at seen axis grid c k First near failing h hn })
-      | inr h ↦ inr (record { wanted = wanted; of = ends_at seen axis grid c k Last far failing h hf })
+    let failing = failing_of seen axis grid lo hi c k wanted fails in
+    elim (wanted_ends seen axis grid lo hi c a b k column failing wanted) [
+      | inl h ↦ inl (record { wanted = wanted; of = ends_at below_flat seen axis grid lo hi c k First near failing wanted h hn })
+      | inr h ↦ inr (record { wanted = wanted; of = ends_at below_flat seen axis grid lo hi c k Last far failing wanted h hf })
     ])
     (merged seen axis.slots A B (failure_of near) (failure_of far) r
-    (found_first seen axis grid c (failure_of near) (λ f e. stuck_good seen axis grid c a b First near f column hn e))
-    (found_first seen axis grid c (failure_of far) (λ f e. stuck_good seen axis grid c a b Last far f column hf e)) is)
+    (found_first seen axis grid lo hi c (failure_of near) (λ f e. stuck_good seen axis grid lo hi c a b First near f column hn e))
+    (found_first seen axis grid lo hi c (failure_of far) (λ f e. stuck_good seen axis grid lo hi c a b Last far f column hf e)) is)
 
 empty : (a b i : ℕ) → b ≤ a → (a ≤ i) × (i < b) → ⊥
 empty a b i none at = omega (arith, none, at.0, at.1)
 
 -- a column without slots has no wanted key
-pub empty_first : (seen : Seen) (axis : Axis) (grid : Grid) (c a b : ℕ) → IsColumn axis grid c a b → b ≤ a
-    → IsFirstOf seen axis.slots (IsWantedIn seen axis grid c) None
-empty_first seen axis grid c a b column none k wanted fails =
-    elim (wanted_ends seen axis grid c a b k column (failing_of seen axis grid c k wanted fails) wanted.reason) [
+pub empty_first : (seen : Seen) (axis : Axis) (grid : Grid) (lo hi : ℤ) (c a b : ℕ) → IsColumn axis grid c a b → b ≤ a
+    → IsFirstOf seen axis.slots (IsWantedIn seen axis grid lo hi c) None
+empty_first seen axis grid lo hi c a b column none k wanted fails =
+    elim (wanted_ends seen axis grid lo hi c a b k column (failing_of seen axis grid lo hi c k wanted fails) wanted) [
       | inl h ↦ empty a b h.slot none (column.into h.slot h.in_column)
       | inr h ↦ empty a b h.slot none (column.into h.slot h.in_column)
     ]
 
 -- ---- all columns
 
-below_cases : (seen : Seen) (axis : Axis) (grid : Grid) (n : ℕ) (k : Key) → IsWantedBelow seen axis grid (n + 1) k
-    → IsWantedBelow seen axis grid n k ⊎ IsWantedIn seen axis grid n k
-below_cases seen axis grid n k wanted = elim (cases_lt wanted.0 n) [
+below_cases : (seen : Seen) (axis : Axis) (grid : Grid) (lo hi : ℤ) (n : ℕ) (k : Key) → IsWantedBelow seen axis grid lo hi (n + 1) k
+    → IsWantedBelow seen axis grid lo hi n k ⊎ IsWantedIn seen axis grid lo hi n k
+below_cases seen axis grid lo hi n k wanted = elim (cases_lt wanted.0 n) [
   | inl less ↦ inl (wanted.0, less, wanted.2)
   | inr more ↦
       (let same : wanted.0 ≡ n = omega (arith, more, wanted.1) in
-      inr (subst (λ (c : ℕ). IsWantedIn seen axis grid c k) same wanted.2))
+      inr (subst (λ (c : ℕ). IsWantedIn seen axis grid lo hi c k) same wanted.2))
 ]
 
 -- one column more
-pub more_first : (seen : Seen) (axis : Axis) (grid : Grid) (n : ℕ) (x y r : Option Failure) → IsFirstOf seen axis.slots (IsWantedBelow seen axis grid n) x
-    → IsFirstOf seen axis.slots (IsWantedIn seen axis grid n) y → IsEarlier x y r → IsFirstOf seen axis.slots (IsWantedBelow seen axis grid (n + 1)) r
-more_first seen axis grid n x y r hx hy is =
-    first_same seen axis.slots (Either (IsWantedBelow seen axis grid n) (IsWantedIn seen axis grid n)) (IsWantedBelow seen axis grid (n + 1)) r
+pub more_first : (seen : Seen) (axis : Axis) (grid : Grid) (lo hi : ℤ) (n : ℕ) (x y r : Option Failure) → IsFirstOf seen axis.slots (IsWantedBelow seen axis grid lo hi n) x
+    → IsFirstOf seen axis.slots (IsWantedIn seen axis grid lo hi n) y → IsEarlier x y r → IsFirstOf seen axis.slots (IsWantedBelow seen axis grid lo hi (n + 1)) r
+more_first seen axis grid lo hi n x y r hx hy is =
+    first_same seen axis.slots (Either (IsWantedBelow seen axis grid lo hi n) (IsWantedIn seen axis grid lo hi n)) (IsWantedBelow seen axis grid lo hi (n + 1)) r
     (λ k either. elim either [ inl h ↦ (h.0, omega (arith, h.1), h.2) | inr h ↦ (n, omega arith, h) ])
-    (λ k wanted fails. below_cases seen axis grid n k wanted)
-    (merged seen axis.slots (IsWantedBelow seen axis grid n) (IsWantedIn seen axis grid n) x y r hx hy is)
+    (λ k wanted fails. below_cases seen axis grid lo hi n k wanted)
+    (merged seen axis.slots (IsWantedBelow seen axis grid lo hi n) (IsWantedIn seen axis grid lo hi n) x y r hx hy is)
 
-pub all_first : (seen : Seen) (axis : Axis) (grid : Grid) (x : Option Failure) → IsFirstOf seen axis.slots (IsWantedBelow seen axis grid grid.w) x
-    → IsFirstOf seen axis.slots (IsWanted seen axis grid) x
-all_first seen axis grid x h =
-    first_same seen axis.slots (IsWantedBelow seen axis grid grid.w) (IsWanted seen axis grid) x
+pub all_first : (seen : Seen) (axis : Axis) (grid : Grid) (lo hi : ℤ) (x : Option Failure) → IsFirstOf seen axis.slots (IsWantedBelow seen axis grid lo hi grid.w) x
+    → IsFirstOf seen axis.slots (IsWanted seen axis grid lo hi) x
+all_first seen axis grid lo hi x h =
+    first_same seen axis.slots (IsWantedBelow seen axis grid lo hi grid.w) (IsWanted seen axis grid lo hi) x
     (λ k below. record { node = below.2.node; span = below.2.span; known_so = below.2.known_so; column = below.0; shown = below.1; reason = below.2.reason })
     (λ k wanted fails. (wanted.column, wanted.shown, record { node = wanted.node; span = wanted.span; known_so = wanted.known_so; reason = wanted.reason }))
     h

@@ -1,4 +1,3 @@
-pub mod Ranging
 pub mod Unknown
 pub mod Searched
 pub mod Columns

@@ -13,7 +13,7 @@ use Rattle.om3_coeff.proofs.KeyLemmas.{same_key}
 use Rattle.om3_coeff.proofs.KnownLemmas.{known_step}
 use Rattle.view_keys.specs.Ranges.{IsInRange}
 use Rattle.view_keys.specs.Wanted.{Seen}
-use Rattle.chart_client.proofs.Ranging.{slot_key, slot_key-in_range, shared-above, in_range-index}
+use Rattle.view_keys.proofs.Ranging.{slot_key, slot_key-in_range, shared-above, in_range-index}
 use Rattle.chart_client.specs.Searching.{IsFailing, IsClearAt}
 
 -- what the root and the told coefficients show of a key

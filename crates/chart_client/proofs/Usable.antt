@@ -1,5 +1,5 @@
 -- What is seen by the usable coefficients is what is seen by all.
-use Rattle.std.proofs.Common.{ℕ, zero, suc, ◌≡◌, ◌+◌, ◌-◌, ◌/◌, ◌⊎◌, inl, inr, List, refl, sym, ◌∙◌, ap, ap₂, arith}
+use Rattle.std.proofs.Common.{ℕ, ℤ, zero, suc, ◌≡◌, ◌+◌, ◌-◌, ◌/◌, ◌⊎◌, inl, inr, List, refl, sym, ◌∙◌, ap, ap₂, arith}
 use Rattle.std.proofs.lemmas.Bool.{cases_lt}
 use Rattle.std.proofs.lemmas.List.Elements.{All-weaker}
 use Rattle.std.specs.Prelude.{Option, Some, None}
@@ -13,9 +13,10 @@ use Rattle.om3_coeff.specs.Known.{half, known_below, known_from, known}
 use Rattle.chart_grid.specs.declared.axis.Axis.{Axis}
 use Rattle.chart_grid.specs.declared.grid.Grid.{Grid}
 use Rattle.view_keys.specs.Ranges.{IsWithin, IsCut}
+use Rattle.view_keys.specs.Flat.{IsFlat}
 use Rattle.view_keys.specs.Wanted.{Seen, IsWanted, IsClearBefore, IsClearBehind}
 use Rattle.view_keys.specs.Listed.{IsListOf}
-use Rattle.chart_client.proofs.Ranging.{slot_key}
+use Rattle.view_keys.proofs.Ranging.{slot_key}
 use Rattle.chart_client.specs.HeldNodes.{usable_by, usable, usable_seen}
 
 parts_below : (index : ℕ) (s : Span) (c : Coef) (q : Option (Option Span × Option Span)) → parts s c ≡ q
@@ -87,39 +88,39 @@ unusable_misfit above told s c known_so is splits_not =
 -- ---- wanted keys
 
 -- where the same is known of each key, the same keys are wanted
-reason_same : (a b : Seen) (axis : Axis) (grid : Grid) (c : ℕ) (k : Key)
+reason_same : (a b : Seen) (axis : Axis) (grid : Grid) (lo hi : ℤ) (c : ℕ) (k : Key) (s : Span)
     → ((w : Key) → known b.root b.told (height axis.slots) w ≡ known a.root a.told (height axis.slots) w)
-    → IsCut axis grid c k ⊎ (IsWithin axis grid c k × (IsClearBefore a axis grid c k ⊎ IsClearBehind a axis grid c k))
-    → IsCut axis grid c k ⊎ (IsWithin axis grid c k × (IsClearBefore b axis grid c k ⊎ IsClearBehind b axis grid c k))
-reason_same a b axis grid c k same (inl cut) = inl cut
-reason_same a b axis grid c k same (inr (within, inl clear)) = inr (within, inl (λ i here before. same (slot_key i) ∙ clear i here before))
-reason_same a b axis grid c k same (inr (within, inr clear)) = inr (within, inr (λ i here behind. same (slot_key i) ∙ clear i here behind))
+    → IsCut axis grid c k ⊎ (IsWithin axis grid c k × (IsFlat lo hi grid.h s → ⊥) × (IsClearBefore a axis grid c k ⊎ IsClearBehind a axis grid c k))
+    → IsCut axis grid c k ⊎ (IsWithin axis grid c k × (IsFlat lo hi grid.h s → ⊥) × (IsClearBefore b axis grid c k ⊎ IsClearBehind b axis grid c k))
+reason_same a b axis grid lo hi c k s same (inl cut) = inl cut
+reason_same a b axis grid lo hi c k s same (inr (within, uneven, inl clear)) = inr (within, uneven, inl (λ i here before. same (slot_key i) ∙ clear i here before))
+reason_same a b axis grid lo hi c k s same (inr (within, uneven, inr clear)) = inr (within, uneven, inr (λ i here behind. same (slot_key i) ∙ clear i here behind))
 
-wanted_same : (a b : Seen) (axis : Axis) (grid : Grid) (k : Key)
+wanted_same : (a b : Seen) (axis : Axis) (grid : Grid) (lo hi : ℤ) (k : Key)
     → ((w : Key) → known b.root b.told (height axis.slots) w ≡ known a.root a.told (height axis.slots) w)
-    → IsWanted a axis grid k → IsWanted b axis grid k
-wanted_same a b axis grid k same w = record {
+    → IsWanted a axis grid lo hi k → IsWanted b axis grid lo hi k
+wanted_same a b axis grid lo hi k same w = record {
   node = w.node;
   span = w.span;
   known_so = same k ∙ w.known_so;
   column = w.column;
   shown = w.shown;
-  reason = reason_same a b axis grid w.column k same w.reason;
+  reason = reason_same a b axis grid lo hi w.column k w.span same w.reason;
 }
 
-pub usable_wanted : (seen : Seen) (axis : Axis) (grid : Grid) (k : Key) → IsWanted (usable_seen seen axis.slots) axis grid k → IsWanted seen axis grid k
-usable_wanted seen axis grid k w = wanted_same (usable_seen seen axis.slots) seen axis grid k (λ v. sym (usable_known seen axis.slots v)) w
+pub usable_wanted : (seen : Seen) (axis : Axis) (grid : Grid) (lo hi : ℤ) (k : Key) → IsWanted (usable_seen seen axis.slots) axis grid lo hi k → IsWanted seen axis grid lo hi k
+usable_wanted seen axis grid lo hi k w = wanted_same (usable_seen seen axis.slots) seen axis grid lo hi k (λ v. sym (usable_known seen axis.slots v)) w
 
-pub wanted_usable : (seen : Seen) (axis : Axis) (grid : Grid) (k : Key) → IsWanted seen axis grid k → IsWanted (usable_seen seen axis.slots) axis grid k
-wanted_usable seen axis grid k w = wanted_same seen (usable_seen seen axis.slots) axis grid k (λ v. usable_known seen axis.slots v) w
+pub wanted_usable : (seen : Seen) (axis : Axis) (grid : Grid) (lo hi : ℤ) (k : Key) → IsWanted seen axis grid lo hi k → IsWanted (usable_seen seen axis.slots) axis grid lo hi k
+wanted_usable seen axis grid lo hi k w = wanted_same seen (usable_seen seen axis.slots) axis grid lo hi k (λ v. usable_known seen axis.slots v) w
 
 -- a list of the wanted keys with their usable coefficients is one with those told
-pub usable_list : (seen : Seen) (axis : Axis) (grid : Grid) (es : List (Key × Coef))
-    → IsListOf (IsWanted (usable_seen seen axis.slots) axis grid) (usable seen axis.slots) es → IsListOf (IsWanted seen axis grid) seen.told es
-usable_list seen axis grid es list = record {
+pub usable_list : (seen : Seen) (axis : Axis) (grid : Grid) (lo hi : ℤ) (es : List (Key × Coef))
+    → IsListOf (IsWanted (usable_seen seen axis.slots) axis grid lo hi) (usable seen axis.slots) es → IsListOf (IsWanted seen axis grid lo hi) seen.told es
+usable_list seen axis grid lo hi es list = record {
   order = list.order;
-  each = All-weaker (λ e. IsWanted (usable_seen seen axis.slots) axis grid e.0) (λ e. IsWanted seen axis grid e.0) (λ e w. usable_wanted seen axis grid e.0 w) es list.each;
-  all = λ k w. list.all k (wanted_usable seen axis grid k w);
+  each = All-weaker (λ e. IsWanted (usable_seen seen axis.slots) axis grid lo hi e.0) (λ e. IsWanted seen axis grid lo hi e.0) (λ e w. usable_wanted seen axis grid lo hi e.0 w) es list.each;
+  all = λ k w. list.all k (wanted_usable seen axis grid lo hi k w);
   coefs = All-weaker (λ e. usable seen axis.slots e.0 ≡ Some e.1) (λ e. seen.told e.0 ≡ Some e.1)
       (λ e is. usable_told (known seen.root seen.told (height axis.slots) e.0) (seen.told e.0) e.1 is) es list.coefs;
 }

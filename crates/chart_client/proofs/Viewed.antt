@@ -12,10 +12,11 @@ use Rattle.coefficient_cache.specs.Caches.{Cache}
 use Rattle.plain_chart.specs.declared.value_range.ValueRange.{ValueRange}
 use Rattle.plain_chart.specs.Samples.{kept}
 use Rattle.plain_chart.specs.Chart.{places}
-use Rattle.needed_nodes.specs.Answers.{points_of}
+use Rattle.needed_nodes.specs.Answers.{AreDrawnAs, points_of}
 use Rattle.m4_groups.specs.declared.row.Row.{Row}
 use Rattle.m4_groups.specs.Points.{AreInOrder, pixels}
 use Rattle.m4_groups.specs.Rows.{AreRowsOf}
+use Rattle.m4_groups.specs.Heights.{HaveSameHeights}
 use Rattle.view_keys.specs.Wanted.{IsWanted}
 use Rattle.view_keys.specs.Listed.{IsListOf}
 use Rattle.chart_frames.specs.declared.frame.Frame.TheVariants.{View, Rows}
@@ -38,13 +39,13 @@ use Rattle.chart_client.proofs.Drawn.{chart_drawn}
 pub record IsDrawn (view : ViewFrame) (cache : Cache) (grid : Grid) (es : List (Key × Coef)) (rows : List Row) (drawing : Canvas) : Type 0 where
   pub fits : FitsView view
   pub grid_is : IsGridOf view grid
-  pub usable : NoneFails (seen_by view cache) (axis_of view) grid
-  pub wanted : IsListOf (IsWanted (seen_by view cache) (axis_of view) grid) (told_by view cache) es
-  pub shown : (list : List (Option ℤ)) → Agrees view cache grid list → AreRowsOf grid (points_of (axis_of view) grid list) rows
+  pub usable : NoneFails (seen_by view cache) (axis_of view) grid view.lo view.hi
+  pub wanted : IsListOf (IsWanted (seen_by view cache) (axis_of view) grid view.lo view.hi) (told_by view cache) es
+  pub shown : (list : List (Option ℤ)) → Agrees view cache grid list → AreDrawnAs grid view.lo view.hi (points_of (axis_of view) grid list) rows
   pub wide : drawing.w ≡ view.w
   pub high : drawing.h ≡ view.h
-  pub draws : (g : Grid) (points : List (ℤ × ℤ)) → HasCanvas g view.w view.h → AreInOrder g points → AreRowsOf g points rows
-      → DrawsPoints g view.lo view.hi points drawing
+  pub draws : (g : Grid) (points : List (ℤ × ℤ)) (of : List Row) → HasCanvas g view.w view.h → AreInOrder g points → AreRowsOf g points of
+      → HaveSameHeights view.lo view.hi view.h rows of → DrawsPoints g view.lo view.hi points drawing
 
 -- the law that points are the samples
 pub record PointsAreSamples : Type 0 where
@@ -71,7 +72,9 @@ view_accepted view old new place h grid es rows drawing cache law at drawn renew
             let points : List (ℤ × ℤ) = points_of (axis_of view) grid list in
             chart_drawn grid range (kept grid (axis_of view) list) points drawing view.w view.h drawn.grid_is.canvas drawn.wide drawn.high
             (law.placed list (axis_of view) grid range)
-            (drawn.draws grid points drawn.grid_is.canvas (law.order list (axis_of view) grid some) (drawn.shown list agrees));
+            (let alike : AreDrawnAs grid view.lo view.hi points rows = drawn.shown list agrees in
+            drawn.draws grid points alike.of drawn.grid_is.canvas (law.order list (axis_of view) grid some) alike.exact
+            (subst (λ (n : ℕ). HaveSameHeights view.lo view.hi n rows alike.of) drawn.grid_is.canvas.rows alike.heights));
         wanted = es;
         all_wanted = drawn.wanted;
         holdings = is ∙ replaced view.session old place h cache at ∙ ap (λ (c : Cache). with_cache view.session c old) renewed;

@@ -43,12 +43,12 @@ viewed view cache wanted =
 pub record AcceptsView (view : ViewFrame) (cache : Cache) (drawing : Canvas) (old new : List Holding) : Type 0 where
   pub grid : Grid
   pub grid_is : IsGridOf view grid
-  pub usable : NoneFails (seen_by view cache) (axis_of view) grid
+  pub usable : NoneFails (seen_by view cache) (axis_of view) grid view.lo view.hi
   pub wide : drawing.w ≡ view.w
   pub high : drawing.h ≡ view.h
   pub draws : DrawsView view cache grid drawing
   pub wanted : List (Key × Coef)
-  pub all_wanted : IsListOf (IsWanted (seen_by view cache) (axis_of view) grid) (told_by view cache) wanted
+  pub all_wanted : IsListOf (IsWanted (seen_by view cache) (axis_of view) grid view.lo view.hi) (told_by view cache) wanted
   pub holdings : new ≡ with_cache view.session (viewed view cache wanted) old
 
 -- A frame of rows is drawn: for every list of points with these rows on the frame's canvas, in whatever
@@ -105,7 +105,7 @@ pub record FailsView (How : Seen → ℕ → Key → Type 0) (key : Key) (frame 
   pub open_is : holding_of view.session old ≡ Some holding
   pub grid : Grid
   pub grid_is : IsGridOf view grid
-  pub first : IsFirstFailing (seen_by view holding.cache) (axis_of view) grid key
+  pub first : IsFirstFailing (seen_by view holding.cache) (axis_of view) grid view.lo view.hi key
   pub how : How (seen_by view holding.cache) view.slots key
 
 -- why a frame isn't accepted

@@ -1,5 +1,5 @@
 -- The first wanted key whose coefficient a client lacks or can't use.
-use Rattle.std.specs.Prelude.{ℕ, ◌≡◌, ◌⊎◌, None, Some}
+use Rattle.std.specs.Prelude.{ℕ, ℤ, ◌≡◌, ◌⊎◌, None, Some}
 use Rattle.om3_coeff.specs.declared.key.Key.{Key}
 use Rattle.om3_coeff.specs.declared.span.Span.{Span}
 use Rattle.om3_coeff.specs.declared.coef.Coef.{Coef}
@@ -27,12 +27,13 @@ pub record IsMisfit (seen : Seen) (slots : ℕ) (k : Key) : Type 0 where
 abbrev pub Fails : Seen → ℕ → Key → Type 0
 Fails seen slots k = IsMissing seen k ⊎ IsMisfit seen slots k
 
--- the key is the first wanted one that fails, from the top level down and then from left to right
-pub record IsFirstFailing (seen : Seen) (axis : Axis) (grid : Grid) (k : Key) : Type 0 where
-  pub wanted : IsWanted seen axis grid k
+-- over the range lo to hi the key is the first wanted one that fails, from the top level down and then
+-- from left to right
+pub record IsFirstFailing (seen : Seen) (axis : Axis) (grid : Grid) (lo hi : ℤ) (k : Key) : Type 0 where
+  pub wanted : IsWanted seen axis grid lo hi k
   pub fails : Fails seen axis.slots k
-  pub first : (other : Key) → IsWanted seen axis grid other → Fails seen axis.slots other → ComesBefore other k → ⊥
+  pub first : (other : Key) → IsWanted seen axis grid lo hi other → Fails seen axis.slots other → ComesBefore other k → ⊥
 
 -- no wanted key fails
-abbrev pub NoneFails : Seen → Axis → Grid → Type 0
-NoneFails seen axis grid = (k : Key) → IsWanted seen axis grid k → Fails seen axis.slots k → ⊥
+abbrev pub NoneFails : Seen → Axis → Grid → ℤ → ℤ → Type 0
+NoneFails seen axis grid lo hi = (k : Key) → IsWanted seen axis grid lo hi k → Fails seen axis.slots k → ⊥

@@ -1,5 +1,5 @@
 -- Why a view's wanted keys aren't found.
-use Rattle.std.specs.Prelude.{⊤, if◌then◌else◌}
+use Rattle.std.specs.Prelude.{ℤ, ⊤, if◌then◌else◌}
 use Rattle.chart_grid.specs.declared.axis.Axis.{Axis}
 use Rattle.chart_grid.specs.declared.grid.Grid.{Grid}
 use Rattle.coefficient_cache.specs.Caches.{Cache}
@@ -12,16 +12,16 @@ use Rattle.chart_client.specs.Holdings.{axis_of, seen_by}
 use Rattle.chart_client.specs.Failing.{IsMissing, IsMisfit, IsFirstFailing}
 
 -- the error names the first wanted key that fails, and how it does
-abbrev pub IsErrorOf : Seen → Axis → Grid → ClientError → Type 0
-IsErrorOf seen axis grid (Missing key) = IsFirstFailing seen axis grid key × IsMissing seen key
-IsErrorOf seen axis grid (BadCoefficient key) = IsFirstFailing seen axis grid key × IsMisfit seen axis.slots key
-IsErrorOf seen axis grid (UnknownSession number) = ⊥
-IsErrorOf seen axis grid NoMemory = ⊥
+abbrev pub IsErrorOf : Seen → Axis → Grid → ℤ → ℤ → ClientError → Type 0
+IsErrorOf seen axis grid lo hi (Missing key) = IsFirstFailing seen axis grid lo hi key × IsMissing seen key
+IsErrorOf seen axis grid lo hi (BadCoefficient key) = IsFirstFailing seen axis grid lo hi key × IsMisfit seen axis.slots key
+IsErrorOf seen axis grid lo hi (UnknownSession number) = ⊥
+IsErrorOf seen axis grid lo hi NoMemory = ⊥
 
 -- the same for a view; want of memory is free
 abbrev pub FindsNone : ViewFrame → Cache → Grid → ClientError → Type 0
-FindsNone view cache grid (Missing key) = IsErrorOf (seen_by view cache) (axis_of view) grid (Missing key)
-FindsNone view cache grid (BadCoefficient key) = IsErrorOf (seen_by view cache) (axis_of view) grid (BadCoefficient key)
+FindsNone view cache grid (Missing key) = IsErrorOf (seen_by view cache) (axis_of view) grid view.lo view.hi (Missing key)
+FindsNone view cache grid (BadCoefficient key) = IsErrorOf (seen_by view cache) (axis_of view) grid view.lo view.hi (BadCoefficient key)
 FindsNone view cache grid (UnknownSession number) = ⊥
 FindsNone view cache grid NoMemory = ⊤
 

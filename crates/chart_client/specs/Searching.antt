@@ -1,6 +1,6 @@
 -- The search for wanted keys that fail: from each side of a column, up to the first slot that isn't
 -- known to hold nothing.
-use Rattle.std.specs.Prelude.{ℕ, ◌≡◌, ◌<◌, ◌≤◌, ◌⊎◌, Bool, true, false, Option, None, Some}
+use Rattle.std.specs.Prelude.{ℕ, ℤ, ◌≡◌, ◌<◌, ◌≤◌, ◌⊎◌, Bool, true, false, Option, None, Some}
 use Rattle.om3_coeff.specs.declared.key.Key.{Key}
 use Rattle.om3_coeff.specs.declared.span.Span.{Span}
 use Rattle.om3_coeff.specs.Keys.{height, IsNode}
@@ -8,6 +8,7 @@ use Rattle.om3_coeff.specs.Known.{known, IsKnownClear}
 use Rattle.chart_grid.specs.declared.axis.Axis.{Axis}
 use Rattle.chart_grid.specs.declared.grid.Grid.{Grid}
 use Rattle.view_keys.specs.Ranges.{IsInRange, IsWithin, IsCut}
+use Rattle.view_keys.specs.Flat.{IsFlat}
 use Rattle.view_keys.specs.Wanted.{Seen, IsClearBefore, IsClearBehind}
 use Rattle.view_keys.specs.Listed.{ComesBefore}
 use Rattle.chart_client.specs.Failing.{IsMissing, IsMisfit, Fails}
@@ -20,6 +21,10 @@ use Rattle.chart_client.specs.declared.search.End.TheVariants.{Nowhere, Value, S
 -- slot i is known to hold nothing
 abbrev pub IsClearAt : Seen → ℕ → ℕ → Type 0
 IsClearAt seen slots i = IsKnownClear seen.root seen.told (height slots) i
+
+-- slot i lies from a on and below b
+abbrev pub IsBetween : ℕ → ℕ → ℕ → Type 0
+IsBetween a b i = (a ≤ i) × (i < b)
 
 -- slot i lies in the key's range, and from a on and below b
 pub record IsAmong (k : Key) (a b i : ℕ) : Type 0 where
@@ -54,24 +59,39 @@ pub record IsFailure (seen : Seen) (slots : ℕ) (f : Failure) : Type 0 where
   pub failing : IsFailing seen slots f.key
   pub how : FailsAs seen slots f.key f.is_missing
 
--- What a search among some slots found: all are known to hold nothing; or the first one that isn't is
--- known to hold a value, or lies in the range of a key that fails.
-abbrev pub Finds : Seen → ℕ → (ℕ → Type 0) → Side → End → Type 0
-Finds seen slots Among side Nowhere = (i : ℕ) → Among i → IsClearAt seen slots i
-Finds seen slots Among side Value =
-    (i : ℕ) × IsEnd seen slots Among side i × ((s : Span) × (known seen.root seen.told (height slots) (record { level = 0; index = i }) ≡ Some (Some s)))
-Finds seen slots Among side (Stuck f) = (i : ℕ) × IsEnd seen slots Among side i × IsInRange f.key i × IsFailure seen slots f
+-- the key's span is seen and flat, and all slots of its range are own ones
+pub record IsSettled (seen : Seen) (slots : ℕ) (Flat : Span → Type 0) (Own : ℕ → Type 0) (k : Key) : Type 0 where
+  pub high : k.level ≤ height slots
+  pub span : Span
+  pub known_so : known seen.root seen.told (height slots) k ≡ Some (Some span)
+  pub flat : Flat span
+  pub within : (i : ℕ) → IsInRange k i → Own i
 
--- a key that a view wants for column c
-pub record IsWantedIn (seen : Seen) (axis : Axis) (grid : Grid) (c : ℕ) (k : Key) : Type 0 where
+-- slot i is known to hold a value, or lies in the range of a settled key
+abbrev pub IsKnownAt : Seen → ℕ → (Span → Type 0) → (ℕ → Type 0) → ℕ → Type 0
+IsKnownAt seen slots Flat Own i =
+    ((s : Span) × (known seen.root seen.told (height slots) (record { level = 0; index = i }) ≡ Some (Some s)))
+    ⊎ ((k : Key) × IsInRange k i × IsSettled seen slots Flat Own k)
+
+-- What a search among some of the own slots found: all are known to hold nothing; or the first one that
+-- isn't is known to hold a value or lies in the range of a settled key, or in that of a key that fails
+-- and isn't settled.
+abbrev pub Finds : Seen → ℕ → (Span → Type 0) → (ℕ → Type 0) → (ℕ → Type 0) → Side → End → Type 0
+Finds seen slots Flat Own Among side Nowhere = (i : ℕ) → Among i → IsClearAt seen slots i
+Finds seen slots Flat Own Among side Value = (i : ℕ) × IsEnd seen slots Among side i × IsKnownAt seen slots Flat Own i
+Finds seen slots Flat Own Among side (Stuck f) =
+    (i : ℕ) × IsEnd seen slots Among side i × IsInRange f.key i × IsFailure seen slots f × (IsSettled seen slots Flat Own f.key → ⊥)
+
+-- a key that a view over the range lo to hi wants for column c
+pub record IsWantedIn (seen : Seen) (axis : Axis) (grid : Grid) (lo hi : ℤ) (c : ℕ) (k : Key) : Type 0 where
   pub node : IsNode (height axis.slots) k
   pub span : Span
   pub known_so : known seen.root seen.told (height axis.slots) k ≡ Some (Some span)
-  pub reason : IsCut axis grid c k ⊎ (IsWithin axis grid c k × (IsClearBefore seen axis grid c k ⊎ IsClearBehind seen axis grid c k))
+  pub reason : IsCut axis grid c k ⊎ (IsWithin axis grid c k × (IsFlat lo hi grid.h span → ⊥) × (IsClearBefore seen axis grid c k ⊎ IsClearBehind seen axis grid c k))
 
 -- a key that it wants for one of the first n columns
-abbrev pub IsWantedBelow : Seen → Axis → Grid → ℕ → Key → Type 0
-IsWantedBelow seen axis grid n k = (c : ℕ) × (c < n) × IsWantedIn seen axis grid c k
+abbrev pub IsWantedBelow : Seen → Axis → Grid → ℤ → ℤ → ℕ → Key → Type 0
+IsWantedBelow seen axis grid lo hi n k = (c : ℕ) × (c < n) × IsWantedIn seen axis grid lo hi c k
 
 -- the failure is that of a key of this kind that fails, and none of them that fails comes before it
 pub record IsFirst (seen : Seen) (slots : ℕ) (Kind : Key → Type 0) (f : Failure) : Type 0 where

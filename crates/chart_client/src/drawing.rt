@@ -5,7 +5,9 @@ ghost use Rattle.chart_grid.specs.declared.grid.Grid.{Grid};
 ghost use Rattle.chart_grid.specs.Projection.{HasCanvas};
 ghost use Rattle.m4_groups.specs.Points.{AreInOrder};
 ghost use Rattle.m4_groups.specs.Rows.{AreRising, AreRowsOf};
-ghost use Rattle.m4_groups.specs.Heights.{IsDrawable, IsValue};
+ghost use Rattle.whole_number.specs.Range.{IsValue};
+ghost use Rattle.m4_groups.specs.declared.row.Row.{Row};
+ghost use Rattle.m4_groups.specs.Heights.{HaveSameHeights, IsDrawable};
 ghost use Rattle.chart_frames.specs.Frames.{FitsViewHead};
 ghost use Rattle.chart_client.specs.declared.errors.ClientError.TheVariants as client;
 ghost use Rattle.chart_client.specs.Agreeing.{IsGridOf};
@@ -81,8 +83,8 @@ pub(crate) fn picture_of(
     requires drawable { All (IsDrawable w) rows.now }
     ensures wide { IfOk result (λ drawing. drawing.w ≡ w) }
     ensures tall { IfOk result (λ drawing. drawing.h ≡ h) }
-    ensures draws { (grid : Grid) (points : List (ℤ × ℤ)) → HasCanvas grid w h → AreInOrder grid points → AreRowsOf grid points rows.now →
-        IfOk result (DrawsPoints grid lo hi points) }
+    ensures draws { (grid : Grid) (points : List (ℤ × ℤ)) (of : List Row) → HasCanvas grid w h → AreInOrder grid points → AreRowsOf grid points of →
+        HaveSameHeights lo hi h rows.now of → IfOk result (DrawsPoints grid lo hi points) }
     ensures failed { IfErr result (λ e. e ≡ client.NoMemory) }
 {
     let mut bitmap = Bitmap::new(alloc, w, h)?;

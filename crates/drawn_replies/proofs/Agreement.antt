@@ -8,7 +8,8 @@ use Rattle.om3_coeff.specs.declared.key.Key.{Key}
 use Rattle.om3_coeff.specs.declared.span.Span.{Span}
 use Rattle.om3_coeff.specs.declared.coef.Coef.{Coef}
 use Rattle.om3_coeff.specs.Keys.{height, top_key, left_of, right_of}
-use Rattle.om3_coeff.specs.Spans.{AreSlots, IsValue, span, span_over}
+use Rattle.om3_coeff.specs.Spans.{AreSlots, span, span_over}
+use Rattle.whole_number.specs.Range.{IsValue}
 use Rattle.om3_coeff.specs.Coefs.{coef, parts}
 use Rattle.om3_coeff.specs.Known.{known}
 use Rattle.view_keys.specs.Needed.{IsNeeded}
@@ -34,14 +35,14 @@ use Rattle.drawn_replies.proofs.Orders.{told-among, kinds-one}
 
 -- what is known of the layers below
 pub record Laws : Type 0 where
-  pub same : (list : List (Option ℤ)) (axis : Axis) (grid : Grid) (seen : Seen) →
+  pub same : (list : List (Option ℤ)) (axis : Axis) (grid : Grid) (lo hi : ℤ) (seen : Seen) →
       AreSlots list → length list ≤ 2 ^ 35 → axis.slots ≡ length list → seen.root ≡ span list (top_key (length list)) →
-      ((k : Key) → IsNeeded list axis grid k → IsWanted seen axis grid k → seen.told k ≡ Some (coef list k)) →
-      (k : Key) → (IsWanted seen axis grid k → IsNeeded list axis grid k) × (IsNeeded list axis grid k → IsWanted seen axis grid k)
-  pub spans : (list : List (Option ℤ)) (axis : Axis) (grid : Grid) (seen : Seen) →
+      ((k : Key) → IsNeeded list axis grid lo hi k → IsWanted seen axis grid lo hi k → seen.told k ≡ Some (coef list k)) →
+      (k : Key) → (IsWanted seen axis grid lo hi k → IsNeeded list axis grid lo hi k) × (IsNeeded list axis grid lo hi k → IsWanted seen axis grid lo hi k)
+  pub spans : (list : List (Option ℤ)) (axis : Axis) (grid : Grid) (lo hi : ℤ) (seen : Seen) →
       AreSlots list → length list ≤ 2 ^ 35 → axis.slots ≡ length list → seen.root ≡ span list (top_key (length list)) →
-      ((k : Key) → IsNeeded list axis grid k → IsWanted seen axis grid k → seen.told k ≡ Some (coef list k)) →
-      (k : Key) → IsWanted seen axis grid k → known seen.root seen.told (height axis.slots) k ≡ Some (span list k)
+      ((k : Key) → IsNeeded list axis grid lo hi k → IsWanted seen axis grid lo hi k → seen.told k ≡ Some (coef list k)) →
+      (k : Key) → IsWanted seen axis grid lo hi k → known seen.root seen.told (height axis.slots) k ≡ Some (span list k)
   pub gives : (pairs : List (SeriesKey × Coef)) (series : ℕ) (needed : List (Key × Coef)) →
       AreDistinct needed → Gives (in_series series (to_send pairs series needed) ++ pairs) series needed
   pub order : (list : List (Option ℤ)) (axis : Axis) (grid : Grid) → 0 < axis.step → AreInOrder grid (points_of axis grid list)
@@ -76,17 +77,17 @@ pub record View : Type 0 where
   pub range : ValueRange
   pub cache : Cache
   pub needed : List (Key × Coef)
-  pub are_needed : AreNeeded series spec.grid needed
+  pub are_needed : AreNeeded series spec.grid range needed
   pub distinct : AreDistinct needed
 
 abbrev pub frame_of : View → ViewFrame
 frame_of v = view_frame v.number v.spec v.range v.series (to_send v.cache.pairs v.spec.series v.needed)
 
 abbrev Need : View → Key → Type 0
-Need v k = IsNeeded v.series.slots (axis_of v.series) v.spec.grid k
+Need v k = IsNeeded v.series.slots (axis_of v.series) v.spec.grid v.range.lo v.range.hi k
 
 abbrev Want : View → Key → Type 0
-Want v k = IsWanted (seen_by (frame_of v) v.cache) (axis_of v.series) v.spec.grid k
+Want v k = IsWanted (seen_by (frame_of v) v.cache) (axis_of v.series) v.spec.grid v.range.lo v.range.hi k
 
 few : (v : View) → length v.series.slots ≤ 2 ^ 35
 few v = omega (arith, v.good.slots_in_range)
@@ -104,7 +105,7 @@ root-same v = root-back (series_root v.series) ∙ sym (v.laws.tops v.series.slo
 
 want-need : (v : View) (k : Key) → (Want v k → Need v k) × (Need v k → Want v k)
 want-need v k =
-    v.laws.same v.series.slots (axis_of v.series) v.spec.grid (seen_by (frame_of v) v.cache) (are-slots v.series v.good) (few v) refl
+    v.laws.same v.series.slots (axis_of v.series) v.spec.grid v.range.lo v.range.hi (seen_by (frame_of v) v.cache) (are-slots v.series v.good) (few v) refl
     (root-same v) (λ j need want. right v j need) k
 
 some-coef : {a b : Coef} → ◌≡◌ {A = Option Coef} (Some a) (Some b) → a ≡ b
@@ -133,7 +134,7 @@ pub none-fails : (v : View) (k : Key) → Want v k → Fails (seen_by (frame_of 
 none-fails v k want (inl missing) = no-coef (sym missing ∙ right v k ((want-need v k).0 want))
 none-fails v k want (inr misfit) =
     let need = (want-need v k).0 want in
-    let shown = v.laws.spans v.series.slots (axis_of v.series) v.spec.grid (seen_by (frame_of v) v.cache) (are-slots v.series v.good) (few v) refl
+    let shown = v.laws.spans v.series.slots (axis_of v.series) v.spec.grid v.range.lo v.range.hi (seen_by (frame_of v) v.cache) (are-slots v.series v.good) (few v) refl
     (root-same v) (λ j n w. right v j n) k want in
     let s : span v.series.slots k ≡ Some misfit.span = some-span (sym shown ∙ misfit.known_so) in
     let c : misfit.coef ≡ coef v.series.slots k = some-coef (sym misfit.told ∙ right v k need) in

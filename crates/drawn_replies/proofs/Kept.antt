@@ -12,7 +12,7 @@ use Rattle.plain_chart.specs.declared.value_range.ValueRange.{ValueRange}
 use Rattle.plain_chart.specs.Chart.{place, places}
 use Rattle.value_filter.specs.declared.steps.Step.{Step}
 use Rattle.query_rewriter.specs.Kept.{passes}
-use Rattle.filter_scan.specs.Answers.{points_of}
+use Rattle.plain_chart.specs.Samples.{sample_points}
 
 -- whether a filter keeps a point
 abbrev Keeps : Option (List Step) → ℤ × ℤ → Bool
@@ -21,23 +21,23 @@ Keeps o p = passes o (record { time = p.0; value = p.1 })
 abbrev point : Sample → ℤ × ℤ
 point s = (s.time, s.value)
 
-kept-points : (o : Option (List Step)) (ss : List Sample) → points_of (filter (passes o) ss) ≡ filter (Keeps o) (points_of ss)
+kept-points : (o : Option (List Step)) (ss : List Sample) → sample_points (filter (passes o) ss) ≡ filter (Keeps o) (sample_points ss)
 kept-points o [] = refl
 kept-points o (s ∷ ss) =
-    elim (passes o s) as (λ b. points_of (cond b (s ∷ filter (passes o) ss) (filter (passes o) ss)) ≡ cond b (point s ∷ filter (Keeps o) (points_of ss)) (filter (Keeps o) (points_of ss))) [
+    elim (passes o s) as (λ b. sample_points (cond b (s ∷ filter (passes o) ss) (filter (passes o) ss)) ≡ cond b (point s ∷ filter (Keeps o) (sample_points ss)) (filter (Keeps o) (sample_points ss))) [
       | true ↦ ap (λ ps. point s ∷ ps) (kept-points o ss)
       | false ↦ kept-points o ss
     ]
 
 -- what is kept of points in order is in order
-pub order-kept : (g : Grid) (o : Option (List Step)) (ss : List Sample) → AreInOrder g (points_of ss) → AreInOrder g (points_of (filter (passes o) ss))
+pub order-kept : (g : Grid) (o : Option (List Step)) (ss : List Sample) → AreInOrder g (sample_points ss) → AreInOrder g (sample_points (filter (passes o) ss))
 order-kept g o ss order =
     subst (λ (ps : List (ℤ × ℤ)). AreInOrder g ps) (sym (kept-points o ss)) (record {
-      shown = All-filter (Keeps o) (λ p. InWindow g p.0) (points_of ss) order.shown;
-      rising = AllPairs-filter (λ p q. p.0 <ℤ q.0) (Keeps o) (points_of ss) order.rising;
+      shown = All-filter (Keeps o) (λ p. InWindow g p.0) (sample_points ss) order.shown;
+      rising = AllPairs-filter (λ p q. p.0 <ℤ q.0) (Keeps o) (sample_points ss) order.rising;
     })
 
 -- the pixels of samples are their places
-pub placed : (g : Grid) (range : ValueRange) (ss : List Sample) → pixels g range.lo range.hi (points_of ss) ≡ places g range ss
+pub placed : (g : Grid) (range : ValueRange) (ss : List Sample) → pixels g range.lo range.hi (sample_points ss) ≡ places g range ss
 placed g range [] = refl
 placed g range (s ∷ ss) = ap (λ ps. place g range s ∷ ps) (placed g range ss)

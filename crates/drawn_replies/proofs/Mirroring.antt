@@ -7,9 +7,8 @@ use Rattle.std.proofs.lemmas.Option.{slice_get_within, slice_get-get_or}
 use Rattle.line_raster.specs.declared.position.Point.{Point}
 use Rattle.line_raster.specs.Canvas.{Canvas, black_at}
 use Rattle.line_raster.specs.Raster.{InRaster}
-use Rattle.plain_chart.specs.Samples.{kept}
+use Rattle.plain_chart.specs.Samples.{kept, sample_points}
 use Rattle.m4_groups.specs.Points.{AreInOrder as ArePointsInOrder}
-use Rattle.filter_scan.specs.Answers.{points_of}
 use Rattle.chart_client.specs.Drawing.{DrawsPoints}
 use Rattle.chart_grid.specs.declared.grid.Grid.{Grid}
 use Rattle.om3_coeff.specs.declared.key.Key.{Key}
@@ -175,7 +174,7 @@ view-accepted v session old new h now drawing found cached stored after m a =
     let g = grid-is v a.grid a.grid_is in
     let wanted : a.wanted ≡ v.needed =
     wanted-same v a.wanted
-    (subst (λ (grid : Grid). IsListOf (IsWanted (seen_by (frame_of v) v.cache) (axis_of v.series) grid) (told_by (frame_of v) v.cache) a.wanted) g a.all_wanted) in (
+    (subst (λ (grid : Grid). IsListOf (IsWanted (seen_by (frame_of v) v.cache) (axis_of v.series) grid v.range.lo v.range.hi) (told_by (frame_of v) v.cache) a.wanted) g a.all_wanted) in (
       a.holdings
           ∙ ap (λ es. with_cache v.number (client_viewed (frame_of v) v.cache es) h) wanted
           ∙ ap (λ c. with_cache v.number (client_viewed (frame_of v) c v.needed) h) (sym cached)
@@ -208,7 +207,7 @@ record FailsAt (v : View) (How : Seen → ℕ → Key → Type 0) (key : Key) (h
   pub open_is : holding_of view.session h ≡ Some holding
   pub grid : Grid
   pub grid_is : IsGridOf view grid
-  pub first : IsFirstFailing (seen_by view holding.cache) (client_axis view) grid key
+  pub first : IsFirstFailing (seen_by view holding.cache) (client_axis view) grid view.lo view.hi key
 
 -- a wanted key of the view that fails
 view-fails : (v : View) (How : Seen → ℕ → Key → Type 0) (key : Key) (session : Session) (old : State) (h : List Holding)
@@ -219,8 +218,8 @@ view-fails v How key session old h found cached m f =
     let P : ViewFrame → Type 0 = λ view. FailsAt v How key h view in
     let at : FailsAt v How key h (frame_of v) = subst P (sym same) (record { holding = f.holding; open_is = f.open_is; grid = f.grid; grid_is = f.grid_is; first = f.first }) in
     let cache : at.holding.cache ≡ v.cache = cache-same v.number session old h at.holding found m at.open_is ∙ cached in
-    let first = subst (λ (c : Cache). IsFirstFailing (seen_by (frame_of v) c) (axis_of v.series) at.grid key) cache at.first in
-    let here = subst (λ (grid : Grid). IsFirstFailing (seen_by (frame_of v) v.cache) (axis_of v.series) grid key) (grid-is v at.grid at.grid_is) first in
+    let first = subst (λ (c : Cache). IsFirstFailing (seen_by (frame_of v) c) (axis_of v.series) at.grid v.range.lo v.range.hi key) cache at.first in
+    let here = subst (λ (grid : Grid). IsFirstFailing (seen_by (frame_of v) v.cache) (axis_of v.series) grid v.range.lo v.range.hi key) (grid-is v at.grid at.grid_is) first in
     none-fails v key here.wanted here.fails
 
 view-lacks : (v : View) (session : Session) (old : State) (h : List Holding) → session_of v.number old.sessions ≡ Some session
@@ -263,9 +262,9 @@ rows-drawn laws frame old new h now drawing good s a =
     let range = s.answers.range in
     let samples = kept grid axis s.series.slots in
     let step : 0 < axis.step = (book-series old.book s.spec.series s.series good s.stored).step_above_zero in
-    let order : ArePointsInOrder grid (points_of (kept_by s.spec s.series)) = order-kept grid s.spec.filter samples (laws.order s.series.slots axis grid step) in
-    let draws : DrawsPoints grid range.lo range.hi (points_of (kept_by s.spec s.series)) drawing =
-    a.draws grid (points_of (kept_by s.spec s.series)) (record { columns = refl; rows = refl }) order s.answers.are_rows in
+    let order : ArePointsInOrder grid (sample_points (kept_by s.spec s.series)) = order-kept grid s.spec.filter samples (laws.order s.series.slots axis grid step) in
+    let draws : DrawsPoints grid range.lo range.hi (sample_points (kept_by s.spec s.series)) drawing =
+    a.draws grid (sample_points (kept_by s.spec s.series)) (record { columns = refl; rows = refl }) order s.answers.are_rows in
     let P : List Point → Type 0 = λ ps. (x y : ℕ) → x < grid.w → y < grid.h → IsTrue (black_at drawing x y) ↔ InRaster ps x (pos y) in
     record {
       spec = s.spec;

@@ -6,7 +6,8 @@ use Rattle.std.specs.Int.{int_min, int_max}
 use Rattle.om3_coeff.specs.declared.key.Key.{Key}
 use Rattle.om3_coeff.specs.declared.span.Span.{Span}
 use Rattle.om3_coeff.specs.Keys.{first_slot, end_slot}
-use Rattle.om3_coeff.specs.Spans.{IsValue, IsProper, Holds, AreExtremes}
+use Rattle.om3_coeff.specs.Spans.{IsProper, Holds, AreExtremes}
+use Rattle.whole_number.specs.Range.{IsValue}
 use Rattle.om3_coeff.proofs.KeyLemmas.{by_lt}
 use Rattle.view_keys.specs.Wanted.{Seen}
 use Rattle.needed_nodes.specs.declared.window.Window.{Window}

@@ -11,7 +11,8 @@ use Rattle.om3_coeff.specs.declared.key.Key.{Key}
 use Rattle.om3_coeff.specs.declared.span.Span.{Span}
 use Rattle.om3_coeff.specs.declared.coef.Coef.{Coef}
 use Rattle.om3_coeff.specs.Keys.{first_slot, end_slot, height, IsNode, IsKey}
-use Rattle.om3_coeff.specs.Spans.{IsValue, IsProper, Holds, span}
+use Rattle.om3_coeff.specs.Spans.{IsProper, Holds, span}
+use Rattle.whole_number.specs.Range.{IsValue}
 use Rattle.om3_coeff.specs.View.{NodesView, StaysSame}
 use Rattle.om3_coeff.proofs.ExtremeLemmas.{none-clear}
 use Rattle.om3_coeff.proofs.KeyLemmas.{by_lt, height_covers}
@@ -180,13 +181,13 @@ ends_of_one v w x c bs old new blocks same ends g =
     gathers_as v w (IsBelow bs.first.key) (IsInside w c) (HoldsSought w c sought_both) (MayHoldEnd w c)
     (most_ends (Some bs.first.span) sought_both bs.first.key) (2 * height w.axis.slots) old new
     (λ k below. inside_below w c bs.first.key k below blocks.first.inside)
-    (λ S served k below seen kind. elim kind [ inl first ↦ inl first.1 | inr last ↦ inr last.1 ])
-    (λ S served k node own seen kind. elim kind [
-      | inl before ↦ (below_first S w x c bs k blocks (ends S served) (node_key w k node) own seen before, inl (refl, before))
+    (λ S served k below seen kind. (kind.0, elim kind.1 [ inl first ↦ inl first.1 | inr last ↦ inr last.1 ]))
+    (λ S served k node own seen kind. elim kind.1 [
+      | inl before ↦ (below_first S w x c bs k blocks (ends S served) (node_key w k node) own seen before, (kind.0, inl (refl, before)))
       | inr behind ↦ (
         (let P : Block → Type 0 = λ b. IsBelow b.key k in
             subst P (sym same) (below_last S w x c bs k blocks (ends S served) (node_key w k node) own seen behind)),
-        inr (refl, behind),
+        (kind.0, inr (refl, behind)),
       )
     ])
     (omega (arith, blocks.first.key.high)) g
@@ -202,17 +203,23 @@ ends_of_two v u w x c bs old mid new blocks apart ends same g h =
       apart = λ k p q. omega (arith, p.to, q.from, apart, some_slot k);
       first = λ k below. inside_below w c bs.first.key k below blocks.first.inside;
       second = λ k below. inside_below w c bs.last.key k below blocks.last.inside;
-      first_kind = λ S served k node below seen kind. elim kind [
-        | inl first ↦ inl first.1
-        | inr last ↦ (let off : false ≡ true = last.0 in absurd (cc))
-      ];
-      second_kind = λ S served k node below seen kind. elim kind [
-        | inl first ↦ (let off : false ≡ true = first.0 in absurd (cc))
-        | inr last ↦ inr last.1
-      ];
-      covers = λ S served k node own seen kind. elim kind [
-        | inl before ↦ inl (below_first S w x c bs k blocks (ends S served) (node_key w k node) own seen before, inl (refl, before))
-        | inr behind ↦ inr (below_last S w x c bs k blocks (ends S served) (node_key w k node) own seen behind, inr (refl, behind))
+      first_kind = λ S served k node below seen kind. (
+        kind.0,
+        elim kind.1 [
+          | inl first ↦ inl first.1
+          | inr last ↦ (let off : false ≡ true = last.0 in absurd (cc))
+        ],
+      );
+      second_kind = λ S served k node below seen kind. (
+        kind.0,
+        elim kind.1 [
+          | inl first ↦ (let off : false ≡ true = first.0 in absurd (cc))
+          | inr last ↦ inr last.1
+        ],
+      );
+      covers = λ S served k node own seen kind. elim kind.1 [
+        | inl before ↦ inl (below_first S w x c bs k blocks (ends S served) (node_key w k node) own seen before, (kind.0, inl (refl, before)))
+        | inr behind ↦ inr (below_last S w x c bs k blocks (ends S served) (node_key w k node) own seen behind, (kind.0, inr (refl, behind)))
       ];
     } in
     gathers_join v w (IsBelow bs.first.key) (IsBelow bs.last.key) (IsInside w c) (HoldsSought w c sought_first) (HoldsSought w c sought_last) (MayHoldEnd w c)
@@ -222,7 +229,7 @@ ends_of_two v u w x c bs old mid new blocks apart ends same g h =
 
 -- the first stored value of the first block is that of the column
 pub first_of_column : (v : NodesView) (w : Window) (x c : ℕ) (bs : Blocks) (list : List (Option ℤ)) (o : Option ℤ) → AreBlocks w x c bs → ServesList v w list
-    → AreEnds (list_seen list) w w.end c bs → IsFirstIn list (first_slot bs.first.key) (end_slot bs.first.key) o → IsFirstOf list w c o
+    → AreEnds (list_seen list) w w.end c bs → IsFirstIn list w (first_slot bs.first.key) (end_slot bs.first.key) o → IsFirstOf list w c o
 first_of_column v w x c bs list None blocks served ends h = h
 first_of_column v w x c bs list (Some value) blocks served ends h = (
   h.0,
@@ -235,7 +242,7 @@ first_of_column v w x c bs list (Some value) blocks served ends h = (
 )
 
 pub last_of_column : (v : NodesView) (w : Window) (x c : ℕ) (bs : Blocks) (list : List (Option ℤ)) (o : Option ℤ) → AreBlocks w x c bs → ServesList v w list
-    → AreEnds (list_seen list) w w.end c bs → IsLastIn list (first_slot bs.last.key) (end_slot bs.last.key) o → IsLastOf list w c o
+    → AreEnds (list_seen list) w w.end c bs → IsLastIn list w (first_slot bs.last.key) (end_slot bs.last.key) o → IsLastOf list w c o
 last_of_column v w x c bs list None blocks served ends h = h
 last_of_column v w x c bs list (Some value) blocks served ends h = (
   h.0,
@@ -264,7 +271,7 @@ has_ends_one v t w x c bs old new values blocks same ends f = record {
   };
   first = λ list served. first_of_column v w x c bs list values.first blocks served (ends (list_seen list) served.serves) (f.first list served refl refl);
   last = λ list served.
-      let P : Block → Type 0 = λ b. IsLastIn list (first_slot b.key) (end_slot b.key) values.last in
+      let P : Block → Type 0 = λ b. IsLastIn list w (first_slot b.key) (end_slot b.key) values.last in
       last_of_column v w x c bs list values.last blocks served (ends (list_seen list) served.serves) (subst P same (f.last list served refl refl));
 }
 

@@ -7,10 +7,13 @@ use Rattle.chart_grid.specs.Slots.{IsInColumn}
 use Rattle.om3_coeff.specs.declared.key.Key.{Key}
 use Rattle.om3_coeff.specs.declared.span.Span.{Span}
 use Rattle.om3_coeff.specs.declared.coef.Coef.{Coef}
-use Rattle.om3_coeff.specs.Keys.{first_slot, end_slot, left_of, right_of, height, IsNode}
-use Rattle.om3_coeff.specs.Spans.{IsClear, AreExtremes, hull}
+use Rattle.om3_coeff.specs.Keys.{first_slot, end_slot, left_of, right_of, height, IsNode, IsAtOrAbove}
+use Rattle.om3_coeff.specs.Known.{known}
+use Rattle.om3_coeff.specs.Spans.{Holds, IsClear, AreExtremes, hull}
 use Rattle.om3_coeff.specs.View.{NodesView, StaysSame}
 use Rattle.om3_coeff.proofs.KeyLemmas.{by_lt, left_first, right_end, left_some, right_some, left_key, right_key}
+use Rattle.chart_grid.specs.Projection.{height as height_of}
+use Rattle.view_keys.specs.Flat.{IsFlat}
 use Rattle.view_keys.specs.Wanted.{Seen, IsWanted, IsClearBefore, IsClearBehind}
 use Rattle.needed_nodes.specs.declared.window.Window.{Window}
 use Rattle.needed_nodes.specs.declared.ends.Sought.{Sought}
@@ -19,11 +22,12 @@ use Rattle.needed_nodes.specs.Ranks.{IsInside, IsBelow}
 use Rattle.needed_nodes.specs.Answers.{CanSplit}
 use Rattle.needed_nodes.specs.Serving.{Serves, ServesList, shown_by, IsReady}
 use Rattle.needed_nodes.specs.Gathering.{Gathered}
-use Rattle.needed_nodes.specs.Ends.{MayHold, HoldsSought, one_if, most_ends, sought_left, sought_right, slot_values, either, halves_values, IsAmong, AreAmong, IsFirstIn, IsLastIn, Follows}
-use Rattle.needed_nodes.proofs.Nesting.{some_slot, left_below, right_below, below_on, below_itself, below_cases}
+use Rattle.needed_nodes.specs.Ends.{MayHold, HoldsSought, one_if, most_ends, sought_left, sought_right, slot_values, either, halves_values, IsAmong, AreAmong, HoldsAs, IsFirstIn, IsLastIn, Follows}
+use Rattle.needed_nodes.proofs.StoredEnds.{FirstStored, LastStored, first_stored, last_stored}
+use Rattle.needed_nodes.proofs.Nesting.{at_or_above, some_slot, left_below, right_below, below_on, below_itself, below_cases}
 use Rattle.needed_nodes.proofs.Nesting.BelowCase.{at_key, in_left, in_right}
 use Rattle.needed_nodes.proofs.RankLaws.{inside_below, inside_rank, rank_column}
-use Rattle.needed_nodes.proofs.ServeLaws.{HasSlot, unclear_slot, serves_later, serves_earlier, end_wanted, clear_slot, clear_key, node_of, stays_below_at, serves_list_later}
+use Rattle.needed_nodes.proofs.ServeLaws.{uneven_of, HasSlot, unclear_slot, serves_later, serves_earlier, end_wanted, clear_slot, clear_key, node_of, stays_below_at, serves_list_later}
 use Rattle.needed_nodes.proofs.GatherLaws.{gathers_nothing}
 use Rattle.needed_nodes.proofs.StepLaws.{list_extremes, list_none, Halves, gathers_halves, halves_apart, left_apart, right_apart, some_count}
 
@@ -45,10 +49,10 @@ is_none_true (Some x) h = absurd (cc)
 
 -- the key is one that the view wants where it may hold a sought end
 pub sought_wanted : (v : NodesView) (w : Window) (c : ℕ) (k : Key) (s : Span) (sought : Sought) → IsReady v w k (Some s) → 1 ≤ k.level → IsInside w c k
-    → IsTrue sought.first ⊎ IsTrue sought.last → ((S : Seen) → Serves v w S → MayHold S w c sought k)
-    → (S : Seen) → Serves v w S → IsWanted S w.axis w.grid k
-sought_wanted v w c k s sought ready low own some hold S served =
-    end_wanted S w c k s (node_of v w k (Some s) ready low) (ready.known S served) own
+    → (IsFlat w.lo w.hi w.grid.h s → ⊥) → IsTrue sought.first ⊎ IsTrue sought.last → ((S : Seen) → Serves v w S → MayHold S w c sought k)
+    → (S : Seen) → Serves v w S → IsWanted S w.axis w.grid w.lo w.hi k
+sought_wanted v w c k s sought ready low own uneven some hold S served =
+    end_wanted S w c k s (node_of v w k (Some s) ready low) (ready.known S served) own uneven
     (elim some [ inl first ↦ inl ((hold S served).first first) | inr last ↦ inr ((hold S served).last last) ])
 
 -- a half may hold what is sought in it
@@ -137,39 +141,51 @@ end_halves v u w c k sought left right node own same_views lready rready = recor
   own = below_itself k;
   left = λ b h. below_on k (left_of k) b (left_below k node.low) h;
   right = λ b h. below_on k (right_of k) b (right_below k node.low) h;
-  left_kind = λ S served b h seen kind. elim kind [
-    | inl first ↦ inl first
-    | inr last ↦ inr ((and_true sought.last (is_none right) last.0).0, last.1)
-  ];
-  right_kind = λ S served b h seen kind. elim kind [
-    | inl first ↦ inl ((and_true sought.first (is_none left) first.0).0, first.1)
-    | inr last ↦ inr last
-  ];
+  left_kind = λ S served b h seen kind. (
+    kind.0,
+    elim kind.1 [
+      | inl first ↦ inl first
+      | inr last ↦ inr ((and_true sought.last (is_none right) last.0).0, last.1)
+    ],
+  );
+  right_kind = λ S served b h seen kind. (
+    kind.0,
+    elim kind.1 [
+      | inl first ↦ inl ((and_true sought.first (is_none left) first.0).0, first.1)
+      | inr last ↦ inr last
+    ],
+  );
   covers = λ S served b bnode h seen kind.
       let later : Serves u w S = serves_later v u w S same_views served in
       elim (below_cases k b node.low h) [
         | at_key is ↦ inl is
         | in_left below ↦ inr (inl (
           below,
-          elim kind [
-            | inl first ↦ inl first
-            | inr last ↦ inr (
-              true_and sought.last (is_none right) last.0
-                  (is_none_true right (right_empty S w c k b right node own (rready.known S later) below last.1)),
-              last.1,
-            )
-          ],
+          (
+            kind.0,
+            elim kind.1 [
+              | inl first ↦ inl first
+              | inr last ↦ inr (
+                true_and sought.last (is_none right) last.0
+                    (is_none_true right (right_empty S w c k b right node own (rready.known S later) below last.1)),
+                last.1,
+              )
+            ],
+          ),
         ))
         | in_right below ↦ inr (inr (
           below,
-          elim kind [
-            | inl first ↦ inl (
-              true_and sought.first (is_none left) first.0
-                  (is_none_true left (left_empty S w c k b left node own (lready.known S later) below first.1)),
-              first.1,
-            )
-            | inr last ↦ inr last
-          ],
+          (
+            kind.0,
+            elim kind.1 [
+              | inl first ↦ inl (
+                true_and sought.first (is_none left) first.0
+                    (is_none_true left (left_empty S w c k b left node own (lready.known S later) below first.1)),
+                first.1,
+              )
+              | inr last ↦ inr last
+            ],
+          ),
         ))
       ];
 }
@@ -244,7 +260,7 @@ pub ends_unsought : (v : NodesView) (w : Window) (c : ℕ) (k : Key) (s : Option
     → Gathered v w (IsBelow k) (HoldsSought w c sought) (most_ends s sought k) items items
 ends_unsought v w c k s sought items off =
     gathers_nothing v w (IsBelow k) (HoldsSought w c sought) (most_ends s sought k) items
-    (λ S served b node part seen kind. elim kind [
+    (λ S served b node part seen kind. elim kind.1 [
       | inl first ↦ (let on : sought.first ≡ true = first.0 in let none : sought.first ≡ false = off.0 in cc)
       | inr last ↦ (let on : sought.last ≡ true = last.0 in let none : sought.last ≡ false = off.1 in cc)
     ])
@@ -255,16 +271,34 @@ ends_slot v w c k s sought items none =
     gathers_nothing v w (IsBelow k) (HoldsSought w c sought) (most_ends s sought k) items
     (λ S served b node part seen kind. omega (arith, node.low, part.lower))
 
+-- what is seen below a flat key is flat, and each value of a flat span has its height
+abbrev pub FlatBelow : Type 0
+FlatBelow =
+    (root : Option Span) (told : Key → Option Coef) (top : ℕ) (w k : Key) (lo hi : ℤ) (h : ℕ) (s t : Span)
+    → w.level ≤ top → IsAtOrAbove w k → known root told top w ≡ Some (Some t) → known root told top k ≡ Some (Some s)
+    → IsFlat lo hi h t → IsFlat lo hi h s
+
+abbrev pub FlatValues : Type 0
+FlatValues = (lo hi v : ℤ) (h : ℕ) (s : Span) → IsFlat lo hi h s → s.min ≤ℤ v → v ≤ℤ s.max → height_of v lo hi h ≡ height_of s.min lo hi h
+
+ends_flat : FlatBelow → (v : NodesView) (w : Window) (c : ℕ) (k : Key) (s : Span) (sought : Sought) (items : List (Key × Coef)) → IsReady v w k (Some s) → IsFlat w.lo w.hi w.grid.h s
+    → Gathered v w (IsBelow k) (HoldsSought w c sought) (most_ends (Some s) sought k) items items
+ends_flat below v w c k s sought items ready flat =
+    gathers_nothing v w (IsBelow k) (HoldsSought w c sought) (most_ends (Some s) sought k) items
+    (λ S served b node part seen kind.
+    kind.0 seen.0 seen.1
+    (below S.root S.told (height w.axis.slots) k b w.lo w.hi w.grid.h seen.0 s ready.key.high (at_or_above k b part) (ready.known S served) seen.1 flat))
+
 -- the keys of the halves, and the key
 pub ends_both : (v u t : NodesView) (w : Window) (c : ℕ) (k l r : Key) (s : Span) (sought sl sr : Sought) (left right : Option Span) (coef : Coef) (old one mid new : List (Key × Coef))
     → l ≡ left_of k → r ≡ right_of k → sl ≡ sought_left sought right → sr ≡ sought_right sought left
-    → IsReady v w k (Some s) → 1 ≤ k.level → IsInside w c k → IsTrue sought.first ⊎ IsTrue sought.last → ((S : Seen) → Serves v w S → MayHold S w c sought k)
+    → IsReady v w k (Some s) → 1 ≤ k.level → IsInside w c k → (IsFlat w.lo w.hi w.grid.h s → ⊥) → IsTrue sought.first ⊎ IsTrue sought.last → ((S : Seen) → Serves v w S → MayHold S w c sought k)
     → hull left right ≡ Some s → StaysSame v u → IsReady u w (left_of k) left → IsReady u w (right_of k) right
     → ((S : Seen) → Serves v w S → S.told k ≡ Some coef) → CanSplit coef → one ≡ old ++ (k, coef) ∷ []
     → Gathered u w (IsBelow l) (HoldsSought w c sl) (most_ends left sl l) one mid
     → StaysSame v t → Gathered t w (IsBelow r) (HoldsSought w c sr) (most_ends right sr r) mid new
     → Gathered v w (IsBelow k) (HoldsSought w c sought) (most_ends (Some s) sought k) old new
-ends_both v u t w c k l r s sought sl sr left right coef old one mid new el er esl esr ready low own some hold whole same_u lready rready told good is g same_t h =
+ends_both v u t w c k l r s sought sl sr left right coef old one mid new el er esl esr ready low own uneven some hold whole same_u lready rready told good is g same_t h =
     let node : IsNode (height w.axis.slots) k = node_of v w k (Some s) ready low in
     let L : Key → Sought → Type 0 = λ b x. Gathered u w (IsBelow b) (HoldsSought w c x) (most_ends left x b) one mid in
     let R : Key → Sought → Type 0 = λ b x. Gathered t w (IsBelow b) (HoldsSought w c x) (most_ends right x b) mid new in
@@ -279,7 +313,10 @@ ends_both v u t w c k l r s sought sl sr left right coef old one mid new el er e
     (most_ends_halves k (left_of k) (right_of k) sought (sought_left sought right) (sought_right sought left) s left right low refl refl refl refl some whole)
     node good
     (λ S served. record {
-      kind = elim some [ inl first ↦ inl (first, (hold S served).first first) | inr last ↦ inr (last, (hold S served).last last) ];
+      kind = (
+        uneven_of S w k s (ready.known S served) uneven,
+        elim some [ inl first ↦ inl (first, (hold S served).first first) | inr last ↦ inr (last, (hold S served).last last) ],
+      );
       seen = (s, ready.known S served);
       coef = told S served;
     })
@@ -336,32 +373,32 @@ among_slot s sought values order is =
     subst P (sym is) (record { first = cond_among sought.first s.min (IsAmong (Some s)) here; last = cond_among sought.last s.min (IsAmong (Some s)) here })
 
 -- the first stored value of a range
-first_wider : (list : List (Option ℤ)) (a b c : ℕ) (o : Option ℤ) → b ≤ c → IsFirstIn list a b o → IsFirstIn list a c o
-first_wider list a b c None le h = h
-first_wider list a b c (Some v) le h = (h.0, h.1, omega (arith, h.2), h.3, h.4)
+first_wider : (list : List (Option ℤ)) (w : Window) (a b c : ℕ) (o : Option ℤ) → b ≤ c → IsFirstIn list w a b o → IsFirstIn list w a c o
+first_wider list w a b c None le h = h
+first_wider list w a b c (Some v) le h = (h.0, h.1, omega (arith, h.2), h.3, h.4)
 
-first_later : (list : List (Option ℤ)) (a b c : ℕ) (o : Option ℤ) → a ≤ b → IsClear list a b → IsFirstIn list b c o → IsFirstIn list a c o
-first_later list a b c None le clear h = h
-first_later list a b c (Some v) le clear h =
+first_later : (list : List (Option ℤ)) (w : Window) (a b c : ℕ) (o : Option ℤ) → a ≤ b → IsClear list a b → IsFirstIn list w b c o → IsFirstIn list w a c o
+first_later list w a b c None le clear h = h
+first_later list w a b c (Some v) le clear h =
     (h.0, omega (arith, h.1), h.2, h.3, λ i x from to. by_lt i b (λ less. clear i x from less) (λ past. h.4 i x past to))
 
-last_wider : (list : List (Option ℤ)) (a b c : ℕ) (o : Option ℤ) → a ≤ b → IsLastIn list b c o → IsLastIn list a c o
-last_wider list a b c None le h = h
-last_wider list a b c (Some v) le h = (h.0, omega (arith, h.1), h.2, h.3, h.4)
+last_wider : (list : List (Option ℤ)) (w : Window) (a b c : ℕ) (o : Option ℤ) → a ≤ b → IsLastIn list w b c o → IsLastIn list w a c o
+last_wider list w a b c None le h = h
+last_wider list w a b c (Some v) le h = (h.0, omega (arith, h.1), h.2, h.3, h.4)
 
-last_earlier : (list : List (Option ℤ)) (a b c : ℕ) (o : Option ℤ) → b ≤ c → IsClear list b c → IsLastIn list a b o → IsLastIn list a c o
-last_earlier list a b c None le clear h = h
-last_earlier list a b c (Some v) le clear h =
+last_earlier : (list : List (Option ℤ)) (w : Window) (a b c : ℕ) (o : Option ℤ) → b ≤ c → IsClear list b c → IsLastIn list w a b o → IsLastIn list w a c o
+last_earlier list w a b c None le clear h = h
+last_earlier list w a b c (Some v) le clear h =
     (h.0, h.1, omega (arith, h.2), h.3, λ i x from to. by_lt i b (λ less. h.4 i x from less) (λ past. clear i x past to))
 
 -- where a value was found in the first part it is taken, else that of the second one
-either_first : (list : List (Option ℤ)) (x y : ℕ) (a b : Option ℤ) → IsFirstIn list x y a → IsFirstIn list x y (either a b)
-either_first list x y None b h = absurd h
-either_first list x y (Some v) b h = h
+either_first : (list : List (Option ℤ)) (w : Window) (x y : ℕ) (a b : Option ℤ) → IsFirstIn list w x y a → IsFirstIn list w x y (either a b)
+either_first list w x y None b h = absurd h
+either_first list w x y (Some v) b h = h
 
-either_last : (list : List (Option ℤ)) (x y : ℕ) (a b : Option ℤ) → IsLastIn list x y a → IsLastIn list x y (either a b)
-either_last list x y None b h = absurd h
-either_last list x y (Some v) b h = h
+either_last : (list : List (Option ℤ)) (w : Window) (x y : ℕ) (a b : Option ℤ) → IsLastIn list w x y a → IsLastIn list w x y (either a b)
+either_last list w x y None b h = absurd h
+either_last list w x y (Some v) b h = h
 
 none_among : (o : Option ℤ) → IfSome o (IsAmong None) → o ≡ None
 none_among None h = refl
@@ -369,102 +406,129 @@ none_among (Some v) h = absurd h
 
 first_by : (u : NodesView) (w : Window) (k : Key) (left right : Option Span) (f : Bool) (a b : Option ℤ) (s : Span) (list : List (Option ℤ)) → 1 ≤ k.level → hull left right ≡ Some s
     → IsReady u w (left_of k) left → ServesList u w list → IfSome a (IsAmong left) → f ≡ true
-    → (f ≡ true → IsSome left → IsFirstIn list (first_slot (left_of k)) (end_slot (left_of k)) a)
-    → ((f && is_none left) ≡ true → IsSome right → IsFirstIn list (first_slot (right_of k)) (end_slot (right_of k)) b)
-    → IsFirstIn list (first_slot k) (end_slot k) (either a b)
+    → (f ≡ true → IsSome left → IsFirstIn list w (first_slot (left_of k)) (end_slot (left_of k)) a)
+    → ((f && is_none left) ≡ true → IsSome right → IsFirstIn list w (first_slot (right_of k)) (end_slot (right_of k)) b)
+    → IsFirstIn list w (first_slot k) (end_slot k) (either a b)
 first_by u w k (Some l) right f a b s list low whole ready served among on h g =
-    let here : IsFirstIn list (first_slot (left_of k)) (end_slot (left_of k)) a = h on refl in
-    let P : ℕ → Type 0 = λ n. IsFirstIn list n (end_slot k) a in
-    either_first list (first_slot k) (end_slot k) a b
-    (subst P (left_first k low) (first_wider list (first_slot (left_of k)) (end_slot (left_of k)) (end_slot k) a (omega (arith, right_some k low)) here))
+    let here : IsFirstIn list w (first_slot (left_of k)) (end_slot (left_of k)) a = h on refl in
+    let P : ℕ → Type 0 = λ n. IsFirstIn list w n (end_slot k) a in
+    either_first list w (first_slot k) (end_slot k) a b
+    (subst P (left_first k low) (first_wider list w (first_slot (left_of k)) (end_slot (left_of k)) (end_slot k) a (omega (arith, right_some k low)) here))
 first_by u w k None None f a b s list low whole ready served among on h g = absurd (cc)
 first_by u w k None (Some r) f a b s list low whole ready served among on h g =
     let none : a ≡ None = none_among a among in
-    let there : IsFirstIn list (first_slot (right_of k)) (end_slot (right_of k)) b = g (true_and f true on refl) refl in
+    let there : IsFirstIn list w (first_slot (right_of k)) (end_slot (right_of k)) b = g (true_and f true on refl) refl in
     let clear : IsClear list (first_slot (left_of k)) (end_slot (left_of k)) = list_none u w (left_of k) list ready served in
-    let whole_range : IsFirstIn list (first_slot (left_of k)) (end_slot (right_of k)) b =
-    first_later list (first_slot (left_of k)) (first_slot (right_of k)) (end_slot (right_of k)) b (omega (arith, some_slot (left_of k))) clear there in
-    let P : ℕ → Type 0 = λ n. IsFirstIn list n (end_slot (right_of k)) b in
-    let Q : ℕ → Type 0 = λ n. IsFirstIn list (first_slot k) n b in
-    let R : Option ℤ → Type 0 = λ o. IsFirstIn list (first_slot k) (end_slot k) (either o b) in
+    let whole_range : IsFirstIn list w (first_slot (left_of k)) (end_slot (right_of k)) b =
+    first_later list w (first_slot (left_of k)) (first_slot (right_of k)) (end_slot (right_of k)) b (omega (arith, some_slot (left_of k))) clear there in
+    let P : ℕ → Type 0 = λ n. IsFirstIn list w n (end_slot (right_of k)) b in
+    let Q : ℕ → Type 0 = λ n. IsFirstIn list w (first_slot k) n b in
+    let R : Option ℤ → Type 0 = λ o. IsFirstIn list w (first_slot k) (end_slot k) (either o b) in
     subst R (sym none) (subst Q (right_end k low) (subst P (left_first k low) whole_range))
 
 last_by : (u : NodesView) (w : Window) (k : Key) (left right : Option Span) (f : Bool) (a b : Option ℤ) (s : Span) (list : List (Option ℤ)) → 1 ≤ k.level → hull left right ≡ Some s
     → IsReady u w (right_of k) right → ServesList u w list → IfSome b (IsAmong right) → f ≡ true
-    → ((f && is_none right) ≡ true → IsSome left → IsLastIn list (first_slot (left_of k)) (end_slot (left_of k)) a)
-    → (f ≡ true → IsSome right → IsLastIn list (first_slot (right_of k)) (end_slot (right_of k)) b)
-    → IsLastIn list (first_slot k) (end_slot k) (either b a)
+    → ((f && is_none right) ≡ true → IsSome left → IsLastIn list w (first_slot (left_of k)) (end_slot (left_of k)) a)
+    → (f ≡ true → IsSome right → IsLastIn list w (first_slot (right_of k)) (end_slot (right_of k)) b)
+    → IsLastIn list w (first_slot k) (end_slot k) (either b a)
 last_by u w k left (Some r) f a b s list low whole ready served among on h g =
-    let here : IsLastIn list (first_slot (right_of k)) (end_slot (right_of k)) b = g on refl in
-    let P : ℕ → Type 0 = λ n. IsLastIn list (first_slot k) n b in
-    either_last list (first_slot k) (end_slot k) b a
-    (subst P (right_end k low) (last_wider list (first_slot k) (first_slot (right_of k)) (end_slot (right_of k)) b (omega (arith, left_some k low)) here))
+    let here : IsLastIn list w (first_slot (right_of k)) (end_slot (right_of k)) b = g on refl in
+    let P : ℕ → Type 0 = λ n. IsLastIn list w (first_slot k) n b in
+    either_last list w (first_slot k) (end_slot k) b a
+    (subst P (right_end k low) (last_wider list w (first_slot k) (first_slot (right_of k)) (end_slot (right_of k)) b (omega (arith, left_some k low)) here))
 last_by u w k None None f a b s list low whole ready served among on h g = absurd (cc)
 last_by u w k (Some l) None f a b s list low whole ready served among on h g =
     let none : b ≡ None = none_among b among in
-    let there : IsLastIn list (first_slot (left_of k)) (end_slot (left_of k)) a = h (true_and f true on refl) refl in
+    let there : IsLastIn list w (first_slot (left_of k)) (end_slot (left_of k)) a = h (true_and f true on refl) refl in
     let clear : IsClear list (first_slot (right_of k)) (end_slot (right_of k)) = list_none u w (right_of k) list ready served in
-    let whole_range : IsLastIn list (first_slot (left_of k)) (end_slot (right_of k)) a =
-    last_earlier list (first_slot (left_of k)) (end_slot (left_of k)) (end_slot (right_of k)) a (omega (arith, some_slot (right_of k))) clear there in
-    let P : ℕ → Type 0 = λ n. IsLastIn list n (end_slot (right_of k)) a in
-    let Q : ℕ → Type 0 = λ n. IsLastIn list (first_slot k) n a in
-    let R : Option ℤ → Type 0 = λ o. IsLastIn list (first_slot k) (end_slot k) (either o a) in
+    let whole_range : IsLastIn list w (first_slot (left_of k)) (end_slot (right_of k)) a =
+    last_earlier list w (first_slot (left_of k)) (end_slot (left_of k)) (end_slot (right_of k)) a (omega (arith, some_slot (right_of k))) clear there in
+    let P : ℕ → Type 0 = λ n. IsLastIn list w n (end_slot (right_of k)) a in
+    let Q : ℕ → Type 0 = λ n. IsLastIn list w (first_slot k) n a in
+    let R : Option ℤ → Type 0 = λ o. IsLastIn list w (first_slot k) (end_slot k) (either o a) in
     subst R (sym none) (subst Q (right_end k low) (subst P (left_first k low) whole_range))
 
 -- the values of the halves under other names
 pub first_halves : (u : NodesView) (w : Window) (k l r : Key) (left right : Option Span) (sought sl sr : Sought) (lv rv values : EndValues) (s : Span) (list : List (Option ℤ)) → 1 ≤ k.level
     → l ≡ left_of k → r ≡ right_of k → sl ≡ sought_left sought right → sr ≡ sought_right sought left → hull left right ≡ Some s → values ≡ halves_values lv rv
     → IsReady u w (left_of k) left → ServesList u w list → AreAmong left lv → IsTrue sought.first
-    → (IsTrue sl.first → IsSome left → IsFirstIn list (first_slot l) (end_slot l) lv.first)
-    → (IsTrue sr.first → IsSome right → IsFirstIn list (first_slot r) (end_slot r) rv.first)
-    → IsFirstIn list (first_slot k) (end_slot k) values.first
+    → (IsTrue sl.first → IsSome left → IsFirstIn list w (first_slot l) (end_slot l) lv.first)
+    → (IsTrue sr.first → IsSome right → IsFirstIn list w (first_slot r) (end_slot r) rv.first)
+    → IsFirstIn list w (first_slot k) (end_slot k) values.first
 first_halves u w k l r left right sought sl sr lv rv values s list low el er esl esr whole is ready served among on h g =
-    let H : Key → Sought → Type 0 = λ b x. IsTrue x.first → IsSome left → IsFirstIn list (first_slot b) (end_slot b) lv.first in
-    let G : Key → Sought → Type 0 = λ b x. IsTrue x.first → IsSome right → IsFirstIn list (first_slot b) (end_slot b) rv.first in
+    let H : Key → Sought → Type 0 = λ b x. IsTrue x.first → IsSome left → IsFirstIn list w (first_slot b) (end_slot b) lv.first in
+    let G : Key → Sought → Type 0 = λ b x. IsTrue x.first → IsSome right → IsFirstIn list w (first_slot b) (end_slot b) rv.first in
     let hl : H (left_of k) (sought_left sought right) =
     (let P : Key → Type 0 = λ b. H b (sought_left sought right) in let Q : Sought → Type 0 = λ x. H l x in subst P el (subst Q esl h)) in
     let gr : G (right_of k) (sought_right sought left) =
     (let P : Key → Type 0 = λ b. G b (sought_right sought left) in let Q : Sought → Type 0 = λ x. G r x in subst P er (subst Q esr g)) in
-    let R : EndValues → Type 0 = λ x. IsFirstIn list (first_slot k) (end_slot k) x.first in
+    let R : EndValues → Type 0 = λ x. IsFirstIn list w (first_slot k) (end_slot k) x.first in
     subst R (sym is) (first_by u w k left right sought.first lv.first rv.first s list low whole ready served among.first on hl gr)
 
 pub last_halves : (u : NodesView) (w : Window) (k l r : Key) (left right : Option Span) (sought sl sr : Sought) (lv rv values : EndValues) (s : Span) (list : List (Option ℤ)) → 1 ≤ k.level
     → l ≡ left_of k → r ≡ right_of k → sl ≡ sought_left sought right → sr ≡ sought_right sought left → hull left right ≡ Some s → values ≡ halves_values lv rv
     → IsReady u w (right_of k) right → ServesList u w list → AreAmong right rv → IsTrue sought.last
-    → (IsTrue sl.last → IsSome left → IsLastIn list (first_slot l) (end_slot l) lv.last)
-    → (IsTrue sr.last → IsSome right → IsLastIn list (first_slot r) (end_slot r) rv.last)
-    → IsLastIn list (first_slot k) (end_slot k) values.last
+    → (IsTrue sl.last → IsSome left → IsLastIn list w (first_slot l) (end_slot l) lv.last)
+    → (IsTrue sr.last → IsSome right → IsLastIn list w (first_slot r) (end_slot r) rv.last)
+    → IsLastIn list w (first_slot k) (end_slot k) values.last
 last_halves u w k l r left right sought sl sr lv rv values s list low el er esl esr whole is ready served among on h g =
-    let H : Key → Sought → Type 0 = λ b x. IsTrue x.last → IsSome left → IsLastIn list (first_slot b) (end_slot b) lv.last in
-    let G : Key → Sought → Type 0 = λ b x. IsTrue x.last → IsSome right → IsLastIn list (first_slot b) (end_slot b) rv.last in
+    let H : Key → Sought → Type 0 = λ b x. IsTrue x.last → IsSome left → IsLastIn list w (first_slot b) (end_slot b) lv.last in
+    let G : Key → Sought → Type 0 = λ b x. IsTrue x.last → IsSome right → IsLastIn list w (first_slot b) (end_slot b) rv.last in
     let hl : H (left_of k) (sought_left sought right) =
     (let P : Key → Type 0 = λ b. H b (sought_left sought right) in let Q : Sought → Type 0 = λ x. H l x in subst P el (subst Q esl h)) in
     let gr : G (right_of k) (sought_right sought left) =
     (let P : Key → Type 0 = λ b. G b (sought_right sought left) in let Q : Sought → Type 0 = λ x. G r x in subst P er (subst Q esr g)) in
-    let R : EndValues → Type 0 = λ x. IsLastIn list (first_slot k) (end_slot k) x.last in
+    let R : EndValues → Type 0 = λ x. IsLastIn list w (first_slot k) (end_slot k) x.last in
     subst R (sym is) (last_by u w k left right sought.last lv.last rv.last s list low whole ready served among.last on hl gr)
+
+-- a value has its own height
+itself : (list : List (Option ℤ)) (w : Window) (i : ℕ) (v : ℤ) → Holds list i v → HoldsAs list w i v
+itself list w i v holds = record { value = v; stored = holds; same = refl }
 
 -- a range of one slot
 one_slot : (k : Key) → k.level ≡ 0 → end_slot k ≡ first_slot k + 1
 one_slot k none = omega (arith, ap (λ n. k.index * 2 ^ n) none, ap (λ n. (k.index + 1) * 2 ^ n) none)
 
 pub first_slot_value : (v : NodesView) (w : Window) (k : Key) (s : Span) (sought : Sought) (values : EndValues) (list : List (Option ℤ)) → k.level ≡ 0 → values ≡ slot_values sought s.min
-    → IsReady v w k (Some s) → ServesList v w list → IsTrue sought.first → IsFirstIn list (first_slot k) (end_slot k) values.first
+    → IsReady v w k (Some s) → ServesList v w list → IsTrue sought.first → IsFirstIn list w (first_slot k) (end_slot k) values.first
 first_slot_value v w k s sought values list none is ready served on =
     let h : AreExtremes list (first_slot k) (end_slot k) s = list_extremes v w k s list ready served in
     let one : end_slot k ≡ first_slot k + 1 = one_slot k none in
     let value : values.first ≡ Some s.min = ap (λ x. x.first) is ∙ ap (λ b. cond b (Some s.min) None) on in
-    let P : Option ℤ → Type 0 = λ o. IsFirstIn list (first_slot k) (end_slot k) o in
-    subst P (sym value) (h.least.slot, h.least.low, h.least.high, h.least.holds, λ i x from to. absurd (omega (arith, h.least.high, one)))
+    let P : Option ℤ → Type 0 = λ o. IsFirstIn list w (first_slot k) (end_slot k) o in
+    subst P (sym value) (h.least.slot, h.least.low, h.least.high, itself list w h.least.slot s.min h.least.holds, λ i x from to. absurd (omega (arith, h.least.high, one)))
 
 pub last_slot_value : (v : NodesView) (w : Window) (k : Key) (s : Span) (sought : Sought) (values : EndValues) (list : List (Option ℤ)) → k.level ≡ 0 → values ≡ slot_values sought s.min
-    → IsReady v w k (Some s) → ServesList v w list → IsTrue sought.last → IsLastIn list (first_slot k) (end_slot k) values.last
+    → IsReady v w k (Some s) → ServesList v w list → IsTrue sought.last → IsLastIn list w (first_slot k) (end_slot k) values.last
 last_slot_value v w k s sought values list none is ready served on =
     let h : AreExtremes list (first_slot k) (end_slot k) s = list_extremes v w k s list ready served in
     let one : end_slot k ≡ first_slot k + 1 = one_slot k none in
     let value : values.last ≡ Some s.min = ap (λ x. x.last) is ∙ ap (λ b. cond b (Some s.min) None) on in
-    let P : Option ℤ → Type 0 = λ o. IsLastIn list (first_slot k) (end_slot k) o in
-    subst P (sym value) (h.least.slot, h.least.low, h.least.high, h.least.holds, λ i x from to. absurd (omega (arith, h.least.low, one)))
+    let P : Option ℤ → Type 0 = λ o. IsLastIn list w (first_slot k) (end_slot k) o in
+    subst P (sym value) (h.least.slot, h.least.low, h.least.high, itself list w h.least.slot s.min h.least.holds, λ i x from to. absurd (omega (arith, h.least.low, one)))
+
+-- a range of one height: each of its values stands for the first and for the last one
+pub first_flat_value : FlatValues → (v : NodesView) (w : Window) (k : Key) (s : Span) (sought : Sought) (values : EndValues) (list : List (Option ℤ)) → IsFlat w.lo w.hi w.grid.h s
+    → values ≡ slot_values sought s.min → IsReady v w k (Some s) → ServesList v w list → IsTrue sought.first → IsFirstIn list w (first_slot k) (end_slot k) values.first
+first_flat_value level v w k s sought values list flat is ready served on =
+    let h : AreExtremes list (first_slot k) (end_slot k) s = list_extremes v w k s list ready served in
+    let m : FirstStored list (first_slot k) (end_slot k) = first_stored list (first_slot k) (end_slot k) h.least.slot s.min h.least.low h.least.high h.least.holds in
+    let value : values.first ≡ Some s.min = ap (λ x. x.first) is ∙ ap (λ b. cond b (Some s.min) None) on in
+    let P : Option ℤ → Type 0 = λ o. IsFirstIn list w (first_slot k) (end_slot k) o in
+    let same : height_of m.value w.lo w.hi w.grid.h ≡ height_of s.min w.lo w.hi w.grid.h =
+    level w.lo w.hi m.value w.grid.h s flat (h.above m.slot m.value m.from m.to m.holds) (h.below m.slot m.value m.from m.to m.holds) in
+    subst P (sym value) (m.slot, m.from, m.to, record { value = m.value; stored = m.holds; same = sym same }, m.clear)
+
+pub last_flat_value : FlatValues → (v : NodesView) (w : Window) (k : Key) (s : Span) (sought : Sought) (values : EndValues) (list : List (Option ℤ)) → IsFlat w.lo w.hi w.grid.h s
+    → values ≡ slot_values sought s.min → IsReady v w k (Some s) → ServesList v w list → IsTrue sought.last → IsLastIn list w (first_slot k) (end_slot k) values.last
+last_flat_value level v w k s sought values list flat is ready served on =
+    let h : AreExtremes list (first_slot k) (end_slot k) s = list_extremes v w k s list ready served in
+    let m : LastStored list (first_slot k) (end_slot k) = last_stored list (first_slot k) (end_slot k) h.least.slot s.min h.least.low h.least.high h.least.holds in
+    let value : values.last ≡ Some s.min = ap (λ x. x.last) is ∙ ap (λ b. cond b (Some s.min) None) on in
+    let P : Option ℤ → Type 0 = λ o. IsLastIn list w (first_slot k) (end_slot k) o in
+    let same : height_of m.value w.lo w.hi w.grid.h ≡ height_of s.min w.lo w.hi w.grid.h =
+    level w.lo w.hi m.value w.grid.h s flat (h.above m.slot m.value m.from m.to m.holds) (h.below m.slot m.value m.from m.to m.holds) in
+    subst P (sym value) (m.slot, m.from, m.to, record { value = m.value; stored = m.holds; same = sym same }, m.clear)
 
 -- What a walk finds: below a key with no span, where nothing is sought, at a slot, and below a key.
 pub follows_none : (v : NodesView) (w : Window) (c : ℕ) (k : Key) (s : Option Span) (sought : Sought) (items : List (Key × Coef)) (values : EndValues) → s ≡ None → IsReady v w k s
@@ -505,21 +569,35 @@ follows_slot v w c k s o sought items values is given none set =
       last = λ list served on some. last_slot_value v w k s sought values list none set ready served on;
     })
 
+pub follows_flat : FlatBelow → FlatValues → (v : NodesView) (w : Window) (c : ℕ) (k : Key) (s : Span) (o : Option Span) (sought : Sought) (items : List (Key × Coef)) (values : EndValues) → o ≡ Some s
+    → IsReady v w k o → IsFlat w.lo w.hi w.grid.h s → values ≡ slot_values sought s.min → Follows v v w c k o sought items items values
+follows_flat below level v w c k s o sought items values is given flat set =
+    let P : Option Span → Type 0 = λ o. IsReady v w k o in
+    let ready : IsReady v w k (Some s) = subst P is given in
+    let Q : Option Span → Type 0 = λ o. Follows v v w c k o sought items items values in
+    subst Q (sym is) (record {
+      below = inl refl;
+      gathered = ends_flat below v w c k s sought items ready flat;
+      among = among_slot s sought values ready.proper.ordered set;
+      first = λ list served on some. first_flat_value level v w k s sought values list flat set ready served on;
+      last = λ list served on some. last_flat_value level v w k s sought values list flat set ready served on;
+    })
+
 pub follows_halves : (v u t z : NodesView) (w : Window) (c : ℕ) (k l r : Key) (s : Span) (o : Option Span) (sought sl sr : Sought) (left right : Option Span) (coef : Coef)
     (old one mid new : List (Key × Coef)) (lv rv values : EndValues)
     → l ≡ left_of k → r ≡ right_of k → sl ≡ sought_left sought right → sr ≡ sought_right sought left
-    → o ≡ Some s → IsReady v w k o → 1 ≤ k.level → IsInside w c k → IsTrue sought.first ⊎ IsTrue sought.last → ((S : Seen) → Serves v w S → MayHold S w c sought k)
+    → o ≡ Some s → IsReady v w k o → 1 ≤ k.level → IsInside w c k → (IsFlat w.lo w.hi w.grid.h s → ⊥) → IsTrue sought.first ⊎ IsTrue sought.last → ((S : Seen) → Serves v w S → MayHold S w c sought k)
     → hull left right ≡ Some s → u.asked ≡ Some k → StaysSame v u → IsReady u w (left_of k) left → IsReady u w (right_of k) right
     → ((S : Seen) → Serves v w S → S.told k ≡ Some coef) → CanSplit coef → one ≡ old ++ (k, coef) ∷ []
     → Follows u t w c l left sl one mid lv → StaysSame v t → Follows t z w c r right sr mid new rv → values ≡ halves_values lv rv
     → Follows v z w c k o sought old new values
-follows_halves v u t z w c k l r s o sought sl sr left right coef old one mid new lv rv values el er esl esr is given low own some hold whole asked same_u lready rready told good pushed g same_t h set =
+follows_halves v u t z w c k l r s o sought sl sr left right coef old one mid new lv rv values el er esl esr is given low own uneven some hold whole asked same_u lready rready told good pushed g same_t h set =
     let P : Option Span → Type 0 = λ o. IsReady v w k o in
     let ready : IsReady v w k (Some s) = subst P is given in
     let Q : Option Span → Type 0 = λ o. Follows v z w c k o sought old new values in
     subst Q (sym is) (record {
       below = stays_below_at k l r v.asked u.asked t.asked z.asked low el er asked g.below h.below;
-      gathered = ends_both v u t w c k l r s sought sl sr left right coef old one mid new el er esl esr ready low own some hold whole same_u lready rready told good pushed g.gathered same_t h.gathered;
+      gathered = ends_both v u t w c k l r s sought sl sr left right coef old one mid new el er esl esr ready low own uneven some hold whole same_u lready rready told good pushed g.gathered same_t h.gathered;
       among = among_halves s left right lv rv values whole g.among h.among set;
       first = λ list served on some.
           first_halves u w k l r left right sought sl sr lv rv values s list low el er esl esr whole set lready (serves_list_later v u w list same_u served) g.among on
@@ -561,8 +639,8 @@ far_both k l r sought sl sr s left right r0 r1 r2 r3 far o is low el er esl esr 
     omega (arith, end_reads_both k l r sought sl sr s left right (r0 + far) r1 r2 r3 o is low el er esl esr some whole (omega (arith, a)) b d)
 
 pub sought_wanted_as : (v : NodesView) (w : Window) (c : ℕ) (k : Key) (s : Span) (o : Option Span) (sought : Sought) → o ≡ Some s → IsReady v w k o → 1 ≤ k.level → IsInside w c k
-    → IsTrue sought.first ⊎ IsTrue sought.last → ((S : Seen) → Serves v w S → MayHold S w c sought k)
-    → (S : Seen) → Serves v w S → IsWanted S w.axis w.grid k
-sought_wanted_as v w c k s o sought is given low own some hold =
+    → (IsFlat w.lo w.hi w.grid.h s → ⊥) → IsTrue sought.first ⊎ IsTrue sought.last → ((S : Seen) → Serves v w S → MayHold S w c sought k)
+    → (S : Seen) → Serves v w S → IsWanted S w.axis w.grid w.lo w.hi k
+sought_wanted_as v w c k s o sought is given low own uneven some hold =
     let P : Option Span → Type 0 = λ o. IsReady v w k o in
-    sought_wanted v w c k s sought (subst P is given) low own some hold
+    sought_wanted v w c k s sought (subst P is given) low own uneven some hold

@@ -166,25 +166,25 @@ node_below w k node = record {
 window_keys : (v u : NodesView) (w : Window) (top : Key) (old mid new : List (Key × Coef)) → top ≡ top_key w.axis.slots → StaysSame v u
     → Gathered v w (IsCutBelow w top) (λ S k. ⊤) (most_cut w top) old mid
     → Gathered u w (IsInColumns w w.grid.w) (IsEndKey w) (w.grid.w * (2 * height w.axis.slots)) mid new
-    → Gathered v w (λ k. ⊤) (λ S. IsWanted S w.axis w.grid) (most_needed w.grid.w w.axis.slots) old new
+    → Gathered v w (λ k. ⊤) (λ S. IsWanted S w.axis w.grid w.lo w.hi) (most_needed w.grid.w w.axis.slots) old new
 window_keys v u w top old mid new is same g h =
     let P : Key → Type 0 = λ t. (k : Key) → IsNode (height w.axis.slots) k → IsBelow t k in
     let top_below : P top = subst P (sym is) (node_below w) in
-    let joins : Joins v w (IsCutBelow w top) (IsInColumns w w.grid.w) (λ k. ⊤) (λ S k. ⊤) (IsEndKey w) (λ S. IsWanted S w.axis w.grid) = record {
+    let joins : Joins v w (IsCutBelow w top) (IsInColumns w w.grid.w) (λ k. ⊤) (λ S k. ⊤) (IsEndKey w) (λ S. IsWanted S w.axis w.grid w.lo w.hi) = record {
       apart = λ k cut part. inside_not_cut w part.column k part.inside cut.cut;
       first = λ k cut. tt;
       second = λ k part. tt;
       first_kind = λ S served k node cut seen kind. cut_wanted S w k seen.0 node seen.1 cut.cut;
-      second_kind = λ S served k node part seen kind. end_wanted S w kind.column k seen.0 node seen.1 kind.inside kind.clear;
+      second_kind = λ S served k node part seen kind. end_wanted S w kind.column k seen.0 node seen.1 kind.inside (kind.clear.0 seen.0 seen.1) kind.clear.1;
       covers = λ S served k node part seen wanted. elim (wanted_cases S w k wanted) [
         | inl cut ↦ inl (record { below = top_below k node; cut = cut }, tt)
         | inr end ↦ inr (
           record { column = end.column; below = end.inside.shown; inside = end.inside },
-          record { column = end.column; inside = end.inside; clear = end.clear },
+          record { column = end.column; inside = end.inside; clear = (end.uneven, end.clear) },
         )
       ];
     } in
-    gathers_join v w (IsCutBelow w top) (IsInColumns w w.grid.w) (λ k. ⊤) (λ S k. ⊤) (IsEndKey w) (λ S. IsWanted S w.axis w.grid)
+    gathers_join v w (IsCutBelow w top) (IsInColumns w w.grid.w) (λ k. ⊤) (λ S k. ⊤) (IsEndKey w) (λ S. IsWanted S w.axis w.grid w.lo w.hi)
     (most_cut w top) (w.grid.w * (2 * height w.axis.slots)) (most_needed w.grid.w w.axis.slots) old mid new joins
     (count_all (height w.axis.slots) (most_cut w top) w.grid.w (w.grid.w * (2 * height w.axis.slots)) (cut_most w top is) refl) g
     (gathers_earlier v u w (IsInColumns w w.grid.w) (IsEndKey w) (w.grid.w * (2 * height w.axis.slots)) mid new same h)
@@ -203,15 +203,15 @@ explores_window v u w top n old mid new rows slots count is same g h = record {
 -- the law of needed and wanted keys, at a list's own tree
 abbrev pub WantedLaw : Type 0
 WantedLaw =
-    (list : List (Option ℤ)) (axis : Axis) (grid : Grid) (seen : Seen) → AreSlots list → length list ≤ 2 ^ 35 → axis.slots ≡ length list → seen.root ≡ span list (top_key (length list))
-    → ((k : Key) → IsNeeded list axis grid k → IsWanted seen axis grid k → seen.told k ≡ Some (coef list k))
-    → (k : Key) → IsWanted seen axis grid k ↔ IsNeeded list axis grid k
+    (list : List (Option ℤ)) (axis : Axis) (grid : Grid) (lo hi : ℤ) (seen : Seen) → AreSlots list → length list ≤ 2 ^ 35 → axis.slots ≡ length list → seen.root ≡ span list (top_key (length list))
+    → ((k : Key) → IsNeeded list axis grid lo hi k → IsWanted seen axis grid lo hi k → seen.told k ≡ Some (coef list k))
+    → (k : Key) → IsWanted seen axis grid lo hi k ↔ IsNeeded list axis grid lo hi k
 
-pub list_law : WantedLaw → (v : NodesView) (axis : Axis) (grid : Grid) (list : List (Option ℤ)) → axis.slots ≡ v.slots → AgreesForView v axis grid list
-    → (k : Key) → IsWanted (list_seen list) axis grid k ↔ IsNeeded list axis grid k
-list_law law v axis grid list slots agrees = law list axis grid (list_seen list) agrees.values agrees.few (slots ∙ agrees.slots) refl (λ k needed wanted. refl)
+pub list_law : WantedLaw → (v : NodesView) (axis : Axis) (grid : Grid) (lo hi : ℤ) (list : List (Option ℤ)) → axis.slots ≡ v.slots → AgreesForView v axis grid lo hi list
+    → (k : Key) → IsWanted (list_seen list) axis grid lo hi k ↔ IsNeeded list axis grid lo hi k
+list_law law v axis grid lo hi list slots agrees = law list axis grid lo hi (list_seen list) agrees.values agrees.few (slots ∙ agrees.slots) refl (λ k needed wanted. refl)
 
-pub agrees_serves : WantedLaw → (v : NodesView) (w : Window) (list : List (Option ℤ)) → w.axis.slots ≡ v.slots → AgreesForView v w.axis w.grid list → ServesList v w list
+pub agrees_serves : WantedLaw → (v : NodesView) (w : Window) (list : List (Option ℤ)) → w.axis.slots ≡ v.slots → AgreesForView v w.axis w.grid w.lo w.hi list → ServesList v w list
 agrees_serves law v w list slots agrees = record {
   values = agrees.values;
   few = agrees.few;
@@ -220,16 +220,16 @@ agrees_serves law v w list slots agrees = record {
     tells = agrees.tells;
     root = agrees.root;
     told = λ k wanted.
-        let needed : IsNeeded list w.axis w.grid k = (list_law law v w.axis w.grid list slots agrees k).0 wanted in
+        let needed : IsNeeded list w.axis w.grid w.lo w.hi k = (list_law law v w.axis w.grid w.lo w.hi list slots agrees k).0 wanted in
         agrees.told k needed.node needed.stored needed;
   };
 }
 
 -- the keys that were gathered of a window are all wanted keys
-all_of_window : (v : NodesView) (w : Window) (S : Seen) (new : List (Key × Coef)) → Gathered v w (λ k. ⊤) (λ S. IsWanted S w.axis w.grid) (most_needed w.grid.w w.axis.slots) [] new
-    → Serves v w S → AreAllOf (IsWanted S w.axis w.grid) S.told new
+all_of_window : (v : NodesView) (w : Window) (S : Seen) (new : List (Key × Coef)) → Gathered v w (λ k. ⊤) (λ S. IsWanted S w.axis w.grid w.lo w.hi) (most_needed w.grid.w w.axis.slots) [] new
+    → Serves v w S → AreAllOf (IsWanted S w.axis w.grid w.lo w.hi) S.told new
 all_of_window v w S new g served =
-    let P : List (Key × Coef) → Type 0 = λ es. AreAllOf (IsWanted S w.axis w.grid) S.told es in
+    let P : List (Key × Coef) → Type 0 = λ es. AreAllOf (IsWanted S w.axis w.grid w.lo w.hi) S.told es in
     subst P (sym g.is) (record {
       each = λ k d less. (g.told S served k d less).kind;
       all = λ k wanted. g.all S served k wanted.node tt (wanted.span, wanted.known_so) wanted;
@@ -243,9 +243,9 @@ all_as Kind Kind' coefs es same h = record {
   coefs = h.coefs;
 }
 
-window_explores : WantedLaw → (v : NodesView) (w : Window) (new : List (Key × Coef)) (rows : List Row) → w.axis.slots ≡ v.slots → ExploresWindow v w [] new rows → Explores v w.axis w.grid new rows
+window_explores : WantedLaw → (v : NodesView) (w : Window) (new : List (Key × Coef)) (rows : List Row) → w.axis.slots ≡ v.slots → ExploresWindow v w [] new rows → Explores v w.axis w.grid w.lo w.hi new rows
 window_explores law v w new rows slots h =
-    let g : Gathered v w (λ k. ⊤) (λ S. IsWanted S w.axis w.grid) (most_needed w.grid.w w.axis.slots) [] new = h.gathered in
+    let g : Gathered v w (λ k. ⊤) (λ S. IsWanted S w.axis w.grid w.lo w.hi) (most_needed w.grid.w w.axis.slots) [] new = h.gathered in
     let P : List (Key × Coef) → Type 0 = λ es. All (IsEntry w.axis.slots) es in
     let Q : List (Key × Coef) → Type 0 = λ es. AreApart es in
     record {
@@ -254,30 +254,39 @@ window_explores law v w new rows slots h =
       few = omega (arith, g.few, ap length g.is);
       told = λ tells. all_of_window v w (seen_of v) new g (serves_own v w tells);
       of_list = λ list agrees.
-          all_as (IsWanted (list_seen list) w.axis w.grid) (IsNeeded list w.axis w.grid) (λ k. Some (coef list k)) new (list_law law v w.axis w.grid list slots agrees)
+          all_as (IsWanted (list_seen list) w.axis w.grid w.lo w.hi) (IsNeeded list w.axis w.grid w.lo w.hi) (λ k. Some (coef list k)) new (list_law law v w.axis w.grid w.lo w.hi list slots agrees)
           (all_of_window v w (list_seen list) new g (agrees_serves law v w list slots agrees).serves);
       rising = h.rising;
       shown = h.shown;
       rows_of_list = λ list agrees. h.of_list list (agrees_serves law v w list slots agrees);
     }
 
-pub explores_as : WantedLaw → (v : NodesView) (w : Window) (axis : Axis) (grid : Grid) (old new : List (Key × Coef)) (rows : List Row) → w.axis ≡ axis → w.grid ≡ grid → axis.slots ≡ v.slots → old ≡ []
-    → ExploresWindow v w old new rows → Explores v axis grid new rows
-explores_as law v w axis grid old new rows ea eg slots none h =
-    let A : Axis → Type 0 = λ a. Explores v a grid new rows in
-    let G : Grid → Type 0 = λ g. Explores v w.axis g new rows in
+pub explores_as : WantedLaw → (v : NodesView) (w : Window) (axis : Axis) (grid : Grid) (lo hi : ℤ) (old new : List (Key × Coef)) (rows : List Row) → w.axis ≡ axis → w.grid ≡ grid → w.lo ≡ lo → w.hi ≡ hi → axis.slots ≡ v.slots → old ≡ []
+    → ExploresWindow v w old new rows → Explores v axis grid lo hi new rows
+explores_as law v w axis grid lo hi old new rows ea eg el eh slots none h =
+    let A : Axis → Type 0 = λ a. Explores v a grid lo hi new rows in
+    let G : Grid → Type 0 = λ g. Explores v w.axis g lo hi new rows in
+    let L : ℤ → Type 0 = λ x. Explores v w.axis w.grid x hi new rows in
+    let H : ℤ → Type 0 = λ x. Explores v w.axis w.grid w.lo x new rows in
     let O : List (Key × Coef) → Type 0 = λ es. ExploresWindow v w es new rows in
-    subst A ea (subst G eg (window_explores law v w new rows (ap (λ a. a.slots) ea ∙ slots) (subst O none h)))
+    subst A ea (subst G eg (subst L el (subst H eh (window_explores law v w new rows (ap (λ a. a.slots) ea ∙ slots) (subst O none h)))))
+
+-- the same where the ends of the range have other names
+pub explores_at : (v : NodesView) (axis : Axis) (grid : Grid) (a b lo hi : ℤ) (keys : List (Key × Coef)) (rows : List Row) → a ≡ lo → b ≡ hi → Explores v axis grid a b keys rows → Explores v axis grid lo hi keys rows
+explores_at v axis grid a b lo hi keys rows el eh h =
+    let L : ℤ → Type 0 = λ x. Explores v axis grid x hi keys rows in
+    let H : ℤ → Type 0 = λ x. Explores v axis grid a x keys rows in
+    subst L el (subst H eh h)
 
 -- a view that shows no slot wants and needs no key
-none_wanted : (S : Seen) (axis : Axis) (grid : Grid) (k : Key) → ((c i : ℕ) → IsInColumn axis grid c i → ⊥) → IsWanted S axis grid k → ⊥
-none_wanted S axis grid k none wanted = elim wanted.reason [
+none_wanted : (S : Seen) (axis : Axis) (grid : Grid) (lo hi : ℤ) (k : Key) → ((c i : ℕ) → IsInColumn axis grid c i → ⊥) → IsWanted S axis grid lo hi k → ⊥
+none_wanted S axis grid lo hi k none wanted = elim wanted.reason [
   | inl cut ↦ none wanted.column cut.slot cut.in_column
   | inr own ↦ none wanted.column (first_slot k) (own.0 (first_slot k) (record { from = le_refl (first_slot k); to = some_slot k }))
 ]
 
-none_needed : (list : List (Option ℤ)) (axis : Axis) (grid : Grid) (k : Key) → ((c i : ℕ) → IsInColumn axis grid c i → ⊥) → IsNeeded list axis grid k → ⊥
-none_needed list axis grid k none needed = elim needed.reason [
+none_needed : (list : List (Option ℤ)) (axis : Axis) (grid : Grid) (lo hi : ℤ) (k : Key) → ((c i : ℕ) → IsInColumn axis grid c i → ⊥) → IsNeeded list axis grid lo hi k → ⊥
+none_needed list axis grid lo hi k none needed = elim needed.reason [
   | inl cut ↦ none needed.column cut.slot cut.in_column
   | inr own ↦ none needed.column (first_slot k) (own.0 (first_slot k) (record { from = le_refl (first_slot k); to = some_slot k }))
 ]
@@ -289,29 +298,31 @@ all_none Kind coefs none = record {
   coefs = All-nil (λ e. coefs e.0 ≡ Some e.1);
 }
 
-pub explores_nothing : (v : NodesView) (axis : Axis) (grid : Grid) (es : List (Key × Coef)) (rows : List Row) → axis.slots ≡ v.slots → es ≡ [] → rows ≡ [] → ((c i : ℕ) → IsInColumn axis grid c i → ⊥)
-    → Explores v axis grid es rows
-explores_nothing v axis grid es rows slots no_keys none_shown none =
-    let P : List (Key × Coef) → Type 0 = λ es. Explores v axis grid es rows in
-    let Q : List Row → Type 0 = λ rs. Explores v axis grid [] rs in
+pub explores_nothing : (v : NodesView) (axis : Axis) (grid : Grid) (lo hi : ℤ) (es : List (Key × Coef)) (rows : List Row) → axis.slots ≡ v.slots → es ≡ [] → rows ≡ [] → ((c i : ℕ) → IsInColumn axis grid c i → ⊥)
+    → Explores v axis grid lo hi es rows
+explores_nothing v axis grid lo hi es rows slots no_keys none_shown none =
+    let P : List (Key × Coef) → Type 0 = λ es. Explores v axis grid lo hi es rows in
+    let Q : List Row → Type 0 = λ rs. Explores v axis grid lo hi [] rs in
     subst P (sym no_keys) (subst Q (sym none_shown) (record {
       entries = All-nil (IsEntry axis.slots);
       apart = tt;
       few = omega arith;
-      told = λ tells. all_none (IsWanted (seen_of v) axis grid) v.told (λ k. none_wanted (seen_of v) axis grid k none);
-      of_list = λ list agrees. all_none (IsNeeded list axis grid) (λ k. Some (coef list k)) (λ k. none_needed list axis grid k none);
+      told = λ tells. all_none (IsWanted (seen_of v) axis grid lo hi) v.told (λ k. none_wanted (seen_of v) axis grid lo hi k none);
+      of_list = λ list agrees. all_none (IsNeeded list axis grid lo hi) (λ k. Some (coef list k)) (λ k. none_needed list axis grid lo hi k none);
       rising = λ i j d less short. absurd (omega arith);
       shown = All-nil (IsShownRow grid.w);
-      rows_of_list = λ list agrees. no_rows axis grid list (slots ∙ agrees.slots) none;
+      rows_of_list = λ list agrees. no_rows axis grid lo hi list (slots ∙ agrees.slots) none;
     }))
 
 -- causes, in the words of a view
-pub cause_for : (v u : NodesView) (w : Window) (axis : Axis) (grid : Grid) (e : ScanOf) → w.axis ≡ axis → w.grid ≡ grid → IsCauseOf v u w e → IsCauseFor v u axis grid e
-cause_for v u w axis grid (Node e) ea eg h =
-    let A : Axis → Type 0 = λ a. IsCauseFor v u a grid (Node e) in
-    let G : Grid → Type 0 = λ g. IsCauseFor v u w.axis g (Node e) in
-    subst A ea (subst G eg (h.0, λ tells. h.1 (seen_of v) (serves_own v w tells)))
-cause_for v u w axis grid NoMemory ea eg h = tt
+pub cause_for : (v u : NodesView) (w : Window) (axis : Axis) (grid : Grid) (lo hi : ℤ) (e : ScanOf) → w.axis ≡ axis → w.grid ≡ grid → w.lo ≡ lo → w.hi ≡ hi → IsCauseOf v u w e → IsCauseFor v u axis grid lo hi e
+cause_for v u w axis grid lo hi (Node e) ea eg el eh h =
+    let A : Axis → Type 0 = λ a. IsCauseFor v u a grid lo hi (Node e) in
+    let G : Grid → Type 0 = λ g. IsCauseFor v u w.axis g lo hi (Node e) in
+    let L : ℤ → Type 0 = λ x. IsCauseFor v u w.axis w.grid x hi (Node e) in
+    let H : ℤ → Type 0 = λ x. IsCauseFor v u w.axis w.grid w.lo x (Node e) in
+    subst A ea (subst G eg (subst L el (subst H eh (h.0, λ tells. h.1 (seen_of v) (serves_own v w tells)))))
+cause_for v u w axis grid lo hi NoMemory ea eg el eh h = tt
 
 pub reads_for : (w : Window) (axis : Axis) (grid : Grid) (r0 r1 : ℕ) → w.axis ≡ axis → w.grid ≡ grid → r1 ≤ r0 + most_reads w.grid.w w.axis.slots → r1 ≤ r0 + most_reads grid.w axis.slots
 reads_for w axis grid r0 r1 ea eg h =

@@ -244,7 +244,7 @@ pub reads_both : (w : Window) (k l r : Key) (r0 r1 r2 r3 : ℕ) → IsCutKey w k
     → r3 ≤ r0 + most_cut w k
 reads_both w k l r r0 r1 r2 r3 cut el er a b d = omega (arith, a, b, d, most_parts w k l r el er cut)
 
-pub cut_wanted_as : (v : NodesView) (w : Window) (k : Key) (s : Span) (o : Option Span) → o ≡ Some s → IsReady v w k o → IsCutKey w k → (S : Seen) → Serves v w S → IsWanted S w.axis w.grid k
+pub cut_wanted_as : (v : NodesView) (w : Window) (k : Key) (s : Span) (o : Option Span) → o ≡ Some s → IsReady v w k o → IsCutKey w k → (S : Seen) → Serves v w S → IsWanted S w.axis w.grid w.lo w.hi k
 cut_wanted_as v w k s o is ready cut S served =
     let P : Option Span → Type 0 = λ o. shown_by S w k ≡ Some o in
     cut_wanted S w k s (node_of v w k o ready (cut_low w k cut)) (subst P is (ready.known S served)) cut

@@ -6,9 +6,11 @@ pub mod GatherLaws
 pub mod BlockLaws
 pub mod StepLaws
 pub mod FindLaws
+pub mod StoredEnds
 pub mod EndLaws
 pub mod ColumnLaws
 pub mod OrderLaws
 pub mod PickLaws
+pub mod PairLaws
 pub mod PointLaws
 pub mod ExploreLaws

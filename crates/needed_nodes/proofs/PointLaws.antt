@@ -1,4 +1,4 @@
-use Rattle.std.proofs.Common.{ℕ, zero, suc, ℤ, ◌≡◌, ◌+◌, ◌*◌, ◌<◌, ◌≤◌, ◌≤ℤ◌, ◌<ℤ◌, inl, inr, Bool, true, false, cond, List, [], ◌∷◌, map, length, get_or, refl, sym, ◌∙◌, ap, subst, arith, le_refl}
+use Rattle.std.proofs.Common.{ℕ, zero, suc, ℤ, ◌≡◌, ◌+◌, ◌*◌, ◌<◌, ◌≤◌, ◌≤ℤ◌, ◌<ℤ◌, inl, inr, Bool, true, false, cond, List, [], ◌∷◌, map, length, get_or, refl, sym, ◌∙◌, ap, ap₂, subst, arith, le_refl}
 use Rattle.std.proofs.Math.Nat.{mul-le-mul_right}
 use Rattle.std.proofs.lemmas.Int.{ints, by_lt_z}
 use Rattle.std.proofs.lemmas.Bool.Decides.{nat_tests}
@@ -6,8 +6,9 @@ use Rattle.std.proofs.lemmas.Option.{slice_get_within}
 use Rattle.std.proofs.lemmas.List.Elements.{All-nil, All-cons}
 use Rattle.std.specs.Prelude.{Option, Some, None, All, AllPairs, Contains, filter, ◌==◌, ◌&&◌, int_le, int_lt, if◌then◌else◌}
 use Rattle.std.specs.List.{enumerate_from, filter_map, cons_option}
-use Rattle.chart_grid.specs.Projection.{InWindow, column}
-use Rattle.chart_grid.specs.Slots.{slot_time, IsInColumn, AreSlotsBefore, border}
+use Rattle.std.proofs.lemmas.Bool.{and_parts, and_from}
+use Rattle.chart_grid.specs.Projection.{InWindow, column, height as height_of}
+use Rattle.chart_grid.specs.Slots.{slot_time, IsInColumn, AreSlotsBefore, border, slot_time as time_at}
 use Rattle.chart_grid.proofs.Slots.{AreSlotsBefore-rising}
 use Rattle.chart_grid.specs.declared.axis.Axis.{Axis}
 use Rattle.chart_grid.specs.declared.grid.Grid.{Grid}
@@ -18,28 +19,22 @@ use Rattle.om3_coeff.proofs.ExtremeLemmas.{span_over_is}
 use Rattle.om3_coeff.proofs.KeyLemmas.{by_lt}
 use Rattle.m4_groups.specs.declared.row.Row.{Row}
 use Rattle.m4_groups.specs.Points.{AreInOrder, spots, pixels, values_in}
-use Rattle.m4_groups.specs.Rows.{Sums, columns_of, AreRising, AreRowsOf}
+use Rattle.m4_groups.specs.Rows.{Sums, columns_of, AreRising}
+use Rattle.m4_groups.specs.Heights.{row_height}
 use Rattle.plain_chart.specs.declared.sample.Sample.{Sample}
 use Rattle.plain_chart.specs.declared.value_range.ValueRange.{ValueRange}
-use Rattle.plain_chart.specs.Samples.{kept, kept_at, values_of, in_window, time_at}
+use Rattle.plain_chart.specs.Samples.{kept, kept_at, values_of, in_window}
 use Rattle.plain_chart.specs.Chart.{place, places}
 use Rattle.needed_nodes.specs.declared.window.Window.{Window}
-use Rattle.needed_nodes.specs.Answers.{points_of, IsSpanOfValues, IsShownRow}
+use Rattle.needed_nodes.specs.Answers.{points_of, IsSpanOfValues, IsShownRow, extent_of, AreDrawnAs}
 use Rattle.needed_nodes.specs.Ranks.{rank}
 use Rattle.needed_nodes.specs.Columns.{IsRowOf}
 use Rattle.needed_nodes.proofs.RankLaws.{column_rank, rank_column, column_drawn}
 use Rattle.needed_nodes.proofs.ColumnLaws.{shown_end}
+use Rattle.needed_nodes.proofs.PairLaws.{ArePairs, choose, pairs_map, pairs_all, pairs_rise}
 use Rattle.needed_nodes.proofs.PickLaws.{picked, picked_all, picked_among, picked_none, picked_first, picked_last, bool_cases}
 
 -- the tests of a window and of a column
-and_parts : (a b : Bool) → (a && b) ≡ true → (a ≡ true) × (b ≡ true)
-and_parts true b h = (refl, h)
-and_parts false b h = absurd (cc)
-
-and_both : (a b : Bool) → a ≡ true → b ≡ true → (a && b) ≡ true
-and_both true b p q = q
-and_both false b p q = p
-
 pub window_true : (g : Grid) (t : ℤ) → in_window g t ≡ true → InWindow g t
 window_true g t h =
     let both : (int_le g.t0 t ≡ true) × (int_lt t g.t1 ≡ true) = and_parts (int_le g.t0 t) (int_lt t g.t1) h in
@@ -49,7 +44,7 @@ pub true_window : (g : Grid) (t : ℤ) → InWindow g t → in_window g t ≡ tr
 true_window g t shown =
     let from : int_le g.t0 t ≡ true = grind (arith, ints, nat_tests, shown.from) in
     let to : int_lt t g.t1 ≡ true = grind (arith, ints, nat_tests, shown.to) in
-    and_both (int_le g.t0 t) (int_lt t g.t1) from to
+    and_from (int_le g.t0 t) (int_lt t g.t1) from to
 
 -- slot i is drawn in column c
 abbrev in_column : Grid → Axis → ℕ → ℕ → Bool
@@ -74,7 +69,7 @@ column_true w c i slot h =
 true_column : (w : Window) (c i : ℕ) → rank w i ≡ suc c → c < w.grid.w → in_column w.grid w.axis c i ≡ true
 true_column w c i is drawn =
     let own : IsInColumn w.axis w.grid c i = rank_column w c i is drawn in
-    and_both (in_window w.grid (time_at w.axis i)) (column w.grid (time_at w.axis i) == c) (true_window w.grid (time_at w.axis i) own.shown)
+    and_from (in_window w.grid (time_at w.axis i)) (column w.grid (time_at w.axis i) == c) (true_window w.grid (time_at w.axis i) own.shown)
     (same_test (column w.grid (time_at w.axis i)) c own.place)
 
 -- the points of a list of which the first slot is slot n
@@ -148,9 +143,19 @@ spots_all Q g axis n (Some u ∷ xs) each =
       | inr unset ↦ subst P (sym unset) rest
     ]
 
--- a row of a list has the four values of its column's points
-row_sums : (w : Window) (list : List (Option ℤ)) (r : Row) → w.axis.slots ≡ length list → r.column < w.grid.w → IsRowOf list w r
-    → Sums r (picked (in_column w.grid w.axis r.column) 0 list)
+-- the row with the first and the last value themselves
+abbrev exact_row : (list : List (Option ℤ)) (w : Window) (r : Row) → IsRowOf list w r → Row
+exact_row list w r h = record {
+  column = r.column;
+  first = h.first.2.value;
+  least = r.least;
+  greatest = r.greatest;
+  last = h.last.2.value;
+}
+
+-- it has the four values of its column's points
+row_sums : (w : Window) (list : List (Option ℤ)) (r : Row) → w.axis.slots ≡ length list → r.column < w.grid.w → (h : IsRowOf list w r)
+    → Sums (exact_row list w r h) (picked (in_column w.grid w.axis r.column) 0 list)
 row_sums w list r slots drawn h =
     let p : ℕ → Bool = in_column w.grid w.axis r.column in
     let on : (i : ℕ) → rank w i ≡ suc r.column → p (0 + i) ≡ true =
@@ -161,7 +166,7 @@ row_sums w list r slots drawn h =
     let short : i < length list = slice_get_within list i (Some v) holds in
     column_true w r.column i (omega (arith, slots)) (ap p e ∙ set)) in
     record {
-      first = picked_first p 0 list h.first.0 r.first h.first.2 (on h.first.0 h.first.1) (λ j u before holds set. h.first.3 j u (off j u holds set) before holds);
+      first = picked_first p 0 list h.first.0 h.first.2.value h.first.2.stored (on h.first.0 h.first.1) (λ j u before holds set. h.first.3 j u (off j u holds set) before holds);
       least = record {
         among = picked_among p 0 list h.span.least_at r.least h.span.least (on h.span.least_at h.span.least_in);
         least = picked_all (λ u. r.least ≤ℤ u) p 0 list
@@ -172,48 +177,90 @@ row_sums w list r slots drawn h =
         greatest = picked_all (λ u. u ≤ℤ r.greatest) p 0 list
             (λ j u holds set. h.span.below j u (off j u holds set) (shown_end w r.column j (off j u holds set) drawn) holds);
       };
-      last = picked_last p 0 list h.last.0 r.last h.last.2 (on h.last.0 h.last.1) (λ j u behind holds set. h.last.3 j u (off j u holds set) behind holds);
+      last = picked_last p 0 list h.last.0 h.last.2.value h.last.2.stored (on h.last.0 h.last.1) (λ j u behind holds set. h.last.3 j u (off j u holds set) behind holds);
     }
+
+-- e is a row of the list's points, and is drawn as r is
+record IsExact (list : List (Option ℤ)) (w : Window) (r e : Row) : Type 0 where
+  column : r.column ≡ e.column
+  extent : extent_of r ≡ extent_of e
+  heights : row_height w.lo w.hi w.grid.h r ≡ row_height w.lo w.hi w.grid.h e
+  sums : Sums e (values_in e.column (spots w.grid (points_of w.axis w.grid list)))
+
+abbrev height_row : ℕ → ℤ → ℤ → ℤ → ℤ → Row
+height_row c least greatest first last = record { column = c; first = first; least = least; greatest = greatest; last = last }
+
+exact : (list : List (Option ℤ)) (w : Window) (r : Row) → w.axis.slots ≡ length list → r.column < w.grid.w → IsRowOf list w r → (e : Row) × IsExact list w r e
+exact list w r slots drawn h = (
+  exact_row list w r h,
+  record {
+    column = refl;
+    extent = refl;
+    heights =
+        ap₂ (height_row r.column (height_of r.least w.lo w.hi w.grid.h) (height_of r.greatest w.lo w.hi w.grid.h)) h.first.2.same h.last.2.same;
+    sums =
+        (let P : List ℤ → Type 0 = λ vs. Sums (exact_row list w r h) vs in
+        subst P (sym (column_values w.grid w.axis r.column 0 list)) (row_sums w list r slots drawn h));
+  },
+)
 
 pub rows_are : (w : Window) (list : List (Option ℤ)) (rows : List Row) → w.axis.slots ≡ length list → AreRising rows → All (IsShownRow w.grid.w) rows → All (IsRowOf list w) rows
     → ((c i : ℕ) (v : ℤ) → c < w.grid.w → rank w i ≡ suc c → Holds list i v → Contains (columns_of rows) c)
-    → AreRowsOf w.grid (points_of w.axis w.grid list) rows
-rows_are w list rows slots rising shown each every = record {
-  rising = rising;
-  each = λ k d less.
-      let r : Row = get_or rows k d in
-      let P : List ℤ → Type 0 = λ vs. Sums r vs in
-      subst P (sym (column_values w.grid w.axis r.column 0 list)) (row_sums w list r slots (shown k d less).drawable.column (each k d less));
-  every =
-      spots_all (λ s. Contains (columns_of rows) s.x) w.grid w.axis 0 list
-      (λ i v holds set.
-      let short : i < length list = slice_get_within list i (Some v) holds in
-      let e : 0 + i ≡ i = omega arith in
-      let P : ℕ → Type 0 = λ m. in_window w.grid (time_at w.axis m) ≡ true in
-      let inside : InWindow w.grid (slot_time w.axis i) = window_true w.grid (time_at w.axis i) (subst P e set) in
-      let own : IsInColumn w.axis w.grid (column w.grid (slot_time w.axis i)) i = record { slot = omega (arith, slots); shown = inside; place = refl } in
-      let found : Contains (columns_of rows) (column w.grid (slot_time w.axis i)) =
-      every (column w.grid (slot_time w.axis i)) i v (drawn_column w i own) (column_rank w (column w.grid (slot_time w.axis i)) i own) holds in
-      let Q : ℕ → Type 0 = λ m. Contains (columns_of rows) (column w.grid (time_at w.axis m)) in
-      subst Q (sym e) found);
-}
+    → AreDrawnAs w.grid w.lo w.hi (points_of w.axis w.grid list) rows
+rows_are w list rows slots rising shown each every =
+    let found : (es : List Row) × ArePairs (IsExact list w) rows es =
+    choose (IsExact list w) rows (λ k d less. exact list w (get_or rows k d) slots (shown k d less).drawable.column (each k d less)) in
+    record {
+      of = found.0;
+      exact = record {
+        rising = pairs_rise (IsExact list w) (λ r e h. h.column) rows found.0 found.1 rising;
+        each =
+            pairs_all (IsExact list w) (λ e. Sums e (values_in e.column (spots w.grid (points_of w.axis w.grid list)))) (λ r e h. h.sums) rows found.0 found.1;
+        every =
+            (let P : List ℕ → Type 0 = λ cs. All (λ s. Contains cs s.x) (spots w.grid (points_of w.axis w.grid list)) in
+            subst P (pairs_map (IsExact list w) (λ r. r.column) (λ r e h. h.column) rows found.0 found.1) (all_columns w list rows slots every));
+      };
+      extents = pairs_map (IsExact list w) extent_of (λ r e h. h.extent) rows found.0 found.1;
+      heights = pairs_map (IsExact list w) (row_height w.lo w.hi w.grid.h) (λ r e h. h.heights) rows found.0 found.1;
+    }
   where
     drawn_column : (w : Window) (i : ℕ) → IsInColumn w.axis w.grid (column w.grid (slot_time w.axis i)) i → column w.grid (slot_time w.axis i) < w.grid.w
     drawn_column w i own = column_drawn w (column w.grid (slot_time w.axis i)) i own
 
+    all_columns : (w : Window) (list : List (Option ℤ)) (rows : List Row) → w.axis.slots ≡ length list
+        → ((c i : ℕ) (v : ℤ) → c < w.grid.w → rank w i ≡ suc c → Holds list i v → Contains (columns_of rows) c)
+        → All (λ s. Contains (columns_of rows) s.x) (spots w.grid (points_of w.axis w.grid list))
+    all_columns w list rows slots every =
+        spots_all (λ s. Contains (columns_of rows) s.x) w.grid w.axis 0 list
+        (λ i v holds set.
+        let short : i < length list = slice_get_within list i (Some v) holds in
+        let e : 0 + i ≡ i = omega arith in
+        let P : ℕ → Type 0 = λ m. in_window w.grid (time_at w.axis m) ≡ true in
+        let inside : InWindow w.grid (slot_time w.axis i) = window_true w.grid (time_at w.axis i) (subst P e set) in
+        let own : IsInColumn w.axis w.grid (column w.grid (slot_time w.axis i)) i = record { slot = omega (arith, slots); shown = inside; place = refl } in
+        let found : Contains (columns_of rows) (column w.grid (slot_time w.axis i)) =
+        every (column w.grid (slot_time w.axis i)) i v (drawn_column w i own) (column_rank w (column w.grid (slot_time w.axis i)) i own) holds in
+        let Q : ℕ → Type 0 = λ m. Contains (columns_of rows) (column w.grid (time_at w.axis m)) in
+        subst Q (sym e) found)
+
 -- a view that shows no slot keeps no point, and has no row
-pub no_rows : (axis : Axis) (g : Grid) (list : List (Option ℤ)) → axis.slots ≡ length list → ((c i : ℕ) → IsInColumn axis g c i → ⊥) → AreRowsOf g (points_of axis g list) []
-no_rows axis g list slots none = record {
-  rising = λ i j d less short. absurd (omega arith);
-  each = All-nil (λ r. Sums r (values_in r.column (spots g (points_of axis g list))));
-  every =
-      spots_all (λ s. Contains (columns_of []) s.x) g axis 0 list
-      (λ i v holds set.
-      let short : i < length list = slice_get_within list i (Some v) holds in
-      let e : 0 + i ≡ i = omega arith in
-      let P : ℕ → Type 0 = λ m. in_window g (time_at axis m) ≡ true in
-      let inside : InWindow g (slot_time axis i) = window_true g (time_at axis i) (subst P e set) in
-      absurd (none (column g (slot_time axis i)) i (record { slot = omega (arith, slots); shown = inside; place = refl })));
+pub no_rows : (axis : Axis) (g : Grid) (lo hi : ℤ) (list : List (Option ℤ)) → axis.slots ≡ length list → ((c i : ℕ) → IsInColumn axis g c i → ⊥) → AreDrawnAs g lo hi (points_of axis g list) []
+no_rows axis g lo hi list slots none = record {
+  of = [];
+  exact = record {
+    rising = λ i j d less short. absurd (omega arith);
+    each = All-nil (λ r. Sums r (values_in r.column (spots g (points_of axis g list))));
+    every =
+        spots_all (λ s. Contains (columns_of []) s.x) g axis 0 list
+        (λ i v holds set.
+        let short : i < length list = slice_get_within list i (Some v) holds in
+        let e : 0 + i ≡ i = omega arith in
+        let P : ℕ → Type 0 = λ m. in_window g (time_at axis m) ≡ true in
+        let inside : InWindow g (slot_time axis i) = window_true g (time_at axis i) (subst P e set) in
+        absurd (none (column g (slot_time axis i)) i (record { slot = omega (arith, slots); shown = inside; place = refl })));
+  };
+  extents = refl;
+  heights = refl;
 }
 
 -- the points are in order of time
@@ -308,21 +355,10 @@ window_span_is axis g list a b s slots start stop is =
     let Q : Option Span → Type 0 = λ o. IsSpanOf list a b o in
     subst P (sym (window_values g axis 0 list)) (span_values axis g list a b s slots start stop (subst Q (sym is) (span_over_is list a b)))
 
--- the slots of a window
-pub window_start : (axis : Axis) (g : Grid) (c n : ℕ) → c ≡ 0 → border g 0 ≡ g.t0 → AreSlotsBefore axis (border g c) n → AreSlotsBefore axis g.t0 n
-window_start axis g c n is first h =
-    let P : ℕ → Type 0 = λ c. AreSlotsBefore axis (border g c) n in
-    let Q : ℤ → Type 0 = λ t. AreSlotsBefore axis t n in
-    subst Q first (subst P is h)
-
-pub window_stop : (axis : Axis) (g : Grid) (c n : ℕ) → c + 1 ≡ g.w → border g g.w ≡ g.t1 → AreSlotsBefore axis (border g (c + 1)) n → AreSlotsBefore axis g.t1 n
-window_stop axis g c n is last h =
-    let P : ℕ → Type 0 = λ c. AreSlotsBefore axis (border g c) n in
-    let Q : ℤ → Type 0 = λ t. AreSlotsBefore axis t n in
-    subst Q last (subst P is h)
-
-pub window_order : (axis : Axis) (g : Grid) (a b : ℕ) → AreSlotsBefore axis g.t0 a → AreSlotsBefore axis g.t1 b → a ≤ b
-window_order axis g a b start stop = AreSlotsBefore-rising axis g.t0 g.t1 a b (omega (arith, ints, g.window.rising)) start stop
+-- a window without slots shows none
+pub none_shown : (axis : Axis) (g : Grid) (a b : ℕ) → AreSlotsBefore axis g.t0 a → AreSlotsBefore axis g.t1 b → b ≤ a → (c i : ℕ) → IsInColumn axis g c i → ⊥
+none_shown axis g a b start stop none c i own =
+    by_lt i a (λ less. omega (arith, ints, own.shown.from, (start.before i own.slot).0 less)) (λ from. omega (arith, from, (stop.before i own.slot).1 own.shown.to, none))
 
 -- the pixels of the points are the places of the samples
 pixels_of : (g : Grid) (range : ValueRange) (samples : List Sample) → pixels g range.lo range.hi (map point samples) ≡ places g range samples

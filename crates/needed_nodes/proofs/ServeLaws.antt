@@ -1,4 +1,5 @@
 use Rattle.std.proofs.Common.{ℕ, zero, suc, ℤ, ◌≡◌, ◌+◌, ◌*◌, ◌%◌, ◌^◌, ◌<◌, ◌≤◌, ◌⊎◌, inl, inr, cond, List, length, refl, sym, ◌∙◌, ap, ap₂, subst, arith}
+use Rattle.std.proofs.lemmas.Option.{same_Some}
 use Rattle.std.specs.Prelude.{Option, Some, None, ◌==◌}
 use Rattle.std.specs.Option.{option_map}
 use Rattle.om3_coeff.specs.declared.key.Key.{Key}
@@ -13,10 +14,12 @@ use Rattle.om3_coeff.specs.Walks.{StaysBelow}
 use Rattle.om3_coeff.proofs.CoefLemmas.{AreParts, parts_are}
 use Rattle.om3_coeff.proofs.KeyLemmas.{left_first, right_end, left_some, right_some, left_parent, right_parent, left_key, right_key, above_itself, same_key}
 use Rattle.om3_coeff.proofs.KnownLemmas.{known_step, known_clear, known_spans}
+use Rattle.view_keys.specs.Flat.{IsFlat}
 use Rattle.view_keys.specs.Wanted.{Seen, IsWanted, IsClearBefore, IsClearBehind}
 use Rattle.needed_nodes.specs.declared.window.Window.{Window}
 use Rattle.needed_nodes.specs.Ranks.{IsBelow, IsCutKey, IsInside}
 use Rattle.needed_nodes.specs.Serving.{Serves, ServesList, list_seen, shown_by, IsClearBy, IsReady}
+use Rattle.needed_nodes.specs.Ends.{IsUnevenBy}
 use Rattle.needed_nodes.proofs.Nesting.{at_or_above, slot_key, slot_below, over_half, over_right}
 use Rattle.needed_nodes.proofs.RankLaws.{CutBy, cut_by, is_cut, inside_within, within_inside}
 
@@ -112,11 +115,11 @@ pub node_of : (v : NodesView) (w : Window) (k : Key) (s : Option Span) → IsRea
 node_of v w k s ready low = record { low = low; high = ready.key.high; within = ready.key.within }
 
 -- what was told of the key that was asked
-pub told_served : (v : NodesView) (w : Window) (k : Key) (c : Coef) (S : Seen) → (v.tells → v.told k ≡ Some c) → Serves v w S → IsWanted S w.axis w.grid k → S.told k ≡ Some c
+pub told_served : (v : NodesView) (w : Window) (k : Key) (c : Coef) (S : Seen) → (v.tells → v.told k ≡ Some c) → Serves v w S → IsWanted S w.axis w.grid w.lo w.hi k → S.told k ≡ Some c
 told_served v w k c S told served wanted = sym (served.told k wanted) ∙ told served.tells
 
 pub ready_left : (v u : NodesView) (w : Window) (k : Key) (s : Span) (c : Coef) (l r : Option Span) → IsReady v w k (Some s) → 1 ≤ k.level
-    → ((S : Seen) → Serves v w S → IsWanted S w.axis w.grid k) → StaysSame v u → u.fit → (v.tells → v.told k ≡ Some c) → parts s c ≡ Some (l, r)
+    → ((S : Seen) → Serves v w S → IsWanted S w.axis w.grid w.lo w.hi k) → StaysSame v u → u.fit → (v.tells → v.told k ≡ Some c) → parts s c ≡ Some (l, r)
     → IsReady u w (left_of k) l
 ready_left v u w k s c l r ready low wanted same fit told split =
     let node : IsNode (height w.axis.slots) k = node_of v w k (Some s) ready low in
@@ -132,7 +135,7 @@ ready_left v u w k s c l r ready low wanted same fit told split =
     }
 
 pub ready_right : (v u : NodesView) (w : Window) (k : Key) (s : Span) (c : Coef) (l r : Option Span) → IsReady v w k (Some s) → 1 ≤ k.level
-    → ((S : Seen) → Serves v w S → IsWanted S w.axis w.grid k) → StaysSame v u → u.fit → (v.tells → v.told k ≡ Some c) → parts s c ≡ Some (l, r)
+    → ((S : Seen) → Serves v w S → IsWanted S w.axis w.grid w.lo w.hi k) → StaysSame v u → u.fit → (v.tells → v.told k ≡ Some c) → parts s c ≡ Some (l, r)
     → IsReady u w (right_of k) r
 ready_right v u w k s c l r ready low wanted same fit told split =
     let node : IsNode (height w.axis.slots) k = node_of v w k (Some s) ready low in
@@ -270,26 +273,38 @@ stays_below k old asked between now low is left right = elim right [
 ]
 
 -- which keys are wanted
-pub cut_wanted : (S : Seen) (w : Window) (k : Key) (s : Span) → IsNode (height w.axis.slots) k → shown_by S w k ≡ Some (Some s) → IsCutKey w k → IsWanted S w.axis w.grid k
+pub cut_wanted : (S : Seen) (w : Window) (k : Key) (s : Span) → IsNode (height w.axis.slots) k → shown_by S w k ≡ Some (Some s) → IsCutKey w k → IsWanted S w.axis w.grid w.lo w.hi k
 cut_wanted S w k s node seen cut =
     let by : CutBy w k = cut_by w k cut in
     record { node = node; span = s; known_so = seen; column = by.column; shown = by.shown; reason = inl by.cut }
 
 pub end_wanted : (S : Seen) (w : Window) (c : ℕ) (k : Key) (s : Span) → IsNode (height w.axis.slots) k → shown_by S w k ≡ Some (Some s) → IsInside w c k
-    → IsClearBefore S w.axis w.grid c k ⊎ IsClearBehind S w.axis w.grid c k → IsWanted S w.axis w.grid k
-end_wanted S w c k s node seen own clear =
-    record { node = node; span = s; known_so = seen; column = c; shown = own.shown; reason = inr (inside_within w c k own, clear) }
+    → (IsFlat w.lo w.hi w.grid.h s → ⊥) → IsClearBefore S w.axis w.grid c k ⊎ IsClearBehind S w.axis w.grid c k → IsWanted S w.axis w.grid w.lo w.hi k
+end_wanted S w c k s node seen own uneven clear =
+    record { node = node; span = s; known_so = seen; column = c; shown = own.shown; reason = inr (inside_within w c k own, uneven, clear) }
+
+-- a key is uneven where the span that is seen of it is
+pub uneven_of : (S : Seen) (w : Window) (k : Key) (s : Span) → shown_by S w k ≡ Some (Some s) → (IsFlat w.lo w.hi w.grid.h s → ⊥) → IsUnevenBy S w k
+uneven_of S w k s seen uneven t there flat =
+    let same : t ≡ s = same_Some t s (same_Some (Some t) (Some s) (sym there ∙ seen)) in
+    let P : Span → Type 0 = λ x. IsFlat w.lo w.hi w.grid.h x in uneven (subst P same flat)
 
 -- what a wanted key is
 pub record WantedEnd (S : Seen) (w : Window) (k : Key) : Type 0 where
   pub column : ℕ
   pub inside : IsInside w column k
+  pub uneven : IsUnevenBy S w k
   pub clear : IsClearBefore S w.axis w.grid column k ⊎ IsClearBehind S w.axis w.grid column k
 
-pub wanted_cases : (S : Seen) (w : Window) (k : Key) → IsWanted S w.axis w.grid k → IsCutKey w k ⊎ WantedEnd S w k
+pub wanted_cases : (S : Seen) (w : Window) (k : Key) → IsWanted S w.axis w.grid w.lo w.hi k → IsCutKey w k ⊎ WantedEnd S w k
 wanted_cases S w k wanted = elim wanted.reason [
   | inl cut ↦ inl (is_cut w wanted.column k cut)
-  | inr own ↦ inr (record { column = wanted.column; inside = within_inside w wanted.column k own.0; clear = own.1 })
+  | inr own ↦ inr (record {
+    column = wanted.column;
+    inside = within_inside w wanted.column k own.0;
+    uneven = uneven_of S w k wanted.span wanted.known_so own.1;
+    clear = own.2;
+  })
 ]
 
 -- the same under other names

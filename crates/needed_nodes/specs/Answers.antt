@@ -11,8 +11,9 @@ use Rattle.om3_coeff.specs.Keys.{height, IsNode}
 use Rattle.om3_coeff.specs.Coefs.{parts}
 use Rattle.om3_coeff.specs.View.{NodesView, AgreesOn, HasCause}
 use Rattle.m4_groups.specs.declared.row.Row.{Row}
-use Rattle.m4_groups.specs.Heights.{IsDrawable}
-use Rattle.plain_chart.specs.Samples.{kept, Spans}
+use Rattle.m4_groups.specs.Rows.{AreRowsOf}
+use Rattle.m4_groups.specs.Heights.{HaveSameHeights, IsDrawable}
+use Rattle.plain_chart.specs.Samples.{kept, Spans, sample_points}
 use Rattle.view_keys.specs.Needed.{IsNeeded}
 use Rattle.view_keys.specs.Wanted.{Seen, IsWanted}
 use Rattle.needed_nodes.specs.declared.scan_of.ScanOf.{ScanOf}
@@ -22,9 +23,9 @@ use Rattle.needed_nodes.specs.declared.scan_of.ScanOf.TheVariants.{Node, NoMemor
 abbrev pub seen_of : NodesView → Seen
 seen_of view = record { root = view.root; told = view.told }
 
--- the nodes agree with a list of slots for the view: on all keys that the view needs
-abbrev pub AgreesForView : NodesView → Axis → Grid → List (Option ℤ) → Type 0
-AgreesForView view axis grid list = AgreesOn (IsNeeded list axis grid) view list
+-- the nodes agree with a list of slots for a view over the range lo to hi: on all keys that it needs
+abbrev pub AgreesForView : NodesView → Axis → Grid → ℤ → ℤ → List (Option ℤ) → Type 0
+AgreesForView view axis grid lo hi list = AgreesOn (IsNeeded list axis grid lo hi) view list
 
 -- the coefficient splits some span
 pub record CanSplit (c : Coef) : Type 0 where
@@ -54,9 +55,9 @@ NamesOf Kind (BadCoefficient key) = Kind key
 
 -- An error is one that an ask of the nodes gave; where they tell their coefficients, a key that it names
 -- is one that the view wants. Want of memory is free.
-abbrev pub IsCauseFor : NodesView → NodesView → Axis → Grid → ScanOf → Type 0
-IsCauseFor old new axis grid (Node e) = HasCause old new e × (old.tells → NamesOf (IsWanted (seen_of old) axis grid) e)
-IsCauseFor old new axis grid NoMemory = ⊤
+abbrev pub IsCauseFor : NodesView → NodesView → Axis → Grid → ℤ → ℤ → ScanOf → Type 0
+IsCauseFor old new axis grid lo hi (Node e) = HasCause old new e × (old.tells → NamesOf (IsWanted (seen_of old) axis grid lo hi) e)
+IsCauseFor old new axis grid lo hi NoMemory = ⊤
 
 -- a row that a canvas of w columns can show, whose first and last value lie from the least to the greatest
 pub record IsShownRow (w : ℕ) (r : Row) : Type 0 where
@@ -66,10 +67,27 @@ pub record IsShownRow (w : ℕ) (r : Row) : Type 0 where
   pub last_low : r.least ≤ℤ r.last
   pub last_high : r.last ≤ℤ r.greatest
 
+-- a row's column, and its least and greatest value
+pub record Extent : Type 0 where
+  pub column : ℕ
+  pub least : ℤ
+  pub greatest : ℤ
+
+abbrev pub extent_of : Row → Extent
+extent_of r = record { column = r.column; least = r.least; greatest = r.greatest }
+
+-- The rows have the columns, the least and the greatest values of the rows of the points, and over the range
+-- lo to hi each of their values has the height of the points' one. So both are drawn alike.
+pub record AreDrawnAs (grid : Grid) (lo hi : ℤ) (points : List (ℤ × ℤ)) (rows : List Row) : Type 0 where
+  pub of : List Row
+  pub exact : AreRowsOf grid points of
+  pub extents : map extent_of rows ≡ map extent_of of
+  pub heights : HaveSameHeights lo hi grid.h rows of
+
 -- the points that a view keeps of a list of slots: the times and the values of the stored slots in its
 -- window, in order of time
 abbrev pub points_of : Axis → Grid → List (Option ℤ) → List (ℤ × ℤ)
-points_of axis grid list = map (λ s. (s.time, s.value)) (kept grid axis list)
+points_of axis grid list = sample_points (kept grid axis list)
 
 -- the span has the least and the greatest of the values, or is nothing where there is none
 abbrev pub IsSpanOfValues : List ℤ → Option Span → Type 0

@@ -15,17 +15,17 @@ use Rattle.needed_nodes.specs.Ranks.{rank, IsInside}
 use Rattle.needed_nodes.specs.Serving.{ServesList}
 use Rattle.needed_nodes.specs.Gathering.{Gathered}
 use Rattle.needed_nodes.specs.Blocks.{IsSpanBelow}
-use Rattle.needed_nodes.specs.Ends.{AreAmong}
+use Rattle.needed_nodes.specs.Ends.{IsUnevenBy, HoldsAs, AreAmong}
 use Rattle.needed_nodes.specs.Answers.{IsShownRow}
 
 -- the end of the range of the top key
 abbrev pub top_end : Window → ℕ
 top_end w = end_slot (top_key w.axis.slots)
 
--- the key may hold the first or the last stored slot of column c: all slots of the column before it, or
--- all behind it, are clear
+-- the key isn't flat, and may hold the first or the last stored slot of column c: all slots of the
+-- column before it, or all behind it, are clear
 abbrev pub MayHoldEnd : Window → ℕ → Seen → Key → Type 0
-MayHoldEnd w c S k = IsClearBefore S w.axis w.grid c k ⊎ IsClearBehind S w.axis w.grid c k
+MayHoldEnd w c S k = IsUnevenBy S w k × (IsClearBefore S w.axis w.grid c k ⊎ IsClearBehind S w.axis w.grid c k)
 
 -- it is such a key of its column
 pub record IsEndKey (w : Window) (S : Seen) (k : Key) : Type 0 where
@@ -39,15 +39,15 @@ pub record IsInColumns (w : Window) (n : ℕ) (k : Key) : Type 0 where
   pub below : column < n
   pub inside : IsInside w column k
 
--- v is the first value that the list stores in column c
+-- v has the height of the first value that the list stores in column c
 abbrev pub IsFirstOf : List (Option ℤ) → Window → ℕ → Option ℤ → Type 0
 IsFirstOf list w c None = ⊥
-IsFirstOf list w c (Some v) = (i : ℕ) × (rank w i ≡ suc c) × Holds list i v × ((j : ℕ) (u : ℤ) → rank w j ≡ suc c → j < i → Holds list j u → ⊥)
+IsFirstOf list w c (Some v) = (i : ℕ) × (rank w i ≡ suc c) × HoldsAs list w i v × ((j : ℕ) (u : ℤ) → rank w j ≡ suc c → j < i → Holds list j u → ⊥)
 
--- it is the last one
+-- it has that of the last one
 abbrev pub IsLastOf : List (Option ℤ) → Window → ℕ → Option ℤ → Type 0
 IsLastOf list w c None = ⊥
-IsLastOf list w c (Some v) = (i : ℕ) × (rank w i ≡ suc c) × Holds list i v × ((j : ℕ) (u : ℤ) → rank w j ≡ suc c → i < j → Holds list j u → ⊥)
+IsLastOf list w c (Some v) = (i : ℕ) × (rank w i ≡ suc c) × HoldsAs list w i v × ((j : ℕ) (u : ℤ) → rank w j ≡ suc c → i < j → Holds list j u → ⊥)
 
 -- What was found of the ends of column c, whose blocks have the span s.
 pub record HasEnds (view : NodesView) (w : Window) (c : ℕ) (s : Span) (keys more : List (Key × Coef)) (values : EndValues) : Type 0 where
@@ -66,7 +66,8 @@ row_by c s values = record {
   last = unwrap_or values.last s.min;
 }
 
--- the row has the first, the least, the greatest and the last value that the list stores in its column
+-- the row has the least and the greatest value that the list stores in its column, and values of the
+-- heights of the first and of the last one
 pub record IsRowOf (list : List (Option ℤ)) (w : Window) (r : Row) : Type 0 where
   pub first : IsFirstOf list w r.column (Some r.first)
   pub span : IsSpanBelow list w w.end r.column (record { min = r.least; max = r.greatest })

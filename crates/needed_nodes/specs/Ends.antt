@@ -1,5 +1,6 @@
 -- The keys on the ways to the first and to the last stored slot of a column, and the values there.
-use Rattle.std.specs.Prelude.{ℕ, ℤ, ◌+◌, ◌*◌, ◌<◌, ◌≤◌, ◌≤ℤ◌, ◌⊎◌, IsTrue, Bool, ◌&&◌, is_none, if◌then◌else◌, List, Option, None, Some, IfSome, IsSome}
+use Rattle.std.specs.Prelude.{ℕ, ℤ, ◌+◌, ◌*◌, ◌<◌, ◌≤◌, ◌≤ℤ◌, ◌⊎◌, ◌≡◌, IsTrue, Bool, ◌&&◌, is_none, if◌then◌else◌, List, Option, None, Some, IfSome, IsSome}
+use Rattle.chart_grid.specs.Projection.{height}
 use Rattle.om3_coeff.specs.declared.key.Key.{Key}
 use Rattle.om3_coeff.specs.declared.span.Span.{Span}
 use Rattle.om3_coeff.specs.declared.coef.Coef.{Coef}
@@ -7,12 +8,13 @@ use Rattle.om3_coeff.specs.Keys.{first_slot, end_slot}
 use Rattle.om3_coeff.specs.View.{NodesView}
 use Rattle.om3_coeff.specs.Walks.{StaysBelow}
 use Rattle.om3_coeff.specs.Spans.{Holds, IsClear}
+use Rattle.view_keys.specs.Flat.{IsFlat}
 use Rattle.view_keys.specs.Wanted.{Seen, IsClearBefore, IsClearBehind}
 use Rattle.needed_nodes.specs.declared.window.Window.{Window}
 use Rattle.needed_nodes.specs.declared.ends.Sought.{Sought}
 use Rattle.needed_nodes.specs.declared.ends.EndValues.{EndValues}
 use Rattle.needed_nodes.specs.Ranks.{IsBelow}
-use Rattle.needed_nodes.specs.Serving.{ServesList}
+use Rattle.needed_nodes.specs.Serving.{ServesList, shown_by}
 use Rattle.needed_nodes.specs.Gathering.{Gathered}
 
 -- an end that is sought lies in the key's range or behind it: all slots of the column before the range
@@ -21,10 +23,15 @@ pub record MayHold (S : Seen) (w : Window) (c : ℕ) (sought : Sought) (k : Key)
   pub first : IsTrue sought.first → IsClearBefore S w.axis w.grid c k
   pub last : IsTrue sought.last → IsClearBehind S w.axis w.grid c k
 
--- the keys that hold a sought end
+-- what is seen of the key isn't flat
+abbrev pub IsUnevenBy : Seen → Window → Key → Type 0
+IsUnevenBy S w k = (s : Span) → shown_by S w k ≡ Some (Some s) → IsFlat w.lo w.hi w.grid.h s → ⊥
+
+-- the keys that hold a sought end, and aren't flat
 abbrev pub HoldsSought : Window → ℕ → Sought → Seen → Key → Type 0
 HoldsSought w c sought S k =
-    (IsTrue sought.first × IsClearBefore S w.axis w.grid c k) ⊎ (IsTrue sought.last × IsClearBehind S w.axis w.grid c k)
+    IsUnevenBy S w k
+    × ((IsTrue sought.first × IsClearBefore S w.axis w.grid c k) ⊎ (IsTrue sought.last × IsClearBehind S w.axis w.grid c k))
 
 -- one where it is sought
 abbrev pub one_if : Bool → ℕ
@@ -43,7 +50,7 @@ sought_left sought right = record { first = sought.first; last = sought.last && 
 abbrev pub sought_right : Sought → Option Span → Sought
 sought_right sought left = record { first = sought.first && is_none left; last = sought.last }
 
--- the values of a range of one slot
+-- the values of a range of one slot, or of one height
 abbrev pub slot_values : Sought → ℤ → EndValues
 slot_values sought v = record {
   first = if sought.first then Some v else None;
@@ -69,15 +76,21 @@ pub record AreAmong (s : Option Span) (values : EndValues) : Type 0 where
   pub first : IfSome values.first (IsAmong s)
   pub last : IfSome values.last (IsAmong s)
 
--- v is the first stored value of the slots from a on and below b
-abbrev pub IsFirstIn : List (Option ℤ) → ℕ → ℕ → Option ℤ → Type 0
-IsFirstIn list a b None = ⊥
-IsFirstIn list a b (Some v) = (i : ℕ) × (a ≤ i) × (i < b) × Holds list i v × IsClear list a i
+-- slot i holds a value of the height of v
+pub record HoldsAs (list : List (Option ℤ)) (w : Window) (i : ℕ) (v : ℤ) : Type 0 where
+  pub value : ℤ
+  pub stored : Holds list i value
+  pub same : height v w.lo w.hi w.grid.h ≡ height value w.lo w.hi w.grid.h
 
--- it is the last one
-abbrev pub IsLastIn : List (Option ℤ) → ℕ → ℕ → Option ℤ → Type 0
-IsLastIn list a b None = ⊥
-IsLastIn list a b (Some v) = (i : ℕ) × (a ≤ i) × (i < b) × Holds list i v × IsClear list (i + 1) b
+-- v has the height of the first stored value of the slots from a on and below b
+abbrev pub IsFirstIn : List (Option ℤ) → Window → ℕ → ℕ → Option ℤ → Type 0
+IsFirstIn list w a b None = ⊥
+IsFirstIn list w a b (Some v) = (i : ℕ) × (a ≤ i) × (i < b) × HoldsAs list w i v × IsClear list a i
+
+-- it has that of the last one
+abbrev pub IsLastIn : List (Option ℤ) → Window → ℕ → ℕ → Option ℤ → Type 0
+IsLastIn list w a b None = ⊥
+IsLastIn list w a b (Some v) = (i : ℕ) × (a ≤ i) × (i < b) × HoldsAs list w i v × IsClear list (i + 1) b
 
 -- What a walk found at or below the key k of column c, which has the span s if any: the keys that hold a
 -- sought end, and the values there.
@@ -85,5 +98,5 @@ pub record Follows (old new : NodesView) (w : Window) (c : ℕ) (k : Key) (s : O
   pub below : StaysBelow k old.asked new.asked
   pub gathered : Gathered old w (IsBelow k) (HoldsSought w c sought) (most_ends s sought k) keys more
   pub among : AreAmong s values
-  pub first : (list : List (Option ℤ)) → ServesList old w list → IsTrue sought.first → IsSome s → IsFirstIn list (first_slot k) (end_slot k) values.first
-  pub last : (list : List (Option ℤ)) → ServesList old w list → IsTrue sought.last → IsSome s → IsLastIn list (first_slot k) (end_slot k) values.last
+  pub first : (list : List (Option ℤ)) → ServesList old w list → IsTrue sought.first → IsSome s → IsFirstIn list w (first_slot k) (end_slot k) values.first
+  pub last : (list : List (Option ℤ)) → ServesList old w list → IsTrue sought.last → IsSome s → IsLastIn list w (first_slot k) (end_slot k) values.last

@@ -18,7 +18,7 @@ use Rattle.needed_nodes.specs.Answers.{NamesOf}
 pub record Serves (view : NodesView) (w : Window) (S : Seen) : Type 0 where
   pub tells : view.tells
   pub root : view.root ≡ S.root
-  pub told : (k : Key) → IsWanted S w.axis w.grid k → view.told k ≡ S.told k
+  pub told : (k : Key) → IsWanted S w.axis w.grid w.lo w.hi k → view.told k ≡ S.told k
 
 -- what the tree over a list of slots shows
 abbrev pub list_seen : List (Option ℤ) → Seen
@@ -48,7 +48,7 @@ pub record IsReady (view : NodesView) (w : Window) (k : Key) (s : Option Span) :
 
 -- a key that the error names is wanted
 abbrev pub NamesWanted : NodesView → Window → NodeError → Type 0
-NamesWanted view w e = (S : Seen) → Serves view w S → NamesOf (IsWanted S w.axis w.grid) e
+NamesWanted view w e = (S : Seen) → Serves view w S → NamesOf (IsWanted S w.axis w.grid w.lo w.hi) e
 
 -- an error of a walk is one that an ask of the nodes gave, for a wanted key; want of memory is free
 abbrev pub IsCauseOf : NodesView → NodesView → Window → ScanOf → Type 0

@@ -10,6 +10,7 @@ use crate::asking::ask;
 use crate::scan_of::ScanOf;
 use crate::window::Window;
 use om3_coeff::{Coef, Key, Nodes, Span};
+use view_keys::laws::flat_keys_hold_flat_keys;
 
 /// Which ends of a column are sought.
 #[derive(Clone, Copy)]
@@ -66,15 +67,15 @@ impl Sought {
     }
 }
 
-/// The first and the last stored value of a range, where they were sought.
+/// Values of the heights of the first and the last stored one of a range, where they were sought.
 #[derive(Clone, Copy)]
 pub(crate) struct EndValues {
     pub(crate) first: Option<i64>,
     pub(crate) last: Option<i64>,
 }
 
-/// Asks the keys at or below a key of a column that hold a sought end of the column, keeps each with
-/// its coefficient, and answers the values there.
+/// Asks the keys at or below a key of a column that hold a sought end of the column and aren't flat,
+/// keeps each with its coefficient, and answers values of the heights of those there.
 pub(crate) fn follow<N: Nodes>(
     nodes: &mut N,
     window: &Window,
@@ -103,6 +104,10 @@ pub(crate) fn follow<N: Nodes>(
         return Ok(nothing());
     }
     if key.level == 0 {
+        return Ok(of_slot(sought, span.min));
+    }
+    if window.is_flat(span) {
+        flat_keys_hold_flat_keys();
         return Ok(of_slot(sought, span.min));
     }
     let node = ask(nodes, window, key, span)?;
@@ -138,7 +143,7 @@ fn nothing() -> EndValues
     }
 }
 
-/// The values of a range of one slot.
+/// The values of a range of one slot, or of one height.
 fn of_slot(sought: Sought, value: i64) -> EndValues
     ensures { result ≡ slot_values sought value }
 {

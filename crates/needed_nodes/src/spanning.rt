@@ -10,7 +10,7 @@ use chart_grid::{Axis, Grid};
 use om3_coeff::{NodeError, Nodes, Span, range_span};
 
 /// The least and the greatest value that a view keeps: those of the stored slots in its window; or
-/// nothing where none is stored. It asks two keys a level of the tree at most.
+/// nothing where none is stored. It reads two blocks a level of the tree at most.
 pub fn window_span<N: Nodes>(
     nodes: &mut N,
     axis: Axis,

@@ -1,11 +1,11 @@
-ghost use Rattle.std.specs.Prelude.{◌≡◌, ℤ, ◌+◌, ◌*◌, ◌<◌, ◌≤◌, List, Option, None, Some, IfOk, IfErr, All, length};
+ghost use Rattle.std.specs.Prelude.{◌≡◌, ℤ, ◌+◌, ◌*◌, ◌<◌, ◌≤◌, ◌≤ℤ◌, List, Option, None, Some, IfOk, IfErr, All, length};
 ghost use Rattle.om3_coeff.specs.declared.key.Key.{Key};
 ghost use Rattle.om3_coeff.specs.Coefs.{coef};
-ghost use Rattle.m4_groups.specs.Rows.{AreRising, AreRowsOf};
+ghost use Rattle.m4_groups.specs.Rows.{AreRising};
 ghost use Rattle.view_keys.specs.Needed.{IsNeeded};
 ghost use Rattle.view_keys.specs.Wanted.{IsWanted};
 ghost use Rattle.view_keys.specs.Listed.{AreInOrder, IsListOf};
-ghost use Rattle.needed_nodes.specs.Answers.{seen_of, AgreesForView, IsEntry, IsShownRow, IsCauseFor, most_needed, most_reads, points_of};
+ghost use Rattle.needed_nodes.specs.Answers.{seen_of, AgreesForView, IsEntry, IsShownRow, AreDrawnAs, IsCauseFor, most_needed, most_reads, points_of};
 ghost use Rattle.needed_nodes.specs.Serving.{IsCauseOf};
 ghost use Rattle.needed_nodes.specs.Exploring.{Explores, ExploresWindow};
 
@@ -21,37 +21,40 @@ use om3_coeff::{Coef, Coefs, Key, Nodes, top_key};
 use std::alloc::Global;
 use view_keys::laws::wanted_keys_are_needed;
 
-/// What a view needs of a series: the keys with their coefficients, from the top level down and from
-/// left to right, and the rows that it draws.
+/// What a view over a range of values needs of a series: the keys with their coefficients, from the
+/// top level down and from left to right, and the rows that it draws.
 #[derive(Drop)]
 pub struct Findings {
     pub needed: Coefs,
     pub rows: Rows,
 }
 
-/// The keys that a view needs and its rows, both by the same asks.
+/// The keys that a view over the range `lo` to `hi` needs and its rows, both by the same asks.
 pub fn survey<N: Nodes>(
     alloc: Global,
     nodes: &mut N,
     axis: Axis,
     grid: Grid,
+    lo: i64,
+    hi: i64,
 ) -> Result<Findings, ScanOf>
     requires fit { (N.view nodes.old).fit }
     requires slots { axis.slots ≡ (N.view nodes.old).slots }
     requires step { 0 < axis.step }
+    requires range { lo ≤ℤ hi }
 
     // the keys
     ensures told { (N.view nodes.old).tells →
-        IfOk result (λ found. IsListOf (IsWanted (seen_of (N.view nodes.old)) axis grid) (N.view nodes.old).told found.needed) }
-    ensures list { (list : List (Option ℤ)) → AgreesForView (N.view nodes.old) axis grid list →
-        IfOk result (λ found. IsListOf (IsNeeded list axis grid) (λ k. Some (coef list k)) found.needed) }
+        IfOk result (λ found. IsListOf (IsWanted (seen_of (N.view nodes.old)) axis grid lo hi) (N.view nodes.old).told found.needed) }
+    ensures list { (list : List (Option ℤ)) → AgreesForView (N.view nodes.old) axis grid lo hi list →
+        IfOk result (λ found. IsListOf (IsNeeded list axis grid lo hi) (λ k. Some (coef list k)) found.needed) }
     ensures order { IfOk result (λ found. AreInOrder found.needed) }
     ensures entries { IfOk result (λ found. All (IsEntry axis.slots) found.needed) }
     ensures few { IfOk result (λ found. length found.needed ≤ most_needed grid.w axis.slots) }
 
     // the rows
-    ensures rows { (list : List (Option ℤ)) → AgreesForView (N.view nodes.old) axis grid list →
-        IfOk result (λ found. AreRowsOf grid (points_of axis grid list) found.rows) }
+    ensures rows { (list : List (Option ℤ)) → AgreesForView (N.view nodes.old) axis grid lo hi list →
+        IfOk result (λ found. AreDrawnAs grid lo hi (points_of axis grid list) found.rows) }
     ensures rising { IfOk result (λ found. AreRising found.rows) }
     ensures shown { IfOk result (λ found. All (IsShownRow grid.w) found.rows) }
 
@@ -60,9 +63,9 @@ pub fn survey<N: Nodes>(
     ensures kept { N.keeps nodes.old nodes.new }
     ensures reads { (N.view nodes.new).reads ≤ (N.view nodes.old).reads + most_reads grid.w axis.slots }
     ensures faults { (N.view nodes.old).faults ≤ (N.view nodes.new).faults }
-    ensures cause { IfErr result (IsCauseFor (N.view nodes.old) (N.view nodes.new) axis grid) }
+    ensures cause { IfErr result (IsCauseFor (N.view nodes.old) (N.view nodes.new) axis grid lo hi) }
 {
-    let explored = explore(alloc, nodes, axis, grid)?;
+    let explored = explore(alloc, nodes, axis, grid, lo, hi)?;
     let mut keys = explored.keys;
     sort_keys(&mut keys)?;
     Ok(Findings {
@@ -71,22 +74,25 @@ pub fn survey<N: Nodes>(
     })
 }
 
-/// The keys that a view needs, with their coefficients, from the top level down and from left to
-/// right.
+/// The keys that a view over the range `lo` to `hi` needs, with their coefficients, from the top level
+/// down and from left to right.
 pub fn needed<N: Nodes>(
     alloc: Global,
     nodes: &mut N,
     axis: Axis,
     grid: Grid,
+    lo: i64,
+    hi: i64,
 ) -> Result<Coefs, ScanOf>
     requires fit { (N.view nodes.old).fit }
     requires slots { axis.slots ≡ (N.view nodes.old).slots }
     requires step { 0 < axis.step }
+    requires range { lo ≤ℤ hi }
 
     ensures told { (N.view nodes.old).tells →
-        IfOk result (IsListOf (IsWanted (seen_of (N.view nodes.old)) axis grid) (N.view nodes.old).told) }
-    ensures list { (list : List (Option ℤ)) → AgreesForView (N.view nodes.old) axis grid list →
-        IfOk result (IsListOf (IsNeeded list axis grid) (λ k. Some (coef list k))) }
+        IfOk result (IsListOf (IsWanted (seen_of (N.view nodes.old)) axis grid lo hi) (N.view nodes.old).told) }
+    ensures list { (list : List (Option ℤ)) → AgreesForView (N.view nodes.old) axis grid lo hi list →
+        IfOk result (IsListOf (IsNeeded list axis grid lo hi) (λ k. Some (coef list k))) }
     ensures order { IfOk result AreInOrder }
     ensures entries { IfOk result (All (IsEntry axis.slots)) }
     ensures few { IfOk result (λ keys. length keys ≤ most_needed grid.w axis.slots) }
@@ -96,28 +102,31 @@ pub fn needed<N: Nodes>(
     ensures kept { N.keeps nodes.old nodes.new }
     ensures reads { (N.view nodes.new).reads ≤ (N.view nodes.old).reads + most_reads grid.w axis.slots }
     ensures faults { (N.view nodes.old).faults ≤ (N.view nodes.new).faults }
-    ensures cause { IfErr result (IsCauseFor (N.view nodes.old) (N.view nodes.new) axis grid) }
+    ensures cause { IfErr result (IsCauseFor (N.view nodes.old) (N.view nodes.new) axis grid lo hi) }
 {
-    let explored = explore(alloc, nodes, axis, grid)?;
+    let explored = explore(alloc, nodes, axis, grid, lo, hi)?;
     let mut keys = explored.keys;
     sort_keys(&mut keys)?;
     Ok(Coefs::from_vec(keys))
 }
 
-/// The rows of the stored slots in a view's window. The keys that it asks are those that the view
-/// needs.
+/// The rows that a view over the range `lo` to `hi` draws of the stored slots in its window: their first
+/// and last values have the heights of the column's own.
 pub fn rows_of<N: Nodes>(
     alloc: Global,
     nodes: &mut N,
     axis: Axis,
     grid: Grid,
+    lo: i64,
+    hi: i64,
 ) -> Result<Rows, ScanOf>
     requires fit { (N.view nodes.old).fit }
     requires slots { axis.slots ≡ (N.view nodes.old).slots }
     requires step { 0 < axis.step }
+    requires range { lo ≤ℤ hi }
 
-    ensures rows { (list : List (Option ℤ)) → AgreesForView (N.view nodes.old) axis grid list →
-        IfOk result (AreRowsOf grid (points_of axis grid list)) }
+    ensures rows { (list : List (Option ℤ)) → AgreesForView (N.view nodes.old) axis grid lo hi list →
+        IfOk result (AreDrawnAs grid lo hi (points_of axis grid list)) }
     ensures rising { IfOk result AreRising }
     ensures shown { IfOk result (All (IsShownRow grid.w)) }
 
@@ -126,13 +135,13 @@ pub fn rows_of<N: Nodes>(
     ensures kept { N.keeps nodes.old nodes.new }
     ensures reads { (N.view nodes.new).reads ≤ (N.view nodes.old).reads + most_reads grid.w axis.slots }
     ensures faults { (N.view nodes.old).faults ≤ (N.view nodes.new).faults }
-    ensures cause { IfErr result (IsCauseFor (N.view nodes.old) (N.view nodes.new) axis grid) }
+    ensures cause { IfErr result (IsCauseFor (N.view nodes.old) (N.view nodes.new) axis grid lo hi) }
 {
-    let explored = explore(alloc, nodes, axis, grid)?;
+    let explored = explore(alloc, nodes, axis, grid, lo, hi)?;
     Ok(Rows::from_vec(explored.rows))
 }
 
-/// The keys that a view needs, in the order in which they are asked, and its rows.
+/// The keys that a view needs, in the order in which the walk found them, and its rows.
 #[derive(Drop)]
 struct Explored {
     keys: Vec<(Key, Coef)>,
@@ -144,21 +153,24 @@ fn explore<N: Nodes>(
     nodes: &mut N,
     axis: Axis,
     grid: Grid,
+    lo: i64,
+    hi: i64,
 ) -> Result<Explored, ScanOf>
     requires fit { (N.view nodes.old).fit }
     requires slots { axis.slots ≡ (N.view nodes.old).slots }
     requires step { 0 < axis.step }
+    requires range { lo ≤ℤ hi }
 
-    ensures found { IfOk result (λ found. Explores (N.view nodes.old) axis grid found.keys.items found.rows.items) }
+    ensures found { IfOk result (λ found. Explores (N.view nodes.old) axis grid lo hi found.keys.items found.rows.items) }
     ensures fit { (N.view nodes.new).fit }
     ensures kept { N.keeps nodes.old nodes.new }
     ensures reads { (N.view nodes.new).reads ≤ (N.view nodes.old).reads + most_reads grid.w axis.slots }
     ensures faults { (N.view nodes.old).faults ≤ (N.view nodes.new).faults }
-    ensures cause { IfErr result (IsCauseFor (N.view nodes.old) (N.view nodes.new) axis grid) }
+    ensures cause { IfErr result (IsCauseFor (N.view nodes.old) (N.view nodes.new) axis grid lo hi) }
 {
     wanted_keys_are_needed();
     let mut keys = Vec::new(alloc);
-    let Some(window) = Window::of(axis, grid) else {
+    let Some(window) = Window::of(axis, grid, lo, hi) else {
         return Ok(Explored {
             keys,
             rows: Vec::new(alloc),

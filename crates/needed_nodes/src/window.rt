@@ -1,19 +1,23 @@
-ghost use Rattle.std.specs.Prelude.{◌≡◌, ◌<◌, ◌+ℤ◌, pos, FitsSigned};
-ghost use Rattle.std.specs.Int.{w64};
+ghost use Rattle.std.specs.Prelude.{◌≡◌, ◌<◌, ◌≤ℤ◌};
 ghost use Rattle.chart_grid.specs.Slots.{AreSlotsBefore};
 
 use chart_grid::laws::borders_part_columns;
-use chart_grid::{Axis, Grid};
-use om3_coeff::Key;
+use chart_grid::{Axis, Grid, later};
+use om3_coeff::{Key, Span};
+use view_keys::is_flat;
 
-/// The slots that a view shows: those from `from` on and below `end`, at least one.
+/// The slots that a view shows: those from `from` on and below `end`, at least one; and the range of
+/// values, from `lo` to `hi`.
 #[derive(Clone, Copy)]
 pub(crate) struct Window {
     pub(crate) axis: Axis,
     pub(crate) grid: Grid,
+    pub(crate) lo: i64,
+    pub(crate) hi: i64,
     pub(crate) from: u64,
     pub(crate) end: u64,
     ghost step: { 0 < axis.step },
+    ghost range: { lo ≤ℤ hi },
     ghost start: { AreSlotsBefore axis grid.t0 from },
     ghost stop: { AreSlotsBefore axis grid.t1 end },
     ghost some: { from < end },
@@ -29,17 +33,21 @@ pub(crate) enum Place {
 }
 
 impl Window {
-    ghost use Rattle.std.specs.Prelude.{◌≡◌, ℕ, ◌<◌, ◌≤◌, ◌^◌, IfSome, IfNone};
+    ghost use Rattle.std.specs.Prelude.{◌≡◌, ℕ, ◌<◌, ◌≤◌, ◌≤ℤ◌, ◌^◌, ◌↔◌, IfSome, IfNone, IsTrue};
     ghost use Rattle.chart_grid.specs.Projection.{InWindow};
     ghost use Rattle.chart_grid.specs.Slots.{IsInColumn, slot_time};
     ghost use Rattle.om3_coeff.specs.Keys.{end_slot};
+    ghost use Rattle.view_keys.specs.Flat.{IsFlat};
     ghost use Rattle.needed_nodes.specs.Ranks.{rank, IsPlace};
 
     /// The window of a view, or nothing where it shows no slot.
-    pub(crate) fn of(axis: Axis, grid: Grid) -> Option<Window>
-        requires { 0 < axis.step }
+    pub(crate) fn of(axis: Axis, grid: Grid, lo: i64, hi: i64) -> Option<Window>
+        requires step { 0 < axis.step }
+        requires range { lo ≤ℤ hi }
         ensures axis { IfSome result (λ w. w.axis ≡ axis) }
         ensures grid { IfSome result (λ w. w.grid ≡ grid) }
+        ensures lo { IfSome result (λ w. w.lo ≡ lo) }
+        ensures hi { IfSome result (λ w. w.hi ≡ hi) }
         ensures none { IfNone result ((c i : ℕ) → IsInColumn axis grid c i → ⊥) }
     {
         borders_part_columns();
@@ -49,6 +57,8 @@ impl Window {
             Some(Window {
                 axis,
                 grid,
+                lo,
+                hi,
                 from,
                 end,
             })
@@ -82,6 +92,13 @@ impl Window {
         self.grid.column_of(self.time_of(slot)) + 1
     }
 
+    /// Whether the least and the greatest value of a span have one height.
+    pub(crate) fn is_flat(&self, span: Span) -> bool
+        ensures { IsTrue result ↔ IsFlat self.now.lo self.now.hi self.now.grid.h span }
+    {
+        is_flat(span, self.lo, self.hi, self.grid.h())
+    }
+
     /// The place of a key's range.
     pub(crate) fn place_of(&self, key: Key) -> Place
         requires { end_slot key < 2 ^ 63 }
@@ -97,12 +114,4 @@ impl Window {
         }
         Place::Within(first - 1)
     }
-}
-
-/// The time so many steps after another one.
-fn later(start: i64, steps: u64) -> i64
-    requires { FitsSigned w64 (start +ℤ pos steps) }
-    ensures { result ≡ start +ℤ pos steps }
-{
-    (i128::from(start) + i128::from(steps)) as i64
 }

@@ -6,7 +6,7 @@ use Rattle.om3_coeff.specs.declared.key.Key.{Key}
 use Rattle.om3_coeff.specs.declared.coef.Coef.{Coef}
 use Rattle.view_keys.specs.Listed.{ComesBefore, AreInOrder}
 
-other_key : (a b : Key) → ComesBefore a b → a ≢ b
+pub other_key : (a b : Key) → ComesBefore a b → a ≢ b
 other_key a b (inl higher) same = absurd (omega (arith, higher, ap (λ k. k.level) same))
 other_key a b (inr (level, lower)) same = absurd (omega (arith, lower, ap (λ k. k.index) same))
 

@@ -1,6 +1,11 @@
-mod Ranging
+pub mod Ranging
 mod Columns
-mod Ends
+pub mod Ends
+mod Flatness
+mod Clearing
+mod Nested
 mod Same
 mod Depth
 mod Distinct
+mod Marks
+mod Counting

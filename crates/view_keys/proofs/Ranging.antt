@@ -1,9 +1,9 @@
 -- Keys and the slots of their ranges.
-use Rattle.std.proofs.Common.{pow_pos, ℕ, ◌≡◌, ◌+◌, ◌-◌, ◌*◌, ◌/◌, ◌^◌, ◌<◌, ◌≤◌, refl, sym, ap, ◌∙◌, arith, subst}
+use Rattle.std.proofs.Common.{pow_pos, ℕ, suc, ◌≡◌, ◌+◌, ◌-◌, ◌*◌, ◌/◌, ◌^◌, ◌<◌, ◌≤◌, refl, sym, ap, ◌∙◌, arith, subst}
 use Rattle.std.proofs.Math.Nat.{div-mul-le_self, lt-div-mul-add, le-div_iff_mul-le, lt_of_mul-lt-mul_right, div-div-eq-div-mul}
 use Rattle.std.proofs.lemmas.Nat.{pow-add}
 use Rattle.om3_coeff.specs.declared.key.Key.{Key}
-use Rattle.om3_coeff.specs.Keys.{IsAtOrAbove}
+use Rattle.om3_coeff.specs.Keys.{first_slot, end_slot, parent_of, IsAtOrAbove}
 use Rattle.view_keys.specs.Ranges.{IsInRange}
 
 -- a power of two isn't 0
@@ -69,3 +69,26 @@ slot_key-in_range i = record { from = omega arith; to = omega arith }
 
 pub slot_key-is : (i j : ℕ) → IsInRange (slot_key i) j → j ≡ i
 slot_key-is i j r = omega (arith, r.from, r.to)
+
+-- a key by its level and index
+abbrev pub make_key : ℕ → ℕ → Key
+make_key level index = record { level = level; index = index }
+
+pub key-same : (a b : Key) → a.level ≡ b.level → a.index ≡ b.index → a ≡ b
+key-same a b level index = ap (λ l. make_key l a.index) level ∙ ap (λ i. make_key b.level i) index
+
+-- the key above another one
+pub half-index : (k : Key) → k.index / 2 ^ (suc k.level - k.level) ≡ k.index / 2
+half-index k =
+    let e : suc k.level - k.level ≡ 1 = omega arith in
+    ap (λ n. k.index / 2 ^ n) e
+
+pub parent-above : (k : Key) → IsAtOrAbove (parent_of k) k
+parent-above k = record { higher = omega arith; holds = half-index k }
+
+-- the first and the last slot of a key's range lie in it
+pub first-in_range : (k : Key) → IsInRange k (first_slot k)
+first-in_range k = record { from = omega arith; to = omega (arith, power-some k.level) }
+
+pub last-in_range : (k : Key) → IsInRange k (end_slot k - 1)
+last-in_range k = record { from = omega (arith, power-some k.level); to = omega (arith, power-some k.level) }

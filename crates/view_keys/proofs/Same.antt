@@ -1,22 +1,26 @@
 -- The wanted keys are the needed ones.
-use Rattle.std.proofs.Common.{ℕ, ℤ, zero, suc, ◌≡◌, ◌+◌, ◌-◌, ◌/◌, ◌^◌, ◌<◌, ◌≤◌, ◌⊎◌, inl, inr, List, length, Option, None, Some, IsSome, refl, sym, ap, ◌∙◌, subst, arith}
+use Rattle.std.proofs.Common.{ℕ, ℤ, zero, suc, ◌≡◌, ◌+◌, ◌-◌, ◌*◌, ◌/◌, ◌^◌, ◌<◌, ◌≤◌, ◌⊎◌, inl, inr, List, length, Option, None, Some, IsSome, refl, sym, ap, ◌∙◌, subst, arith}
 use Rattle.std.specs.Option.{is_some}
 use Rattle.std.proofs.lemmas.Bool.{cases_lt}
+use Rattle.std.proofs.lemmas.Nat.{pow-add}
+use Rattle.std.proofs.Math.Nat.{le-div_iff_mul-le}
 use Rattle.chart_grid.specs.declared.axis.Axis.{Axis}
 use Rattle.chart_grid.specs.declared.grid.Grid.{Grid}
 use Rattle.chart_grid.specs.Slots.{IsInColumn}
 use Rattle.om3_coeff.specs.declared.key.Key.{Key}
 use Rattle.om3_coeff.specs.declared.span.Span.{Span}
-use Rattle.om3_coeff.specs.declared.coef.Coef.{Coef}
 use Rattle.om3_coeff.specs.Keys.{first_slot, end_slot, parent_of, height, IsKey, IsNode, IsAtOrAbove}
 use Rattle.om3_coeff.specs.Spans.{span}
 use Rattle.om3_coeff.specs.Coefs.{coef}
 use Rattle.om3_coeff.specs.Known.{known, known_below, IsKnownClear}
 use Rattle.view_keys.specs.Ranges.{IsInRange, IsWithin, IsCut}
-use Rattle.view_keys.specs.Needed.{IsFirstStored, IsLastStored, HoldsEnd, IsNeeded}
+use Rattle.view_keys.specs.Flat.{IsFlat}
+use Rattle.view_keys.specs.Needed.{IsFirstStored, IsLastStored, HoldsEnd, IsUneven, IsNeeded}
 use Rattle.view_keys.specs.Wanted.{Seen, IsClearBefore, IsClearBehind, IsWanted}
-use Rattle.view_keys.proofs.Ranging.{power-some, above-in_range, shared-above, slot_key, slot_key-in_range, slot_key-is}
+use Rattle.view_keys.proofs.Ranging.{power-some, in_range-index, above-in_range, shared-above, key_at, key_at-in_range, slot_key, slot_key-in_range, slot_key-is, make_key, key-same, parent-above, first-in_range, last-in_range}
 use Rattle.view_keys.proofs.Columns.{Rise, in_column-cases, within-or-cut}
+use Rattle.view_keys.proofs.Flatness.{HeightsRise, PartsJoin, PartsProper, IsInside, inside-flat, uneven-above, parent-seen, IsFlatKey, flat-cases}
+use Rattle.view_keys.proofs.Clearing.{slots-clear}
 use Rattle.view_keys.proofs.Ends.{IsStoredAt, stored-cases, Extremes, stored-some, some-stored, least, greatest, stored-within}
 
 -- the stored nodes above a key are told with the list's coefficients
@@ -25,8 +29,11 @@ AreRightAbove list seen k =
     (w : Key) → IsNode (height (length list)) w → k.level < w.level → IsAtOrAbove w k → IsSome (span list w) → seen.told w ≡ Some (coef list w)
 
 -- what the law rests on
-pub record Ground (list : List (Option ℤ)) (axis : Axis) (grid : Grid) (seen : Seen) : Type 0 where
+pub record Ground (list : List (Option ℤ)) (axis : Axis) (grid : Grid) (lo hi : ℤ) (seen : Seen) : Type 0 where
   pub rise : Rise
+  pub heights : HeightsRise
+  pub join : PartsJoin
+  pub proper : PartsProper
   pub extremes : Extremes list
   pub deep : length list ≤ 2 ^ height (length list)
   pub slots : axis.slots ≡ length list
@@ -35,10 +42,10 @@ pub record Ground (list : List (Option ℤ)) (axis : Axis) (grid : Grid) (seen :
   pub below : (k : Key) → k.level < height (length list)
       → known seen.root seen.told (height (length list)) k
       ≡ known_below k.index (known seen.root seen.told (height (length list)) (parent_of k)) (seen.told (parent_of k))
-  pub right : (k : Key) → IsNeeded list axis grid k → IsWanted seen axis grid k → seen.told k ≡ Some (coef list k)
+  pub right : (k : Key) → IsNeeded list axis grid lo hi k → IsWanted seen axis grid lo hi k → seen.told k ≡ Some (coef list k)
 
 -- the height of the axis is that of the list
-axis-height : {list : List (Option ℤ)} {axis : Axis} {grid : Grid} {seen : Seen} → Ground list axis grid seen → height axis.slots ≡ height (length list)
+axis-height : {list : List (Option ℤ)} {axis : Axis} {grid : Grid} {seen : Seen} {lo hi : ℤ} → Ground list axis grid lo hi seen → height axis.slots ≡ height (length list)
 axis-height g = ap height g.slots
 
 as_key : {top : ℕ} {k : Key} → IsNode top k → IsKey top k
@@ -49,11 +56,11 @@ some-is (Some x) some = (x, refl)
 some-is None some = absurd (grind (arith, some))
 
 -- a wanted key, where its span is known to be the list's
-make-wanted : {list : List (Option ℤ)} {axis : Axis} {grid : Grid} {seen : Seen} → Ground list axis grid seen → (c : ℕ) (k : Key)
+make-wanted : {list : List (Option ℤ)} {axis : Axis} {grid : Grid} {seen : Seen} {lo hi : ℤ} → Ground list axis grid lo hi seen → (c : ℕ) (k : Key)
     → IsNode (height (length list)) k → IsSome (span list k)
     → known seen.root seen.told (height (length list)) k ≡ Some (span list k) → c < grid.w
-    → IsCut axis grid c k ⊎ (IsWithin axis grid c k × (IsClearBefore seen axis grid c k ⊎ IsClearBehind seen axis grid c k))
-    → IsWanted seen axis grid k
+    → IsCut axis grid c k ⊎ (IsWithin axis grid c k × IsUneven list lo hi grid.h k × (IsClearBefore seen axis grid c k ⊎ IsClearBehind seen axis grid c k))
+    → IsWanted seen axis grid lo hi k
 make-wanted {list} {axis} {grid} {seen} g c k node some is shown reason =
     let s = some-is (span list k) some in record {
       node = subst (λ (h : ℕ). IsNode h k) (sym (axis-height g)) node;
@@ -61,7 +68,10 @@ make-wanted {list} {axis} {grid} {seen} g c k node some is shown reason =
       known_so = subst (λ (h : ℕ). known seen.root seen.told h k ≡ Some (Some s.0)) (sym (axis-height g)) (is ∙ ap Some s.1);
       column = c;
       shown = shown;
-      reason = reason;
+      reason = elim reason [
+        | inl cut ↦ inl cut
+        | inr h ↦ inr (h.0, h.1 s.0 s.1, h.2)
+      ];
     }
 
 -- what lies above a cut key is cut
@@ -76,9 +86,9 @@ cut-above c w k above cut = record {
 }
 
 -- a stored key that is cut is wanted
-cut-wanted : {list : List (Option ℤ)} {axis : Axis} {grid : Grid} {seen : Seen} → Ground list axis grid seen → (c : ℕ) → c < grid.w
+cut-wanted : {list : List (Option ℤ)} {axis : Axis} {grid : Grid} {seen : Seen} {lo hi : ℤ} → Ground list axis grid lo hi seen → (c : ℕ) → c < grid.w
     → (fuel : ℕ) (k : Key) → height (length list) ≤ k.level + fuel → IsNode (height (length list)) k → IsSome (span list k)
-    → IsCut axis grid c k → IsWanted seen axis grid k
+    → IsCut axis grid c k → IsWanted seen axis grid lo hi k
 cut-wanted {list} g c shown zero k deep node some cut =
     make-wanted g c k node some
     (g.shown k (as_key node) (λ w is lower above full. absurd (omega (arith, deep, lower, is.high))))
@@ -91,7 +101,7 @@ cut-wanted {list} g c shown (suc fuel) k deep node some cut =
     (cut-wanted g c shown fuel w (omega (arith, deep, lower)) is full (cut-above c w k above cut))))
     shown (inl cut)
 
-cut-right : {list : List (Option ℤ)} {axis : Axis} {grid : Grid} {seen : Seen} → Ground list axis grid seen → (c : ℕ) → c < grid.w
+cut-right : {list : List (Option ℤ)} {axis : Axis} {grid : Grid} {seen : Seen} {lo hi : ℤ} → Ground list axis grid lo hi seen → (c : ℕ) → c < grid.w
     → (w : Key) → IsNode (height (length list)) w → IsSome (span list w) → IsCut axis grid c w → seen.told w ≡ Some (coef list w)
 cut-right {list} g c shown w node some cut =
     g.right w
@@ -120,7 +130,7 @@ clear-span-by list j extremes empty (Some s) is =
 clear-span : (list : List (Option ℤ)) (j : ℕ) → Extremes list → (IsStoredAt list j → ⊥) → span list (slot_key j) ≡ None
 clear-span list j extremes empty = clear-span-by list j extremes empty (span list (slot_key j)) refl
 
-slot-is-key : {list : List (Option ℤ)} {axis : Axis} {grid : Grid} {seen : Seen} → Ground list axis grid seen → (c j : ℕ)
+slot-is-key : {list : List (Option ℤ)} {axis : Axis} {grid : Grid} {seen : Seen} {lo hi : ℤ} → Ground list axis grid lo hi seen → (c j : ℕ)
     → IsInColumn axis grid c j → IsKey (height (length list)) (slot_key j)
 slot-is-key {list} g c j here =
     let e : height (length list) ≡ height (length list) - 0 = omega arith in
@@ -139,36 +149,42 @@ in-between w i j t a b (inl h) = record { from = omega (arith, a.from, h.0); to 
 in-between w i j t a b (inr h) = record { from = omega (arith, b.from, h.0); to = omega (arith, a.to, h.1) }
 
 -- keys above that hold an end of the column are wanted
-abbrev WantsAbove : List (Option ℤ) → Axis → Grid → Seen → ℕ → ℕ → ℕ → Type 0
-WantsAbove list axis grid seen c i level =
-    (w : Key) → IsNode (height (length list)) w → level < w.level → IsWithin axis grid c w → IsInRange w i → IsWanted seen axis grid w
+abbrev WantsAbove : List (Option ℤ) → Axis → Grid → ℤ → ℤ → Seen → ℕ → ℕ → ℕ → Type 0
+WantsAbove list axis grid lo hi seen c i level =
+    (w : Key) → IsNode (height (length list)) w → level < w.level → IsWithin axis grid c w → IsInRange w i → IsUneven list lo hi grid.h w → IsWanted seen axis grid lo hi w
 
-needs-end : {list : List (Option ℤ)} {axis : Axis} {grid : Grid} {seen : Seen} → Ground list axis grid seen → (c i : ℕ) → c < grid.w
-    → IsEnd list axis grid c i → (w : Key) → IsNode (height (length list)) w → IsWithin axis grid c w → IsInRange w i → IsNeeded list axis grid w
-needs-end {list} g c i shown end w node within r = record {
+needs-end : {list : List (Option ℤ)} {axis : Axis} {grid : Grid} {seen : Seen} {lo hi : ℤ} → Ground list axis grid lo hi seen → (c i : ℕ) → c < grid.w
+    → IsEnd list axis grid c i → (w : Key) → IsNode (height (length list)) w → IsWithin axis grid c w → IsInRange w i → IsUneven list lo hi grid.h w → IsNeeded list axis grid lo hi w
+needs-end {list} g c i shown end w node within r uneven = record {
   node = node;
   stored = stored-some list w i g.extremes r (end-stored c i end);
   column = c;
   shown = shown;
-  reason = inr (within, record { slot = i; in_range = r; end = end });
+  reason = inr (within, uneven, record { slot = i; in_range = r; end = end });
 }
 
+-- a key above one that holds an end and isn't flat isn't
+end-uneven : {list : List (Option ℤ)} {axis : Axis} {grid : Grid} {seen : Seen} {lo hi : ℤ} → Ground list axis grid lo hi seen → (c i : ℕ)
+    → IsEnd list axis grid c i → (w k : Key) → IsAtOrAbove w k → IsInRange k i → IsUneven list lo hi grid.h k → IsUneven list lo hi grid.h w
+end-uneven {list} {axis} {grid} {seen} {lo} {hi} g c i end w k above r uneven =
+    uneven-above list lo hi grid.h w k g.heights g.extremes above (stored-some list k i g.extremes r (end-stored c i end)) uneven
+
 -- the keys above an end are right where those within the column are wanted
-end-right : {list : List (Option ℤ)} {axis : Axis} {grid : Grid} {seen : Seen} → Ground list axis grid seen → (c i : ℕ) → c < grid.w
-    → IsEnd list axis grid c i → (level : ℕ) → WantsAbove list axis grid seen c i level
-    → (w : Key) → IsNode (height (length list)) w → level < w.level → IsInRange w i → IsSome (span list w) → seen.told w ≡ Some (coef list w)
-end-right {axis = axis} {grid = grid} g c i shown end level up w node lower r full =
+end-right : {list : List (Option ℤ)} {axis : Axis} {grid : Grid} {seen : Seen} {lo hi : ℤ} → Ground list axis grid lo hi seen → (c i : ℕ) → c < grid.w
+    → IsEnd list axis grid c i → (level : ℕ) → WantsAbove list axis grid lo hi seen c i level
+    → (w : Key) → IsNode (height (length list)) w → level < w.level → IsInRange w i → IsSome (span list w) → IsUneven list lo hi grid.h w → seen.told w ≡ Some (coef list w)
+end-right {axis = axis} {grid = grid} g c i shown end level up w node lower r full uneven =
     elim (within-or-cut g.rise axis grid c w i r (end-column c i end)) [
       | inr cut ↦ cut-right g c shown w node full cut
-      | inl within ↦ g.right w (needs-end g c i shown end w node within r) (up w node lower within r)
+      | inl within ↦ g.right w (needs-end g c i shown end w node within r uneven) (up w node lower within r uneven)
     ]
 
 -- so are those above a slot that lies beyond the end and outside a key within the column that holds it
-beyond-right : {list : List (Option ℤ)} {axis : Axis} {grid : Grid} {seen : Seen} → Ground list axis grid seen → (c i : ℕ) → c < grid.w
-    → IsEnd list axis grid c i → (k : Key) → WantsAbove list axis grid seen c i k.level → IsInRange k i
+beyond-right : {list : List (Option ℤ)} {axis : Axis} {grid : Grid} {seen : Seen} {lo hi : ℤ} → Ground list axis grid lo hi seen → (c i : ℕ) → c < grid.w
+    → IsEnd list axis grid c i → (k : Key) → WantsAbove list axis grid lo hi seen c i k.level → IsInRange k i → IsUneven list lo hi grid.h k
     → (j : ℕ) → IsInColumn axis grid c j → (IsInRange k j → ⊥) → LiesBetween list axis grid c i j
     → AreRightAbove list seen (slot_key j)
-beyond-right {list} {axis} {grid} g c i shown end k up in_k j here out between w node lower above full =
+beyond-right {list} {axis} {grid} {seen} {lo} {hi} g c i shown end k up in_k uneven j here out between w node lower above full =
     let in_w : IsInRange w j = above-in_range w (slot_key j) j above (slot_key-in_range j) in
     elim (within-or-cut g.rise axis grid c w j in_w here) [
       | inr cut ↦ cut-right g c shown w node full cut
@@ -176,19 +192,21 @@ beyond-right {list} {axis} {grid} g c i shown end k up in_k j here out between w
           (let found = some-stored list w g.extremes full in
           let in_wi : IsInRange w i = in-between w i j found.0 in_w found.1 (between found.0 (within found.0 found.1) found.2) in
           elim (cases_lt k.level w.level) [
-            | inl higher ↦ g.right w (needs-end g c i shown end w node within in_wi) (up w node higher within in_wi)
+            | inl higher ↦
+                (let w_uneven = end-uneven g c i end w k (shared-above w k i (omega (arith, higher)) in_wi in_k) in_k uneven in
+                g.right w (needs-end g c i shown end w node within in_wi w_uneven) (up w node higher within in_wi w_uneven))
             | inr low ↦ absurd (out (above-in_range k w j (shared-above k w i low in_k in_wi) in_w))
           ])
     ]
 
 -- a slot that lies beyond the end is known to hold nothing
-beyond-clear : {list : List (Option ℤ)} {axis : Axis} {grid : Grid} {seen : Seen} → Ground list axis grid seen → (c i : ℕ) → c < grid.w
-    → IsEnd list axis grid c i → (k : Key) → WantsAbove list axis grid seen c i k.level → IsInRange k i
+beyond-clear : {list : List (Option ℤ)} {axis : Axis} {grid : Grid} {seen : Seen} {lo hi : ℤ} → Ground list axis grid lo hi seen → (c i : ℕ) → c < grid.w
+    → IsEnd list axis grid c i → (k : Key) → WantsAbove list axis grid lo hi seen c i k.level → IsInRange k i → IsUneven list lo hi grid.h k
     → (j : ℕ) → IsInColumn axis grid c j → (IsInRange k j → ⊥) → LiesBetween list axis grid c i j → (IsStoredAt list j → ⊥)
     → IsKnownClear seen.root seen.told (height axis.slots) j
-beyond-clear {list} {axis} {grid} {seen} g c i shown end k up in_k j here out between empty =
+beyond-clear {list} {axis} {grid} {seen} g c i shown end k up in_k uneven j here out between empty =
     subst (λ (h : ℕ). known seen.root seen.told h (slot_key j) ≡ Some None) (sym (axis-height g))
-    (g.shown (slot_key j) (slot-is-key g c j here) (beyond-right g c i shown end k up in_k j here out between)
+    (g.shown (slot_key j) (slot-is-key g c j here) (beyond-right g c i shown end k up in_k uneven j here out between)
     ∙ ap Some (clear-span list j g.extremes empty))
 
 not-before : (list : List (Option ℤ)) (axis : Axis) (grid : Grid) (c i t : ℕ) → IsFirstStored list axis grid c i
@@ -206,49 +224,49 @@ not-behind list axis grid c i t e inside full = elim (cases_lt i t) [
 ]
 
 -- all slots of the column beyond the end are
-end-clear : {list : List (Option ℤ)} {axis : Axis} {grid : Grid} {seen : Seen} → Ground list axis grid seen → (c i : ℕ) → c < grid.w
-    → (k : Key) → WantsAbove list axis grid seen c i k.level → IsInRange k i → IsEnd list axis grid c i
+end-clear : {list : List (Option ℤ)} {axis : Axis} {grid : Grid} {seen : Seen} {lo hi : ℤ} → Ground list axis grid lo hi seen → (c i : ℕ) → c < grid.w
+    → (k : Key) → WantsAbove list axis grid lo hi seen c i k.level → IsInRange k i → IsUneven list lo hi grid.h k → IsEnd list axis grid c i
     → IsClearBefore seen axis grid c k ⊎ IsClearBehind seen axis grid c k
-end-clear {list} {axis} {grid} g c i shown k up in_k (inl e) =
-    inl (λ j here low. beyond-clear g c i shown (inl e) k up in_k j here
+end-clear {list} {axis} {grid} g c i shown k up in_k uneven (inl e) =
+    inl (λ j here low. beyond-clear g c i shown (inl e) k up in_k uneven j here
     (λ r. absurd (omega (arith, low, r.from)))
     (λ t inside full. inl (omega (arith, low, in_k.from), not-before list axis grid c i t e inside full))
     (λ full. e.none_before j full.0 (omega (arith, low, in_k.from)) here full.1))
-end-clear {list} {axis} {grid} g c i shown k up in_k (inr e) =
-    inr (λ j here high. beyond-clear g c i shown (inr e) k up in_k j here
+end-clear {list} {axis} {grid} g c i shown k up in_k uneven (inr e) =
+    inr (λ j here high. beyond-clear g c i shown (inr e) k up in_k uneven j here
     (λ r. absurd (omega (arith, high, r.to)))
     (λ t inside full. inr (not-behind list axis grid c i t e inside full, omega (arith, high, in_k.to)))
     (λ full. e.none_behind j full.0 (omega (arith, high, in_k.to)) here full.1))
 
-within-by : {list : List (Option ℤ)} {axis : Axis} {grid : Grid} {seen : Seen} → Ground list axis grid seen → (c i : ℕ) → c < grid.w
-    → IsEnd list axis grid c i → (k : Key) → WantsAbove list axis grid seen c i k.level → IsNode (height (length list)) k
-    → IsWithin axis grid c k → IsInRange k i → IsWanted seen axis grid k
-within-by {list} g c i shown end k up node within r =
+within-by : {list : List (Option ℤ)} {axis : Axis} {grid : Grid} {seen : Seen} {lo hi : ℤ} → Ground list axis grid lo hi seen → (c i : ℕ) → c < grid.w
+    → IsEnd list axis grid c i → (k : Key) → WantsAbove list axis grid lo hi seen c i k.level → IsNode (height (length list)) k
+    → IsWithin axis grid c k → IsInRange k i → IsUneven list lo hi grid.h k → IsWanted seen axis grid lo hi k
+within-by {list} g c i shown end k up node within r uneven =
     make-wanted g c k node (stored-some list k i g.extremes r (end-stored c i end))
     (g.shown k (as_key node) (λ w is lower above full.
-    end-right g c i shown end k.level up w is lower (above-in_range w k i above r) full))
-    shown (inr (within, end-clear g c i shown k up r end))
+    end-right g c i shown end k.level up w is lower (above-in_range w k i above r) full (end-uneven g c i end w k above r uneven)))
+    shown (inr (within, uneven, end-clear g c i shown k up r uneven end))
 
 -- a key within a column that holds one of its ends is wanted
-within-wanted : {list : List (Option ℤ)} {axis : Axis} {grid : Grid} {seen : Seen} → Ground list axis grid seen → (c i : ℕ) → c < grid.w
+within-wanted : {list : List (Option ℤ)} {axis : Axis} {grid : Grid} {seen : Seen} {lo hi : ℤ} → Ground list axis grid lo hi seen → (c i : ℕ) → c < grid.w
     → IsEnd list axis grid c i → (fuel : ℕ) (k : Key) → height (length list) ≤ k.level + fuel → IsNode (height (length list)) k
-    → IsWithin axis grid c k → IsInRange k i → IsWanted seen axis grid k
-within-wanted {list} g c i shown end zero k deep node within r =
-    within-by g c i shown end k (λ w is lower inside holds. absurd (omega (arith, deep, lower, is.high))) node within r
-within-wanted {list} g c i shown end (suc fuel) k deep node within r =
+    → IsWithin axis grid c k → IsInRange k i → IsUneven list lo hi grid.h k → IsWanted seen axis grid lo hi k
+within-wanted {list} g c i shown end zero k deep node within r uneven =
+    within-by g c i shown end k (λ w is lower inside holds other. absurd (omega (arith, deep, lower, is.high))) node within r uneven
+within-wanted {list} g c i shown end (suc fuel) k deep node within r uneven =
     within-by g c i shown end k
-    (λ w is lower inside holds. within-wanted g c i shown end fuel w (omega (arith, deep, lower)) is inside holds) node within r
+    (λ w is lower inside holds other. within-wanted g c i shown end fuel w (omega (arith, deep, lower)) is inside holds other) node within r uneven
 
 -- a needed key is wanted
-by-reason : {list : List (Option ℤ)} {axis : Axis} {grid : Grid} {seen : Seen} → Ground list axis grid seen → (c : ℕ) → c < grid.w
+by-reason : {list : List (Option ℤ)} {axis : Axis} {grid : Grid} {seen : Seen} {lo hi : ℤ} → Ground list axis grid lo hi seen → (c : ℕ) → c < grid.w
     → (k : Key) → IsNode (height (length list)) k → IsSome (span list k)
-    → IsCut axis grid c k ⊎ (IsWithin axis grid c k × HoldsEnd list axis grid c k) → IsWanted seen axis grid k
+    → IsCut axis grid c k ⊎ (IsWithin axis grid c k × IsUneven list lo hi grid.h k × HoldsEnd list axis grid c k) → IsWanted seen axis grid lo hi k
 by-reason {list} g c shown k node some (inl cut) = cut-wanted g c shown (height (length list)) k (omega arith) node some cut
 by-reason {list} g c shown k node some (inr h) =
-    within-wanted g c h.1.slot shown h.1.end (height (length list)) k (omega arith) node h.0 h.1.in_range
+    within-wanted g c h.2.slot shown h.2.end (height (length list)) k (omega arith) node h.0 h.2.in_range h.1
 
-pub needed-wanted : {list : List (Option ℤ)} {axis : Axis} {grid : Grid} {seen : Seen} → Ground list axis grid seen → (k : Key)
-    → IsNeeded list axis grid k → IsWanted seen axis grid k
+pub needed-wanted : {list : List (Option ℤ)} {axis : Axis} {grid : Grid} {seen : Seen} {lo hi : ℤ} → Ground list axis grid lo hi seen → (k : Key)
+    → IsNeeded list axis grid lo hi k → IsWanted seen axis grid lo hi k
 needed-wanted g k n = by-reason g n.column n.shown k n.node n.stored n.reason
 
 at-most : (a b : ℕ) → (b < a → ⊥) → a ≤ b
@@ -271,12 +289,6 @@ no-none h = cc
 
 inner : {X : Type 0} {a b : X} → ◌≡◌ {A = Option X} (Some a) (Some b) → a ≡ b
 inner h = cc
-
-first-in_range : (k : Key) → IsInRange k (first_slot k)
-first-in_range k = record { from = omega arith; to = omega (arith, power-some k.level) }
-
-last-in_range : (k : Key) → IsInRange k (end_slot k - 1)
-last-in_range k = record { from = omega (arith, power-some k.level); to = omega (arith, power-some k.level) }
 
 -- the first and the last stored slot of a column below and behind a stored one
 kind-cases : (list : List (Option ℤ)) (axis : Axis) (grid : Grid) (c i : ℕ)
@@ -328,87 +340,212 @@ last-of list axis grid c i here full =
     ]
 
 -- the keys above a key are right where they are needed
-abbrev NeedsAbove : List (Option ℤ) → Axis → Grid → Key → Type 0
-NeedsAbove list axis grid k =
-    (w : Key) → IsNode (height (length list)) w → k.level < w.level → IsAtOrAbove w k → IsNeeded list axis grid w
+abbrev NeedsAbove : List (Option ℤ) → Axis → Grid → ℤ → ℤ → Key → Type 0
+NeedsAbove list axis grid lo hi k =
+    (w : Key) → IsNode (height (length list)) w → k.level < w.level → IsAtOrAbove w k → IsNeeded list axis grid lo hi w
 
-above-right : {list : List (Option ℤ)} {axis : Axis} {grid : Grid} {seen : Seen} → Ground list axis grid seen → (k : Key)
-    → NeedsAbove list axis grid k → AreRightAbove list seen k
+above-right : {list : List (Option ℤ)} {axis : Axis} {grid : Grid} {seen : Seen} {lo hi : ℤ} → Ground list axis grid lo hi seen → (k : Key)
+    → NeedsAbove list axis grid lo hi k → AreRightAbove list seen k
 above-right g k up w node lower above full =
     let n = up w node lower above in g.right w n (needed-wanted g w n)
 
--- a stored end of a column isn't known to hold nothing
-not-clear : {list : List (Option ℤ)} {axis : Axis} {grid : Grid} {seen : Seen} → Ground list axis grid seen → (c i : ℕ) → c < grid.w
-    → IsEnd list axis grid c i → IsKnownClear seen.root seen.told (height axis.slots) i → ⊥
-not-clear {list} {axis} {grid} {seen} g c i shown end clear =
+-- the key of this level over slot i is within the column and flat
+abbrev IsStop : List (Option ℤ) → Axis → Grid → ℤ → ℤ → ℕ → Key → Type 0
+IsStop list axis grid lo hi c k = (1 ≤ k.level) × IsWithin axis grid c k × IsFlatKey list lo hi grid.h k
+
+stop-cases : Rise → (list : List (Option ℤ)) (axis : Axis) (grid : Grid) (lo hi : ℤ) (c i : ℕ) → IsInColumn axis grid c i → (level : ℕ)
+    → IsStop list axis grid lo hi c (key_at level i) ⊎ (IsStop list axis grid lo hi c (key_at level i) → ⊥)
+stop-cases rise list axis grid lo hi c i here level =
+    elim (cases_lt 0 level) [
+      | inr none ↦ inr (λ (h : IsStop list axis grid lo hi c (key_at level i)). absurd (omega (arith, none, h.0)))
+      | inl some ↦ elim (within-or-cut rise axis grid c (key_at level i) i (key_at-in_range level i) here) [
+        | inr cut ↦ inr (λ (h : IsStop list axis grid lo hi c (key_at level i)). cut.outside (h.1 cut.other cut.other_in_range))
+        | inl within ↦ elim (flat-cases list lo hi grid.h (key_at level i)) [
+          | inr not ↦ inr (λ (h : IsStop list axis grid lo hi c (key_at level i)). not h.2)
+          | inl flat ↦ inl (omega (arith, some), within, flat)
+        ]
+      ]
+    ]
+
+-- a key that holds slot i is that of its level over it
+key_at-is : (w : Key) (i : ℕ) → IsInRange w i → key_at w.level i ≡ w
+key_at-is w i r = ap (λ q. make_key w.level q) (in_range-index w i r)
+
+-- the keys above an end are right down to the highest one that is within the column and flat
+chain-right : {list : List (Option ℤ)} {axis : Axis} {grid : Grid} {seen : Seen} {lo hi : ℤ} → Ground list axis grid lo hi seen → (c i : ℕ) → c < grid.w
+    → IsEnd list axis grid c i → (level : ℕ)
+    → ((l : ℕ) → level < l → l < suc (height (length list)) → IsStop list axis grid lo hi c (key_at l i) → ⊥)
+    → AreRightAbove list seen (key_at level i)
+chain-right {list} {axis} {grid} {seen} {lo} {hi} g c i shown end level none w node lower above full =
+    let r : IsInRange w i = above-in_range w (key_at level i) i above (key_at-in_range level i) in
+    elim (within-or-cut g.rise axis grid c w i r (end-column c i end)) [
+      | inr cut ↦ cut-right g c shown w node full cut
+      | inl within ↦
+          (let uneven : IsUneven list lo hi grid.h w = λ s is flat. none w.level lower (omega (arith, node.high))
+          (subst (λ (k : Key). IsStop list axis grid lo hi c k) (sym (key_at-is w i r)) (node.low, within, (s, is, flat))) in
+          g.right w (needs-end g c i shown end w node within r uneven)
+          (within-wanted g c i shown end (height (length list)) w (omega arith) node within r uneven))
+    ]
+
+-- where what is known below an end of a column stops: at the end's own slot, or at a flat key over it
+record Stop (list : List (Option ℤ)) (axis : Axis) (grid : Grid) (lo hi : ℤ) (seen : Seen) (c i : ℕ) : Type 0 where
+  level : ℕ
+  high : level ≤ height (length list)
+  within : IsWithin axis grid c (key_at level i)
+  right : AreRightAbove list seen (key_at level i)
+  kind : (level ≡ 0) ⊎ IsFlatKey list lo hi grid.h (key_at level i)
+
+only-slot : (i j : ℕ) → IsInRange (key_at 0 i) j → j ≡ i
+only-slot i j r = omega (arith, r.from, r.to)
+
+slot-within : {axis : Axis} {grid : Grid} (c i : ℕ) → IsInColumn axis grid c i → IsWithin axis grid c (key_at 0 i)
+slot-within {axis} {grid} c i here j r = subst (λ (n : ℕ). IsInColumn axis grid c n) (sym (only-slot i j r)) here
+
+stop-of : {list : List (Option ℤ)} {axis : Axis} {grid : Grid} {seen : Seen} {lo hi : ℤ} → Ground list axis grid lo hi seen → (c i : ℕ) → c < grid.w
+    → IsEnd list axis grid c i → Stop list axis grid lo hi seen c i
+stop-of {list} {axis} {grid} {seen} {lo} {hi} g c i shown end =
+    elim (greatest (λ l. IsStop list axis grid lo hi c (key_at l i)) (stop-cases g.rise list axis grid lo hi c i (end-column c i end)) (suc (height (length list)))) [
+      | inl found ↦ record {
+        level = found.0;
+        high = omega (arith, found.1);
+        within = found.2.0.1;
+        right = chain-right g c i shown end found.0 found.2.1;
+        kind = inr found.2.0.2;
+      }
+      | inr none ↦ record {
+        level = 0;
+        high = omega arith;
+        within = slot-within c i (end-column c i end);
+        right = chain-right g c i shown end 0 (λ l low high. none l high);
+        kind = inl refl;
+      }
+    ]
+
+part-within : (n P Q i : ℕ) → 0 < P → Q * P ≡ n → i < n → i / P < Q
+part-within n P Q i some is low = elim (cases_lt (i / P) Q) [
+  | inl below ↦ below
+  | inr above ↦ absurd (omega (arith, (le-div_iff_mul-le some).0 above, is, low))
+]
+
+key_at-is_key : (top level i : ℕ) → level ≤ top → i < 2 ^ top → IsKey top (key_at level i)
+key_at-is_key top level i high low =
+    record {
+      high = high;
+      within = part-within (2 ^ top) (2 ^ level) (2 ^ (top - level)) i (power-some level)
+          (sym (pow-add 2 (top - level) level) ∙ ap (λ n. 2 ^ n) (omega (arith, high))) low;
+    }
+
+-- not all slots of the key where it stops are known to hold nothing
+stop-open : {list : List (Option ℤ)} {axis : Axis} {grid : Grid} {seen : Seen} {lo hi : ℤ} → Ground list axis grid lo hi seen → (c i : ℕ)
+    → IsEnd list axis grid c i → (s : Stop list axis grid lo hi seen c i)
+    → ((j : ℕ) → IsInRange (key_at s.level i) j → IsKnownClear seen.root seen.told (height axis.slots) j) → ⊥
+stop-open {list} {axis} {grid} {seen} g c i end s clear =
     let here = end-column c i end in
-    let full = stored-some list (slot_key i) i g.extremes (slot_key-in_range i) (end-stored c i end) in
-    let s = some-is (span list (slot_key i)) full in
-    let k : known seen.root seen.told (height (length list)) (slot_key i) ≡ Some None =
-    subst (λ (h : ℕ). known seen.root seen.told h (slot_key i) ≡ Some None) (axis-height g) clear in
-    let r : known seen.root seen.told (height (length list)) (slot_key i) ≡ Some (span list (slot_key i)) =
-    g.shown (slot_key i) (slot-is-key g c i here)
-    (λ w node lower above some. end-right g c i shown end 0
-    (λ v is low within holds. within-wanted g c i shown end (height (length list)) v (omega arith) is within holds)
-    w node lower (above-in_range w (slot_key i) i above (slot_key-in_range i)) some) in
-    apart (sym k ∙ r ∙ ap Some s.1)
+    let key : IsKey (height (length list)) (key_at s.level i) =
+    key_at-is_key (height (length list)) s.level i s.high (omega (arith, here.slot, g.slots, g.deep)) in
+    let full = stored-some list (key_at s.level i) i g.extremes (key_at-in_range s.level i) (end-stored c i end) in
+    let found = some-is (span list (key_at s.level i)) full in
+    let none : known seen.root seen.told (height (length list)) (key_at s.level i) ≡ Some None =
+    slots-clear g.join (known seen.root seen.told (height (length list))) seen.told (height (length list)) g.below (key_at s.level i) s.high
+    (λ j r. subst (λ (h : ℕ). known seen.root seen.told h (slot_key j) ≡ Some None) (axis-height g) (clear j r)) in
+    apart (sym none ∙ g.shown (key_at s.level i) key s.right ∙ ap Some found.1)
+
+-- the key where it stops shares no slot with one that isn't flat and doesn't hold the end
+stop-apart : {list : List (Option ℤ)} {axis : Axis} {grid : Grid} {seen : Seen} {lo hi : ℤ} → Ground list axis grid lo hi seen → (c i : ℕ)
+    → (s : Stop list axis grid lo hi seen c i) → (k : Key) → 1 ≤ k.level → IsSome (span list k) → IsUneven list lo hi grid.h k
+    → (IsInRange k i → ⊥) → (b : ℕ) → IsInRange k b → IsInRange (key_at s.level i) b → ⊥
+stop-apart {list} {axis} {grid} {seen} {lo} {hi} g c i s k node some uneven out b in_k in_s =
+    elim (cases_lt s.level k.level) [
+      | inl low ↦ out (above-in_range k (key_at s.level i) i (shared-above k (key_at s.level i) b (omega (arith, low)) in_k in_s) (key_at-in_range s.level i))
+      | inr high ↦ elim s.kind [
+        | inl slot ↦ absurd (omega (arith, slot, high, node))
+        | inr flat ↦
+            uneven-above list lo hi grid.h (key_at s.level i) k g.heights g.extremes (shared-above (key_at s.level i) k b high in_s in_k) some uneven
+            flat.0 flat.1 flat.2
+      ]
+    ]
+
+-- a first stored slot before a key that isn't flat leaves a slot before it that isn't known to hold nothing
+not-clear-before : {list : List (Option ℤ)} {axis : Axis} {grid : Grid} {seen : Seen} {lo hi : ℤ} → Ground list axis grid lo hi seen → (c i : ℕ) → c < grid.w
+    → IsEnd list axis grid c i → (k : Key) → 1 ≤ k.level → IsSome (span list k) → IsUneven list lo hi grid.h k → i < first_slot k
+    → IsClearBefore seen axis grid c k → ⊥
+not-clear-before {list} {axis} {grid} {seen} {lo} {hi} g c i shown end k node some uneven low clear =
+    let s = stop-of g c i shown end in
+    let at = key_at-in_range s.level i in
+    stop-open g c i end s (λ j r. clear j (s.within j r) (below-end j (first_slot k) (λ high.
+    stop-apart g c i s k node some uneven (λ in_k. absurd (omega (arith, in_k.from, low))) (first_slot k) (first-in_range k)
+    (record { from = omega (arith, at.from, low); to = omega (arith, high, r.to) }))))
+
+-- so does a last one behind it
+not-clear-behind : {list : List (Option ℤ)} {axis : Axis} {grid : Grid} {seen : Seen} {lo hi : ℤ} → Ground list axis grid lo hi seen → (c i : ℕ) → c < grid.w
+    → IsEnd list axis grid c i → (k : Key) → 1 ≤ k.level → IsSome (span list k) → IsUneven list lo hi grid.h k → end_slot k ≤ i
+    → IsClearBehind seen axis grid c k → ⊥
+not-clear-behind {list} {axis} {grid} {seen} {lo} {hi} g c i shown end k node some uneven high clear =
+    let s = stop-of g c i shown end in
+    let at = key_at-in_range s.level i in
+    let last = last-in_range k in
+    stop-open g c i end s (λ j r. clear j (s.within j r) (at-most (end_slot k) j (λ low.
+    stop-apart g c i s k node some uneven (λ in_k. absurd (omega (arith, in_k.to, high))) (end_slot k - 1) last
+    (record { from = omega (arith, r.from, low); to = omega (arith, at.to, high, last.from) }))))
 
 -- a key that is wanted, whose keys above are needed, is needed
-holds-end : {list : List (Option ℤ)} {axis : Axis} {grid : Grid} {seen : Seen} → Ground list axis grid seen → (c : ℕ) → c < grid.w
-    → (k : Key) → IsSome (span list k) → IsWithin axis grid c k
+holds-end : {list : List (Option ℤ)} {axis : Axis} {grid : Grid} {seen : Seen} {lo hi : ℤ} → Ground list axis grid lo hi seen → (c : ℕ) → c < grid.w
+    → (k : Key) → 1 ≤ k.level → IsSome (span list k) → IsUneven list lo hi grid.h k → IsWithin axis grid c k
     → IsClearBefore seen axis grid c k ⊎ IsClearBehind seen axis grid c k → HoldsEnd list axis grid c k
-holds-end {list} {axis} {grid} g c shown k some within (inl clear) =
+holds-end {list} {axis} {grid} g c shown k node some uneven within (inl clear) =
     let found = some-stored list k g.extremes some in
     let first = first-of list axis grid c found.0 (within found.0 found.1) found.2 in
     record {
       slot = first.0;
       in_range = record {
-        from = at-most (first_slot k) first.0 (λ low. not-clear g c first.0 shown (inl first.2) (clear first.0 first.2.in_column low));
+        from = at-most (first_slot k) first.0 (λ low. not-clear-before g c first.0 shown (inl first.2) k node some uneven low clear);
         to = omega (arith, first.1, found.1.to);
       };
       end = inl first.2;
     }
-holds-end {list} {axis} {grid} g c shown k some within (inr clear) =
+holds-end {list} {axis} {grid} g c shown k node some uneven within (inr clear) =
     let found = some-stored list k g.extremes some in
     let last = last-of list axis grid c found.0 (within found.0 found.1) found.2 in
     record {
       slot = last.0;
       in_range = record {
         from = omega (arith, last.1, found.1.from);
-        to = below-end last.0 (end_slot k) (λ high. not-clear g c last.0 shown (inr last.2) (clear last.0 last.2.in_column high));
+        to = below-end last.0 (end_slot k) (λ high. not-clear-behind g c last.0 shown (inr last.2) k node some uneven high clear);
       };
       end = inr last.2;
     }
 
-reason-needed : {list : List (Option ℤ)} {axis : Axis} {grid : Grid} {seen : Seen} → Ground list axis grid seen → (c : ℕ) → c < grid.w
-    → (k : Key) → IsSome (span list k)
-    → IsCut axis grid c k ⊎ (IsWithin axis grid c k × (IsClearBefore seen axis grid c k ⊎ IsClearBehind seen axis grid c k))
-    → IsCut axis grid c k ⊎ (IsWithin axis grid c k × HoldsEnd list axis grid c k)
-reason-needed g c shown k some (inl cut) = inl cut
-reason-needed g c shown k some (inr h) = inr (h.0, holds-end g c shown k some h.0 h.1)
+reason-needed : {list : List (Option ℤ)} {axis : Axis} {grid : Grid} {seen : Seen} {lo hi : ℤ} → Ground list axis grid lo hi seen → (c : ℕ) → c < grid.w
+    → (k : Key) → 1 ≤ k.level → (s : Span) → span list k ≡ Some s
+    → IsCut axis grid c k ⊎ (IsWithin axis grid c k × (IsFlat lo hi grid.h s → ⊥) × (IsClearBefore seen axis grid c k ⊎ IsClearBehind seen axis grid c k))
+    → IsCut axis grid c k ⊎ (IsWithin axis grid c k × IsUneven list lo hi grid.h k × HoldsEnd list axis grid c k)
+reason-needed g c shown k node s is (inl cut) = inl cut
+reason-needed {list} {axis} {grid} {seen} {lo} {hi} g c shown k node s is (inr h) =
+    let uneven : IsUneven list lo hi grid.h k = λ t t_is flat. h.1 (subst (λ (o : Span). IsFlat lo hi grid.h o) (inner (sym t_is ∙ is)) flat) in
+    inr (h.0, uneven, holds-end g c shown k node (ap is_some is) uneven h.0 h.2)
 
-needed-by : {list : List (Option ℤ)} {axis : Axis} {grid : Grid} {seen : Seen} → Ground list axis grid seen → (k : Key)
-    → IsWanted seen axis grid k → NeedsAbove list axis grid k → IsNeeded list axis grid k
+needed-by : {list : List (Option ℤ)} {axis : Axis} {grid : Grid} {seen : Seen} {lo hi : ℤ} → Ground list axis grid lo hi seen → (k : Key)
+    → IsWanted seen axis grid lo hi k → NeedsAbove list axis grid lo hi k → IsNeeded list axis grid lo hi k
 needed-by {list} {axis} {grid} {seen} g k w up =
     let node : IsNode (height (length list)) k = subst (λ (h : ℕ). IsNode h k) (axis-height g) w.node in
     let k_is : known seen.root seen.told (height (length list)) k ≡ Some (Some w.span) =
     subst (λ (h : ℕ). known seen.root seen.told h k ≡ Some (Some w.span)) (axis-height g) w.known_so in
-    let some : IsSome (span list k) = ap is_some (inner (sym (g.shown k (as_key node) (above-right g k up)) ∙ k_is)) in
+    let is : span list k ≡ Some w.span = inner (sym (g.shown k (as_key node) (above-right g k up)) ∙ k_is) in
     record {
       node = node;
-      stored = some;
+      stored = ap is_some is;
       column = w.column;
       shown = w.shown;
-      reason = reason-needed g w.column w.shown k some w.reason;
+      reason = reason-needed g w.column w.shown k node.low w.span is w.reason;
     }
 
 -- the key above a wanted one is wanted
-parent-reason : {list : List (Option ℤ)} {axis : Axis} {grid : Grid} {seen : Seen} → Ground list axis grid seen → (c : ℕ) (k p : Key)
-    → IsAtOrAbove p k
-    → IsCut axis grid c k ⊎ (IsWithin axis grid c k × (IsClearBefore seen axis grid c k ⊎ IsClearBehind seen axis grid c k))
-    → IsCut axis grid c p ⊎ (IsWithin axis grid c p × (IsClearBefore seen axis grid c p ⊎ IsClearBehind seen axis grid c p))
-parent-reason g c k p above (inl cut) = inl (cut-above c p k above cut)
-parent-reason {axis = axis} {grid = grid} g c k p above (inr h) =
+parent-reason : {list : List (Option ℤ)} {axis : Axis} {grid : Grid} {seen : Seen} {lo hi : ℤ} → Ground list axis grid lo hi seen → (c : ℕ) (k p : Key) (s t : Span)
+    → IsAtOrAbove p k → IsInside s t
+    → IsCut axis grid c k ⊎ (IsWithin axis grid c k × (IsFlat lo hi grid.h s → ⊥) × (IsClearBefore seen axis grid c k ⊎ IsClearBehind seen axis grid c k))
+    → IsCut axis grid c p ⊎ (IsWithin axis grid c p × (IsFlat lo hi grid.h t → ⊥) × (IsClearBefore seen axis grid c p ⊎ IsClearBehind seen axis grid c p))
+parent-reason g c k p s t above inside (inl cut) = inl (cut-above c p k above cut)
+parent-reason {list} {axis} {grid} {seen} {lo} {hi} g c k p s t above inside (inr h) =
     let first = first-in_range k in
     let last = last-in_range k in
     let low = above-in_range p k (first_slot k) above first in
@@ -417,23 +554,13 @@ parent-reason {axis = axis} {grid = grid} g c k p above (inr h) =
       | inr cut ↦ inl cut
       | inl within ↦ inr (
         within,
-        elim h.1 [
+        λ flat. h.1 (inside-flat g.heights lo hi grid.h s t inside flat),
+        elim h.2 [
           | inl clear ↦ inl (λ j here before. clear j here (omega (arith, before, low.from)))
           | inr clear ↦ inr (λ j here behind. clear j here (omega (arith, behind, high.to)))
         ],
       )
     ]
-
-parent-seen : (index : ℕ) (p : Option (Option Span)) (c : Option Coef) (s : Span) → known_below index p c ≡ Some (Some s)
-    → (t : Span) × (p ≡ Some (Some t))
-parent-seen index None c s is = absurd (no-none is)
-parent-seen index (Some None) c s is = absurd (apart is)
-parent-seen index (Some (Some t)) c s is = (t, refl)
-
-half-index : (k : Key) → k.index / 2 ^ (suc k.level - k.level) ≡ k.index / 2
-half-index k =
-    let e : suc k.level - k.level ≡ 1 = omega arith in
-    ap (λ n. k.index / 2 ^ n) e
 
 half-within : (index a b : ℕ) → a ≡ suc b → index < 2 ^ a → index / 2 < 2 ^ b
 half-within index a b e within = omega (arith, subst (λ n. index < 2 ^ n) e within)
@@ -443,16 +570,6 @@ parent-index k level index e holds =
     let one : level - k.level ≡ 1 = omega (arith, e) in
     sym (ap (λ n. k.index / 2 ^ n) one) ∙ holds
 
-abbrev make : ℕ → ℕ → Key
-make level index = record { level = level; index = index }
-
-key-same : (a b : Key) → a.level ≡ b.level → a.index ≡ b.index → a ≡ b
-key-same a b level index = ap (λ l. make l a.index) level ∙ ap (λ i. make b.level i) index
-
--- the key above another one
-parent-above : (k : Key) → IsAtOrAbove (parent_of k) k
-parent-above k = record { higher = omega arith; holds = half-index k }
-
 parent-node : (top : ℕ) (k : Key) → IsNode top k → k.level < top → IsNode top (parent_of k)
 parent-node top k node low = record {
   low = omega arith;
@@ -460,13 +577,13 @@ parent-node top k node low = record {
   within = half-within k.index (top - k.level) (top - suc k.level) (omega (arith, low)) node.within;
 }
 
-parent-wanted : {list : List (Option ℤ)} {axis : Axis} {grid : Grid} {seen : Seen} → Ground list axis grid seen → (k : Key)
-    → IsWanted seen axis grid k → k.level < height (length list) → IsWanted seen axis grid (parent_of k)
+parent-wanted : {list : List (Option ℤ)} {axis : Axis} {grid : Grid} {seen : Seen} {lo hi : ℤ} → Ground list axis grid lo hi seen → (k : Key)
+    → IsWanted seen axis grid lo hi k → k.level < height (length list) → IsWanted seen axis grid lo hi (parent_of k)
 parent-wanted {list} {axis} {grid} {seen} g k w low =
     let node : IsNode (height (length list)) k = subst (λ (h : ℕ). IsNode h k) (axis-height g) w.node in
     let k_is : known seen.root seen.told (height (length list)) k ≡ Some (Some w.span) =
     subst (λ (h : ℕ). known seen.root seen.told h k ≡ Some (Some w.span)) (axis-height g) w.known_so in
-    let p = parent-seen k.index (known seen.root seen.told (height (length list)) (parent_of k)) (seen.told (parent_of k)) w.span
+    let p = parent-seen g.join g.proper k.index (known seen.root seen.told (height (length list)) (parent_of k)) (seen.told (parent_of k)) w.span
     (sym (g.below k low) ∙ k_is) in
     record {
       node = subst (λ (h : ℕ). IsNode h (parent_of k)) (sym (axis-height g)) (parent-node (height (length list)) k node low);
@@ -474,14 +591,14 @@ parent-wanted {list} {axis} {grid} {seen} g k w low =
       known_so = subst (λ (h : ℕ). known seen.root seen.told h (parent_of k) ≡ Some (Some p.0)) (sym (axis-height g)) p.1;
       column = w.column;
       shown = w.shown;
-      reason = parent-reason g w.column k (parent_of k) (parent-above k) w.reason;
+      reason = parent-reason g w.column k (parent_of k) w.span p.0 (parent-above k) p.2 w.reason;
     }
 
 -- the keys above a wanted one are needed
-wanted-above : {list : List (Option ℤ)} {axis : Axis} {grid : Grid} {seen : Seen} → Ground list axis grid seen → (fuel : ℕ) (k : Key)
-    → height (length list) ≤ k.level + fuel → IsWanted seen axis grid k → NeedsAbove list axis grid k
+wanted-above : {list : List (Option ℤ)} {axis : Axis} {grid : Grid} {seen : Seen} {lo hi : ℤ} → Ground list axis grid lo hi seen → (fuel : ℕ) (k : Key)
+    → height (length list) ≤ k.level + fuel → IsWanted seen axis grid lo hi k → NeedsAbove list axis grid lo hi k
 wanted-above {list} g zero k deep want w node lower above = absurd (omega (arith, deep, lower, node.high))
-wanted-above {list} {axis} {grid} g (suc fuel) k deep want w node lower above =
+wanted-above {list} {axis} {grid} {seen} {lo} {hi} g (suc fuel) k deep want w node lower above =
     let low : k.level < height (length list) = omega (arith, lower, node.high) in
     let p_want = parent-wanted g k want low in
     let p_up = wanted-above g fuel (parent_of k) (omega (arith, deep)) p_want in
@@ -493,17 +610,17 @@ wanted-above {list} {axis} {grid} g (suc fuel) k deep want w node lower above =
           (above-in_range (parent_of k) k (first_slot k) (parent-above k) first))
       | inr same ↦
           (let level : suc k.level ≡ w.level = omega (arith, same, lower) in
-          subst (λ (v : Key). IsNeeded list axis grid v) (key-same (parent_of k) w level (parent-index k w.level w.index level above.holds))
+          subst (λ (v : Key). IsNeeded list axis grid lo hi v) (key-same (parent_of k) w level (parent-index k w.level w.index level above.holds))
           (needed-by g (parent_of k) p_want p_up))
     ]
 
-pub wanted-needed : {list : List (Option ℤ)} {axis : Axis} {grid : Grid} {seen : Seen} → Ground list axis grid seen → (k : Key)
-    → IsWanted seen axis grid k → IsNeeded list axis grid k
+pub wanted-needed : {list : List (Option ℤ)} {axis : Axis} {grid : Grid} {seen : Seen} {lo hi : ℤ} → Ground list axis grid lo hi seen → (k : Key)
+    → IsWanted seen axis grid lo hi k → IsNeeded list axis grid lo hi k
 wanted-needed {list} g k w = needed-by g k w (wanted-above g (height (length list)) k (omega arith) w)
 
 -- what is seen of a wanted key is the list's span
-pub wanted-shown : {list : List (Option ℤ)} {axis : Axis} {grid : Grid} {seen : Seen} → Ground list axis grid seen → (k : Key)
-    → IsWanted seen axis grid k → known seen.root seen.told (height axis.slots) k ≡ Some (span list k)
+pub wanted-shown : {list : List (Option ℤ)} {axis : Axis} {grid : Grid} {seen : Seen} {lo hi : ℤ} → Ground list axis grid lo hi seen → (k : Key)
+    → IsWanted seen axis grid lo hi k → known seen.root seen.told (height axis.slots) k ≡ Some (span list k)
 wanted-shown {list} {axis} {grid} {seen} g k w =
     let node : IsNode (height (length list)) k = subst (λ (h : ℕ). IsNode h k) (axis-height g) w.node in
     subst (λ (h : ℕ). known seen.root seen.told h k ≡ Some (span list k)) (sym (axis-height g))

@@ -1,4 +1,5 @@
 pub mod Ranges
+pub mod Flat
 pub mod Needed
 pub mod Wanted
 pub mod Listed

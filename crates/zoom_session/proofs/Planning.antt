@@ -26,25 +26,25 @@ have_entries s series slots keys (Ok plan) order entries needed planned =
 have_entries s series slots keys (Err error) order entries needed planned = tt
 
 -- why the walk gave no keys is why there is no plan
-pub walk_stops : (o : Option Session) (s : Session) (old new : NodesView) (axis : Axis) (grid : Grid) (error : ScanOf) → o ≡ Some s → IsCauseFor old new axis grid error → RefusesPlan o old new axis grid (plan_error_of error)
-walk_stops o s old new axis grid (scan.Node error) same cause = subst (λ o. RefusesPlan o old new axis grid (Node error)) (sym same) cause
-walk_stops o s old new axis grid scan.NoMemory same cause = subst (λ o. RefusesPlan o old new axis grid NoMemory) (sym same) tt
+pub walk_stops : (o : Option Session) (s : Session) (old new : NodesView) (axis : Axis) (grid : Grid) (lo hi : ℤ) (error : ScanOf) → o ≡ Some s → IsCauseFor old new axis grid lo hi error → RefusesPlan o old new axis grid lo hi (plan_error_of error)
+walk_stops o s old new axis grid lo hi (scan.Node error) same cause = subst (λ o. RefusesPlan o old new axis grid lo hi (Node error)) (sym same) cause
+walk_stops o s old new axis grid lo hi scan.NoMemory same cause = subst (λ o. RefusesPlan o old new axis grid lo hi NoMemory) (sym same) tt
 
 -- too many keys are why there is no plan
-too_many : (s : Session) (old new : NodesView) (axis : Axis) (grid : Grid) (keys : List (Key × Coef)) (error : PlanError) → IsTooLarge s keys error → RefusesPlan (Some s) old new axis grid error
-too_many s old new axis grid keys (TooLarge needed cache) large = large.0
-too_many s old new axis grid keys (Node error) large = absurd large
-too_many s old new axis grid keys NoMemory large = tt
+too_many : (s : Session) (old new : NodesView) (axis : Axis) (grid : Grid) (lo hi : ℤ) (keys : List (Key × Coef)) (error : PlanError) → IsTooLarge s keys error → RefusesPlan (Some s) old new axis grid lo hi error
+too_many s old new axis grid lo hi keys (TooLarge needed cache) large = large.0
+too_many s old new axis grid lo hi keys (Node error) large = absurd large
+too_many s old new axis grid lo hi keys NoMemory large = tt
 
-pub keys_stop : (o : Option Session) (s : Session) (old new : NodesView) (axis : Axis) (grid : Grid) (keys : List (Key × Coef)) (r : Result Plan PlanError) → o ≡ Some s → IfErr r (IsTooLarge s keys) → IfErr r (RefusesPlan o old new axis grid)
-keys_stop o s old new axis grid keys (Ok plan) same large = tt
-keys_stop o s old new axis grid keys (Err error) same large = subst (λ o. RefusesPlan o old new axis grid error) (sym same) (too_many s old new axis grid keys error large)
+pub keys_stop : (o : Option Session) (s : Session) (old new : NodesView) (axis : Axis) (grid : Grid) (lo hi : ℤ) (keys : List (Key × Coef)) (r : Result Plan PlanError) → o ≡ Some s → IfErr r (IsTooLarge s keys) → IfErr r (RefusesPlan o old new axis grid lo hi)
+keys_stop o s old new axis grid lo hi keys (Ok plan) same large = tt
+keys_stop o s old new axis grid lo hi keys (Err error) same large = subst (λ o. RefusesPlan o old new axis grid lo hi error) (sym same) (too_many s old new axis grid lo hi keys error large)
 
-counted : (s : Session) (list : List (Option ℤ)) (axis : Axis) (grid : Grid) (keys : List (Key × Coef)) (error : PlanError) → AreNeeded list axis grid keys → IsTooLarge s keys error → CountsNeeded list axis grid error
-counted s list axis grid keys (TooLarge needed cache) each large = (keys, each, sym large.1)
-counted s list axis grid keys (Node error) each large = tt
-counted s list axis grid keys NoMemory each large = tt
+counted : (s : Session) (list : List (Option ℤ)) (axis : Axis) (grid : Grid) (lo hi : ℤ) (keys : List (Key × Coef)) (error : PlanError) → AreNeeded list axis grid lo hi keys → IsTooLarge s keys error → CountsNeeded list axis grid lo hi error
+counted s list axis grid lo hi keys (TooLarge needed cache) each large = (keys, each, sym large.1)
+counted s list axis grid lo hi keys (Node error) each large = tt
+counted s list axis grid lo hi keys NoMemory each large = tt
 
-pub counts_needed : (s : Session) (list : List (Option ℤ)) (axis : Axis) (grid : Grid) (keys : List (Key × Coef)) (r : Result Plan PlanError) → AreNeeded list axis grid keys → IfErr r (IsTooLarge s keys) → IfErr r (CountsNeeded list axis grid)
-counts_needed s list axis grid keys (Ok plan) each large = tt
-counts_needed s list axis grid keys (Err error) each large = counted s list axis grid keys error each large
+pub counts_needed : (s : Session) (list : List (Option ℤ)) (axis : Axis) (grid : Grid) (lo hi : ℤ) (keys : List (Key × Coef)) (r : Result Plan PlanError) → AreNeeded list axis grid lo hi keys → IfErr r (IsTooLarge s keys) → IfErr r (CountsNeeded list axis grid lo hi)
+counts_needed s list axis grid lo hi keys (Ok plan) each large = tt
+counts_needed s list axis grid lo hi keys (Err error) each large = counted s list axis grid lo hi keys error each large

@@ -18,13 +18,14 @@ use Rattle.zoom_session.specs.declared.session.Session.{Session}
 use Rattle.zoom_session.specs.declared.errors.PlanError.{PlanError}
 use Rattle.zoom_session.specs.declared.errors.PlanError.TheVariants.{TooLarge, Node, NoMemory}
 
--- these are the keys that a view of a series needs, with their present coefficients, in order
-abbrev pub AreNeeded : List (Option ℤ) → Axis → Grid → List (Key × Coef) → Type 0
-AreNeeded list axis grid needed = IsListOf (IsNeeded list axis grid) (λ k. Some (coef list k)) needed
+-- these are the keys that a view of a series over the range lo to hi needs, with their present
+-- coefficients, in order
+abbrev pub AreNeeded : List (Option ℤ) → Axis → Grid → ℤ → ℤ → List (Key × Coef) → Type 0
+AreNeeded list axis grid lo hi needed = IsListOf (IsNeeded list axis grid lo hi) (λ k. Some (coef list k)) needed
 
 -- these are the keys that a view wants by what nodes tell, with the coefficients that they tell, in order
-abbrev pub AreWanted : NodesView → Axis → Grid → List (Key × Coef) → Type 0
-AreWanted view axis grid needed = IsListOf (IsWanted (seen_of view) axis grid) view.told needed
+abbrev pub AreWanted : NodesView → Axis → Grid → ℤ → ℤ → List (Key × Coef) → Type 0
+AreWanted view axis grid lo hi needed = IsListOf (IsWanted (seen_of view) axis grid lo hi) view.told needed
 
 -- The session's client can keep all that the view needs, and of that is sent what the client lacks or
 -- holds with another coefficient.
@@ -58,20 +59,20 @@ IsTooLarge session keys NoMemory = ⊤
 
 -- why a view of a session isn't planned: it needs more keys than the client keeps; or the nodes gave
 -- this error, with its cause
-abbrev pub StopsPlan : Session → NodesView → NodesView → Axis → Grid → PlanError → Type 0
-StopsPlan session old new axis grid (TooLarge needed cache) = IsTooMany session needed cache
-StopsPlan session old new axis grid (Node error) = IsCauseFor old new axis grid (scan.Node error)
-StopsPlan session old new axis grid NoMemory = ⊤
+abbrev pub StopsPlan : Session → NodesView → NodesView → Axis → Grid → ℤ → ℤ → PlanError → Type 0
+StopsPlan session old new axis grid lo hi (TooLarge needed cache) = IsTooMany session needed cache
+StopsPlan session old new axis grid lo hi (Node error) = IsCauseFor old new axis grid lo hi (scan.Node error)
+StopsPlan session old new axis grid lo hi NoMemory = ⊤
 
-abbrev pub RefusesPlan : Option Session → NodesView → NodesView → Axis → Grid → PlanError → Type 0
-RefusesPlan None old new axis grid error = ⊥
-RefusesPlan (Some session) old new axis grid error = StopsPlan session old new axis grid error
+abbrev pub RefusesPlan : Option Session → NodesView → NodesView → Axis → Grid → ℤ → ℤ → PlanError → Type 0
+RefusesPlan None old new axis grid lo hi error = ⊥
+RefusesPlan (Some session) old new axis grid lo hi error = StopsPlan session old new axis grid lo hi error
 
 -- a view that is too large needs just as many keys as the error says
-abbrev pub CountsNeeded : List (Option ℤ) → Axis → Grid → PlanError → Type 0
-CountsNeeded list axis grid (TooLarge needed cache) = (keys : List (Key × Coef)) × AreNeeded list axis grid keys × (length keys ≡ needed)
-CountsNeeded list axis grid (Node error) = ⊤
-CountsNeeded list axis grid NoMemory = ⊤
+abbrev pub CountsNeeded : List (Option ℤ) → Axis → Grid → ℤ → ℤ → PlanError → Type 0
+CountsNeeded list axis grid lo hi (TooLarge needed cache) = (keys : List (Key × Coef)) × AreNeeded list axis grid lo hi keys × (length keys ≡ needed)
+CountsNeeded list axis grid lo hi (Node error) = ⊤
+CountsNeeded list axis grid lo hi NoMemory = ⊤
 
 -- what an error of the walk is for a plan
 abbrev pub plan_error_of : ScanOf → PlanError

@@ -1,4 +1,4 @@
-ghost use Rattle.std.specs.Prelude.{◌≡◌, ◌==◌, ◌≤◌, ◌<◌, ◌+◌, ◌++◌, [], ◌∷◌, ℕ, ℤ, List, length, Option, None, Some, IsTrue, IfOk, IfErr, IfSome, IfNone, OnOk, OnErr, false, position};
+ghost use Rattle.std.specs.Prelude.{◌≡◌, ◌==◌, ◌≤◌, ◌≤ℤ◌, ◌<◌, ◌+◌, ◌++◌, [], ◌∷◌, ℕ, ℤ, List, length, Option, None, Some, IsTrue, IfOk, IfErr, IfSome, IfNone, OnOk, OnErr, false, position};
 ghost use Rattle.std.specs.Option.{option_copied};
 ghost use Rattle.needed_nodes.specs.Answers.{AgreesForView, most_needed, most_reads};
 ghost use Rattle.zoom_session.specs.Places.{IsPlaceOf, IsClosed};
@@ -143,8 +143,8 @@ impl Sessions {
         self.sessions[place].last.as_ref()
     }
 
-    /// What a view without a filter takes: the keys that it needs, and those of them to send. Nothing
-    /// changes but what asks of the nodes keep. It is `TooLarge` exactly where the view needs more keys than the
+    /// What a view without a filter takes that shows the values from `lo` to `hi`: the keys that it needs,
+    /// and those of them to send. Nothing changes but what asks of the nodes keep. It is `TooLarge` exactly where the view needs more keys than the
     /// session's client keeps, unless the nodes gave an error first.
     #[tactic(auto, using(crate::proofs::Planning::plans_in, crate::proofs::Planning::have_entries, crate::proofs::Planning::walk_stops, crate::proofs::Planning::keys_stop, crate::proofs::Planning::counts_needed))]
     pub fn plan_view<N: Nodes>(
@@ -152,6 +152,8 @@ impl Sessions {
         number: u32,
         spec: &ViewSpec,
         axis: Axis,
+        lo: i64,
+        hi: i64,
         nodes: &mut N,
     ) -> Result<ViewPlan, PlanError>
         requires opened { IsTrue (is_open number self.now) }
@@ -159,22 +161,23 @@ impl Sessions {
         requires fit { (N.view nodes.old).fit }
         requires slots { axis.slots ≡ (N.view nodes.old).slots }
         requires step { 0 < axis.step }
+        requires range { lo ≤ℤ hi }
 
         // the needed keys are those of each list that the nodes agree with for the view; over nodes
         // that tell their coefficients they are the keys that the view wants
-        ensures needed { (list : List (Option ℤ)) → AgreesForView (N.view nodes.old) axis spec.now.grid list →
-            IfOk result (λ plan. AreNeeded list axis spec.now.grid plan.needed) }
+        ensures needed { (list : List (Option ℤ)) → AgreesForView (N.view nodes.old) axis spec.now.grid lo hi list →
+            IfOk result (λ plan. AreNeeded list axis spec.now.grid lo hi plan.needed) }
         ensures wanted { (N.view nodes.old).tells →
-            IfOk result (λ plan. AreWanted (N.view nodes.old) axis spec.now.grid plan.needed) }
+            IfOk result (λ plan. AreWanted (N.view nodes.old) axis spec.now.grid lo hi plan.needed) }
         ensures planned { IfOk result (PlansIn (session_of number self.now) spec.now.series) }
         ensures entries { IfOk result (HasEntries axis.slots) }
         ensures bounds { IfOk result IsInBounds }
         ensures few { IfOk result (λ plan. length plan.needed ≤ most_needed spec.now.grid.w axis.slots) }
 
         // why there is no plan
-        ensures refused { IfErr result (RefusesPlan (session_of number self.now) (N.view nodes.old) (N.view nodes.new) axis spec.now.grid) }
-        ensures counted { (list : List (Option ℤ)) → AgreesForView (N.view nodes.old) axis spec.now.grid list →
-            IfErr result (CountsNeeded list axis spec.now.grid) }
+        ensures refused { IfErr result (RefusesPlan (session_of number self.now) (N.view nodes.old) (N.view nodes.new) axis spec.now.grid lo hi) }
+        ensures counted { (list : List (Option ℤ)) → AgreesForView (N.view nodes.old) axis spec.now.grid lo hi list →
+            IfErr result (CountsNeeded list axis spec.now.grid lo hi) }
 
         // the nodes
         ensures fit { (N.view nodes.new).fit }
@@ -185,7 +188,7 @@ impl Sessions {
         let Some(place) = self.place_of(number) else {
             unreachable!()
         };
-        let needed = needed(self.alloc, nodes, axis, spec.grid)?;
+        let needed = needed(self.alloc, nodes, axis, spec.grid, lo, hi)?;
         self.sessions[place].plan(self.alloc, spec.series, needed)
     }
 

@@ -1,4 +1,4 @@
-use Rattle.std.proofs.Common.{rules, ◌≤◌, ◌∙◌, ap, w64, arith}
+use Rattle.std.proofs.Common.{Bool, true, false, ◌≡◌, rules, ◌≤◌, ◌∙◌, ap, w64, arith}
 use Rattle.std.proofs.lemmas.Int.{to_z-of_z}
 use Rattle.om3_coeff.specs.Keys.{left_of, right_of}
 use Rattle.om3_coeff.specs.View.{StaysSame}
@@ -8,8 +8,11 @@ use Rattle.needed_nodes.specs.declared.scan_of.ScanOf.TheVariants.{Node, NoMemor
 use Rattle.needed_nodes.specs.Ends.{slot_values}
 use Rattle.needed_nodes.proofs.ServeLaws.{ready_as, ready_at, ready_on}
 use Rattle.needed_nodes.proofs.StepLaws.{cause_earlier, err_cause}
-use Rattle.needed_nodes.proofs.EndLaws.{follows_none, follows_unsought, follows_slot, follows_halves, may_hold_left, may_hold_right, inside_left, inside_right, end_reads_asked, end_reads_first, end_reads_both, far_asked, far_first, far_both, sought_wanted_as}
+use Rattle.needed_nodes.proofs.EndLaws.{follows_none, follows_unsought, follows_slot, follows_flat, follows_halves, may_hold_left, may_hold_right, inside_left, inside_right, end_reads_asked, end_reads_first, end_reads_both, far_asked, far_first, far_both, sought_wanted_as}
 use Rattle.needed_nodes.proofs.ends.+follow.Goals as goal
+
+true_false : (b : Bool) → b ≡ true → b ≡ false → ⊥
+true_false b h g = cc
 
 pub returns-in_default-clause-found : goal.returns-in_default-clause-found
 returns-in_default-clause-found g t c =
@@ -24,6 +27,12 @@ returns-then-key-eq0-clause-found g t c =
     follows_slot _ c.args.window.now c.args.column c.args.key c.in-Some.span c.args.span c.args.sought _ _ c.in-Some.is c.requires.ready c.if-key-eq0.true
     (c.of_slot.ensures ∙ ap (slot_values c.args.sought) (to_z-of_z w64 c.in-Some.span.min (search rules)))
 
+pub returns-then-is_flat-clause-found : goal.returns-then-is_flat-clause-found
+returns-then-is_flat-clause-found g t c =
+    follows_flat c.flat_keys_hold_flat_keys.ensures.below c.flat_keys_hold_flat_keys.ensures.value _ c.args.window.now c.args.column c.args.key c.in-Some.span c.args.span c.args.sought _ _ c.in-Some.is c.requires.ready
+    (c.is_flat.ensures.0 c.if-is_flat.true)
+    (c.of_slot-then-is_flat.ensures ∙ ap (slot_values c.args.sought) (to_z-of_z w64 c.in-Some.span.min (search rules)))
+
 pub ask-requires-clause-ready : goal.ask-requires-clause-ready
 ask-requires-clause-ready g t c =
     ready_as _ c.args.window.now c.args.key c.args.span _ c.in-Some.is c.requires.ready
@@ -34,7 +43,7 @@ ask-requires-clause-low g t c =
 
 pub ask-requires-clause-wanted : goal.ask-requires-clause-wanted
 ask-requires-clause-wanted g t c =
-    sought_wanted_as _ c.args.window.now c.args.column c.args.key c.in-Some.span c.args.span c.args.sought c.in-Some.is c.requires.ready (omega (arith, c.if-key-eq0.false)) c.requires.inside (c.is_nothing.ensures.some c.if-is_nothing.false) c.requires.clear
+    sought_wanted_as _ c.args.window.now c.args.column c.args.key c.in-Some.span c.args.span c.args.sought c.in-Some.is c.requires.ready (omega (arith, c.if-key-eq0.false)) c.requires.inside (λ flat. true_false c.is_flat.result (c.is_flat.ensures.1 flat) c.if-is_flat.false) (c.is_nothing.ensures.some c.if-is_nothing.false) c.requires.clear
 
 pub left-requires-clause-low : goal.left-requires-clause-low
 left-requires-clause-low g t c =
@@ -171,8 +180,18 @@ pub returns-clause-found : goal.returns-clause-found
 returns-clause-found g t c =
     follows_halves _ _ _ _ c.args.window.now c.args.column c.args.key c.left.result c.right.result c.in-Some.span c.args.span c.args.sought c.in_left.result c.in_right.result
     c.in_ok-node.node.left c.in_ok-node.node.right c.in_ok-node.node.coef _ _ _ _ c.in_ok-front.front c.in_ok-back.back _
-    c.left.ensures c.right.ensures c.in_left.ensures c.in_right.ensures c.in-Some.is c.requires.ready (omega (arith, c.if-key-eq0.false)) c.requires.inside (c.is_nothing.ensures.some c.if-is_nothing.false) c.requires.clear
+    c.left.ensures c.right.ensures c.in_left.ensures c.in_right.ensures c.in-Some.is c.requires.ready (omega (arith, c.if-key-eq0.false)) c.requires.inside (λ flat. true_false c.is_flat.result (c.is_flat.ensures.1 flat) c.if-is_flat.false) (c.is_nothing.ensures.some c.if-is_nothing.false) c.requires.clear
     c.in_ok-node.ensures.whole c.in_ok-node.ensures.asked (g.met.N.Nodes.keeps_same c.args.nodes.now c.ask.new.nodes c.in_ok-node.ensures.kept) c.in_ok-node.ensures.left c.in_ok-node.ensures.right
     c.in_ok-node.ensures.told c.in_ok-node.ensures.splits c.in_ok-push.ensures.items
     c.in_ok-front.ensures.found (g.met.N.Nodes.keeps_same c.args.nodes.now c.follow.new.nodes
     (g.met.N.Nodes.keeps_on c.args.nodes.now c.ask.new.nodes c.follow.new.nodes c.in_ok-node.ensures.kept c.in_ok-front.ensures.kept)) c.in_ok-back.ensures.found c.of_halves.ensures
+
+pub returns-in_err-back-clause-kept : goal.returns-in_err-back-clause-kept
+returns-in_err-back-clause-kept g t c =
+    g.met.N.Nodes.keeps_on c.args.nodes.now c.follow.new.nodes c.follow-2.new.nodes
+    (g.met.N.Nodes.keeps_on c.args.nodes.now c.ask.new.nodes c.follow.new.nodes c.in_ok-node.ensures.kept c.in_ok-front.ensures.kept) c.in_err-back.ensures.kept
+
+pub returns-clause-kept : goal.returns-clause-kept
+returns-clause-kept g t c =
+    g.met.N.Nodes.keeps_on c.args.nodes.now c.follow.new.nodes c.follow-2.new.nodes
+    (g.met.N.Nodes.keeps_on c.args.nodes.now c.ask.new.nodes c.follow.new.nodes c.in_ok-node.ensures.kept c.in_ok-front.ensures.kept) c.in_ok-back.ensures.kept

@@ -1,7 +1,7 @@
 use Rattle.needed_nodes.proofs.laws.agreeing_nodes_agree_for_views.Goals as goal
 
 pub returns : goal.returns
-returns g c list axis grid agrees = record {
+returns g c list axis grid lo hi agrees = record {
   values = agrees.values;
   few = agrees.few;
   slots = agrees.slots;

@@ -3,7 +3,8 @@ use Rattle.std.proofs.lemmas.Result.{IfOk-weaker}
 use Rattle.om3_coeff.specs.Spans.{span_over}
 use Rattle.plain_chart.specs.Samples.{kept, values_of}
 use Rattle.needed_nodes.specs.Answers.{IsSpanOfValues}
-use Rattle.needed_nodes.proofs.PointLaws.{window_start, window_stop, window_order, window_span_is}
+use Rattle.needed_nodes.proofs.PointLaws.{window_span_is}
+use Rattle.chart_grid.proofs.Slots.{window_start, window_stop, window_order}
 use Rattle.needed_nodes.proofs.spanning.window_span.Goals as goal
 
 pub range_span-requires-clause-order : goal.range_span-requires-clause-order

@@ -1,4 +1,5 @@
-use Rattle.std.proofs.Common.{◌≡◌, ◌∙◌, List, length, ap, sym, subst}
+use Rattle.std.proofs.Common.{◌≡◌, ◌∙◌, List, length, ap, sym, subst, w64, rules}
+use Rattle.std.proofs.lemmas.Int.{to_z-of_z}
 use Rattle.std.specs.Prelude.{Option, None, All}
 use Rattle.needed_nodes.specs.declared.blocks.Blocks.{Blocks}
 use Rattle.needed_nodes.proofs.StepLaws.{err_cause}
@@ -7,7 +8,7 @@ use Rattle.needed_nodes.proofs.surveying.explore.Goals as goal
 
 pub returns-in_default-clause-found : goal.returns-in_default-clause-found
 returns-in_default-clause-found g c =
-    explores_nothing (g.N.Nodes.view c.args.nodes.now) c.args.axis c.args.grid _ _ c.requires.slots c.new-keys.ensures.items c.new.ensures.items c.in_default.ensures.none
+    explores_nothing (g.N.Nodes.view c.args.nodes.now) c.args.axis c.args.grid c.args.lo c.args.hi _ _ c.requires.slots c.new-keys.ensures.items c.new.ensures.items c.in_default.ensures.none
 
 pub explore_window-requires-clause-slots : goal.explore_window-requires-clause-slots
 explore_window-requires-clause-slots g c =
@@ -25,7 +26,7 @@ explore_window-requires-clause-empty g c =
 pub returns-in_err-rows-clause-cause : goal.returns-in_err-rows-clause-cause
 returns-in_err-rows-clause-cause g c =
     err_cause _ _ c.in_err-rows.field-0.0 c.from_residual-in_err-rows.ensures.1
-    (cause_for (g.N.Nodes.view c.args.nodes.now) (g.N.Nodes.view c.explore_window.new.nodes) c.in-Some.window c.args.axis c.args.grid c.in_err-rows.field-0.0 c.in-Some.ensures.axis c.in-Some.ensures.grid c.in_err-rows.ensures.cause)
+    (cause_for (g.N.Nodes.view c.args.nodes.now) (g.N.Nodes.view c.explore_window.new.nodes) c.in-Some.window c.args.axis c.args.grid c.args.lo c.args.hi c.in_err-rows.field-0.0 c.in-Some.ensures.axis c.in-Some.ensures.grid (c.in-Some.ensures.lo ∙ to_z-of_z w64 c.args.lo (search rules)) (c.in-Some.ensures.hi ∙ to_z-of_z w64 c.args.hi (search rules)) c.in_err-rows.ensures.cause)
 
 pub returns-in_err-rows-clause-reads : goal.returns-in_err-rows-clause-reads
 returns-in_err-rows-clause-reads g c =
@@ -37,5 +38,5 @@ returns-clause-reads g c =
 
 pub returns-clause-found : goal.returns-clause-found
 returns-clause-found g c =
-    explores_as c.wanted_keys_are_needed.ensures.same (g.N.Nodes.view c.args.nodes.now) c.in-Some.window c.args.axis c.args.grid _ _ c.in_ok-rows.rows.items c.in-Some.ensures.axis c.in-Some.ensures.grid c.requires.slots
+    explores_as c.wanted_keys_are_needed.ensures.same (g.N.Nodes.view c.args.nodes.now) c.in-Some.window c.args.axis c.args.grid c.args.lo c.args.hi _ _ c.in_ok-rows.rows.items c.in-Some.ensures.axis c.in-Some.ensures.grid (c.in-Some.ensures.lo ∙ to_z-of_z w64 c.args.lo (search rules)) (c.in-Some.ensures.hi ∙ to_z-of_z w64 c.args.hi (search rules)) c.requires.slots
     c.new-keys.ensures.items c.in_ok-rows.ensures.found

@@ -1,4 +1,5 @@
-use Rattle.std.proofs.Common.{◌≤◌, List, length, sym, subst}
+use Rattle.std.proofs.Common.{◌≤◌, List, length, sym, subst, w64, rules}
+use Rattle.std.proofs.lemmas.Int.{to_z-of_z}
 use Rattle.std.specs.Prelude.{Some, All}
 use Rattle.om3_coeff.specs.declared.key.Key.{Key}
 use Rattle.om3_coeff.specs.declared.coef.Coef.{Coef}
@@ -7,7 +8,7 @@ use Rattle.view_keys.specs.Needed.{IsNeeded}
 use Rattle.view_keys.specs.Wanted.{IsWanted}
 use Rattle.view_keys.specs.Listed.{IsListOf}
 use Rattle.needed_nodes.specs.Answers.{seen_of, IsEntry, most_needed}
-use Rattle.needed_nodes.proofs.ExploreLaws.{small_keys, sorted_list, sorted_few, sorted_entries}
+use Rattle.needed_nodes.proofs.ExploreLaws.{explores_at, small_keys, sorted_list, sorted_few, sorted_entries}
 use Rattle.needed_nodes.proofs.surveying.needed.Goals as goal
 
 pub sort_keys-requires-clause-small : goal.sort_keys-requires-clause-small
@@ -15,19 +16,21 @@ sort_keys-requires-clause-small g c = small_keys c.args.axis.slots c.in_ok-explo
 
 pub returns-clause-told : goal.returns-clause-told
 returns-clause-told g c = λ tells.
-    let P : List (Key × Coef) → Type 0 = λ es. IsListOf (IsWanted (seen_of (g.N.Nodes.view c.args.nodes.now)) c.args.axis c.args.grid) (g.N.Nodes.view c.args.nodes.now).told es in
+    let P : List (Key × Coef) → Type 0 = λ es. IsListOf (IsWanted (seen_of (g.N.Nodes.view c.args.nodes.now)) c.args.axis c.args.grid c.args.lo c.args.hi) (g.N.Nodes.view c.args.nodes.now).told es in
     subst P (sym c.from_vec.ensures)
-    (sorted_list (IsWanted (seen_of (g.N.Nodes.view c.args.nodes.now)) c.args.axis c.args.grid) (g.N.Nodes.view c.args.nodes.now).told
+    (sorted_list (IsWanted (seen_of (g.N.Nodes.view c.args.nodes.now)) c.args.axis c.args.grid c.args.lo c.args.hi) (g.N.Nodes.view c.args.nodes.now).told
     c.in_ok-explored.explored.keys.items c.sort_keys.new.keys.items c.in_ok-sort_keys.ensures.same c.in_ok-sort_keys.ensures.order
-    (c.in_ok-explored.ensures.found.told tells))
+    ((explores_at (g.N.Nodes.view c.args.nodes.now) c.args.axis c.args.grid _ _ c.args.lo c.args.hi c.in_ok-explored.explored.keys.items c.in_ok-explored.explored.rows.items
+    (to_z-of_z w64 c.args.lo (search rules)) (to_z-of_z w64 c.args.hi (search rules)) c.in_ok-explored.ensures.found).told tells))
 
 pub returns-clause-list : goal.returns-clause-list
 returns-clause-list g c = λ list agrees.
-    let P : List (Key × Coef) → Type 0 = λ es. IsListOf (IsNeeded list c.args.axis c.args.grid) (λ k. Some (coef list k)) es in
+    let P : List (Key × Coef) → Type 0 = λ es. IsListOf (IsNeeded list c.args.axis c.args.grid c.args.lo c.args.hi) (λ k. Some (coef list k)) es in
     subst P (sym c.from_vec.ensures)
-    (sorted_list (IsNeeded list c.args.axis c.args.grid) (λ k. Some (coef list k))
+    (sorted_list (IsNeeded list c.args.axis c.args.grid c.args.lo c.args.hi) (λ k. Some (coef list k))
     c.in_ok-explored.explored.keys.items c.sort_keys.new.keys.items c.in_ok-sort_keys.ensures.same c.in_ok-sort_keys.ensures.order
-    (c.in_ok-explored.ensures.found.of_list list agrees))
+    ((explores_at (g.N.Nodes.view c.args.nodes.now) c.args.axis c.args.grid _ _ c.args.lo c.args.hi c.in_ok-explored.explored.keys.items c.in_ok-explored.explored.rows.items
+    (to_z-of_z w64 c.args.lo (search rules)) (to_z-of_z w64 c.args.hi (search rules)) c.in_ok-explored.ensures.found).of_list list agrees))
 
 pub returns-clause-entries : goal.returns-clause-entries
 returns-clause-entries g c =

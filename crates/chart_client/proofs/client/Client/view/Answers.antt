@@ -59,7 +59,7 @@ returns-clause-accepted c =
       shown = c.in_ok-findings.ensures.rows;
       wide = c.in_ok-bitmap.ensures.wide;
       high = c.in_ok-bitmap.ensures.tall;
-      draws = λ g points canvas order rows. simp to_z-of_z at c.in_ok-bitmap.ensures.draws g points canvas order rows;
+      draws = λ g points of canvas order rows heights. (simp to_z-of_z at c.in_ok-bitmap.ensures.draws g points of canvas order rows) heights;
     } in
     let renewed_is : c.renew.new.self ≡ viewed c.args.view.now held.cache es =
     same_cache c.renew.new.self (renewed held.cache.capacity held.cache.pairs (in_series c.args.view.now.series es)) held.cache.capacity
