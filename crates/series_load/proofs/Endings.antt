@@ -1,5 +1,6 @@
 -- How a load ends.
 use Rattle.std.proofs.Common.{◌≡◌, ℕ, ◌+◌, ◌-◌, ◌^◌, ◌<◌, ◌≤◌, Bool, IsTrue, List, [], ◌∷◌, ◌++◌, length, take, Option, None, Some, IfSome, refl, ap, subst, inl, inr, sym, ◌∙◌, arith, length-append}
+use Rattle.std.proofs.lemmas.List.{append-nil}
 use Rattle.std.specs.List.{after_first}
 use Rattle.std.proofs.lemmas.List.{take-append-drop}
 use Rattle.block_disk.specs.View.{Image}
@@ -10,7 +11,10 @@ use Rattle.chart_world.specs.declared.line_answer.LineFault.{LineFault}
 use Rattle.chart_world.specs.declared.line_answer.LineFault.TheVariants as fault
 use Rattle.series_book.specs.declared.one_series.Series.{Series}
 use Rattle.stored_book.specs.Standing.{StandsForBook}
-use Rattle.series_load.specs.Fronts.{PlacedLine, is_some_text, told}
+use Rattle.chart_world.specs.FrontLaws.{passes}
+use Rattle.chart_world.specs.Fronts.{says, first_piece, Gives}
+use Rattle.chart_world.specs.LineLaws.{piece_line, no_rest, told_so}
+use Rattle.series_load.specs.Fronts.{PlacedLine, told}
 use Rattle.series_load.specs.Rows.{AreTable, BadFirst, Stops, ReadsRows}
 use Rattle.series_load.specs.Runs.{Run, Cut, AllRuns, AreFirst}
 use Rattle.series_load.specs.Sets.{Loads, IsAfter, AreFirstOf, IsAfterSome}
@@ -20,14 +24,13 @@ use Rattle.series_load.specs.declared.said.Said.TheVariants.{Bad}
 use Rattle.series_load.specs.declared.load_end.LoadEnd.{LoadEnd}
 use Rattle.series_load.specs.declared.load_end.LoadEnd.TheVariants.{UnknownSeries, BadLine, Refused, ReadFault, InputTooLong, DiskFault, Damaged, NoMemory}
 use Rattle.series_load.specs.declared.open_run.OpenRun.{OpenRun}
-use Rattle.series_load.proofs.RunLemmas.{append_none, adds_gap}
+use Rattle.series_load.proofs.RunLemmas.{adds_gap}
 use Rattle.series_load.proofs.LineLemmas.{is_bad}
-use Rattle.series_load.proofs.Joined.{told_joined, first_piece, piece_line}
-use Rattle.series_load.proofs.Passing.{Gives, passes, no_rest}
+use Rattle.series_load.proofs.Joined.{told_joined}
 use Rattle.series_load.proofs.SetLemmas.{after_then}
-use Rattle.series_load.proofs.Progress.{Heard, Progress, told_so, first_so, first_now}
+use Rattle.series_load.proofs.Progress.{Heard, Progress, first_so, first_now}
 
-some_text : (text : List ℕ) → 0 < length text → IsTrue (is_some_text (Some text))
+some_text : (text : List ℕ) → 0 < length text → IsTrue (says (Some text))
 some_text [] some = absurd (omega (arith, some))
 some_text (byte ∷ bytes) some = refl
 
@@ -202,11 +205,11 @@ closed_some total name book series o bytes given first kept points image image' 
 
 loaded_at : (total : ℕ) (name : List ℕ) (book now : List Series) (series : Series) (input : List ℕ) (bytes : Option (List ℕ)) (given : ℕ) (runs : List Run) (first : Bool) (old : Option Run) (points : ℕ) (ends : List Run) (new : Option Run) (image : Image) → IfSome (told_lines bytes) (λ all. all ≡ []) → Loads total name book runs now → Closes old ends new → IsAfter total name now ends image → Heard series.scale series.step input bytes given runs first old points → IsLoaded total name book series input points image
 loaded_at total name book now series input bytes given runs first old points ends new image none loads closes after h =
-    let whole : h.front ≡ input = sym (h.begins.split ∙ ap (λ l. h.front ++ l) (rest_none series.scale series.step input bytes given runs first old points none h) ∙ append_none h.front) in
+    let whole : h.front ≡ input = sym (h.begins.split ∙ ap (λ l. h.front ++ l) (rest_none series.scale series.step input bytes given runs first old points none h) ∙ append-nil h.front) in
     let P : List ℕ → Type 0 = λ f. AreTable series.scale (told f) h.read.rows in
     record {
       rows = h.read.rows;
-      reads = record { begins = record { split = sym (append_none input); whole = inr refl }; table = subst P whole h.read.table };
+      reads = record { begins = record { split = sym (append-nil input); whole = inr refl }; table = subst P whole h.read.table };
       runs = runs ++ ends;
       all = all_runs series.scale series.step input bytes given runs first old points ends new closes h;
       after = after_then total name book now runs ends image loads after;
@@ -223,7 +226,7 @@ loaded total name book series o bytes given first kept kept' points image image'
 pub read_all : (total : ℕ) (name : List ℕ) (book : List Series) (series : Series) (o bytes : Option (List ℕ)) (given most : ℕ) (first : Bool) (kept : OpenRun) (points : ℕ) (image : Image) → IfSome (told_lines bytes) (λ all. all ≡ []) → given ≤ most → Progress total name book series o bytes given first kept points image → IfSome o (λ input. length input ≤ most)
 read_all total name book series o bytes given most first kept points image none few p =
     told_so (λ input. Heard series.scale series.step input bytes given p.runs first p.open_run points) (λ input. length input ≤ most) o
-    (λ input h. omega (arith, few, h.counted, ap length (h.begins.split ∙ ap (λ l. h.front ++ l) (rest_none series.scale series.step input bytes given p.runs first p.open_run points none h) ∙ append_none h.front))) p.heard
+    (λ input h. omega (arith, few, h.counted, ap length (h.begins.split ∙ ap (λ l. h.front ++ l) (rest_none series.scale series.step input bytes given p.runs first p.open_run points none h) ∙ append-nil h.front))) p.heard
 
 taken_at : (total : ℕ) (name : List ℕ) (book now : List Series) (series : Series) (input : List ℕ) (bytes left : Option (List ℕ)) (given n : ℕ) (runs : List Run) (first : Bool) (old : Option Run) (points : ℕ) (image : Image) → NoLineIn n bytes → left ≡ left_after n bytes → Loads total name book runs now → StandsForBook image total now → Heard series.scale series.step input bytes given runs first old points → IfSome left (λ l. IsTaken total name book series input l image)
 taken_at total name book now series input bytes left given n runs first old points image none after loads stands h =

@@ -7,6 +7,7 @@ use Rattle.block_disk.specs.Streams.{left_after}
 use Rattle.block_disk.proofs.Passing.{passes_none, passes_weaker}
 use Rattle.gate_pages.specs.Pages.{Quiet}
 use Rattle.gate_pages.proofs.Moving.{time_then}
+use Rattle.chart_world.specs.Fronts.{Gives}
 use Rattle.chart_world.specs.Reading.{Reading, unread_input, unread, told_lines, input_length, NoLineIn}
 use Rattle.chart_world.specs.declared.line_answer.LineFault.{LineFault}
 use Rattle.chart_world.specs.declared.line_answer.LineFault.TheVariants as fault
@@ -22,7 +23,6 @@ use Rattle.series_load.specs.declared.loader.Loader.{Loader}
 use Rattle.series_load.specs.declared.open_run.OpenRun.{OpenRun}
 use Rattle.series_load.proofs.Carrying.{took_of, stops_of}
 use Rattle.series_load.proofs.LineLemmas.{ends_bad, ends_at}
-use Rattle.series_load.proofs.Passing.{Gives}
 use Rattle.series_load.proofs.Progress.{Progress, starts, line_taken, image_moved, some_now}
 use Rattle.series_load.proofs.Endings.{Firsts, line_firsts, end_firsts, long_firsts, moment_some, keeps_some, ends_so, line_bad, long_bad, closed_some, loaded, fault_ends, fault_keeps}
 

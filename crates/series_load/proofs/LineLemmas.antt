@@ -1,5 +1,6 @@
 -- What a line more does to what was read.
 use Rattle.std.proofs.Common.{◌≡◌, ℕ, ℤ, ◌+◌, ◌<◌, ◌^◌, Bool, true, false, cond, List, [], ◌∷◌, ◌++◌, length, Option, None, Some, Result, Ok, Err, IsSomeAnd, refl, ap, subst, inl, inr, sym, ◌∙◌, arith, unsigned_abs}
+use Rattle.std.proofs.lemmas.List.{append-nil}
 use Rattle.std.specs.Prelude.{count_by, is_some, IsErrAnd, ◌==◌}
 use Rattle.std.proofs.lemmas.Bool.{eqb-true}
 use Rattle.std.proofs.lemmas.List.Sums.{sum_by-append}
@@ -20,7 +21,7 @@ use Rattle.series_load.specs.declared.open_run.OpenRun.{OpenRun}
 use Rattle.series_load.specs.declared.open_run.Reading.{Reading as Kept}
 use Rattle.series_load.specs.declared.said.Said.{Said}
 use Rattle.series_load.specs.declared.said.Said.TheVariants.{Header, Point, Gap, Bad}
-use Rattle.series_load.proofs.RunLemmas.{append_none, adds_gap}
+use Rattle.series_load.proofs.RunLemmas.{adds_gap}
 use Rattle.series_load.proofs.Carrying.{does_less, err_less}
 use Rattle.series_load.proofs.SetLemmas.{after_none}
 use Rattle.series_load.proofs.RowLemmas.{table_more, no_rows, table_header}
@@ -86,7 +87,7 @@ adds_header scale step at text first old points some says = λ lines runs read.
     subst P (sym (told_one at text some)) (record {
       rows = read.rows;
       table = subst L (sym none) (subst R (sym no_row) (table_header scale (placed at text) says.1));
-      cut = subst Q (sym (append_none runs)) read.cut;
+      cut = subst Q (sym (append-nil runs)) read.cut;
       counted = read.counted;
       none_yet = none_behind lines (placed at text);
       some_yet = λ no. some_behind lines (placed at text);
@@ -97,7 +98,7 @@ pub adds_empty : (scale step at : ℕ) (text : List ℕ) (first : Bool) (old : O
 adds_empty scale step at text first old points none = λ lines runs read.
     let P : List PlacedLine → Type 0 = λ l. Read scale step l (runs ++ []) first old points in
     let Q : List Run → Type 0 = λ r. Read scale step lines r first old points in
-    subst P (sym (ap (λ l. lines ++ l) (told_none at text none) ∙ append_none lines)) (subst Q (sym (append_none runs)) read)
+    subst P (sym (ap (λ l. lines ++ l) (told_none at text none) ∙ append-nil lines)) (subst Q (sym (append-nil runs)) read)
 
 pub is_bad : (scale : ℕ) (text : List ℕ) (first : Bool) (lines : List PlacedLine) → (first ≡ false → 0 < length lines) → SaysSo scale first text Bad → IsBad scale lines (Some text)
 is_bad scale text first lines some (inl fails) = inl fails

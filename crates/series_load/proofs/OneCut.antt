@@ -1,5 +1,6 @@
 -- The runs of rows are one list, and those that have ended within the first rows are its first.
 use Rattle.std.proofs.Common.{◌≡◌, ℕ, pos, ◌-ℤ◌, ◌+◌, ◌<◌, ◌≤◌, Bool, true, false, List, [], ◌∷◌, ◌++◌, length, map, Option, None, Some, refl, ap, subst, inl, inr, sym, ◌∙◌, arith, append_assoc, length-append}
+use Rattle.std.proofs.lemmas.List.{append-nil}
 use Rattle.std.specs.Prelude.{nat_lt, if◌then◌else◌}
 use Rattle.std.specs.Ordering.{int_eq}
 use Rattle.std.proofs.lemmas.Bool.{cases_lt}
@@ -8,7 +9,7 @@ use Rattle.std.specs.Bool.{Decides}
 use Rattle.series_load.specs.Rows.{Reading}
 use Rattle.series_load.specs.Runs.{Run, readings, rows_of, Follows, AreSteady, last_of, last_reading, IsRun, Breaks, EndsAt, Cut, nothing, still, gap, whole, Ended}
 use Rattle.series_load.specs.Steps.{closed}
-use Rattle.series_load.proofs.RunLemmas.{append_none, one_run, run_more, last_more}
+use Rattle.series_load.proofs.RunLemmas.{one_run, run_more, last_more}
 
 -- whether a reading follows another
 abbrev follows : ℕ → Reading → Reading → Bool
@@ -58,7 +59,7 @@ next_apart step runs run reading apart = by (follows step (last_reading run) rea
 -- the readings of a run, one after the other
 goes_run : (step : ℕ) (runs : List Run) (first : Reading) (done others : List Reading) (rows : List (Option Reading)) → AreSteady step (last_of first done) others → length (first ∷ done) + length others ≤ 256
     → goes step (settled runs (record { first = first; others = done })) (map Some others ++ rows) ≡ goes step (settled runs (record { first = first; others = done ++ others })) rows
-goes_run step runs first done [] rows steady few = ap (λ l. goes step (settled runs (record { first = first; others = l })) rows) (sym (append_none done))
+goes_run step runs first done [] rows steady few = ap (λ l. goes step (settled runs (record { first = first; others = l })) rows) (sym (append-nil done))
 goes_run step runs first done (reading ∷ later) rows steady few =
     let run : Run = record { first = first; others = done } in
     let more : Run = record { first = first; others = done ++ reading ∷ [] } in
@@ -77,7 +78,7 @@ goes_whole step runs run rows is =
 
 broken : (step : ℕ) (runs : List Run) (run : Run) (rows : List (Option Reading)) → Breaks step run rows → goes step (at runs (Some run)) rows ≡ goes step (at (runs ++ run ∷ []) None) rows
 broken step runs run [] breaks = absurd breaks
-broken step runs run (None ∷ later) breaks = ap (λ r. goes step (at r None) later) (sym (append_none (runs ++ run ∷ [])))
+broken step runs run (None ∷ later) breaks = ap (λ r. goes step (at r None) later) (sym (append-nil (runs ++ run ∷ [])))
 broken step runs run (Some reading ∷ later) breaks = ap (λ s. goes step s later) (next_apart step runs run reading breaks)
 
 ended_run : (step : ℕ) (runs : List Run) (run : Run) (rows : List (Option Reading)) → EndsAt step run rows → goes step (settled runs run) rows ≡ goes step (at (runs ++ run ∷ []) None) rows
@@ -89,11 +90,11 @@ ended_run step runs run rows (inr breaks) = elim (cases_lt (length (readings run
 
 -- what the runs of rows are
 cut_is : {step : ℕ} {rows : List (Option Reading)} {runs : List Run} {old : Option Run} → Cut step rows runs old → (before : List Run) → goes step (at before None) rows ≡ at (before ++ runs) old
-cut_is nothing before = ap (λ r. at r None) (sym (append_none before))
+cut_is nothing before = ap (λ r. at r None) (sym (append-nil before))
 cut_is {step} (still run is few) before =
-    ap (goes step (at before None)) (sym (append_none (rows_of run)))
-    ∙ goes_whole step before run [] is ∙ settled_few before run few ∙ ap (λ r. at r (Some run)) (sym (append_none before))
-cut_is {step} (gap rows runs old cut) before = ap (λ r. goes step (at r None) rows) (append_none before) ∙ cut_is cut before
+    ap (goes step (at before None)) (sym (append-nil (rows_of run)))
+    ∙ goes_whole step before run [] is ∙ settled_few before run few ∙ ap (λ r. at r (Some run)) (sym (append-nil before))
+cut_is {step} (gap rows runs old cut) before = ap (λ r. goes step (at r None) rows) (append-nil before) ∙ cut_is cut before
 cut_is {step} (whole run rows runs old is ended cut) before =
     goes_whole step before run rows is ∙ ended_run step before run rows ended ∙ cut_is cut (before ++ run ∷ []) ∙ ap (λ r. at r old) (append_assoc before (run ∷ []) runs)
 
@@ -109,12 +110,12 @@ goes_then step state (row ∷ rows) more = goes_then step (next step state.ended
 -- runs stay
 stays_settled : (runs : List Run) (run : Run) (b : Bool) → (ends : List Run) × ((if b then at (runs ++ run ∷ []) None else at runs (Some run)).ended ≡ runs ++ ends)
 stays_settled runs run true = (run ∷ [], refl)
-stays_settled runs run false = ([], sym (append_none runs))
+stays_settled runs run false = ([], sym (append-nil runs))
 
 stays_next : (step : ℕ) (runs : List Run) (old : Option Run) (row : Option Reading) → (ends : List Run) × ((next step runs old row).ended ≡ runs ++ ends)
 stays_next step runs None None = ([], refl)
 stays_next step runs (Some run) None = (run ∷ [], refl)
-stays_next step runs None (Some reading) = ([], sym (append_none runs))
+stays_next step runs None (Some reading) = ([], sym (append-nil runs))
 stays_next step runs (Some run) (Some reading) = by (follows step (last_reading run) reading)
   where
     by : (b : Bool) → (ends : List Run) × ((if b then settled runs (run_more run reading) else at (runs ++ run ∷ []) (Some (one_run reading))).ended ≡ runs ++ ends)
@@ -122,7 +123,7 @@ stays_next step runs (Some run) (Some reading) = by (follows step (last_reading 
     by false = (run ∷ [], refl)
 
 stays : (step : ℕ) (runs : List Run) (old : Option Run) (rows : List (Option Reading)) → (ends : List Run) × ((goes step (at runs old) rows).ended ≡ runs ++ ends)
-stays step runs old [] = ([], sym (append_none runs))
+stays step runs old [] = ([], sym (append-nil runs))
 stays step runs old (row ∷ rows) =
     let one = stays_next step runs old row in
     let two = stays step (next step runs old row).ended (next step runs old row).open_run rows in

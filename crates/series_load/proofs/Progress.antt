@@ -2,17 +2,19 @@
 use Rattle.std.proofs.Common.{◌≡◌, ℕ, Bool, true, List, [], ◌++◌, length, Option, None, Some, IfSome, refl, subst, inl, sym, ◌∙◌}
 use Rattle.std.specs.List.{after_first}
 use Rattle.block_disk.specs.View.{Image}
+use Rattle.chart_world.specs.FrontLaws.{passes}
+use Rattle.chart_world.specs.Fronts.{BeginsWith, Gives, first_piece}
+use Rattle.chart_world.specs.LineLaws.{piece_line, told_so}
 use Rattle.chart_world.specs.Lines.{is_line_feed}
 use Rattle.chart_world.specs.Reading.{Reading, unread_input, unread}
 use Rattle.series_book.specs.declared.one_series.Series.{Series}
 use Rattle.stored_book.specs.Standing.{StandsForBook}
-use Rattle.series_load.specs.Fronts.{PlacedLine, told, BeginsWith}
+use Rattle.series_load.specs.Fronts.{PlacedLine, told}
 use Rattle.series_load.specs.Runs.{Run, nothing, AreFirst}
 use Rattle.series_load.specs.Sets.{Loads, AreFirstOf, IsAfterSome}
 use Rattle.series_load.specs.Steps.{Keeps, Read, LineAdds, Took}
 use Rattle.series_load.specs.declared.open_run.OpenRun.{OpenRun}
-use Rattle.series_load.proofs.Joined.{told_joined, told_nothing, first_piece, piece_line}
-use Rattle.series_load.proofs.Passing.{Gives, passes}
+use Rattle.series_load.proofs.Joined.{told_joined, told_nothing}
 use Rattle.series_load.proofs.SetLemmas.{loads_then}
 
 -- what was read of the input
@@ -33,10 +35,6 @@ pub record Progress (total : ℕ) (name : List ℕ) (book : List Series) (series
   pub stands : StandsForBook image total now
   pub keeps : Keeps open_run kept
   pub heard : IfSome o (λ input. Heard series.scale series.step input bytes given runs first open_run points)
-
-pub told_so : (P Q : List ℕ → Type 0) (o : Option (List ℕ)) → ((input : List ℕ) → P input → Q input) → IfSome o P → IfSome o Q
-told_so P Q None more h = tt
-told_so P Q (Some input) more h = more input h
 
 read_none : (scale step : ℕ) → Read scale step (told []) [] true None 0
 read_none scale step =

@@ -1,13 +1,10 @@
 -- Runs, as rows come behind them.
 use Rattle.std.proofs.Common.{◌≡◌, ℕ, ◌+◌, ◌<◌, ◌≤◌, List, [], ◌∷◌, ◌++◌, length, Option, None, Some, refl, ap, subst, inl, inr, sym, ◌∙◌, arith, append_assoc, length-append}
+use Rattle.std.proofs.lemmas.List.{append-nil}
 use Rattle.std.proofs.lemmas.List.{map-append}
 use Rattle.series_load.specs.Rows.{Reading}
 use Rattle.series_load.specs.Runs.{Run, readings, rows_of, Follows, AreSteady, last_of, last_reading, IsRun, Breaks, EndsAt, Cut, nothing, still, gap, whole}
 use Rattle.series_load.specs.Steps.{closed, Adds}
-
-pub append_none : {X : Type 0} (xs : List X) → xs ++ [] ≡ xs
-append_none [] = refl
-append_none (x ∷ xs) = ap (λ l. x ∷ l) (append_none xs)
 
 breaks_more : (step : ℕ) (run : Run) (rows more : List (Option Reading)) → Breaks step run rows → Breaks step run (rows ++ more)
 breaks_more step run [] more breaks = absurd breaks
@@ -96,4 +93,4 @@ adds_last step run next follows many = λ rows runs cut. cut_on cut (Some next �
     let P : List (Option Reading) → Type 0 = λ r. Cut step r (run_more run next ∷ []) None in
     let is = run_is_more step run next is_open.0 is_open.1 follows in
     let full : length (readings (run_more run next)) ≡ 256 = omega (arith, many, is.few) in
-    subst P (append_none (rows_of (run_more run next)) ∙ rows_more run next) (whole (run_more run next) [] [] None is (inl full) nothing))
+    subst P (append-nil (rows_of (run_more run next)) ∙ rows_more run next) (whole (run_more run next) [] [] None is (inl full) nothing))

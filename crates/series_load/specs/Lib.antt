@@ -5,3 +5,4 @@ pub mod Sets
 pub mod Ends
 pub mod Steps
 pub mod Sides
+pub mod Shown

@@ -4,7 +4,8 @@ use Rattle.chart_world.specs.Lines.{lines}
 use Rattle.csv_load.specs.Rows.{Says, Fails}
 use Rattle.csv_load.specs.declared.row.Row.TheVariants.{Point, Skip, Header}
 use Rattle.csv_load.specs.declared.row.RowCause.{RowCause}
-use Rattle.series_load.specs.Fronts.{PlacedLine, is_some_text, told, BeginsWith}
+use Rattle.chart_world.specs.Fronts.{says, BeginsWith}
+use Rattle.series_load.specs.Fronts.{PlacedLine, told}
 
 -- what a row with a value says, and the offset of its line
 pub record Reading : Type 0 where
@@ -49,7 +50,7 @@ pub record BadFirst (scale : ℕ) (before : List PlacedLine) (bytes : List ℕ) 
   pub line : Option (List ℕ)
   pub later : List (Option (List ℕ))
   pub lines_are : lines bytes ≡ line ∷ later
-  pub some : IsTrue (is_some_text line)
+  pub some : IsTrue (says line)
   pub bad : IsBad scale before line
 
 -- behind the front the input ends, or a bad line stands

@@ -2,6 +2,10 @@
 use Rattle.std.specs.Prelude.{◌≡◌, ◌⊎◌, ℕ, pos, ◌-ℤ◌, ◌<◌, ◌≤◌, List, [], ◌∷◌, ◌++◌, length, map, Option, None, Some}
 use Rattle.series_load.specs.Rows.{Reading, Stops, ReadsRows}
 
+-- rows, each with a reading or without one
+abbrev pub Rows : Type 0
+Rows = List (Option Reading)
+
 -- readings, one at least
 pub record Run : Type 0 where
   pub first : Reading

@@ -15,13 +15,15 @@ use Rattle.series_store.specs.declared.errors.StoreError.{StoreError}
 use Rattle.series_store.specs.declared.errors.StoreError.TheVariants as store
 use Rattle.chart_world.specs.declared.line_answer.LineFault.{LineFault}
 use Rattle.chart_world.specs.declared.line_answer.LineFault.TheVariants as fault
-use Rattle.series_load.specs.Fronts.{PlacedLine, is_some_text}
+use Rattle.chart_world.specs.Fronts.{says}
+use Rattle.series_load.specs.Fronts.{PlacedLine}
 use Rattle.series_load.specs.Rows.{Reading, AreTable, IsBad}
 use Rattle.series_load.specs.Runs.{Run, readings, last_reading, Cut, Ended, AllRuns}
 use Rattle.series_load.specs.Sets.{set_of, IsAfter}
 use Rattle.series_load.specs.declared.load_end.LoadEnd.{LoadEnd}
 use Rattle.series_load.specs.declared.load_end.LoadEnd.TheVariants.{UnknownSeries, BadLine, Refused, ReadFault, InputTooLong, DiskFault, Damaged, NoMemory}
 use Rattle.series_load.specs.declared.open_run.OpenRun.{OpenRun}
+use Rattle.series_load.specs.declared.open_run.Reading.{Reading as Pair}
 use Rattle.series_load.specs.declared.said.Said.{Said}
 use Rattle.series_load.specs.declared.said.Said.TheVariants.{Header, Point, Gap, Bad}
 
@@ -36,6 +38,10 @@ abbrev pub Keeps : Option Run → OpenRun → Type 0
 Keeps None kept = kept.values.items ≡ []
 Keeps (Some run) kept = KeepsRun run kept
 
+-- a time with its value, in the line at this offset
+abbrev pub reading_at : ℕ → Pair → Reading
+reading_at at pair = record { at = at; time = pair.time; value = pair.value }
+
 -- the run that stands open, as a list
 abbrev pub closed : Option Run → List Run
 closed None = []
@@ -49,6 +55,10 @@ Closes old ends new = (ends ≡ closed old) × (new ≡ None)
 abbrev pub Adds : ℕ → Option Run → Option Reading → List Run → Option Run → Type 0
 Adds step old row ends new = (rows : List (Option Reading)) (runs : List Run) → Cut step rows runs old → Cut step (rows ++ row ∷ []) (runs ++ ends) new
 
+-- the same of a time with its value, in the line at this offset
+abbrev pub AddsReading : ℕ → ℕ → Pair → Option Run → List Run → Option Run → Type 0
+AddsReading step at pair old ends new = Adds step old (Some (reading_at at pair)) ends new
+
 -- how far the lines have been read: whether none was yet, the runs that have ended, the one that stands open, and how
 -- many rows have a reading
 pub record Read (scale step : ℕ) (lines : List PlacedLine) (runs : List Run) (first : Bool) (open_run : Option Run) (points : ℕ) : Type 0 where
@@ -61,7 +71,7 @@ pub record Read (scale step : ℕ) (lines : List PlacedLine) (runs : List Run) (
 
 -- the line, unless it is empty
 abbrev pub if_told : ℕ → Option (List ℕ) → List PlacedLine
-if_told at text = filter (λ line. is_some_text line.text) (record { at = at; text = text } ∷ [])
+if_told at text = filter (λ line. says line.text) (record { at = at; text = text } ∷ [])
 
 -- a line more ends these runs
 abbrev pub LineAdds : ℕ → ℕ → ℕ → List ℕ → Bool → Option Run → ℕ → List Run → Bool → Option Run → ℕ → Type 0

@@ -1,10 +1,8 @@
 //! The lines of an input, one after the other, into a series.
 ghost use Rattle.std.specs.Prelude.{◌≡◌, ◌<◌, ◌≤◌, ◌+◌, ◌^◌, ℕ, List, [], ◌∷◌, Option, Some, None, true, false, length, unsigned_abs, IfOk, IfErr, OnOk};
-ghost use Rattle.block_disk.specs.View.{View};
-ghost use Rattle.series_book.specs.declared.one_series.Series.{Series};
-ghost use Rattle.stored_book.specs.Standing.{StandsForBook};
-ghost use Rattle.series_load.specs.Runs.{Run};
-ghost use Rattle.series_load.specs.Steps.{Keeps, Closes, Adds, LineAdds, LineEnds, SaysSo, NoBad, BadDone, TooLongDone, Does, IsSetCause, IsSoundFor, Carries, end_at};
+ghost use Rattle.series_load.specs.Steps.{Closes, IsSoundFor, end_at};
+ghost use Rattle.series_load.specs.Shown as loads;
+ghost use Rattle.series_store.specs.Shown as shown;
 ghost use Rattle.series_load.specs.declared.load_end.LoadEnd.TheVariants.{NoMemory};
 ghost use Rattle.series_load.specs.declared.open_run.Reading.{Reading};
 
@@ -69,13 +67,12 @@ impl Loader {
 
     /// Stores the run that stands open, if there is one.
     pub(crate) fn close<P: Pages>(&mut self, store: &mut Store<P>) -> Result<(), LoadEnd>
-        requires sound { (P.view store.old.space.pages).fit }
-        ensures does { (total : ℕ) (book : List Series) (open_run : Option Run) → P.told store.old.space.pages → StandsForBook (P.view store.old.space.pages).image total book → Keeps open_run self.old.run
-            → Does (Closes open_run) (Closes open_run) NoBad total self.old.name book result self.new.run (P.view store.old.space.pages) (P.view store.new.space.pages) }
-        ensures carries { Carries (P.told store.old.space.pages) (P.told store.new.space.pages) (P.view store.old.space.pages) (P.view store.new.space.pages) (P.under store.old.space.pages) (P.under store.new.space.pages) store.old.space.superblock.total store.new.space.superblock.total (length store.old.catalog.series.items) (length store.new.catalog.series.items) }
-        ensures cause { IfErr result (λ e. IsSetCause e store.old.space.superblock.total (P.view store.old.space.pages) (P.view store.new.space.pages)) }
-        ensures sound { OnOk result (P.view store.new.space.pages).fit }
-        ensures sound_for { IfErr result (λ e. IsSoundFor e (P.view store.new.space.pages)) }
+        requires sound { shown.IsSound store.old }
+        ensures does { loads.ForRun store.old self.old.run (λ total book open_run. loads.EndsRuns (Closes open_run) total self.old.name book result self.new.run store.old store.new) }
+        ensures carries { loads.CarriesOn store.old store.new }
+        ensures cause { IfErr result (λ e. loads.FailsFor e store.old store.new) }
+        ensures sound { OnOk result (shown.IsSound store.new) }
+        ensures sound_for { IfErr result (λ e. IsSoundFor e (shown.view store.new)) }
         ensures none { OnOk result (self.new.run.values.items ≡ []) }
         ensures name { self.new.name ≡ self.old.name }
         ensures step { self.new.step ≡ self.old.step }
@@ -105,13 +102,12 @@ impl Loader {
         next: &Reading,
     ) -> Result<(), LoadEnd>
         requires near { unsigned_abs next.now.time < 10 ^ 19 }
-        requires sound { (P.view store.old.space.pages).fit }
-        ensures does { (total : ℕ) (book : List Series) (open_run : Option Run) → P.told store.old.space.pages → StandsForBook (P.view store.old.space.pages).image total book → Keeps open_run self.old.run
-            → Does (Adds self.old.step open_run (Some (record { at = at; time = next.now.time; value = next.now.value }))) (Adds self.old.step open_run (Some (record { at = at; time = next.now.time; value = next.now.value }))) NoBad total self.old.name book result self.new.run (P.view store.old.space.pages) (P.view store.new.space.pages) }
-        ensures carries { Carries (P.told store.old.space.pages) (P.told store.new.space.pages) (P.view store.old.space.pages) (P.view store.new.space.pages) (P.under store.old.space.pages) (P.under store.new.space.pages) store.old.space.superblock.total store.new.space.superblock.total (length store.old.catalog.series.items) (length store.new.catalog.series.items) }
-        ensures cause { IfErr result (λ e. IsSetCause e store.old.space.superblock.total (P.view store.old.space.pages) (P.view store.new.space.pages)) }
-        ensures sound { OnOk result (P.view store.new.space.pages).fit }
-        ensures sound_for { IfErr result (λ e. IsSoundFor e (P.view store.new.space.pages)) }
+        requires sound { shown.IsSound store.old }
+        ensures does { loads.ForRun store.old self.old.run (λ total book open_run. loads.TakesReading at next.now total book open_run result self.old self.new store.old store.new) }
+        ensures carries { loads.CarriesOn store.old store.new }
+        ensures cause { IfErr result (λ e. loads.FailsFor e store.old store.new) }
+        ensures sound { OnOk result (shown.IsSound store.new) }
+        ensures sound_for { IfErr result (λ e. IsSoundFor e (shown.view store.new)) }
         ensures name { self.new.name ≡ self.old.name }
         ensures step { self.new.step ≡ self.old.step }
         ensures scale { self.new.scale ≡ self.old.scale }
@@ -131,12 +127,11 @@ impl Loader {
 
     /// Ends the load at a bad line: the run that stands open is stored first.
     pub(crate) fn stop<P: Pages>(&mut self, store: &mut Store<P>, at: u32) -> LoadEnd
-        requires sound { (P.view store.old.space.pages).fit }
-        ensures does { (total : ℕ) (book : List Series) (open_run : Option Run) → P.told store.old.space.pages → StandsForBook (P.view store.old.space.pages).image total book → Keeps open_run self.old.run
-            → Does {T = ℕ} (Closes open_run) (Closes open_run) (TooLongDone at total self.old.name book open_run (P.view store.new.space.pages).image) total self.old.name book (Err result) self.new.run (P.view store.old.space.pages) (P.view store.new.space.pages) }
-        ensures carries { Carries (P.told store.old.space.pages) (P.told store.new.space.pages) (P.view store.old.space.pages) (P.view store.new.space.pages) (P.under store.old.space.pages) (P.under store.new.space.pages) store.old.space.superblock.total store.new.space.superblock.total (length store.old.catalog.series.items) (length store.new.catalog.series.items) }
-        ensures cause { IsSetCause result store.old.space.superblock.total (P.view store.old.space.pages) (P.view store.new.space.pages) }
-        ensures sound_for { IsSoundFor result (P.view store.new.space.pages) }
+        requires sound { shown.IsSound store.old }
+        ensures does { loads.ForRun store.old self.old.run (λ total book open_run. loads.StopsAt at open_run total self.old.name book result self.new.run store.old store.new) }
+        ensures carries { loads.CarriesOn store.old store.new }
+        ensures cause { loads.FailsFor result store.old store.new }
+        ensures sound_for { IsSoundFor result (shown.view store.new) }
         ensures name { self.new.name ≡ self.old.name }
         ensures step { self.new.step ≡ self.old.step }
         ensures scale { self.new.scale ≡ self.old.scale }
@@ -151,13 +146,12 @@ impl Loader {
     /// Ends the load at the end of the input: the run that stands open is stored. It answers how many rows
     /// have a value.
     pub(crate) fn finish<P: Pages>(&mut self, store: &mut Store<P>) -> Result<u64, LoadEnd>
-        requires sound { (P.view store.old.space.pages).fit }
-        ensures does { (total : ℕ) (book : List Series) (open_run : Option Run) → P.told store.old.space.pages → StandsForBook (P.view store.old.space.pages).image total book → Keeps open_run self.old.run
-            → Does (Closes open_run) (Closes open_run) NoBad total self.old.name book result self.new.run (P.view store.old.space.pages) (P.view store.new.space.pages) }
-        ensures carries { Carries (P.told store.old.space.pages) (P.told store.new.space.pages) (P.view store.old.space.pages) (P.view store.new.space.pages) (P.under store.old.space.pages) (P.under store.new.space.pages) store.old.space.superblock.total store.new.space.superblock.total (length store.old.catalog.series.items) (length store.new.catalog.series.items) }
-        ensures cause { IfErr result (λ e. IsSetCause e store.old.space.superblock.total (P.view store.old.space.pages) (P.view store.new.space.pages)) }
-        ensures sound { OnOk result (P.view store.new.space.pages).fit }
-        ensures sound_for { IfErr result (λ e. IsSoundFor e (P.view store.new.space.pages)) }
+        requires sound { shown.IsSound store.old }
+        ensures does { loads.ForRun store.old self.old.run (λ total book open_run. loads.EndsRuns (Closes open_run) total self.old.name book result self.new.run store.old store.new) }
+        ensures carries { loads.CarriesOn store.old store.new }
+        ensures cause { IfErr result (λ e. loads.FailsFor e store.old store.new) }
+        ensures sound { OnOk result (shown.IsSound store.new) }
+        ensures sound_for { IfErr result (λ e. IsSoundFor e (shown.view store.new)) }
         ensures points { IfOk result (λ count. count ≡ self.old.points) }
     {
         match self.close(store) {
@@ -173,15 +167,14 @@ impl Loader {
         at: u32,
         said: Said,
     ) -> Result<(), LoadEnd>
-        requires sound { (P.view store.old.space.pages).fit }
+        requires sound { shown.IsSound store.old }
         requires few { self.old.points < 2 ^ 63 }
         requires near { (reading : Reading) → said ≡ Said.Point reading → unsigned_abs reading.time < 10 ^ 19 }
-        ensures does { (total : ℕ) (book : List Series) (open_run : Option Run) (text : List ℕ) → P.told store.old.space.pages → StandsForBook (P.view store.old.space.pages).image total book → Keeps open_run self.old.run → 0 < length text → SaysSo self.old.scale self.old.first text said
-            → Does (λ ends new. LineAdds self.old.scale self.old.step at text self.old.first open_run self.old.points ends self.new.first new self.new.points) (λ ends new. LineEnds self.old.scale self.old.step at text self.old.first open_run self.old.points ends) (BadDone self.old.scale at self.old.first text total self.old.name book open_run (P.view store.new.space.pages).image) total self.old.name book result self.new.run (P.view store.old.space.pages) (P.view store.new.space.pages) }
-        ensures carries { Carries (P.told store.old.space.pages) (P.told store.new.space.pages) (P.view store.old.space.pages) (P.view store.new.space.pages) (P.under store.old.space.pages) (P.under store.new.space.pages) store.old.space.superblock.total store.new.space.superblock.total (length store.old.catalog.series.items) (length store.new.catalog.series.items) }
-        ensures cause { IfErr result (λ e. IsSetCause e store.old.space.superblock.total (P.view store.old.space.pages) (P.view store.new.space.pages)) }
-        ensures sound { OnOk result (P.view store.new.space.pages).fit }
-        ensures sound_for { IfErr result (λ e. IsSoundFor e (P.view store.new.space.pages)) }
+        ensures does { loads.ForText store.old self.old said (λ total book open_run text. loads.TakesLine at text total book open_run result self.old self.new store.old store.new) }
+        ensures carries { loads.CarriesOn store.old store.new }
+        ensures cause { IfErr result (λ e. loads.FailsFor e store.old store.new) }
+        ensures sound { OnOk result (shown.IsSound store.new) }
+        ensures sound_for { IfErr result (λ e. IsSoundFor e (shown.view store.new)) }
         ensures name { self.new.name ≡ self.old.name }
         ensures step { self.new.step ≡ self.old.step }
         ensures scale { self.new.scale ≡ self.old.scale }
@@ -212,14 +205,13 @@ impl Loader {
         at: u32,
         line: &[u8],
     ) -> Result<(), LoadEnd>
-        requires sound { (P.view store.old.space.pages).fit }
+        requires sound { shown.IsSound store.old }
         requires few { self.old.points < 2 ^ 63 }
-        ensures does { (total : ℕ) (book : List Series) (open_run : Option Run) → P.told store.old.space.pages → StandsForBook (P.view store.old.space.pages).image total book → Keeps open_run self.old.run
-            → Does (λ ends new. LineAdds self.old.scale self.old.step at line.now self.old.first open_run self.old.points ends self.new.first new self.new.points) (λ ends new. LineEnds self.old.scale self.old.step at line.now self.old.first open_run self.old.points ends) (BadDone self.old.scale at self.old.first line.now total self.old.name book open_run (P.view store.new.space.pages).image) total self.old.name book result self.new.run (P.view store.old.space.pages) (P.view store.new.space.pages) }
-        ensures carries { Carries (P.told store.old.space.pages) (P.told store.new.space.pages) (P.view store.old.space.pages) (P.view store.new.space.pages) (P.under store.old.space.pages) (P.under store.new.space.pages) store.old.space.superblock.total store.new.space.superblock.total (length store.old.catalog.series.items) (length store.new.catalog.series.items) }
-        ensures cause { IfErr result (λ e. IsSetCause e store.old.space.superblock.total (P.view store.old.space.pages) (P.view store.new.space.pages)) }
-        ensures sound { OnOk result (P.view store.new.space.pages).fit }
-        ensures sound_for { IfErr result (λ e. IsSoundFor e (P.view store.new.space.pages)) }
+        ensures does { loads.ForRun store.old self.old.run (λ total book open_run. loads.TakesLine at line.now total book open_run result self.old self.new store.old store.new) }
+        ensures carries { loads.CarriesOn store.old store.new }
+        ensures cause { IfErr result (λ e. loads.FailsFor e store.old store.new) }
+        ensures sound { OnOk result (shown.IsSound store.new) }
+        ensures sound_for { IfErr result (λ e. IsSoundFor e (shown.view store.new)) }
         ensures name { self.new.name ≡ self.old.name }
         ensures step { self.new.step ≡ self.old.step }
         ensures scale { self.new.scale ≡ self.old.scale }

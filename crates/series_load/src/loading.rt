@@ -1,13 +1,10 @@
 //! A whole input into a series.
 ghost use Rattle.std.specs.Prelude.{◌≡◌, ◌≢◌, ◌≤◌, ◌<◌, ◌^◌, ◌↔◌, ℕ, List, [], None, Err, true, length, IfOk, IfErr, IfSome, OnOk, OnErr};
-ghost use Rattle.block_disk.specs.View.{View};
 ghost use Rattle.chart_world.specs.Reading.{unread_input};
-ghost use Rattle.series_book.specs.declared.one_series.Series.{Series};
 ghost use Rattle.series_book.specs.Edits.{id_of};
-ghost use Rattle.stored_book.specs.Standing.{StandsForBook};
-ghost use Rattle.series_load.specs.Sets.{IsNamed};
-ghost use Rattle.series_load.specs.Ends.{Outcome, IsLoadCause};
-ghost use Rattle.series_load.specs.Sides.{side, Goes};
+ghost use Rattle.series_load.specs.Sides.{Goes};
+ghost use Rattle.series_load.specs.Shown as loads;
+ghost use Rattle.series_store.specs.Shown as shown;
 ghost use Rattle.series_load.specs.Steps.{IsSoundFor};
 ghost use Rattle.series_load.specs.declared.load_end.LoadEnd.TheVariants.{UnknownSeries, NoMemory};
 
@@ -38,19 +35,17 @@ fn new_lines(alloc: Global) -> Result<Lines, LoadEnd>
 /// After `Ok` the input was read to its end. The sets of the runs that ended before a bad line, or before a
 /// refused set, stay. After a fault of the input a run that hadn't ended isn't stored. It sends nothing.
 pub fn load<P: PageWorld>(alloc: Global, store: &mut Store<P>, name: &Name) -> Result<u64, LoadEnd>
-    requires sound { (P.view store.old.space.pages).fit }
+    requires sound { shown.IsSound store.old }
     // the name is looked up first, and nothing is taken where no series has it
-    ensures unknown { (total : ℕ) (book : List Series) → P.told store.old.space.pages → StandsForBook (P.view store.old.space.pages).image total book → (result ≡ Err UnknownSeries) ↔ (id_of name.now book ≡ None) }
+    ensures unknown { shown.ForBook store.old (λ total book. (result ≡ Err UnknownSeries) ↔ (id_of name.now book ≡ None)) }
     ensures untouched { result ≡ Err UnknownSeries → store.new ≡ store.old }
     // what was read and stored, at the end and at each moment
-    ensures outcome { (total : ℕ) (book : List Series) (series : Series) → P.told store.old.space.pages → StandsForBook (P.view store.old.space.pages).image total book → IsNamed book name.now series
-        → Outcome total name.now book series (P.left store.old.space.pages) (P.left store.new.space.pages) result (P.view store.old.space.pages) (P.view store.new.space.pages) }
-    ensures within { OnOk result (IfSome (P.left store.old.space.pages) (λ input. length input ≤ 2 ^ 32)) }
-    ensures goes { Goes (side (P.told store.old.space.pages) (P.view store.old.space.pages) (P.under store.old.space.pages) store.old.space.superblock.total (length store.old.catalog.series.items) (P.left store.old.space.pages) (P.sent store.old.space.pages) (P.read_faults store.old.space.pages) (P.send_faults store.old.space.pages) (P.pieces store.old.space.pages))
-        (side (P.told store.new.space.pages) (P.view store.new.space.pages) (P.under store.new.space.pages) store.new.space.superblock.total (length store.new.catalog.series.items) (P.left store.new.space.pages) (P.sent store.new.space.pages) (P.read_faults store.new.space.pages) (P.send_faults store.new.space.pages) (P.pieces store.new.space.pages)) }
-    ensures cause { IfErr result (λ e. IsLoadCause e store.old.space.superblock.total (P.view store.old.space.pages) (P.view store.new.space.pages) (P.read_faults store.old.space.pages) (P.read_faults store.new.space.pages)) }
-    ensures sound { OnOk result (P.view store.new.space.pages).fit }
-    ensures sound_for { IfErr result (λ e. IsSoundFor e (P.view store.new.space.pages)) }
+    ensures outcome { loads.ForNamed store.old name.now (λ total book series. loads.LoadsSo P.Streams name.now total book series result store.old store.new) }
+    ensures within { OnOk result (IfSome (P.left (shown.pages store.old)) (λ input. length input ≤ 2 ^ 32)) }
+    ensures goes { Goes (loads.side_of P.Streams store.old) (loads.side_of P.Streams store.new) }
+    ensures cause { IfErr result (λ e. loads.EndsFor P.Streams e store.old store.new) }
+    ensures sound { OnOk result (shown.IsSound store.new) }
+    ensures sound_for { IfErr result (λ e. IsSoundFor e (shown.view store.new)) }
 {
     let Some(info) = store.series(name) else {
         return Err(LoadEnd::UnknownSeries);
@@ -74,20 +69,18 @@ fn load_lines<P: PageWorld>(
     loader: &mut Loader,
     lines: &mut Lines,
 ) -> Result<u64, LoadEnd>
-    requires sound { (P.view store.old.space.pages).fit }
+    requires sound { shown.IsSound store.old }
     requires fresh { lines.old ≡ unread_input }
     requires none { loader.old.run.values.items ≡ [] }
     requires first { loader.old.first ≡ true }
     requires points { loader.old.points ≡ 0 }
     ensures known { result ≢ Err UnknownSeries }
-    ensures outcome { (total : ℕ) (book : List Series) (series : Series) → P.told store.old.space.pages → StandsForBook (P.view store.old.space.pages).image total book → loader.old.step ≡ series.step → loader.old.scale ≡ series.scale
-        → Outcome total loader.old.name book series (P.left store.old.space.pages) (P.left store.new.space.pages) result (P.view store.old.space.pages) (P.view store.new.space.pages) }
-    ensures within { OnOk result (IfSome (P.left store.old.space.pages) (λ input. length input ≤ 2 ^ 32)) }
-    ensures goes { Goes (side (P.told store.old.space.pages) (P.view store.old.space.pages) (P.under store.old.space.pages) store.old.space.superblock.total (length store.old.catalog.series.items) (P.left store.old.space.pages) (P.sent store.old.space.pages) (P.read_faults store.old.space.pages) (P.send_faults store.old.space.pages) (P.pieces store.old.space.pages))
-        (side (P.told store.new.space.pages) (P.view store.new.space.pages) (P.under store.new.space.pages) store.new.space.superblock.total (length store.new.catalog.series.items) (P.left store.new.space.pages) (P.sent store.new.space.pages) (P.read_faults store.new.space.pages) (P.send_faults store.new.space.pages) (P.pieces store.new.space.pages)) }
-    ensures cause { IfErr result (λ e. IsLoadCause e store.old.space.superblock.total (P.view store.old.space.pages) (P.view store.new.space.pages) (P.read_faults store.old.space.pages) (P.read_faults store.new.space.pages)) }
-    ensures sound { OnOk result (P.view store.new.space.pages).fit }
-    ensures sound_for { IfErr result (λ e. IsSoundFor e (P.view store.new.space.pages)) }
+    ensures outcome { loads.ForLoaded store.old loader.old (λ total book series. loads.LoadsSo P.Streams loader.old.name total book series result store.old store.new) }
+    ensures within { OnOk result (IfSome (P.left (shown.pages store.old)) (λ input. length input ≤ 2 ^ 32)) }
+    ensures goes { Goes (loads.side_of P.Streams store.old) (loads.side_of P.Streams store.new) }
+    ensures cause { IfErr result (λ e. loads.EndsFor P.Streams e store.old store.new) }
+    ensures sound { OnOk result (shown.IsSound store.new) }
+    ensures sound_for { IfErr result (λ e. IsSoundFor e (shown.view store.new)) }
 {
     'lines: loop {
         match lines.next(store)? {

@@ -16,7 +16,7 @@ use Rattle.series_book.specs.declared.outcomes.Outcome.{Outcome}
 use Rattle.series_book.specs.declared.refusals.Refusal.{Refusal}
 use Rattle.series_book.specs.Edits.{Edited, with_slots, within}
 use Rattle.series_book.proofs.EditLemmas.{fitted-ok, fitted-full}
-use Rattle.store_laws.proofs.PagesInUse.{full_book, few_in_use}
+use Rattle.stored_book.proofs.PagesInUse.{full_book, few_in_use}
 use Rattle.stored_book.specs.Standing.{IsStore, StandsForBook}
 use Rattle.series_store.specs.Changing.{IsDoneBy, IsRefusedBy, IsEitherBy, IsAnswered}
 use Rattle.series_store.specs.Errors.{error_of}

@@ -5,6 +5,7 @@ use Rattle.std.proofs.lemmas.Int.{to_z-of_z, fits_signed_from_abs}
 use Rattle.std.specs.Prelude.{unsigned_abs, MatchOption}
 use Rattle.std.specs.List.{position, position_or_len, slice_get}
 use Rattle.std.specs.Str.{bytes_eq}
+use Rattle.whole_number.specs.Range.{IsValue}
 use Rattle.block_disk.specs.View.{Image, View}
 use Rattle.catalog_page.specs.Entries.{Entry}
 use Rattle.om3_coeff.specs.View.{Agrees}
@@ -15,9 +16,9 @@ use Rattle.series_book.specs.Edits.{id_of}
 use Rattle.series_book.specs.declared.one_series.Series.{Series}
 use Rattle.series_store.specs.Asking.{IsInfo}
 use Rattle.series_store.specs.declared.series_info.SeriesInfo.{SeriesInfo}
-use Rattle.store_catalog.specs.Catalogs.{entry_of, place_of, AreFit, AreAsTold}
-use Rattle.store_catalog.specs.declared.stored_series.StoredSeries.{StoredSeries}
-use Rattle.store_laws.proofs.NumberLemmas.{numbers, small_numbers}
+use Rattle.series_catalog.specs.Catalogs.{entry_of, place_of, AreFit, AreAsTold}
+use Rattle.series_catalog.specs.declared.stored_series.StoredSeries.{StoredSeries}
+use Rattle.stored_book.proofs.NumberLemmas.{numbers, small_numbers}
 use Rattle.stored_book.specs.Standing.{IsStore, IsKept, StandsForBook}
 use Rattle.tree_walk.specs.declared.tree.Tree.{Tree}
 use Rattle.tree_walk.specs.declared.trail.Trail.{Trail}
@@ -109,7 +110,7 @@ pub fit : (told : Type 0) (view : View) (s : Superblock) (tree : Tree) (trail : 
 fit told view s tree trail sound few root proper is = record { sound = sound; few = omega (arith, few); root = root; proper = proper; trail_is = is }
 
 -- a start that is in range is one of 64 bits
-pub start_same : (start : ℤ) → unsigned_abs start ≤ 10 ^ 18 → to_z w64 (of_z w64 start) ≡ start
+pub start_same : (start : ℤ) → IsValue start → to_z w64 (of_z w64 start) ≡ start
 start_same start few = to_z-of_z w64 start (fits_signed_from_abs w64 start (omega (arith, few)))
 
 pub none_so : {X : Type 0} → (found : Option X) (P : Type 0) (Q : X → Type 0) → found ≡ None → P → MatchOption found P Q

@@ -5,20 +5,26 @@ use Rattle.std.proofs.lemmas.Bool.{cases_lt}
 use Rattle.std.proofs.lemmas.List.Sums.{sum_by_more}
 use Rattle.std.proofs.lemmas.Option.{slice_get-get_or, slice_get_within, same_Some}
 use Rattle.std.proofs.Math.Nat.{pow-le-pow_right}
-use Rattle.block_disk.specs.View.{Image, View}
+use Rattle.block_disk.specs.View.{Image, View, Rises}
 use Rattle.catalog_page.specs.Entries.{Entry}
 use Rattle.om3_coeff.specs.Keys.{page_levels}
-use Rattle.om3_coeff.specs.Spans.{IsValue, span}
+use Rattle.om3_coeff.specs.Spans.{span}
+use Rattle.whole_number.specs.Range.{IsValue}
 use Rattle.page_space.specs.declared.superblock.Superblock.{Superblock}
 use Rattle.page_space.specs.Spaces.{Stands}
+use Rattle.path_repair.specs.Sums.{sum_below}
+use Rattle.path_repair.specs.TreePages.{tree_pages}
+use Rattle.path_repair.proofs.SumLemmas.{sum_suc, sum_same, sum_upto, length_join}
 use Rattle.series_book.specs.declared.one_series.Series.{Series}
-use Rattle.store_catalog.specs.Catalogs.{AreAsTold}
-use Rattle.store_catalog.specs.declared.stored_series.StoredSeries.{StoredSeries}
+use Rattle.series_catalog.specs.Catalogs.{AreAsTold}
+use Rattle.series_catalog.specs.declared.stored_series.StoredSeries.{StoredSeries}
+use Rattle.stored_book.specs.Records.{pages_of_tree, pages_of_trees}
 use Rattle.stored_book.specs.Standing.{IsStore}
+use Rattle.stored_book.proofs.PagesInUse.{in_use_is}
 use Rattle.tree_walk.specs.declared.tree.Tree.{Tree}
 use Rattle.tree_walk.specs.Holding.{KeptWalking}
 use Rattle.tree_walk.specs.Trees.{top_of_page, IsTree, StandsFor}
-use Rattle.series_store.specs.Counting.{values_in, values_of, values_below, Looks, HasBadPage, HasBadLink, HasBadTree, HasBadTreeOf, IsSoundTree, IsSoundChain, AreSound, AreSoundTrees, IsTreesCause, IsChainCause, IsCheckCause}
+use Rattle.series_store.specs.Counting.{values_in, values_of, values_below, pages_of_series, pages_of_root, Looks, HasBadPage, HasBadLink, HasBadTree, HasBadTreeOf, IsSoundTree, IsSoundChain, AreSound, AreSoundTrees, IsTreesCause, IsChainCause, IsCheckCause}
 use Rattle.series_store.specs.declared.errors.StoreError.{StoreError}
 use Rattle.series_store.specs.declared.errors.StoreError.TheVariants.{Refused, NotAStore, DiskFault, Damaged, NoMemory}
 use Rattle.series_store.proofs.AskLemmas.{kept_as}
@@ -47,12 +53,22 @@ root_stands image total tree list levels is stands =
     let S : ℕ → Type 0 = λ l. tree.span ≡ span list (top_of_page l 0) in
     record { pages = subst P (sym same) stands.pages; top_is = subst S (sym same) stands.root_span }
 
--- the trees of the first so many series are counted
+root_pages : (image : Image) (items : List StoredSeries) (id : ℕ) (one : StoredSeries) → slice_get items id ≡ Some one → pages_of_root image items id ≡ length (tree_pages image (page_levels one.tree.slots) one.tree.root)
+root_pages image items id one there = ap (λ (found : Option StoredSeries). pages_of_series image found) there
+
+-- the trees of the first so many series are counted, and each page of theirs was read once
 pub record AreCounted (told told' : Type 0) (old new under under' : View) (s s' : Superblock) (items : List StoredSeries) (values count : ℕ) : Type 0 where
   pub looks : Looks told told' old new under under' s s'
   pub few : values ≤ count * 2 ^ 35
   pub counts : (book : List Series) → told → IsStore old.image s book → AreAsTold old.image items → length items ≡ length book → values ≡ values_of (take count book)
-  pub whole : told → (id : ℕ) (one : StoredSeries) → id < count → slice_get items id ≡ Some one → IsSoundTree old.image s.total (page_levels one.tree.slots) one.tree.root one.tree.span
+  pub reads : told → new.reads ≤ old.reads + sum_below (pages_of_root old.image items) count
+  pub whole : told → (id : ℕ) (one : StoredSeries) → id < count → slice_get items id ≡ Some one → IsSoundTree old.image s.total one.tree.slots (page_levels one.tree.slots) 0 one.tree.root one.tree.span
+
+pub near_root : (levels : ℕ) → levels ≤ 5 → (0 + 1) * 128 ^ levels ≤ 2 ^ 35
+near_root levels low =
+    let some : 0 < 128 = omega arith in
+    let most : 128 ^ levels ≤ 128 ^ 5 = pow-le-pow_right some low in
+    omega (arith, most)
 
 pub few_values : (more levels : ℕ) → levels ≤ 5 → more ≤ 128 ^ levels → more ≤ 2 ^ 35
 few_values more levels low few =
@@ -73,13 +89,13 @@ more_values book count values more two there sum here =
 covered : (list : List (Option ℤ)) (slots levels : ℕ) → slots ≡ length list → slots ≤ 128 ^ levels → length list ≤ 128 ^ levels
 covered list slots levels is few = omega (arith, is, few)
 
-sound_here : (old mid : Image) (total total' levels : ℕ) (one two : StoredSeries) → mid ≡ old → total' ≡ total → levels ≡ page_levels one.tree.slots → one ≡ two → IsSoundTree mid total' levels one.tree.root one.tree.span
-    → IsSoundTree old total (page_levels two.tree.slots) two.tree.root two.tree.span
+sound_here : (old mid : Image) (total total' levels : ℕ) (one two : StoredSeries) → mid ≡ old → total' ≡ total → levels ≡ page_levels one.tree.slots → one ≡ two → IsSoundTree mid total' one.tree.slots levels 0 one.tree.root one.tree.span
+    → IsSoundTree old total two.tree.slots (page_levels two.tree.slots) 0 two.tree.root two.tree.span
 sound_here old mid total total' levels one two same same_total is one_is sound =
-    let I : Image → Type 0 = λ image. IsSoundTree image total' levels one.tree.root one.tree.span in
-    let T : ℕ → Type 0 = λ n. IsSoundTree old n levels one.tree.root one.tree.span in
-    let L : ℕ → Type 0 = λ l. IsSoundTree old total l one.tree.root one.tree.span in
-    let O : StoredSeries → Type 0 = λ x. IsSoundTree old total (page_levels x.tree.slots) x.tree.root x.tree.span in
+    let I : Image → Type 0 = λ image. IsSoundTree image total' one.tree.slots levels 0 one.tree.root one.tree.span in
+    let T : ℕ → Type 0 = λ n. IsSoundTree old n one.tree.slots levels 0 one.tree.root one.tree.span in
+    let L : ℕ → Type 0 = λ l. IsSoundTree old total one.tree.slots l 0 one.tree.root one.tree.span in
+    let O : StoredSeries → Type 0 = λ x. IsSoundTree old total x.tree.slots (page_levels x.tree.slots) 0 x.tree.root x.tree.span in
     subst O one_is (subst L is (subst T same_total (subst I same sound)))
 
 -- what the tree of a series stands for at the moment at which it is counted
@@ -92,18 +108,26 @@ stands_then old mid s s' book items id levels one two same same_numbers store ar
 
 pub trees_on : (told told' told'' : Type 0) (old mid new under under' under'' : View) (s s' s'' : Superblock) (items : List StoredSeries) (one : StoredSeries) (values more count levels : ℕ) → AreCounted told told' old mid under under' s s' items values count
     → slice_get items count ≡ Some one → levels ≡ page_levels one.tree.slots → levels ≤ 5 → one.tree.slots ≤ 128 ^ levels → Looks told' told'' mid new under' under'' s' s'' → more ≤ 128 ^ levels
-    → ((list : List (Option ℤ)) (index : ℕ) → told' → ((i : ℕ) (v : ℤ) → slice_get list i ≡ Some (Some v) → IsValue v) → IsTree mid.image s'.total list levels index one.tree.root → one.tree.span ≡ span list (top_of_page levels index) → more ≡ values_below list levels index)
-    → (told' → IsSoundTree mid.image s'.total levels one.tree.root one.tree.span)
+    → ((list : List (Option ℤ)) → told' → ((i : ℕ) (v : ℤ) → slice_get list i ≡ Some (Some v) → IsValue v) → length list ≡ one.tree.slots → IsTree mid.image s'.total list levels 0 one.tree.root → one.tree.span ≡ span list (top_of_page levels 0) → more ≡ values_below list levels 0)
+    → (told' → Rises (length (tree_pages mid.image levels one.tree.root)) mid.reads new.reads)
+    → (told' → IsSoundTree mid.image s'.total one.tree.slots levels 0 one.tree.root one.tree.span)
     → AreCounted told told'' old new under under'' s s'' items (values + more) (count + 1)
-trees_on told told' told'' old mid new under under' under'' s s' s'' items one values more count levels way there is low covers looks few counts whole = record {
+trees_on told told' told'' old mid new under under' under'' s s' s'' items one values more count levels way there is low covers looks few counts reads whole = record {
   looks = looks_then told told' told'' old mid new under under' under'' s s' s'' way.looks looks;
   few = few_more values more count (2 ^ 35) way.few (few_values more levels low few);
   counts = λ book t store are long.
       let two = some_at book count (omega (arith, long, slice_get_within items count one there)) in
       let stands = tree_stands old.image s book items count one two.0 store are there two.1 in
       let root = stands_then old.image mid.image s s' book items count levels one two.0 (way.looks.kept.image t) way.looks.over.superblock store are there two.1 is in
-      let here : more ≡ values_below two.0.slots levels 0 = counts two.0.slots 0 (way.looks.kept.told t) stands.values root.pages root.top_is in
+      let here : more ≡ values_below two.0.slots levels 0 = counts two.0.slots (way.looks.kept.told t) stands.values (sym stands.slots) root.pages root.top_is in
       more_values book count values more two.0 two.1 (way.counts book t store are long) (here ∙ values_all two.0.slots levels (covered two.0.slots one.tree.slots levels stands.slots covers));
+  reads = λ t.
+      let next : suc count ≡ count + 1 = omega arith in
+      let P : ℕ → Type 0 = λ n. new.reads ≤ old.reads + sum_below (pages_of_root old.image items) n in
+      let I : Image → Type 0 = λ image. new.reads ≤ mid.reads + length (tree_pages image levels one.tree.root) in
+      let L : ℕ → Type 0 = λ l. new.reads ≤ mid.reads + length (tree_pages old.image l one.tree.root) in
+      let here : new.reads ≤ mid.reads + pages_of_root old.image items count = omega (arith, root_pages old.image items count one there, subst L is (subst I (way.looks.kept.image t) (reads (way.looks.kept.told t)).high)) in
+      subst P next (omega (arith, way.reads t, here, sum_suc (pages_of_root old.image items) count));
   whole = λ t id other below found. elim (cases_lt id count) [
     | inl before ↦ way.whole t id other before found
     | inr past ↦
@@ -113,14 +137,49 @@ trees_on told told' told'' old mid new under under' under'' s s' s'' items one v
   ];
 }
 
-pub trees_whole : (image : Image) (total count : ℕ) (items : List StoredSeries) → count ≡ length items → ((id : ℕ) (one : StoredSeries) → id < count → slice_get items id ≡ Some one → IsSoundTree image total (page_levels one.tree.slots) one.tree.root one.tree.span)
+-- where some of the pages of one more tree were read, no more were than all trees have
+pub trees_read : (told told' told'' : Type 0) (old mid new under under' under'' : View) (s s' s'' : Superblock) (items : List StoredSeries) (one : StoredSeries) (values count levels : ℕ) → AreCounted told told' old mid under under' s s' items values count
+    → slice_get items count ≡ Some one → levels ≡ page_levels one.tree.slots → (told' → Rises (length (tree_pages mid.image levels one.tree.root)) mid.reads new.reads)
+    → told → new.reads ≤ old.reads + sum_below (pages_of_root old.image items) (length items)
+trees_read told told' told'' old mid new under under' under'' s s' s'' items one values count levels way there is reads t =
+    let I : Image → Type 0 = λ image. new.reads ≤ mid.reads + length (tree_pages image levels one.tree.root) in
+    let L : ℕ → Type 0 = λ l. new.reads ≤ mid.reads + length (tree_pages old.image l one.tree.root) in
+    omega (
+      arith,
+      way.reads t,
+      root_pages old.image items count one there,
+      subst L is (subst I (way.looks.kept.image t) (reads (way.looks.kept.told t)).high),
+      sum_upto (pages_of_root old.image items) count (length items) (slice_get_within items count one there),
+    )
+
+-- where pages stand for a book, its trees and the chain share no page
+trees_length : (image : Image) (items : List StoredSeries) (count : ℕ) → AreAsTold image items → length items ≡ count → sum_below (pages_of_root image items) (length items) ≡ length (pages_of_trees image count)
+trees_length image items count are long =
+    let same = sum_same (pages_of_root image items) (λ id. length (pages_of_tree image id)) (length items) (λ id low.
+    let one = some_at items id low in
+    root_pages image items id one.0 one.1 ∙ ap (λ (e : Entry). length (tree_pages image (page_levels e.slots) e.root)) (sym (are id one.0 one.1))) in
+    same ∙ ap (λ n. sum_below (λ id. length (pages_of_tree image id)) n) long ∙ sym (length_join (pages_of_tree image) count)
+
+pub once_read : (image : Image) (s : Superblock) (book : List Series) (items : List StoredSeries) (before mid after : ℕ) → IsStore image s book → AreAsTold image items → length items ≡ length book
+    → mid ≤ before + sum_below (pages_of_root image items) (length items) → after ≤ mid + s.chain → after + 17 ≤ before + s.fresh
+once_read image s book items before mid after store are long trees chain =
+    omega (
+      arith,
+      trees,
+      chain,
+      trees_length image items (length book) are long,
+      in_use_is s.total image s (pages_of_trees image (length book)) store.freed store.stands,
+      store.stands.rules.chain_high,
+    )
+
+pub trees_whole : (image : Image) (total count : ℕ) (items : List StoredSeries) → count ≡ length items → ((id : ℕ) (one : StoredSeries) → id < count → slice_get items id ≡ Some one → IsSoundTree image total one.tree.slots (page_levels one.tree.slots) 0 one.tree.root one.tree.span)
     → AreSoundTrees image total items
 trees_whole image total count items end whole id one there = whole id one (omega (arith, end, slice_get_within items id one there)) there
 
 -- the pages say of their series what the catalog in memory says
 told_bad : (image : Image) (s : Superblock) (items : List StoredSeries) (at : ℕ) → AreAsTold image items → length items ≡ s.series → HasBadTreeOf image s.total items at → HasBadTree image s at
 told_bad image s items at are long bad =
-    let P : Entry → Type 0 = λ e. HasBadPage image s.total (page_levels e.slots) e.root e.span at in
+    let P : Entry → Type 0 = λ e. HasBadPage image s.total e.slots (page_levels e.slots) 0 e.root e.span at in
     record { id = bad.id; within = omega (arith, long, slice_get_within items bad.id bad.one bad.there); bad = subst P (sym (are bad.id bad.one bad.there)) bad.bad }
 
 pub check_trees : (e : StoreError) (told : Type 0) (old new : View) (s : Superblock) (items : List StoredSeries) → (told → AreAsTold old.image items) → length items ≡ s.series → IsTreesCause e told old new s.total items → IsCheckCause e told s old new
@@ -151,7 +210,7 @@ check_whole told told' old mid s s' items kept same are long trees chain t =
     record {
       trees = λ id within.
           let one = some_at items id (omega (arith, long, within)) in
-          let P : Entry → Type 0 = λ e. IsSoundTree old.image s.total (page_levels e.slots) e.root e.span in
+          let P : Entry → Type 0 = λ e. IsSoundTree old.image s.total e.slots (page_levels e.slots) 0 e.root e.span in
           subst P (sym (are t id one.0 one.1)) (trees t id one.0 one.1);
       chain = subst S same (subst I (kept.image t) (chain (kept.told t)));
     }

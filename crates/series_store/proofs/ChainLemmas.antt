@@ -1,6 +1,6 @@
 -- The pages of the chain are taken one after the other.
-use Rattle.std.proofs.Common.{◌≡◌, ◌≢◌, ℕ, suc, ◌-◌, ◌<◌, List, ◌∷◌, drop, unwrap_or, refl, sym, ap, subst, arith, inl, inr, ◌∙◌}
-use Rattle.block_disk.specs.View.{Image, View}
+use Rattle.std.proofs.Common.{◌≡◌, ◌≢◌, ℕ, suc, ◌+◌, ◌-◌, ◌<◌, ◌≤◌, List, ◌∷◌, drop, unwrap_or, refl, sym, ap, subst, arith, inl, inr, ◌∙◌}
+use Rattle.block_disk.specs.View.{Image, View, Rises}
 use Rattle.page_space.specs.declared.superblock.Superblock.{Superblock}
 use Rattle.page_space.specs.declared.txn.Txn.{Txn}
 use Rattle.page_space.specs.declared.errors.SpaceError.{SpaceError}
@@ -24,6 +24,7 @@ pub record IsPassing (told told' : Type 0) (old new under under' : View) (s s' :
   pub looks : Looks told told' old new under under' s s'
   pub total : txn.superblock.total ≡ s.total
   pub left_is : txn.superblock.chain ≡ left
+  pub reads : new.reads + left ≤ old.reads + s.chain
   pub same : told → (p : ℕ) → 0 < p → left_by txn old.image p ≡ old.image p
   pub bad : told → (at : ℕ) → HasBadLink old.image txn.superblock left at → HasBadLink old.image s s.chain at
   pub whole : told → IsSoundChain old.image txn.superblock left → IsSoundChain old.image s s.chain
@@ -43,8 +44,9 @@ chain_whole image s s' left same is sound =
 
 pub pass_start : (told told' : Type 0) (old new under under' : View) (s s' : Superblock) (txn : Txn) (left : ℕ) → Looks told told' old new under under' s s' → txn.superblock ≡ s → s.chain ≡ left → (told → (p : ℕ) → left_by txn old.image p ≡ old.image p)
     → ((count : ℕ) (image : Image) (taken freed : List ℕ) → Stands count image s taken freed → Stands count (left_by txn image) txn.superblock taken freed)
-    → IsPassing told told' old new under under' s s' txn left
-pass_start told told' old new under under' s s' txn left looks same is pages stands = record {
+    → new.reads ≤ old.reads → IsPassing told told' old new under under' s s' txn left
+pass_start told told' old new under under' s s' txn left looks same is pages stands none = record {
+  reads = omega (arith, none, is);
   looks = looks;
   total = ap (λ (x : Superblock). x.total) same;
   left_is = ap (λ (x : Superblock). x.chain) same ∙ is;
@@ -84,8 +86,8 @@ one_less s s' left is after =
 pub pass_on : (told told' told'' : Type 0) (old mid new under under' under'' : View) (s s' s'' : Superblock) (txn txn' : Txn) (left below p : ℕ) → IsPassing told told' old mid under under' s s' txn left → left ≡ suc below
     → Looks told' told'' mid new under' under'' s' s'' → Takes told' (left_by txn mid.image) txn.superblock txn'.superblock p → txn'.superblock.total ≡ txn.superblock.total → OnlyFirst txn txn'
     → (told' → (count : ℕ) (taken freed : List ℕ) → Stands count (left_by txn mid.image) txn.superblock taken freed → Stands count (left_by txn' mid.image) txn'.superblock (p ∷ taken) (drop 1 freed))
-    → IsPassing told told'' old new under under'' s s'' txn' below
-pass_on told told' told'' old mid new under under' under'' s s' s'' txn txn' left below p way is looks takes total only stands =
+    → Rises 1 mid.reads new.reads → IsPassing told told'' old new under under'' s s'' txn' below
+pass_on told told' told'' old mid new under under' under'' s s' s'' txn txn' left below p way is looks takes total only stands one =
     let chain_is : txn.superblock.chain ≡ suc below = way.left_is ∙ is in
     let from = from_chain told' (left_by txn mid.image) txn.superblock txn'.superblock p below chain_is takes in
     let I : Image → Type 0 = λ image. left_by txn image txn.superblock.head ≡ freed_page txn'.superblock.head in
@@ -96,6 +98,7 @@ pass_on told told' told'' old mid new under under' under'' s s' s'' txn txn' lef
     record {
       looks = looks_then told told' told'' old mid new under under' under'' s s' s'' way.looks looks;
       total = total ∙ way.total;
+      reads = omega (arith, way.reads, is, one.high);
       left_is = one_less txn.superblock txn'.superblock below chain_is from.after;
       same = λ t q some. ap (λ page. unwrap_or page (old.image q)) (only.others q some) ∙ way.same t q some;
       bad = λ t at bad.

@@ -17,9 +17,9 @@ use Rattle.series_book.specs.Books.{IsSeries}
 use Rattle.series_book.specs.Edits.{is_too_large, overwritten, cleared}
 use Rattle.series_book.proofs.BookLemmas.{IsSeries-there}
 use Rattle.series_book.proofs.LawLemmas.{AreInRange}
-use Rattle.store_catalog.specs.declared.stored_series.StoredSeries.{StoredSeries}
-use Rattle.store_catalog.specs.Catalogs.{entry_of}
-use Rattle.store_laws.proofs.TreesLemmas.{held}
+use Rattle.series_catalog.specs.declared.stored_series.StoredSeries.{StoredSeries}
+use Rattle.series_catalog.specs.Catalogs.{entry_of}
+use Rattle.stored_book.proofs.TreesLemmas.{held}
 use Rattle.stored_book.specs.Records.{entry, tree_of, pages_of_others}
 use Rattle.stored_book.specs.Standing.{IsStore}
 use Rattle.stored_book.specs.Changing.{IsTreeChanged}

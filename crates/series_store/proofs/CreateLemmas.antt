@@ -25,10 +25,10 @@ use Rattle.series_book.specs.Names.{is_name}
 use Rattle.series_book.specs.declared.edits.Edit.TheVariants.{Create}
 use Rattle.series_book.proofs.BookLemmas.{IsBook-push}
 use Rattle.series_book.proofs.EditLemmas.{created-ok}
-use Rattle.store_catalog.specs.declared.stored_series.StoredSeries.{StoredSeries}
-use Rattle.store_catalog.specs.Catalogs.{entry_of, AreFit, AreAsTold}
-use Rattle.store_laws.proofs.FrameLemmas.{page_low, entry_stays}
-use Rattle.store_laws.proofs.AddedLemmas.{added_store}
+use Rattle.series_catalog.specs.declared.stored_series.StoredSeries.{StoredSeries}
+use Rattle.series_catalog.specs.Catalogs.{entry_of, AreFit, AreAsTold}
+use Rattle.stored_book.proofs.FrameLemmas.{page_low, entry_stays}
+use Rattle.stored_book.proofs.AddedLemmas.{added_store}
 use Rattle.stored_book.specs.Records.{entry}
 use Rattle.stored_book.specs.Standing.{IsStore, StandsForBook, AreCatalog}
 use Rattle.series_store.specs.declared.errors.StoreError.{StoreError}

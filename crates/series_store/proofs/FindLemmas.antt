@@ -12,8 +12,8 @@ use Rattle.series_book.specs.declared.refusals.Refusal.{Refusal}
 use Rattle.series_book.specs.declared.refusals.Refusal.TheVariants.{UnknownSeries}
 use Rattle.series_book.specs.Axes.{IsAxisOf}
 use Rattle.series_book.specs.Edits.{Edited, apply, id_of, place_of as slot_of, change_at, change_series, within, unbounded, appended, set_at, cleared_at, cleared, with_slots}
-use Rattle.store_catalog.specs.declared.stored_series.StoredSeries.{StoredSeries}
-use Rattle.store_catalog.specs.Catalogs.{place_of, AreAsTold}
+use Rattle.series_catalog.specs.declared.stored_series.StoredSeries.{StoredSeries}
+use Rattle.series_catalog.specs.Catalogs.{place_of, AreAsTold}
 use Rattle.stored_book.specs.Standing.{IsStore, StandsForBook}
 use Rattle.series_store.proofs.AskLemmas.{own_store, as_many, same_id, kept_as}
 use Rattle.series_store.proofs.SlotLemmas.{cleared_there, cleared_nothing, length-cleared, same_slots}

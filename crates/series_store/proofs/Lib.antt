@@ -18,3 +18,5 @@ pub mod ValueLemmas
 pub mod TreeCountLemmas
 pub mod ChainLemmas
 pub mod BookCountLemmas
+pub mod SendLemmas
+pub mod SeriesSendLemmas

@@ -13,7 +13,7 @@ use Rattle.gate_pages.specs.Pages.{Quiet, Reads, Commits, BeforeOrAfter}
 use Rattle.gate_pages.proofs.Moving.{time_then}
 use Rattle.catalog_page.specs.Layout.{KeepsLayout}
 use Rattle.catalog_page.specs.Places.{records_of}
-use Rattle.page_space.specs.Causes.{Unopened}
+use Rattle.page_space.specs.Causes.{Unopened, Uninitialized}
 use Rattle.page_space.specs.Firsts.{first_pages, empty_over}
 use Rattle.page_space.specs.Layout.{Keeps}
 use Rattle.page_space.specs.declared.superblock.Superblock.{Superblock}
@@ -21,18 +21,19 @@ use Rattle.page_space.specs.declared.errors.SpaceError.{SpaceError}
 use Rattle.page_space.specs.declared.errors.SpaceError.TheVariants.{NotAStore as NoStore, Full, DiskFault as AtDisk, Damaged as AtPage, NoMemory as AtMemory}
 use Rattle.path_repair.specs.Standing.{ReadsMost}
 use Rattle.series_book.specs.declared.one_series.Series.{Series}
-use Rattle.series_store.specs.Opening.{IsOpenCause, IsReadCause, IsOutside, MakesStore, space_error_of, catalog_error_of}
+use Rattle.series_store.specs.Opening.{IsFirstPage, IsOpenCause, IsReadCause, IsOutside, MakesStore, space_error_of, catalog_error_of}
 use Rattle.series_store.specs.declared.errors.StoreError.{StoreError}
 use Rattle.series_store.specs.declared.errors.StoreError.TheVariants.{Refused, NotAStore, DiskFault, Damaged, NoMemory}
-use Rattle.store_catalog.specs.Reading.{IsBadCatalog, IsCatalogCause}
-use Rattle.store_catalog.specs.declared.errors.CatalogError.{CatalogError}
-use Rattle.store_catalog.specs.declared.errors.CatalogError.TheVariants.{DiskFault as DiskCatalog, Damaged as BadPage, NoMemory as NoRoom}
-use Rattle.store_laws.proofs.EmptyLemmas.{first_book, empty_store}
-use Rattle.store_init.specs.Stores.{IsEmptyStore}
+use Rattle.series_catalog.specs.Reading.{IsBadCatalog, IsCatalogCause, IsCatalogPage}
+use Rattle.series_catalog.specs.declared.errors.CatalogError.{CatalogError}
+use Rattle.series_catalog.specs.declared.errors.CatalogError.TheVariants.{DiskFault as DiskCatalog, Damaged as BadPage, NoMemory as NoRoom}
+use Rattle.stored_book.proofs.EmptyLemmas.{first_book, first_over, empty_store}
+use Rattle.series_catalog.proofs.ReadLemmas.{reads_more, risen_on, nothing, none_told}
+use Rattle.empty_store.specs.Stores.{IsEmptyStore}
 use Rattle.stored_book.specs.Standing.{AreCatalog}
 use Rattle.page_space.specs.Layout.{empty_of, superblock_page, catalog_page}
-use Rattle.store_catalog.specs.Catalogs.{AreFit, AreAsTold}
-use Rattle.store_catalog.specs.declared.stored_series.StoredSeries.{StoredSeries}
+use Rattle.series_catalog.specs.Catalogs.{AreFit, AreAsTold}
+use Rattle.series_catalog.specs.declared.stored_series.StoredSeries.{StoredSeries}
 use Rattle.std.proofs.lemmas.Bool.{lt-ltb, ne_eqb}
 use Rattle.page_space.specs.Firsts.{first_page}
 use Rattle.stored_book.specs.Records.{entry}
@@ -49,21 +50,6 @@ read_once told told' old new reads = record {
   fit = reads.fit;
   faults = reads.faults;
   reads = reads.reads;
-  syncs = reads.syncs;
-  writes = reads.writes;
-}
-
-pub reads_more : (most more : ℕ) (told told' : Type 0) (old new : View) → most ≤ more → ReadsMost most told told' old new → ReadsMost more told told' old new
-reads_more most more told told' old new less reads = record {
-  time = reads.time;
-  told = reads.told;
-  was_told = reads.was_told;
-  image = reads.image;
-  size = reads.size;
-  beside = reads.beside;
-  fit = reads.fit;
-  faults = reads.faults;
-  reads = record { low = reads.reads.low; high = omega (arith, reads.reads.high, less) };
   syncs = reads.syncs;
   writes = reads.writes;
 }
@@ -96,14 +82,33 @@ space_cause told old new AtDisk cause = cause
 space_cause told old new (AtPage page) cause = λ t. inl (cause.0, (cause.1 t).0, (cause.1 t).1)
 space_cause told old new AtMemory cause = tt
 
+-- why no store was made: the disk failed, or there was no memory
+module _ (old new : View) where
+  pub init_fault : (e : SpaceError) → Uninitialized e old new → space_error_of e ≡ DiskFault → HasRisen old.faults new.faults
+  init_fault NoStore cause is = absurd cause
+  init_fault (Full needed have) cause is = absurd cause
+  init_fault AtDisk cause is = cause
+  init_fault (AtPage page) cause is = absurd cause
+  init_fault AtMemory cause is = absurd (cc)
+
+  pub init_unsound : (fit : Type 0) (e : SpaceError) → Uninitialized e old new → (e ≡ AtDisk → fit → ⊥) → space_error_of e ≡ DiskFault → fit → ⊥
+  init_unsound fit NoStore cause unsound is = absurd cause
+  init_unsound fit (Full needed have) cause unsound is = absurd cause
+  init_unsound fit AtDisk cause unsound is = unsound refl
+  init_unsound fit (AtPage page) cause unsound is = absurd cause
+  init_unsound fit AtMemory cause unsound is = absurd (cc)
+
+  pub init_same : {P : Type 0} (value pages : P) (e : SpaceError) → Uninitialized e old new → (e ≡ AtMemory → value ≡ pages) → space_error_of e ≡ NoMemory → value ≡ pages
+  init_same value pages NoStore cause same is = absurd cause
+  init_same value pages (Full needed have) cause same is = absurd cause
+  init_same value pages AtDisk cause same is = absurd (cc)
+  init_same value pages (AtPage page) cause same is = absurd cause
+  init_same value pages AtMemory cause same is = same refl
+
 pub catalog_cause : (told : Type 0) (s : Superblock) (old new : View) (e : CatalogError) → IsCatalogCause e told s old new → IsReadCause (catalog_error_of e) told s old new
 catalog_cause told s old new DiskCatalog cause = cause
 catalog_cause told s old new (BadPage page) cause = cause
 catalog_cause told s old new NoRoom cause = tt
-
-risen_on : (old mid new : ℕ) → old ≤ mid → HasRisen mid new → HasRisen old new
-risen_on old mid new less (inl risen) = inl (omega (arith, less, risen))
-risen_on old mid new less (inr most) = inr most
 
 -- a bad page of the catalog, of the pages as they were before page 0 was read
 bad_then : (told told' : Type 0) (s : Superblock) (old mid : View) (page : ℕ) → ReadsMost 1 told told' old mid → (told' → IsBadCatalog mid.image s page) → told → IsBadCatalog old.image s page
@@ -168,6 +173,12 @@ pub space_outside : (e : SpaceError) → (e ≡ AtDisk) ⊎ (e ≡ AtMemory) →
 space_outside e (inl is) = inl (ap (λ x. space_error_of x) is)
 space_outside e (inr is) = inr (ap (λ x. space_error_of x) is)
 
+-- a page that is called damaged is one of the catalog
+pub first_read : (e : CatalogError) → IsCatalogPage e → IsFirstPage (catalog_error_of e)
+first_read DiskCatalog placed = tt
+first_read (BadPage page) placed = placed.1
+first_read NoRoom placed = tt
+
 -- a catalog that is bad in nothing is read, but for the disk and the memory
 pub read_outside : (told : Type 0) (s : Superblock) (old new : View) (e : StoreError) → told → ((page : ℕ) → IsBadCatalog old.image s page → ⊥) → IsReadCause e told s old new → IsOutside e
 read_outside told s old new (Refused refusal) t sound cause = absurd cause
@@ -192,13 +203,6 @@ making told told' old new many small first commits =
     either before after P is image (inl same) = inl same
     either before after P is image (inr same) = inr (subst P (sym same) is)
 
-first_over : (count : ℕ) (image : Image) → IsEmptyStore count (empty_over count image)
-first_over count image = record {
-  first = ap (λ b. cond b (first_page count 0) (image 0)) (lt-ltb 0 17 (omega arith));
-  catalog = λ p from to. ap (λ b. cond b (first_page count p) (image p)) (lt-ltb p 17 to)
-      ∙ ap (λ b. cond b (superblock_page (empty_of count)) catalog_page) (ne_eqb p 0 (λ none. omega (arith, none, from)));
-}
-
 -- and its catalog is whole
 pub made_whole : (count : ℕ) (image new : Image) (s : Superblock) → 62 ≤ count → count < 2 ^ 32 → ((p : ℕ) → put_all (first_pages count) image p ≡ empty_over count image p) → new ≡ put_all (first_pages count) image → s ≡ empty_of count → AreCatalog new s.fresh s.series
 made_whole count image new s many small first done is =
@@ -207,18 +211,9 @@ made_whole count image new s many small first done is =
     let store = empty_store count (empty_over count image) many small (first_over count image) in
     subst Q (sym is) (subst P (sym (fun_ext first) ∙ sym done) store.catalog)
 
-nothing : (id : ℕ) (one : StoredSeries) → slice_get {X = StoredSeries} [] id ≡ Some one → ⊥
-nothing zero one there = cc
-nothing (suc id) one there = cc
-
 pub none_fit : (fresh : ℕ) (series : List StoredSeries) → series ≡ [] → AreFit fresh series
 none_fit fresh series none =
     let P : List StoredSeries → Type 0 = λ l. AreFit fresh l in
-    subst P (sym none) (λ id one there. absurd (nothing id one there))
-
-pub none_told : (image : Image) (series : List StoredSeries) → series ≡ [] → AreAsTold image series
-none_told image series none =
-    let P : List StoredSeries → Type 0 = λ l. AreAsTold image l in
     subst P (sym none) (λ id one there. absurd (nothing id one there))
 
 -- the pages stand for the book with the numbers of the space that was opened

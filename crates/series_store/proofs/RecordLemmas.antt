@@ -4,7 +4,8 @@ use Rattle.std.proofs.lemmas.Bool.{le-ltb}
 use Rattle.std.proofs.lemmas.Bool.Decides.{eqb_tells}
 use Rattle.std.proofs.lemmas.Option.{same_Some, slice_get_within, slice_get-get_or}
 use Rattle.block_disk.specs.View.{Image}
-use Rattle.om3_coeff.specs.Spans.{IsValue, AreSlots}
+use Rattle.om3_coeff.specs.Spans.{AreSlots}
+use Rattle.whole_number.specs.Range.{IsValue}
 use Rattle.page_space.specs.declared.superblock.Superblock.{Superblock}
 use Rattle.page_space.specs.Layout.{superblock_page, IsSuperblock}
 use Rattle.path_repair.specs.Keeping.{KeepsCatalog}
@@ -13,14 +14,14 @@ use Rattle.catalog_page.specs.Layout.{KeepsLayout}
 use Rattle.catalog_page.specs.Places.{page_of, number_of, records_of}
 use Rattle.catalog_page.proofs.RecordPlaces.{in_use}
 use Rattle.series_book.specs.declared.one_series.Series.{Series}
-use Rattle.series_book.specs.declared.limits.TheConstants.{GREATEST_VALUE}
+use Rattle.whole_number.specs.declared.limits.TheConstants.{GREATEST_VALUE}
 use Rattle.series_book.specs.Edits.{is_too_large, with_slots}
 use Rattle.series_book.proofs.LawLemmas.{IsBook-with_slots}
-use Rattle.store_catalog.specs.declared.stored_series.StoredSeries.{StoredSeries}
-use Rattle.store_catalog.specs.Catalogs.{entry_of, with_tree, AreFit, AreAsTold}
-use Rattle.store_laws.proofs.ChangedLemmas.{changed_store}
-use Rattle.store_laws.proofs.FrameLemmas.{page_low, page_high, entry_stays, layout_later, records_few}
-use Rattle.store_laws.proofs.NumberLemmas.{small_numbers, numbers}
+use Rattle.series_catalog.specs.declared.stored_series.StoredSeries.{StoredSeries}
+use Rattle.series_catalog.specs.Catalogs.{entry_of, with_tree, AreFit, AreAsTold}
+use Rattle.stored_book.proofs.ChangedLemmas.{changed_store}
+use Rattle.stored_book.proofs.FrameLemmas.{page_low, page_high, entry_stays, layout_later, records_few}
+use Rattle.stored_book.proofs.NumberLemmas.{small_numbers, numbers}
 use Rattle.stored_book.specs.Records.{entry}
 use Rattle.stored_book.specs.Standing.{IsRecordOf, IsStore, AreCatalog, StandsForBook}
 use Rattle.stored_book.specs.Changing.{IsLater, IsTreeChanged, IsRecordSet, KeepsRecords}

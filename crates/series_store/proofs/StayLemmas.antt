@@ -2,8 +2,8 @@
 use Rattle.std.proofs.Common.{◌≡◌, List, sym, ap, subst, ◌∙◌}
 use Rattle.block_disk.specs.View.{Image, View}
 use Rattle.page_space.specs.declared.superblock.Superblock.{Superblock}
-use Rattle.store_catalog.specs.Catalogs.{AreAsTold}
-use Rattle.store_catalog.specs.declared.stored_series.StoredSeries.{StoredSeries}
+use Rattle.series_catalog.specs.Catalogs.{AreAsTold}
+use Rattle.series_catalog.specs.declared.stored_series.StoredSeries.{StoredSeries}
 use Rattle.stored_book.specs.Standing.{AreCatalog}
 use Rattle.tree_walk.specs.declared.tree.Tree.{Tree}
 use Rattle.tree_walk.specs.declared.trail.Trail.{Trail}

@@ -10,9 +10,9 @@ use Rattle.series_book.specs.Edits.{id_of}
 use Rattle.catalog_page.specs.Entries.{Entry}
 use Rattle.stored_book.specs.Records.{entry}
 use Rattle.stored_book.specs.Standing.{IsStore, StandsForBook}
-use Rattle.store_catalog.specs.declared.stored_series.StoredSeries.{StoredSeries}
-use Rattle.store_catalog.specs.Catalogs.{entry_of, place_of, AreAsTold}
-use Rattle.store_laws.proofs.NumberLemmas.{small_numbers, numbers}
+use Rattle.series_catalog.specs.declared.stored_series.StoredSeries.{StoredSeries}
+use Rattle.series_catalog.specs.Catalogs.{entry_of, place_of, AreAsTold}
+use Rattle.stored_book.proofs.NumberLemmas.{small_numbers, numbers}
 
 -- numbers that keep their rules over some pages keep them over as many as there are
 own_rules : (count : ℕ) (s : Superblock) → IsSuperblock count s → IsSuperblock s.total s

@@ -11,27 +11,10 @@ use Rattle.path_repair.specs.Changes.{value_of, slot_at}
 use Rattle.path_repair.specs.Sums.{sum_below}
 use Rattle.path_repair.proofs.ListLemmas.{part_none, child_first, child_end}
 use Rattle.path_repair.proofs.SumLemmas.{sum_suc, sum_none, sum_same}
-use Rattle.store_laws.proofs.OneBook.{slot_key_span}
+use Rattle.stored_book.proofs.OneBook.{slot_key_span}
+use Rattle.stored_book.proofs.PageCounts.{sum_zero, sum_add, sum_parts, some_slot}
 use Rattle.tree_walk.specs.Trees.{top_of_page}
 use Rattle.series_store.specs.Counting.{values_in, values_below}
-
-sum_zero : (f : ℕ → ℕ) (n : ℕ) → ((c : ℕ) → c < n → f c ≡ 0) → sum_below f n ≡ 0
-sum_zero f zero none = sum_none f
-sum_zero f (suc n) none = omega (arith, sum_suc f n, sum_zero f n (λ c low. none c (omega (arith, low))), none n (omega arith))
-
-sum_add : (f : ℕ → ℕ) (m n : ℕ) → sum_below f (m + n) ≡ sum_below f m + sum_below (λ c. f (m + c)) n
-sum_add f m zero =
-    let none : m + 0 ≡ m = omega arith in
-    omega (arith, ap (λ k. sum_below f k) none, sum_none (λ c. f (m + c)))
-sum_add f m (suc n) =
-    let next : m + suc n ≡ suc (m + n) = omega arith in
-    omega (arith, ap (λ k. sum_below f k) next, sum_suc f (m + n), sum_suc (λ c. f (m + c)) n, sum_add f m n)
-
-sum_parts : (f : ℕ → ℕ) (n : ℕ) → sum_below (λ q. sum_below (λ c. f (128 * q + c)) 128) n ≡ sum_below f (128 * n)
-sum_parts f zero = sum_none (λ q. sum_below (λ c. f (128 * q + c)) 128) ∙ sym (sum_none f)
-sum_parts f (suc n) =
-    let next : 128 * suc n ≡ 128 * n + 128 = omega arith in
-    omega (arith, sum_suc (λ q. sum_below (λ c. f (128 * q + c)) 128) n, sum_parts f n, sum_add f (128 * n) 128, ap (λ k. sum_below f k) next)
 
 sum_front : (f : ℕ → ℕ) (n : ℕ) → sum_below f (suc n) ≡ f 0 + sum_below (λ i. f (suc i)) n
 sum_front f zero = omega (arith, sum_suc f 0, sum_none f, sum_none (λ i. f (suc i)))
@@ -104,10 +87,6 @@ values_all list level covers =
       rows list level 1,
       slots_sum list (1 * 128 ^ level) (omega (arith, covers)),
     )
-
-some_slot : (slot : Option ℤ) → is_some (span_of_slot slot) ≡ is_some slot
-some_slot None = refl
-some_slot (Some v) = refl
 
 -- a slot has a span where it holds a value
 one_span : (list : List (Option ℤ)) (i : ℕ) → cond (is_some (span list (top_of_page 0 i))) 1 0 ≡ values_below list 0 i

@@ -1,9 +1,10 @@
 -- A store as the nodes of a series' tree, and what it tells of a series.
-use Rattle.std.specs.Prelude.{ℕ, ◌≡◌, length}
+use Rattle.std.specs.Prelude.{ℕ, ◌≡◌, List, Some, length, slice_get}
 use Rattle.om3_coeff.specs.Keys.{top_key}
 use Rattle.om3_coeff.specs.Spans.{span}
 use Rattle.series_book.specs.declared.one_series.Series.{Series}
-use Rattle.store_catalog.specs.declared.catalog.Catalog.{Catalog}
+use Rattle.series_book.specs.Edits.{id_of}
+use Rattle.series_catalog.specs.declared.catalog.Catalog.{Catalog}
 use Rattle.tree_walk.specs.PagedNodes.{Ground, Keeps, pages_keep, pages_keep_on}
 use Rattle.std.proofs.Common.{refl, ◌∙◌}
 use Rattle.series_store.specs.declared.series_info.SeriesInfo.{SeriesInfo}
@@ -16,6 +17,10 @@ pub record IsInfo (series : Series) (id : ℕ) (info : SeriesInfo) : Type 0 wher
   pub scale : info.scale ≡ series.scale
   pub slots : info.slots ≡ length series.slots
   pub span_is : info.span ≡ span series.slots (top_key (length series.slots))
+
+-- the book has a series of this name, and what is told of it is so
+abbrev pub IsFound : List ℕ → List Series → SeriesInfo → Type 0
+IsFound name book info = (id_of name book ≡ Some info.id) × ((series : Series) → slice_get book info.id ≡ Some series → IsInfo series info.id info)
 
 -- asks keep the pages, the tree and the catalog
 pub record KeepsStore (old new : Ground) (before after : Catalog) : Type 0 where

@@ -2,7 +2,7 @@
 use Rattle.std.specs.Prelude.{◌≡◌}
 use Rattle.std.proofs.Common.{◌∙◌, refl}
 use Rattle.page_space.specs.declared.superblock.Superblock.{Superblock}
-use Rattle.store_catalog.specs.declared.catalog.Catalog.{Catalog}
+use Rattle.series_catalog.specs.declared.catalog.Catalog.{Catalog}
 use Rattle.tree_walk.specs.declared.tree.Tree.{Tree}
 use Rattle.tree_walk.specs.declared.trail.Trail.{Trail}
 

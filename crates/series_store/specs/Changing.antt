@@ -1,16 +1,19 @@
 -- What an edit tells by what the book answers, and a store in which no series is selected.
-use Rattle.std.specs.Prelude.{ℕ, ◌≡◌, ◌≤◌, ◌⊎◌, ◌^◌, List, Result, Ok, Err, None, IfOk, IfErr, OnOk}
+use Rattle.std.specs.Prelude.{ℕ, ℤ, ◌≡◌, ◌≤◌, ◌⊎◌, ◌^◌, ◌++◌, ◌∷◌, [], length, List, Option, Result, Ok, Err, None, IfOk, IfErr, OnOk}
 use Rattle.block_disk.specs.View.{Image, View, Passes}
 use Rattle.gate_pages.specs.Pages.{Quiet, GoesOn}
 use Rattle.page_space.specs.declared.superblock.Superblock.{Superblock}
 use Rattle.series_book.specs.declared.one_series.Series.{Series}
 use Rattle.series_book.specs.declared.outcomes.Outcome.{Outcome}
 use Rattle.series_book.specs.declared.refusals.Refusal.{Refusal}
-use Rattle.series_book.specs.Edits.{Edited}
+use Rattle.series_book.specs.Edits.{Edited, within, with_slots, overwritten, cleared}
+use Rattle.series_catalog.specs.Catalogs.{entry_of}
+use Rattle.series_catalog.specs.declared.stored_series.StoredSeries.{StoredSeries}
 use Rattle.stored_book.specs.Standing.{StandsForBook}
 use Rattle.tree_walk.specs.declared.tree.Tree.{Tree}
 use Rattle.tree_walk.specs.declared.trail.Trail.{Trail}
 use Rattle.tree_walk.specs.Trails.{IsTrailOfAny}
+use Rattle.series_store.specs.Creating.{series_of}
 use Rattle.series_store.specs.Results.{IsEditCause, IsUnchangedFor, Moves}
 use Rattle.series_store.specs.declared.errors.StoreError.{StoreError}
 use Rattle.series_store.specs.declared.errors.StoreError.TheVariants.{Refused, NotAStore, DiskFault, Damaged, NoMemory}
@@ -20,6 +23,20 @@ pub record IsIdle (tree : Tree) (trail : Trail) : Type 0 where
   pub slots : tree.slots ≡ 0
   pub none : tree.span ≡ None
   pub trail_is : IsTrailOfAny trail.pages.items trail.len trail.asked
+
+-- what the book answers where values are put into slots of a series from one on
+abbrev pub after_put : ℕ → List Series → ℕ → Series → ℕ → List (Option ℤ) → Result Edited Refusal
+after_put total book id series slot values = within total book id series (Ok (overwritten series.slots slot values))
+
+-- the book with other slots of a series, with some of them cleared, or with a series without slots more
+abbrev pub with_changed : List Series → ℕ → Series → List (Option ℤ) → Edited
+with_changed book id series slots = record { book = with_slots book id series slots; slots = length slots }
+
+abbrev pub with_cleared : List Series → ℕ → Series → ℕ → ℕ → Edited
+with_cleared book id series slot count = record { book = with_slots book id series (cleared series.slots slot count); slots = length series.slots }
+
+abbrev pub with_added : List Series → StoredSeries → Edited
+with_added book series = record { book = book ++ series_of (entry_of series) ∷ []; slots = 0 }
 
 -- the book accepts, and the pages stand for what it is then
 pub record IsDoneBy (answer : Result Edited Refusal) (total : ℕ) (outcome : Outcome) (image : Image) : Type 0 where

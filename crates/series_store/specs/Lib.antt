@@ -4,5 +4,8 @@ pub mod Asking
 pub mod Changing
 pub mod Errors
 pub mod Beside
+pub mod Shown
+pub mod Looking
 pub mod Creating
 pub mod Counting
+pub mod Sending

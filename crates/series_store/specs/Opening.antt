@@ -1,5 +1,5 @@
 -- How a store is opened, and made.
-use Rattle.std.specs.Prelude.{ℕ, ◌≡◌, ◌⊎◌, Result, Ok, Err, []}
+use Rattle.std.specs.Prelude.{ℕ, ◌≡◌, ◌<◌, ◌⊎◌, Result, Ok, Err, []}
 use Rattle.block_disk.specs.Counts.{HasRisen}
 use Rattle.block_disk.specs.View.{Image, View, Passes}
 use Rattle.block_disk.specs.declared.back.Back.{Back}
@@ -9,9 +9,9 @@ use Rattle.page_space.specs.Layout.{HasMagic, Keeps}
 use Rattle.page_space.specs.declared.superblock.Superblock.{Superblock}
 use Rattle.page_space.specs.declared.errors.SpaceError.{SpaceError}
 use Rattle.page_space.specs.declared.errors.SpaceError.TheVariants.{NotAStore as NoStore, Full, DiskFault as AtDisk, Damaged as AtPage, NoMemory as AtMemory}
-use Rattle.store_catalog.specs.declared.errors.CatalogError.{CatalogError}
-use Rattle.store_catalog.specs.declared.errors.CatalogError.TheVariants.{DiskFault as DiskCatalog, Damaged as BadPage, NoMemory as NoRoom}
-use Rattle.store_catalog.specs.Reading.{IsBadCatalog}
+use Rattle.series_catalog.specs.declared.errors.CatalogError.{CatalogError}
+use Rattle.series_catalog.specs.declared.errors.CatalogError.TheVariants.{DiskFault as DiskCatalog, Damaged as BadPage, NoMemory as NoRoom}
+use Rattle.series_catalog.specs.Reading.{IsBadCatalog}
 use Rattle.stored_book.specs.Standing.{StandsForBook}
 use Rattle.series_store.specs.declared.errors.StoreError.{StoreError}
 use Rattle.series_store.specs.declared.errors.StoreError.TheVariants.{Refused, NotAStore, DiskFault, Damaged, NoMemory}
@@ -27,6 +27,14 @@ abbrev pub IsBrokenPage : ℕ → Image → ℕ → Type 0
 IsBrokenPage count image page =
     ((page ≡ 0) × HasMagic (image 0) × ((s : Superblock) → Keeps count s (image 0) → ⊥))
     ⊎ ((s : Superblock) × Keeps count s (image 0) × IsBadCatalog image s page)
+
+-- whatever the pages are, one that is called damaged is page 0 or one of the catalog
+abbrev pub IsFirstPage : StoreError → Type 0
+IsFirstPage (Refused refusal) = ⊥
+IsFirstPage NotAStore = Unit {0}
+IsFirstPage DiskFault = Unit {0}
+IsFirstPage (Damaged page) = page < 17
+IsFirstPage NoMemory = Unit {0}
 
 -- why pages weren't opened
 abbrev pub IsOpenCause : StoreError → Type 0 → View → View → Type 0

@@ -1,11 +1,12 @@
 -- What an edit does.
-use Rattle.std.specs.Prelude.{ℕ, ◌≡◌, ◌<◌, ◌≤◌, ◌⊎◌, List, Ok, Err}
+use Rattle.std.specs.Prelude.{ℕ, ◌≡◌, ◌<◌, ◌≤◌, ◌⊎◌, List, length, slice_get, Some, Ok, Err}
 use Rattle.block_disk.specs.Counts.{HasRisen}
 use Rattle.block_disk.specs.View.{Image, View, Rises}
 use Rattle.series_book.specs.declared.one_series.Series.{Series}
 use Rattle.series_book.specs.declared.edits.Edit.{Edit}
+use Rattle.series_book.specs.declared.edits.Edit.TheVariants.{Create, Append, Set, Clear}
 use Rattle.series_book.specs.declared.outcomes.Outcome.{Outcome}
-use Rattle.series_book.specs.Edits.{Edited, apply}
+use Rattle.series_book.specs.Edits.{Edited, apply, id_of, place_of}
 use Rattle.stored_book.specs.Standing.{StandsForBook}
 use Rattle.series_store.specs.declared.errors.StoreError.{StoreError}
 use Rattle.series_store.specs.declared.errors.StoreError.TheVariants.{Refused, NotAStore, DiskFault, Damaged, NoMemory}
@@ -49,6 +50,17 @@ pub record IsUnchanged (told : Type 0) (old new : View) : Type 0 where
   pub fit : old.fit → new.fit
   pub syncs : new.syncs ≡ old.syncs
   pub writes : new.writes ≡ old.writes
+
+-- nothing was written or synced
+abbrev pub CommitsNone : View → View → Type 0
+CommitsNone old new = (new.syncs ≡ old.syncs) × (new.writes ≡ old.writes)
+
+-- the edit is a clear, and the series of its name has none of the slots that it names
+abbrev pub ClearsNone : List Series → Edit → Type 0
+ClearsNone book (Create name start step scale) = ⊥
+ClearsNone book (Append name values) = ⊥
+ClearsNone book (Set name time values) = ⊥
+ClearsNone book (Clear name time count) = (id : ℕ) (series : Series) → id_of name book ≡ Some id → slice_get book id ≡ Some series → (count ≡ 0) ⊎ (length series.slots ≤ place_of series time)
 
 -- unless a call of the disk failed, nothing was committed
 abbrev pub IsUnchangedFor : StoreError → Type 0 → View → View → Type 0

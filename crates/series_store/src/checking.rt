@@ -1,12 +1,16 @@
 //! All pages of a store that are in use or freed are read, and what they hold is counted.
-ghost use Rattle.std.specs.Prelude.{◌≡◌, ◌≤◌, ◌<◌, ◌*◌, ◌^◌, ℕ, List, length, IfOk, IfErr, OnOk};
+ghost use Rattle.std.specs.Prelude.{◌≡◌, ◌≤◌, ◌<◌, ◌+◌, ◌*◌, ◌^◌, ℕ, List, length, IfOk, IfErr, OnOk};
 ghost use Rattle.block_disk.specs.View.{View};
 ghost use Rattle.page_space.specs.Spaces.{Stands};
 ghost use Rattle.series_book.specs.declared.one_series.Series.{Series};
-ghost use Rattle.series_store.specs.Counting.{values_of, Looks, AreCounts, AreNumbers, AreSound, AreSoundTrees, IsSoundChain, IsCheckCause, IsTreesCause, IsChainCause};
+ghost use Rattle.series_store.specs.Counting.{values_of, ReadsTrees, ReadsOnce, AreCounts, AreNumbers, AreSound, AreSoundTrees, IsSoundChain, IsCheckCause, IsTreesCause, IsChainCause};
 ghost use Rattle.series_store.specs.Opening.{IsOutside};
-ghost use Rattle.store_catalog.specs.Catalogs.{AreFit, AreAsTold};
+ghost use Rattle.series_catalog.specs.Catalogs.{AreFit, AreAsTold};
 ghost use Rattle.stored_book.specs.Standing.{IsStore, StandsForBook};
+ghost use Rattle.series_catalog.specs.Shown.{series_in};
+ghost use Rattle.page_space.specs.Shown as spaces;
+ghost use Rattle.series_store.specs.Looking as looks;
+ghost use Rattle.series_store.specs.Shown as shown;
 
 use crate::counting::count_values;
 use crate::counts::Counts;
@@ -16,26 +20,25 @@ use crate::store::Store;
 use gate_pages::Pages;
 use om3_coeff::page_levels;
 use page_space::Space;
+use series_catalog::Catalog;
 use std::alloc::Global;
-use store_catalog::Catalog;
 
 /// How many values the trees of all series store.
 fn count_trees<P: Pages>(space: &mut Space<P>, catalog: &Catalog) -> Result<u64, StoreError>
-    requires sound { (P.view space.old.pages).fit }
-    requires fits { AreFit space.old.superblock.fresh catalog.now.series.items }
-    ensures looks { Looks (P.told space.old.pages) (P.told space.new.pages) (P.view space.old.pages) (P.view space.new.pages) (P.under space.old.pages) (P.under space.new.pages) space.old.superblock space.new.superblock }
-    ensures cause { IfErr result (λ e. IsTreesCause e (P.told space.old.pages) (P.view space.old.pages) (P.view space.new.pages) space.old.superblock.total catalog.now.series.items) }
-    ensures counts { (book : List Series) → P.told space.old.pages → IsStore (P.view space.old.pages).image space.old.superblock book → AreAsTold (P.view space.old.pages).image catalog.now.series.items → length catalog.now.series.items ≡ length book
-        → IfOk result (λ values. values ≡ values_of book) }
-    ensures stands { (book : List Series) → P.told space.old.pages → IsStore (P.view space.old.pages).image space.old.superblock book → AreAsTold (P.view space.old.pages).image catalog.now.series.items → length catalog.now.series.items ≡ length book
-        → IfErr result (λ e. e ≡ StoreError.DiskFault) }
-    ensures whole { P.told space.old.pages → OnOk result (AreSoundTrees (P.view space.old.pages).image space.old.superblock.total catalog.now.series.items) }
+    requires sound { spaces.IsSound space.old }
+    requires fits { AreFit (spaces.numbers space.old).fresh (series_in catalog.now) }
+    ensures looks { looks.OnlyLooks space.old space.new }
+    ensures cause { IfErr result (λ e. IsTreesCause e (spaces.IsTold space.old) (spaces.view space.old) (spaces.view space.new) (spaces.total space.old) (series_in catalog.now)) }
+    ensures counts { looks.ForCatalog space.old catalog.now (λ book. IfOk result (λ values. values ≡ values_of book)) }
+    ensures stands { looks.ForCatalog space.old catalog.now (λ book. IfErr result (λ e. e ≡ StoreError.DiskFault)) }
+    ensures reads { spaces.IsTold space.old → ReadsTrees (spaces.image space.old) (series_in catalog.now) (spaces.view space.old).reads (spaces.view space.new).reads }
+    ensures whole { spaces.IsTold space.old → OnOk result (AreSoundTrees (spaces.image space.old) (spaces.total space.old) (series_in catalog.now)) }
 {
     let mut values = 0;
     for id in 0..catalog.len() {
         let tree = catalog.series(id as u16).tree;
         let levels = page_levels(tree.slots);
-        let more = count_values(space, levels, tree.root, tree.span)?;
+        let more = count_values(space, tree.slots, levels, 0, tree.root, tree.span)?;
         values += more;
     }
     Ok(values)
@@ -43,11 +46,12 @@ fn count_trees<P: Pages>(space: &mut Space<P>, catalog: &Catalog) -> Result<u64,
 
 /// Reads the pages of the chain: they are taken in a transaction, which is dropped.
 fn pass_chain<P: Pages>(alloc: Global, space: &mut Space<P>) -> Result<(), StoreError>
-    requires sound { (P.view space.old.pages).fit }
-    ensures looks { Looks (P.told space.old.pages) (P.told space.new.pages) (P.view space.old.pages) (P.view space.new.pages) (P.under space.old.pages) (P.under space.new.pages) space.old.superblock space.new.superblock }
-    ensures cause { IfErr result (λ e. IsChainCause e (P.told space.old.pages) space.old.superblock (P.view space.old.pages) (P.view space.new.pages)) }
-    ensures stands { (count : ℕ) (taken freed : List ℕ) → P.told space.old.pages → Stands count (P.view space.old.pages).image space.old.superblock taken freed → IfErr result IsOutside }
-    ensures whole { P.told space.old.pages → OnOk result (IsSoundChain (P.view space.old.pages).image space.old.superblock space.old.superblock.chain) }
+    requires sound { spaces.IsSound space.old }
+    ensures looks { looks.OnlyLooks space.old space.new }
+    ensures cause { IfErr result (λ e. IsChainCause e (spaces.IsTold space.old) (spaces.numbers space.old) (spaces.view space.old) (spaces.view space.new)) }
+    ensures stands { (count : ℕ) (taken freed : List ℕ) → spaces.IsTold space.old → Stands count (spaces.image space.old) (spaces.numbers space.old) taken freed → IfErr result IsOutside }
+    ensures reads { (spaces.view space.new).reads ≤ (spaces.view space.old).reads + (spaces.numbers space.old).chain }
+    ensures whole { spaces.IsTold space.old → OnOk result (IsSoundChain (spaces.image space.old) (spaces.numbers space.old) (spaces.numbers space.old).chain) }
 {
     let mut txn = space.begin(alloc)?;
     let freed = space.fresh() - space.used();
@@ -67,15 +71,17 @@ impl<P: Pages> Store<P> {
     /// Each page that is read is checked; the first that is bad for its place is `Damaged`. Where the pages
     /// stand for a book none is.
     pub fn check(&mut self) -> Result<Counts, StoreError>
-        requires sound { (P.view self.old.space.pages).fit }
-        ensures counts { (total : ℕ) (book : List Series) → P.told self.old.space.pages → StandsForBook (P.view self.old.space.pages).image total book → IfOk result (λ counts. AreCounts total book counts) }
-        ensures a_store { (total : ℕ) (book : List Series) → P.told self.old.space.pages → StandsForBook (P.view self.old.space.pages).image total book → IfErr result IsOutside }
-        ensures numbers { IfOk result (λ counts. AreNumbers self.old.space.superblock counts) }
-        ensures whole { P.told self.old.space.pages → OnOk result (AreSound (P.view self.old.space.pages).image self.old.space.superblock) }
-        ensures cause { IfErr result (λ e. IsCheckCause e (P.told self.old.space.pages) self.old.space.superblock (P.view self.old.space.pages) (P.view self.new.space.pages)) }
-        ensures looks { Looks (P.told self.old.space.pages) (P.told self.new.space.pages) (P.view self.old.space.pages) (P.view self.new.space.pages) (P.under self.old.space.pages) (P.under self.new.space.pages) self.old.space.superblock self.new.space.superblock }
+        requires sound { shown.IsSound self.old }
+        ensures counts { shown.ForBook self.old (λ total book. IfOk result (λ counts. AreCounts total book counts)) }
+        ensures a_store { shown.ForBook self.old (λ total book. IfErr result IsOutside) }
+        // each page of the trees and of the chain is read once at most
+        ensures reads { shown.ForBook self.old (λ total book. ReadsOnce (shown.numbers self.old) (shown.view self.old) (shown.view self.new)) }
+        ensures numbers { IfOk result (λ counts. AreNumbers (shown.numbers self.old) counts) }
+        ensures whole { shown.IsTold self.old → OnOk result (AreSound (shown.image self.old) (shown.numbers self.old)) }
+        ensures cause { IfErr result (λ e. IsCheckCause e (shown.IsTold self.old) (shown.numbers self.old) (shown.view self.old) (shown.view self.new)) }
+        ensures looks { shown.OnlyLooks self.old self.new }
         ensures catalog { self.new.catalog ≡ self.old.catalog }
-        ensures selected { (self.new.tree ≡ self.old.tree) × (self.new.trail ≡ self.old.trail) }
+        ensures selected { shown.SelectsSame self.old self.new }
     {
         let values = count_trees(&mut self.space, &self.catalog)?;
         pass_chain(self.alloc, &mut self.space)?;

@@ -1,6 +1,6 @@
 //! The values of a tree are counted, and its pages checked.
-ghost use Rattle.std.specs.Prelude.{◌≡◌, ◌≢◌, ◌<◌, ◌≤◌, ◌+◌, ◌^◌, ℕ, ℤ, suc, false, Some, Option, List, length, is_some, IsTrue, IsOk, IfOk, IfErr, OnOk, OnErr};
-ghost use Rattle.block_disk.specs.View.{View};
+ghost use Rattle.std.specs.Prelude.{◌≡◌, ◌≢◌, ◌<◌, ◌≤◌, ◌+◌, ◌*◌, ◌^◌, ◌↔◌, ℕ, ℤ, suc, false, Some, Option, List, length, is_some, IsTrue, IsOk, IfOk, IfErr, OnOk, OnErr};
+ghost use Rattle.block_disk.specs.View.{View, Rises};
 ghost use Rattle.om3_coeff.specs.Spans.{AreSlots, IsProper, IsProperIfAny, span};
 ghost use Rattle.node_page.specs.Fields.{child_at};
 ghost use Rattle.node_page.specs.Layout.{has_child};
@@ -8,9 +8,12 @@ ghost use Rattle.page_spans.specs.Heaps.{span_at};
 ghost use Rattle.path_repair.specs.Damage.{AreBelow};
 ghost use Rattle.path_repair.specs.Forms.{AreTops};
 ghost use Rattle.path_repair.specs.Keeping.{IsMatched};
+ghost use Rattle.path_repair.specs.TreePages.{tree_pages};
 ghost use Rattle.tree_walk.specs.Paths.{NamesBeyond};
 ghost use Rattle.tree_walk.specs.Trees.{top_of_page, HoldsNodes, IsTree};
-ghost use Rattle.series_store.specs.Counting.{values_below, Looks, IsBadFor, IsSoundPage, IsSoundTree, IsPageCause, IsTreeCause};
+ghost use Rattle.series_store.specs.Counting.{values_below, NamesBelow, IsSlot, AreParts, HasNoSlot, IsBadFor, IsSoundPage, IsSoundTree, IsPageCause, IsTreeCause};
+ghost use Rattle.page_space.specs.Shown as spaces;
+ghost use Rattle.series_store.specs.Looking as looks;
 
 use crate::errors::StoreError;
 use gate_pages::Pages;
@@ -21,8 +24,8 @@ use page_spans::PageSpans;
 
 /// Whether each child of a page is below the total.
 fn names_within(page: &PageView, total: u32) -> bool
-    ensures within { IsTrue result → (child : ℕ) → child < 128 → child_at page.now.bytes.now child < total }
-    ensures all { ((child : ℕ) → child < 128 → child_at page.now.bytes.now child < total) → IsTrue result }
+    ensures within { IsTrue result → NamesBelow total page.now.bytes.now }
+    ensures all { NamesBelow total page.now.bytes.now → IsTrue result }
     ensures beyond { result ≡ false → NamesBeyond total page.now.bytes.now }
 {
     for child in 0..128 {
@@ -49,10 +52,8 @@ fn spread(
     ensures sound { OnOk result (IsSoundPage total level bytes.now) }
     ensures below { OnOk result (AreBelow (Some top) bytes.now (span_at spans.new)) }
     ensures children { OnOk result ((child : ℕ) → child < 128 → has_child bytes.now child ≡ is_some (span_at spans.new (127 + child))) }
-    ensures tops { (list : List (Option ℤ)) (under index : ℕ) → level ≡ suc under → AreSlots list → HoldsNodes list level index bytes.now → Some top ≡ span list (top_of_page level index)
-        → OnOk result (AreTops list under index (λ child. span_at spans.new (127 + child))) }
-    ensures stands { (list : List (Option ℤ)) (under index : ℕ) → level ≡ suc under → AreSlots list → HoldsNodes list level index bytes.now → Some top ≡ span list (top_of_page level index)
-        → ((child : ℕ) → child < 128 → child_at bytes.now child < total) → IsOk result }
+    ensures tops { looks.ForNodes bytes.now level top (λ list under index. OnOk result (AreTops list under index (λ child. span_at spans.new (127 + child)))) }
+    ensures stands { looks.ForNodes bytes.now level top (λ list under index. NamesBelow total bytes.now → IsOk result) }
 {
     let damaged = StoreError::Damaged { page };
     let Ok(view) = PageView::new(bytes) else {
@@ -68,7 +69,7 @@ fn spread(
 }
 
 /// Reads a page of this page level, whose top has this span, and the spans below it.
-fn read_page<P: Pages>(
+pub(crate) fn read_page<P: Pages>(
     space: &mut Space<P>,
     level: u8,
     page: u32,
@@ -76,20 +77,20 @@ fn read_page<P: Pages>(
     bytes: &mut [u8],
     spans: &mut PageSpans,
 ) -> Result<(), StoreError>
-    requires sound { (P.view space.old.pages).fit }
-    requires page { page < space.old.superblock.total }
+    requires sound { spaces.IsSound space.old }
+    requires page { page < spaces.total space.old }
     requires proper { IsProper top }
     requires whole { length bytes.old ≡ 4096 }
-    ensures looks { Looks (P.told space.old.pages) (P.told space.new.pages) (P.view space.old.pages) (P.view space.new.pages) (P.under space.old.pages) (P.under space.new.pages) space.old.superblock space.new.superblock }
-    ensures cause { IfErr result (λ e. IsPageCause e (P.told space.old.pages) (P.view space.old.pages) (P.view space.new.pages) space.old.superblock.total level page (Some top)) }
-    ensures bytes { P.told space.old.pages → OnOk result (bytes.new ≡ (P.view space.old.pages).image page) }
-    ensures sound { OnOk result (IsSoundPage space.old.superblock.total level bytes.new) }
+    ensures looks { looks.OnlyLooks space.old space.new }
+    ensures one_read { (spaces.view space.new).reads ≤ (spaces.view space.old).reads + 1 }
+    ensures cause { IfErr result (λ e. IsPageCause e (spaces.IsTold space.old) (spaces.view space.old) (spaces.view space.new) (spaces.total space.old) level page (Some top)) }
+    ensures reads { Rises 1 (spaces.view space.old).reads (spaces.view space.new).reads }
+    ensures bytes { spaces.IsTold space.old → OnOk result (bytes.new ≡ spaces.image space.old page) }
+    ensures sound { OnOk result (IsSoundPage (spaces.total space.old) level bytes.new) }
     ensures below { OnOk result (AreBelow (Some top) bytes.new (span_at spans.new)) }
     ensures children { OnOk result ((child : ℕ) → child < 128 → has_child bytes.new child ≡ is_some (span_at spans.new (127 + child))) }
-    ensures tops { (list : List (Option ℤ)) (under index : ℕ) → P.told space.old.pages → level ≡ suc under → AreSlots list → HoldsNodes list level index ((P.view space.old.pages).image page) → Some top ≡ span list (top_of_page level index)
-        → OnOk result (AreTops list under index (λ child. span_at spans.new (127 + child))) }
-    ensures stands { (list : List (Option ℤ)) (under index : ℕ) → P.told space.old.pages → level ≡ suc under → AreSlots list → HoldsNodes list level index ((P.view space.old.pages).image page) → Some top ≡ span list (top_of_page level index)
-        → ((child : ℕ) → child < 128 → child_at ((P.view space.old.pages).image page) child < space.old.superblock.total) → IfErr result (λ e. e ≡ StoreError.DiskFault) }
+    ensures tops { looks.ForPage space.old level page top (λ list under index. OnOk result (AreTops list under index (λ child. span_at spans.new (127 + child)))) }
+    ensures stands { looks.ForPage space.old level page top (λ list under index. NamesBelow (spaces.total space.old) (spaces.image space.old page) → IfErr result (λ e. e ≡ StoreError.DiskFault)) }
 {
     let Ok(()) = space.get(page, bytes) else {
         return Err(StoreError::DiskFault);
@@ -97,27 +98,67 @@ fn read_page<P: Pages>(
     spread(bytes, level, space.total(), page, top, spans)
 }
 
-/// How many values are stored in a range of this page level, which has this span: in a slot, or below
-/// this page.
+/// Whether this one of so many slots may hold what has this span: nothing, or one value.
+fn is_slot(held: Option<Span>, slot: u64, slots: u64) -> bool
+    ensures { IsTrue result ↔ IsSlot slots slot held }
+{
+    match held {
+        None => true,
+        Some(span) => span.min == span.max && slot < slots,
+    }
+}
+
+/// The index of a part of a range.
+fn part_of(index: u64, child: u8) -> u64
+    requires near { index < 2 ^ 28 }
+    ensures { result ≡ 128 * index + child }
+{
+    128 * index + u64::from(child)
+}
+
+/// Whether each of the parts of a page of this page level and index is a slot that may hold what it does, where
+/// the parts of a page of this page level are slots.
+fn are_slots(spans: &PageSpans, level: u8, index: u64, slots: u64) -> bool
+    requires near { index < 2 ^ 28 }
+    ensures parts { IsTrue result → level ≡ 1 → AreParts slots index (span_at spans.now) }
+    ensures lowest { result ≡ false → level ≡ 1 }
+    ensures bad { result ≡ false → HasNoSlot slots index (span_at spans.now) }
+{
+    if level != 1 {
+        return true;
+    }
+    for child in 0..128 {
+        if !is_slot(spans.leaf(child), part_of(index, child), slots) {
+            return false;
+        }
+    }
+    true
+}
+
+/// How many values are stored in a range of this page level and index, of a series with so many slots. The range has
+/// this span: in a slot, or below this page.
 pub(crate) fn count_values<P: Pages>(
     space: &mut Space<P>,
+    slots: u64,
     level: u8,
+    index: u64,
     page: u32,
     top: Option<Span>,
 ) -> Result<u64, StoreError>
-    requires sound { (P.view space.old.pages).fit }
+    requires sound { spaces.IsSound space.old }
     requires level { level ≤ 5 }
-    requires page { page < space.old.superblock.total }
+    requires page { page < spaces.total space.old }
     requires proper { IsProperIfAny top }
     requires matched { 1 ≤ level → IsMatched page top }
-    ensures looks { Looks (P.told space.old.pages) (P.told space.new.pages) (P.view space.old.pages) (P.view space.new.pages) (P.under space.old.pages) (P.under space.new.pages) space.old.superblock space.new.superblock }
+    requires near { (index + 1) * 128 ^ level ≤ 2 ^ 35 }
+    requires slot { level ≡ 0 → IsSlot slots index top }
+    ensures looks { looks.OnlyLooks space.old space.new }
     ensures few { IfOk result (λ values. values ≤ 128 ^ level) }
-    ensures cause { IfErr result (λ e. IsTreeCause e (P.told space.old.pages) (P.view space.old.pages) (P.view space.new.pages) space.old.superblock.total level page top) }
-    ensures counts { (list : List (Option ℤ)) (index : ℕ) → P.told space.old.pages → AreSlots list → IsTree (P.view space.old.pages).image space.old.superblock.total list level index page → top ≡ span list (top_of_page level index)
-        → IfOk result (λ values. values ≡ values_below list level index) }
-    ensures stands { (list : List (Option ℤ)) (index : ℕ) → P.told space.old.pages → AreSlots list → IsTree (P.view space.old.pages).image space.old.superblock.total list level index page → top ≡ span list (top_of_page level index)
-        → IfErr result (λ e. e ≡ StoreError.DiskFault) }
-    ensures whole { P.told space.old.pages → OnOk result (IsSoundTree (P.view space.old.pages).image space.old.superblock.total level page top) }
+    ensures cause { IfErr result (λ e. IsTreeCause e (spaces.IsTold space.old) (spaces.view space.old) (spaces.view space.new) (spaces.total space.old) slots level index page top) }
+    ensures counts { looks.ForTree space.old slots level index page top (λ list. IfOk result (λ values. values ≡ values_below list level index)) }
+    ensures stands { looks.ForTree space.old slots level index page top (λ list. IfErr result (λ e. e ≡ StoreError.DiskFault)) }
+    ensures reads { spaces.IsTold space.old → Rises (length (tree_pages (spaces.image space.old) level page)) (spaces.view space.old).reads (spaces.view space.new).reads }
+    ensures whole { spaces.IsTold space.old → OnOk result (IsSoundTree (spaces.image space.old) (spaces.total space.old) slots level index page top) }
 {
     let Some(span) = top else {
         return Ok(0);
@@ -128,11 +169,14 @@ pub(crate) fn count_values<P: Pages>(
     let mut bytes = [0; 4096];
     let mut spans = PageSpans::new();
     read_page(space, level, page, span, &mut bytes, &mut spans)?;
+    if !are_slots(&spans, level, index, slots) {
+        return Err(StoreError::Damaged { page });
+    }
     let mut values = 0;
     for child in 0..128 {
         let under = child_of(&bytes, child);
         let part = spans.leaf(child);
-        let more = count_values(space, level - 1, under, part)?;
+        let more = count_values(space, slots, level - 1, part_of(index, child), under, part)?;
         values += more;
     }
     Ok(values)

@@ -10,10 +10,13 @@ ghost use Rattle.series_book.specs.declared.one_series.Series.{Series};
 ghost use Rattle.series_book.specs.declared.edits.Edit.TheVariants.{Create};
 ghost use Rattle.series_book.specs.Books.{IsBook};
 ghost use Rattle.series_book.specs.Edits.{IsEdit, apply};
-ghost use Rattle.store_catalog.specs.Catalogs.{entry_of};
+ghost use Rattle.series_catalog.specs.Catalogs.{entry_of};
 ghost use Rattle.stored_book.specs.Standing.{StandsForBook};
-ghost use Rattle.series_store.specs.Changing.{IsIdle, IsAnswered, IsCarriedOut};
-ghost use Rattle.series_store.specs.Creating.{series_of, IsRecordAdded, IsAddCause};
+ghost use Rattle.series_store.specs.Changing.{with_added};
+ghost use Rattle.series_store.specs.Creating.{IsRecordAdded, IsAddCause};
+ghost use Rattle.series_store.specs.Shown as shown;
+ghost use Rattle.series_catalog.specs.Shown.{ReadsUpTo};
+ghost use Rattle.page_space.specs.Shown as spaces;
 
 use crate::errors::StoreError;
 use crate::opening::NO_TREE;
@@ -22,8 +25,8 @@ use gate_pages::Pages;
 use page_space::{Space, Txn};
 use series_book::limits::MOST_SERIES;
 use series_book::{Name, Outcome, Refusal};
+use series_catalog::{StoredSeries, put_record};
 use std::alloc::Global;
-use store_catalog::{StoredSeries, put_record};
 
 /// A transaction that counts a series more than these many, and has its record behind the others.
 fn new_record<P: Pages>(
@@ -32,17 +35,17 @@ fn new_record<P: Pages>(
     count: u32,
     series: &StoredSeries,
 ) -> Result<Txn, StoreError>
-    requires sound { (P.view space.old.pages).fit }
+    requires sound { spaces.IsSound space.old }
     requires room { count < 512 }
-    requires entry { IsEntry space.old.superblock.fresh (entry_of series.now) }
+    requires entry { IsEntry (spaces.numbers space.old).fresh (entry_of series.now) }
     requires empty { series.now.tree ≡ NO_TREE }
-    ensures superblock { IfOk result (λ txn. txn.superblock ≡ with_series space.old.superblock (count + 1)) }
+    ensures superblock { IfOk result (λ txn. txn.superblock ≡ with_series (spaces.numbers space.old) (count + 1)) }
     ensures len { IfOk result (λ txn. length (held txn) ≤ 2) }
-    ensures added { P.told space.old.pages → IfOk result (λ txn. IsRecordAdded (P.view space.old.pages).image (left_by txn (P.view space.old.pages).image) space.old.superblock count (entry_of series.now)) }
-    ensures reads { ReadsMost 1 (P.told space.old.pages) (P.told space.new.pages) (P.view space.old.pages) (P.view space.new.pages) }
-    ensures goes_on { GoesOn (P.under space.old.pages) (P.under space.new.pages) }
-    ensures space { space.new.superblock ≡ space.old.superblock }
-    ensures cause { IfErr result (λ e. IsAddCause e (P.view space.old.pages) (P.view space.new.pages)) }
+    ensures added { spaces.IsTold space.old → IfOk result (λ txn. IsRecordAdded (spaces.image space.old) (spaces.left space.old txn) (spaces.numbers space.old) count (entry_of series.now)) }
+    ensures reads { ReadsUpTo 1 space.old space.new }
+    ensures goes_on { spaces.TimeGoesOn space.old space.new }
+    ensures space { spaces.numbers space.new ≡ spaces.numbers space.old }
+    ensures cause { IfErr result (λ e. IsAddCause e (spaces.view space.old) (spaces.view space.new)) }
 {
     let mut txn = space.begin(alloc)?;
     space.set_series(&mut txn, count + 1);
@@ -60,15 +63,14 @@ impl<P: Pages> Store<P> {
         step: u32,
         scale: u8,
     ) -> Result<Outcome, StoreError>
-        requires sound { (P.view self.old.space.pages).fit }
-        requires idle { IsIdle self.old.tree self.old.trail }
+        requires sound { shown.IsSound self.old }
+        requires idle { shown.SelectsNone self.old }
         requires is_edit { IsEdit (Create name.now start step scale) }
-        ensures answered { (total : ℕ) (book : List Series) → P.told self.old.space.pages → StandsForBook (P.view self.old.space.pages).image total book
-            → IsAnswered (apply book total (Create name.now start step scale)) total book result (P.view self.old.space.pages) (P.view self.new.space.pages) }
-        ensures carried { IsCarriedOut (P.told self.old.space.pages) (P.told self.new.space.pages) (P.view self.old.space.pages) (P.view self.new.space.pages) (P.under self.old.space.pages) (P.under self.new.space.pages) self.old.space.superblock self.new.space.superblock result }
-        ensures idle { IsIdle self.new.tree self.new.trail }
-        ensures as_before { OnErr result (self.new.catalog.series.items ≡ self.old.catalog.series.items) }
-        ensures more { length self.old.catalog.series.items ≤ length self.new.catalog.series.items }
+        ensures answered { shown.ForBook self.old (λ total book. shown.Answers (apply book total (Create name.now start step scale)) total book result self.old self.new) }
+        ensures carried { shown.CarriesOut result self.old self.new }
+        ensures idle { shown.SelectsNone self.new }
+        ensures as_before { OnErr result (shown.catalog self.new ≡ shown.catalog self.old) }
+        ensures more { length (shown.catalog self.old) ≤ length (shown.catalog self.new) }
     {
         if self.catalog.find(name).is_some() {
             return Err(StoreError::Refused(Refusal::SeriesExists));
@@ -89,17 +91,16 @@ impl<P: Pages> Store<P> {
     /// Puts the record of a series without slots behind the others, and commits. The catalog is as before
     /// unless that is done.
     fn add_series(&mut self, series: StoredSeries) -> Result<Outcome, StoreError>
-        requires sound { (P.view self.old.space.pages).fit }
-        requires idle { IsIdle self.old.tree self.old.trail }
-        requires room { length self.old.catalog.series.items < 512 }
-        requires entry { IsEntry self.old.space.superblock.fresh (entry_of series) }
+        requires sound { shown.IsSound self.old }
+        requires idle { shown.SelectsNone self.old }
+        requires room { length (shown.catalog self.old) < 512 }
+        requires entry { IsEntry (shown.numbers self.old).fresh (entry_of series) }
         requires empty { series.tree ≡ NO_TREE }
-        ensures answered { (total : ℕ) (book : List Series) → P.told self.old.space.pages → StandsForBook (P.view self.old.space.pages).image total book → IsBook (book ++ series_of (entry_of series) ∷ [])
-            → IsAnswered (Ok (record { book = book ++ series_of (entry_of series) ∷ []; slots = 0 })) total book result (P.view self.old.space.pages) (P.view self.new.space.pages) }
-        ensures carried { IsCarriedOut (P.told self.old.space.pages) (P.told self.new.space.pages) (P.view self.old.space.pages) (P.view self.new.space.pages) (P.under self.old.space.pages) (P.under self.new.space.pages) self.old.space.superblock self.new.space.superblock result }
-        ensures idle { IsIdle self.new.tree self.new.trail }
-        ensures as_before { OnErr result (self.new.catalog.series.items ≡ self.old.catalog.series.items) }
-        ensures more { length self.old.catalog.series.items ≤ length self.new.catalog.series.items }
+        ensures answered { shown.ForBook self.old (λ total book. IsBook (with_added book series).book → shown.Answers (Ok (with_added book series)) total book result self.old self.new) }
+        ensures carried { shown.CarriesOut result self.old self.new }
+        ensures idle { shown.SelectsNone self.new }
+        ensures as_before { OnErr result (shown.catalog self.new ≡ shown.catalog self.old) }
+        ensures more { length (shown.catalog self.old) ≤ length (shown.catalog self.new) }
     {
         let count = self.catalog.len();
         let txn = new_record(&mut self.space, self.alloc, count, &series)?;

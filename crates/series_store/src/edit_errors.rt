@@ -33,10 +33,10 @@ impl From<series_book::NoMemory> for StoreError {
     }
 }
 
-impl From<store_catalog::NoMemory> for StoreError {
+impl From<series_catalog::NoMemory> for StoreError {
     ghost from_gives = { λ _ e. e ≡ AtMemory };
 
-    fn from(_error: store_catalog::NoMemory) -> StoreError {
+    fn from(_error: series_catalog::NoMemory) -> StoreError {
         StoreError::NoMemory
     }
 }

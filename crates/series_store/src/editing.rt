@@ -5,8 +5,8 @@ ghost use Rattle.gate_pages.specs.Pages.{GoesOn, Quiet};
 ghost use Rattle.series_book.specs.declared.one_series.Series.{Series};
 ghost use Rattle.series_book.specs.declared.edits.Edit.TheVariants.{Append, Set, Clear};
 ghost use Rattle.series_book.specs.Edits.{IsEdit, apply};
-ghost use Rattle.series_store.specs.Changing.{IsIdle, IsAnswered, IsCarriedOut};
-ghost use Rattle.series_store.specs.Results.{IsDone, IsRefusedWith, IsBeforeOrAfter, IsEditCause, IsUnchangedFor, Moves};
+ghost use Rattle.series_store.specs.Results.{IsDone, IsRefusedWith, IsBeforeOrAfter, IsEditCause, IsUnchangedFor, ClearsNone, CommitsNone};
+ghost use Rattle.series_store.specs.Shown as shown;
 ghost use Rattle.stored_book.specs.Standing.{StandsForBook};
 
 use crate::errors::StoreError;
@@ -23,23 +23,24 @@ impl<P: Pages> Store<P> {
     /// opened again: it has the book from before the edit, or the edited one. Where the pages stand for a
     /// book, no page is damaged.
     pub fn edit(&mut self, edit: &Edit) -> Result<Outcome, StoreError>
-        requires sound { (P.view self.old.space.pages).fit }
+        requires sound { shown.IsSound self.old }
         requires is_edit { IsEdit edit.now }
-        ensures done { (total : ℕ) (book : List Series) → P.told self.old.space.pages → StandsForBook (P.view self.old.space.pages).image total book → IfOk result (λ outcome. IsDone total book edit.now outcome (P.view self.new.space.pages).image) }
-        ensures refused { (total : ℕ) (book : List Series) → P.told self.old.space.pages → StandsForBook (P.view self.old.space.pages).image total book → IfErr result (λ e. IsRefusedWith total book edit.now e) }
+        ensures done { shown.ForBook self.old (λ total book. IfOk result (λ outcome. IsDone total book edit.now outcome (shown.image self.new))) }
+        ensures refused { shown.ForBook self.old (λ total book. IfErr result (λ e. IsRefusedWith total book edit.now e)) }
         // a crash at any moment leaves the book from before the edit, or the edited one
-        ensures moments { (total : ℕ) (book : List Series) → P.told self.old.space.pages → StandsForBook (P.view self.old.space.pages).image total book
-            → Passes (P.view self.old.space.pages) (P.view self.new.space.pages) (IsBeforeOrAfter total book edit.now) (Quiet (P.view self.old.space.pages)) }
-        ensures moves { Moves (P.told self.old.space.pages) (P.told self.new.space.pages) (P.view self.old.space.pages) (P.view self.new.space.pages) }
-        ensures goes_on { GoesOn (P.under self.old.space.pages) (P.under self.new.space.pages) }
-        ensures cause { IfErr result (λ e. IsEditCause e self.old.space.superblock.total (P.view self.old.space.pages) (P.view self.new.space.pages)) }
-        ensures unchanged { IfErr result (λ e. IsUnchangedFor e (P.told self.old.space.pages) (P.view self.old.space.pages) (P.view self.new.space.pages)) }
-        ensures sound { OnOk result (P.view self.new.space.pages).fit }
-        ensures total { self.new.space.superblock.total ≡ self.old.space.superblock.total }
+        ensures moments { shown.ForBook self.old (λ total book. Passes (shown.view self.old) (shown.view self.new) (IsBeforeOrAfter total book edit.now) (Quiet (shown.view self.old))) }
+        ensures moves { shown.MovesSo self.old self.new }
+        ensures goes_on { shown.TimeGoesOn self.old self.new }
+        ensures cause { IfErr result (λ e. IsEditCause e (shown.total self.old) (shown.view self.old) (shown.view self.new)) }
+        ensures unchanged { IfErr result (λ e. IsUnchangedFor e (shown.IsTold self.old) (shown.view self.old) (shown.view self.new)) }
+        // an edit that changes no slot writes and syncs nothing
+        ensures idle { shown.ForBook self.old (λ total book. ClearsNone book edit.now → CommitsNone (shown.view self.old) (shown.view self.new)) }
+        ensures sound { OnOk result (shown.IsSound self.new) }
+        ensures total { shown.total self.new ≡ shown.total self.old }
         ensures slots { IfOk result (λ outcome. outcome.slots ≤ 2 ^ 28) }
         ensures none { (self.new.tree.slots ≡ 0) × (self.new.tree.span ≡ None) }
         // no series goes away, whatever the pages are
-        ensures more { length self.old.catalog.series.items ≤ length self.new.catalog.series.items }
+        ensures more { length (shown.catalog self.old) ≤ length (shown.catalog self.new) }
     {
         self.select_none();
         match edit {
@@ -56,13 +57,13 @@ impl<P: Pages> Store<P> {
     }
 
     fn append(&mut self, name: &Name, values: &Values) -> Result<Outcome, StoreError>
-        requires sound { (P.view self.old.space.pages).fit }
-        requires idle { IsIdle self.old.tree self.old.trail }
+        requires sound { shown.IsSound self.old }
+        requires idle { shown.SelectsNone self.old }
         requires is_edit { IsEdit (Append name.now values.now) }
-        ensures answered { (total : ℕ) (book : List Series) → P.told self.old.space.pages → StandsForBook (P.view self.old.space.pages).image total book → IsAnswered (apply book total (Append name.now values.now)) total book result (P.view self.old.space.pages) (P.view self.new.space.pages) }
-        ensures carried { IsCarriedOut (P.told self.old.space.pages) (P.told self.new.space.pages) (P.view self.old.space.pages) (P.view self.new.space.pages) (P.under self.old.space.pages) (P.under self.new.space.pages) self.old.space.superblock self.new.space.superblock result }
-        ensures idle { IsIdle self.new.tree self.new.trail }
-        ensures count { length self.new.catalog.series.items ≡ length self.old.catalog.series.items }
+        ensures answered { shown.ForBook self.old (λ total book. shown.Answers (apply book total (Append name.now values.now)) total book result self.old self.new) }
+        ensures carried { shown.CarriesOut result self.old self.new }
+        ensures idle { shown.SelectsNone self.new }
+        ensures count { length (shown.catalog self.new) ≡ length (shown.catalog self.old) }
     {
         let Some(id) = self.catalog.find(name) else {
             return Err(StoreError::Refused(Refusal::UnknownSeries));
@@ -76,13 +77,13 @@ impl<P: Pages> Store<P> {
     }
 
     fn set(&mut self, name: &Name, time: i128, values: &Values) -> Result<Outcome, StoreError>
-        requires sound { (P.view self.old.space.pages).fit }
-        requires idle { IsIdle self.old.tree self.old.trail }
+        requires sound { shown.IsSound self.old }
+        requires idle { shown.SelectsNone self.old }
         requires is_edit { IsEdit (Set name.now time values.now) }
-        ensures answered { (total : ℕ) (book : List Series) → P.told self.old.space.pages → StandsForBook (P.view self.old.space.pages).image total book → IsAnswered (apply book total (Set name.now time values.now)) total book result (P.view self.old.space.pages) (P.view self.new.space.pages) }
-        ensures carried { IsCarriedOut (P.told self.old.space.pages) (P.told self.new.space.pages) (P.view self.old.space.pages) (P.view self.new.space.pages) (P.under self.old.space.pages) (P.under self.new.space.pages) self.old.space.superblock self.new.space.superblock result }
-        ensures idle { IsIdle self.new.tree self.new.trail }
-        ensures count { length self.new.catalog.series.items ≡ length self.old.catalog.series.items }
+        ensures answered { shown.ForBook self.old (λ total book. shown.Answers (apply book total (Set name.now time values.now)) total book result self.old self.new) }
+        ensures carried { shown.CarriesOut result self.old self.new }
+        ensures idle { shown.SelectsNone self.new }
+        ensures count { length (shown.catalog self.new) ≡ length (shown.catalog self.old) }
     {
         let Some(id) = self.catalog.find(name) else {
             return Err(StoreError::Refused(Refusal::UnknownSeries));
@@ -97,12 +98,13 @@ impl<P: Pages> Store<P> {
 
     /// Nothing is written where none of the slots is there.
     fn clear(&mut self, name: &Name, time: i128, count: u64) -> Result<Outcome, StoreError>
-        requires sound { (P.view self.old.space.pages).fit }
-        requires idle { IsIdle self.old.tree self.old.trail }
-        ensures answered { (total : ℕ) (book : List Series) → P.told self.old.space.pages → StandsForBook (P.view self.old.space.pages).image total book → IsAnswered (apply book total (Clear name.now time count)) total book result (P.view self.old.space.pages) (P.view self.new.space.pages) }
-        ensures carried { IsCarriedOut (P.told self.old.space.pages) (P.told self.new.space.pages) (P.view self.old.space.pages) (P.view self.new.space.pages) (P.under self.old.space.pages) (P.under self.new.space.pages) self.old.space.superblock self.new.space.superblock result }
-        ensures idle { IsIdle self.new.tree self.new.trail }
-        ensures count { length self.new.catalog.series.items ≡ length self.old.catalog.series.items }
+        requires sound { shown.IsSound self.old }
+        requires idle { shown.SelectsNone self.old }
+        ensures answered { shown.ForBook self.old (λ total book. shown.Answers (apply book total (Clear name.now time count)) total book result self.old self.new) }
+        ensures none_cleared { shown.ForBook self.old (λ total book. ClearsNone book (Clear name.now time count) → CommitsNone (shown.view self.old) (shown.view self.new)) }
+        ensures carried { shown.CarriesOut result self.old self.new }
+        ensures idle { shown.SelectsNone self.new }
+        ensures count { length (shown.catalog self.new) ≡ length (shown.catalog self.old) }
     {
         let Some(id) = self.catalog.find(name) else {
             return Err(StoreError::Refused(Refusal::UnknownSeries));

@@ -21,12 +21,18 @@ pub mod laws;
 mod nodes;
 mod opening;
 mod saving;
+mod send_errors;
+mod sending;
 mod series_info;
 mod store;
 mod store_calls;
 mod streams;
+mod texts;
+mod value_sending;
 
 pub use counts::Counts;
 pub use errors::StoreError;
+pub use send_errors::SendError;
 pub use series_info::SeriesInfo;
 pub use store::Store;
+pub use texts::Texts;

@@ -1,20 +1,24 @@
 //! A store is made, and opened.
 ghost use Rattle.std.specs.Prelude.{◌≡◌, ◌≢◌, ◌≤◌, ◌<◌, ◌^◌, ℕ, List, [], IfOk, IfErr};
+ghost use Rattle.block_disk.specs.Counts.{HasRisen};
 ghost use Rattle.block_disk.specs.View.{View};
 ghost use Rattle.gate_pages.specs.Pages.{GoesOn};
 ghost use Rattle.path_repair.specs.Standing.{ReadsMost};
 ghost use Rattle.series_book.specs.declared.one_series.Series.{Series};
-ghost use Rattle.series_store.specs.Opening.{pages_in, IsOpenCause, IsReadCause, IsOutside, MakesStore, space_error_of, catalog_error_of};
+ghost use Rattle.series_store.specs.Opening.{pages_in, IsFirstPage, IsOpenCause, IsReadCause, IsOutside, MakesStore, space_error_of, catalog_error_of};
 ghost use Rattle.stored_book.specs.Standing.{StandsForBook};
 ghost use Rattle.tree_walk.specs.Trails.{IsTrailOfAny};
+ghost use Rattle.series_catalog.specs.Shown.{series_in};
+ghost use Rattle.page_space.specs.Shown as spaces;
+ghost use Rattle.series_store.specs.Shown as shown;
 
 use crate::errors::StoreError;
 use crate::store::Store;
 use block_disk::Back;
 use gate_pages::Pages;
 use page_space::{Space, SpaceError};
+use series_catalog::{Catalog, CatalogError, read_catalog};
 use std::alloc::Global;
-use store_catalog::{Catalog, CatalogError, read_catalog};
 use tree_walk::{Trail, Tree};
 
 /// No series is selected.
@@ -48,7 +52,7 @@ fn catalog_error(error: CatalogError) -> StoreError
 
 /// A catalog without a series and an empty trail.
 fn parts(alloc: Global) -> Result<(Catalog, Trail), StoreError>
-    ensures catalog { IfOk result (λ parts. parts.0.series.items ≡ []) }
+    ensures catalog { IfOk result (λ parts. series_in parts.0 ≡ []) }
     ensures trail { IfOk result (λ parts. IsTrailOfAny parts.1.pages.items parts.1.len parts.1.asked) }
     ensures err { IfErr result (λ e. e ≡ StoreError.NoMemory) }
 {
@@ -63,13 +67,17 @@ fn parts(alloc: Global) -> Result<(Catalog, Trail), StoreError>
 
 impl<P: Pages> Store<P> {
     /// Makes the pages a store without a series, in one commit, whatever they were. After `DiskFault` they
-    /// aren't sound.
+    /// aren't sound. Where there is no memory, they are as they were.
     pub fn init(alloc: Global, pages: P) -> Result<Store<P>, Back<P, StoreError>>
         requires sound { (P.view pages).fit }
         requires many { 62 ≤ (P.view pages).size }
         ensures cause { IfErr result (λ back. IsOutside back.cause) }
-        ensures store { IfOk result (λ store. P.told pages → StandsForBook (P.view store.space.pages).image (P.view pages).size []) }
-        ensures sound { IfOk result (λ store. (P.view store.space.pages).fit) }
+        ensures fault { IfErr result (λ back. back.cause ≡ StoreError.DiskFault → HasRisen (P.view pages).faults (P.view back.value).faults) }
+        ensures unsound { IfErr result (λ back. back.cause ≡ StoreError.DiskFault → (P.view back.value).fit → ⊥) }
+        ensures no_memory { IfErr result (λ back. back.cause ≡ StoreError.NoMemory → back.value ≡ pages) }
+        ensures store { IfOk result (λ store. P.told pages → StandsForBook (shown.image store) (P.view pages).size []) }
+        ensures sound { IfOk result (λ store. shown.IsSound store) }
+        ensures none { IfOk result (λ store. shown.SelectsNone store) }
         // a crash at any moment leaves the pages from before, or the store
         ensures moments { MakesStore (P.view pages) (P.view (pages_in result)) }
         ensures told { P.told pages → P.told (pages_in result) }
@@ -108,6 +116,8 @@ impl<P: Pages> Store<P> {
         requires sound { (P.view pages).fit }
         requires many { 62 ≤ (P.view pages).size }
         ensures cause { IfErr result (λ back. IsOpenCause back.cause (P.told pages) (P.view pages) (P.view back.value)) }
+        ensures place { IfErr result (λ back. IsFirstPage back.cause) }
+        ensures none { IfOk result (λ store. shown.SelectsNone store) }
         ensures a_store { (total : ℕ) (book : List Series) → P.told pages → total ≤ (P.view pages).size → StandsForBook (P.view pages).image total book → IfErr result (λ back. IsOutside back.cause) }
         ensures reads { ReadsMost 17 (P.told pages) (P.told (pages_in result)) (P.view pages) (P.view (pages_in result)) }
         ensures goes_on { GoesOn (P.under pages) (P.under (pages_in result)) }
@@ -133,11 +143,13 @@ impl<P: Pages> Store<P> {
         mut space: Space<P>,
         trail: Trail,
     ) -> Result<Store<P>, Back<P, StoreError>>
-        requires sound { (P.view space.pages).fit }
+        requires sound { spaces.IsSound space }
         requires trail { IsTrailOfAny trail.pages.items trail.len trail.asked }
-        ensures cause { IfErr result (λ back. IsReadCause back.cause (P.told space.pages) space.superblock (P.view space.pages) (P.view back.value)) }
-        ensures reads { ReadsMost 16 (P.told space.pages) (P.told (pages_in result)) (P.view space.pages) (P.view (pages_in result)) }
-        ensures goes_on { GoesOn (P.under space.pages) (P.under (pages_in result)) }
+        ensures place { IfErr result (λ back. IsFirstPage back.cause) }
+        ensures none { IfOk result (λ store. shown.SelectsNone store) }
+        ensures cause { IfErr result (λ back. IsReadCause back.cause (spaces.IsTold space) (spaces.numbers space) (spaces.view space) (P.view back.value)) }
+        ensures reads { ReadsMost 16 (spaces.IsTold space) (P.told (pages_in result)) (spaces.view space) (P.view (pages_in result)) }
+        ensures goes_on { GoesOn (spaces.under space) (P.under (pages_in result)) }
     {
         let _total = space.total();
         match read_catalog(alloc, &mut space) {

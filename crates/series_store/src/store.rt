@@ -3,16 +3,18 @@ ghost use Rattle.std.proofs.Props.{props};
 ghost use Rattle.std.specs.Prelude.{◌≡◌, ◌<◌, ◌≤◌, ◌^◌, length};
 ghost use Rattle.block_disk.specs.View.{View};
 ghost use Rattle.om3_coeff.specs.Spans.{IsProperIfAny};
-ghost use Rattle.store_laws.proofs.TrailLemmas.{trail_prop};
-ghost use Rattle.store_catalog.specs.Catalogs.{AreFit, AreAsTold};
+ghost use Rattle.stored_book.proofs.TrailLemmas.{trail_prop};
+ghost use Rattle.series_catalog.specs.Catalogs.{AreFit, AreAsTold};
+ghost use Rattle.series_catalog.specs.Shown.{series_in};
+ghost use Rattle.page_space.specs.Shown as spaces;
 ghost use Rattle.stored_book.specs.Standing.{AreCatalog};
 ghost use Rattle.tree_walk.specs.PagedNodes.{IsTrail};
 ghost use Rattle.tree_walk.specs.SpaceViews.{space_view};
 
 use gate_pages::Pages;
 use page_space::Space;
+use series_catalog::Catalog;
 use std::alloc::Global;
-use store_catalog::Catalog;
 use tree_walk::{Trail, Tree};
 
 /// Pages with a book, whose catalog is in memory, and a series of it that is selected.
@@ -23,13 +25,13 @@ pub struct Store<P: Pages> {
     pub(crate) catalog: Catalog,
     pub(crate) trail: Trail,
     pub(crate) tree: Tree,
-    ghost small: { space.superblock.total < 2 ^ 32 },
-    ghost count: { length catalog.series.items ≡ space.superblock.series },
-    ghost fits: { AreFit space.superblock.fresh catalog.series.items } by { Prim.hlevel props },
-    ghost told: { (P.view space.pages).fit → P.told space.pages → AreAsTold (P.view space.pages).image catalog.series.items },
-    ghost whole: { (P.view space.pages).fit → P.told space.pages → AreCatalog (P.view space.pages).image space.superblock.fresh space.superblock.series },
+    ghost small: { spaces.total space < 2 ^ 32 },
+    ghost count: { length (series_in catalog) ≡ (spaces.numbers space).series },
+    ghost fits: { AreFit (spaces.numbers space).fresh (series_in catalog) } by { Prim.hlevel props },
+    ghost told: { spaces.IsSound space → spaces.IsTold space → AreAsTold (spaces.image space) (series_in catalog) },
+    ghost whole: { spaces.IsSound space → spaces.IsTold space → AreCatalog (spaces.image space) (spaces.numbers space).fresh (spaces.numbers space).series },
     ghost few: { tree.slots ≤ 2 ^ 28 },
-    ghost root: { tree.root < space.superblock.total },
+    ghost root: { tree.root < spaces.total space },
     ghost proper: { IsProperIfAny tree.span } by { Prim.hlevel props },
-    ghost trail_is: { IsTrail (P.told space.pages) (space_view space.superblock (P.view space.pages)) tree trail } by { trail_prop (P.told space.pages) (P.view space.pages).image space.superblock.total tree trail.pages.items trail.len trail.asked },
+    ghost trail_is: { IsTrail (spaces.IsTold space) (space_view (spaces.numbers space) (spaces.view space)) tree trail } by { trail_prop (spaces.IsTold space) (spaces.image space) (spaces.total space) tree trail.pages.items trail.len trail.asked },
 }

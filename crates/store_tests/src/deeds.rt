@@ -1,13 +1,13 @@
 //! What is done to a disk of 128 blocks in memory, and the bytes that it has then.
 
 use block_disk::{BLOCK, Disk, Failed, FuseDisk, MemDisk};
+use disk_store::{disk_of, open_store};
+use empty_store::make_store;
 use gate_pages::Pages;
 use series_book::{Edit, Name, Values};
 use series_store::{Store, StoreError};
 use std::alloc::Global;
 use std::test::Fail;
-use store_init::make_store;
-use store_open::{disk_of, open_store};
 
 /// More calls than a deed makes.
 pub const MANY: u64 = 100_000;
@@ -24,6 +24,7 @@ pub enum Deed {
     Clear(i128, u64),
 }
 
+/// So many values, from `first` on.
 fn values(alloc: Global, count: usize, first: i128) -> Result<Values, Fail> {
     let mut items = Vec::new(alloc);
     for at in 0..count {
@@ -33,6 +34,7 @@ fn values(alloc: Global, count: usize, first: i128) -> Result<Values, Fail> {
 }
 
 impl Deed {
+    /// The edit of `a`, where the deed has one: making a store and opening one have none.
     pub fn edit(self, alloc: Global) -> Result<Option<Edit>, Fail> {
         let name = Name::new(alloc, b"a")?;
         let edit = match self {
@@ -106,6 +108,7 @@ pub fn run(
     Ok((done, disk.into_inner()))
 }
 
+/// The bytes of one block.
 fn block_of(disk: &mut MemDisk, no: u32) -> Result<[u8; BLOCK], Failed> {
     if no >= disk.blocks()? {
         return Err(Failed);

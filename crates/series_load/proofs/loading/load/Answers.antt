@@ -4,6 +4,8 @@ use Rattle.series_load.specs.Sides.{side}
 use Rattle.series_load.proofs.Sides.{goes_nowhere}
 use Rattle.series_load.proofs.Going.{unstarted, no_value, no_memory_cause, no_memory_sound}
 use Rattle.series_load.proofs.Knowing.{info_of, none_so, not_named, found_so, no_memory_known, some_at_first}
+use Rattle.series_load.specs.Shown.{side_of}
+use Rattle.series_store.specs.Shown as shown
 use Rattle.series_load.proofs.loading.load.Goals as goal
 
 pub returns-in_default-clause-unknown : goal.returns-in_default-clause-unknown
@@ -17,7 +19,7 @@ returns-in_default-clause-outcome g c = λ total book series told stands named.
     absurd (not_named c.args.name.now book series (none_so c.series.result _ _ c.in_default.is (c.series.ensures.info total book c.requires.sound told stands)) named)
 
 pub returns-in_default-clause-goes : goal.returns-in_default-clause-goes
-returns-in_default-clause-goes g c = goes_nowhere (side (g.P.Pages.told c.args.store.now.space.pages) (g.P.Pages.view c.args.store.now.space.pages) (g.P.Pages.under c.args.store.now.space.pages) c.args.store.now.space.superblock.total (length c.args.store.now.catalog.series.items) (g.P.Streams.left c.args.store.now.space.pages) (g.P.Streams.sent c.args.store.now.space.pages) (g.P.Streams.read_faults c.args.store.now.space.pages) (g.P.Streams.send_faults c.args.store.now.space.pages) (g.P.Streams.pieces c.args.store.now.space.pages))
+returns-in_default-clause-goes g c = goes_nowhere (side_of g.P.Streams c.args.store.now)
 
 pub returns-in_default-clause-sound_for : goal.returns-in_default-clause-sound_for
 returns-in_default-clause-sound_for g c = c.requires.sound
@@ -30,13 +32,13 @@ returns-in_err-loader-clause-untouched g c = λ is. absurd (no_memory_known c.fr
 
 pub returns-in_err-loader-clause-outcome : goal.returns-in_err-loader-clause-outcome
 returns-in_err-loader-clause-outcome g c = λ total book series told stands named.
-    unstarted total c.args.name.now book series (g.P.Streams.left c.args.store.now.space.pages) c.in_err-loader.field-0.0 c.from_residual.result (g.P.Pages.view c.args.store.now.space.pages) c.from_residual.ensures.1 c.in_err-loader.ensures.err (some_at_first total c.args.name.now book series (g.P.Streams.left c.args.store.now.space.pages) (g.P.Pages.view c.args.store.now.space.pages).image stands)
+    unstarted total c.args.name.now book series (g.P.Streams.left (shown.pages c.args.store.now)) c.in_err-loader.field-0.0 c.from_residual.result (shown.view c.args.store.now) c.from_residual.ensures.1 c.in_err-loader.ensures.err (some_at_first total c.args.name.now book series (g.P.Streams.left (shown.pages c.args.store.now)) (shown.image c.args.store.now) stands)
 
 pub returns-in_err-loader-clause-within : goal.returns-in_err-loader-clause-within
 returns-in_err-loader-clause-within g c = no_value c.from_residual.result c.in_err-loader.field-0.0 _ c.from_residual.ensures.1
 
 pub returns-in_err-loader-clause-goes : goal.returns-in_err-loader-clause-goes
-returns-in_err-loader-clause-goes g c = goes_nowhere (side (g.P.Pages.told c.args.store.now.space.pages) (g.P.Pages.view c.args.store.now.space.pages) (g.P.Pages.under c.args.store.now.space.pages) c.args.store.now.space.superblock.total (length c.args.store.now.catalog.series.items) (g.P.Streams.left c.args.store.now.space.pages) (g.P.Streams.sent c.args.store.now.space.pages) (g.P.Streams.read_faults c.args.store.now.space.pages) (g.P.Streams.send_faults c.args.store.now.space.pages) (g.P.Streams.pieces c.args.store.now.space.pages))
+returns-in_err-loader-clause-goes g c = goes_nowhere (side_of g.P.Streams c.args.store.now)
 
 pub returns-in_err-loader-clause-cause : goal.returns-in_err-loader-clause-cause
 returns-in_err-loader-clause-cause g c = no_memory_cause c.from_residual.result c.in_err-loader.field-0.0 _ _ _ _ _ c.from_residual.ensures.1 c.in_err-loader.ensures.err
@@ -45,7 +47,7 @@ pub returns-in_err-loader-clause-sound : goal.returns-in_err-loader-clause-sound
 returns-in_err-loader-clause-sound g c = no_value c.from_residual.result c.in_err-loader.field-0.0 _ c.from_residual.ensures.1
 
 pub returns-in_err-loader-clause-sound_for : goal.returns-in_err-loader-clause-sound_for
-returns-in_err-loader-clause-sound_for g c = no_memory_sound c.from_residual.result c.in_err-loader.field-0.0 (g.P.Pages.view c.args.store.now.space.pages) c.from_residual.ensures.1 c.in_err-loader.ensures.err c.requires.sound
+returns-in_err-loader-clause-sound_for g c = no_memory_sound c.from_residual.result c.in_err-loader.field-0.0 (shown.view c.args.store.now) c.from_residual.ensures.1 c.in_err-loader.ensures.err c.requires.sound
 
 pub returns-in_err-lines-clause-unknown : goal.returns-in_err-lines-clause-unknown
 returns-in_err-lines-clause-unknown g c = λ total book told stands. found_so c.args.name.now book c.in-Some.info c.from_residual-in_err-lines.result (c.in-Some.ensures.info total book c.requires.sound told stands) (no_memory_known c.from_residual-in_err-lines.result c.in_err-lines.field-0.0 c.from_residual-in_err-lines.ensures.1 c.in_err-lines.ensures.err)
@@ -55,13 +57,13 @@ returns-in_err-lines-clause-untouched g c = λ is. absurd (no_memory_known c.fro
 
 pub returns-in_err-lines-clause-outcome : goal.returns-in_err-lines-clause-outcome
 returns-in_err-lines-clause-outcome g c = λ total book series told stands named.
-    unstarted total c.args.name.now book series (g.P.Streams.left c.args.store.now.space.pages) c.in_err-lines.field-0.0 c.from_residual-in_err-lines.result (g.P.Pages.view c.args.store.now.space.pages) c.from_residual-in_err-lines.ensures.1 c.in_err-lines.ensures.err (some_at_first total c.args.name.now book series (g.P.Streams.left c.args.store.now.space.pages) (g.P.Pages.view c.args.store.now.space.pages).image stands)
+    unstarted total c.args.name.now book series (g.P.Streams.left (shown.pages c.args.store.now)) c.in_err-lines.field-0.0 c.from_residual-in_err-lines.result (shown.view c.args.store.now) c.from_residual-in_err-lines.ensures.1 c.in_err-lines.ensures.err (some_at_first total c.args.name.now book series (g.P.Streams.left (shown.pages c.args.store.now)) (shown.image c.args.store.now) stands)
 
 pub returns-in_err-lines-clause-within : goal.returns-in_err-lines-clause-within
 returns-in_err-lines-clause-within g c = no_value c.from_residual-in_err-lines.result c.in_err-lines.field-0.0 _ c.from_residual-in_err-lines.ensures.1
 
 pub returns-in_err-lines-clause-goes : goal.returns-in_err-lines-clause-goes
-returns-in_err-lines-clause-goes g c = goes_nowhere (side (g.P.Pages.told c.args.store.now.space.pages) (g.P.Pages.view c.args.store.now.space.pages) (g.P.Pages.under c.args.store.now.space.pages) c.args.store.now.space.superblock.total (length c.args.store.now.catalog.series.items) (g.P.Streams.left c.args.store.now.space.pages) (g.P.Streams.sent c.args.store.now.space.pages) (g.P.Streams.read_faults c.args.store.now.space.pages) (g.P.Streams.send_faults c.args.store.now.space.pages) (g.P.Streams.pieces c.args.store.now.space.pages))
+returns-in_err-lines-clause-goes g c = goes_nowhere (side_of g.P.Streams c.args.store.now)
 
 pub returns-in_err-lines-clause-cause : goal.returns-in_err-lines-clause-cause
 returns-in_err-lines-clause-cause g c = no_memory_cause c.from_residual-in_err-lines.result c.in_err-lines.field-0.0 _ _ _ _ _ c.from_residual-in_err-lines.ensures.1 c.in_err-lines.ensures.err
@@ -70,7 +72,7 @@ pub returns-in_err-lines-clause-sound : goal.returns-in_err-lines-clause-sound
 returns-in_err-lines-clause-sound g c = no_value c.from_residual-in_err-lines.result c.in_err-lines.field-0.0 _ c.from_residual-in_err-lines.ensures.1
 
 pub returns-in_err-lines-clause-sound_for : goal.returns-in_err-lines-clause-sound_for
-returns-in_err-lines-clause-sound_for g c = no_memory_sound c.from_residual-in_err-lines.result c.in_err-lines.field-0.0 (g.P.Pages.view c.args.store.now.space.pages) c.from_residual-in_err-lines.ensures.1 c.in_err-lines.ensures.err c.requires.sound
+returns-in_err-lines-clause-sound_for g c = no_memory_sound c.from_residual-in_err-lines.result c.in_err-lines.field-0.0 (shown.view c.args.store.now) c.from_residual-in_err-lines.ensures.1 c.in_err-lines.ensures.err c.requires.sound
 
 pub load_lines-requires-clause-sound : goal.load_lines-requires-clause-sound
 load_lines-requires-clause-sound g c = c.requires.sound
@@ -96,7 +98,7 @@ returns-clause-untouched g c = λ is. absurd (c.load_lines.ensures.known is)
 pub returns-clause-outcome : goal.returns-clause-outcome
 returns-clause-outcome g c = λ total book series told stands named.
     let info = info_of c.args.name.now book series c.in-Some.info (c.in-Some.ensures.info total book c.requires.sound told stands) named in
-    let P : List ℕ → Type 0 = λ n. Outcome total n book series (g.P.Streams.left c.args.store.now.space.pages) (g.P.Streams.left c.load_lines.new.store.space.pages) c.load_lines.result (g.P.Pages.view c.args.store.now.space.pages) (g.P.Pages.view c.load_lines.new.store.space.pages) in
+    let P : List ℕ → Type 0 = λ n. Outcome total n book series (g.P.Streams.left (shown.pages c.args.store.now)) (g.P.Streams.left (shown.pages c.load_lines.new.store)) c.load_lines.result (shown.view c.args.store.now) (shown.view c.load_lines.new.store) in
     subst P c.in_ok-loader.ensures.name (c.load_lines.ensures.outcome total book series told stands (c.in_ok-loader.ensures.step ∙ info.step) (c.in_ok-loader.ensures.scale ∙ info.scale))
 
 pub returns-clause-within : goal.returns-clause-within

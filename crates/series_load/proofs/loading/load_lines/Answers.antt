@@ -1,13 +1,16 @@
 use Rattle.std.proofs.Common.{◌≡◌, ◌∙◌, ℕ, IsTrue, None, Some, Ok, Err, length, refl, ap, sym, subst, arith}
 use Rattle.page_space.specs.declared.superblock.Superblock.{Superblock}
-use Rattle.store_catalog.specs.declared.catalog.Catalog.{Catalog}
+use Rattle.series_catalog.specs.declared.catalog.Catalog.{Catalog}
 use Rattle.chart_world.specs.Reading.{Reading, unread, input_length}
-use Rattle.series_load.specs.Sides.{side}
 use Rattle.series_load.specs.Steps.{end_of}
-use Rattle.series_load.proofs.Passing.{Gives, same_line}
+use Rattle.chart_world.specs.FrontLaws.{same_line}
+use Rattle.chart_world.specs.Fronts.{Gives}
 use Rattle.series_load.proofs.Passing.{short_end, short_so}
 use Rattle.series_load.proofs.Sides.{goes_nowhere, goes_further, goes_call, goes_take, call_left}
 use Rattle.series_load.proofs.Going.{going_none, going_taken, going_left, line_does, going_line, line_ends, long_ends, at_end, fault_done, passed_on, cause_so, cause_on, sound_on, no_value, fault_cause, fault_sound, known_so, known_on, known_fault}
+use Rattle.series_load.specs.Shown.{side_of}
+use Rattle.series_catalog.specs.Shown.{series_in}
+use Rattle.series_store.specs.Shown as shown
 use Rattle.series_load.proofs.loading.load_lines.Goals as goal
 
 pub lines-init : goal.lines-init
@@ -20,9 +23,9 @@ lines-init g c =
       within = omega (arith, ap (λ (r : Reading). r.given) fresh);
       points = omega (arith, c.requires.points);
       sound = c.requires.sound;
-      length_is = ap (λ (r : Reading). input_length r.taken (g.P.Streams.left c.args.store.now.space.pages)) fresh;
-      goes = goes_nowhere (side (g.P.Pages.told c.args.store.now.space.pages) (g.P.Pages.view c.args.store.now.space.pages) (g.P.Pages.under c.args.store.now.space.pages) c.args.store.now.space.superblock.total (length c.args.store.now.catalog.series.items) (g.P.Streams.left c.args.store.now.space.pages) (g.P.Streams.sent c.args.store.now.space.pages) (g.P.Streams.read_faults c.args.store.now.space.pages) (g.P.Streams.send_faults c.args.store.now.space.pages) (g.P.Streams.pieces c.args.store.now.space.pages));
-      going = λ total book series told stands step scale. going_none total c.args.loader.now.name book series (g.P.Streams.left c.args.store.now.space.pages) c.args.lines.now c.args.loader.now (g.P.Pages.view c.args.store.now.space.pages) fresh c.requires.none c.requires.first c.requires.points refl step scale stands;
+      length_is = ap (λ (r : Reading). input_length r.taken (g.P.Streams.left (shown.pages c.args.store.now))) fresh;
+      goes = goes_nowhere (side_of g.P.Streams c.args.store.now);
+      going = λ total book series told stands step scale. going_none total c.args.loader.now.name book series (g.P.Streams.left (shown.pages c.args.store.now)) c.args.lines.now c.args.loader.now (shown.view c.args.store.now) fresh c.requires.none c.requires.first c.requires.points refl step scale stands;
     }
 
 pub next-requires : goal.next-requires
@@ -34,60 +37,60 @@ returns-in_err-next-clause-known g c = known_fault c.from_residual.result c.in_e
 pub returns-in_err-next-clause-outcome : goal.returns-in_err-next-clause-outcome
 returns-in_err-next-clause-outcome g c = λ total book series told stands step scale.
     let was = c.lines.invariant.going total book series told stands step scale in
-    let going = going_taken total c.args.loader.now.name book series (g.P.Streams.left c.args.store.now.space.pages) (unread c.lines.lines (g.P.Streams.left c.lines.store.space.pages)) c.lines.lines.given c.lines.loader (g.P.Pages.view c.args.store.now.space.pages) (g.P.Pages.view c.lines.store.space.pages) (g.P.Pages.view c.next.new.from.space.pages) (g.met.P.Pages.rests c.lines.store.space.pages c.lines.invariant.sound) (g.met.P.PageWorld.take_keeps c.lines.store.space.pages c.next.new.from.space.pages c.next.ensures.beside.pages_are).image (g.met.P.PageWorld.take_passes c.lines.store.space.pages c.next.new.from.space.pages c.next.ensures.beside.pages_are) was in
-    let says = (goes_further (side (g.P.Pages.told c.args.store.now.space.pages) (g.P.Pages.view c.args.store.now.space.pages) (g.P.Pages.under c.args.store.now.space.pages) c.args.store.now.space.superblock.total (length c.args.store.now.catalog.series.items) (g.P.Streams.left c.args.store.now.space.pages) (g.P.Streams.sent c.args.store.now.space.pages) (g.P.Streams.read_faults c.args.store.now.space.pages) (g.P.Streams.send_faults c.args.store.now.space.pages) (g.P.Streams.pieces c.args.store.now.space.pages)) (side (g.P.Pages.told c.lines.store.space.pages) (g.P.Pages.view c.lines.store.space.pages) (g.P.Pages.under c.lines.store.space.pages) c.lines.store.space.superblock.total (length c.lines.store.catalog.series.items) (g.P.Streams.left c.lines.store.space.pages) (g.P.Streams.sent c.lines.store.space.pages) (g.P.Streams.read_faults c.lines.store.space.pages) (g.P.Streams.send_faults c.lines.store.space.pages) (g.P.Streams.pieces c.lines.store.space.pages)) (side (g.P.Pages.told c.next.new.from.space.pages) (g.P.Pages.view c.next.new.from.space.pages) (g.P.Pages.under c.next.new.from.space.pages) c.next.new.from.space.superblock.total (length c.next.new.from.catalog.series.items) (g.P.Streams.left c.next.new.from.space.pages) (g.P.Streams.sent c.next.new.from.space.pages) (g.P.Streams.read_faults c.next.new.from.space.pages) (g.P.Streams.send_faults c.next.new.from.space.pages) (g.P.Streams.pieces c.next.new.from.space.pages)) c.lines.invariant.goes (goes_take (side (g.P.Pages.told c.lines.store.space.pages) (g.P.Pages.view c.lines.store.space.pages) (g.P.Pages.under c.lines.store.space.pages) c.lines.store.space.superblock.total (length c.lines.store.catalog.series.items) (g.P.Streams.left c.lines.store.space.pages) (g.P.Streams.sent c.lines.store.space.pages) (g.P.Streams.read_faults c.lines.store.space.pages) (g.P.Streams.send_faults c.lines.store.space.pages) (g.P.Streams.pieces c.lines.store.space.pages)) (side (g.P.Pages.told c.next.new.from.space.pages) (g.P.Pages.view c.next.new.from.space.pages) (g.P.Pages.under c.next.new.from.space.pages) c.next.new.from.space.superblock.total (length c.next.new.from.catalog.series.items) (g.P.Streams.left c.next.new.from.space.pages) (g.P.Streams.sent c.next.new.from.space.pages) (g.P.Streams.read_faults c.next.new.from.space.pages) (g.P.Streams.send_faults c.next.new.from.space.pages) (g.P.Streams.pieces c.next.new.from.space.pages)) (g.met.P.PageWorld.take_keeps c.lines.store.space.pages c.next.new.from.space.pages c.next.ensures.beside.pages_are) (g.met.P.PageWorld.take_told c.lines.store.space.pages c.next.new.from.space.pages c.next.ensures.beside.pages_are) (g.met.P.PageWorld.take_was_told c.lines.store.space.pages c.next.new.from.space.pages c.next.ensures.beside.pages_are) (g.met.P.PageWorld.take_goes_on c.lines.store.space.pages c.next.new.from.space.pages c.next.ensures.beside.pages_are)
-    (ap (λ (s : Superblock). s.total) c.next.ensures.beside.superblock) (ap (λ (k : Catalog). length k.series.items) c.next.ensures.beside.catalog) c.next.ensures.sent c.next.ensures.read_faults c.next.ensures.send_faults c.next.ensures.pieces)).is_told told in
+    let going = going_taken total c.args.loader.now.name book series (g.P.Streams.left (shown.pages c.args.store.now)) (unread c.lines.lines (g.P.Streams.left (shown.pages c.lines.store))) c.lines.lines.given c.lines.loader (shown.view c.args.store.now) (shown.view c.lines.store) (shown.view c.next.new.from) (g.met.P.Pages.rests (shown.pages c.lines.store) c.lines.invariant.sound) (g.met.P.PageWorld.take_keeps (shown.pages c.lines.store) (shown.pages c.next.new.from) c.next.ensures.beside.pages_are).image (g.met.P.PageWorld.take_passes (shown.pages c.lines.store) (shown.pages c.next.new.from) c.next.ensures.beside.pages_are) was in
+    let says = (goes_further (side_of g.P.Streams c.args.store.now) (side_of g.P.Streams c.lines.store) (side_of g.P.Streams c.next.new.from) c.lines.invariant.goes (goes_take (side_of g.P.Streams c.lines.store) (side_of g.P.Streams c.next.new.from) (g.met.P.PageWorld.take_keeps (shown.pages c.lines.store) (shown.pages c.next.new.from) c.next.ensures.beside.pages_are) (g.met.P.PageWorld.take_told (shown.pages c.lines.store) (shown.pages c.next.new.from) c.next.ensures.beside.pages_are) (g.met.P.PageWorld.take_was_told (shown.pages c.lines.store) (shown.pages c.next.new.from) c.next.ensures.beside.pages_are) (g.met.P.PageWorld.take_goes_on (shown.pages c.lines.store) (shown.pages c.next.new.from) c.next.ensures.beside.pages_are)
+    (ap (λ (s : Superblock). s.total) c.next.ensures.beside.superblock) (ap (λ (k : Catalog). length (series_in k)) c.next.ensures.beside.catalog) c.next.ensures.sent c.next.ensures.read_faults c.next.ensures.send_faults c.next.ensures.pieces)).is_told told in
     let p = going.progress in
     let f = c.in_err-next.field-0.0 in
     let no = c.in_err-next.ensures in
-    passed_on total c.args.loader.now.name book series (g.P.Streams.left c.args.store.now.space.pages) (g.P.Streams.left c.next.new.from.space.pages) (end_of f) c.from_residual.result (g.P.Pages.view c.args.store.now.space.pages) (g.P.Pages.view c.next.new.from.space.pages) c.from_residual.ensures.1
-    (fault_done total c.args.loader.now.name book series (g.P.Streams.left c.args.store.now.space.pages) c.lines.lines c.next.new.self (g.P.Streams.left c.lines.store.space.pages) (g.P.Streams.left c.next.new.from.space.pages) c.lines.loader f (g.P.Pages.view c.args.store.now.space.pages) (g.P.Pages.view c.next.new.from.space.pages)
+    passed_on total c.args.loader.now.name book series (g.P.Streams.left (shown.pages c.args.store.now)) (g.P.Streams.left (shown.pages c.next.new.from)) (end_of f) c.from_residual.result (shown.view c.args.store.now) (shown.view c.next.new.from) c.from_residual.ensures.1
+    (fault_done total c.args.loader.now.name book series (g.P.Streams.left (shown.pages c.args.store.now)) c.lines.lines c.next.new.self (g.P.Streams.left (shown.pages c.lines.store)) (g.P.Streams.left (shown.pages c.next.new.from)) c.lines.loader f (shown.view c.args.store.now) (shown.view c.next.new.from)
     (λ h. no.read_before (ap Err h)) (λ h. no.past_before (ap Err h)) (λ h. no.past (ap Err h)) no.left_on_err c.lines.invariant.within c.lines.invariant.counted no.total going)
 
 pub returns-in_err-next-clause-within : goal.returns-in_err-next-clause-within
 returns-in_err-next-clause-within g c = no_value c.from_residual.result (end_of c.in_err-next.field-0.0) _ c.from_residual.ensures.1
 
 pub returns-in_err-next-clause-goes : goal.returns-in_err-next-clause-goes
-returns-in_err-next-clause-goes g c = (goes_further (side (g.P.Pages.told c.args.store.now.space.pages) (g.P.Pages.view c.args.store.now.space.pages) (g.P.Pages.under c.args.store.now.space.pages) c.args.store.now.space.superblock.total (length c.args.store.now.catalog.series.items) (g.P.Streams.left c.args.store.now.space.pages) (g.P.Streams.sent c.args.store.now.space.pages) (g.P.Streams.read_faults c.args.store.now.space.pages) (g.P.Streams.send_faults c.args.store.now.space.pages) (g.P.Streams.pieces c.args.store.now.space.pages)) (side (g.P.Pages.told c.lines.store.space.pages) (g.P.Pages.view c.lines.store.space.pages) (g.P.Pages.under c.lines.store.space.pages) c.lines.store.space.superblock.total (length c.lines.store.catalog.series.items) (g.P.Streams.left c.lines.store.space.pages) (g.P.Streams.sent c.lines.store.space.pages) (g.P.Streams.read_faults c.lines.store.space.pages) (g.P.Streams.send_faults c.lines.store.space.pages) (g.P.Streams.pieces c.lines.store.space.pages)) (side (g.P.Pages.told c.next.new.from.space.pages) (g.P.Pages.view c.next.new.from.space.pages) (g.P.Pages.under c.next.new.from.space.pages) c.next.new.from.space.superblock.total (length c.next.new.from.catalog.series.items) (g.P.Streams.left c.next.new.from.space.pages) (g.P.Streams.sent c.next.new.from.space.pages) (g.P.Streams.read_faults c.next.new.from.space.pages) (g.P.Streams.send_faults c.next.new.from.space.pages) (g.P.Streams.pieces c.next.new.from.space.pages)) c.lines.invariant.goes (goes_take (side (g.P.Pages.told c.lines.store.space.pages) (g.P.Pages.view c.lines.store.space.pages) (g.P.Pages.under c.lines.store.space.pages) c.lines.store.space.superblock.total (length c.lines.store.catalog.series.items) (g.P.Streams.left c.lines.store.space.pages) (g.P.Streams.sent c.lines.store.space.pages) (g.P.Streams.read_faults c.lines.store.space.pages) (g.P.Streams.send_faults c.lines.store.space.pages) (g.P.Streams.pieces c.lines.store.space.pages)) (side (g.P.Pages.told c.next.new.from.space.pages) (g.P.Pages.view c.next.new.from.space.pages) (g.P.Pages.under c.next.new.from.space.pages) c.next.new.from.space.superblock.total (length c.next.new.from.catalog.series.items) (g.P.Streams.left c.next.new.from.space.pages) (g.P.Streams.sent c.next.new.from.space.pages) (g.P.Streams.read_faults c.next.new.from.space.pages) (g.P.Streams.send_faults c.next.new.from.space.pages) (g.P.Streams.pieces c.next.new.from.space.pages)) (g.met.P.PageWorld.take_keeps c.lines.store.space.pages c.next.new.from.space.pages c.next.ensures.beside.pages_are) (g.met.P.PageWorld.take_told c.lines.store.space.pages c.next.new.from.space.pages c.next.ensures.beside.pages_are) (g.met.P.PageWorld.take_was_told c.lines.store.space.pages c.next.new.from.space.pages c.next.ensures.beside.pages_are) (g.met.P.PageWorld.take_goes_on c.lines.store.space.pages c.next.new.from.space.pages c.next.ensures.beside.pages_are)
-    (ap (λ (s : Superblock). s.total) c.next.ensures.beside.superblock) (ap (λ (k : Catalog). length k.series.items) c.next.ensures.beside.catalog) c.next.ensures.sent c.next.ensures.read_faults c.next.ensures.send_faults c.next.ensures.pieces))
+returns-in_err-next-clause-goes g c = (goes_further (side_of g.P.Streams c.args.store.now) (side_of g.P.Streams c.lines.store) (side_of g.P.Streams c.next.new.from) c.lines.invariant.goes (goes_take (side_of g.P.Streams c.lines.store) (side_of g.P.Streams c.next.new.from) (g.met.P.PageWorld.take_keeps (shown.pages c.lines.store) (shown.pages c.next.new.from) c.next.ensures.beside.pages_are) (g.met.P.PageWorld.take_told (shown.pages c.lines.store) (shown.pages c.next.new.from) c.next.ensures.beside.pages_are) (g.met.P.PageWorld.take_was_told (shown.pages c.lines.store) (shown.pages c.next.new.from) c.next.ensures.beside.pages_are) (g.met.P.PageWorld.take_goes_on (shown.pages c.lines.store) (shown.pages c.next.new.from) c.next.ensures.beside.pages_are)
+    (ap (λ (s : Superblock). s.total) c.next.ensures.beside.superblock) (ap (λ (k : Catalog). length (series_in k)) c.next.ensures.beside.catalog) c.next.ensures.sent c.next.ensures.read_faults c.next.ensures.send_faults c.next.ensures.pieces))
 
 pub returns-in_err-next-clause-cause : goal.returns-in_err-next-clause-cause
-returns-in_err-next-clause-cause g c = fault_cause c.from_residual.result c.in_err-next.field-0.0 c.args.store.now.space.superblock.total (g.P.Pages.view c.args.store.now.space.pages) (g.P.Pages.view c.next.new.from.space.pages) (g.P.Streams.read_faults c.args.store.now.space.pages) (g.P.Streams.read_faults c.lines.store.space.pages) (g.P.Streams.read_faults c.next.new.from.space.pages) c.from_residual.ensures.1
+returns-in_err-next-clause-cause g c = fault_cause c.from_residual.result c.in_err-next.field-0.0 (shown.total c.args.store.now) (shown.view c.args.store.now) (shown.view c.next.new.from) (g.P.Streams.read_faults (shown.pages c.args.store.now)) (g.P.Streams.read_faults (shown.pages c.lines.store)) (g.P.Streams.read_faults (shown.pages c.next.new.from)) c.from_residual.ensures.1
     c.lines.invariant.goes.reads (λ h. c.in_err-next.ensures.read_fault (ap Err h))
 
 pub returns-in_err-next-clause-sound : goal.returns-in_err-next-clause-sound
 returns-in_err-next-clause-sound g c = no_value c.from_residual.result (end_of c.in_err-next.field-0.0) _ c.from_residual.ensures.1
 
 pub returns-in_err-next-clause-sound_for : goal.returns-in_err-next-clause-sound_for
-returns-in_err-next-clause-sound_for g c = sound_on c.from_residual.result (end_of c.in_err-next.field-0.0) (g.P.Pages.view c.next.new.from.space.pages) c.from_residual.ensures.1 (fault_sound c.in_err-next.field-0.0 (g.P.Pages.view c.next.new.from.space.pages) ((g.met.P.PageWorld.take_keeps c.lines.store.space.pages c.next.new.from.space.pages c.next.ensures.beside.pages_are).fit c.lines.invariant.sound))
+returns-in_err-next-clause-sound_for g c = sound_on c.from_residual.result (end_of c.in_err-next.field-0.0) (shown.view c.next.new.from) c.from_residual.ensures.1 (fault_sound c.in_err-next.field-0.0 (shown.view c.next.new.from) ((g.met.P.PageWorld.take_keeps (shown.pages c.lines.store) (shown.pages c.next.new.from) c.next.ensures.beside.pages_are).fit c.lines.invariant.sound))
 
 pub finish-requires : goal.finish-requires
-finish-requires g c = record { sound = ((g.met.P.PageWorld.take_keeps c.lines.store.space.pages c.next.new.from.space.pages c.next.ensures.beside.pages_are).fit c.lines.invariant.sound) }
+finish-requires g c = record { sound = ((g.met.P.PageWorld.take_keeps (shown.pages c.lines.store) (shown.pages c.next.new.from) c.next.ensures.beside.pages_are).fit c.lines.invariant.sound) }
 
 pub returns-in-End-clause-known : goal.returns-in-End-clause-known
-returns-in-End-clause-known g c = known_so c.finish.result c.next.new.from.space.superblock.total (g.P.Pages.view c.next.new.from.space.pages) (g.P.Pages.view c.finish.new.store.space.pages) c.finish.ensures.cause
+returns-in-End-clause-known g c = known_so c.finish.result (shown.total c.next.new.from) (shown.view c.next.new.from) (shown.view c.finish.new.store) c.finish.ensures.cause
 
 pub returns-in-End-clause-outcome : goal.returns-in-End-clause-outcome
 returns-in-End-clause-outcome g c = λ total book series told stands step scale.
     let was = c.lines.invariant.going total book series told stands step scale in
-    let going = going_taken total c.args.loader.now.name book series (g.P.Streams.left c.args.store.now.space.pages) (unread c.lines.lines (g.P.Streams.left c.lines.store.space.pages)) c.lines.lines.given c.lines.loader (g.P.Pages.view c.args.store.now.space.pages) (g.P.Pages.view c.lines.store.space.pages) (g.P.Pages.view c.next.new.from.space.pages) (g.met.P.Pages.rests c.lines.store.space.pages c.lines.invariant.sound) (g.met.P.PageWorld.take_keeps c.lines.store.space.pages c.next.new.from.space.pages c.next.ensures.beside.pages_are).image (g.met.P.PageWorld.take_passes c.lines.store.space.pages c.next.new.from.space.pages c.next.ensures.beside.pages_are) was in
-    let says = (goes_further (side (g.P.Pages.told c.args.store.now.space.pages) (g.P.Pages.view c.args.store.now.space.pages) (g.P.Pages.under c.args.store.now.space.pages) c.args.store.now.space.superblock.total (length c.args.store.now.catalog.series.items) (g.P.Streams.left c.args.store.now.space.pages) (g.P.Streams.sent c.args.store.now.space.pages) (g.P.Streams.read_faults c.args.store.now.space.pages) (g.P.Streams.send_faults c.args.store.now.space.pages) (g.P.Streams.pieces c.args.store.now.space.pages)) (side (g.P.Pages.told c.lines.store.space.pages) (g.P.Pages.view c.lines.store.space.pages) (g.P.Pages.under c.lines.store.space.pages) c.lines.store.space.superblock.total (length c.lines.store.catalog.series.items) (g.P.Streams.left c.lines.store.space.pages) (g.P.Streams.sent c.lines.store.space.pages) (g.P.Streams.read_faults c.lines.store.space.pages) (g.P.Streams.send_faults c.lines.store.space.pages) (g.P.Streams.pieces c.lines.store.space.pages)) (side (g.P.Pages.told c.next.new.from.space.pages) (g.P.Pages.view c.next.new.from.space.pages) (g.P.Pages.under c.next.new.from.space.pages) c.next.new.from.space.superblock.total (length c.next.new.from.catalog.series.items) (g.P.Streams.left c.next.new.from.space.pages) (g.P.Streams.sent c.next.new.from.space.pages) (g.P.Streams.read_faults c.next.new.from.space.pages) (g.P.Streams.send_faults c.next.new.from.space.pages) (g.P.Streams.pieces c.next.new.from.space.pages)) c.lines.invariant.goes (goes_take (side (g.P.Pages.told c.lines.store.space.pages) (g.P.Pages.view c.lines.store.space.pages) (g.P.Pages.under c.lines.store.space.pages) c.lines.store.space.superblock.total (length c.lines.store.catalog.series.items) (g.P.Streams.left c.lines.store.space.pages) (g.P.Streams.sent c.lines.store.space.pages) (g.P.Streams.read_faults c.lines.store.space.pages) (g.P.Streams.send_faults c.lines.store.space.pages) (g.P.Streams.pieces c.lines.store.space.pages)) (side (g.P.Pages.told c.next.new.from.space.pages) (g.P.Pages.view c.next.new.from.space.pages) (g.P.Pages.under c.next.new.from.space.pages) c.next.new.from.space.superblock.total (length c.next.new.from.catalog.series.items) (g.P.Streams.left c.next.new.from.space.pages) (g.P.Streams.sent c.next.new.from.space.pages) (g.P.Streams.read_faults c.next.new.from.space.pages) (g.P.Streams.send_faults c.next.new.from.space.pages) (g.P.Streams.pieces c.next.new.from.space.pages)) (g.met.P.PageWorld.take_keeps c.lines.store.space.pages c.next.new.from.space.pages c.next.ensures.beside.pages_are) (g.met.P.PageWorld.take_told c.lines.store.space.pages c.next.new.from.space.pages c.next.ensures.beside.pages_are) (g.met.P.PageWorld.take_was_told c.lines.store.space.pages c.next.new.from.space.pages c.next.ensures.beside.pages_are) (g.met.P.PageWorld.take_goes_on c.lines.store.space.pages c.next.new.from.space.pages c.next.ensures.beside.pages_are)
-    (ap (λ (s : Superblock). s.total) c.next.ensures.beside.superblock) (ap (λ (k : Catalog). length k.series.items) c.next.ensures.beside.catalog) c.next.ensures.sent c.next.ensures.read_faults c.next.ensures.send_faults c.next.ensures.pieces)).is_told told in
+    let going = going_taken total c.args.loader.now.name book series (g.P.Streams.left (shown.pages c.args.store.now)) (unread c.lines.lines (g.P.Streams.left (shown.pages c.lines.store))) c.lines.lines.given c.lines.loader (shown.view c.args.store.now) (shown.view c.lines.store) (shown.view c.next.new.from) (g.met.P.Pages.rests (shown.pages c.lines.store) c.lines.invariant.sound) (g.met.P.PageWorld.take_keeps (shown.pages c.lines.store) (shown.pages c.next.new.from) c.next.ensures.beside.pages_are).image (g.met.P.PageWorld.take_passes (shown.pages c.lines.store) (shown.pages c.next.new.from) c.next.ensures.beside.pages_are) was in
+    let says = (goes_further (side_of g.P.Streams c.args.store.now) (side_of g.P.Streams c.lines.store) (side_of g.P.Streams c.next.new.from) c.lines.invariant.goes (goes_take (side_of g.P.Streams c.lines.store) (side_of g.P.Streams c.next.new.from) (g.met.P.PageWorld.take_keeps (shown.pages c.lines.store) (shown.pages c.next.new.from) c.next.ensures.beside.pages_are) (g.met.P.PageWorld.take_told (shown.pages c.lines.store) (shown.pages c.next.new.from) c.next.ensures.beside.pages_are) (g.met.P.PageWorld.take_was_told (shown.pages c.lines.store) (shown.pages c.next.new.from) c.next.ensures.beside.pages_are) (g.met.P.PageWorld.take_goes_on (shown.pages c.lines.store) (shown.pages c.next.new.from) c.next.ensures.beside.pages_are)
+    (ap (λ (s : Superblock). s.total) c.next.ensures.beside.superblock) (ap (λ (k : Catalog). length (series_in k)) c.next.ensures.beside.catalog) c.next.ensures.sent c.next.ensures.read_faults c.next.ensures.send_faults c.next.ensures.pieces)).is_told told in
     let p = going.progress in
-    at_end total c.args.loader.now.name book series (g.P.Streams.left c.args.store.now.space.pages) (unread c.lines.lines (g.P.Streams.left c.lines.store.space.pages)) (g.P.Streams.left c.finish.new.store.space.pages) c.lines.lines.given c.lines.loader c.finish.new.self.run c.finish.result (g.P.Pages.view c.args.store.now.space.pages) (g.P.Pages.view c.next.new.from.space.pages) (g.P.Pages.view c.finish.new.store.space.pages)
+    at_end total c.args.loader.now.name book series (g.P.Streams.left (shown.pages c.args.store.now)) (unread c.lines.lines (g.P.Streams.left (shown.pages c.lines.store))) (g.P.Streams.left (shown.pages c.finish.new.store)) c.lines.lines.given c.lines.loader c.finish.new.self.run c.finish.result (shown.view c.args.store.now) (shown.view c.next.new.from) (shown.view c.finish.new.store)
     (c.in_ok-next.ensures.end (ap Ok c.in-End.is)) c.finish.ensures.points going (c.finish.ensures.does total p.now p.open_run says p.stands p.keeps)
 
 pub returns-in-End-clause-within : goal.returns-in-End-clause-within
-returns-in-End-clause-within g c = short_so c.finish.result (short_end c.lines.lines (g.P.Streams.left c.lines.store.space.pages) (g.P.Streams.left c.args.store.now.space.pages) (c.in_ok-next.ensures.end (ap Ok c.in-End.is)) c.lines.invariant.counted c.lines.invariant.within c.lines.invariant.length_is)
+returns-in-End-clause-within g c = short_so c.finish.result (short_end c.lines.lines (g.P.Streams.left (shown.pages c.lines.store)) (g.P.Streams.left (shown.pages c.args.store.now)) (c.in_ok-next.ensures.end (ap Ok c.in-End.is)) c.lines.invariant.counted c.lines.invariant.within c.lines.invariant.length_is)
 
 pub returns-in-End-clause-goes : goal.returns-in-End-clause-goes
-returns-in-End-clause-goes g c = (goes_further (side (g.P.Pages.told c.args.store.now.space.pages) (g.P.Pages.view c.args.store.now.space.pages) (g.P.Pages.under c.args.store.now.space.pages) c.args.store.now.space.superblock.total (length c.args.store.now.catalog.series.items) (g.P.Streams.left c.args.store.now.space.pages) (g.P.Streams.sent c.args.store.now.space.pages) (g.P.Streams.read_faults c.args.store.now.space.pages) (g.P.Streams.send_faults c.args.store.now.space.pages) (g.P.Streams.pieces c.args.store.now.space.pages)) (side (g.P.Pages.told c.next.new.from.space.pages) (g.P.Pages.view c.next.new.from.space.pages) (g.P.Pages.under c.next.new.from.space.pages) c.next.new.from.space.superblock.total (length c.next.new.from.catalog.series.items) (g.P.Streams.left c.next.new.from.space.pages) (g.P.Streams.sent c.next.new.from.space.pages) (g.P.Streams.read_faults c.next.new.from.space.pages) (g.P.Streams.send_faults c.next.new.from.space.pages) (g.P.Streams.pieces c.next.new.from.space.pages)) (side (g.P.Pages.told c.finish.new.store.space.pages) (g.P.Pages.view c.finish.new.store.space.pages) (g.P.Pages.under c.finish.new.store.space.pages) c.finish.new.store.space.superblock.total (length c.finish.new.store.catalog.series.items) (g.P.Streams.left c.finish.new.store.space.pages) (g.P.Streams.sent c.finish.new.store.space.pages) (g.P.Streams.read_faults c.finish.new.store.space.pages) (g.P.Streams.send_faults c.finish.new.store.space.pages) (g.P.Streams.pieces c.finish.new.store.space.pages)) (goes_further (side (g.P.Pages.told c.args.store.now.space.pages) (g.P.Pages.view c.args.store.now.space.pages) (g.P.Pages.under c.args.store.now.space.pages) c.args.store.now.space.superblock.total (length c.args.store.now.catalog.series.items) (g.P.Streams.left c.args.store.now.space.pages) (g.P.Streams.sent c.args.store.now.space.pages) (g.P.Streams.read_faults c.args.store.now.space.pages) (g.P.Streams.send_faults c.args.store.now.space.pages) (g.P.Streams.pieces c.args.store.now.space.pages)) (side (g.P.Pages.told c.lines.store.space.pages) (g.P.Pages.view c.lines.store.space.pages) (g.P.Pages.under c.lines.store.space.pages) c.lines.store.space.superblock.total (length c.lines.store.catalog.series.items) (g.P.Streams.left c.lines.store.space.pages) (g.P.Streams.sent c.lines.store.space.pages) (g.P.Streams.read_faults c.lines.store.space.pages) (g.P.Streams.send_faults c.lines.store.space.pages) (g.P.Streams.pieces c.lines.store.space.pages)) (side (g.P.Pages.told c.next.new.from.space.pages) (g.P.Pages.view c.next.new.from.space.pages) (g.P.Pages.under c.next.new.from.space.pages) c.next.new.from.space.superblock.total (length c.next.new.from.catalog.series.items) (g.P.Streams.left c.next.new.from.space.pages) (g.P.Streams.sent c.next.new.from.space.pages) (g.P.Streams.read_faults c.next.new.from.space.pages) (g.P.Streams.send_faults c.next.new.from.space.pages) (g.P.Streams.pieces c.next.new.from.space.pages)) c.lines.invariant.goes (goes_take (side (g.P.Pages.told c.lines.store.space.pages) (g.P.Pages.view c.lines.store.space.pages) (g.P.Pages.under c.lines.store.space.pages) c.lines.store.space.superblock.total (length c.lines.store.catalog.series.items) (g.P.Streams.left c.lines.store.space.pages) (g.P.Streams.sent c.lines.store.space.pages) (g.P.Streams.read_faults c.lines.store.space.pages) (g.P.Streams.send_faults c.lines.store.space.pages) (g.P.Streams.pieces c.lines.store.space.pages)) (side (g.P.Pages.told c.next.new.from.space.pages) (g.P.Pages.view c.next.new.from.space.pages) (g.P.Pages.under c.next.new.from.space.pages) c.next.new.from.space.superblock.total (length c.next.new.from.catalog.series.items) (g.P.Streams.left c.next.new.from.space.pages) (g.P.Streams.sent c.next.new.from.space.pages) (g.P.Streams.read_faults c.next.new.from.space.pages) (g.P.Streams.send_faults c.next.new.from.space.pages) (g.P.Streams.pieces c.next.new.from.space.pages)) (g.met.P.PageWorld.take_keeps c.lines.store.space.pages c.next.new.from.space.pages c.next.ensures.beside.pages_are) (g.met.P.PageWorld.take_told c.lines.store.space.pages c.next.new.from.space.pages c.next.ensures.beside.pages_are) (g.met.P.PageWorld.take_was_told c.lines.store.space.pages c.next.new.from.space.pages c.next.ensures.beside.pages_are) (g.met.P.PageWorld.take_goes_on c.lines.store.space.pages c.next.new.from.space.pages c.next.ensures.beside.pages_are)
-    (ap (λ (s : Superblock). s.total) c.next.ensures.beside.superblock) (ap (λ (k : Catalog). length k.series.items) c.next.ensures.beside.catalog) c.next.ensures.sent c.next.ensures.read_faults c.next.ensures.send_faults c.next.ensures.pieces)) (goes_call (side (g.P.Pages.told c.next.new.from.space.pages) (g.P.Pages.view c.next.new.from.space.pages) (g.P.Pages.under c.next.new.from.space.pages) c.next.new.from.space.superblock.total (length c.next.new.from.catalog.series.items) (g.P.Streams.left c.next.new.from.space.pages) (g.P.Streams.sent c.next.new.from.space.pages) (g.P.Streams.read_faults c.next.new.from.space.pages) (g.P.Streams.send_faults c.next.new.from.space.pages) (g.P.Streams.pieces c.next.new.from.space.pages)) (side (g.P.Pages.told c.finish.new.store.space.pages) (g.P.Pages.view c.finish.new.store.space.pages) (g.P.Pages.under c.finish.new.store.space.pages) c.finish.new.store.space.superblock.total (length c.finish.new.store.catalog.series.items) (g.P.Streams.left c.finish.new.store.space.pages) (g.P.Streams.sent c.finish.new.store.space.pages) (g.P.Streams.read_faults c.finish.new.store.space.pages) (g.P.Streams.send_faults c.finish.new.store.space.pages) (g.P.Streams.pieces c.finish.new.store.space.pages)) (record { left_is = g.met.P.PageWorld.beside_left c.next.new.from.space.pages; sent_is = g.met.P.PageWorld.beside_sent c.next.new.from.space.pages; reads_are = g.met.P.PageWorld.beside_read_faults c.next.new.from.space.pages; sends_are = g.met.P.PageWorld.beside_send_faults c.next.new.from.space.pages; pieces_are = g.met.P.PageWorld.beside_pieces c.next.new.from.space.pages }) (record { left_is = g.met.P.PageWorld.beside_left c.finish.new.store.space.pages; sent_is = g.met.P.PageWorld.beside_sent c.finish.new.store.space.pages; reads_are = g.met.P.PageWorld.beside_read_faults c.finish.new.store.space.pages; sends_are = g.met.P.PageWorld.beside_send_faults c.finish.new.store.space.pages; pieces_are = g.met.P.PageWorld.beside_pieces c.finish.new.store.space.pages }) c.finish.ensures.carries))
+returns-in-End-clause-goes g c = (goes_further (side_of g.P.Streams c.args.store.now) (side_of g.P.Streams c.next.new.from) (side_of g.P.Streams c.finish.new.store) (goes_further (side_of g.P.Streams c.args.store.now) (side_of g.P.Streams c.lines.store) (side_of g.P.Streams c.next.new.from) c.lines.invariant.goes (goes_take (side_of g.P.Streams c.lines.store) (side_of g.P.Streams c.next.new.from) (g.met.P.PageWorld.take_keeps (shown.pages c.lines.store) (shown.pages c.next.new.from) c.next.ensures.beside.pages_are) (g.met.P.PageWorld.take_told (shown.pages c.lines.store) (shown.pages c.next.new.from) c.next.ensures.beside.pages_are) (g.met.P.PageWorld.take_was_told (shown.pages c.lines.store) (shown.pages c.next.new.from) c.next.ensures.beside.pages_are) (g.met.P.PageWorld.take_goes_on (shown.pages c.lines.store) (shown.pages c.next.new.from) c.next.ensures.beside.pages_are)
+    (ap (λ (s : Superblock). s.total) c.next.ensures.beside.superblock) (ap (λ (k : Catalog). length (series_in k)) c.next.ensures.beside.catalog) c.next.ensures.sent c.next.ensures.read_faults c.next.ensures.send_faults c.next.ensures.pieces)) (goes_call (side_of g.P.Streams c.next.new.from) (side_of g.P.Streams c.finish.new.store) (record { left_is = g.met.P.PageWorld.beside_left (shown.pages c.next.new.from); sent_is = g.met.P.PageWorld.beside_sent (shown.pages c.next.new.from); reads_are = g.met.P.PageWorld.beside_read_faults (shown.pages c.next.new.from); sends_are = g.met.P.PageWorld.beside_send_faults (shown.pages c.next.new.from); pieces_are = g.met.P.PageWorld.beside_pieces (shown.pages c.next.new.from) }) (record { left_is = g.met.P.PageWorld.beside_left (shown.pages c.finish.new.store); sent_is = g.met.P.PageWorld.beside_sent (shown.pages c.finish.new.store); reads_are = g.met.P.PageWorld.beside_read_faults (shown.pages c.finish.new.store); sends_are = g.met.P.PageWorld.beside_send_faults (shown.pages c.finish.new.store); pieces_are = g.met.P.PageWorld.beside_pieces (shown.pages c.finish.new.store) }) c.finish.ensures.carries))
 
 pub returns-in-End-clause-cause : goal.returns-in-End-clause-cause
-returns-in-End-clause-cause g c = cause_so c.finish.result c.args.store.now.space.superblock.total c.next.new.from.space.superblock.total (g.P.Pages.view c.args.store.now.space.pages) (g.P.Pages.view c.next.new.from.space.pages) (g.P.Pages.view c.finish.new.store.space.pages) (g.P.Streams.read_faults c.args.store.now.space.pages) (g.P.Streams.read_faults c.finish.new.store.space.pages) (goes_further (side (g.P.Pages.told c.args.store.now.space.pages) (g.P.Pages.view c.args.store.now.space.pages) (g.P.Pages.under c.args.store.now.space.pages) c.args.store.now.space.superblock.total (length c.args.store.now.catalog.series.items) (g.P.Streams.left c.args.store.now.space.pages) (g.P.Streams.sent c.args.store.now.space.pages) (g.P.Streams.read_faults c.args.store.now.space.pages) (g.P.Streams.send_faults c.args.store.now.space.pages) (g.P.Streams.pieces c.args.store.now.space.pages)) (side (g.P.Pages.told c.lines.store.space.pages) (g.P.Pages.view c.lines.store.space.pages) (g.P.Pages.under c.lines.store.space.pages) c.lines.store.space.superblock.total (length c.lines.store.catalog.series.items) (g.P.Streams.left c.lines.store.space.pages) (g.P.Streams.sent c.lines.store.space.pages) (g.P.Streams.read_faults c.lines.store.space.pages) (g.P.Streams.send_faults c.lines.store.space.pages) (g.P.Streams.pieces c.lines.store.space.pages)) (side (g.P.Pages.told c.next.new.from.space.pages) (g.P.Pages.view c.next.new.from.space.pages) (g.P.Pages.under c.next.new.from.space.pages) c.next.new.from.space.superblock.total (length c.next.new.from.catalog.series.items) (g.P.Streams.left c.next.new.from.space.pages) (g.P.Streams.sent c.next.new.from.space.pages) (g.P.Streams.read_faults c.next.new.from.space.pages) (g.P.Streams.send_faults c.next.new.from.space.pages) (g.P.Streams.pieces c.next.new.from.space.pages)) c.lines.invariant.goes (goes_take (side (g.P.Pages.told c.lines.store.space.pages) (g.P.Pages.view c.lines.store.space.pages) (g.P.Pages.under c.lines.store.space.pages) c.lines.store.space.superblock.total (length c.lines.store.catalog.series.items) (g.P.Streams.left c.lines.store.space.pages) (g.P.Streams.sent c.lines.store.space.pages) (g.P.Streams.read_faults c.lines.store.space.pages) (g.P.Streams.send_faults c.lines.store.space.pages) (g.P.Streams.pieces c.lines.store.space.pages)) (side (g.P.Pages.told c.next.new.from.space.pages) (g.P.Pages.view c.next.new.from.space.pages) (g.P.Pages.under c.next.new.from.space.pages) c.next.new.from.space.superblock.total (length c.next.new.from.catalog.series.items) (g.P.Streams.left c.next.new.from.space.pages) (g.P.Streams.sent c.next.new.from.space.pages) (g.P.Streams.read_faults c.next.new.from.space.pages) (g.P.Streams.send_faults c.next.new.from.space.pages) (g.P.Streams.pieces c.next.new.from.space.pages)) (g.met.P.PageWorld.take_keeps c.lines.store.space.pages c.next.new.from.space.pages c.next.ensures.beside.pages_are) (g.met.P.PageWorld.take_told c.lines.store.space.pages c.next.new.from.space.pages c.next.ensures.beside.pages_are) (g.met.P.PageWorld.take_was_told c.lines.store.space.pages c.next.new.from.space.pages c.next.ensures.beside.pages_are) (g.met.P.PageWorld.take_goes_on c.lines.store.space.pages c.next.new.from.space.pages c.next.ensures.beside.pages_are)
-    (ap (λ (s : Superblock). s.total) c.next.ensures.beside.superblock) (ap (λ (k : Catalog). length k.series.items) c.next.ensures.beside.catalog) c.next.ensures.sent c.next.ensures.read_faults c.next.ensures.send_faults c.next.ensures.pieces)).faults (goes_further (side (g.P.Pages.told c.args.store.now.space.pages) (g.P.Pages.view c.args.store.now.space.pages) (g.P.Pages.under c.args.store.now.space.pages) c.args.store.now.space.superblock.total (length c.args.store.now.catalog.series.items) (g.P.Streams.left c.args.store.now.space.pages) (g.P.Streams.sent c.args.store.now.space.pages) (g.P.Streams.read_faults c.args.store.now.space.pages) (g.P.Streams.send_faults c.args.store.now.space.pages) (g.P.Streams.pieces c.args.store.now.space.pages)) (side (g.P.Pages.told c.lines.store.space.pages) (g.P.Pages.view c.lines.store.space.pages) (g.P.Pages.under c.lines.store.space.pages) c.lines.store.space.superblock.total (length c.lines.store.catalog.series.items) (g.P.Streams.left c.lines.store.space.pages) (g.P.Streams.sent c.lines.store.space.pages) (g.P.Streams.read_faults c.lines.store.space.pages) (g.P.Streams.send_faults c.lines.store.space.pages) (g.P.Streams.pieces c.lines.store.space.pages)) (side (g.P.Pages.told c.next.new.from.space.pages) (g.P.Pages.view c.next.new.from.space.pages) (g.P.Pages.under c.next.new.from.space.pages) c.next.new.from.space.superblock.total (length c.next.new.from.catalog.series.items) (g.P.Streams.left c.next.new.from.space.pages) (g.P.Streams.sent c.next.new.from.space.pages) (g.P.Streams.read_faults c.next.new.from.space.pages) (g.P.Streams.send_faults c.next.new.from.space.pages) (g.P.Streams.pieces c.next.new.from.space.pages)) c.lines.invariant.goes (goes_take (side (g.P.Pages.told c.lines.store.space.pages) (g.P.Pages.view c.lines.store.space.pages) (g.P.Pages.under c.lines.store.space.pages) c.lines.store.space.superblock.total (length c.lines.store.catalog.series.items) (g.P.Streams.left c.lines.store.space.pages) (g.P.Streams.sent c.lines.store.space.pages) (g.P.Streams.read_faults c.lines.store.space.pages) (g.P.Streams.send_faults c.lines.store.space.pages) (g.P.Streams.pieces c.lines.store.space.pages)) (side (g.P.Pages.told c.next.new.from.space.pages) (g.P.Pages.view c.next.new.from.space.pages) (g.P.Pages.under c.next.new.from.space.pages) c.next.new.from.space.superblock.total (length c.next.new.from.catalog.series.items) (g.P.Streams.left c.next.new.from.space.pages) (g.P.Streams.sent c.next.new.from.space.pages) (g.P.Streams.read_faults c.next.new.from.space.pages) (g.P.Streams.send_faults c.next.new.from.space.pages) (g.P.Streams.pieces c.next.new.from.space.pages)) (g.met.P.PageWorld.take_keeps c.lines.store.space.pages c.next.new.from.space.pages c.next.ensures.beside.pages_are) (g.met.P.PageWorld.take_told c.lines.store.space.pages c.next.new.from.space.pages c.next.ensures.beside.pages_are) (g.met.P.PageWorld.take_was_told c.lines.store.space.pages c.next.new.from.space.pages c.next.ensures.beside.pages_are) (g.met.P.PageWorld.take_goes_on c.lines.store.space.pages c.next.new.from.space.pages c.next.ensures.beside.pages_are)
-    (ap (λ (s : Superblock). s.total) c.next.ensures.beside.superblock) (ap (λ (k : Catalog). length k.series.items) c.next.ensures.beside.catalog) c.next.ensures.sent c.next.ensures.read_faults c.next.ensures.send_faults c.next.ensures.pieces)).total_is c.finish.ensures.cause
+returns-in-End-clause-cause g c = cause_so c.finish.result (shown.total c.args.store.now) (shown.total c.next.new.from) (shown.view c.args.store.now) (shown.view c.next.new.from) (shown.view c.finish.new.store) (g.P.Streams.read_faults (shown.pages c.args.store.now)) (g.P.Streams.read_faults (shown.pages c.finish.new.store)) (goes_further (side_of g.P.Streams c.args.store.now) (side_of g.P.Streams c.lines.store) (side_of g.P.Streams c.next.new.from) c.lines.invariant.goes (goes_take (side_of g.P.Streams c.lines.store) (side_of g.P.Streams c.next.new.from) (g.met.P.PageWorld.take_keeps (shown.pages c.lines.store) (shown.pages c.next.new.from) c.next.ensures.beside.pages_are) (g.met.P.PageWorld.take_told (shown.pages c.lines.store) (shown.pages c.next.new.from) c.next.ensures.beside.pages_are) (g.met.P.PageWorld.take_was_told (shown.pages c.lines.store) (shown.pages c.next.new.from) c.next.ensures.beside.pages_are) (g.met.P.PageWorld.take_goes_on (shown.pages c.lines.store) (shown.pages c.next.new.from) c.next.ensures.beside.pages_are)
+    (ap (λ (s : Superblock). s.total) c.next.ensures.beside.superblock) (ap (λ (k : Catalog). length (series_in k)) c.next.ensures.beside.catalog) c.next.ensures.sent c.next.ensures.read_faults c.next.ensures.send_faults c.next.ensures.pieces)).faults (goes_further (side_of g.P.Streams c.args.store.now) (side_of g.P.Streams c.lines.store) (side_of g.P.Streams c.next.new.from) c.lines.invariant.goes (goes_take (side_of g.P.Streams c.lines.store) (side_of g.P.Streams c.next.new.from) (g.met.P.PageWorld.take_keeps (shown.pages c.lines.store) (shown.pages c.next.new.from) c.next.ensures.beside.pages_are) (g.met.P.PageWorld.take_told (shown.pages c.lines.store) (shown.pages c.next.new.from) c.next.ensures.beside.pages_are) (g.met.P.PageWorld.take_was_told (shown.pages c.lines.store) (shown.pages c.next.new.from) c.next.ensures.beside.pages_are) (g.met.P.PageWorld.take_goes_on (shown.pages c.lines.store) (shown.pages c.next.new.from) c.next.ensures.beside.pages_are)
+    (ap (λ (s : Superblock). s.total) c.next.ensures.beside.superblock) (ap (λ (k : Catalog). length (series_in k)) c.next.ensures.beside.catalog) c.next.ensures.sent c.next.ensures.read_faults c.next.ensures.send_faults c.next.ensures.pieces)).total_is c.finish.ensures.cause
 
 pub returns-in-End-clause-sound : goal.returns-in-End-clause-sound
 returns-in-End-clause-sound g c = c.finish.ensures.sound
@@ -96,19 +99,19 @@ pub returns-in-End-clause-sound_for : goal.returns-in-End-clause-sound_for
 returns-in-End-clause-sound_for g c = c.finish.ensures.sound_for
 
 pub stop-requires : goal.stop-requires
-stop-requires g c = record { sound = ((g.met.P.PageWorld.take_keeps c.lines.store.space.pages c.next.new.from.space.pages c.next.ensures.beside.pages_are).fit c.lines.invariant.sound) }
+stop-requires g c = record { sound = ((g.met.P.PageWorld.take_keeps (shown.pages c.lines.store) (shown.pages c.next.new.from) c.next.ensures.beside.pages_are).fit c.lines.invariant.sound) }
 
 pub returns-in-TooLong-clause-known : goal.returns-in-TooLong-clause-known
-returns-in-TooLong-clause-known g c = known_so {T = ℕ} (Err c.stop.result) c.next.new.from.space.superblock.total (g.P.Pages.view c.next.new.from.space.pages) (g.P.Pages.view c.stop.new.store.space.pages) c.stop.ensures.cause
+returns-in-TooLong-clause-known g c = known_so {T = ℕ} (Err c.stop.result) (shown.total c.next.new.from) (shown.view c.next.new.from) (shown.view c.stop.new.store) c.stop.ensures.cause
 
 pub returns-in-TooLong-clause-outcome : goal.returns-in-TooLong-clause-outcome
 returns-in-TooLong-clause-outcome g c = λ total book series told stands step scale.
     let was = c.lines.invariant.going total book series told stands step scale in
-    let going = going_taken total c.args.loader.now.name book series (g.P.Streams.left c.args.store.now.space.pages) (unread c.lines.lines (g.P.Streams.left c.lines.store.space.pages)) c.lines.lines.given c.lines.loader (g.P.Pages.view c.args.store.now.space.pages) (g.P.Pages.view c.lines.store.space.pages) (g.P.Pages.view c.next.new.from.space.pages) (g.met.P.Pages.rests c.lines.store.space.pages c.lines.invariant.sound) (g.met.P.PageWorld.take_keeps c.lines.store.space.pages c.next.new.from.space.pages c.next.ensures.beside.pages_are).image (g.met.P.PageWorld.take_passes c.lines.store.space.pages c.next.new.from.space.pages c.next.ensures.beside.pages_are) was in
-    let says = (goes_further (side (g.P.Pages.told c.args.store.now.space.pages) (g.P.Pages.view c.args.store.now.space.pages) (g.P.Pages.under c.args.store.now.space.pages) c.args.store.now.space.superblock.total (length c.args.store.now.catalog.series.items) (g.P.Streams.left c.args.store.now.space.pages) (g.P.Streams.sent c.args.store.now.space.pages) (g.P.Streams.read_faults c.args.store.now.space.pages) (g.P.Streams.send_faults c.args.store.now.space.pages) (g.P.Streams.pieces c.args.store.now.space.pages)) (side (g.P.Pages.told c.lines.store.space.pages) (g.P.Pages.view c.lines.store.space.pages) (g.P.Pages.under c.lines.store.space.pages) c.lines.store.space.superblock.total (length c.lines.store.catalog.series.items) (g.P.Streams.left c.lines.store.space.pages) (g.P.Streams.sent c.lines.store.space.pages) (g.P.Streams.read_faults c.lines.store.space.pages) (g.P.Streams.send_faults c.lines.store.space.pages) (g.P.Streams.pieces c.lines.store.space.pages)) (side (g.P.Pages.told c.next.new.from.space.pages) (g.P.Pages.view c.next.new.from.space.pages) (g.P.Pages.under c.next.new.from.space.pages) c.next.new.from.space.superblock.total (length c.next.new.from.catalog.series.items) (g.P.Streams.left c.next.new.from.space.pages) (g.P.Streams.sent c.next.new.from.space.pages) (g.P.Streams.read_faults c.next.new.from.space.pages) (g.P.Streams.send_faults c.next.new.from.space.pages) (g.P.Streams.pieces c.next.new.from.space.pages)) c.lines.invariant.goes (goes_take (side (g.P.Pages.told c.lines.store.space.pages) (g.P.Pages.view c.lines.store.space.pages) (g.P.Pages.under c.lines.store.space.pages) c.lines.store.space.superblock.total (length c.lines.store.catalog.series.items) (g.P.Streams.left c.lines.store.space.pages) (g.P.Streams.sent c.lines.store.space.pages) (g.P.Streams.read_faults c.lines.store.space.pages) (g.P.Streams.send_faults c.lines.store.space.pages) (g.P.Streams.pieces c.lines.store.space.pages)) (side (g.P.Pages.told c.next.new.from.space.pages) (g.P.Pages.view c.next.new.from.space.pages) (g.P.Pages.under c.next.new.from.space.pages) c.next.new.from.space.superblock.total (length c.next.new.from.catalog.series.items) (g.P.Streams.left c.next.new.from.space.pages) (g.P.Streams.sent c.next.new.from.space.pages) (g.P.Streams.read_faults c.next.new.from.space.pages) (g.P.Streams.send_faults c.next.new.from.space.pages) (g.P.Streams.pieces c.next.new.from.space.pages)) (g.met.P.PageWorld.take_keeps c.lines.store.space.pages c.next.new.from.space.pages c.next.ensures.beside.pages_are) (g.met.P.PageWorld.take_told c.lines.store.space.pages c.next.new.from.space.pages c.next.ensures.beside.pages_are) (g.met.P.PageWorld.take_was_told c.lines.store.space.pages c.next.new.from.space.pages c.next.ensures.beside.pages_are) (g.met.P.PageWorld.take_goes_on c.lines.store.space.pages c.next.new.from.space.pages c.next.ensures.beside.pages_are)
-    (ap (λ (s : Superblock). s.total) c.next.ensures.beside.superblock) (ap (λ (k : Catalog). length k.series.items) c.next.ensures.beside.catalog) c.next.ensures.sent c.next.ensures.read_faults c.next.ensures.send_faults c.next.ensures.pieces)).is_told told in
+    let going = going_taken total c.args.loader.now.name book series (g.P.Streams.left (shown.pages c.args.store.now)) (unread c.lines.lines (g.P.Streams.left (shown.pages c.lines.store))) c.lines.lines.given c.lines.loader (shown.view c.args.store.now) (shown.view c.lines.store) (shown.view c.next.new.from) (g.met.P.Pages.rests (shown.pages c.lines.store) c.lines.invariant.sound) (g.met.P.PageWorld.take_keeps (shown.pages c.lines.store) (shown.pages c.next.new.from) c.next.ensures.beside.pages_are).image (g.met.P.PageWorld.take_passes (shown.pages c.lines.store) (shown.pages c.next.new.from) c.next.ensures.beside.pages_are) was in
+    let says = (goes_further (side_of g.P.Streams c.args.store.now) (side_of g.P.Streams c.lines.store) (side_of g.P.Streams c.next.new.from) c.lines.invariant.goes (goes_take (side_of g.P.Streams c.lines.store) (side_of g.P.Streams c.next.new.from) (g.met.P.PageWorld.take_keeps (shown.pages c.lines.store) (shown.pages c.next.new.from) c.next.ensures.beside.pages_are) (g.met.P.PageWorld.take_told (shown.pages c.lines.store) (shown.pages c.next.new.from) c.next.ensures.beside.pages_are) (g.met.P.PageWorld.take_was_told (shown.pages c.lines.store) (shown.pages c.next.new.from) c.next.ensures.beside.pages_are) (g.met.P.PageWorld.take_goes_on (shown.pages c.lines.store) (shown.pages c.next.new.from) c.next.ensures.beside.pages_are)
+    (ap (λ (s : Superblock). s.total) c.next.ensures.beside.superblock) (ap (λ (k : Catalog). length (series_in k)) c.next.ensures.beside.catalog) c.next.ensures.sent c.next.ensures.read_faults c.next.ensures.send_faults c.next.ensures.pieces)).is_told told in
     let p = going.progress in
-    let gives : Gives c.lines.lines c.next.new.self (g.P.Streams.left c.lines.store.space.pages) (g.P.Streams.left c.next.new.from.space.pages) None = record {
+    let gives : Gives c.lines.lines c.next.new.self (g.P.Streams.left (shown.pages c.lines.store)) (g.P.Streams.left (shown.pages c.next.new.from)) None = record {
       first = c.in_ok-next.ensures.too_long (ap Ok c.in-TooLong.is);
       rest = c.in_ok-next.ensures.rest;
       counted = c.lines.invariant.counted;
@@ -116,23 +119,23 @@ returns-in-TooLong-clause-outcome g c = λ total book series told stands step sc
       total = c.next.ensures.total;
     } in
     let place : c.offset_of.result ≡ c.lines.lines.given = c.offset_of.ensures ∙ c.in_ok-next.ensures.offset_too_long (ap Ok c.in-TooLong.is) in
-    long_ends total c.args.loader.now.name book series (g.P.Streams.left c.args.store.now.space.pages) c.lines.lines c.next.new.self (g.P.Streams.left c.lines.store.space.pages) (g.P.Streams.left c.next.new.from.space.pages) (g.P.Streams.left c.stop.new.store.space.pages) c.offset_of.result c.lines.loader c.stop.new.self.run c.stop.result (g.P.Pages.view c.args.store.now.space.pages) (g.P.Pages.view c.next.new.from.space.pages) (g.P.Pages.view c.stop.new.store.space.pages) gives place going
+    long_ends total c.args.loader.now.name book series (g.P.Streams.left (shown.pages c.args.store.now)) c.lines.lines c.next.new.self (g.P.Streams.left (shown.pages c.lines.store)) (g.P.Streams.left (shown.pages c.next.new.from)) (g.P.Streams.left (shown.pages c.stop.new.store)) c.offset_of.result c.lines.loader c.stop.new.self.run c.stop.result (shown.view c.args.store.now) (shown.view c.next.new.from) (shown.view c.stop.new.store) gives place going
     (c.stop.ensures.does total p.now p.open_run says p.stands p.keeps)
 
 pub returns-in-TooLong-clause-goes : goal.returns-in-TooLong-clause-goes
-returns-in-TooLong-clause-goes g c = (goes_further (side (g.P.Pages.told c.args.store.now.space.pages) (g.P.Pages.view c.args.store.now.space.pages) (g.P.Pages.under c.args.store.now.space.pages) c.args.store.now.space.superblock.total (length c.args.store.now.catalog.series.items) (g.P.Streams.left c.args.store.now.space.pages) (g.P.Streams.sent c.args.store.now.space.pages) (g.P.Streams.read_faults c.args.store.now.space.pages) (g.P.Streams.send_faults c.args.store.now.space.pages) (g.P.Streams.pieces c.args.store.now.space.pages)) (side (g.P.Pages.told c.next.new.from.space.pages) (g.P.Pages.view c.next.new.from.space.pages) (g.P.Pages.under c.next.new.from.space.pages) c.next.new.from.space.superblock.total (length c.next.new.from.catalog.series.items) (g.P.Streams.left c.next.new.from.space.pages) (g.P.Streams.sent c.next.new.from.space.pages) (g.P.Streams.read_faults c.next.new.from.space.pages) (g.P.Streams.send_faults c.next.new.from.space.pages) (g.P.Streams.pieces c.next.new.from.space.pages)) (side (g.P.Pages.told c.stop.new.store.space.pages) (g.P.Pages.view c.stop.new.store.space.pages) (g.P.Pages.under c.stop.new.store.space.pages) c.stop.new.store.space.superblock.total (length c.stop.new.store.catalog.series.items) (g.P.Streams.left c.stop.new.store.space.pages) (g.P.Streams.sent c.stop.new.store.space.pages) (g.P.Streams.read_faults c.stop.new.store.space.pages) (g.P.Streams.send_faults c.stop.new.store.space.pages) (g.P.Streams.pieces c.stop.new.store.space.pages)) (goes_further (side (g.P.Pages.told c.args.store.now.space.pages) (g.P.Pages.view c.args.store.now.space.pages) (g.P.Pages.under c.args.store.now.space.pages) c.args.store.now.space.superblock.total (length c.args.store.now.catalog.series.items) (g.P.Streams.left c.args.store.now.space.pages) (g.P.Streams.sent c.args.store.now.space.pages) (g.P.Streams.read_faults c.args.store.now.space.pages) (g.P.Streams.send_faults c.args.store.now.space.pages) (g.P.Streams.pieces c.args.store.now.space.pages)) (side (g.P.Pages.told c.lines.store.space.pages) (g.P.Pages.view c.lines.store.space.pages) (g.P.Pages.under c.lines.store.space.pages) c.lines.store.space.superblock.total (length c.lines.store.catalog.series.items) (g.P.Streams.left c.lines.store.space.pages) (g.P.Streams.sent c.lines.store.space.pages) (g.P.Streams.read_faults c.lines.store.space.pages) (g.P.Streams.send_faults c.lines.store.space.pages) (g.P.Streams.pieces c.lines.store.space.pages)) (side (g.P.Pages.told c.next.new.from.space.pages) (g.P.Pages.view c.next.new.from.space.pages) (g.P.Pages.under c.next.new.from.space.pages) c.next.new.from.space.superblock.total (length c.next.new.from.catalog.series.items) (g.P.Streams.left c.next.new.from.space.pages) (g.P.Streams.sent c.next.new.from.space.pages) (g.P.Streams.read_faults c.next.new.from.space.pages) (g.P.Streams.send_faults c.next.new.from.space.pages) (g.P.Streams.pieces c.next.new.from.space.pages)) c.lines.invariant.goes (goes_take (side (g.P.Pages.told c.lines.store.space.pages) (g.P.Pages.view c.lines.store.space.pages) (g.P.Pages.under c.lines.store.space.pages) c.lines.store.space.superblock.total (length c.lines.store.catalog.series.items) (g.P.Streams.left c.lines.store.space.pages) (g.P.Streams.sent c.lines.store.space.pages) (g.P.Streams.read_faults c.lines.store.space.pages) (g.P.Streams.send_faults c.lines.store.space.pages) (g.P.Streams.pieces c.lines.store.space.pages)) (side (g.P.Pages.told c.next.new.from.space.pages) (g.P.Pages.view c.next.new.from.space.pages) (g.P.Pages.under c.next.new.from.space.pages) c.next.new.from.space.superblock.total (length c.next.new.from.catalog.series.items) (g.P.Streams.left c.next.new.from.space.pages) (g.P.Streams.sent c.next.new.from.space.pages) (g.P.Streams.read_faults c.next.new.from.space.pages) (g.P.Streams.send_faults c.next.new.from.space.pages) (g.P.Streams.pieces c.next.new.from.space.pages)) (g.met.P.PageWorld.take_keeps c.lines.store.space.pages c.next.new.from.space.pages c.next.ensures.beside.pages_are) (g.met.P.PageWorld.take_told c.lines.store.space.pages c.next.new.from.space.pages c.next.ensures.beside.pages_are) (g.met.P.PageWorld.take_was_told c.lines.store.space.pages c.next.new.from.space.pages c.next.ensures.beside.pages_are) (g.met.P.PageWorld.take_goes_on c.lines.store.space.pages c.next.new.from.space.pages c.next.ensures.beside.pages_are)
-    (ap (λ (s : Superblock). s.total) c.next.ensures.beside.superblock) (ap (λ (k : Catalog). length k.series.items) c.next.ensures.beside.catalog) c.next.ensures.sent c.next.ensures.read_faults c.next.ensures.send_faults c.next.ensures.pieces)) (goes_call (side (g.P.Pages.told c.next.new.from.space.pages) (g.P.Pages.view c.next.new.from.space.pages) (g.P.Pages.under c.next.new.from.space.pages) c.next.new.from.space.superblock.total (length c.next.new.from.catalog.series.items) (g.P.Streams.left c.next.new.from.space.pages) (g.P.Streams.sent c.next.new.from.space.pages) (g.P.Streams.read_faults c.next.new.from.space.pages) (g.P.Streams.send_faults c.next.new.from.space.pages) (g.P.Streams.pieces c.next.new.from.space.pages)) (side (g.P.Pages.told c.stop.new.store.space.pages) (g.P.Pages.view c.stop.new.store.space.pages) (g.P.Pages.under c.stop.new.store.space.pages) c.stop.new.store.space.superblock.total (length c.stop.new.store.catalog.series.items) (g.P.Streams.left c.stop.new.store.space.pages) (g.P.Streams.sent c.stop.new.store.space.pages) (g.P.Streams.read_faults c.stop.new.store.space.pages) (g.P.Streams.send_faults c.stop.new.store.space.pages) (g.P.Streams.pieces c.stop.new.store.space.pages)) (record { left_is = g.met.P.PageWorld.beside_left c.next.new.from.space.pages; sent_is = g.met.P.PageWorld.beside_sent c.next.new.from.space.pages; reads_are = g.met.P.PageWorld.beside_read_faults c.next.new.from.space.pages; sends_are = g.met.P.PageWorld.beside_send_faults c.next.new.from.space.pages; pieces_are = g.met.P.PageWorld.beside_pieces c.next.new.from.space.pages }) (record { left_is = g.met.P.PageWorld.beside_left c.stop.new.store.space.pages; sent_is = g.met.P.PageWorld.beside_sent c.stop.new.store.space.pages; reads_are = g.met.P.PageWorld.beside_read_faults c.stop.new.store.space.pages; sends_are = g.met.P.PageWorld.beside_send_faults c.stop.new.store.space.pages; pieces_are = g.met.P.PageWorld.beside_pieces c.stop.new.store.space.pages }) c.stop.ensures.carries))
+returns-in-TooLong-clause-goes g c = (goes_further (side_of g.P.Streams c.args.store.now) (side_of g.P.Streams c.next.new.from) (side_of g.P.Streams c.stop.new.store) (goes_further (side_of g.P.Streams c.args.store.now) (side_of g.P.Streams c.lines.store) (side_of g.P.Streams c.next.new.from) c.lines.invariant.goes (goes_take (side_of g.P.Streams c.lines.store) (side_of g.P.Streams c.next.new.from) (g.met.P.PageWorld.take_keeps (shown.pages c.lines.store) (shown.pages c.next.new.from) c.next.ensures.beside.pages_are) (g.met.P.PageWorld.take_told (shown.pages c.lines.store) (shown.pages c.next.new.from) c.next.ensures.beside.pages_are) (g.met.P.PageWorld.take_was_told (shown.pages c.lines.store) (shown.pages c.next.new.from) c.next.ensures.beside.pages_are) (g.met.P.PageWorld.take_goes_on (shown.pages c.lines.store) (shown.pages c.next.new.from) c.next.ensures.beside.pages_are)
+    (ap (λ (s : Superblock). s.total) c.next.ensures.beside.superblock) (ap (λ (k : Catalog). length (series_in k)) c.next.ensures.beside.catalog) c.next.ensures.sent c.next.ensures.read_faults c.next.ensures.send_faults c.next.ensures.pieces)) (goes_call (side_of g.P.Streams c.next.new.from) (side_of g.P.Streams c.stop.new.store) (record { left_is = g.met.P.PageWorld.beside_left (shown.pages c.next.new.from); sent_is = g.met.P.PageWorld.beside_sent (shown.pages c.next.new.from); reads_are = g.met.P.PageWorld.beside_read_faults (shown.pages c.next.new.from); sends_are = g.met.P.PageWorld.beside_send_faults (shown.pages c.next.new.from); pieces_are = g.met.P.PageWorld.beside_pieces (shown.pages c.next.new.from) }) (record { left_is = g.met.P.PageWorld.beside_left (shown.pages c.stop.new.store); sent_is = g.met.P.PageWorld.beside_sent (shown.pages c.stop.new.store); reads_are = g.met.P.PageWorld.beside_read_faults (shown.pages c.stop.new.store); sends_are = g.met.P.PageWorld.beside_send_faults (shown.pages c.stop.new.store); pieces_are = g.met.P.PageWorld.beside_pieces (shown.pages c.stop.new.store) }) c.stop.ensures.carries))
 
 pub returns-in-TooLong-clause-cause : goal.returns-in-TooLong-clause-cause
-returns-in-TooLong-clause-cause g c = cause_so {T = ℕ} (Err c.stop.result) c.args.store.now.space.superblock.total c.next.new.from.space.superblock.total (g.P.Pages.view c.args.store.now.space.pages) (g.P.Pages.view c.next.new.from.space.pages) (g.P.Pages.view c.stop.new.store.space.pages) (g.P.Streams.read_faults c.args.store.now.space.pages) (g.P.Streams.read_faults c.stop.new.store.space.pages) (goes_further (side (g.P.Pages.told c.args.store.now.space.pages) (g.P.Pages.view c.args.store.now.space.pages) (g.P.Pages.under c.args.store.now.space.pages) c.args.store.now.space.superblock.total (length c.args.store.now.catalog.series.items) (g.P.Streams.left c.args.store.now.space.pages) (g.P.Streams.sent c.args.store.now.space.pages) (g.P.Streams.read_faults c.args.store.now.space.pages) (g.P.Streams.send_faults c.args.store.now.space.pages) (g.P.Streams.pieces c.args.store.now.space.pages)) (side (g.P.Pages.told c.lines.store.space.pages) (g.P.Pages.view c.lines.store.space.pages) (g.P.Pages.under c.lines.store.space.pages) c.lines.store.space.superblock.total (length c.lines.store.catalog.series.items) (g.P.Streams.left c.lines.store.space.pages) (g.P.Streams.sent c.lines.store.space.pages) (g.P.Streams.read_faults c.lines.store.space.pages) (g.P.Streams.send_faults c.lines.store.space.pages) (g.P.Streams.pieces c.lines.store.space.pages)) (side (g.P.Pages.told c.next.new.from.space.pages) (g.P.Pages.view c.next.new.from.space.pages) (g.P.Pages.under c.next.new.from.space.pages) c.next.new.from.space.superblock.total (length c.next.new.from.catalog.series.items) (g.P.Streams.left c.next.new.from.space.pages) (g.P.Streams.sent c.next.new.from.space.pages) (g.P.Streams.read_faults c.next.new.from.space.pages) (g.P.Streams.send_faults c.next.new.from.space.pages) (g.P.Streams.pieces c.next.new.from.space.pages)) c.lines.invariant.goes (goes_take (side (g.P.Pages.told c.lines.store.space.pages) (g.P.Pages.view c.lines.store.space.pages) (g.P.Pages.under c.lines.store.space.pages) c.lines.store.space.superblock.total (length c.lines.store.catalog.series.items) (g.P.Streams.left c.lines.store.space.pages) (g.P.Streams.sent c.lines.store.space.pages) (g.P.Streams.read_faults c.lines.store.space.pages) (g.P.Streams.send_faults c.lines.store.space.pages) (g.P.Streams.pieces c.lines.store.space.pages)) (side (g.P.Pages.told c.next.new.from.space.pages) (g.P.Pages.view c.next.new.from.space.pages) (g.P.Pages.under c.next.new.from.space.pages) c.next.new.from.space.superblock.total (length c.next.new.from.catalog.series.items) (g.P.Streams.left c.next.new.from.space.pages) (g.P.Streams.sent c.next.new.from.space.pages) (g.P.Streams.read_faults c.next.new.from.space.pages) (g.P.Streams.send_faults c.next.new.from.space.pages) (g.P.Streams.pieces c.next.new.from.space.pages)) (g.met.P.PageWorld.take_keeps c.lines.store.space.pages c.next.new.from.space.pages c.next.ensures.beside.pages_are) (g.met.P.PageWorld.take_told c.lines.store.space.pages c.next.new.from.space.pages c.next.ensures.beside.pages_are) (g.met.P.PageWorld.take_was_told c.lines.store.space.pages c.next.new.from.space.pages c.next.ensures.beside.pages_are) (g.met.P.PageWorld.take_goes_on c.lines.store.space.pages c.next.new.from.space.pages c.next.ensures.beside.pages_are)
-    (ap (λ (s : Superblock). s.total) c.next.ensures.beside.superblock) (ap (λ (k : Catalog). length k.series.items) c.next.ensures.beside.catalog) c.next.ensures.sent c.next.ensures.read_faults c.next.ensures.send_faults c.next.ensures.pieces)).faults (goes_further (side (g.P.Pages.told c.args.store.now.space.pages) (g.P.Pages.view c.args.store.now.space.pages) (g.P.Pages.under c.args.store.now.space.pages) c.args.store.now.space.superblock.total (length c.args.store.now.catalog.series.items) (g.P.Streams.left c.args.store.now.space.pages) (g.P.Streams.sent c.args.store.now.space.pages) (g.P.Streams.read_faults c.args.store.now.space.pages) (g.P.Streams.send_faults c.args.store.now.space.pages) (g.P.Streams.pieces c.args.store.now.space.pages)) (side (g.P.Pages.told c.lines.store.space.pages) (g.P.Pages.view c.lines.store.space.pages) (g.P.Pages.under c.lines.store.space.pages) c.lines.store.space.superblock.total (length c.lines.store.catalog.series.items) (g.P.Streams.left c.lines.store.space.pages) (g.P.Streams.sent c.lines.store.space.pages) (g.P.Streams.read_faults c.lines.store.space.pages) (g.P.Streams.send_faults c.lines.store.space.pages) (g.P.Streams.pieces c.lines.store.space.pages)) (side (g.P.Pages.told c.next.new.from.space.pages) (g.P.Pages.view c.next.new.from.space.pages) (g.P.Pages.under c.next.new.from.space.pages) c.next.new.from.space.superblock.total (length c.next.new.from.catalog.series.items) (g.P.Streams.left c.next.new.from.space.pages) (g.P.Streams.sent c.next.new.from.space.pages) (g.P.Streams.read_faults c.next.new.from.space.pages) (g.P.Streams.send_faults c.next.new.from.space.pages) (g.P.Streams.pieces c.next.new.from.space.pages)) c.lines.invariant.goes (goes_take (side (g.P.Pages.told c.lines.store.space.pages) (g.P.Pages.view c.lines.store.space.pages) (g.P.Pages.under c.lines.store.space.pages) c.lines.store.space.superblock.total (length c.lines.store.catalog.series.items) (g.P.Streams.left c.lines.store.space.pages) (g.P.Streams.sent c.lines.store.space.pages) (g.P.Streams.read_faults c.lines.store.space.pages) (g.P.Streams.send_faults c.lines.store.space.pages) (g.P.Streams.pieces c.lines.store.space.pages)) (side (g.P.Pages.told c.next.new.from.space.pages) (g.P.Pages.view c.next.new.from.space.pages) (g.P.Pages.under c.next.new.from.space.pages) c.next.new.from.space.superblock.total (length c.next.new.from.catalog.series.items) (g.P.Streams.left c.next.new.from.space.pages) (g.P.Streams.sent c.next.new.from.space.pages) (g.P.Streams.read_faults c.next.new.from.space.pages) (g.P.Streams.send_faults c.next.new.from.space.pages) (g.P.Streams.pieces c.next.new.from.space.pages)) (g.met.P.PageWorld.take_keeps c.lines.store.space.pages c.next.new.from.space.pages c.next.ensures.beside.pages_are) (g.met.P.PageWorld.take_told c.lines.store.space.pages c.next.new.from.space.pages c.next.ensures.beside.pages_are) (g.met.P.PageWorld.take_was_told c.lines.store.space.pages c.next.new.from.space.pages c.next.ensures.beside.pages_are) (g.met.P.PageWorld.take_goes_on c.lines.store.space.pages c.next.new.from.space.pages c.next.ensures.beside.pages_are)
-    (ap (λ (s : Superblock). s.total) c.next.ensures.beside.superblock) (ap (λ (k : Catalog). length k.series.items) c.next.ensures.beside.catalog) c.next.ensures.sent c.next.ensures.read_faults c.next.ensures.send_faults c.next.ensures.pieces)).total_is c.stop.ensures.cause
+returns-in-TooLong-clause-cause g c = cause_so {T = ℕ} (Err c.stop.result) (shown.total c.args.store.now) (shown.total c.next.new.from) (shown.view c.args.store.now) (shown.view c.next.new.from) (shown.view c.stop.new.store) (g.P.Streams.read_faults (shown.pages c.args.store.now)) (g.P.Streams.read_faults (shown.pages c.stop.new.store)) (goes_further (side_of g.P.Streams c.args.store.now) (side_of g.P.Streams c.lines.store) (side_of g.P.Streams c.next.new.from) c.lines.invariant.goes (goes_take (side_of g.P.Streams c.lines.store) (side_of g.P.Streams c.next.new.from) (g.met.P.PageWorld.take_keeps (shown.pages c.lines.store) (shown.pages c.next.new.from) c.next.ensures.beside.pages_are) (g.met.P.PageWorld.take_told (shown.pages c.lines.store) (shown.pages c.next.new.from) c.next.ensures.beside.pages_are) (g.met.P.PageWorld.take_was_told (shown.pages c.lines.store) (shown.pages c.next.new.from) c.next.ensures.beside.pages_are) (g.met.P.PageWorld.take_goes_on (shown.pages c.lines.store) (shown.pages c.next.new.from) c.next.ensures.beside.pages_are)
+    (ap (λ (s : Superblock). s.total) c.next.ensures.beside.superblock) (ap (λ (k : Catalog). length (series_in k)) c.next.ensures.beside.catalog) c.next.ensures.sent c.next.ensures.read_faults c.next.ensures.send_faults c.next.ensures.pieces)).faults (goes_further (side_of g.P.Streams c.args.store.now) (side_of g.P.Streams c.lines.store) (side_of g.P.Streams c.next.new.from) c.lines.invariant.goes (goes_take (side_of g.P.Streams c.lines.store) (side_of g.P.Streams c.next.new.from) (g.met.P.PageWorld.take_keeps (shown.pages c.lines.store) (shown.pages c.next.new.from) c.next.ensures.beside.pages_are) (g.met.P.PageWorld.take_told (shown.pages c.lines.store) (shown.pages c.next.new.from) c.next.ensures.beside.pages_are) (g.met.P.PageWorld.take_was_told (shown.pages c.lines.store) (shown.pages c.next.new.from) c.next.ensures.beside.pages_are) (g.met.P.PageWorld.take_goes_on (shown.pages c.lines.store) (shown.pages c.next.new.from) c.next.ensures.beside.pages_are)
+    (ap (λ (s : Superblock). s.total) c.next.ensures.beside.superblock) (ap (λ (k : Catalog). length (series_in k)) c.next.ensures.beside.catalog) c.next.ensures.sent c.next.ensures.read_faults c.next.ensures.send_faults c.next.ensures.pieces)).total_is c.stop.ensures.cause
 
 pub returns-in-TooLong-clause-sound_for : goal.returns-in-TooLong-clause-sound_for
 returns-in-TooLong-clause-sound_for g c = c.stop.ensures.sound_for
 
 pub take_line-requires-clause-sound : goal.take_line-requires-clause-sound
-take_line-requires-clause-sound g c = ((g.met.P.PageWorld.take_keeps c.lines.store.space.pages c.next.new.from.space.pages c.next.ensures.beside.pages_are).fit c.lines.invariant.sound)
+take_line-requires-clause-sound g c = ((g.met.P.PageWorld.take_keeps (shown.pages c.lines.store) (shown.pages c.next.new.from) c.next.ensures.beside.pages_are).fit c.lines.invariant.sound)
 
 pub take_line-requires-clause-few : goal.take_line-requires-clause-few
 take_line-requires-clause-few g c = omega (arith, c.lines.invariant.points, c.lines.invariant.within)
@@ -147,42 +150,42 @@ lines-preserved g c = record {
   within = c.in_ok-next.ensures.within;
   points = omega (arith, c.take_line.ensures.more, c.lines.invariant.points, c.in_ok-next.ensures.passes (ap Ok c.in-Line.is));
   sound = c.in_ok-take_line-in-Line.ensures.sound;
-  length_is = ap (input_length c.next.new.self.taken) (call_left (side (g.P.Pages.told c.next.new.from.space.pages) (g.P.Pages.view c.next.new.from.space.pages) (g.P.Pages.under c.next.new.from.space.pages) c.next.new.from.space.superblock.total (length c.next.new.from.catalog.series.items) (g.P.Streams.left c.next.new.from.space.pages) (g.P.Streams.sent c.next.new.from.space.pages) (g.P.Streams.read_faults c.next.new.from.space.pages) (g.P.Streams.send_faults c.next.new.from.space.pages) (g.P.Streams.pieces c.next.new.from.space.pages)) (side (g.P.Pages.told c.take_line.new.store.space.pages) (g.P.Pages.view c.take_line.new.store.space.pages) (g.P.Pages.under c.take_line.new.store.space.pages) c.take_line.new.store.space.superblock.total (length c.take_line.new.store.catalog.series.items) (g.P.Streams.left c.take_line.new.store.space.pages) (g.P.Streams.sent c.take_line.new.store.space.pages) (g.P.Streams.read_faults c.take_line.new.store.space.pages) (g.P.Streams.send_faults c.take_line.new.store.space.pages) (g.P.Streams.pieces c.take_line.new.store.space.pages)) (record { left_is = g.met.P.PageWorld.beside_left c.next.new.from.space.pages; sent_is = g.met.P.PageWorld.beside_sent c.next.new.from.space.pages; reads_are = g.met.P.PageWorld.beside_read_faults c.next.new.from.space.pages; sends_are = g.met.P.PageWorld.beside_send_faults c.next.new.from.space.pages; pieces_are = g.met.P.PageWorld.beside_pieces c.next.new.from.space.pages }) (record { left_is = g.met.P.PageWorld.beside_left c.take_line.new.store.space.pages; sent_is = g.met.P.PageWorld.beside_sent c.take_line.new.store.space.pages; reads_are = g.met.P.PageWorld.beside_read_faults c.take_line.new.store.space.pages; sends_are = g.met.P.PageWorld.beside_send_faults c.take_line.new.store.space.pages; pieces_are = g.met.P.PageWorld.beside_pieces c.take_line.new.store.space.pages }) c.take_line.ensures.carries) ∙ c.next.ensures.total ∙ c.lines.invariant.length_is;
-  goes = (goes_further (side (g.P.Pages.told c.args.store.now.space.pages) (g.P.Pages.view c.args.store.now.space.pages) (g.P.Pages.under c.args.store.now.space.pages) c.args.store.now.space.superblock.total (length c.args.store.now.catalog.series.items) (g.P.Streams.left c.args.store.now.space.pages) (g.P.Streams.sent c.args.store.now.space.pages) (g.P.Streams.read_faults c.args.store.now.space.pages) (g.P.Streams.send_faults c.args.store.now.space.pages) (g.P.Streams.pieces c.args.store.now.space.pages)) (side (g.P.Pages.told c.next.new.from.space.pages) (g.P.Pages.view c.next.new.from.space.pages) (g.P.Pages.under c.next.new.from.space.pages) c.next.new.from.space.superblock.total (length c.next.new.from.catalog.series.items) (g.P.Streams.left c.next.new.from.space.pages) (g.P.Streams.sent c.next.new.from.space.pages) (g.P.Streams.read_faults c.next.new.from.space.pages) (g.P.Streams.send_faults c.next.new.from.space.pages) (g.P.Streams.pieces c.next.new.from.space.pages)) (side (g.P.Pages.told c.take_line.new.store.space.pages) (g.P.Pages.view c.take_line.new.store.space.pages) (g.P.Pages.under c.take_line.new.store.space.pages) c.take_line.new.store.space.superblock.total (length c.take_line.new.store.catalog.series.items) (g.P.Streams.left c.take_line.new.store.space.pages) (g.P.Streams.sent c.take_line.new.store.space.pages) (g.P.Streams.read_faults c.take_line.new.store.space.pages) (g.P.Streams.send_faults c.take_line.new.store.space.pages) (g.P.Streams.pieces c.take_line.new.store.space.pages)) (goes_further (side (g.P.Pages.told c.args.store.now.space.pages) (g.P.Pages.view c.args.store.now.space.pages) (g.P.Pages.under c.args.store.now.space.pages) c.args.store.now.space.superblock.total (length c.args.store.now.catalog.series.items) (g.P.Streams.left c.args.store.now.space.pages) (g.P.Streams.sent c.args.store.now.space.pages) (g.P.Streams.read_faults c.args.store.now.space.pages) (g.P.Streams.send_faults c.args.store.now.space.pages) (g.P.Streams.pieces c.args.store.now.space.pages)) (side (g.P.Pages.told c.lines.store.space.pages) (g.P.Pages.view c.lines.store.space.pages) (g.P.Pages.under c.lines.store.space.pages) c.lines.store.space.superblock.total (length c.lines.store.catalog.series.items) (g.P.Streams.left c.lines.store.space.pages) (g.P.Streams.sent c.lines.store.space.pages) (g.P.Streams.read_faults c.lines.store.space.pages) (g.P.Streams.send_faults c.lines.store.space.pages) (g.P.Streams.pieces c.lines.store.space.pages)) (side (g.P.Pages.told c.next.new.from.space.pages) (g.P.Pages.view c.next.new.from.space.pages) (g.P.Pages.under c.next.new.from.space.pages) c.next.new.from.space.superblock.total (length c.next.new.from.catalog.series.items) (g.P.Streams.left c.next.new.from.space.pages) (g.P.Streams.sent c.next.new.from.space.pages) (g.P.Streams.read_faults c.next.new.from.space.pages) (g.P.Streams.send_faults c.next.new.from.space.pages) (g.P.Streams.pieces c.next.new.from.space.pages)) c.lines.invariant.goes (goes_take (side (g.P.Pages.told c.lines.store.space.pages) (g.P.Pages.view c.lines.store.space.pages) (g.P.Pages.under c.lines.store.space.pages) c.lines.store.space.superblock.total (length c.lines.store.catalog.series.items) (g.P.Streams.left c.lines.store.space.pages) (g.P.Streams.sent c.lines.store.space.pages) (g.P.Streams.read_faults c.lines.store.space.pages) (g.P.Streams.send_faults c.lines.store.space.pages) (g.P.Streams.pieces c.lines.store.space.pages)) (side (g.P.Pages.told c.next.new.from.space.pages) (g.P.Pages.view c.next.new.from.space.pages) (g.P.Pages.under c.next.new.from.space.pages) c.next.new.from.space.superblock.total (length c.next.new.from.catalog.series.items) (g.P.Streams.left c.next.new.from.space.pages) (g.P.Streams.sent c.next.new.from.space.pages) (g.P.Streams.read_faults c.next.new.from.space.pages) (g.P.Streams.send_faults c.next.new.from.space.pages) (g.P.Streams.pieces c.next.new.from.space.pages)) (g.met.P.PageWorld.take_keeps c.lines.store.space.pages c.next.new.from.space.pages c.next.ensures.beside.pages_are) (g.met.P.PageWorld.take_told c.lines.store.space.pages c.next.new.from.space.pages c.next.ensures.beside.pages_are) (g.met.P.PageWorld.take_was_told c.lines.store.space.pages c.next.new.from.space.pages c.next.ensures.beside.pages_are) (g.met.P.PageWorld.take_goes_on c.lines.store.space.pages c.next.new.from.space.pages c.next.ensures.beside.pages_are)
-      (ap (λ (s : Superblock). s.total) c.next.ensures.beside.superblock) (ap (λ (k : Catalog). length k.series.items) c.next.ensures.beside.catalog) c.next.ensures.sent c.next.ensures.read_faults c.next.ensures.send_faults c.next.ensures.pieces)) (goes_call (side (g.P.Pages.told c.next.new.from.space.pages) (g.P.Pages.view c.next.new.from.space.pages) (g.P.Pages.under c.next.new.from.space.pages) c.next.new.from.space.superblock.total (length c.next.new.from.catalog.series.items) (g.P.Streams.left c.next.new.from.space.pages) (g.P.Streams.sent c.next.new.from.space.pages) (g.P.Streams.read_faults c.next.new.from.space.pages) (g.P.Streams.send_faults c.next.new.from.space.pages) (g.P.Streams.pieces c.next.new.from.space.pages)) (side (g.P.Pages.told c.take_line.new.store.space.pages) (g.P.Pages.view c.take_line.new.store.space.pages) (g.P.Pages.under c.take_line.new.store.space.pages) c.take_line.new.store.space.superblock.total (length c.take_line.new.store.catalog.series.items) (g.P.Streams.left c.take_line.new.store.space.pages) (g.P.Streams.sent c.take_line.new.store.space.pages) (g.P.Streams.read_faults c.take_line.new.store.space.pages) (g.P.Streams.send_faults c.take_line.new.store.space.pages) (g.P.Streams.pieces c.take_line.new.store.space.pages)) (record { left_is = g.met.P.PageWorld.beside_left c.next.new.from.space.pages; sent_is = g.met.P.PageWorld.beside_sent c.next.new.from.space.pages; reads_are = g.met.P.PageWorld.beside_read_faults c.next.new.from.space.pages; sends_are = g.met.P.PageWorld.beside_send_faults c.next.new.from.space.pages; pieces_are = g.met.P.PageWorld.beside_pieces c.next.new.from.space.pages }) (record { left_is = g.met.P.PageWorld.beside_left c.take_line.new.store.space.pages; sent_is = g.met.P.PageWorld.beside_sent c.take_line.new.store.space.pages; reads_are = g.met.P.PageWorld.beside_read_faults c.take_line.new.store.space.pages; sends_are = g.met.P.PageWorld.beside_send_faults c.take_line.new.store.space.pages; pieces_are = g.met.P.PageWorld.beside_pieces c.take_line.new.store.space.pages }) c.take_line.ensures.carries));
+  length_is = ap (input_length c.next.new.self.taken) (call_left (side_of g.P.Streams c.next.new.from) (side_of g.P.Streams c.take_line.new.store) (record { left_is = g.met.P.PageWorld.beside_left (shown.pages c.next.new.from); sent_is = g.met.P.PageWorld.beside_sent (shown.pages c.next.new.from); reads_are = g.met.P.PageWorld.beside_read_faults (shown.pages c.next.new.from); sends_are = g.met.P.PageWorld.beside_send_faults (shown.pages c.next.new.from); pieces_are = g.met.P.PageWorld.beside_pieces (shown.pages c.next.new.from) }) (record { left_is = g.met.P.PageWorld.beside_left (shown.pages c.take_line.new.store); sent_is = g.met.P.PageWorld.beside_sent (shown.pages c.take_line.new.store); reads_are = g.met.P.PageWorld.beside_read_faults (shown.pages c.take_line.new.store); sends_are = g.met.P.PageWorld.beside_send_faults (shown.pages c.take_line.new.store); pieces_are = g.met.P.PageWorld.beside_pieces (shown.pages c.take_line.new.store) }) c.take_line.ensures.carries) ∙ c.next.ensures.total ∙ c.lines.invariant.length_is;
+  goes = (goes_further (side_of g.P.Streams c.args.store.now) (side_of g.P.Streams c.next.new.from) (side_of g.P.Streams c.take_line.new.store) (goes_further (side_of g.P.Streams c.args.store.now) (side_of g.P.Streams c.lines.store) (side_of g.P.Streams c.next.new.from) c.lines.invariant.goes (goes_take (side_of g.P.Streams c.lines.store) (side_of g.P.Streams c.next.new.from) (g.met.P.PageWorld.take_keeps (shown.pages c.lines.store) (shown.pages c.next.new.from) c.next.ensures.beside.pages_are) (g.met.P.PageWorld.take_told (shown.pages c.lines.store) (shown.pages c.next.new.from) c.next.ensures.beside.pages_are) (g.met.P.PageWorld.take_was_told (shown.pages c.lines.store) (shown.pages c.next.new.from) c.next.ensures.beside.pages_are) (g.met.P.PageWorld.take_goes_on (shown.pages c.lines.store) (shown.pages c.next.new.from) c.next.ensures.beside.pages_are)
+      (ap (λ (s : Superblock). s.total) c.next.ensures.beside.superblock) (ap (λ (k : Catalog). length (series_in k)) c.next.ensures.beside.catalog) c.next.ensures.sent c.next.ensures.read_faults c.next.ensures.send_faults c.next.ensures.pieces)) (goes_call (side_of g.P.Streams c.next.new.from) (side_of g.P.Streams c.take_line.new.store) (record { left_is = g.met.P.PageWorld.beside_left (shown.pages c.next.new.from); sent_is = g.met.P.PageWorld.beside_sent (shown.pages c.next.new.from); reads_are = g.met.P.PageWorld.beside_read_faults (shown.pages c.next.new.from); sends_are = g.met.P.PageWorld.beside_send_faults (shown.pages c.next.new.from); pieces_are = g.met.P.PageWorld.beside_pieces (shown.pages c.next.new.from) }) (record { left_is = g.met.P.PageWorld.beside_left (shown.pages c.take_line.new.store); sent_is = g.met.P.PageWorld.beside_sent (shown.pages c.take_line.new.store); reads_are = g.met.P.PageWorld.beside_read_faults (shown.pages c.take_line.new.store); sends_are = g.met.P.PageWorld.beside_send_faults (shown.pages c.take_line.new.store); pieces_are = g.met.P.PageWorld.beside_pieces (shown.pages c.take_line.new.store) }) c.take_line.ensures.carries));
   going = λ total book series told stands step scale.
       let was = c.lines.invariant.going total book series told stands step scale in
-      let going = going_taken total c.args.loader.now.name book series (g.P.Streams.left c.args.store.now.space.pages) (unread c.lines.lines (g.P.Streams.left c.lines.store.space.pages)) c.lines.lines.given c.lines.loader (g.P.Pages.view c.args.store.now.space.pages) (g.P.Pages.view c.lines.store.space.pages) (g.P.Pages.view c.next.new.from.space.pages) (g.met.P.Pages.rests c.lines.store.space.pages c.lines.invariant.sound) (g.met.P.PageWorld.take_keeps c.lines.store.space.pages c.next.new.from.space.pages c.next.ensures.beside.pages_are).image (g.met.P.PageWorld.take_passes c.lines.store.space.pages c.next.new.from.space.pages c.next.ensures.beside.pages_are) was in
-      let says = (goes_further (side (g.P.Pages.told c.args.store.now.space.pages) (g.P.Pages.view c.args.store.now.space.pages) (g.P.Pages.under c.args.store.now.space.pages) c.args.store.now.space.superblock.total (length c.args.store.now.catalog.series.items) (g.P.Streams.left c.args.store.now.space.pages) (g.P.Streams.sent c.args.store.now.space.pages) (g.P.Streams.read_faults c.args.store.now.space.pages) (g.P.Streams.send_faults c.args.store.now.space.pages) (g.P.Streams.pieces c.args.store.now.space.pages)) (side (g.P.Pages.told c.lines.store.space.pages) (g.P.Pages.view c.lines.store.space.pages) (g.P.Pages.under c.lines.store.space.pages) c.lines.store.space.superblock.total (length c.lines.store.catalog.series.items) (g.P.Streams.left c.lines.store.space.pages) (g.P.Streams.sent c.lines.store.space.pages) (g.P.Streams.read_faults c.lines.store.space.pages) (g.P.Streams.send_faults c.lines.store.space.pages) (g.P.Streams.pieces c.lines.store.space.pages)) (side (g.P.Pages.told c.next.new.from.space.pages) (g.P.Pages.view c.next.new.from.space.pages) (g.P.Pages.under c.next.new.from.space.pages) c.next.new.from.space.superblock.total (length c.next.new.from.catalog.series.items) (g.P.Streams.left c.next.new.from.space.pages) (g.P.Streams.sent c.next.new.from.space.pages) (g.P.Streams.read_faults c.next.new.from.space.pages) (g.P.Streams.send_faults c.next.new.from.space.pages) (g.P.Streams.pieces c.next.new.from.space.pages)) c.lines.invariant.goes (goes_take (side (g.P.Pages.told c.lines.store.space.pages) (g.P.Pages.view c.lines.store.space.pages) (g.P.Pages.under c.lines.store.space.pages) c.lines.store.space.superblock.total (length c.lines.store.catalog.series.items) (g.P.Streams.left c.lines.store.space.pages) (g.P.Streams.sent c.lines.store.space.pages) (g.P.Streams.read_faults c.lines.store.space.pages) (g.P.Streams.send_faults c.lines.store.space.pages) (g.P.Streams.pieces c.lines.store.space.pages)) (side (g.P.Pages.told c.next.new.from.space.pages) (g.P.Pages.view c.next.new.from.space.pages) (g.P.Pages.under c.next.new.from.space.pages) c.next.new.from.space.superblock.total (length c.next.new.from.catalog.series.items) (g.P.Streams.left c.next.new.from.space.pages) (g.P.Streams.sent c.next.new.from.space.pages) (g.P.Streams.read_faults c.next.new.from.space.pages) (g.P.Streams.send_faults c.next.new.from.space.pages) (g.P.Streams.pieces c.next.new.from.space.pages)) (g.met.P.PageWorld.take_keeps c.lines.store.space.pages c.next.new.from.space.pages c.next.ensures.beside.pages_are) (g.met.P.PageWorld.take_told c.lines.store.space.pages c.next.new.from.space.pages c.next.ensures.beside.pages_are) (g.met.P.PageWorld.take_was_told c.lines.store.space.pages c.next.new.from.space.pages c.next.ensures.beside.pages_are) (g.met.P.PageWorld.take_goes_on c.lines.store.space.pages c.next.new.from.space.pages c.next.ensures.beside.pages_are)
-      (ap (λ (s : Superblock). s.total) c.next.ensures.beside.superblock) (ap (λ (k : Catalog). length k.series.items) c.next.ensures.beside.catalog) c.next.ensures.sent c.next.ensures.read_faults c.next.ensures.send_faults c.next.ensures.pieces)).is_told told in
+      let going = going_taken total c.args.loader.now.name book series (g.P.Streams.left (shown.pages c.args.store.now)) (unread c.lines.lines (g.P.Streams.left (shown.pages c.lines.store))) c.lines.lines.given c.lines.loader (shown.view c.args.store.now) (shown.view c.lines.store) (shown.view c.next.new.from) (g.met.P.Pages.rests (shown.pages c.lines.store) c.lines.invariant.sound) (g.met.P.PageWorld.take_keeps (shown.pages c.lines.store) (shown.pages c.next.new.from) c.next.ensures.beside.pages_are).image (g.met.P.PageWorld.take_passes (shown.pages c.lines.store) (shown.pages c.next.new.from) c.next.ensures.beside.pages_are) was in
+      let says = (goes_further (side_of g.P.Streams c.args.store.now) (side_of g.P.Streams c.lines.store) (side_of g.P.Streams c.next.new.from) c.lines.invariant.goes (goes_take (side_of g.P.Streams c.lines.store) (side_of g.P.Streams c.next.new.from) (g.met.P.PageWorld.take_keeps (shown.pages c.lines.store) (shown.pages c.next.new.from) c.next.ensures.beside.pages_are) (g.met.P.PageWorld.take_told (shown.pages c.lines.store) (shown.pages c.next.new.from) c.next.ensures.beside.pages_are) (g.met.P.PageWorld.take_was_told (shown.pages c.lines.store) (shown.pages c.next.new.from) c.next.ensures.beside.pages_are) (g.met.P.PageWorld.take_goes_on (shown.pages c.lines.store) (shown.pages c.next.new.from) c.next.ensures.beside.pages_are)
+      (ap (λ (s : Superblock). s.total) c.next.ensures.beside.superblock) (ap (λ (k : Catalog). length (series_in k)) c.next.ensures.beside.catalog) c.next.ensures.sent c.next.ensures.read_faults c.next.ensures.send_faults c.next.ensures.pieces)).is_told told in
       let p = going.progress in
-      let gives : Gives c.lines.lines c.next.new.self (g.P.Streams.left c.lines.store.space.pages) (g.P.Streams.left c.next.new.from.space.pages) (Some c.line.result.now) = record {
-        first = same_line (unread c.lines.lines (g.P.Streams.left c.lines.store.space.pages)) (unread c.next.new.self (g.P.Streams.left c.next.new.from.space.pages)) c.line.result.now c.next.new.self.line c.line.ensures.line (c.in_ok-next.ensures.line (ap Ok c.in-Line.is));
+      let gives : Gives c.lines.lines c.next.new.self (g.P.Streams.left (shown.pages c.lines.store)) (g.P.Streams.left (shown.pages c.next.new.from)) (Some c.line.result.now) = record {
+        first = same_line (unread c.lines.lines (g.P.Streams.left (shown.pages c.lines.store))) (unread c.next.new.self (g.P.Streams.left (shown.pages c.next.new.from))) c.line.result.now c.next.new.self.line c.line.ensures.line (c.in_ok-next.ensures.line (ap Ok c.in-Line.is));
         rest = c.in_ok-next.ensures.rest;
         counted = c.lines.invariant.counted;
         counted_new = c.in_ok-next.ensures.given;
         total = c.next.ensures.total;
       } in
       let place : c.offset_of-in-Line.result ≡ c.lines.lines.given = c.offset_of-in-Line.ensures ∙ c.in_ok-next.ensures.offset (ap Ok c.in-Line.is) in
-      let left_is = call_left (side (g.P.Pages.told c.next.new.from.space.pages) (g.P.Pages.view c.next.new.from.space.pages) (g.P.Pages.under c.next.new.from.space.pages) c.next.new.from.space.superblock.total (length c.next.new.from.catalog.series.items) (g.P.Streams.left c.next.new.from.space.pages) (g.P.Streams.sent c.next.new.from.space.pages) (g.P.Streams.read_faults c.next.new.from.space.pages) (g.P.Streams.send_faults c.next.new.from.space.pages) (g.P.Streams.pieces c.next.new.from.space.pages)) (side (g.P.Pages.told c.take_line.new.store.space.pages) (g.P.Pages.view c.take_line.new.store.space.pages) (g.P.Pages.under c.take_line.new.store.space.pages) c.take_line.new.store.space.superblock.total (length c.take_line.new.store.catalog.series.items) (g.P.Streams.left c.take_line.new.store.space.pages) (g.P.Streams.sent c.take_line.new.store.space.pages) (g.P.Streams.read_faults c.take_line.new.store.space.pages) (g.P.Streams.send_faults c.take_line.new.store.space.pages) (g.P.Streams.pieces c.take_line.new.store.space.pages)) (record { left_is = g.met.P.PageWorld.beside_left c.next.new.from.space.pages; sent_is = g.met.P.PageWorld.beside_sent c.next.new.from.space.pages; reads_are = g.met.P.PageWorld.beside_read_faults c.next.new.from.space.pages; sends_are = g.met.P.PageWorld.beside_send_faults c.next.new.from.space.pages; pieces_are = g.met.P.PageWorld.beside_pieces c.next.new.from.space.pages }) (record { left_is = g.met.P.PageWorld.beside_left c.take_line.new.store.space.pages; sent_is = g.met.P.PageWorld.beside_sent c.take_line.new.store.space.pages; reads_are = g.met.P.PageWorld.beside_read_faults c.take_line.new.store.space.pages; sends_are = g.met.P.PageWorld.beside_send_faults c.take_line.new.store.space.pages; pieces_are = g.met.P.PageWorld.beside_pieces c.take_line.new.store.space.pages }) c.take_line.ensures.carries in
-      going_left total c.args.loader.now.name book series (g.P.Streams.left c.args.store.now.space.pages) (g.P.Streams.left c.next.new.from.space.pages) (g.P.Streams.left c.take_line.new.store.space.pages) c.next.new.self c.take_line.new.self (g.P.Pages.view c.args.store.now.space.pages) (g.P.Pages.view c.take_line.new.store.space.pages) left_is
-      (going_line total c.args.loader.now.name book series (g.P.Streams.left c.args.store.now.space.pages) c.lines.lines c.next.new.self (g.P.Streams.left c.lines.store.space.pages) (g.P.Streams.left c.next.new.from.space.pages) c.offset_of-in-Line.result c.line.result.now c.lines.loader c.take_line.new.self (Ok c.in_ok-take_line-in-Line.field-0) c.in_ok-take_line-in-Line.field-0 (g.P.Pages.view c.args.store.now.space.pages) (g.P.Pages.view c.next.new.from.space.pages) (g.P.Pages.view c.take_line.new.store.space.pages) gives place
+      let left_is = call_left (side_of g.P.Streams c.next.new.from) (side_of g.P.Streams c.take_line.new.store) (record { left_is = g.met.P.PageWorld.beside_left (shown.pages c.next.new.from); sent_is = g.met.P.PageWorld.beside_sent (shown.pages c.next.new.from); reads_are = g.met.P.PageWorld.beside_read_faults (shown.pages c.next.new.from); sends_are = g.met.P.PageWorld.beside_send_faults (shown.pages c.next.new.from); pieces_are = g.met.P.PageWorld.beside_pieces (shown.pages c.next.new.from) }) (record { left_is = g.met.P.PageWorld.beside_left (shown.pages c.take_line.new.store); sent_is = g.met.P.PageWorld.beside_sent (shown.pages c.take_line.new.store); reads_are = g.met.P.PageWorld.beside_read_faults (shown.pages c.take_line.new.store); sends_are = g.met.P.PageWorld.beside_send_faults (shown.pages c.take_line.new.store); pieces_are = g.met.P.PageWorld.beside_pieces (shown.pages c.take_line.new.store) }) c.take_line.ensures.carries in
+      going_left total c.args.loader.now.name book series (g.P.Streams.left (shown.pages c.args.store.now)) (g.P.Streams.left (shown.pages c.next.new.from)) (g.P.Streams.left (shown.pages c.take_line.new.store)) c.next.new.self c.take_line.new.self (shown.view c.args.store.now) (shown.view c.take_line.new.store) left_is
+      (going_line total c.args.loader.now.name book series (g.P.Streams.left (shown.pages c.args.store.now)) c.lines.lines c.next.new.self (g.P.Streams.left (shown.pages c.lines.store)) (g.P.Streams.left (shown.pages c.next.new.from)) c.offset_of-in-Line.result c.line.result.now c.lines.loader c.take_line.new.self (Ok c.in_ok-take_line-in-Line.field-0) c.in_ok-take_line-in-Line.field-0 (shown.view c.args.store.now) (shown.view c.next.new.from) (shown.view c.take_line.new.store) gives place
       c.take_line.ensures.name c.take_line.ensures.step c.take_line.ensures.scale refl going
-      (line_does total c.args.loader.now.name book series (g.P.Streams.left c.args.store.now.space.pages) (unread c.lines.lines (g.P.Streams.left c.lines.store.space.pages)) c.lines.lines.given c.offset_of-in-Line.result c.line.result.now c.lines.loader c.take_line.new.self (Ok c.in_ok-take_line-in-Line.field-0) (g.P.Pages.view c.args.store.now.space.pages) (g.P.Pages.view c.next.new.from.space.pages) (g.P.Pages.view c.take_line.new.store.space.pages) going (c.in_ok-take_line-in-Line.ensures.does total p.now p.open_run says p.stands p.keeps)));
+      (line_does total c.args.loader.now.name book series (g.P.Streams.left (shown.pages c.args.store.now)) (unread c.lines.lines (g.P.Streams.left (shown.pages c.lines.store))) c.lines.lines.given c.offset_of-in-Line.result c.line.result.now c.lines.loader c.take_line.new.self (Ok c.in_ok-take_line-in-Line.field-0) (shown.view c.args.store.now) (shown.view c.next.new.from) (shown.view c.take_line.new.store) going (c.in_ok-take_line-in-Line.ensures.does total p.now p.open_run says p.stands p.keeps)));
 }
 
 pub returns-in_err-take_line-in-Line-clause-known : goal.returns-in_err-take_line-in-Line-clause-known
-returns-in_err-take_line-in-Line-clause-known g c = known_on c.from_residual-in_err-take_line-in-Line.result c.in_err-take_line-in-Line.field-0.0 c.next.new.from.space.superblock.total (g.P.Pages.view c.next.new.from.space.pages) (g.P.Pages.view c.take_line.new.store.space.pages) c.from_residual-in_err-take_line-in-Line.ensures.1 c.in_err-take_line-in-Line.ensures.cause
+returns-in_err-take_line-in-Line-clause-known g c = known_on c.from_residual-in_err-take_line-in-Line.result c.in_err-take_line-in-Line.field-0.0 (shown.total c.next.new.from) (shown.view c.next.new.from) (shown.view c.take_line.new.store) c.from_residual-in_err-take_line-in-Line.ensures.1 c.in_err-take_line-in-Line.ensures.cause
 
 pub returns-in_err-take_line-in-Line-clause-outcome : goal.returns-in_err-take_line-in-Line-clause-outcome
 returns-in_err-take_line-in-Line-clause-outcome g c = λ total book series told stands step scale.
     let was = c.lines.invariant.going total book series told stands step scale in
-    let going = going_taken total c.args.loader.now.name book series (g.P.Streams.left c.args.store.now.space.pages) (unread c.lines.lines (g.P.Streams.left c.lines.store.space.pages)) c.lines.lines.given c.lines.loader (g.P.Pages.view c.args.store.now.space.pages) (g.P.Pages.view c.lines.store.space.pages) (g.P.Pages.view c.next.new.from.space.pages) (g.met.P.Pages.rests c.lines.store.space.pages c.lines.invariant.sound) (g.met.P.PageWorld.take_keeps c.lines.store.space.pages c.next.new.from.space.pages c.next.ensures.beside.pages_are).image (g.met.P.PageWorld.take_passes c.lines.store.space.pages c.next.new.from.space.pages c.next.ensures.beside.pages_are) was in
-    let says = (goes_further (side (g.P.Pages.told c.args.store.now.space.pages) (g.P.Pages.view c.args.store.now.space.pages) (g.P.Pages.under c.args.store.now.space.pages) c.args.store.now.space.superblock.total (length c.args.store.now.catalog.series.items) (g.P.Streams.left c.args.store.now.space.pages) (g.P.Streams.sent c.args.store.now.space.pages) (g.P.Streams.read_faults c.args.store.now.space.pages) (g.P.Streams.send_faults c.args.store.now.space.pages) (g.P.Streams.pieces c.args.store.now.space.pages)) (side (g.P.Pages.told c.lines.store.space.pages) (g.P.Pages.view c.lines.store.space.pages) (g.P.Pages.under c.lines.store.space.pages) c.lines.store.space.superblock.total (length c.lines.store.catalog.series.items) (g.P.Streams.left c.lines.store.space.pages) (g.P.Streams.sent c.lines.store.space.pages) (g.P.Streams.read_faults c.lines.store.space.pages) (g.P.Streams.send_faults c.lines.store.space.pages) (g.P.Streams.pieces c.lines.store.space.pages)) (side (g.P.Pages.told c.next.new.from.space.pages) (g.P.Pages.view c.next.new.from.space.pages) (g.P.Pages.under c.next.new.from.space.pages) c.next.new.from.space.superblock.total (length c.next.new.from.catalog.series.items) (g.P.Streams.left c.next.new.from.space.pages) (g.P.Streams.sent c.next.new.from.space.pages) (g.P.Streams.read_faults c.next.new.from.space.pages) (g.P.Streams.send_faults c.next.new.from.space.pages) (g.P.Streams.pieces c.next.new.from.space.pages)) c.lines.invariant.goes (goes_take (side (g.P.Pages.told c.lines.store.space.pages) (g.P.Pages.view c.lines.store.space.pages) (g.P.Pages.under c.lines.store.space.pages) c.lines.store.space.superblock.total (length c.lines.store.catalog.series.items) (g.P.Streams.left c.lines.store.space.pages) (g.P.Streams.sent c.lines.store.space.pages) (g.P.Streams.read_faults c.lines.store.space.pages) (g.P.Streams.send_faults c.lines.store.space.pages) (g.P.Streams.pieces c.lines.store.space.pages)) (side (g.P.Pages.told c.next.new.from.space.pages) (g.P.Pages.view c.next.new.from.space.pages) (g.P.Pages.under c.next.new.from.space.pages) c.next.new.from.space.superblock.total (length c.next.new.from.catalog.series.items) (g.P.Streams.left c.next.new.from.space.pages) (g.P.Streams.sent c.next.new.from.space.pages) (g.P.Streams.read_faults c.next.new.from.space.pages) (g.P.Streams.send_faults c.next.new.from.space.pages) (g.P.Streams.pieces c.next.new.from.space.pages)) (g.met.P.PageWorld.take_keeps c.lines.store.space.pages c.next.new.from.space.pages c.next.ensures.beside.pages_are) (g.met.P.PageWorld.take_told c.lines.store.space.pages c.next.new.from.space.pages c.next.ensures.beside.pages_are) (g.met.P.PageWorld.take_was_told c.lines.store.space.pages c.next.new.from.space.pages c.next.ensures.beside.pages_are) (g.met.P.PageWorld.take_goes_on c.lines.store.space.pages c.next.new.from.space.pages c.next.ensures.beside.pages_are)
-    (ap (λ (s : Superblock). s.total) c.next.ensures.beside.superblock) (ap (λ (k : Catalog). length k.series.items) c.next.ensures.beside.catalog) c.next.ensures.sent c.next.ensures.read_faults c.next.ensures.send_faults c.next.ensures.pieces)).is_told told in
+    let going = going_taken total c.args.loader.now.name book series (g.P.Streams.left (shown.pages c.args.store.now)) (unread c.lines.lines (g.P.Streams.left (shown.pages c.lines.store))) c.lines.lines.given c.lines.loader (shown.view c.args.store.now) (shown.view c.lines.store) (shown.view c.next.new.from) (g.met.P.Pages.rests (shown.pages c.lines.store) c.lines.invariant.sound) (g.met.P.PageWorld.take_keeps (shown.pages c.lines.store) (shown.pages c.next.new.from) c.next.ensures.beside.pages_are).image (g.met.P.PageWorld.take_passes (shown.pages c.lines.store) (shown.pages c.next.new.from) c.next.ensures.beside.pages_are) was in
+    let says = (goes_further (side_of g.P.Streams c.args.store.now) (side_of g.P.Streams c.lines.store) (side_of g.P.Streams c.next.new.from) c.lines.invariant.goes (goes_take (side_of g.P.Streams c.lines.store) (side_of g.P.Streams c.next.new.from) (g.met.P.PageWorld.take_keeps (shown.pages c.lines.store) (shown.pages c.next.new.from) c.next.ensures.beside.pages_are) (g.met.P.PageWorld.take_told (shown.pages c.lines.store) (shown.pages c.next.new.from) c.next.ensures.beside.pages_are) (g.met.P.PageWorld.take_was_told (shown.pages c.lines.store) (shown.pages c.next.new.from) c.next.ensures.beside.pages_are) (g.met.P.PageWorld.take_goes_on (shown.pages c.lines.store) (shown.pages c.next.new.from) c.next.ensures.beside.pages_are)
+    (ap (λ (s : Superblock). s.total) c.next.ensures.beside.superblock) (ap (λ (k : Catalog). length (series_in k)) c.next.ensures.beside.catalog) c.next.ensures.sent c.next.ensures.read_faults c.next.ensures.send_faults c.next.ensures.pieces)).is_told told in
     let p = going.progress in
-    let gives : Gives c.lines.lines c.next.new.self (g.P.Streams.left c.lines.store.space.pages) (g.P.Streams.left c.next.new.from.space.pages) (Some c.line.result.now) = record {
-      first = same_line (unread c.lines.lines (g.P.Streams.left c.lines.store.space.pages)) (unread c.next.new.self (g.P.Streams.left c.next.new.from.space.pages)) c.line.result.now c.next.new.self.line c.line.ensures.line (c.in_ok-next.ensures.line (ap Ok c.in-Line.is));
+    let gives : Gives c.lines.lines c.next.new.self (g.P.Streams.left (shown.pages c.lines.store)) (g.P.Streams.left (shown.pages c.next.new.from)) (Some c.line.result.now) = record {
+      first = same_line (unread c.lines.lines (g.P.Streams.left (shown.pages c.lines.store))) (unread c.next.new.self (g.P.Streams.left (shown.pages c.next.new.from))) c.line.result.now c.next.new.self.line c.line.ensures.line (c.in_ok-next.ensures.line (ap Ok c.in-Line.is));
       rest = c.in_ok-next.ensures.rest;
       counted = c.lines.invariant.counted;
       counted_new = c.in_ok-next.ensures.given;
@@ -190,25 +193,25 @@ returns-in_err-take_line-in-Line-clause-outcome g c = λ total book series told 
     } in
     let place : c.offset_of-in-Line.result ≡ c.lines.lines.given = c.offset_of-in-Line.ensures ∙ c.in_ok-next.ensures.offset (ap Ok c.in-Line.is) in
     let e = c.in_err-take_line-in-Line.field-0.0 in
-    passed_on total c.args.loader.now.name book series (g.P.Streams.left c.args.store.now.space.pages) (g.P.Streams.left c.take_line.new.store.space.pages) e c.from_residual-in_err-take_line-in-Line.result (g.P.Pages.view c.args.store.now.space.pages) (g.P.Pages.view c.take_line.new.store.space.pages) c.from_residual-in_err-take_line-in-Line.ensures.1
-    (line_ends total c.args.loader.now.name book series (g.P.Streams.left c.args.store.now.space.pages) c.lines.lines c.next.new.self (g.P.Streams.left c.lines.store.space.pages) (g.P.Streams.left c.next.new.from.space.pages) (g.P.Streams.left c.take_line.new.store.space.pages) c.offset_of-in-Line.result c.line.result.now c.lines.loader c.take_line.new.self _ e (g.P.Pages.view c.args.store.now.space.pages) (g.P.Pages.view c.next.new.from.space.pages) (g.P.Pages.view c.take_line.new.store.space.pages) gives place refl going
-    (line_does total c.args.loader.now.name book series (g.P.Streams.left c.args.store.now.space.pages) (unread c.lines.lines (g.P.Streams.left c.lines.store.space.pages)) c.lines.lines.given c.offset_of-in-Line.result c.line.result.now c.lines.loader c.take_line.new.self (Err c.in_err-take_line-in-Line.field-0.0) (g.P.Pages.view c.args.store.now.space.pages) (g.P.Pages.view c.next.new.from.space.pages) (g.P.Pages.view c.take_line.new.store.space.pages) going (c.in_err-take_line-in-Line.ensures.does total p.now p.open_run says p.stands p.keeps)))
+    passed_on total c.args.loader.now.name book series (g.P.Streams.left (shown.pages c.args.store.now)) (g.P.Streams.left (shown.pages c.take_line.new.store)) e c.from_residual-in_err-take_line-in-Line.result (shown.view c.args.store.now) (shown.view c.take_line.new.store) c.from_residual-in_err-take_line-in-Line.ensures.1
+    (line_ends total c.args.loader.now.name book series (g.P.Streams.left (shown.pages c.args.store.now)) c.lines.lines c.next.new.self (g.P.Streams.left (shown.pages c.lines.store)) (g.P.Streams.left (shown.pages c.next.new.from)) (g.P.Streams.left (shown.pages c.take_line.new.store)) c.offset_of-in-Line.result c.line.result.now c.lines.loader c.take_line.new.self _ e (shown.view c.args.store.now) (shown.view c.next.new.from) (shown.view c.take_line.new.store) gives place refl going
+    (line_does total c.args.loader.now.name book series (g.P.Streams.left (shown.pages c.args.store.now)) (unread c.lines.lines (g.P.Streams.left (shown.pages c.lines.store))) c.lines.lines.given c.offset_of-in-Line.result c.line.result.now c.lines.loader c.take_line.new.self (Err c.in_err-take_line-in-Line.field-0.0) (shown.view c.args.store.now) (shown.view c.next.new.from) (shown.view c.take_line.new.store) going (c.in_err-take_line-in-Line.ensures.does total p.now p.open_run says p.stands p.keeps)))
 
 pub returns-in_err-take_line-in-Line-clause-within : goal.returns-in_err-take_line-in-Line-clause-within
 returns-in_err-take_line-in-Line-clause-within g c = no_value c.from_residual-in_err-take_line-in-Line.result c.in_err-take_line-in-Line.field-0.0 _ c.from_residual-in_err-take_line-in-Line.ensures.1
 
 pub returns-in_err-take_line-in-Line-clause-goes : goal.returns-in_err-take_line-in-Line-clause-goes
-returns-in_err-take_line-in-Line-clause-goes g c = (goes_further (side (g.P.Pages.told c.args.store.now.space.pages) (g.P.Pages.view c.args.store.now.space.pages) (g.P.Pages.under c.args.store.now.space.pages) c.args.store.now.space.superblock.total (length c.args.store.now.catalog.series.items) (g.P.Streams.left c.args.store.now.space.pages) (g.P.Streams.sent c.args.store.now.space.pages) (g.P.Streams.read_faults c.args.store.now.space.pages) (g.P.Streams.send_faults c.args.store.now.space.pages) (g.P.Streams.pieces c.args.store.now.space.pages)) (side (g.P.Pages.told c.next.new.from.space.pages) (g.P.Pages.view c.next.new.from.space.pages) (g.P.Pages.under c.next.new.from.space.pages) c.next.new.from.space.superblock.total (length c.next.new.from.catalog.series.items) (g.P.Streams.left c.next.new.from.space.pages) (g.P.Streams.sent c.next.new.from.space.pages) (g.P.Streams.read_faults c.next.new.from.space.pages) (g.P.Streams.send_faults c.next.new.from.space.pages) (g.P.Streams.pieces c.next.new.from.space.pages)) (side (g.P.Pages.told c.take_line.new.store.space.pages) (g.P.Pages.view c.take_line.new.store.space.pages) (g.P.Pages.under c.take_line.new.store.space.pages) c.take_line.new.store.space.superblock.total (length c.take_line.new.store.catalog.series.items) (g.P.Streams.left c.take_line.new.store.space.pages) (g.P.Streams.sent c.take_line.new.store.space.pages) (g.P.Streams.read_faults c.take_line.new.store.space.pages) (g.P.Streams.send_faults c.take_line.new.store.space.pages) (g.P.Streams.pieces c.take_line.new.store.space.pages)) (goes_further (side (g.P.Pages.told c.args.store.now.space.pages) (g.P.Pages.view c.args.store.now.space.pages) (g.P.Pages.under c.args.store.now.space.pages) c.args.store.now.space.superblock.total (length c.args.store.now.catalog.series.items) (g.P.Streams.left c.args.store.now.space.pages) (g.P.Streams.sent c.args.store.now.space.pages) (g.P.Streams.read_faults c.args.store.now.space.pages) (g.P.Streams.send_faults c.args.store.now.space.pages) (g.P.Streams.pieces c.args.store.now.space.pages)) (side (g.P.Pages.told c.lines.store.space.pages) (g.P.Pages.view c.lines.store.space.pages) (g.P.Pages.under c.lines.store.space.pages) c.lines.store.space.superblock.total (length c.lines.store.catalog.series.items) (g.P.Streams.left c.lines.store.space.pages) (g.P.Streams.sent c.lines.store.space.pages) (g.P.Streams.read_faults c.lines.store.space.pages) (g.P.Streams.send_faults c.lines.store.space.pages) (g.P.Streams.pieces c.lines.store.space.pages)) (side (g.P.Pages.told c.next.new.from.space.pages) (g.P.Pages.view c.next.new.from.space.pages) (g.P.Pages.under c.next.new.from.space.pages) c.next.new.from.space.superblock.total (length c.next.new.from.catalog.series.items) (g.P.Streams.left c.next.new.from.space.pages) (g.P.Streams.sent c.next.new.from.space.pages) (g.P.Streams.read_faults c.next.new.from.space.pages) (g.P.Streams.send_faults c.next.new.from.space.pages) (g.P.Streams.pieces c.next.new.from.space.pages)) c.lines.invariant.goes (goes_take (side (g.P.Pages.told c.lines.store.space.pages) (g.P.Pages.view c.lines.store.space.pages) (g.P.Pages.under c.lines.store.space.pages) c.lines.store.space.superblock.total (length c.lines.store.catalog.series.items) (g.P.Streams.left c.lines.store.space.pages) (g.P.Streams.sent c.lines.store.space.pages) (g.P.Streams.read_faults c.lines.store.space.pages) (g.P.Streams.send_faults c.lines.store.space.pages) (g.P.Streams.pieces c.lines.store.space.pages)) (side (g.P.Pages.told c.next.new.from.space.pages) (g.P.Pages.view c.next.new.from.space.pages) (g.P.Pages.under c.next.new.from.space.pages) c.next.new.from.space.superblock.total (length c.next.new.from.catalog.series.items) (g.P.Streams.left c.next.new.from.space.pages) (g.P.Streams.sent c.next.new.from.space.pages) (g.P.Streams.read_faults c.next.new.from.space.pages) (g.P.Streams.send_faults c.next.new.from.space.pages) (g.P.Streams.pieces c.next.new.from.space.pages)) (g.met.P.PageWorld.take_keeps c.lines.store.space.pages c.next.new.from.space.pages c.next.ensures.beside.pages_are) (g.met.P.PageWorld.take_told c.lines.store.space.pages c.next.new.from.space.pages c.next.ensures.beside.pages_are) (g.met.P.PageWorld.take_was_told c.lines.store.space.pages c.next.new.from.space.pages c.next.ensures.beside.pages_are) (g.met.P.PageWorld.take_goes_on c.lines.store.space.pages c.next.new.from.space.pages c.next.ensures.beside.pages_are)
-    (ap (λ (s : Superblock). s.total) c.next.ensures.beside.superblock) (ap (λ (k : Catalog). length k.series.items) c.next.ensures.beside.catalog) c.next.ensures.sent c.next.ensures.read_faults c.next.ensures.send_faults c.next.ensures.pieces)) (goes_call (side (g.P.Pages.told c.next.new.from.space.pages) (g.P.Pages.view c.next.new.from.space.pages) (g.P.Pages.under c.next.new.from.space.pages) c.next.new.from.space.superblock.total (length c.next.new.from.catalog.series.items) (g.P.Streams.left c.next.new.from.space.pages) (g.P.Streams.sent c.next.new.from.space.pages) (g.P.Streams.read_faults c.next.new.from.space.pages) (g.P.Streams.send_faults c.next.new.from.space.pages) (g.P.Streams.pieces c.next.new.from.space.pages)) (side (g.P.Pages.told c.take_line.new.store.space.pages) (g.P.Pages.view c.take_line.new.store.space.pages) (g.P.Pages.under c.take_line.new.store.space.pages) c.take_line.new.store.space.superblock.total (length c.take_line.new.store.catalog.series.items) (g.P.Streams.left c.take_line.new.store.space.pages) (g.P.Streams.sent c.take_line.new.store.space.pages) (g.P.Streams.read_faults c.take_line.new.store.space.pages) (g.P.Streams.send_faults c.take_line.new.store.space.pages) (g.P.Streams.pieces c.take_line.new.store.space.pages)) (record { left_is = g.met.P.PageWorld.beside_left c.next.new.from.space.pages; sent_is = g.met.P.PageWorld.beside_sent c.next.new.from.space.pages; reads_are = g.met.P.PageWorld.beside_read_faults c.next.new.from.space.pages; sends_are = g.met.P.PageWorld.beside_send_faults c.next.new.from.space.pages; pieces_are = g.met.P.PageWorld.beside_pieces c.next.new.from.space.pages }) (record { left_is = g.met.P.PageWorld.beside_left c.take_line.new.store.space.pages; sent_is = g.met.P.PageWorld.beside_sent c.take_line.new.store.space.pages; reads_are = g.met.P.PageWorld.beside_read_faults c.take_line.new.store.space.pages; sends_are = g.met.P.PageWorld.beside_send_faults c.take_line.new.store.space.pages; pieces_are = g.met.P.PageWorld.beside_pieces c.take_line.new.store.space.pages }) c.take_line.ensures.carries))
+returns-in_err-take_line-in-Line-clause-goes g c = (goes_further (side_of g.P.Streams c.args.store.now) (side_of g.P.Streams c.next.new.from) (side_of g.P.Streams c.take_line.new.store) (goes_further (side_of g.P.Streams c.args.store.now) (side_of g.P.Streams c.lines.store) (side_of g.P.Streams c.next.new.from) c.lines.invariant.goes (goes_take (side_of g.P.Streams c.lines.store) (side_of g.P.Streams c.next.new.from) (g.met.P.PageWorld.take_keeps (shown.pages c.lines.store) (shown.pages c.next.new.from) c.next.ensures.beside.pages_are) (g.met.P.PageWorld.take_told (shown.pages c.lines.store) (shown.pages c.next.new.from) c.next.ensures.beside.pages_are) (g.met.P.PageWorld.take_was_told (shown.pages c.lines.store) (shown.pages c.next.new.from) c.next.ensures.beside.pages_are) (g.met.P.PageWorld.take_goes_on (shown.pages c.lines.store) (shown.pages c.next.new.from) c.next.ensures.beside.pages_are)
+    (ap (λ (s : Superblock). s.total) c.next.ensures.beside.superblock) (ap (λ (k : Catalog). length (series_in k)) c.next.ensures.beside.catalog) c.next.ensures.sent c.next.ensures.read_faults c.next.ensures.send_faults c.next.ensures.pieces)) (goes_call (side_of g.P.Streams c.next.new.from) (side_of g.P.Streams c.take_line.new.store) (record { left_is = g.met.P.PageWorld.beside_left (shown.pages c.next.new.from); sent_is = g.met.P.PageWorld.beside_sent (shown.pages c.next.new.from); reads_are = g.met.P.PageWorld.beside_read_faults (shown.pages c.next.new.from); sends_are = g.met.P.PageWorld.beside_send_faults (shown.pages c.next.new.from); pieces_are = g.met.P.PageWorld.beside_pieces (shown.pages c.next.new.from) }) (record { left_is = g.met.P.PageWorld.beside_left (shown.pages c.take_line.new.store); sent_is = g.met.P.PageWorld.beside_sent (shown.pages c.take_line.new.store); reads_are = g.met.P.PageWorld.beside_read_faults (shown.pages c.take_line.new.store); sends_are = g.met.P.PageWorld.beside_send_faults (shown.pages c.take_line.new.store); pieces_are = g.met.P.PageWorld.beside_pieces (shown.pages c.take_line.new.store) }) c.take_line.ensures.carries))
 
 pub returns-in_err-take_line-in-Line-clause-cause : goal.returns-in_err-take_line-in-Line-clause-cause
-returns-in_err-take_line-in-Line-clause-cause g c = cause_on c.from_residual-in_err-take_line-in-Line.result c.in_err-take_line-in-Line.field-0.0 c.args.store.now.space.superblock.total c.next.new.from.space.superblock.total (g.P.Pages.view c.args.store.now.space.pages) (g.P.Pages.view c.next.new.from.space.pages) (g.P.Pages.view c.take_line.new.store.space.pages) (g.P.Streams.read_faults c.args.store.now.space.pages) (g.P.Streams.read_faults c.take_line.new.store.space.pages) c.from_residual-in_err-take_line-in-Line.ensures.1
-    (goes_further (side (g.P.Pages.told c.args.store.now.space.pages) (g.P.Pages.view c.args.store.now.space.pages) (g.P.Pages.under c.args.store.now.space.pages) c.args.store.now.space.superblock.total (length c.args.store.now.catalog.series.items) (g.P.Streams.left c.args.store.now.space.pages) (g.P.Streams.sent c.args.store.now.space.pages) (g.P.Streams.read_faults c.args.store.now.space.pages) (g.P.Streams.send_faults c.args.store.now.space.pages) (g.P.Streams.pieces c.args.store.now.space.pages)) (side (g.P.Pages.told c.lines.store.space.pages) (g.P.Pages.view c.lines.store.space.pages) (g.P.Pages.under c.lines.store.space.pages) c.lines.store.space.superblock.total (length c.lines.store.catalog.series.items) (g.P.Streams.left c.lines.store.space.pages) (g.P.Streams.sent c.lines.store.space.pages) (g.P.Streams.read_faults c.lines.store.space.pages) (g.P.Streams.send_faults c.lines.store.space.pages) (g.P.Streams.pieces c.lines.store.space.pages)) (side (g.P.Pages.told c.next.new.from.space.pages) (g.P.Pages.view c.next.new.from.space.pages) (g.P.Pages.under c.next.new.from.space.pages) c.next.new.from.space.superblock.total (length c.next.new.from.catalog.series.items) (g.P.Streams.left c.next.new.from.space.pages) (g.P.Streams.sent c.next.new.from.space.pages) (g.P.Streams.read_faults c.next.new.from.space.pages) (g.P.Streams.send_faults c.next.new.from.space.pages) (g.P.Streams.pieces c.next.new.from.space.pages)) c.lines.invariant.goes (goes_take (side (g.P.Pages.told c.lines.store.space.pages) (g.P.Pages.view c.lines.store.space.pages) (g.P.Pages.under c.lines.store.space.pages) c.lines.store.space.superblock.total (length c.lines.store.catalog.series.items) (g.P.Streams.left c.lines.store.space.pages) (g.P.Streams.sent c.lines.store.space.pages) (g.P.Streams.read_faults c.lines.store.space.pages) (g.P.Streams.send_faults c.lines.store.space.pages) (g.P.Streams.pieces c.lines.store.space.pages)) (side (g.P.Pages.told c.next.new.from.space.pages) (g.P.Pages.view c.next.new.from.space.pages) (g.P.Pages.under c.next.new.from.space.pages) c.next.new.from.space.superblock.total (length c.next.new.from.catalog.series.items) (g.P.Streams.left c.next.new.from.space.pages) (g.P.Streams.sent c.next.new.from.space.pages) (g.P.Streams.read_faults c.next.new.from.space.pages) (g.P.Streams.send_faults c.next.new.from.space.pages) (g.P.Streams.pieces c.next.new.from.space.pages)) (g.met.P.PageWorld.take_keeps c.lines.store.space.pages c.next.new.from.space.pages c.next.ensures.beside.pages_are) (g.met.P.PageWorld.take_told c.lines.store.space.pages c.next.new.from.space.pages c.next.ensures.beside.pages_are) (g.met.P.PageWorld.take_was_told c.lines.store.space.pages c.next.new.from.space.pages c.next.ensures.beside.pages_are) (g.met.P.PageWorld.take_goes_on c.lines.store.space.pages c.next.new.from.space.pages c.next.ensures.beside.pages_are)
-    (ap (λ (s : Superblock). s.total) c.next.ensures.beside.superblock) (ap (λ (k : Catalog). length k.series.items) c.next.ensures.beside.catalog) c.next.ensures.sent c.next.ensures.read_faults c.next.ensures.send_faults c.next.ensures.pieces)).faults (goes_further (side (g.P.Pages.told c.args.store.now.space.pages) (g.P.Pages.view c.args.store.now.space.pages) (g.P.Pages.under c.args.store.now.space.pages) c.args.store.now.space.superblock.total (length c.args.store.now.catalog.series.items) (g.P.Streams.left c.args.store.now.space.pages) (g.P.Streams.sent c.args.store.now.space.pages) (g.P.Streams.read_faults c.args.store.now.space.pages) (g.P.Streams.send_faults c.args.store.now.space.pages) (g.P.Streams.pieces c.args.store.now.space.pages)) (side (g.P.Pages.told c.lines.store.space.pages) (g.P.Pages.view c.lines.store.space.pages) (g.P.Pages.under c.lines.store.space.pages) c.lines.store.space.superblock.total (length c.lines.store.catalog.series.items) (g.P.Streams.left c.lines.store.space.pages) (g.P.Streams.sent c.lines.store.space.pages) (g.P.Streams.read_faults c.lines.store.space.pages) (g.P.Streams.send_faults c.lines.store.space.pages) (g.P.Streams.pieces c.lines.store.space.pages)) (side (g.P.Pages.told c.next.new.from.space.pages) (g.P.Pages.view c.next.new.from.space.pages) (g.P.Pages.under c.next.new.from.space.pages) c.next.new.from.space.superblock.total (length c.next.new.from.catalog.series.items) (g.P.Streams.left c.next.new.from.space.pages) (g.P.Streams.sent c.next.new.from.space.pages) (g.P.Streams.read_faults c.next.new.from.space.pages) (g.P.Streams.send_faults c.next.new.from.space.pages) (g.P.Streams.pieces c.next.new.from.space.pages)) c.lines.invariant.goes (goes_take (side (g.P.Pages.told c.lines.store.space.pages) (g.P.Pages.view c.lines.store.space.pages) (g.P.Pages.under c.lines.store.space.pages) c.lines.store.space.superblock.total (length c.lines.store.catalog.series.items) (g.P.Streams.left c.lines.store.space.pages) (g.P.Streams.sent c.lines.store.space.pages) (g.P.Streams.read_faults c.lines.store.space.pages) (g.P.Streams.send_faults c.lines.store.space.pages) (g.P.Streams.pieces c.lines.store.space.pages)) (side (g.P.Pages.told c.next.new.from.space.pages) (g.P.Pages.view c.next.new.from.space.pages) (g.P.Pages.under c.next.new.from.space.pages) c.next.new.from.space.superblock.total (length c.next.new.from.catalog.series.items) (g.P.Streams.left c.next.new.from.space.pages) (g.P.Streams.sent c.next.new.from.space.pages) (g.P.Streams.read_faults c.next.new.from.space.pages) (g.P.Streams.send_faults c.next.new.from.space.pages) (g.P.Streams.pieces c.next.new.from.space.pages)) (g.met.P.PageWorld.take_keeps c.lines.store.space.pages c.next.new.from.space.pages c.next.ensures.beside.pages_are) (g.met.P.PageWorld.take_told c.lines.store.space.pages c.next.new.from.space.pages c.next.ensures.beside.pages_are) (g.met.P.PageWorld.take_was_told c.lines.store.space.pages c.next.new.from.space.pages c.next.ensures.beside.pages_are) (g.met.P.PageWorld.take_goes_on c.lines.store.space.pages c.next.new.from.space.pages c.next.ensures.beside.pages_are)
-    (ap (λ (s : Superblock). s.total) c.next.ensures.beside.superblock) (ap (λ (k : Catalog). length k.series.items) c.next.ensures.beside.catalog) c.next.ensures.sent c.next.ensures.read_faults c.next.ensures.send_faults c.next.ensures.pieces)).total_is c.in_err-take_line-in-Line.ensures.cause
+returns-in_err-take_line-in-Line-clause-cause g c = cause_on c.from_residual-in_err-take_line-in-Line.result c.in_err-take_line-in-Line.field-0.0 (shown.total c.args.store.now) (shown.total c.next.new.from) (shown.view c.args.store.now) (shown.view c.next.new.from) (shown.view c.take_line.new.store) (g.P.Streams.read_faults (shown.pages c.args.store.now)) (g.P.Streams.read_faults (shown.pages c.take_line.new.store)) c.from_residual-in_err-take_line-in-Line.ensures.1
+    (goes_further (side_of g.P.Streams c.args.store.now) (side_of g.P.Streams c.lines.store) (side_of g.P.Streams c.next.new.from) c.lines.invariant.goes (goes_take (side_of g.P.Streams c.lines.store) (side_of g.P.Streams c.next.new.from) (g.met.P.PageWorld.take_keeps (shown.pages c.lines.store) (shown.pages c.next.new.from) c.next.ensures.beside.pages_are) (g.met.P.PageWorld.take_told (shown.pages c.lines.store) (shown.pages c.next.new.from) c.next.ensures.beside.pages_are) (g.met.P.PageWorld.take_was_told (shown.pages c.lines.store) (shown.pages c.next.new.from) c.next.ensures.beside.pages_are) (g.met.P.PageWorld.take_goes_on (shown.pages c.lines.store) (shown.pages c.next.new.from) c.next.ensures.beside.pages_are)
+    (ap (λ (s : Superblock). s.total) c.next.ensures.beside.superblock) (ap (λ (k : Catalog). length (series_in k)) c.next.ensures.beside.catalog) c.next.ensures.sent c.next.ensures.read_faults c.next.ensures.send_faults c.next.ensures.pieces)).faults (goes_further (side_of g.P.Streams c.args.store.now) (side_of g.P.Streams c.lines.store) (side_of g.P.Streams c.next.new.from) c.lines.invariant.goes (goes_take (side_of g.P.Streams c.lines.store) (side_of g.P.Streams c.next.new.from) (g.met.P.PageWorld.take_keeps (shown.pages c.lines.store) (shown.pages c.next.new.from) c.next.ensures.beside.pages_are) (g.met.P.PageWorld.take_told (shown.pages c.lines.store) (shown.pages c.next.new.from) c.next.ensures.beside.pages_are) (g.met.P.PageWorld.take_was_told (shown.pages c.lines.store) (shown.pages c.next.new.from) c.next.ensures.beside.pages_are) (g.met.P.PageWorld.take_goes_on (shown.pages c.lines.store) (shown.pages c.next.new.from) c.next.ensures.beside.pages_are)
+    (ap (λ (s : Superblock). s.total) c.next.ensures.beside.superblock) (ap (λ (k : Catalog). length (series_in k)) c.next.ensures.beside.catalog) c.next.ensures.sent c.next.ensures.read_faults c.next.ensures.send_faults c.next.ensures.pieces)).total_is c.in_err-take_line-in-Line.ensures.cause
 
 pub returns-in_err-take_line-in-Line-clause-sound : goal.returns-in_err-take_line-in-Line-clause-sound
 returns-in_err-take_line-in-Line-clause-sound g c = no_value c.from_residual-in_err-take_line-in-Line.result c.in_err-take_line-in-Line.field-0.0 _ c.from_residual-in_err-take_line-in-Line.ensures.1
 
 pub returns-in_err-take_line-in-Line-clause-sound_for : goal.returns-in_err-take_line-in-Line-clause-sound_for
-returns-in_err-take_line-in-Line-clause-sound_for g c = sound_on c.from_residual-in_err-take_line-in-Line.result c.in_err-take_line-in-Line.field-0.0 (g.P.Pages.view c.take_line.new.store.space.pages) c.from_residual-in_err-take_line-in-Line.ensures.1 c.in_err-take_line-in-Line.ensures.sound_for
+returns-in_err-take_line-in-Line-clause-sound_for g c = sound_on c.from_residual-in_err-take_line-in-Line.result c.in_err-take_line-in-Line.field-0.0 (shown.view c.take_line.new.store) c.from_residual-in_err-take_line-in-Line.ensures.1 c.in_err-take_line-in-Line.ensures.sound_for

@@ -13,7 +13,7 @@ loop-init g c =
     let numbers : c.begin.new.self.superblock ≡ c.args.space.now.superblock = rw c.begin.ensures.same refl in
     let is : c.args.space.now.superblock.chain ≡ c.fresh.result - c.used.result - 0 = omega (arith, c.fresh.ensures.fresh, c.used.ensures.used, ap (λ (s : Superblock). s.fresh) numbers, ap (λ (s : Superblock). s.chain) numbers, c.args.space.now.rules.chain_high) in
     rw c.begin.ensures.same (pass_start (g.P.Pages.told c.args.space.now.pages) (g.P.Pages.told c.args.space.now.pages) (g.P.Pages.view c.args.space.now.pages) (g.P.Pages.view c.args.space.now.pages) (g.P.Pages.under c.args.space.now.pages) (g.P.Pages.under c.args.space.now.pages) c.args.space.now.superblock c.args.space.now.superblock c.in_ok-txn.txn (c.fresh.result - c.used.result - 0) (looks_none (g.P.Pages.told c.args.space.now.pages) (g.P.Pages.view c.args.space.now.pages) (g.P.Pages.under c.args.space.now.pages) c.args.space.now.superblock) c.in_ok-txn.ensures.superblock is
-    (λ t p. c.in_ok-txn.ensures.left c.requires.sound t p) (λ count image taken freed standing. c.in_ok-txn.ensures.stands count image taken freed standing))
+    (λ t p. c.in_ok-txn.ensures.left c.requires.sound t p) (λ count image taken freed standing. c.in_ok-txn.ensures.stands count image taken freed standing) (omega arith))
 
 pub returns-in-Err-clause-cause : goal.returns-in-Err-clause-cause
 returns-in-Err-clause-cause g c =
@@ -37,3 +37,10 @@ loop-preserved g c =
     (looks_read (g.P.Pages.told c.loop.space.pages) (g.P.Pages.told c.alloc.new.self.pages) (g.P.Pages.view c.loop.space.pages) (g.P.Pages.view c.alloc.new.self.pages) (g.P.Pages.under c.loop.space.pages) (g.P.Pages.under c.alloc.new.self.pages) c.loop.space.superblock c.alloc.new.self.superblock c.alloc.ensures.reads c.alloc.ensures.superblock c.alloc.ensures.goes_on)
     c.in_default.ensures.takes c.alloc.ensures.same_total c.alloc.ensures.pages
     (λ t count taken freed standing. c.in_default.ensures.stands t count taken freed standing)
+    c.alloc.ensures.reads.reads
+
+pub returns-in-Err-clause-reads : goal.returns-in-Err-clause-reads
+returns-in-Err-clause-reads g c = omega (arith, c.loop.invariant.reads, c.alloc.ensures.reads.reads.high, c.loop-test.true)
+
+pub returns-clause-reads : goal.returns-clause-reads
+returns-clause-reads g c = omega (arith, c.loop.invariant.reads)

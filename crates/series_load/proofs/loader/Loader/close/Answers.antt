@@ -1,4 +1,5 @@
 use Rattle.series_load.proofs.SetLemmas.{some_items, set_is_edit, set_does, set_fails}
+use Rattle.series_store.specs.Shown as shown
 use Rattle.series_load.proofs.loader.Loader.close.Goals as goal
 
 pub edit-requires-clause-is_edit : goal.edit-requires-clause-is_edit
@@ -10,13 +11,13 @@ edit-requires-clause-is_edit g c =
 pub returns-in-Ok-clause-does : goal.returns-in-Ok-clause-does
 returns-in-Ok-clause-does g c = λ total book old told stands keeps.
     let values = c.args.self.now.run.values in
-    set_does total c.args.self.now.name book old c.args.self.now.run _ c.in_ok-set.set c.in-Ok.field-0 _ (g.P.Pages.view c.args.store.now.space.pages) (g.P.Pages.view c.edit.new.self.space.pages)
+    set_does total c.args.self.now.name book old c.args.self.now.run _ c.in_ok-set.set c.in-Ok.field-0 _ (shown.view c.args.store.now) (shown.view c.edit.new.self)
     (some_items values.len values.items c.is_empty.result values.ok.0 c.is_empty.ensures c.if-is_empty.false) keeps c.in_ok-set.ensures.set c.clear.ensures.items
     (c.in-Ok.ensures.done total book told stands) (c.in-Ok.ensures.moments total book told stands)
 
 pub returns-clause-does : goal.returns-clause-does
 returns-clause-does g c = λ total book old told stands keeps.
     let values = c.args.self.now.run.values in
-    set_fails total c.args.self.now.name book old c.args.self.now.run c.args.self.now.run c.in_ok-set.set c.in-Err.error c.end_at.result (g.P.Pages.told c.args.store.now.space.pages) (g.P.Pages.view c.args.store.now.space.pages) (g.P.Pages.view c.edit.new.self.space.pages)
+    set_fails total c.args.self.now.name book old c.args.self.now.run c.args.self.now.run c.in_ok-set.set c.in-Err.error c.end_at.result (shown.IsTold c.args.store.now) (shown.view c.args.store.now) (shown.view c.edit.new.self)
     (some_items values.len values.items c.is_empty.result values.ok.0 c.is_empty.ensures c.if-is_empty.false) keeps c.in_ok-set.ensures.set c.end_at.ensures told stands
     (c.in-Err.ensures.refused total book told stands) c.in-Err.ensures.unchanged (c.in-Err.ensures.moments total book told stands)

@@ -2,14 +2,15 @@ use Rattle.std.proofs.Common.{refl}
 use Rattle.series_load.specs.Steps.{Closes, NoBad, TooLongDone}
 use Rattle.series_load.proofs.Carrying.{err_less}
 use Rattle.series_load.proofs.SetLemmas.{stopped}
+use Rattle.series_store.specs.Shown as shown
 use Rattle.series_load.proofs.loader.Loader.stop.Goals as goal
 
 pub returns-in-Ok-clause-does : goal.returns-in-Ok-clause-does
 returns-in-Ok-clause-does g c = λ total book old told stands keeps.
-    stopped c.args.at total c.args.self.now.name book old c.in-Ok.field-0 c.close.new.self.run (g.P.Pages.view c.args.store.now.space.pages) (g.P.Pages.view c.close.new.store.space.pages)
+    stopped c.args.at total c.args.self.now.name book old c.in-Ok.field-0 c.close.new.self.run (shown.view c.args.store.now) (shown.view c.close.new.store)
     (c.in-Ok.ensures.does total book old told stands keeps)
 
 pub returns-in-Err-clause-does : goal.returns-in-Err-clause-does
 returns-in-Err-clause-does g c = λ total book old told stands keeps.
-    err_less (Closes old) (Closes old) (Closes old) (Closes old) NoBad (TooLongDone c.args.at total c.args.self.now.name book old (g.P.Pages.view c.close.new.store.space.pages).image) total c.args.self.now.name book c.in-Err.end _ c.close.new.self.run c.close.new.self.run (g.P.Pages.view c.args.store.now.space.pages) (g.P.Pages.view c.close.new.store.space.pages) refl
+    err_less (Closes old) (Closes old) (Closes old) (Closes old) NoBad (TooLongDone c.args.at total c.args.self.now.name book old (shown.image c.close.new.store)) total c.args.self.now.name book c.in-Err.end _ c.close.new.self.run c.close.new.self.run (shown.view c.args.store.now) (shown.view c.close.new.store) refl
     (λ ends new closes. (new, closes)) (λ at no_line. absurd no_line) (c.in-Err.ensures.does total book old told stands keeps)

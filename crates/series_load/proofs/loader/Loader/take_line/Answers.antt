@@ -1,5 +1,6 @@
 use Rattle.series_load.specs.Steps.{BadDone}
 use Rattle.series_load.proofs.LineLemmas.{adds_at, ends_at, adds_empty, does_nothing, near_said, empty_text, some_text_of}
+use Rattle.series_store.specs.Shown as shown
 use Rattle.series_load.proofs.loader.Loader.take_line.Goals as goal
 
 pub take_said-requires-clause-near : goal.take_said-requires-clause-near
@@ -9,7 +10,7 @@ pub returns-then-is_empty-clause-does : goal.returns-then-is_empty-clause-does
 returns-then-is_empty-clause-does g c = λ total book old told stands keeps.
     let at = c.args.self.now in
     let text = c.args.line.now in
-    does_nothing (adds_at at.scale at.step c.args.at text at.first old at.points at.first at.points) (ends_at at.scale at.step c.args.at text at.first old at.points) (BadDone at.scale c.args.at at.first text total at.name book old (g.P.Pages.view c.args.store.now.space.pages).image) total at.name book old _ at.run (g.P.Pages.view c.args.store.now.space.pages)
+    does_nothing (adds_at at.scale at.step c.args.at text at.first old at.points at.first at.points) (ends_at at.scale at.step c.args.at text at.first old at.points) (BadDone at.scale c.args.at at.first text total at.name book old (shown.image c.args.store.now)) total at.name book old _ at.run (shown.view c.args.store.now)
     (adds_empty at.scale at.step c.args.at text at.first old at.points (empty_text c.is_empty.result text c.is_empty.ensures c.if-is_empty.true)) keeps stands
 
 pub returns-clause-does : goal.returns-clause-does

@@ -4,13 +4,14 @@ use Rattle.series_load.specs.Steps.{Closes, Adds, NoBad}
 use Rattle.series_load.proofs.Carrying.{err_less}
 use Rattle.series_load.proofs.RunLemmas.{run_more}
 use Rattle.series_load.proofs.ReadingLemmas.{apart_of, goes_with, keeps_more, ends_apart, begins, goes_on, fills, not_full}
+use Rattle.series_store.specs.Shown as shown
 use Rattle.series_load.proofs.loader.Loader.take_reading.Goals as goal
 
 pub returns-in_err-close-clause-does : goal.returns-in_err-close-clause-does
 returns-in_err-close-clause-does g c = λ total book old told stands keeps.
     let next : Reading = record { at = c.args.at; time = c.args.next.now.time; value = c.args.next.now.value } in
     let step = c.args.self.now.step in
-    err_less (Closes old) (Closes old) (Adds step old (Some next)) (Adds step old (Some next)) NoBad NoBad total c.args.self.now.name book c.in_err-close.field-0.0 c.from_residual.result c.close.new.self.run c.close.new.self.run (g.P.Pages.view c.args.store.now.space.pages) (g.P.Pages.view c.close.new.store.space.pages) c.from_residual.ensures.1
+    err_less (Closes old) (Closes old) (Adds step old (Some next)) (Adds step old (Some next)) NoBad NoBad total c.args.self.now.name book c.in_err-close.field-0.0 c.from_residual.result c.close.new.self.run c.close.new.self.run (shown.view c.args.store.now) (shown.view c.close.new.store) c.from_residual.ensures.1
     (ends_apart step old next (apart_of step old c.args.self.now.run next c.is_followed_by.result keeps c.is_followed_by.ensures c.if-not-is_followed_by.true)) (λ at no_line. no_line) (c.in_err-close.ensures.does total book old told stands keeps)
 
 pub returns-then-not-is_followed_by-clause-does : goal.returns-then-not-is_followed_by-clause-does
@@ -18,7 +19,7 @@ returns-then-not-is_followed_by-clause-does g c = λ total book old told stands 
     let next : Reading = record { at = c.args.at; time = c.args.next.now.time; value = c.args.next.now.value } in
     let step = c.args.self.now.step in
     let does = c.in_ok-close.ensures.does total book old told stands keeps in
-    begins step total c.args.self.now.name book old next c.close.new.self.run c.begin.new.self c.begin.result (g.P.Pages.view c.args.store.now.space.pages) (g.P.Pages.view c.close.new.store.space.pages)
+    begins step total c.args.self.now.name book old next c.close.new.self.run c.begin.new.self c.begin.result (shown.view c.args.store.now) (shown.view c.close.new.store)
     (apart_of step old c.args.self.now.run next c.is_followed_by.result keeps c.is_followed_by.ensures c.if-not-is_followed_by.true)
     does.done does.moments c.begin.ensures.at c.begin.ensures.time c.begin.ensures.last c.begin.ensures.values c.begin.ensures.err
 
@@ -29,7 +30,7 @@ returns-then-is_full-clause-does g c = λ total book old told stands keeps.
     let kept = c.args.self.now.run in
     let goes = goes_with step old kept next c.is_followed_by.result keeps c.is_followed_by.ensures c.if-not-is_followed_by.false in
     let more = keeps_more goes.run kept c.push.new.self next goes.keeps c.in_ok-push.ensures.at c.in_ok-push.ensures.time c.in_ok-push.ensures.last c.in_ok-push.ensures.values in
-    fills step total c.args.self.now.name book old next kept c.push.new.self c.close-then-is_full.new.self.run c.close-then-is_full.result (g.P.Pages.view c.args.store.now.space.pages) (g.P.Pages.view c.close-then-is_full.new.store.space.pages) goes more
+    fills step total c.args.self.now.name book old next kept c.push.new.self c.close-then-is_full.new.self.run c.close-then-is_full.result (shown.view c.args.store.now) (shown.view c.close-then-is_full.new.store) goes more
     (c.is_full.ensures.0 c.if-is_full.true) (c.close-then-is_full.ensures.does total book (Some (run_more goes.run next)) told stands more)
 
 pub returns-clause-does : goal.returns-clause-does
@@ -39,5 +40,5 @@ returns-clause-does g c = λ total book old told stands keeps.
     let kept = c.args.self.now.run in
     let goes = goes_with step old kept next c.is_followed_by.result keeps c.is_followed_by.ensures c.if-not-is_followed_by.false in
     let more = keeps_more goes.run kept c.push.new.self next goes.keeps c.in_ok-push.ensures.at c.in_ok-push.ensures.time c.in_ok-push.ensures.last c.in_ok-push.ensures.values in
-    goes_on step total c.args.self.now.name book old next kept c.push.new.self _ (g.P.Pages.view c.args.store.now.space.pages) goes more
+    goes_on step total c.args.self.now.name book old next kept c.push.new.self _ (shown.view c.args.store.now) goes more
     (not_full c.is_full.result _ c.is_full.ensures c.if-is_full.false) stands

@@ -7,7 +7,7 @@ use Rattle.page_space.specs.Transactions.{held}
 use Rattle.std.proofs.Common.{◌≡◌, ◌+◌, length, refl, sym, ap, ◌∙◌, arith}
 use Rattle.std.proofs.lemmas.List.{length_push}
 use Rattle.page_space.specs.declared.superblock.Superblock.{Superblock}
-use Rattle.store_catalog.specs.Catalogs.{entry_of}
+use Rattle.series_catalog.specs.Catalogs.{entry_of}
 use Rattle.tree_walk.specs.declared.tree.Tree.{Tree}
 use Rattle.tree_walk.specs.SpaceViews.{space_view}
 use Rattle.tree_walk.proofs.TrailLemmas.{any_trail}

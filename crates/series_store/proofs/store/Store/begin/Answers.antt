@@ -1,4 +1,5 @@
 use Rattle.std.proofs.Math.Path.{fun_ext}
+use Rattle.series_store.specs.Shown as shown
 use Rattle.series_store.proofs.store.Store.begin.Goals as goal
 
 pub invariant_of-self : goal.invariant_of-self
@@ -16,4 +17,4 @@ invariant_of-self g c = record {
 
 -- the transaction leaves each page, so the pages
 pub returns-clause-left : goal.returns-clause-left
-returns-clause-left g c = rw c.begin.ensures.same (λ told. fun_ext (c.in_ok-begin.ensures.left c.requires.sound told))
+returns-clause-left g c = rw (shown.IsTold, shown.image, shown.view, shown.under, shown.numbers, shown.pages, c.begin.ensures.same) (λ told. fun_ext (c.in_ok-begin.ensures.left c.requires.sound told))

@@ -1,14 +1,14 @@
-use Rattle.std.proofs.Common.{◌≡◌, ◌<◌, ◌^◌, sym, ap, subst, inl, ◌∙◌}
+use Rattle.std.proofs.Common.{◌≡◌, ◌<◌, ◌^◌, sym, ap, subst, inl, arith, ◌∙◌}
 use Rattle.page_space.specs.declared.superblock.Superblock.{Superblock}
 use Rattle.page_space.specs.Layout.{in_use}
-use Rattle.store_catalog.specs.Catalogs.{AreFit}
-use Rattle.store_laws.proofs.PagesInUse.{in_use_of}
+use Rattle.series_catalog.specs.Catalogs.{AreFit}
+use Rattle.stored_book.proofs.PagesInUse.{in_use_of}
 use Rattle.tree_walk.proofs.StepLemmas.{error_so}
 use Rattle.series_store.specs.Counting.{IsCheckCause}
 use Rattle.series_store.specs.Opening.{IsOutside}
 use Rattle.series_store.specs.declared.errors.StoreError.{StoreError}
 use Rattle.series_store.proofs.AskLemmas.{own_store, as_many}
-use Rattle.series_store.proofs.BookCountLemmas.{check_trees, check_chain, check_whole, stands_on}
+use Rattle.series_store.proofs.BookCountLemmas.{check_trees, check_chain, check_whole, stands_on, once_read}
 use Rattle.series_store.proofs.LookLemmas.{looks_then}
 use Rattle.series_store.proofs.StayLemmas.{Stay, told_on, whole_on, trail_on}
 use Rattle.series_store.proofs.store.Store.check.Goals as goal
@@ -113,3 +113,24 @@ returns-clause-whole g c = λ told.
 pub returns-clause-looks : goal.returns-clause-looks
 returns-clause-looks g c =
     looks_then (g.P.Pages.told c.args.self.now.space.pages) (g.P.Pages.told c.count_trees.new.space.pages) (g.P.Pages.told c.pass_chain.new.space.pages) (g.P.Pages.view c.args.self.now.space.pages) (g.P.Pages.view c.count_trees.new.space.pages) (g.P.Pages.view c.pass_chain.new.space.pages) (g.P.Pages.under c.args.self.now.space.pages) (g.P.Pages.under c.count_trees.new.space.pages) (g.P.Pages.under c.pass_chain.new.space.pages) c.args.self.now.space.superblock c.count_trees.new.space.superblock c.pass_chain.new.space.superblock c.count_trees.ensures.looks c.pass_chain.ensures.looks
+
+pub returns-in_err-values-clause-reads : goal.returns-in_err-values-clause-reads
+returns-in_err-values-clause-reads g c = λ total book told stands.
+    let store = own_store (g.P.Pages.view c.args.self.now.space.pages).size total (g.P.Pages.view c.args.self.now.space.pages).image book c.args.self.now.space.superblock c.args.self.now.space.rules c.args.self.now.small (c.args.self.now.space.spelled c.requires.sound told) stands in
+    let long = as_many (g.P.Pages.view c.args.self.now.space.pages).image c.args.self.now.space.superblock book c.args.self.now.catalog.series.items store.0 c.args.self.now.count in
+    once_read (g.P.Pages.view c.args.self.now.space.pages).image c.args.self.now.space.superblock book c.args.self.now.catalog.series.items (g.P.Pages.view c.args.self.now.space.pages).reads (g.P.Pages.view c.count_trees.new.space.pages).reads (g.P.Pages.view c.count_trees.new.space.pages).reads store.0 (c.args.self.now.told c.requires.sound told) long (c.count_trees.ensures.reads told)
+    (omega arith)
+
+pub returns-in_err-pass_chain-clause-reads : goal.returns-in_err-pass_chain-clause-reads
+returns-in_err-pass_chain-clause-reads g c = λ total book told stands.
+    let store = own_store (g.P.Pages.view c.args.self.now.space.pages).size total (g.P.Pages.view c.args.self.now.space.pages).image book c.args.self.now.space.superblock c.args.self.now.space.rules c.args.self.now.small (c.args.self.now.space.spelled c.requires.sound told) stands in
+    let long = as_many (g.P.Pages.view c.args.self.now.space.pages).image c.args.self.now.space.superblock book c.args.self.now.catalog.series.items store.0 c.args.self.now.count in
+    once_read (g.P.Pages.view c.args.self.now.space.pages).image c.args.self.now.space.superblock book c.args.self.now.catalog.series.items (g.P.Pages.view c.args.self.now.space.pages).reads (g.P.Pages.view c.count_trees.new.space.pages).reads (g.P.Pages.view c.pass_chain.new.space.pages).reads store.0 (c.args.self.now.told c.requires.sound told) long (c.count_trees.ensures.reads told)
+    (omega (arith, c.pass_chain.ensures.reads, ap (λ (s : Superblock). s.chain) c.count_trees.ensures.looks.over.superblock))
+
+pub returns-clause-reads : goal.returns-clause-reads
+returns-clause-reads g c = λ total book told stands.
+    let store = own_store (g.P.Pages.view c.args.self.now.space.pages).size total (g.P.Pages.view c.args.self.now.space.pages).image book c.args.self.now.space.superblock c.args.self.now.space.rules c.args.self.now.small (c.args.self.now.space.spelled c.requires.sound told) stands in
+    let long = as_many (g.P.Pages.view c.args.self.now.space.pages).image c.args.self.now.space.superblock book c.args.self.now.catalog.series.items store.0 c.args.self.now.count in
+    once_read (g.P.Pages.view c.args.self.now.space.pages).image c.args.self.now.space.superblock book c.args.self.now.catalog.series.items (g.P.Pages.view c.args.self.now.space.pages).reads (g.P.Pages.view c.count_trees.new.space.pages).reads (g.P.Pages.view c.pass_chain.new.space.pages).reads store.0 (c.args.self.now.told c.requires.sound told) long (c.count_trees.ensures.reads told)
+    (omega (arith, c.pass_chain.ensures.reads, ap (λ (s : Superblock). s.chain) c.count_trees.ensures.looks.over.superblock))

@@ -7,7 +7,7 @@ use Rattle.series_book.specs.declared.refusals.Refusal.{Refusal}
 use Rattle.series_book.specs.declared.refusals.Refusal.TheVariants.{UnknownSeries}
 use Rattle.series_book.specs.Axes.{IsAxisOf}
 use Rattle.series_book.specs.Edits.{Edited, apply, id_of, place_of, unbounded, cleared_at, cleared}
-use Rattle.store_catalog.specs.declared.stored_series.StoredSeries.{StoredSeries}
+use Rattle.series_catalog.specs.declared.stored_series.StoredSeries.{StoredSeries}
 use Rattle.series_store.specs.Changing.{IsAnswered}
 use Rattle.series_store.specs.declared.errors.StoreError.TheVariants.{Refused}
 use Rattle.series_store.proofs.AnswerLemmas.{answered_none, stays}
@@ -94,3 +94,16 @@ returns-in_default-clause-carried g c = carried_refused UnknownSeries
 
 pub returns-in-Some-clear_refusal-clause-carried : goal.returns-in-Some-clear_refusal-clause-carried
 returns-in-Some-clear_refusal-clause-carried g c = carried_refused c.in-Some-clear_refusal.refusal
+
+pub returns-clause-none_cleared : goal.returns-clause-none_cleared
+returns-clause-none_cleared g c = λ total book told stands none.
+    let store = c.args.self.now in
+    let view = g.P.Pages.view store.space.pages in
+    let one : StoredSeries = c.series.result.now in
+    let is : IsFound book c.args.name.now c.in-Some.id one = found view.size total view.image store.space.superblock book store.catalog.series.items c.args.name.now c.in-Some.id one store.space.rules store.small (store.space.spelled c.requires.sound told) stands store.count (store.told c.requires.sound told) c.in-Some.ensures.id c.series.ensures in
+    let axis : IsAxisOf is.series c.axis-axis.result = is_axis book c.args.name.now c.in-Some.id one c.axis-axis.result is c.axis-axis.ensures.start c.axis-axis.ensures.step c.axis-axis.ensures.slots in
+    let place : c.place_of-place.result ≡ place_of is.series c.args.time = c.place_of-place.ensures is.series axis ∙ ap (λ (time : ℤ). place_of is.series time) (to_z-of_z w128 c.args.time c.ranges.time) in
+    elim (none c.in-Some.id is.series is.is_id is.there) [
+      | inl no_count ↦ absurd (c.if-count-eq0.false no_count)
+      | inr past ↦ absurd (omega (arith, past, place, axis.slots, c.if-place-from.false, c.from.ensures))
+    ]

@@ -9,13 +9,14 @@ use Rattle.path_repair.specs.declared.errors.RepairError.{RepairError}
 use Rattle.path_repair.proofs.CallLemmas.{clear_puts}
 use Rattle.path_repair.proofs.EditLemmas.{levels_few}
 use Rattle.series_book.specs.Edits.{with_slots, cleared}
-use Rattle.store_catalog.specs.Catalogs.{AreFit, AreAsTold, entry_of}
-use Rattle.store_catalog.specs.declared.stored_series.StoredSeries.{StoredSeries}
+use Rattle.series_catalog.specs.Catalogs.{AreFit, AreAsTold, entry_of}
+use Rattle.series_catalog.specs.declared.stored_series.StoredSeries.{StoredSeries}
 use Rattle.stored_book.specs.Changing.{IsTreeChanged}
 use Rattle.stored_book.specs.Records.{entry, pages_of_others}
 use Rattle.stored_book.specs.Standing.{AreCatalog, IsStore, StandsForBook}
 use Rattle.tree_walk.proofs.TrailLemmas.{any_trail}
 use Rattle.tree_walk.specs.SpaceViews.{space_view}
+use Rattle.series_store.specs.Shown as shown
 use Rattle.series_store.specs.Changing.{IsRefusedBy, IsAnswered}
 use Rattle.series_store.specs.Errors.{error_of}
 use Rattle.series_store.proofs.AnswerLemmas.{answered_after, answered_none}
@@ -71,7 +72,7 @@ invariant_of-self g c =
     }
 
 pub returns-in_err-tree-clause-answered : goal.returns-in_err-tree-clause-answered
-returns-in_err-tree-clause-answered g c = rw (← c.begin.ensures.space) (λ total book series told stands found.
+returns-in_err-tree-clause-answered g c = rw (shown.IsTold, shown.image, shown.view, shown.under, shown.numbers, shown.pages, ← c.begin.ensures.space) (λ total book series told stands found.
     let base = c.begin.new.self in
     let one : StoredSeries = c.series.result.now in
     let before : Image = (g.P.Pages.view base.space.pages).image in
@@ -91,7 +92,7 @@ returns-in_err-tree-clause-answered g c = rw (← c.begin.ensures.space) (λ tot
     (subst E (sym error) tt) c.from_residual-in_err-tree.ensures.1 stands (g.met.P.Pages.rests base.space.pages sound) c.clear_run.ensures.moved.reads.time)
 
 pub returns-in_err-tree-clause-carried : goal.returns-in_err-tree-clause-carried
-returns-in_err-tree-clause-carried g c = rw (← c.begin.ensures.space) (
+returns-in_err-tree-clause-carried g c = rw (shown.IsTold, shown.image, shown.view, shown.under, shown.numbers, shown.pages, ← c.begin.ensures.space) (
     let base = c.begin.new.self in
     let tree = c.series.result.now.tree in
     let puts = clear_puts c.args.slot c.args.count tree.slots c.requires.few in
@@ -106,7 +107,7 @@ save-requires-clause-few g c =
     omega (arith, c.in_ok-txn.ensures.len, c.clear_run.ensures.few_puts c.requires.few, levels_four tree.slots short)
 
 pub returns-clause-answered : goal.returns-clause-answered
-returns-clause-answered g c = rw (← c.begin.ensures.space) (λ total book series told stands found.
+returns-clause-answered g c = rw (shown.IsTold, shown.image, shown.view, shown.under, shown.numbers, shown.pages, ← c.begin.ensures.space) (λ total book series told stands found.
     let base = c.begin.new.self in
     let one : StoredSeries = c.series.result.now in
     let before : Image = (g.P.Pages.view base.space.pages).image in
@@ -136,7 +137,7 @@ returns-clause-answered g c = rw (← c.begin.ensures.space) (λ total book seri
     (c.save.ensures.answered total book series slots (c.clear_run.ensures.moved.reads.told told) (subst S (sym same) stands) found (subst C (sym same) changed))))
 
 pub returns-clause-carried : goal.returns-clause-carried
-returns-clause-carried g c = rw (← c.begin.ensures.space) (
+returns-clause-carried g c = rw (shown.IsTold, shown.image, shown.view, shown.under, shown.numbers, shown.pages, ← c.begin.ensures.space) (
     let base = c.begin.new.self in
     let tree = c.series.result.now.tree in
     let short = (c.args.self.now.fits c.args.id c.series.result.now c.series.ensures).slots in
@@ -150,10 +151,10 @@ returns-clause-carried g c = rw (← c.begin.ensures.space) (
 pub returns-in_err-txn-clause-carried : goal.returns-in_err-txn-clause-carried
 returns-in_err-txn-clause-carried g c =
     let E : StoreError → Type 0 = λ e. IsErrAnd c.from_residual.result (λ cause. cause ≡ e) in
-    rw (← c.begin.ensures.space) (carried_starved c.from_residual.result (subst E c.in_err-txn.ensures.error c.from_residual.ensures.1))
+    rw (shown.CarriesOut, shown.IsTold, shown.view, shown.under, shown.numbers, shown.pages, ← c.begin.ensures.space) (carried_starved c.from_residual.result (subst E c.in_err-txn.ensures.error c.from_residual.ensures.1))
 
 pub returns-in_err-txn-clause-answered : goal.returns-in_err-txn-clause-answered
 returns-in_err-txn-clause-answered g c =
     let E : StoreError → Type 0 = λ e. IsErrAnd c.from_residual.result (λ cause. cause ≡ e) in
-    rw (← c.begin.ensures.space) (λ total book series told stands found.
+    rw (shown.ForSeries, shown.Answers, shown.IsTold, shown.image, shown.view, shown.pages, ← c.begin.ensures.space) (λ total book series told stands found.
     answered_none _ total book c.from_residual.result NoMemory (g.P.Pages.view c.begin.new.self.space.pages) tt (subst E c.in_err-txn.ensures.error c.from_residual.ensures.1))

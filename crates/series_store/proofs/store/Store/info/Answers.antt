@@ -1,5 +1,6 @@
-use Rattle.std.proofs.Common.{◌≤◌, ◌^◌, ℤ, refl, sym, subst}
+use Rattle.std.proofs.Common.{◌≤◌, ◌^◌, ℤ, refl, sym, subst, arith}
 use Rattle.std.specs.Prelude.{unsigned_abs}
+use Rattle.whole_number.specs.Range.{IsValue}
 use Rattle.series_store.proofs.AskLemmas.{own_store, info_is, start_same}
 use Rattle.series_store.proofs.store.Store.info.Goals as goal
 
@@ -11,7 +12,7 @@ returns-clause-step g c =
 pub returns-clause-start : goal.returns-clause-start
 returns-clause-start g c =
     let few = (c.args.self.now.fits c.args.id c.series-series.result.now c.series-series.ensures).start in
-    let P : ℤ → Type 0 = λ z. unsigned_abs z ≤ 10 ^ 18 in
+    let P : ℤ → Type 0 = IsValue in
     subst P (sym (start_same c.series-series.result.now.start few)) few
 
 pub returns-clause-scale : goal.returns-clause-scale
@@ -29,3 +30,9 @@ pub returns-clause-info : goal.returns-clause-info
 returns-clause-info g c = λ total book series fit told stands there.
     let own = own_store (g.P.Pages.view c.args.self.now.space.pages).size total (g.P.Pages.view c.args.self.now.space.pages).image book c.args.self.now.space.superblock c.args.self.now.space.rules c.args.self.now.small (c.args.self.now.space.spelled fit told) stands in
     info_is (g.P.Pages.view c.args.self.now.space.pages).image c.args.self.now.space.superblock book c.args.self.now.catalog.series.items c.args.id c.series-series.result.now series _ own.0 (c.args.self.now.told fit told) c.series-series.ensures there refl (start_same c.series-series.result.now.start (c.args.self.now.fits c.args.id c.series-series.result.now c.series-series.ensures).start) refl refl refl refl
+
+pub returns-clause-few : goal.returns-clause-few
+returns-clause-few g c = omega (arith, c.requires, c.args.self.now.catalog.few)
+
+pub returns-clause-proper : goal.returns-clause-proper
+returns-clause-proper g c = (c.args.self.now.fits c.args.id c.series-series.result.now c.series-series.ensures).span

@@ -4,7 +4,8 @@ use Rattle.page_space.specs.declared.superblock.Superblock.{Superblock}
 use Rattle.stored_book.specs.Standing.{StandsForBook}
 use Rattle.tree_walk.specs.SpaceViews.{space_view}
 use Rattle.tree_walk.proofs.TrailLemmas.{any_trail}
-use Rattle.series_store.proofs.OpenLemmas.{made, made_whole, making, none_fit, none_told}
+use Rattle.series_catalog.proofs.ReadLemmas.{none_told}
+use Rattle.series_store.proofs.OpenLemmas.{init_fault, init_same, init_unsound, made, made_whole, making, none_fit}
 use Rattle.series_store.proofs.store.Store.init.Goals as goal
 
 pub invariant_of-result : goal.invariant_of-result
@@ -38,3 +39,18 @@ pub returns-in-Err-init-clause-moments : goal.returns-in-Err-init-clause-moments
 returns-in-Err-init-clause-moments g c =
     let small : (g.P.Pages.view c.args.pages).size < 2 ^ 32 = omega (arith, c.count-count.ensures) in
     making (g.P.Pages.told c.args.pages) (g.P.Pages.told c.in-Err-init.field-0.value) (g.P.Pages.view c.args.pages) (g.P.Pages.view c.in-Err-init.field-0.value) c.requires.many small c.in-Err-init.ensures.first c.in-Err-init.ensures.commits
+
+pub returns-in-Err-init-clause-fault : goal.returns-in-Err-init-clause-fault
+returns-in-Err-init-clause-fault g c = λ is.
+    let view = g.P.Pages.view in
+    init_fault (view c.args.pages) (view c.in-Err-init.field-0.value) c.in-Err-init.field-0.cause c.in-Err-init.ensures.cause (sym c.space_error.ensures ∙ is)
+
+pub returns-in-Err-init-clause-unsound : goal.returns-in-Err-init-clause-unsound
+returns-in-Err-init-clause-unsound g c = λ is.
+    let view = g.P.Pages.view in
+    init_unsound (view c.args.pages) (view c.in-Err-init.field-0.value) (view c.in-Err-init.field-0.value).fit c.in-Err-init.field-0.cause c.in-Err-init.ensures.cause c.in-Err-init.ensures.unsound (sym c.space_error.ensures ∙ is)
+
+pub returns-in-Err-init-clause-no_memory : goal.returns-in-Err-init-clause-no_memory
+returns-in-Err-init-clause-no_memory g c = λ is.
+    let view = g.P.Pages.view in
+    init_same (view c.args.pages) (view c.in-Err-init.field-0.value) c.in-Err-init.field-0.value c.args.pages c.in-Err-init.field-0.cause c.in-Err-init.ensures.cause c.in-Err-init.ensures.no_memory (sym c.space_error.ensures ∙ is)

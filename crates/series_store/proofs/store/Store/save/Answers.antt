@@ -6,8 +6,8 @@ use Rattle.page_space.specs.declared.superblock.Superblock.{Superblock}
 use Rattle.page_space.specs.Transactions.{held, left_by}
 use Rattle.catalog_page.specs.Entries.{IsEntry}
 use Rattle.series_book.specs.Edits.{Edited, with_slots}
-use Rattle.store_catalog.specs.Catalogs.{AreFit, AreAsTold, entry_of, with_tree}
-use Rattle.store_catalog.specs.declared.stored_series.StoredSeries.{StoredSeries}
+use Rattle.series_catalog.specs.Catalogs.{AreFit, AreAsTold, entry_of, with_tree}
+use Rattle.series_catalog.specs.declared.stored_series.StoredSeries.{StoredSeries}
 use Rattle.stored_book.specs.Standing.{AreCatalog, IsStore, StandsForBook}
 use Rattle.tree_walk.proofs.TrailLemmas.{any_trail}
 use Rattle.tree_walk.specs.SpaceViews.{space_view}

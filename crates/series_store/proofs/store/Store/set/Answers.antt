@@ -8,7 +8,7 @@ use Rattle.series_book.specs.declared.refusals.Refusal.{Refusal}
 use Rattle.series_book.specs.declared.refusals.Refusal.TheVariants.{UnknownSeries}
 use Rattle.series_book.specs.Axes.{IsAxisOf}
 use Rattle.series_book.specs.Edits.{Edited, apply, id_of, place_of, within, set_at, overwritten}
-use Rattle.store_catalog.specs.declared.stored_series.StoredSeries.{StoredSeries}
+use Rattle.series_catalog.specs.declared.stored_series.StoredSeries.{StoredSeries}
 use Rattle.series_store.specs.Changing.{IsAnswered}
 use Rattle.series_store.specs.declared.errors.StoreError.TheVariants.{Refused, NoMemory}
 use Rattle.series_store.proofs.AnswerLemmas.{answered_none}

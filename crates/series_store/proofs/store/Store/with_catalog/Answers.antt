@@ -1,8 +1,10 @@
 use Rattle.std.proofs.Common.{◌≡◌, ◌<◌, ◌^◌, sym, ap, subst, arith, ◌∙◌}
 use Rattle.page_space.specs.declared.superblock.Superblock.{Superblock}
-use Rattle.store_catalog.specs.Catalogs.{AreFit}
+use Rattle.series_catalog.specs.Catalogs.{AreFit}
 use Rattle.tree_walk.specs.SpaceViews.{space_view}
 use Rattle.tree_walk.proofs.TrailLemmas.{any_trail}
+use Rattle.series_store.specs.Opening.{IsFirstPage}
+use Rattle.series_store.proofs.OpenLemmas.{first_read}
 use Rattle.series_store.proofs.StayLemmas.{Stay, told_on, whole_on}
 use Rattle.series_store.proofs.store.Store.with_catalog.Goals as goal
 
@@ -28,3 +30,6 @@ invariant_of-result g c =
       proper = tt;
       trail_is = any_trail (g.P.Pages.told c.read_catalog.new.space.pages) (space_view c.read_catalog.new.space.superblock (g.P.Pages.view c.read_catalog.new.space.pages)) _ c.args.trail c.requires.trail;
     }
+
+pub returns-in-Err-clause-place : goal.returns-in-Err-clause-place
+returns-in-Err-clause-place g c = subst IsFirstPage (sym c.catalog_error.ensures) (first_read c.in-Err.cause c.in-Err.ensures.place)

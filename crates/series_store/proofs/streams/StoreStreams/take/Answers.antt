@@ -1,6 +1,6 @@
 use Rattle.std.proofs.Common.{◌≡◌, ◌<◌, ◌^◌, sym, ap, subst, ◌∙◌}
 use Rattle.page_space.specs.declared.superblock.Superblock.{Superblock}
-use Rattle.store_catalog.specs.Catalogs.{AreFit}
+use Rattle.series_catalog.specs.Catalogs.{AreFit}
 use Rattle.series_store.proofs.StayLemmas.{Stay, told_on, whole_on, trail_on}
 use Rattle.series_store.proofs.streams.StoreStreams.take.Goals as goal
 

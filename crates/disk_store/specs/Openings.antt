@@ -1,0 +1,78 @@
+-- What comes of an opening.
+use Rattle.std.specs.Prelude.{ℕ, ◌+◌, ◌≡◌, ◌≤◌, ◌<◌, ◌⊎◌, Result, Ok, Err}
+use Rattle.block_disk.specs.Counts.{HasRisen}
+use Rattle.block_disk.specs.View.{Image, View, Honest, Passes, Rises}
+use Rattle.block_disk.specs.declared.back.Back.{Back}
+use Rattle.block_disk.specs.declared.disk.Disk.{Ghosts}
+use Rattle.gate_pages.specs.declared.pages.Pages as pages_trait
+use Rattle.gate_pages.specs.declared.errors.OpenCause.{OpenCause}
+use Rattle.gate_pages.specs.declared.errors.OpenCause.TheVariants as of_pages
+use Rattle.gate_pages.specs.declared.gate_pages.GatePages.{GatePages}
+use Rattle.gate_pages.specs.GatePages.{IsBroken, StandsAsBefore}
+use Rattle.gate_pages.specs.Journal.{page_count, pages_of}
+use Rattle.gate_pages.specs.Pages.{Quiet}
+use Rattle.page_space.specs.Layout.{HasMagic}
+use Rattle.series_store.specs.Opening.{IsBrokenPage}
+use Rattle.series_store.specs.declared.errors.StoreError.{StoreError}
+use Rattle.series_store.specs.declared.errors.StoreError.TheVariants as of_store
+use Rattle.series_store.specs.declared.store.Store.{Store}
+use Rattle.disk_store.specs.Shown.{disk_below}
+use Rattle.disk_store.specs.declared.causes.OpeningCause.{OpeningCause}
+use Rattle.disk_store.specs.declared.causes.OpeningCause.TheVariants.{TooSmall, Damaged, DiskFault, NoMemory}
+
+-- the disk, within a store or handed back
+abbrev pub disk_in : {D : Type 0} {disk : Ghosts D} {pages : pages_trait.Ghosts (GatePages D disk)} → Result (Store (GatePages D disk) pages) (Back D OpeningCause) → D
+disk_in (Ok store) = disk_below store
+disk_in (Err back) = back.value
+
+-- Block 1 is the directory of an open journal and breaks its layout. Or, once the journal is replayed, block 66 lacks
+-- the magic of a store, or this block breaks the layout of its page.
+abbrev pub IsDamagedBlock : ℕ → Image → ℕ → Type 0
+IsDamagedBlock count image block =
+    ((block ≡ 1) × IsBroken count image)
+    ⊎ (((block ≡ 66) × (HasMagic (pages_of count image 0) → ⊥))
+    ⊎ ((page : ℕ) × (block ≡ 66 + page) × IsBrokenPage count (pages_of count image) page))
+
+-- whatever the disk is, a block that is called damaged is the directory, or it has page 0 or a page of the catalog
+abbrev pub IsOpeningPlace : OpeningCause → Type 0
+IsOpeningPlace (TooSmall size) = Unit {0}
+IsOpeningPlace (Damaged block) = (block ≡ 1) ⊎ ((66 ≤ block) × (block ≤ 82))
+IsOpeningPlace DiskFault = Unit {0}
+IsOpeningPlace NoMemory = Unit {0}
+
+-- when each cause comes
+abbrev pub Prevents : OpeningCause → View → View → Type 0
+Prevents (TooSmall size) old new = (size ≡ old.size) × (size < 128)
+Prevents (Damaged block) old new =
+    (128 ≤ old.size) × (((block ≡ 1) ⊎ (66 ≤ block)) × (Honest old → IsDamagedBlock (page_count old.size) old.image block))
+Prevents DiskFault old new = HasRisen old.faults new.faults
+Prevents NoMemory old new = Unit {0}
+
+-- why a disk that stands for a book wasn't opened
+abbrev pub IsOutside : OpeningCause → Type 0
+IsOutside cause = (cause ≡ DiskFault) ⊎ (cause ≡ NoMemory)
+
+-- What an opening leaves: at each moment a crash leaves an image that stands for pages for which one stood that it might
+-- have left before, and no byte is sent.
+pub record Opens (count : ℕ) (old new : View) : Type 0 where
+  pub time : Passes old new (StandsAsBefore count old) (Quiet old)
+  pub honest : Honest old → Honest new
+  pub was_honest : Honest new → Honest old
+  pub beside_is : new.beside ≡ old.beside
+  pub faults : old.faults ≤ new.faults
+  pub reads : Rises 200 old.reads new.reads
+
+-- the cause, by that of the pages
+abbrev pub cause_of : OpenCause → OpeningCause
+cause_of of_pages.DiskFault = DiskFault
+cause_of (of_pages.TooSmall blocks) = TooSmall blocks
+cause_of of_pages.BadDirectory = Damaged 1
+cause_of of_pages.NoMemory = NoMemory
+
+-- the cause, by that of the store on the pages
+abbrev pub store_cause_of : StoreError → OpeningCause
+store_cause_of (of_store.Refused refusal) = NoMemory
+store_cause_of of_store.NotAStore = Damaged 66
+store_cause_of of_store.DiskFault = DiskFault
+store_cause_of (of_store.Damaged page) = Damaged (66 + page)
+store_cause_of of_store.NoMemory = NoMemory

@@ -1,0 +1,48 @@
+use Rattle.std.proofs.Common.{ℕ, subst}
+use Rattle.std.proofs.lemmas.Result.{IfErr-weaker}
+use Rattle.gate_pages.specs.Journal.{page_count}
+use Rattle.gate_pages.specs.Openings.{Leaves, LeftBroken}
+use Rattle.gate_pages.specs.declared.errors.OpenCause.{OpenCause}
+use Rattle.empty_store.specs.Causes.{given}
+use Rattle.empty_store.specs.Stores.{LeavesNew}
+use Rattle.empty_store.proofs.DisksMade.{leaves_made, leaves_back}
+use Rattle.empty_store.proofs.Lowered.{given_of, kept_back, kept_lowered}
+use Rattle.empty_store.proofs.making.make_store.Goals as goal
+
+pub returns-in-Ok-clause-moments : goal.returns-in-Ok-clause-moments
+returns-in-Ok-clause-moments g c = λ honest.
+    let view = g.D.Disk.view in
+    let old = view c.args.disk in
+    let opened = c.in-Ok.ensures in
+    let mid = c.in-Ok.pages in
+    let made = given c.make_pages.result in
+    let Q : g.row.D.Denot → Type 0 = λ disk. LeavesNew (page_count old.size) old (view disk) in
+    subst Q (given_of c.make_pages.result c.on_disk.result c.on_disk.ensures.disk)
+    (leaves_made (page_count old.size) mid.count made.count mid.sound made.sound old (view mid.disk) (view made.disk) opened.count c.make_pages.ensures.size honest opened.moments (opened.pages honest)
+    (c.make_pages.ensures.makes (opened.moves.honest honest)) c.make_pages.ensures.goes_on)
+
+pub returns-in-BadDirectory-clause-moments : goal.returns-in-BadDirectory-clause-moments
+returns-in-BadDirectory-clause-moments g c = λ honest.
+    let view = g.D.Disk.view in
+    let old = view c.args.disk in
+    let mid = view c.in-Err.field-0.value in
+    let new = view (given c.make_anew.result) in
+    let L : OpenCause → Type 0 = λ cause. Leaves cause old mid in
+    let left : LeftBroken old mid = subst L c.in-BadDirectory.is c.in-Err.ensures.left in
+    let N : ℕ → Type 0 = λ n. LeavesNew (page_count n) mid new in
+    leaves_back (page_count old.size) 2 1 0 old mid left.moves new (subst N left.moves.size (c.make_anew.ensures.moments (left.moves.honest honest)))
+
+pub returns-in-Ok-clause-no_memory : goal.returns-in-Ok-clause-no_memory
+returns-in-Ok-clause-no_memory g c =
+    let old = g.D.Disk.view c.args.disk in
+    let opened = c.in-Ok.ensures in
+    kept_lowered old c.in-Ok.pages c.make_pages.result c.on_disk.result c.on_disk.ensures.disk opened.count c.make_pages.ensures.size opened.moves.honest opened.pages c.make_pages.ensures.no_memory
+
+pub returns-in-BadDirectory-clause-no_memory : goal.returns-in-BadDirectory-clause-no_memory
+returns-in-BadDirectory-clause-no_memory g c =
+    let view = g.D.Disk.view in
+    let old = view c.args.disk in
+    let mid = view c.in-Err.field-0.value in
+    let L : OpenCause → Type 0 = λ cause. Leaves cause old mid in
+    let left : LeftBroken old mid = subst L c.in-BadDirectory.is c.in-Err.ensures.left in
+    IfErr-weaker c.make_anew.result _ _ (λ back kept none. kept_back 2 1 0 old mid (view back.value) left.moves (kept none)) c.make_anew.ensures.no_memory

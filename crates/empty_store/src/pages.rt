@@ -1,0 +1,93 @@
+//! An empty store is written into pages.
+ghost use Rattle.std.specs.Prelude.{◌≡◌, ◌≢◌, ◌≤◌, IfOk, IfErr};
+ghost use Rattle.block_disk.specs.View.{View};
+ghost use Rattle.gate_pages.specs.Pages.{GoesOn};
+ghost use Rattle.page_space.specs.Layout.{HasMagic};
+ghost use Rattle.empty_store.specs.Causes.{PreventsPages, given};
+ghost use Rattle.empty_store.specs.Stores.{IsEmptyStore, Makes};
+
+use crate::errors::InitCause;
+use block_disk::Back;
+use gate_pages::Pages;
+use page_space::{Space, SpaceError};
+use std::alloc::Global;
+
+/// Makes pages an empty store where page 0 lacks the magic of one.
+pub(crate) fn make_pages<P: Pages>(alloc: Global, pages: P) -> Result<P, Back<P, InitCause>>
+    requires sound { (P.view pages).fit }
+    requires many { 62 ≤ (P.view pages).size }
+    ensures cause { IfErr result (λ back. PreventsPages back.cause (P.told pages) (P.view pages) (P.view back.value)) }
+    ensures no_memory { IfErr result (λ back. back.cause ≡ InitCause.NoMemory → P.told pages → (P.view back.value).image ≡ (P.view pages).image) }
+    ensures fresh { IfOk result (λ made. P.told pages → HasMagic ((P.view pages).image 0) → ⊥) }
+    ensures makes { P.told pages → Makes (P.view pages) (P.view (given result)) }
+    ensures told { P.told pages → P.told (given result) }
+    ensures goes_on { GoesOn (P.under pages) (P.under (given result)) }
+    ensures store { IfOk result (λ made. P.told pages → IsEmptyStore (P.view pages).size (P.view made).image) }
+    ensures sound { IfOk result (λ made. (P.view made).fit) }
+    ensures size { (P.view (given result)).size ≡ (P.view pages).size }
+    ensures beside { (P.view (given result)).beside ≡ (P.view pages).beside }
+    ensures faults { (P.view pages).faults ≤ (P.view (given result)).faults }
+{
+    match Space::open(alloc, pages) {
+        Ok(space) => Err(Back {
+            value: space.into_pages(),
+            cause: InitCause::IsStore,
+        }),
+        Err(
+            Back {
+                value,
+                cause: SpaceError::NotAStore,
+            },
+        ) => write_pages(alloc, value),
+        Err(
+            Back {
+                value,
+                cause: SpaceError::Damaged { .. },
+            },
+        ) => Err(Back {
+            value,
+            cause: InitCause::IsStore,
+        }),
+        Err(Back { value, cause }) => Err(Back {
+            value,
+            cause: cause_of(cause),
+        }),
+    }
+}
+
+/// Makes pages an empty store, whatever they were.
+pub(crate) fn write_pages<P: Pages>(alloc: Global, pages: P) -> Result<P, Back<P, InitCause>>
+    requires sound { (P.view pages).fit }
+    requires many { 62 ≤ (P.view pages).size }
+    ensures cause { IfErr result (λ back. PreventsPages back.cause (P.told pages) (P.view pages) (P.view back.value)) }
+    ensures never_there { IfErr result (λ back. back.cause ≢ InitCause.IsStore) }
+    ensures no_memory { IfErr result (λ back. back.cause ≡ InitCause.NoMemory → back.value ≡ pages) }
+    ensures unsound { IfErr result (λ back. back.cause ≡ InitCause.DiskFault → (P.view back.value).fit → ⊥) }
+    ensures makes { Makes (P.view pages) (P.view (given result)) }
+    ensures told { P.told pages → P.told (given result) }
+    ensures goes_on { GoesOn (P.under pages) (P.under (given result)) }
+    ensures store { IfOk result (λ made. P.told pages → IsEmptyStore (P.view pages).size (P.view made).image) }
+    ensures sound { IfOk result (λ made. (P.view made).fit) }
+    ensures size { (P.view (given result)).size ≡ (P.view pages).size }
+    ensures beside { (P.view (given result)).beside ≡ (P.view pages).beside }
+    ensures faults { (P.view pages).faults ≤ (P.view (given result)).faults }
+{
+    match Space::init(alloc, pages) {
+        Ok(space) => Ok(space.into_pages()),
+        Err(Back { value, cause }) => Err(Back {
+            value,
+            cause: cause_of(cause),
+        }),
+    }
+}
+
+/// What a fault of the disk or want of memory is here. `init` and `open` answer no `Full`.
+fn cause_of(cause: SpaceError) -> InitCause
+    ensures fault { cause ≡ SpaceError.DiskFault → result ≡ InitCause.DiskFault }
+    ensures memory { cause ≢ SpaceError.DiskFault → result ≡ InitCause.NoMemory }
+{
+    match cause {
+        SpaceError::DiskFault => InitCause::DiskFault,
+        _ => InitCause::NoMemory,
+    }
+}

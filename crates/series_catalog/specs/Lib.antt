@@ -1,0 +1,3 @@
+pub mod Catalogs
+pub mod Reading
+pub mod Shown

@@ -1,0 +1,10 @@
+use Rattle.series_store.proofs.SendLemmas.{given_part_on, given_whole_on}
+use Rattle.series_store.proofs.sending.send_waiting.Goals as goal
+
+pub returns-in_default-clause-gives : goal.returns-in_default-clause-gives
+returns-in_default-clause-gives g c = λ text before given.
+    given_part_on text c.args.out.now.items c.as_slice.result.now before _ _ _ _ c.as_slice.ensures.value (g.met.P.PageWorld.beside_sent c.args.space.now.pages) (g.met.P.PageWorld.beside_sent c.send.new.self.pages) given c.in_default.ensures.part
+
+pub returns-clause-gives : goal.returns-clause-gives
+returns-clause-gives g c = λ text before given.
+    given_whole_on text c.args.out.now.items c.as_slice.result.now c.clear.new.self.items before _ _ _ _ c.as_slice.ensures.value (g.met.P.PageWorld.beside_sent c.args.space.now.pages) (g.met.P.PageWorld.beside_sent c.send.new.self.pages) given c.in-Ok.ensures.whole c.clear.ensures.items

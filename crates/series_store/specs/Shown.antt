@@ -1,0 +1,129 @@
+-- What a store shows.
+use Rattle.std.specs.Prelude.{ℕ, ℤ, ◌≡◌, length, List, Option, Result, Some, slice_get}
+use Rattle.block_disk.specs.View.{Image, View}
+use Rattle.gate_pages.specs.declared.pages.Pages.{Ghosts}
+use Rattle.gate_pages.specs.Pages.{GoesOn}
+use Rattle.om3_coeff.specs.View.{NodesView}
+use Rattle.page_space.specs.declared.superblock.Superblock.{Superblock}
+use Rattle.page_space.specs.declared.txn.Txn.{Txn}
+use Rattle.page_space.specs.Transactions.{left_by}
+use Rattle.series_book.specs.declared.one_series.Series.{Series}
+use Rattle.series_book.specs.declared.outcomes.Outcome.{Outcome}
+use Rattle.series_book.specs.declared.refusals.Refusal.{Refusal}
+use Rattle.series_book.specs.Edits.{Edited}
+use Rattle.series_catalog.specs.Shown.{series_in}
+use Rattle.series_catalog.specs.declared.stored_series.StoredSeries.{StoredSeries}
+use Rattle.stored_book.specs.Changing.{IsTreeChanged}
+use Rattle.stored_book.specs.Standing.{StandsForBook}
+use Rattle.tree_walk.specs.declared.tree.Tree.{Tree}
+use Rattle.tree_walk.specs.PagedNodes.{Ground, ground, paged_view}
+use Rattle.series_store.specs.Beside.{Kept, KeepsBeside, kept, beside_none, beside_then, beside_so}
+use Rattle.series_store.specs.Changing.{IsIdle, IsAnswered, IsCarriedOut}
+use Rattle.series_store.specs.Counting.{Looks}
+use Rattle.series_store.specs.Results.{Moves}
+use Rattle.series_store.specs.declared.errors.StoreError.{StoreError}
+use Rattle.series_store.specs.declared.store.Store.{Store}
+
+module _ {P : Type 0} {g : Ghosts P} where
+  abbrev pub pages : Store P g → P
+  pages it = it.space.pages
+
+  abbrev pub view : Store P g → View
+  view it = g.view (pages it)
+
+  abbrev pub under : Store P g → View
+  under it = g.under (pages it)
+
+  abbrev pub image : Store P g → Image
+  image it = (view it).image
+
+  abbrev pub total : Store P g → ℕ
+  total it = it.space.superblock.total
+
+  -- what page 0 tells
+  abbrev pub numbers : Store P g → Superblock
+  numbers it = it.space.superblock
+
+  -- the series of its catalog
+  abbrev pub catalog : Store P g → List StoredSeries
+  catalog it = series_in it.catalog
+
+  -- reads give what the pages are
+  abbrev pub IsTold : Store P g → Type 0
+  IsTold it = g.told (pages it)
+
+  -- its pages are sound: more calls may be made
+  abbrev pub IsSound : Store P g → Type 0
+  IsSound it = (view it).fit
+
+  -- no series is selected
+  abbrev pub SelectsNone : Store P g → Type 0
+  SelectsNone it = IsIdle it.tree it.trail
+
+  -- the same series is selected
+  abbrev pub SelectsSame : Store P g → Store P g → Type 0
+  SelectsSame old new = (new.tree ≡ old.tree) × (new.trail ≡ old.trail)
+
+  -- what the nodes of the selected series stand on, and these nodes
+  abbrev pub stands_on : Store P g → Ground
+  stands_on it = ground (IsTold it) (view it) (under it) (numbers it) it.tree
+
+  abbrev pub nodes : Store P g → NodesView
+  nodes it = paged_view (stands_on it) it.trail
+
+  -- what it has beside its pages
+  abbrev pub beside : Store P g → Kept
+  beside it = kept it.space.superblock it.catalog it.tree it.trail
+
+  -- the pages change so, and all else stays
+  abbrev pub Keeps : Type 0 → Store P g → Store P g → Type 0
+  Keeps so old new = KeepsBeside so (beside old) (beside new)
+
+  -- so of each book that the pages stand for
+  abbrev pub ForBook : Store P g → (ℕ → List Series → Type 0) → Type 0
+  ForBook it IsSo = (total : ℕ) (book : List Series) → IsTold it → StandsForBook (image it) total book → IsSo total book
+
+  -- so of each book that the pages stand for, where they are sound
+  abbrev pub ForSoundBook : Store P g → (ℕ → List Series → Type 0) → Type 0
+  ForSoundBook it IsSo = (total : ℕ) (book : List Series) → IsSound it → IsTold it → StandsForBook (image it) total book → IsSo total book
+
+  -- so of each such book with its series of this id
+  abbrev pub ForSeries : Store P g → ℕ → (ℕ → List Series → Series → Type 0) → Type 0
+  ForSeries it id IsSo = (total : ℕ) (book : List Series) (series : Series) → IsTold it → StandsForBook (image it) total book → slice_get book id ≡ Some series → IsSo total book series
+
+  abbrev pub ForSoundSeries : Store P g → ℕ → (ℕ → List Series → Series → Type 0) → Type 0
+  ForSoundSeries it id IsSo = (total : ℕ) (book : List Series) (series : Series) → IsSound it → IsTold it → StandsForBook (image it) total book → slice_get book id ≡ Some series → IsSo total book series
+
+  -- and with the slots for which this tree of the series stands, as a transaction would leave it
+  abbrev pub ForChangedTree : Store P g → Txn → ℕ → Tree → (ℕ → List Series → Series → List (Option ℤ) → Type 0) → Type 0
+  ForChangedTree it txn id tree IsSo = (total : ℕ) (book : List Series) (series : Series) (slots : List (Option ℤ)) → IsTold it → StandsForBook (image it) total book → slice_get book id ≡ Some series
+      → IsTreeChanged (image it) (left_by txn (image it)) (length book) id txn.superblock tree slots → IsSo total book series slots
+
+  -- a call did what the book answers
+  abbrev pub Answers : Result Edited Refusal → ℕ → List Series → Result Outcome StoreError → Store P g → Store P g → Type 0
+  Answers answer total book result old new = IsAnswered answer total book result (view old) (view new)
+
+  -- a call did this, whatever the pages are
+  abbrev pub CarriesOut : Result Outcome StoreError → Store P g → Store P g → Type 0
+  CarriesOut result old new = IsCarriedOut (IsTold old) (IsTold new) (view old) (view new) (under old) (under new) (numbers old) (numbers new) result
+
+  -- an edit moves this, whatever the pages are
+  abbrev pub MovesSo : Store P g → Store P g → Type 0
+  MovesSo old new = Moves (IsTold old) (IsTold new) (view old) (view new)
+
+  -- time goes on where the pages lie
+  abbrev pub TimeGoesOn : Store P g → Store P g → Type 0
+  TimeGoesOn old new = GoesOn (under old) (under new)
+
+  -- pages are read, and nothing else changes
+  abbrev pub OnlyLooks : Store P g → Store P g → Type 0
+  OnlyLooks old new = Looks (IsTold old) (IsTold new) (view old) (view new) (under old) (under new) (numbers old) (numbers new)
+
+  pub keeps_none : {so : Type 0} (at : Store P g) → so → Keeps so at at
+  keeps_none {so} at are = beside_none so (beside at) are
+
+  pub keeps_then : {one two both : Type 0} (old between new : Store P g) → (one → two → both) → Keeps one old between → Keeps two between new → Keeps both old new
+  keeps_then {one} {two} {both} old between new join first second = beside_then one two both (beside old) (beside between) (beside new) join first second
+
+  pub keeps_so : {one two : Type 0} (old new : Store P g) → (one → two) → Keeps one old new → Keeps two old new
+  keeps_so {one} {two} old new more keeps = beside_so one two (beside old) (beside new) more keeps

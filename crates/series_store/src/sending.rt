@@ -1,0 +1,120 @@
+//! The values of a tree are sent as texts, page by page.
+ghost use Rattle.std.specs.Prelude.{◌≡◌, ◌<◌, ◌≤◌, ◌+◌, ◌^◌, ◌++◌, ℕ, ℤ, List, [], Option, length, false, IfErr, OnOk};
+ghost use Rattle.block_disk.specs.View.{View};
+ghost use Rattle.om3_coeff.specs.Keys.{first_slot, end_slot};
+ghost use Rattle.om3_coeff.specs.Spans.{AreSlots, IsProperIfAny, span};
+ghost use Rattle.path_repair.specs.Keeping.{IsMatched};
+ghost use Rattle.path_repair.specs.TreePages.{page_count};
+ghost use Rattle.tree_walk.specs.Trees.{top_of_page, IsTree};
+ghost use Rattle.series_store.specs.Sending.{said, IsGiven, GivesBy, Sends, IsTextCause, IsSendCause, SendsPart};
+
+use crate::counting::read_page;
+use crate::send_errors::SendError;
+use crate::texts::Texts;
+use block_disk::Streams;
+use gate_pages::PageWorld;
+use node_page::child_of;
+use om3_coeff::{Key, Span};
+use page_space::Space;
+use page_spans::PageSpans;
+
+/// So many bytes wait at most before they are sent.
+const PIECE: usize = 16_384;
+
+/// Sends what waits.
+pub(crate) fn send_waiting<P: PageWorld>(
+    space: &mut Space<P>,
+    out: &mut Vec<u8>,
+) -> Result<(), SendError>
+    ensures none { OnOk result (out.new.items ≡ []) }
+    ensures sends { Sends (P.told space.old.pages) (P.told space.new.pages) (P.view space.old.pages) (P.view space.new.pages) (P.under space.old.pages) (P.under space.new.pages) space.old.superblock space.new.superblock }
+    ensures reads { (P.view space.new.pages).reads ≡ (P.view space.old.pages).reads }
+    ensures gives { (text : List ℕ) (before : Option (List ℕ)) → IsGiven text before (P.view space.old.pages).beside.sent out.old.items → GivesBy result text before (P.view space.new.pages).beside.sent out.new.items }
+    ensures cause { IfErr result (λ e. IsTextCause e (P.view space.old.pages) (P.view space.new.pages)) }
+{
+    let Ok(()) = space.send(out.as_slice()) else {
+        return Err(SendError::SendFault);
+    };
+    out.clear();
+    Ok(())
+}
+
+/// Gives the text of a value; what waits is sent once it is a piece.
+fn send_value<P: PageWorld, T: Texts>(
+    space: &mut Space<P>,
+    slot: u64,
+    value: i64,
+    texts: &T,
+    out: &mut Vec<u8>,
+) -> Result<(), SendError>
+    requires slot { slot < 2 ^ 28 }
+    ensures few { OnOk result (length out.new.items < 16384) }
+    ensures sends { Sends (P.told space.old.pages) (P.told space.new.pages) (P.view space.old.pages) (P.view space.new.pages) (P.under space.old.pages) (P.under space.new.pages) space.old.superblock space.new.superblock }
+    ensures reads { (P.view space.new.pages).reads ≡ (P.view space.old.pages).reads }
+    ensures gives { (text : List ℕ) (before : Option (List ℕ)) → IsGiven text before (P.view space.old.pages).beside.sent out.old.items → GivesBy result (text ++ T.text texts.now slot value) before (P.view space.new.pages).beside.sent out.new.items }
+    ensures cause { IfErr result (λ e. IsTextCause e (P.view space.old.pages) (P.view space.new.pages)) }
+{
+    texts.add(slot, value, out)?;
+    if out.len() < PIECE {
+        return Ok(());
+    }
+    send_waiting(space, out)
+}
+
+/// Whether something may be said of the slots of the page of this page level and index.
+fn may_say<T: Texts>(level: u8, index: u64, texts: &T) -> bool
+    requires level { level ≤ 4 }
+    requires few { end_slot (top_of_page level index) ≤ 2 ^ 28 }
+    ensures silent { result ≡ false → (slot : ℕ) (value : ℤ) → first_slot (top_of_page level index) ≤ slot → slot < end_slot (top_of_page level index) → T.text texts.now slot value ≡ [] }
+{
+    let top = Key {
+        level: 7 * level,
+        index,
+    };
+    texts.may_say(top.first(), top.end())
+}
+
+/// Sends what is said of the values in the range of this page level and index, which has this span: of a
+/// slot, or of those below this page. What waits at the end is fewer bytes than a piece.
+pub(crate) fn send_below<P: PageWorld, T: Texts>(
+    space: &mut Space<P>,
+    level: u8,
+    index: u64,
+    page: u32,
+    top: Option<Span>,
+    texts: &T,
+    out: &mut Vec<u8>,
+) -> Result<(), SendError>
+    requires sound { (P.view space.old.pages).fit }
+    requires level { level ≤ 4 }
+    requires range { end_slot (top_of_page level index) ≤ 2 ^ 28 }
+    requires page { page < space.old.superblock.total }
+    requires proper { IsProperIfAny top }
+    requires matched { 1 ≤ level → IsMatched page top }
+    requires few { length out.old.items < 16384 }
+    ensures few { OnOk result (length out.new.items < 16384) }
+    ensures sends { Sends (P.told space.old.pages) (P.told space.new.pages) (P.view space.old.pages) (P.view space.new.pages) (P.under space.old.pages) (P.under space.new.pages) space.old.superblock space.new.superblock }
+    ensures cause { IfErr result (λ e. IsSendCause e (P.told space.old.pages) (P.view space.old.pages) (P.view space.new.pages) space.old.superblock.total level page top) }
+    ensures part { (list : List (Option ℤ)) → P.told space.old.pages → AreSlots list → IsTree (P.view space.old.pages).image space.old.superblock.total list level index page → top ≡ span list (top_of_page level index)
+        → SendsPart (said (T.text texts.now) list) (first_slot (top_of_page level index)) (end_slot (top_of_page level index)) (page_count list level index) (P.view space.old.pages) (P.view space.new.pages) out.old.items out.new.items result }
+{
+    let Some(span) = top else {
+        return Ok(());
+    };
+    if !may_say(level, index, texts) {
+        return Ok(());
+    }
+    if level == 0 {
+        return send_value(space, index, span.min, texts, out);
+    }
+    let mut bytes = [0; 4096];
+    let mut spans = PageSpans::new();
+    read_page(space, level, page, span, &mut bytes, &mut spans)?;
+    for child in 0..128 {
+        let under = child_of(&bytes, child);
+        let part = spans.leaf(child);
+        let at = 128 * index + child as u64;
+        send_below(space, level - 1, at, under, part, texts, out)?;
+    }
+    Ok(())
+}

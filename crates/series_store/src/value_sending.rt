@@ -1,0 +1,82 @@
+//! The values of a series are sent as texts.
+ghost use Rattle.std.specs.Prelude.{◌≡◌, ◌<◌, ◌≤◌, ◌+◌, ◌^◌, ◌++◌, ℤ, List, Option, length, IfErr, OnOk, OnErr};
+ghost use Rattle.block_disk.specs.Streams.{sent_after, PartSent};
+ghost use Rattle.block_disk.specs.View.{View};
+ghost use Rattle.om3_coeff.specs.Keys.{page_levels};
+ghost use Rattle.om3_coeff.specs.Spans.{IsProperIfAny};
+ghost use Rattle.path_repair.specs.Keeping.{IsMatched};
+ghost use Rattle.series_book.specs.Pages.{series_pages};
+ghost use Rattle.tree_walk.specs.Trees.{StandsFor};
+ghost use Rattle.series_store.specs.Sending.{texts_of, Sends, SendsOn, IsSendCause, IsSeriesCause, IsNoDamage};
+ghost use Rattle.series_store.specs.Shown as shown;
+
+use crate::send_errors::SendError;
+use crate::sending::{send_below, send_waiting};
+use crate::store::Store;
+use crate::texts::Texts;
+use gate_pages::PageWorld;
+use om3_coeff::page_levels;
+use page_space::Space;
+use tree_walk::Tree;
+
+/// Sends what waits and what is said of the values of a tree.
+fn send_tree<P: PageWorld, T: Texts>(
+    space: &mut Space<P>,
+    tree: Tree,
+    texts: &T,
+    out: &mut Vec<u8>,
+) -> Result<(), SendError>
+    requires sound { (P.view space.old.pages).fit }
+    requires slots { tree.slots ≤ 2 ^ 28 }
+    requires root { tree.root < space.old.superblock.total }
+    requires proper { IsProperIfAny tree.span }
+    requires matched { IsMatched tree.root tree.span }
+    requires few { length out.old.items < 16384 }
+    ensures sent { (list : List (Option ℤ)) → P.told space.old.pages → StandsFor (P.view space.old.pages).image space.old.superblock.total tree list
+        → OnOk result ((P.view space.new.pages).beside.sent ≡ sent_after (out.old.items ++ texts_of (T.text texts.now) list) (P.view space.old.pages).beside.sent) }
+    ensures part { (list : List (Option ℤ)) → P.told space.old.pages → StandsFor (P.view space.old.pages).image space.old.superblock.total tree list
+        → OnErr result (PartSent (out.old.items ++ texts_of (T.text texts.now) list) (P.view space.old.pages).beside.sent (P.view space.new.pages).beside.sent) }
+    ensures no_damage { (list : List (Option ℤ)) → P.told space.old.pages → StandsFor (P.view space.old.pages).image space.old.superblock.total tree list → IfErr result IsNoDamage }
+    ensures reads { (list : List (Option ℤ)) → P.told space.old.pages → StandsFor (P.view space.old.pages).image space.old.superblock.total tree list
+        → (P.view space.new.pages).reads ≤ (P.view space.old.pages).reads + series_pages list }
+    ensures sends { Sends (P.told space.old.pages) (P.told space.new.pages) (P.view space.old.pages) (P.view space.new.pages) (P.under space.old.pages) (P.under space.new.pages) space.old.superblock space.new.superblock }
+    ensures cause { IfErr result (λ e. IsSendCause e (P.told space.old.pages) (P.view space.old.pages) (P.view space.new.pages) space.old.superblock.total (page_levels tree.slots) tree.root tree.span) }
+{
+    let levels = page_levels(tree.slots);
+    send_below(space, levels, 0, tree.root, tree.span, texts, out)?;
+    send_waiting(space, out)
+}
+
+impl<P: PageWorld> Store<P> {
+    /// Sends the bytes of `out`, fewer than 16,384 of them, and behind them what `texts` says of each value of
+    /// the series of this id, in the order of their slots. They go out in pieces: `out` never holds more than
+    /// 16,384 bytes and a text. Each page of the series' tree is read once at most, and none where nothing
+    /// may be said of its slots.
+    ///
+    /// After an error a front of the bytes was sent. Each page that is read is checked; the first that is bad
+    /// for its place is `Damaged`. Where the pages stand for a book none is. Nothing is written, and the
+    /// selected series stays.
+    pub fn send_values<T: Texts>(
+        &mut self,
+        id: u16,
+        texts: &T,
+        out: &mut Vec<u8>,
+    ) -> Result<(), SendError>
+        requires sound { (shown.view self.old).fit }
+        requires there { id < length (shown.catalog self.old) }
+        requires few { length out.old.items < 16384 }
+        ensures sent { shown.ForSeries self.old id (λ total book series.
+            OnOk result (P.sent (shown.pages self.new) ≡ sent_after (out.old.items ++ texts_of (T.text texts.now) series.slots) (P.sent (shown.pages self.old)))) }
+        ensures part { shown.ForSeries self.old id (λ total book series.
+            OnErr result (PartSent (out.old.items ++ texts_of (T.text texts.now) series.slots) (P.sent (shown.pages self.old)) (P.sent (shown.pages self.new)))) }
+        ensures no_damage { shown.ForSeries self.old id (λ total book series. IfErr result IsNoDamage) }
+        ensures reads { shown.ForSeries self.old id (λ total book series. (shown.view self.new).reads ≤ (shown.view self.old).reads + series_pages series.slots) }
+        ensures cause { IfErr result (λ e. IsSeriesCause e (shown.IsTold self.old) (shown.numbers self.old) id (shown.view self.old) (shown.view self.new)) }
+        ensures sends { SendsOn self.old self.new }
+        ensures catalog { self.new.catalog ≡ self.old.catalog }
+        ensures selected { (self.new.tree ≡ self.old.tree) × (self.new.trail ≡ self.old.trail) }
+    {
+        let tree = self.catalog.series(id).tree;
+        send_tree(&mut self.space, tree, texts, out)
+    }
+}

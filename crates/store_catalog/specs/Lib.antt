@@ -1,2 +1,0 @@
-pub mod Catalogs
-pub mod Reading

@@ -1,5 +1,0 @@
-use Rattle.store_laws.proofs.PagesInUse.{full_book}
-use Rattle.store_laws.proofs.laws.full_trees_are_full_books.Goals as goal
-
-pub returns : goal.returns
-returns c = full_book

@@ -1,0 +1,87 @@
+//! The laws.
+ghost use Rattle.std.specs.Prelude.{◌≡◌, ◌≢◌, ◌≤◌, ◌<◌, ◌+◌, ◌^◌, ◌++◌, ◌∷◌, [], ℕ, ℤ, List, Option, None, Some, length, slice_get};
+ghost use Rattle.block_disk.specs.View.{Image};
+ghost use Rattle.catalog_page.specs.Entries.{Entry};
+ghost use Rattle.page_space.specs.declared.superblock.Superblock.{Superblock};
+ghost use Rattle.page_space.specs.Firsts.{empty_over};
+ghost use Rattle.page_space.specs.Layout.{superblock_page, in_use, with_series, IsSmall};
+ghost use Rattle.path_repair.specs.Edited.{IsHeldTree, IsFullFor};
+ghost use Rattle.series_book.specs.declared.one_series.Series.{Series};
+ghost use Rattle.series_book.specs.Books.{IsBook};
+ghost use Rattle.series_book.specs.Edits.{with_slots};
+ghost use Rattle.series_book.specs.Pages.{pages_of};
+ghost use Rattle.empty_store.specs.Stores.{IsEmptyStore, IsNewStore};
+ghost use Rattle.tree_walk.specs.declared.tree.Tree.{Tree};
+ghost use Rattle.stored_book.specs.Records.{entry, tree_of, pages_of_others};
+ghost use Rattle.stored_book.specs.Books.{book_of};
+ghost use Rattle.stored_book.specs.Standing.{IsRecordOf, IsStore, StandsForBook, RecoversTo};
+ghost use Rattle.stored_book.specs.Changing.{IsSameImage, IsLater, IsTreeChanged, IsRecordSet, KeepsRecords, AddsRecord};
+
+/// Pages stand for one book alone, with one total.
+pub fn pages_stand_for_one_book()
+    ensures total { (image : Image) (total total' : ℕ) (book book' : List Series) → StandsForBook image total book → StandsForBook image total' book' → total' ≡ total }
+    ensures book { (image : Image) (total total' : ℕ) (book book' : List Series) → StandsForBook image total book → StandsForBook image total' book' → book' ≡ book }
+{}
+
+/// Pages that stand for a book tell that book.
+pub fn pages_tell_their_book()
+    ensures { (image : Image) (total : ℕ) (book : List Series) → StandsForBook image total book → book_of image ≡ book }
+{}
+
+/// The image of a disk stands for one book alone.
+pub fn images_recover_to_one_book()
+    ensures total { (count : ℕ) (image : Image) (total total' : ℕ) (book book' : List Series) → RecoversTo count image total book → RecoversTo count image total' book' → total' ≡ total }
+    ensures book { (count : ℕ) (image : Image) (total total' : ℕ) (book book' : List Series) → RecoversTo count image total book → RecoversTo count image total' book' → book' ≡ book }
+{}
+
+/// Page 0 decides the numbers with which pages stand.
+pub fn page_0_has_the_numbers()
+    ensures { (image : Image) (total : ℕ) (book : List Series) (s : Superblock) → StandsForBook image total book → image 0 ≡ superblock_page s → IsSmall s → IsStore image s book × (s.total ≡ total) }
+{}
+
+/// The pages in use are as many as the book needs, which are no more than there are.
+pub fn pages_in_use_are_those_of_the_book()
+    ensures count { (image : Image) (s : Superblock) (book : List Series) → IsStore image s book → in_use s ≡ pages_of book }
+    ensures few { (image : Image) (total : ℕ) (book : List Series) → StandsForBook image total book → pages_of book ≤ total }
+{}
+
+/// The first pages of a store stand for a book without a series, and so does a disk with an empty store.
+pub fn empty_stores_have_no_series()
+    ensures pages { (count : ℕ) (image : Image) → 62 ≤ count → count < 2 ^ 32 → StandsForBook (empty_over count image) count [] }
+    ensures empty { (count : ℕ) (image : Image) → 62 ≤ count → count < 2 ^ 32 → IsEmptyStore count image → StandsForBook image count [] }
+    ensures disk { (count : ℕ) (image : Image) → 62 ≤ count → count < 2 ^ 32 → IsNewStore count image → RecoversTo count image count [] }
+{}
+
+/// The same pages stand for the same book.
+pub fn same_pages_stand()
+    ensures { (old new : Image) (s : Superblock) (book : List Series) → IsSameImage old new → IsStore old s book → IsStore new s book }
+{}
+
+/// Where pages stand for a book, each series has a tree, beside which the pages of the others are in use.
+pub fn series_have_their_trees()
+    ensures { (image : Image) (s : Superblock) (book : List Series) (id : ℕ) (series : Series) → IsStore image s book → slice_get book id ≡ Some series
+        → IsHeldTree s.total image s (tree_of (entry image id)) series.slots (pages_of_others image (length book) id) }
+{}
+
+/// Where the tree of a series is changed and then its record, the pages stand for the book with the changed series.
+pub fn changed_series_stand()
+    ensures { (before mid after : Image) (s s' : Superblock) (book : List Series) (id : ℕ) (series : Series) (slots : List (Option ℤ)) (tree : Tree) (e : Entry)
+        → IsStore before s book → slice_get book id ≡ Some series → IsLater s s' → IsTreeChanged before mid (length book) id s' tree slots
+        → IsRecordOf series e → tree_of e ≡ tree → IsRecordSet mid after id e → KeepsRecords mid after id s'.fresh
+        → IsBook (with_slots book id series slots) → IsStore after s' (with_slots book id series slots) }
+{}
+
+/// Where page 0 counts a series more, and its record stands behind the others, the pages stand for the book with it.
+pub fn added_series_stand()
+    ensures { (before mid after : Image) (s : Superblock) (book : List Series) (series : Series) (e : Entry)
+        → IsStore before s book → length book < 512 → mid 0 ≡ superblock_page (with_series s (length book + 1)) → ((p : ℕ) → p ≢ 0 → mid p ≡ before p)
+        → IsRecordOf series e → series.slots ≡ [] → e.slots ≡ 0 → e.root ≡ 0 → e.span ≡ None → IsRecordSet mid after (length book) e → AddsRecord mid after (length book) s.fresh
+        → IsBook (book ++ series ∷ []) → IsStore after (with_series s (length book + 1)) (book ++ series ∷ []) }
+{}
+
+/// Where a tree isn't changed for want of pages, the changed book needs so many.
+pub fn full_trees_are_full_books()
+    ensures { (image : Image) (s : Superblock) (book : List Series) (id : ℕ) (series : Series) (slots : List (Option ℤ)) (needed have : ℕ)
+        → IsStore image s book → slice_get book id ≡ Some series → length slots ≤ 2 ^ 28 → IsFullFor s.total (in_use s) series.slots slots needed have
+        → (pages_of (with_slots book id series slots) ≡ needed) × (have ≡ s.total) × (s.total < needed) }
+{}
