@@ -1,0 +1,4 @@
+pub mod ExportLemmas
+pub mod CutLemmas
+pub mod SetLemmas
+pub mod RowLemmas

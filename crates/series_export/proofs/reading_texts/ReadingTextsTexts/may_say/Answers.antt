@@ -1,0 +1,13 @@
+use Rattle.std.proofs.Common.{◌-◌, arith, ap, sym, ◌∙◌, w64}
+use mir.Val.{to_z, of_z}
+use Rattle.series_export.proofs.ExportLemmas.{no_line, may_meet_so, time_same}
+use Rattle.series_export.proofs.reading_texts.ReadingTextsTexts.may_say.Goals as goal
+
+pub returns : goal.returns
+returns c = record {
+  silent = λ none.
+      let self = c.args.self.now in
+      let first = ap (λ t. to_z w64 (of_z w64 t)) c.time.ensures ∙ time_same self.start self.step c.args.first self.near self.short (omega (arith, c.requires.some, c.requires.few)) in
+      let last = ap (λ t. to_z w64 (of_z w64 t)) c.time-2.ensures ∙ time_same self.start self.step (c.args.end - 1) self.near self.short (omega (arith, c.requires.few)) in
+      no_line self.start self.step self.scale c.args.first c.args.end self.window (may_meet_so self.window _ _ _ _ first last (sym c.may_meet.ensures ∙ none));
+}

@@ -1,0 +1,63 @@
+//! A series is sent.
+ghost use Rattle.std.specs.Prelude.{◌≡◌, ◌≤◌, ◌<◌, ◌+◌, length, IfOk, IfErr, OnOk, OnErr};
+ghost use Rattle.block_disk.specs.Streams.{sent_after, PartSent};
+ghost use Rattle.block_disk.specs.View.{View};
+ghost use Rattle.series_book.specs.Pages.{series_pages};
+ghost use Rattle.series_store.specs.Sending.{SendsOn, IsSeriesCause, IsNoDamage};
+ghost use Rattle.series_store.specs.Shown as shown;
+ghost use Rattle.series_export.specs.Exports.{header, export_text};
+
+use crate::reading_texts::ReadingTexts;
+use crate::window::Window;
+use gate_pages::PageWorld;
+use series_book::NoMemory;
+use series_store::{SendError, Store};
+use std::alloc::Global;
+
+/// Room for a piece and a line.
+const ROOM: usize = 16_480;
+
+/// The header, with room for a piece behind it.
+fn started(alloc: Global) -> Result<Vec<u8>, NoMemory>
+    ensures header { IfOk result (λ out. out.items ≡ header) }
+{
+    let mut out = Vec::with_capacity(alloc, ROOM)?;
+    out.extend_from_slice(b"time,value\n")?;
+    Ok(out)
+}
+
+/// Sends the header and, in rising time, the line of each stored value of the series of this id, or of those
+/// whose times are in the window. They go out in pieces, and each page of the series' tree is read once at
+/// most, so memory doesn't grow with the series.
+///
+/// After an error a front of this text was sent. `SendFault` and `DiskFault` come where the count of their
+/// faults has risen, `Damaged` with the first page that is bad for its place, `NoMemory` for want of memory.
+/// Nothing is written, and the selected series stays.
+pub fn export_series<P: PageWorld>(
+    alloc: Global,
+    store: &mut Store<P>,
+    id: u16,
+    window: Option<Window>,
+) -> Result<(), SendError>
+    requires sound { (shown.view store.old).fit }
+    requires there { id < length (shown.catalog store.old) }
+    ensures sent { shown.ForSeries store.old id (λ total book series. OnOk result (P.sent (shown.pages store.new) ≡ sent_after (export_text series window) (P.sent (shown.pages store.old)))) }
+    ensures part { shown.ForSeries store.old id (λ total book series. OnErr result (PartSent (export_text series window) (P.sent (shown.pages store.old)) (P.sent (shown.pages store.new)))) }
+    ensures no_damage { shown.ForSeries store.old id (λ total book series. IfErr result IsNoDamage) }
+    ensures reads { shown.ForSeries store.old id (λ total book series. (shown.view store.new).reads ≤ (shown.view store.old).reads + series_pages series.slots) }
+    ensures cause { IfErr result (λ e. IsSeriesCause e (shown.IsTold store.old) (shown.numbers store.old) id (shown.view store.old) (shown.view store.new)) }
+    // a crash leaves at each moment what it might have left before
+    ensures sends { SendsOn store.old store.new }
+    ensures catalog { store.new.catalog ≡ store.old.catalog }
+    ensures selected { (store.new.tree ≡ store.old.tree) × (store.new.trail ≡ store.old.trail) }
+{
+    let info = store.info(id);
+    let texts = ReadingTexts {
+        start: info.start,
+        step: info.step,
+        scale: info.scale,
+        window,
+    };
+    let mut out = started(alloc)?;
+    store.send_values(id, &texts, &mut out)
+}

@@ -1,0 +1,40 @@
+//! What follows from the definitions. The functions do nothing: their contracts are the laws.
+ghost use Rattle.std.specs.Prelude.{◌≡◌, ◌≤◌, ℕ, List, [], Option, None};
+ghost use Rattle.block_disk.specs.View.{Image};
+ghost use Rattle.series_book.specs.declared.one_series.Series.{Series};
+ghost use Rattle.series_book.specs.Books.{IsSeries};
+ghost use Rattle.series_load.specs.Ends.{IsLoaded};
+ghost use Rattle.series_load.specs.Rows.{Reading, ReadsRows};
+ghost use Rattle.series_load.specs.Runs.{Run, AllRuns};
+ghost use Rattle.series_load.specs.Sets.{IsNamed, Loads};
+ghost use Rattle.series_export.specs.Exports.{stored_values, export_text};
+ghost use Rattle.series_export.specs.RoundTrips.{values_of, IsBegunAs, HoldsSame, HoldsNamed, StandsForSame};
+ghost use Rattle.series_export.specs.declared.window.Window.{Window};
+
+use csv_load::laws::{one_answer, plain_lines};
+use reading_lines::laws::{lines_are_plain, lines_are_read_back};
+
+/// The sets that a load makes of rows that read a series' stored values give a new series of the same start,
+/// step and scale the same values at the same slots; and the export of a series that holds the same is the
+/// same text.
+pub fn loads_hold_the_same()
+    ensures sets { (series begun : Series) (rows : List (Option Reading)) (runs : List Run) (total : ℕ) (name : List ℕ) (book new : List Series) →
+        1 ≤ series.step → IsBegunAs series begun → IsNamed book name begun → values_of rows ≡ stored_values series → AllRuns series.step rows runs → Loads total name book runs new → HoldsNamed new name series }
+    ensures text { (series after : Series) (window : Option Window) → HoldsSame series after → export_text after window ≡ export_text series window }
+{}
+
+/// A load reads the export of a series as rows whose readings are the series' stored values at their times,
+/// and there are such rows: all its lines are rows. So a load of the whole export into a new series of the same
+/// start, step and scale gives it the same values at the same slots.
+pub fn exports_are_read_back()
+    ensures rows { (series : Series) (rows : List (Option Reading)) → IsSeries series
+        → ReadsRows series.scale (export_text series None) (export_text series None) [] rows → values_of rows ≡ stored_values series }
+    ensures reads { (series : Series) → IsSeries series → (rows : List (Option Reading)) × ReadsRows series.scale (export_text series None) (export_text series None) [] rows }
+    ensures loaded { (total : ℕ) (name : List ℕ) (book : List Series) (series begun : Series) (count : ℕ) (image : Image) →
+        IsSeries series → IsBegunAs series begun → IsNamed book name begun → IsLoaded total name book begun (export_text series None) count image → StandsForSame total name series image }
+{
+    lines_are_plain();
+    lines_are_read_back();
+    one_answer();
+    plain_lines();
+}

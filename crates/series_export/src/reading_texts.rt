@@ -1,0 +1,48 @@
+//! The lines of a series' readings.
+ghost use Rattle.std.specs.Prelude.{◌≡◌, ◌≤◌, ◌<◌, ◌^◌, unsigned_abs};
+ghost use Rattle.series_export.specs.Exports.{slot_time, line_at};
+
+use crate::window::{Window, is_within, may_meet};
+use reading_lines::add_reading;
+use series_book::NoMemory;
+use series_store::Texts;
+
+/// The lines of the readings of a series in a window.
+#[derive(Drop)]
+pub(crate) struct ReadingTexts {
+    pub(crate) start: i64,
+    pub(crate) step: u32,
+    pub(crate) scale: u8,
+    pub(crate) window: Option<Window>,
+    ghost near: { unsigned_abs start ≤ 10 ^ 18 },
+    ghost short: { step ≤ 2 ^ 31 },
+    ghost places: { scale ≤ 9 },
+}
+
+impl ReadingTexts {
+    /// The time of a slot.
+    fn time(&self, slot: u64) -> i64
+        requires { slot ≤ 2 ^ 28 }
+        ensures { result ≡ slot_time self.now.start self.now.step slot }
+    {
+        self.start + (slot * u64::from(self.step)) as i64
+    }
+}
+
+impl Texts for ReadingTexts {
+    ghost use Rattle.series_export.specs.Exports.{line_at};
+
+    ghost text = { λ texts slot value. line_at texts.start texts.step texts.scale texts.window slot value };
+
+    fn may_say(&self, first: u64, end: u64) -> bool {
+        may_meet(self.window, self.time(first), self.time(end - 1))
+    }
+
+    fn add(&self, slot: u64, value: i64, out: &mut Vec<u8>) -> Result<(), NoMemory> {
+        let time = self.time(slot);
+        if !is_within(self.window, time) {
+            return Ok(());
+        }
+        add_reading(out, self.scale, time, value)
+    }
+}
