@@ -5,11 +5,11 @@ use Rattle.std.specs.List.{filter}
 use Rattle.std.proofs.lemmas.List.{length-map}
 use Rattle.std.proofs.lemmas.List.Elements.{filter-append, All-head, All-tail}
 use Rattle.chart_world.specs.Lines.{lines}
-use Rattle.chart_world.proofs.LineLaws.{lines_none}
+use Rattle.chart_world.specs.LineLaws.{lines_none, lines_joined}
+use Rattle.chart_world.specs.Fronts.{says, IsWhole}
 use Rattle.plain_chart.specs.Samples.{IsSlot}
-use Rattle.chart_service.proofs.Joined.{lines_joined}
-use Rattle.chart_program.specs.Slots.{says, spelling, SpellsSlot, IsWhole, Behind, FirstBad, HasTooMany}
-use Rattle.chart_program.specs.Ran.{HasTooMuch, IsSlots, IsFrames}
+use Rattle.chart_program.specs.Slots.{spelling, SpellsSlot, Behind, FirstBad, HasTooMany}
+use Rattle.chart_program.specs.Ran.{HasTooMuch, IsSlots, of_done}
 use Rattle.chart_program.proofs.Ending.{says_true}
 
 some_line : (rest : List ℕ) (line : Option (List ℕ)) (later : List (Option (List ℕ))) → lines rest ≡ line ∷ later → rest ≡ [] → ⊥
@@ -72,35 +72,22 @@ pub no_much : (input : List ℕ) (place : ℕ) → IsSlots input → HasTooMuch 
 no_much input place good (inl many) = no_many input good many.1
 no_much input place good (inr long) = omega (arith, good.short, long.1.past)
 
--- so a run is done, or there is no memory
-pub completed : (code : ℕ) (R S B M : Type 0) → Contains (0 ∷ 3 ∷ 4 ∷ 5 ∷ 8 ∷ 9 ∷ []) code → (code ≡ 4 → R) → (code ≡ 5 → S) → (code ≡ 8 → B) → (code ≡ 9 → M) → (R → ⊥) → (S → ⊥) → (B → ⊥) → (M → ⊥) → (code ≡ 0) ⊎ (code ≡ 3)
-completed code R S B M (zero, inside, is) read send bad much no_read no_send no_bad no_much = inl (sym is)
-completed code R S B M (suc zero, inside, is) read send bad much no_read no_send no_bad no_much = inr (sym is)
-completed code R S B M (suc (suc zero), inside, is) read send bad much no_read no_send no_bad no_much = absurd (no_read (read (sym is)))
-completed code R S B M (suc (suc (suc zero)), inside, is) read send bad much no_read no_send no_bad no_much = absurd (no_send (send (sym is)))
-completed code R S B M (suc (suc (suc (suc zero))), inside, is) read send bad much no_read no_send no_bad no_much = absurd (no_bad (bad (sym is)))
-completed code R S B M (suc (suc (suc (suc (suc zero)))), inside, is) read send bad much no_read no_send no_bad no_much = absurd (no_much (much (sym is)))
-completed code R S B M (suc (suc (suc (suc (suc (suc k))))), inside, is) read send bad much no_read no_send no_bad no_much = absurd (omega (arith, inside))
+-- so it is done, a stream fails, or there is no memory
+pub completed : (code : ℕ) (B M : Type 0) → Contains (0 ∷ 3 ∷ 4 ∷ 5 ∷ 8 ∷ 9 ∷ []) code → (code ≡ 8 → B) → (code ≡ 9 → M) → (B → ⊥) → (M → ⊥) → Contains of_done code
+completed code B M (zero, inside, is) bad much no_bad no_much = (0, omega arith, is)
+completed code B M (suc zero, inside, is) bad much no_bad no_much = (1, omega arith, is)
+completed code B M (suc (suc zero), inside, is) bad much no_bad no_much = (2, omega arith, is)
+completed code B M (suc (suc (suc zero)), inside, is) bad much no_bad no_much = (3, omega arith, is)
+completed code B M (suc (suc (suc (suc zero))), inside, is) bad much no_bad no_much = absurd (no_bad (bad (sym is)))
+completed code B M (suc (suc (suc (suc (suc zero)))), inside, is) bad much no_bad no_much = absurd (no_much (much (sym is)))
+completed code B M (suc (suc (suc (suc (suc (suc k))))), inside, is) bad much no_bad no_much = absurd (omega (arith, inside))
 
 -- where a plot's input is told
-pub plot_complete : (o : Option (List ℕ)) (code place : ℕ) (R S : Type 0) → Contains (0 ∷ 3 ∷ 4 ∷ 5 ∷ 8 ∷ 9 ∷ []) code → (code ≡ 4 → R) → (code ≡ 5 → S) → (code ≡ 8 → IfSome o (λ input. FirstBad input place)) → (code ≡ 9 → IfSome o (λ input. HasTooMuch input place))
-    → IfSome o (λ input. IsSlots input → (R → ⊥) → (S → ⊥) → (code ≡ 0) ⊎ (code ≡ 3))
-plot_complete None code place R S codes read send bad much = tt
-plot_complete (Some input) code place R S codes read send bad much = λ slots no_read no_send.
-    completed code R S (FirstBad input place) (HasTooMuch input place) codes read send bad much no_read no_send (no_bad input place slots) (no_much input place slots)
-
-draw_completed : (code : ℕ) (R S : Type 0) → Contains (0 ∷ 3 ∷ 4 ∷ 5 ∷ []) code → (code ≡ 4 → R) → (code ≡ 5 → S) → (R → ⊥) → (S → ⊥) → (code ≡ 0) ⊎ (code ≡ 3)
-draw_completed code R S (zero, inside, is) read send no_read no_send = inl (sym is)
-draw_completed code R S (suc zero, inside, is) read send no_read no_send = inr (sym is)
-draw_completed code R S (suc (suc zero), inside, is) read send no_read no_send = absurd (no_read (read (sym is)))
-draw_completed code R S (suc (suc (suc zero)), inside, is) read send no_read no_send = absurd (no_send (send (sym is)))
-draw_completed code R S (suc (suc (suc (suc k))), inside, is) read send no_read no_send = absurd (omega (arith, inside))
-
--- where the frames of a drawing are told
-pub draw_complete : (o : Option (List ℕ)) (code : ℕ) (R S : Type 0) → (code ≡ 4 → R) → (code ≡ 5 → S) → IfSome o (λ input. IsFrames input → Contains (0 ∷ 3 ∷ 4 ∷ 5 ∷ []) code)
-    → IfSome o (λ input. IsFrames input → (R → ⊥) → (S → ⊥) → (code ≡ 0) ⊎ (code ≡ 3))
-draw_complete None code R S read send good = tt
-draw_complete (Some input) code R S read send good = λ frames no_read no_send. draw_completed code R S (good frames) read send no_read no_send
+pub plot_complete : (o : Option (List ℕ)) (code place : ℕ) → Contains (0 ∷ 3 ∷ 4 ∷ 5 ∷ 8 ∷ 9 ∷ []) code → (code ≡ 8 → IfSome o (λ input. FirstBad input place)) → (code ≡ 9 → IfSome o (λ input. HasTooMuch input place))
+    → IfSome o (λ input. IsSlots input → Contains of_done code)
+plot_complete None code place codes bad much = tt
+plot_complete (Some input) code place codes bad much = λ slots.
+    completed code (FirstBad input place) (HasTooMuch input place) codes bad much (no_bad input place slots) (no_much input place slots)
 
 -- what holds at all holds where an input is told
 pub told_all : (o : Option (List ℕ)) (P : Type 0) → P → IfSome o (λ input. P)

@@ -2,24 +2,23 @@
 use Rattle.std.proofs.Common.{◌≡◌, ℕ, ◌≤◌, ◌^◌, zero, suc, ◌⊎◌, false, List, [], ◌∷◌, Option, Some, None, IfSome, length, refl, inl, inr, sym, arith}
 use Rattle.std.specs.Prelude.{Contains, ◌≢◌}
 use Rattle.block_disk.specs.Counts.{HasRisen}
-use Rattle.block_disk.specs.View.{View, DiskKept, Honest}
-use Rattle.store_open.specs.Held.{HoldsBook}
-use Rattle.store_open.proofs.Opened.{is_large}
+use Rattle.block_disk.specs.View.{View, DiskKept}
+use Rattle.disk_store.specs.Held.{HoldsBook}
+use Rattle.disk_store.proofs.Opened.{is_large}
 use Rattle.series_book.specs.declared.one_series.Series.{Series}
 use Rattle.gate_pages.specs.Journal.{page_count}
-use Rattle.load_command.specs.Loaded.{LoadEnds, RefusesSet, Unnamed}
-use Rattle.check_command.specs.Checked.{CheckEnds}
-use Rattle.demo_command.specs.Demonstrated.{DemoEnds}
+use Rattle.store_commands.specs.Loaded.{LoadEnds, RefusesSet, Unnamed}
+use Rattle.store_commands.specs.Checked.{CheckEnds}
+use Rattle.store_commands.specs.Demonstrated.{DemoEnds}
 use Rattle.program_words.specs.declared.words.Command.TheVariants.{Plot, Load, Demo, Run, Serve, Draw, Init, Check}
 use Rattle.chart_program.specs.Served.{Says, Faults, Spelled, AreTexts}
 use Rattle.chart_program.specs.Ended.{EndsBy}
-use Rattle.chart_program.specs.Ran.{CommandEnds, AreLines, AreReadings, StandsOn, IsRefused, IsBadInput, HasTooMuch, Lacks, Misfits, NamesUnopened, IsFrames, DrawsReplies, LeavesDisk, IsMade, IsTooSmall, IsThere}
-use Rattle.store_init.specs.Stores.{HasStore}
+use Rattle.chart_program.specs.Ran.{CommandEnds, AreLines, AreReadings, StandsOn, IsRefused, IsBadInput, HasTooMuch, Lacks, Misfits, NamesUnopened, IsFrames, DrawsReplies, LeavesDisk, IsMade, IsTooSmall, IsThere, IsFree, of_done}
 use Rattle.chart_program.specs.declared.draw_end.DrawEnd.TheVariants as draw_end
 use Rattle.chart_program.specs.Slots.{FirstBad, StoppedBefore}
 use Rattle.chart_program.specs.Plotted.{SendsPlot, SendsFront}
 use Rattle.chart_program.specs.Draws.{DrawsAll, DrawsTaken, DrawsWithin, StopsAtFrame}
-use Rattle.chart_program.proofs.Codes.{plot_complete, draw_complete, told_all, told_both}
+use Rattle.chart_program.proofs.Codes.{plot_complete, told_all, told_both}
 use Rattle.chart_program.proofs.CommandCodes.{never, zero_of, of_plot, plot_codes, of_draw, draw_codes, of_init, init_codes, of_lines, lines_codes, of_load, load_codes, of_check, check_codes, of_demo, demo_codes}
 
 both_told : (o b : Option (List ℕ)) (P : List ℕ → Type 0) (Q : Type 0) → IfSome o P → Q → IfSome o (λ input. IfSome b (λ bytes. P input × Q))
@@ -36,72 +35,72 @@ all_told (Some input) (Some bytes) P holds = holds
 small_never : (old : View) (total : ℕ) (book : List Series) → HoldsBook (page_count old.size) total book old → old.size ≤ 127 → ⊥
 small_never old total book holds small = omega (arith, small, is_large old.size total old.image book (holds.images old.image holds.honest))
 
--- with a good input and no fault it is done, or there is no memory
-lines_completed : (IsText : Says) (CanShow : Type 0) (old new : View) (input : List ℕ) (left' before now : Option (List ℕ)) (faults : Faults) (code place : ℕ) → AreLines old new input → (HasRisen faults.reads faults.reads_now → ⊥) → (HasRisen faults.sends faults.sends_now → ⊥) → EndsBy IsText CanShow old new (Some input) left' before now faults code place → Contains of_lines code → (code ≡ 0) ⊎ (code ≡ 3)
-lines_completed IsText CanShow old new input left' before now faults code place r no_read no_send e (zero, inside, is) = inl (sym is)
-lines_completed IsText CanShow old new input left' before now faults code place r no_read no_send e (suc zero, inside, is) = inr (sym is)
-lines_completed IsText CanShow old new input left' before now faults code place r no_read no_send e (suc (suc zero), inside, is) = absurd (no_read (e.read (sym is)))
-lines_completed IsText CanShow old new input left' before now faults code place r no_read no_send e (suc (suc (suc zero)), inside, is) = absurd (no_send (e.send (sym is)))
-lines_completed IsText CanShow old new input left' before now faults code place r no_read no_send e (suc (suc (suc (suc zero))), inside, is) = absurd (r.whole (e.fault (sym is)))
-lines_completed IsText CanShow old new input left' before now faults code place r no_read no_send e (suc (suc (suc (suc (suc zero)))), inside, is) = absurd (e.undamaged (sym is) r.total r.book r.holds)
-lines_completed IsText CanShow old new input left' before now faults code place r no_read no_send e (suc (suc (suc (suc (suc (suc zero))))), inside, is) = absurd (omega (arith, r.short, ((e.much (sym is)).1 r.total r.book r.holds).1.past))
-lines_completed IsText CanShow old new input left' before now faults code place r no_read no_send e (suc (suc (suc (suc (suc (suc (suc zero)))))), inside, is) = absurd ((e.missing (sym is)).1.0 r.total r.book r.holds)
-lines_completed IsText CanShow old new input left' before now faults code place r no_read no_send e (suc (suc (suc (suc (suc (suc (suc (suc zero))))))), inside, is) = absurd ((e.misfit (sym is)).1.0 r.total r.book r.holds)
-lines_completed IsText CanShow old new input left' before now faults code place r no_read no_send e (suc (suc (suc (suc (suc (suc (suc (suc (suc zero)))))))), inside, is) = absurd (small_never old r.total r.book r.holds (omega (arith, (e.small (sym is)).1)))
-lines_completed IsText CanShow old new input left' before now faults code place r no_read no_send e (suc (suc (suc (suc (suc (suc (suc (suc (suc (suc zero))))))))), inside, is) = absurd (e.opened (sym is))
-lines_completed IsText CanShow old new input left' before now faults code place r no_read no_send e (suc (suc (suc (suc (suc (suc (suc (suc (suc (suc (suc k)))))))))), inside, is) = absurd (omega (arith, inside))
+-- with a good input it is done, a stream fails, or there is no memory
+lines_completed : (IsText : Says) (CanShow : Type 0) (old new : View) (input : List ℕ) (left' before now : Option (List ℕ)) (faults : Faults) (code place : ℕ) → AreLines old new input → EndsBy IsText CanShow old new (Some input) left' before now faults code place → Contains of_lines code → Contains of_done code
+lines_completed IsText CanShow old new input left' before now faults code place r e (zero, inside, is) = (0, omega arith, is)
+lines_completed IsText CanShow old new input left' before now faults code place r e (suc zero, inside, is) = (1, omega arith, is)
+lines_completed IsText CanShow old new input left' before now faults code place r e (suc (suc zero), inside, is) = (2, omega arith, is)
+lines_completed IsText CanShow old new input left' before now faults code place r e (suc (suc (suc zero)), inside, is) = (3, omega arith, is)
+lines_completed IsText CanShow old new input left' before now faults code place r e (suc (suc (suc (suc zero))), inside, is) = absurd (r.whole (e.fault (sym is)))
+lines_completed IsText CanShow old new input left' before now faults code place r e (suc (suc (suc (suc (suc zero)))), inside, is) = absurd (e.undamaged (sym is) r.total r.book r.holds)
+lines_completed IsText CanShow old new input left' before now faults code place r e (suc (suc (suc (suc (suc (suc zero))))), inside, is) = absurd (omega (arith, r.short, ((e.much (sym is)).1 r.total r.book r.holds).1.past))
+lines_completed IsText CanShow old new input left' before now faults code place r e (suc (suc (suc (suc (suc (suc (suc zero)))))), inside, is) = absurd ((e.missing (sym is)).1.0 r.total r.book r.holds)
+lines_completed IsText CanShow old new input left' before now faults code place r e (suc (suc (suc (suc (suc (suc (suc (suc zero))))))), inside, is) = absurd ((e.misfit (sym is)).1.0 r.total r.book r.holds)
+lines_completed IsText CanShow old new input left' before now faults code place r e (suc (suc (suc (suc (suc (suc (suc (suc (suc zero)))))))), inside, is) = absurd (small_never old r.total r.book r.holds (omega (arith, (e.small (sym is)).1)))
+lines_completed IsText CanShow old new input left' before now faults code place r e (suc (suc (suc (suc (suc (suc (suc (suc (suc (suc zero))))))))), inside, is) = absurd (e.opened (sym is))
+lines_completed IsText CanShow old new input left' before now faults code place r e (suc (suc (suc (suc (suc (suc (suc (suc (suc (suc (suc k)))))))))), inside, is) = absurd (omega (arith, inside))
 
--- with a good input and no fault it is done, or there is no memory
-load_completed : (name : List ℕ) (old new : View) (input : List ℕ) (left' before now : Option (List ℕ)) (faults : Faults) (code place : ℕ) → AreReadings name old new input → (HasRisen faults.reads faults.reads_now → ⊥) → (HasRisen faults.sends faults.sends_now → ⊥) → LoadEnds name old new (Some input) left' before now faults.reads faults.reads_now faults.sends faults.sends_now code place → Contains of_load code → (code ≡ 0) ⊎ (code ≡ 3)
-load_completed name old new input left' before now faults code place r no_read no_send e (zero, inside, is) = inl (sym is)
-load_completed name old new input left' before now faults code place r no_read no_send e (suc zero, inside, is) = inr (sym is)
-load_completed name old new input left' before now faults code place r no_read no_send e (suc (suc zero), inside, is) = absurd (no_read (e.read (sym is)))
-load_completed name old new input left' before now faults code place r no_read no_send e (suc (suc (suc zero)), inside, is) = absurd (no_send (e.send (sym is)))
-load_completed name old new input left' before now faults code place r no_read no_send e (suc (suc (suc (suc zero))), inside, is) = absurd (r.whole (e.fault (sym is)))
-load_completed name old new input left' before now faults code place r no_read no_send e (suc (suc (suc (suc (suc zero)))), inside, is) = absurd (e.undamaged (sym is) r.total r.book r.holds)
-load_completed name old new input left' before now faults code place r no_read no_send e (suc (suc (suc (suc (suc (suc zero))))), inside, is) = absurd (r.none_bad place _ (e.bad (sym is) r.total r.book r.holds r.series r.named).on.so)
-load_completed name old new input left' before now faults code place r no_read no_send e (suc (suc (suc (suc (suc (suc (suc zero)))))), inside, is) = absurd (omega (arith, r.short, (e.past (sym is) r.total r.book r.holds r.series r.named).on.so.past))
-load_completed name old new input left' before now faults code place r no_read no_send e (suc (suc (suc (suc (suc (suc (suc (suc zero))))))), inside, is) = absurd (small_never old r.total r.book r.holds (omega (arith, (e.small (sym is)).1)))
-load_completed name old new input left' before now faults code place r no_read no_send e (suc (suc (suc (suc (suc (suc (suc (suc (suc zero)))))))), inside, is) = let refused = e.refused (sym is) r.total r.book r.holds r.series r.named in absurd (r.none_refused refused.0 refused.1 _ refused.3.on.so)
-load_completed name old new input left' before now faults code place r no_read no_send e (suc (suc (suc (suc (suc (suc (suc (suc (suc (suc k))))))))), inside, is) = absurd (omega (arith, inside))
+-- with a good input it is done, a stream fails, or there is no memory
+load_completed : (name : List ℕ) (old new : View) (input : List ℕ) (left' before now : Option (List ℕ)) (faults : Faults) (code place : ℕ) → AreReadings name old new input → LoadEnds name old new (Some input) left' before now faults.reads faults.reads_now faults.sends faults.sends_now code place → Contains of_load code → Contains of_done code
+load_completed name old new input left' before now faults code place r e (zero, inside, is) = (0, omega arith, is)
+load_completed name old new input left' before now faults code place r e (suc zero, inside, is) = (1, omega arith, is)
+load_completed name old new input left' before now faults code place r e (suc (suc zero), inside, is) = (2, omega arith, is)
+load_completed name old new input left' before now faults code place r e (suc (suc (suc zero)), inside, is) = (3, omega arith, is)
+load_completed name old new input left' before now faults code place r e (suc (suc (suc (suc zero))), inside, is) = absurd (r.whole (e.fault (sym is)))
+load_completed name old new input left' before now faults code place r e (suc (suc (suc (suc (suc zero)))), inside, is) = absurd (e.undamaged (sym is) r.total r.book r.holds)
+load_completed name old new input left' before now faults code place r e (suc (suc (suc (suc (suc (suc zero))))), inside, is) = absurd (r.none_bad place _ (e.bad (sym is) r.total r.book r.holds r.series r.named).on.so)
+load_completed name old new input left' before now faults code place r e (suc (suc (suc (suc (suc (suc (suc zero)))))), inside, is) = absurd (omega (arith, r.short, (e.past (sym is) r.total r.book r.holds r.series r.named).on.so.past))
+load_completed name old new input left' before now faults code place r e (suc (suc (suc (suc (suc (suc (suc (suc zero))))))), inside, is) = absurd (small_never old r.total r.book r.holds (omega (arith, (e.small (sym is)).1)))
+load_completed name old new input left' before now faults code place r e (suc (suc (suc (suc (suc (suc (suc (suc (suc zero)))))))), inside, is) = let refused = e.refused (sym is) r.total r.book r.holds r.series r.named in absurd (r.none_refused refused.0 refused.1 _ refused.3.on.so)
+load_completed name old new input left' before now faults code place r e (suc (suc (suc (suc (suc (suc (suc (suc (suc (suc k))))))))), inside, is) = absurd (omega (arith, inside))
 
--- with a good input and no fault it is done, or there is no memory
-check_completed : (old new : View) (input : List ℕ) (left' before now : Option (List ℕ)) (faults : Faults) (code place : ℕ) → StandsOn old new → (HasRisen faults.reads faults.reads_now → ⊥) → (HasRisen faults.sends faults.sends_now → ⊥) → CheckEnds old new before now faults.sends faults.sends_now code place → Contains of_check code → (code ≡ 0) ⊎ (code ≡ 3)
-check_completed old new input left' before now faults code place r no_read no_send e (zero, inside, is) = inl (sym is)
-check_completed old new input left' before now faults code place r no_read no_send e (suc zero, inside, is) = inr (sym is)
-check_completed old new input left' before now faults code place r no_read no_send e (suc (suc zero), inside, is) = absurd (no_send (e.send (sym is)))
-check_completed old new input left' before now faults code place r no_read no_send e (suc (suc (suc zero)), inside, is) = absurd (r.whole (e.fault (sym is)))
-check_completed old new input left' before now faults code place r no_read no_send e (suc (suc (suc (suc zero))), inside, is) = absurd (e.undamaged (sym is) r.total r.book r.holds)
-check_completed old new input left' before now faults code place r no_read no_send e (suc (suc (suc (suc (suc zero)))), inside, is) = absurd (small_never old r.total r.book r.holds (omega (arith, (e.small (sym is)).1)))
-check_completed old new input left' before now faults code place r no_read no_send e (suc (suc (suc (suc (suc (suc k))))), inside, is) = absurd (omega (arith, inside))
+-- with a good input it is done, a stream fails, or there is no memory
+check_completed : (old new : View) (input : List ℕ) (left' before now : Option (List ℕ)) (faults : Faults) (code place : ℕ) → StandsOn old new → CheckEnds old new before now faults.sends faults.sends_now code place → Contains of_check code → Contains of_done code
+check_completed old new input left' before now faults code place r e (zero, inside, is) = (0, omega arith, is)
+check_completed old new input left' before now faults code place r e (suc zero, inside, is) = (1, omega arith, is)
+check_completed old new input left' before now faults code place r e (suc (suc zero), inside, is) = (3, omega arith, is)
+check_completed old new input left' before now faults code place r e (suc (suc (suc zero)), inside, is) = absurd (r.whole (e.fault (sym is)))
+check_completed old new input left' before now faults code place r e (suc (suc (suc (suc zero))), inside, is) = absurd (e.undamaged (sym is) r.total r.book r.holds)
+check_completed old new input left' before now faults code place r e (suc (suc (suc (suc (suc zero)))), inside, is) = absurd (small_never old r.total r.book r.holds (omega (arith, (e.small (sym is)).1)))
+check_completed old new input left' before now faults code place r e (suc (suc (suc (suc (suc (suc k))))), inside, is) = absurd (omega (arith, inside))
 
--- with a good input and no fault it is done, or there is no memory
-demo_completed : (seed rounds : ℕ) (old new : View) (input : List ℕ) (left' before now : Option (List ℕ)) (faults : Faults) (code place : ℕ) → StandsOn old new → (HasRisen faults.reads faults.reads_now → ⊥) → (HasRisen faults.sends faults.sends_now → ⊥) → DemoEnds seed rounds old new before now faults.sends faults.sends_now code place → Contains of_demo code → (code ≡ 0) ⊎ (code ≡ 3)
-demo_completed seed rounds old new input left' before now faults code place r no_read no_send e (zero, inside, is) = inl (sym is)
-demo_completed seed rounds old new input left' before now faults code place r no_read no_send e (suc zero, inside, is) = inr (sym is)
-demo_completed seed rounds old new input left' before now faults code place r no_read no_send e (suc (suc zero), inside, is) = absurd (no_send (e.send (sym is)))
-demo_completed seed rounds old new input left' before now faults code place r no_read no_send e (suc (suc (suc zero)), inside, is) = absurd (r.whole (e.fault (sym is)))
-demo_completed seed rounds old new input left' before now faults code place r no_read no_send e (suc (suc (suc (suc zero))), inside, is) = absurd (e.undamaged (sym is) r.total r.book r.holds)
-demo_completed seed rounds old new input left' before now faults code place r no_read no_send e (suc (suc (suc (suc (suc zero)))), inside, is) = absurd ((e.missing (sym is)).0 r.total r.book r.holds)
-demo_completed seed rounds old new input left' before now faults code place r no_read no_send e (suc (suc (suc (suc (suc (suc zero))))), inside, is) = absurd ((e.misfit (sym is)).0 r.total r.book r.holds)
-demo_completed seed rounds old new input left' before now faults code place r no_read no_send e (suc (suc (suc (suc (suc (suc (suc zero)))))), inside, is) = absurd (small_never old r.total r.book r.holds (omega (arith, (e.small (sym is)).1)))
-demo_completed seed rounds old new input left' before now faults code place r no_read no_send e (suc (suc (suc (suc (suc (suc (suc (suc k))))))), inside, is) = absurd (omega (arith, inside))
+-- with a good input it is done, a stream fails, or there is no memory
+demo_completed : (seed rounds : ℕ) (old new : View) (input : List ℕ) (left' before now : Option (List ℕ)) (faults : Faults) (code place : ℕ) → StandsOn old new → DemoEnds seed rounds old new before now faults.sends faults.sends_now code place → Contains of_demo code → Contains of_done code
+demo_completed seed rounds old new input left' before now faults code place r e (zero, inside, is) = (0, omega arith, is)
+demo_completed seed rounds old new input left' before now faults code place r e (suc zero, inside, is) = (1, omega arith, is)
+demo_completed seed rounds old new input left' before now faults code place r e (suc (suc zero), inside, is) = (3, omega arith, is)
+demo_completed seed rounds old new input left' before now faults code place r e (suc (suc (suc zero)), inside, is) = absurd (r.whole (e.fault (sym is)))
+demo_completed seed rounds old new input left' before now faults code place r e (suc (suc (suc (suc zero))), inside, is) = absurd (e.undamaged (sym is) r.total r.book r.holds)
+demo_completed seed rounds old new input left' before now faults code place r e (suc (suc (suc (suc (suc zero)))), inside, is) = absurd ((e.missing (sym is)).0 r.total r.book r.holds)
+demo_completed seed rounds old new input left' before now faults code place r e (suc (suc (suc (suc (suc (suc zero))))), inside, is) = absurd ((e.misfit (sym is)).0 r.total r.book r.holds)
+demo_completed seed rounds old new input left' before now faults code place r e (suc (suc (suc (suc (suc (suc (suc zero)))))), inside, is) = absurd (small_never old r.total r.book r.holds (omega (arith, (e.small (sym is)).1)))
+demo_completed seed rounds old new input left' before now faults code place r e (suc (suc (suc (suc (suc (suc (suc (suc k))))))), inside, is) = absurd (omega (arith, inside))
 
-lines_complete : (IsText : Says) (CanShow : Type 0) (old new : View) (left left' before now : Option (List ℕ)) (faults : Faults) (code place : ℕ) → EndsBy IsText CanShow old new left left' before now faults code place → IfSome left (λ input. AreLines old new input → (HasRisen faults.reads faults.reads_now → ⊥) → (HasRisen faults.sends faults.sends_now → ⊥) → (code ≡ 0) ⊎ (code ≡ 3))
+lines_complete : (IsText : Says) (CanShow : Type 0) (old new : View) (left left' before now : Option (List ℕ)) (faults : Faults) (code place : ℕ) → EndsBy IsText CanShow old new left left' before now faults code place → IfSome left (λ input. AreLines old new input → Contains of_done code)
 lines_complete IsText CanShow old new None left' before now faults code place e = tt
-lines_complete IsText CanShow old new (Some input) left' before now faults code place e = λ good no_read no_send. lines_completed IsText CanShow old new input left' before now faults code place good no_read no_send e e.codes
+lines_complete IsText CanShow old new (Some input) left' before now faults code place e = λ good. lines_completed IsText CanShow old new input left' before now faults code place good e e.codes
 
-load_complete : (name : List ℕ) (old new : View) (left left' before now : Option (List ℕ)) (faults : Faults) (code place : ℕ) → LoadEnds name old new left left' before now faults.reads faults.reads_now faults.sends faults.sends_now code place → IfSome left (λ input. AreReadings name old new input → (HasRisen faults.reads faults.reads_now → ⊥) → (HasRisen faults.sends faults.sends_now → ⊥) → (code ≡ 0) ⊎ (code ≡ 3))
+load_complete : (name : List ℕ) (old new : View) (left left' before now : Option (List ℕ)) (faults : Faults) (code place : ℕ) → LoadEnds name old new left left' before now faults.reads faults.reads_now faults.sends faults.sends_now code place → IfSome left (λ input. AreReadings name old new input → Contains of_done code)
 load_complete name old new None left' before now faults code place e = tt
-load_complete name old new (Some input) left' before now faults code place e = λ good no_read no_send. load_completed name old new input left' before now faults code place good no_read no_send e e.codes
+load_complete name old new (Some input) left' before now faults code place e = λ good. load_completed name old new input left' before now faults code place good e e.codes
 
-check_complete : (old new : View) (left left' before now : Option (List ℕ)) (faults : Faults) (code place : ℕ) → CheckEnds old new before now faults.sends faults.sends_now code place → IfSome left (λ input. StandsOn old new → (HasRisen faults.reads faults.reads_now → ⊥) → (HasRisen faults.sends faults.sends_now → ⊥) → (code ≡ 0) ⊎ (code ≡ 3))
+check_complete : (old new : View) (left left' before now : Option (List ℕ)) (faults : Faults) (code place : ℕ) → CheckEnds old new before now faults.sends faults.sends_now code place → IfSome left (λ input. StandsOn old new → Contains of_done code)
 check_complete old new None left' before now faults code place e = tt
-check_complete old new (Some input) left' before now faults code place e = λ good no_read no_send. check_completed old new input left' before now faults code place good no_read no_send e e.codes
+check_complete old new (Some input) left' before now faults code place e = λ good. check_completed old new input left' before now faults code place good e e.codes
 
-demo_complete : (seed rounds : ℕ) (old new : View) (left left' before now : Option (List ℕ)) (faults : Faults) (code place : ℕ) → DemoEnds seed rounds old new before now faults.sends faults.sends_now code place → IfSome left (λ input. StandsOn old new → (HasRisen faults.reads faults.reads_now → ⊥) → (HasRisen faults.sends faults.sends_now → ⊥) → (code ≡ 0) ⊎ (code ≡ 3))
+demo_complete : (seed rounds : ℕ) (old new : View) (left left' before now : Option (List ℕ)) (faults : Faults) (code place : ℕ) → DemoEnds seed rounds old new before now faults.sends faults.sends_now code place → IfSome left (λ input. StandsOn old new → Contains of_done code)
 demo_complete seed rounds old new None left' before now faults code place e = tt
-demo_complete seed rounds old new (Some input) left' before now faults code place e = λ good no_read no_send. demo_completed seed rounds old new input left' before now faults code place good no_read no_send e e.codes
+demo_complete seed rounds old new (Some input) left' before now faults code place e = λ good. demo_completed seed rounds old new input left' before now faults code place good e e.codes
 
 pub run_ends : (old new : View) (left left' before now : Option (List ℕ)) (faults : Faults) (code place : ℕ) → EndsBy AreTexts (Unit {0}) old new left left' before now faults code place → CommandEnds Run old new left left' before now faults code place
 run_ends old new left left' before now faults code place e = record {
@@ -290,9 +289,9 @@ zeros_of_init code other more (suc (suc (suc zero)), inside, is) = absurd (more 
 zeros_of_init code other more (suc (suc (suc (suc zero))), inside, is) = (2, omega arith, is)
 zeros_of_init code other more (suc (suc (suc (suc (suc k)))), inside, is) = absurd (omega (arith, inside))
 
-never_input : (o : Option (List ℕ)) (R S D : Type 0) → IfSome o (λ input. ⊥ → R → S → D)
-never_input None R S D = tt
-never_input (Some input) R S D = λ none. absurd none
+never_input : (o : Option (List ℕ)) (D : Type 0) → IfSome o (λ input. ⊥ → D)
+never_input None D = tt
+never_input (Some input) D = λ none. absurd none
 
 pub plot_ends : (w h : ℕ) (old new : View) (left left' before now : Option (List ℕ)) (faults : Faults) (code place : ℕ) → Contains of_plot code → (code ≡ 4 → HasRisen faults.reads faults.reads_now) → (code ≡ 4 → IfSome left (λ input. IfSome left' (StoppedBefore input))) → (code ≡ 5 → HasRisen faults.sends faults.sends_now) → (code ≡ 8 → IfSome left (λ input. FirstBad input place)) → (code ≡ 9 → IfSome left (λ input. HasTooMuch input place)) → (code ≢ 8 → code ≢ 9 → place ≡ 0) → (code ≡ 0 → IfSome left (λ input. SendsPlot w h input before now)) → (code ≡ 0 → IfSome left (λ input. length input ≤ 2 ^ 32)) → (code ≡ 5 → IfSome left (λ input. SendsFront w h input before now)) → (code ≢ 0 → code ≢ 5 → now ≡ before) → DiskKept old new → CommandEnds (Plot w h) old new left left' before now faults code place
 plot_ends w h old new left left' before now faults code place codes read stopped send bad much zeros done within part nothing disk = record {
@@ -323,7 +322,7 @@ plot_ends w h old new left left' before now faults code place codes read stopped
   crash = all_told left before _ tt;
   disk = disk;
   made = λ is. tt;
-  complete = plot_complete left code place _ _ codes read send bad much;
+  complete = plot_complete left code place codes bad much;
   ready = λ command. cc;
 }
 
@@ -356,11 +355,11 @@ draw_ends old new left left' before now faults code place codes read send zeros 
   crash = all_told left before _ tt;
   disk = disk;
   made = λ is. tt;
-  complete = draw_complete left code _ _ read send good;
+  complete = good;
   ready = λ command. cc;
 }
 
-pub init_ends : (old new : View) (left left' before now : Option (List ℕ)) (faults : Faults) (code place : ℕ) → Contains of_init code → (code ≡ 6 → HasRisen old.faults new.faults) → (code ≡ 12 → IsTooSmall Init old place) → (code ≡ 13 → IsThere Init old place) → (Contains (0 ∷ 3 ∷ 6 ∷ []) code → place ≡ 0) → now ≡ before → LeavesDisk Init old new → (code ≡ 0 → IsMade Init old new) → (128 ≤ old.size → Honest old → (HasStore (page_count old.size) old.image → ⊥) → (HasRisen old.faults new.faults → ⊥) → (code ≡ 0) ⊎ (code ≡ 3)) → CommandEnds Init old new left left' before now faults code place
+pub init_ends : (old new : View) (left left' before now : Option (List ℕ)) (faults : Faults) (code place : ℕ) → Contains of_init code → (code ≡ 6 → HasRisen old.faults new.faults) → (code ≡ 12 → IsTooSmall Init old place) → (code ≡ 13 → IsThere Init old place) → (Contains (0 ∷ 3 ∷ 6 ∷ []) code → place ≡ 0) → now ≡ before → LeavesDisk Init old new → (code ≡ 0 → IsMade Init old new) → (IsFree old → (HasRisen old.faults new.faults → ⊥) → (code ≡ 0) ⊎ (code ≡ 3)) → CommandEnds Init old new left left' before now faults code place
 init_ends old new left left' before now faults code place codes fault small there zeros sent disk made ready = record {
   codes = init_codes code codes;
   read = λ is. absurd (never of_init code 4 codes refl is);
@@ -389,6 +388,6 @@ init_ends old new left left' before now faults code place codes fault small ther
   crash = all_told left before _ tt;
   disk = disk;
   made = made;
-  complete = never_input left _ _ _;
+  complete = never_input left _;
   ready = λ command. ready;
 }

@@ -1,8 +1,8 @@
 -- How far the frames of an input are drawn.
 use Rattle.std.proofs.Common.{◌≡◌, ℕ, ◌+◌, ◌<◌, ◌≤◌, List, [], ◌∷◌, ◌++◌, length, take, drop, ◌-◌, ◌^◌, inl, inr, Option, None, Some, Result, Ok, Err, IfSome, IfErr, OnOk, refl, ap, sym, subst, ◌∙◌, arith, append_assoc, length-append}
-use Rattle.std.specs.Prelude.{flat_map, IsErrAnd}
+use Rattle.std.specs.Prelude.{flat_map}
 use Rattle.std.proofs.lemmas.List.Elements.{All-nil, All-cons, All-append}
-use Rattle.std.proofs.lemmas.List.{take-take, take-append-drop, length-drop}
+use Rattle.std.proofs.lemmas.List.{take-take, take-append-drop, length-drop, append-nil}
 use Rattle.std.proofs.lemmas.Grind.{flat_map-append}
 use Rattle.line_raster.specs.Canvas.{Canvas}
 use Rattle.block_disk.specs.Streams.{sent_after, Given, left_after}
@@ -18,19 +18,11 @@ use Rattle.chart_frames.specs.Stream.{Takes, Answers, IsPartial}
 use Rattle.chart_client.specs.declared.holding.Holding.{Holding}
 use Rattle.chart_client.specs.Accepting.{Accepts}
 use Rattle.drawn_replies.specs.Pictures.{AcceptsAll}
-use Rattle.chart_service.proofs.Joined.{append_none}
+use Rattle.chart_service.specs.SentLaws.{sent_none, sent_more}
 use Rattle.chart_program.specs.Texts.{picture_bytes}
 use Rattle.chart_program.specs.declared.draw_end.DrawEnd.{DrawEnd}
 use Rattle.chart_program.specs.declared.draw_end.DrawEnd.TheVariants.{NoMemory, ReadFault, SendFault, InputTooLong, BadFrame, Missing, BadCoefficient, UnknownSession}
 use Rattle.chart_program.specs.Draws.{DrawsMore, DrawsFirst, DrawsFrame, FrameStops, NextStops, HoldingStops, FramesStop, PieceStops, EndsDraw, DrawsAll, DrawsTaken, DrawsWithin, IsCut, IsFront, StopsAtFrame, fed, frame_end}
-
-sent_none : (before : Option (List ℕ)) → before ≡ sent_after [] before
-sent_none None = refl
-sent_none (Some sent) = ap Some (sym (append_none sent))
-
-sent_more : (text more : List ℕ) (before now later : Option (List ℕ)) → now ≡ sent_after text before → later ≡ sent_after more now → later ≡ sent_after (text ++ more) before
-sent_more text more None now later first second = second ∙ ap (sent_after more) first
-sent_more text more (Some sent) now later first second = second ∙ ap (sent_after more) first ∙ ap Some (append_assoc sent text more)
 
 accepts_joined : (fs gs : List Frame) (ds es : List (Option Canvas)) (old between new : List Holding)
     → AcceptsAll old fs ds between → AcceptsAll between gs es new → AcceptsAll old (fs ++ gs) (ds ++ es) new
@@ -60,11 +52,11 @@ pub drawn_one : (old new : Pending) (f : Frame) (d : Option Canvas) (holdings ho
 drawn_one old new f d holdings holdings' before now takes accepts sends = record {
   frames = f ∷ [];
   fit = All-cons Fits f [] takes.fits (All-nil Fits);
-  split = takes.front ∙ ap (λ l. l ++ new.rest) (sym (append_none (spelling f)));
-  given = omega (arith, takes.given, ap length (append_none (spelling f)));
+  split = takes.front ∙ ap (λ l. l ++ new.rest) (sym (append-nil (spelling f)));
+  given = omega (arith, takes.given, ap length (append-nil (spelling f)));
   drawings = d ∷ [];
   accepted = (holdings', accepts, refl);
-  sent = sends ∙ ap (λ l. sent_after l before) (sym (append_none (picture_bytes d)));
+  sent = sends ∙ ap (λ l. sent_after l before) (sym (append-nil (picture_bytes d)));
 }
 
 -- frames are drawn, and then more
@@ -169,10 +161,6 @@ piece_unfed piece old h now end is =
     let P : DrawEnd → Type 0 = λ x. PieceStops piece old h now now x in
     subst P (sym is) (record { rest = fed piece old; client = h; sent_first = now; first = drawn_none (fed piece old) h now; stops = refl })
 
-pub error_so : {T E : Type 0} (P Q : E → Type 0) (r : Result T E) → IsErrAnd r P → ((e : E) → P e → Q e) → IfErr r Q
-error_so P Q (Ok v) is more = tt
-error_so P Q (Err e) is more = more e is
-
 pub if_err : {T E : Type 0} (P Q : E → Type 0) (r : Result T E) → IfErr r P → ((e : E) → P e → Q e) → IfErr r Q
 if_err P Q (Ok v) is more = tt
 if_err P Q (Err e) is more = more e is
@@ -238,7 +226,7 @@ read_all (Some input) left count buffer at h taken most before now given none em
 cut_at : (input bytes : List ℕ) (at : Pending) (h : List Holding) (taken : ℕ) (before now : Option (List ℕ)) → bytes ≡ [] → 0 < length at.rest
     → IsPartial at → taken ≡ at.given + length at.rest → DrawsFirst input (held at.given (at.rest ++ bytes)) h before now → IsCut input taken before now
 cut_at input bytes at h taken before now none some partial counted first =
-    let rest_is : at.rest ++ bytes ≡ at.rest = ap (λ l. at.rest ++ l) none ∙ append_none at.rest in
+    let rest_is : at.rest ++ bytes ≡ at.rest = ap (λ l. at.rest ++ l) none ∙ append-nil at.rest in
     record {
       rest = held at.given (at.rest ++ bytes);
       holdings = h;

@@ -1,14 +1,15 @@
 -- How a serving command ends, by its status.
-use Rattle.std.proofs.Common.{◌≡◌, ℕ, zero, suc, ◌^◌, ◌≤◌, List, [], ◌∷◌, Option, Some, None, Result, Ok, Err, IfSome, refl, sym, subst, inl, inr, arith}
-use Rattle.std.specs.Prelude.{Contains, IfErr}
+use Rattle.std.proofs.Common.{◌≡◌, ℕ, ◌^◌, ◌≤◌, List, [], ◌∷◌, Option, Some, None, Result, Ok, Err, IfSome, refl, sym, subst, inl, inr, arith}
+use Rattle.std.specs.Prelude.{IfErr}
 use Rattle.block_disk.specs.View.{View}
 use Rattle.chart_client.specs.declared.errors.ClientError.TheVariants as client
-use Rattle.store_open.specs.declared.causes.OpeningCause.TheVariants as opening
+use Rattle.disk_store.specs.declared.causes.OpeningCause.TheVariants as opening
 use Rattle.chart_service.specs.declared.failure.ServeEnd.TheVariants as serve_end
 use Rattle.chart_program.specs.declared.lines_end.LinesEnd.{LinesEnd}
 use Rattle.chart_program.specs.declared.lines_end.LinesEnd.TheVariants as lines_end
 use Rattle.chart_program.specs.declared.run_end.RunEnd.TheVariants as run_end
-use Rattle.command_status.specs.declared.status.Status.{Status}
+use Rattle.store_commands.specs.Codes.{low_code}
+use Rattle.store_commands.specs.declared.status.Status.{Status}
 use Rattle.chart_program.specs.Ended.{EndsBy, HasNumberedKey, status_by}
 use Rattle.chart_program.specs.Served.{Says, Faults, IsWorldCause, ServesWorld}
 use Rattle.chart_program.proofs.Codes.{told_both}
@@ -23,15 +24,6 @@ told_first (Some input) P Q both = both.0
 told_with : (o : Option (List ℕ)) (P : List ℕ → Type 0) (Q : Type 0) → IfSome o P → Q → IfSome o (λ input. P input × Q)
 told_with None P Q first second = tt
 told_with (Some input) P Q first second = (first, second)
-
--- the codes whose place is 0
-low_code : (code : ℕ) → Contains (0 ∷ 3 ∷ 4 ∷ 5 ∷ 6 ∷ []) code → code ≤ 6
-low_code code (zero, inside, is) = omega (arith, is)
-low_code code (suc zero, inside, is) = omega (arith, is)
-low_code code (suc (suc zero), inside, is) = omega (arith, is)
-low_code code (suc (suc (suc zero)), inside, is) = omega (arith, is)
-low_code code (suc (suc (suc (suc zero))), inside, is) = omega (arith, is)
-low_code code (suc (suc (suc (suc (suc k)))), inside, is) = absurd (omega (arith, inside))
 
 -- each code comes from its ends alone
 pub ends_by : {T : Type 0} (IsText : Says) (CanShow : Type 0) (old new : View) (left left' before now : Option (List ℕ)) (faults : Faults) (answer : Result T LinesEnd) → ServesWorld IsText CanShow old new left left' before now faults answer

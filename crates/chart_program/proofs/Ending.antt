@@ -1,23 +1,22 @@
 -- How the reading of slots begins, and how it ends.
-use Rattle.std.proofs.Common.{◌≡◌, ℕ, ℤ, ◌+◌, ◌-◌, ◌^◌, ◌<◌, ◌≤◌, List, [], ◌∷◌, ◌++◌, length, take, drop, Option, Some, None, Result, Ok, Err, IfSome, IfErr, refl, ap, subst, inl, inr, sym, ◌∙◌, arith, length-append, pos, negsuc}
-use Rattle.std.specs.Prelude.{All, true, IsErrAnd, if◌then◌else◌}
+use Rattle.std.proofs.Common.{◌≡◌, ℕ, ℤ, ◌+◌, ◌-◌, ◌^◌, ◌<◌, ◌≤◌, List, [], ◌∷◌, ◌++◌, length, take, drop, Option, Some, None, IfSome, refl, ap, subst, inl, inr, sym, ◌∙◌, arith, length-append, pos, negsuc}
+use Rattle.std.specs.Prelude.{All, true, if◌then◌else◌}
 use Rattle.std.specs.List.{filter}
 use Rattle.std.specs.Fmt.{decimal}
 use Rattle.std.proofs.lemmas.Fmt.{decimal_nonempty}
-use Rattle.std.proofs.lemmas.List.{take-append-drop}
+use Rattle.std.proofs.lemmas.List.{take-append-drop, append-nil}
 use Rattle.std.proofs.lemmas.List.Elements.{All-nil, All-cons, All-append}
 use Rattle.block_disk.specs.Streams.{left_after}
 use Rattle.chart_world.specs.declared.line_answer.LineFault.{LineFault}
 use Rattle.chart_world.specs.declared.line_answer.LineFault.TheVariants as fault
 use Rattle.chart_world.specs.Lines.{lines}
 use Rattle.chart_world.specs.Reading.{Reading, unread_input, unread, told_lines, with_first, behind_first, input_length, NoLineIn}
-use Rattle.chart_world.proofs.LineLaws.{lines_none}
+use Rattle.chart_world.specs.LineLaws.{lines_none, told_so, no_rest}
+use Rattle.chart_world.specs.Fronts.{says}
 use Rattle.plain_chart.specs.Samples.{IsSlot}
-use Rattle.chart_service.proofs.Joined.{append_none}
-use Rattle.chart_service.proofs.Progress.{told_so, no_rest}
 use Rattle.chart_program.specs.declared.input.InputEnd.{InputEnd}
 use Rattle.chart_program.specs.declared.input.InputEnd.TheVariants.{NoMemory, ReadFault, InputTooLong, BadLine, TooManySlots}
-use Rattle.chart_program.specs.Slots.{says, spelling, SpellsSlot, SpellsAll, IsBad, FirstBad, HasTooMany, IsTooLong, StoppedBefore, most_slots}
+use Rattle.chart_program.specs.Slots.{spelling, SpellsSlot, SpellsAll, IsBad, FirstBad, HasTooMany, IsTooLong, StoppedBefore, most_slots}
 use Rattle.chart_program.specs.Reads.{end_of, AddsLine, Overflows, IsNotAdded, Stops}
 use Rattle.chart_program.proofs.Progress.{Progress, progress_more, first_told}
 
@@ -46,7 +45,7 @@ end_at : (input : List ℕ) (bytes : Option (List ℕ)) (given : ℕ) (slots : L
 end_at input bytes given slots none p =
     let P : Option (List ℕ) → Type 0 = λ b. IfSome (told_lines b) (λ all. all ≡ []) in
     let rest_none : p.rest ≡ [] = no_rest p.rest (subst P p.told none) in
-    let all : p.behind.front ≡ input = sym (p.behind.split ∙ ap (λ l. p.behind.front ++ l) rest_none ∙ append_none p.behind.front) in
+    let all : p.behind.front ≡ input = sym (p.behind.split ∙ ap (λ l. p.behind.front ++ l) rest_none ∙ append-nil p.behind.front) in
     let Q : List ℕ → Type 0 = λ i. SpellsAll i slots in
     subst Q all p.behind.spells
 
@@ -146,11 +145,6 @@ fault_so o old new left left' slots fault.InputTooLong read far past after count
     told_so (λ input. Progress input (unread old left) old.given slots) (λ input. IsTooLong input) o
     (λ input. far_at input old new left left' slots (far refl) (past refl) counted total)
 
--- what is said of the error that a fault becomes
-pub error_so : {T E : Type 0} (P Q : E → Type 0) (r : Result T E) → IsErrAnd r P → ((e : E) → P e → Q e) → IfErr r Q
-error_so P Q (Ok v) is more = tt
-error_so P Q (Err e) is more = more e is
-
 decimal_some : (n : ℕ) → n ≤ 10 ^ 18 → 0 < length (decimal n)
 decimal_some n small = decimal_nonempty n (omega (arith, small))
 
@@ -187,8 +181,8 @@ line_so o old new left left' slots slots' text first rest counted counted' total
     told_so (λ input. Progress input (unread old left) old.given slots) (λ input. Progress input (unread new left') new.given slots') o (λ input p.
     let T : List ℕ → Type 0 = λ t. filter says (Some t ∷ []) ≡ [] in
     let S : List (Option ℤ) → Type 0 = λ s. Progress input (unread new left') new.given s in
-    let same : slots ++ [] ≡ slots' = append_none slots ∙ sym none.1 in
-    subst S same (progress_more input old new left left' slots [] (Some text) p first rest counted counted' total (subst T (sym none.0) refl) (All-nil IsSlot) (omega (arith, few, ap length (append_none slots)))))
+    let same : slots ++ [] ≡ slots' = append-nil slots ∙ sym none.1 in
+    subst S same (progress_more input old new left left' slots [] (Some text) p first rest counted counted' total (subst T (sym none.0) refl) (All-nil IsSlot) (omega (arith, few, ap length (append-nil slots)))))
 line_so o old new left left' slots slots' text first rest counted counted' total few (inr adds) =
     told_so (λ input. Progress input (unread old left) old.given slots) (λ input. Progress input (unread new left') new.given slots') o (λ input p.
     let S : List (Option ℤ) → Type 0 = λ s. Progress input (unread new left') new.given s in

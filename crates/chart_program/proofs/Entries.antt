@@ -2,7 +2,7 @@
 use Rattle.std.proofs.Common.{◌≡◌, ℤ, List, ℕ, Some, sym, subst, arith}
 use Rattle.whole_number.specs.Spelling.{SpellsInteger}
 use Rattle.whole_number.proofs.Digits.{one_integer}
-use Rattle.plain_chart.specs.Samples.{IsValue}
+use Rattle.whole_number.specs.Range.{IsValue}
 use Rattle.std.specs.Fmt.{signed_decimal}
 use Rattle.chart_program.specs.Slots.{SpellsSlot}
 

@@ -22,53 +22,9 @@ use Rattle.chart_service.specs.Opening.{opens, OpensBy, NamesOpen}
 use Rattle.chart_service.specs.declared.failure.ServeEnd.TheVariants.{ReadFault, SendFault, DiskFault, Damaged, InputTooLong, NoMemory}
 use Rattle.chart_program.specs.declared.run_end.RunEnd.{RunEnd}
 use Rattle.chart_program.specs.declared.run_end.RunEnd.TheVariants.{Serve, Show}
-use Rattle.chart_program.specs.Known.{Follows, KnowsOpen, NamesKnown, EndsKnown}
-use Rattle.chart_program.specs.Runs.{Gives as ShowGives, ShowsFrame, ShowStops, TextStops}
+use Rattle.chart_service.specs.Knowing.{KnowsOpen, NamesKnown}
+use Rattle.chart_program.specs.Known.{Follows, EndsKnown}
 use Rattle.chart_program.proofs.Telling.{OneFrame, shown_frame}
-
--- what opens where it was open opens where it was known
-opens_more : (frame : Frame) (n : ℕ) (was known : Bool) → (IsTrue was → IsTrue known) → IsTrue (opens frame n was) → IsTrue (opens frame n known)
-opens_more (Done slots) n was known more is = more is
-opens_more (Refused number a b) n was known more is = more is
-opens_more (Opened session cache) n was known more is =
-    elim (session == n) as (λ (b : Bool). IsTrue (b || was) → IsTrue (b || known)) [ true ↦ λ t. t | false ↦ more ] is
-opens_more (Closed session) n was known more is =
-    elim (session == n) as (λ (b : Bool). IsTrue (not b && was) → IsTrue (not b && known)) [ true ↦ λ t. t | false ↦ more ] is
-opens_more (View view) n was known more is = more is
-opens_more (Rows rows) n was known more is = more is
-
--- behind a frame that was shown
-pub known_next : {V : Type 0} (gives : ShowGives V) (knows : V → ℕ → Bool) (old new : V) (frame : Frame) (sessions sessions' : List Session) → Follows gives knows → Fits frame → KnowsOpen knows old sessions → ((n : ℕ) → is_open n sessions' ≡ opens frame n (is_open n sessions))
-    → (shown : Shown) → gives old (spelling frame) (Ok shown) new → KnowsOpen knows new sessions'
-known_next gives knows old new frame sessions sessions' follows fits known after shown given = λ n is.
-    follows old new frame shown n fits given (opens_more frame n (is_open n sessions) (knows old n) (known n) (subst IsTrue (after n) is))
-
-pub named_known : {V : Type 0} (knows : V → ℕ → Bool) (old : V) (frame : Frame) (sessions : List Session) → KnowsOpen knows old sessions → NamesOpen frame sessions → NamesKnown frame (knows old)
-named_known knows old (Done slots) sessions known named = tt
-named_known knows old (Refused number a b) sessions known named = tt
-named_known knows old (Opened session cache) sessions known named = tt
-named_known knows old (Closed session) sessions known named = known session named
-named_known knows old (View view) sessions known named = known view.session named
-named_known knows old (Rows rows) sessions known named = known rows.session named
-
--- a frame that wasn't shown
-pub ends_known : {V : Type 0} (gives : ShowGives V) (knows : V → ℕ → Bool) (old new : V) (frame : Frame) (before now : Option (List ℕ)) (end : RunEnd) → Fits frame → NamesKnown frame (knows old) → ShowStops gives frame old new before now end → EndsKnown gives knows end
-ends_known gives knows old new frame before now (Serve end) fits named why = tt
-ends_known gives knows old new frame before now (Show e) fits named why = (old, frame, new, fits, named, why.1)
-
--- the sessions as they were
-pub known_kept : {V : Type 0} (knows : V → ℕ → Bool) (show : V) (sessions sessions' : List Session) → sessions' ≡ sessions → KnowsOpen knows show sessions → KnowsOpen knows show sessions'
-known_kept {V} knows show sessions sessions' same known = let P : List Session → Type 0 = λ s. KnowsOpen knows show s in subst P (sym same) known
-
-pub same_opens : (sessions sessions' sessions'' : List Session) (frame : Frame) → sessions'' ≡ sessions' → ((n : ℕ) → is_open n sessions' ≡ opens frame n (is_open n sessions)) → (n : ℕ) → is_open n sessions'' ≡ opens frame n (is_open n sessions)
-same_opens sessions sessions' sessions'' frame same after n = ap (λ s. is_open n s) same ∙ after n
-
--- a refusal opens and closes no session, and names none
-pub refused_opens : (frame : Frame) (refusal : Refusal) → frame ≡ refused refusal → (sessions : List Session) (n : ℕ) → is_open n sessions ≡ opens frame n (is_open n sessions)
-refused_opens frame refusal is sessions n = let P : Frame → Type 0 = λ f. is_open n sessions ≡ opens f n (is_open n sessions) in subst P (sym is) refl
-
-pub refused_names : (frame : Frame) (refusal : Refusal) → frame ≡ refused refusal → (knows : ℕ → Bool) → NamesKnown frame knows
-refused_names frame refusal is knows = let P : Frame → Type 0 = λ f. NamesKnown f knows in subst P (sym is) tt
 
 -- ---- a screen knows the sessions of which it holds a list
 

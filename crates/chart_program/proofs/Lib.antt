@@ -6,15 +6,11 @@ pub mod Codes
 pub mod DiskKept
 pub mod Drawing
 pub mod Running
-pub mod Moments
-pub mod RunEnds
-pub mod RunStands
 pub mod Telling
 pub mod Parsing
 pub mod Ended
 pub mod World
 pub mod Lowering
-pub mod Replying
 pub mod LinesServed
 pub mod Words
 pub mod CommandCodes

@@ -2,6 +2,7 @@
 use Rattle.std.proofs.Common.{◌≡◌, ℕ, ◌+◌, ◌≤◌, ◌^◌, Bool, List, [], length, Option, Some, None, Result, Ok, Err, IfSome, refl, sym, ap, subst, arith}
 use Rattle.std.specs.Prelude.{OnOk, IfErr}
 use Rattle.block_disk.specs.View.{View, Honest, sent_now}
+use Rattle.chart_world.specs.LineLaws.{told_so}
 use Rattle.chart_client.specs.Showing.{ScreenGives}
 use Rattle.chart_client.specs.declared.errors.ClientError.TheVariants as client
 use Rattle.chart_client.specs.declared.holding.Holding.{Holding}
@@ -10,8 +11,8 @@ use Rattle.gate_pages.specs.Journal.{pages_of}
 use Rattle.gate_pages.specs.Pages.{GoesOn}
 use Rattle.gate_pages.specs.GateLaws.{goes_none}
 use Rattle.series_book.specs.declared.one_series.Series.{Series}
-use Rattle.store_catalog.specs.declared.stored_series.StoredSeries.{StoredSeries}
-use Rattle.store_open.specs.Held.{HoldsBook}
+use Rattle.series_catalog.specs.declared.stored_series.StoredSeries.{StoredSeries}
+use Rattle.disk_store.specs.Held.{HoldsBook}
 use Rattle.stored_book.specs.Standing.{StandsForBook}
 use Rattle.zoom_session.specs.declared.session.Session.{Session}
 use Rattle.chart_service.specs.State.{IsSound}
@@ -21,20 +22,20 @@ use Rattle.chart_service.specs.Serving as serving
 use Rattle.chart_service.specs.Stepping.{StandsAfter, state_of}
 use Rattle.chart_service.specs.declared.failure.ServeEnd.{ServeEnd}
 use Rattle.chart_service.specs.declared.failure.ServeEnd.TheVariants as serve_end
-use Rattle.chart_service.proofs.Moments.{since_none}
-use Rattle.chart_service.proofs.Progress.{told_so}
+use Rattle.chart_service.specs.MomentLaws.{since_none}
 use Rattle.chart_program.specs.declared.run_end.RunEnd.{RunEnd}
 use Rattle.chart_program.specs.declared.run_end.RunEnd.TheVariants as run_end
 use Rattle.chart_program.specs.Runs.{AreShown, AreShownFrom, EndsRun, EndsAtBad, IsShown}
 use Rattle.chart_program.specs.Served.{Says, Spelled, AreTexts, Faults, AnswersAll, EndsServing, EndsLines, LeavesBooks, IsAheadOn, IsBadPlace, IsLinesCause, ServesLines, served}
-use Rattle.command_status.specs.Books.{OfBook}
-use Rattle.command_status.specs.Books.{begun}
+use Rattle.store_commands.specs.Books.{OfBook}
+use Rattle.store_commands.specs.Books.{begun}
 use Rattle.chart_program.proofs.Lowering.{crash_for, serve_ends, text_ends, leaves_lowered}
-use Rattle.command_status.proofs.Held.{stands_held, from_book}
-use Rattle.chart_program.proofs.RunStands.{after_so}
+use Rattle.store_commands.proofs.Held.{stands_held, from_book}
+use Rattle.chart_service.proofs.Sending.{stands_on}
 use Rattle.chart_program.specs.Known.{EndsKnown}
 use Rattle.chart_program.proofs.Knowing.{holds_of, never_unknown}
-use Rattle.chart_program.proofs.Telling.{OneFrame, AllDraw, OneLacks, Numbered, ahead_told, any_texts, texts_all}
+use Rattle.chart_program.proofs.Telling.{OneFrame, AllDraw, OneLacks, Numbered, any_texts, texts_all}
+use Rattle.chart_service.specs.Telling.{ahead_told}
 use Rattle.chart_program.proofs.World.{SaysNothing, some_none, ahead_none}
 
 -- what is told
@@ -178,7 +179,7 @@ module _ (count count' : ℕ) (sound sound' : Bool) (old new : View) (left left'
     run_alone {T} (Ok v) h starts done within ends lasts closed cause = record {
       done = for_told left (λ input. AnswersAll AreTexts count old new input before now) (λ input is.
           from_book count count' old new same told sessions (λ start state. SendsText (AreTexts start) input start state before now) (closed (λ e. cc)) (λ total book holds.
-          after_so total (pages_of count' new.image) (pages_of count' new.image) sessions sessions (λ state. IfSome left (λ given. SendsText (AreShown ScreenGives [] h) given (begun total book) state before now)) (λ state. SendsText (AreTexts (begun total book)) input (begun total book) state before now) refl refl
+          stands_on total (pages_of count' new.image) (pages_of count' new.image) sessions sessions (λ state. IfSome left (λ given. SendsText (AreShown ScreenGives [] h) given (begun total book) state before now)) (λ state. SendsText (AreTexts (begun total book)) input (begun total book) state before now) refl refl
           (λ state sends. texts_all one draws (begun total book) refl (started starts total book holds) input state h before now (of_told left input (λ given. SendsText (AreShown ScreenGives [] h) given (begun total book) state before now) is sends))
           (done total book holds.honest (stands_held count total book old holds))));
       within = within;

@@ -5,7 +5,7 @@ use Rattle.series_book.specs.declared.one_series.Series.{Series}
 use Rattle.stored_book.specs.Standing.{RecoversTo}
 use Rattle.chart_program.specs.Lives.{Life, AreLives, IsLeft, AreBooks, said_by}
 use Rattle.chart_program.specs.Served.{IsAheadOn}
-use Rattle.command_status.specs.Books.{begun}
+use Rattle.store_commands.specs.Books.{begun}
 
 -- what one life leaves
 left_by : (count total : ℕ) (book : List Series) (life : Life) → IsAheadOn (said_by life.shows (begun total book)) life.input count total (begun total book) life.from life.left life.sent

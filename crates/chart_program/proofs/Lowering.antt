@@ -9,8 +9,8 @@ use Rattle.gate_pages.specs.GatePages.{IsClosed, PagesOf, pages_view}
 use Rattle.gate_pages.specs.Journal.{pages_of}
 use Rattle.gate_pages.specs.Pages.{GoesOn}
 use Rattle.series_book.specs.declared.one_series.Series.{Series}
-use Rattle.store_open.specs.Held.{HoldsBook}
-use Rattle.store_open.proofs.Lowered.{lowered_readable, lowered_is, holds_closed}
+use Rattle.disk_store.specs.Held.{HoldsBook}
+use Rattle.disk_store.proofs.Lowered.{lowered_readable, lowered_is, holds_closed}
 use Rattle.stored_book.specs.Standing.{StandsForBook}
 use Rattle.zoom_session.specs.declared.session.Session.{Session}
 use Rattle.chart_service.specs.State.{State, IsSound}
@@ -23,10 +23,11 @@ use Rattle.chart_program.specs.declared.run_end.RunEnd.{RunEnd}
 use Rattle.chart_program.specs.declared.run_end.RunEnd.TheVariants as run_end
 use Rattle.chart_program.specs.Runs.{EndsRunAt, EndsRun}
 use Rattle.chart_program.specs.Served.{Says, Spelled, AreTexts, EndsServing, EndsLines, IsAheadOn, LeavesBooks}
-use Rattle.command_status.specs.Books.{begun, OfBook, FromBook, Never}
-use Rattle.command_status.proofs.Held.{within_held, from_book}
-use Rattle.chart_program.proofs.RunStands.{after_so}
-use Rattle.chart_program.proofs.Telling.{Telling, OneFrame, AllDraw, OneLacks, EndsTexts, texts_end, texts_lines}
+use Rattle.store_commands.specs.Books.{begun, OfBook, FromBook, Never}
+use Rattle.store_commands.proofs.Held.{within_held, from_book}
+use Rattle.chart_service.specs.Answering.{Telling}
+use Rattle.chart_service.proofs.Sending.{stands_on}
+use Rattle.chart_program.proofs.Telling.{OneFrame, AllDraw, OneLacks, EndsTexts, texts_end, texts_lines}
 
 -- what holds of all books holds in each case of an answer
 pub done_for : {T E : Type 0} (r : Result T E) (o : Option (List ℕ)) (Pre : ℕ → List Series → Type 0) (X : ℕ → List Series → List ℕ → Type 0) → ((total : ℕ) (book : List Series) → Pre total book → OnOk r (IfSome o (λ input. X total book input)))
@@ -60,7 +61,7 @@ module _ (count count' : ℕ) (old new : View) (same : count' ≡ count) (told :
         → OfBook count old (λ total book. StandsAfter total (pages_of count' new.image) sessions (λ state. EndsRunAt ScreenGives [] h input (begun total book) state left before now end)) → FromBook count old new Done
     ends_from input left before now end Done closed more all =
         from_book count count' old new same told sessions Done closed (λ total book holds.
-        after_so total (pages_of count' new.image) (pages_of count' new.image) sessions sessions (λ state. EndsRunAt ScreenGives [] h input (begun total book) state left before now end) (λ state. Done (begun total book) state) refl refl
+        stands_on total (pages_of count' new.image) (pages_of count' new.image) sessions sessions (λ state. EndsRunAt ScreenGives [] h input (begun total book) state left before now end) (λ state. Done (begun total book) state) refl refl
         (λ state is. more (begun total book) state (texts_end one draws lacks (begun total book) refl (sound total book holds) input state h left before now end is)) (all total book holds))
 
     ends_never : (input : List ℕ) (left before now : Option (List ℕ)) (end : RunEnd) → ((start state : State) → EndsTexts input start state left before now end → ⊥)

@@ -6,10 +6,11 @@ use Rattle.std.proofs.lemmas.List.{map-append}
 use Rattle.std.proofs.lemmas.List.Elements.{filter-append, All-append}
 use Rattle.chart_world.specs.Lines.{is_line_feed, lines}
 use Rattle.chart_world.specs.Reading.{Reading, unread, told_lines, with_first, behind_first, input_length}
+use Rattle.chart_world.specs.LineLaws.{lines_joined, pieces, piece_ends, piece_line}
+use Rattle.chart_world.specs.Fronts.{first_piece, says, IsWhole}
+use Rattle.chart_world.specs.FrontLaws.{some_left, whole_front, whole_joined, passed, behind_told, told_after}
 use Rattle.plain_chart.specs.Samples.{IsSlot}
-use Rattle.chart_service.proofs.Joined.{lines_joined, first_piece, pieces, piece_ends, piece_line}
-use Rattle.chart_service.proofs.Passing.{some_left, whole_front, whole_joined, passed, behind_told, told_after}
-use Rattle.chart_program.specs.Slots.{says, spelling, SpellsAll, IsWhole, Behind, most_slots}
+use Rattle.chart_program.specs.Slots.{spelling, SpellsAll, Behind, most_slots}
 
 -- what the slots of one line more are
 spells_more : (front piece : List ℕ) (slots added : List (Option ℤ)) (line : Option (List ℕ)) → IsWhole front → lines piece ≡ line ∷ [] → SpellsAll front slots → filter says (line ∷ []) ≡ map (λ slot. Some (spelling slot)) added → All IsSlot added → SpellsAll (front ++ piece) (slots ++ added)

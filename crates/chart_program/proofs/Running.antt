@@ -1,169 +1,182 @@
--- How far `run_on` has come.
-use Rattle.std.proofs.Common.{◌≡◌, ℕ, ◌+◌, ◌-◌, ◌^◌, ◌<◌, List, [], ◌∷◌, ◌++◌, length, Option, Some, None, Ok, Err, IfSome, refl, ap, subst, inl, inr, sym, ◌∙◌, append_assoc}
-use Rattle.std.specs.Prelude.{true}
-use Rattle.std.specs.List.{after_first}
-use Rattle.block_disk.specs.Streams.{left_after}
-use Rattle.chart_world.specs.declared.line_answer.LineFault.{LineFault}
-use Rattle.chart_world.specs.declared.line_answer.LineFault.TheVariants as fault
-use Rattle.chart_world.specs.Lines.{is_line_feed, lines}
-use Rattle.chart_world.specs.Reading.{Reading, unread, input_length, NoLineIn}
+-- A run answers lines by the texts of what their frames show.
+use Rattle.std.proofs.Common.{◌≡◌, ℕ, Bool, true, List, [], ◌∷◌, ◌++◌, Option, Some, None, Result, Ok, Err, IfSome, refl, ap, inr, ◌∙◌}
+use Rattle.std.specs.Prelude.{IfErr, OnOk}
+use Rattle.block_disk.specs.View.{Image, View}
+use Rattle.chart_world.specs.LineLaws.{told_so}
 use Rattle.chart_frames.specs.declared.frame.Frame.{Frame}
 use Rattle.chart_frames.specs.Frames.{spelling}
 use Rattle.chart_client.specs.declared.errors.ClientError.{ClientError}
-use Rattle.chart_client.specs.declared.show.Shown.{Shown}
+use Rattle.series_catalog.specs.declared.stored_series.StoredSeries.{StoredSeries}
+use Rattle.zoom_session.specs.declared.session.Session.{Session}
+use Rattle.chart_service.specs.Answering.{EndsAnswers}
+use Rattle.chart_service.specs.Answering as answering
+use Rattle.chart_service.specs.Knowing as knowing
+use Rattle.chart_service.specs.Making.{AreMade, AreMadeFrom}
+use Rattle.chart_service.specs.MomentLaws.{since_so}
+use Rattle.chart_service.specs.Moments.{Since, IsAhead}
+use Rattle.chart_service.specs.Serving.{SendsText, SendsTaken, SendsLines}
 use Rattle.chart_service.specs.State.{State}
-use Rattle.chart_service.specs.Replies.{Replied}
+use Rattle.chart_service.specs.Stepping.{StandsAfter}
+use Rattle.chart_service.specs.Telling.{Tells, text_told, first_told, front_told, taken_told, within_told, some_told, lines_told, ahead_told}
+use Rattle.chart_service.specs.declared.failure.AnswerEnd.{AnswerEnd}
+use Rattle.chart_service.specs.declared.failure.AnswerEnd.TheVariants as answers
+use Rattle.chart_service.specs.declared.failure.ServeEnd.{ServeEnd}
 use Rattle.chart_service.specs.declared.failure.ServeEnd.TheVariants.{ReadFault, SendFault, DiskFault, Damaged, InputTooLong, NoMemory}
-use Rattle.chart_service.specs.Serving.{says, SendsSome, KeepsBook, end_of}
-use Rattle.chart_service.proofs.Progress.{Progress, Gives, Grows, told_so, answered, skipped, says_text, taken_at, within_at, parted, kept, unsent, first_at, passes}
+use Rattle.chart_service.proofs.Sending.{stands_on}
+use Rattle.chart_program.specs.Known.{Follows, EndsKnown}
+use Rattle.chart_program.specs.Runs.{Gives, AreShown, AreShownFrom, MakesText, EndsRunAt, EndsRun, EndsAtBad, IsShown, run_answer}
 use Rattle.chart_program.specs.declared.run_end.RunEnd.{RunEnd}
 use Rattle.chart_program.specs.declared.run_end.RunEnd.TheVariants.{Serve, Show}
-use Rattle.chart_program.specs.Texts.{text_of}
-use Rattle.chart_program.specs.Runs.{Gives as ShowGives, AreShown, ShowStops, ShowFails, EndsRunAt, LineDone, LineStopsAt, LongLineDone, LongLineStops}
 
-append_none : (xs : List ℕ) → xs ++ [] ≡ xs
-append_none [] = refl
-append_none (x ∷ xs) = ap (λ l. x ∷ l) (append_none xs)
+module _ {V : Type 0} (gives : Gives V) where
+  -- texts that are made are those of what is shown
+  made_shown : (v w : V) (lines : List (Option (List ℕ))) (frames : List Frame) (text : List ℕ) → AreMade (MakesText gives) v w lines frames text → AreShown gives v w lines frames text
+  made_shown v w lines [] text all = all
+  made_shown v w lines (f ∷ fs) text all =
+      (all.3.0, all.1, all.2, all.3.1, all.4 ∙ ap (λ t. t ++ all.2) all.3.2, made_shown all.1 w lines fs all.2 all.5)
 
-pub shown_more : {V : Type 0} (gives : ShowGives V) (v w x : V) (more : List (Option (List ℕ))) (frames : List Frame) (text : List ℕ) (lines : List (Option (List ℕ))) (frame : Frame) (shown : Shown)
-    → gives w (spelling frame) (Ok shown) x → AreShown gives v w lines frames text
-    → AreShown gives v x more (frames ++ frame ∷ []) (text ++ text_of shown.frame shown.bitmap (length (spelling frame)))
-shown_more {V} gives v w x more [] text lines frame shown given all =
-    let P : V → Type 0 = λ y. gives y (spelling frame) (Ok shown) x in (
-      shown,
-      x,
-      [],
-      subst P all.1 given,
-      ap (λ t. t ++ text_of shown.frame shown.bitmap (length (spelling frame))) all.0 ∙ sym (append_none (text_of shown.frame shown.bitmap (length (spelling frame)))),
-      (refl, refl),
+  tells : (v w : V) (old : State) → Tells old (AreMade (MakesText gives) v w) (AreShown gives v w)
+  tells v w old lines frames text new replied all = made_shown v w lines frames text all
+
+  tells_from : (v : V) (old : State) → Tells old (AreMadeFrom (MakesText gives) v) (AreShownFrom gives v)
+  tells_from v old lines frames text new replied all = (all.0, made_shown v all.0 lines frames text all.1)
+
+  -- the whole input
+  pub done_shown : (v w : V) (o : Option (List ℕ)) (total : ℕ) (first : State) (image : Image) (sessions : List Session) (before now : Option (List ℕ))
+      → StandsAfter total image sessions (λ new. IfSome o (λ input. SendsText (AreMade (MakesText gives) v w) input first new before now))
+      → StandsAfter total image sessions (λ new. IfSome o (λ input. SendsText (AreShown gives v w) input first new before now))
+  done_shown v w o total first image sessions before now after =
+      stands_on total image image sessions sessions (λ new. IfSome o (λ input. SendsText (AreMade (MakesText gives) v w) input first new before now)) (λ new. IfSome o (λ input. SendsText (AreShown gives v w) input first new before now)) refl refl
+      (λ new sends. told_so (λ input. SendsText (AreMade (MakesText gives) v w) input first new before now) (λ input. SendsText (AreShown gives v w) input first new before now) o
+      (λ input sent. text_told (AreMade (MakesText gives) v w) (AreShown gives v w) input first new before now (tells v w first) sent) sends) after
+
+  -- bytes that weren't made, whatever is known of sessions
+  abbrev pub Unmade : AnswerEnd RunEnd → Type 0
+  Unmade end = knowing.EndsKnown (MakesText gives) (λ v n. true) end
+
+  -- what ends it
+  module _ (v w : V) (old : State) (image : Image) (sessions : List Session) (left before now : Option (List ℕ)) where
+    abbrev EndsBefore : List ℕ → State → AnswerEnd RunEnd → Type 0
+    EndsBefore input new end = answering.EndsAt (MakesText gives) v w input old new left before now end
+
+    abbrev EndsThen : List ℕ → State → RunEnd → Type 0
+    EndsThen input new end = EndsRunAt gives v w input old new left before now end
+
+    after : (o : Option (List ℕ)) (end : AnswerEnd RunEnd) (end' : RunEnd) → ((input : List ℕ) (new : State) → EndsBefore input new end → EndsThen input new end')
+        → StandsAfter old.total image sessions (λ new. IfSome o (λ input. EndsBefore input new end)) → StandsAfter old.total image sessions (λ new. IfSome o (λ input. EndsThen input new end'))
+    after o end end' more ends =
+        stands_on old.total image image sessions sessions (λ new. IfSome o (λ input. EndsBefore input new end)) (λ new. IfSome o (λ input. EndsThen input new end')) refl refl
+        (λ new is. told_so (λ input. EndsBefore input new end) (λ input. EndsThen input new end') o (λ input. more input new) is) ends
+
+    read_at : (input : List ℕ) (new : State) → EndsBefore input new (answers.Serve ReadFault) → EndsThen input new (Serve ReadFault)
+    read_at input new ends =
+        told_so (λ bytes. SendsTaken (AreMade (MakesText gives) v w) input bytes old new before now) (λ bytes. SendsTaken (AreShown gives v w) input bytes old new before now) left
+        (λ bytes. taken_told (AreMade (MakesText gives) v w) (AreShown gives v w) input bytes old new before now (tells v w old)) ends
+
+    some_at : (input : List ℕ) (new : State) → EndsBefore input new (answers.Serve NoMemory) → EndsThen input new (Serve NoMemory)
+    some_at input new ends = (ends.0, some_told (AreMade (MakesText gives) v ends.0) (AreShown gives v ends.0) input old new before now (tells v ends.0 old) ends.1)
+
+    -- the text of the next line's frame wasn't made
+    lacks_at : (input : List ℕ) (new : State) → EndsBefore input new (answers.Reply (Serve NoMemory)) → EndsThen input new (Serve NoMemory)
+    lacks_at input new fails = (
+      fails.last,
+      record {
+        rest = fails.rest;
+        between = fails.between;
+        first = first_told (AreMade (MakesText gives) v fails.last) (AreShown gives v fails.last) input fails.rest old fails.between before now (tells v fails.last old) fails.first;
+        state = inr fails.next;
+      },
     )
-shown_more {V} gives v w x more (f ∷ fs) text lines frame shown given all = (
-  all.0,
-  all.1,
-  all.2 ++ text_of shown.frame shown.bitmap (length (spelling frame)),
-  all.3,
-  ap (λ t. t ++ text_of shown.frame shown.bitmap (length (spelling frame))) all.4
-      ∙ append_assoc (text_of all.0.frame all.0.bitmap (length (spelling f))) all.2 (text_of shown.frame shown.bitmap (length (spelling frame))),
-  shown_more gives all.1 w x more fs all.2 lines frame shown given all.5,
-)
 
--- a frame more is shown, and its text stands behind the others
-pub shown_grows : {V : Type 0} (gives : ShowGives V) (v w x : V) (line : Option (List ℕ)) (frame : Frame) (shown : Shown) → gives w (spelling frame) (Ok shown) x
-    → Grows (AreShown gives v w) (AreShown gives v x) line frame (text_of shown.frame shown.bitmap (length (spelling frame)))
-shown_grows gives v w x line frame shown given = λ lines frames text all. shown_more gives v w x (lines ++ line ∷ []) frames text lines frame shown given all
+    fails_at : (e : ClientError) (input : List ℕ) (new : State) → EndsBefore input new (answers.Reply (Show e)) → EndsThen input new (Show e)
+    fails_at e input new fails = record {
+      rest = fails.rest;
+      between = fails.between;
+      screen = fails.last;
+      first = first_told (AreMade (MakesText gives) v fails.last) (AreShown gives v fails.last) input fails.rest old fails.between before now (tells v fails.last old) fails.first;
+      next = fails.next;
+      fails = fails.fails;
+    }
 
--- behind a line, answered or empty
-pub line_done : {V : Type 0} (gives : ShowGives V) (o : Option (List ℕ)) (r r' : Reading) (left left' : Option (List ℕ)) (old state state' : State) (v w w' : V) (before now later : Option (List ℕ)) (text : List ℕ)
-    → Gives r r' left left' (Some text) → LineDone gives text w w' state state' now later
-    → IfSome o (λ input. Progress (AreShown gives v w) input (unread r left) r.given old state before now)
-    → IfSome o (λ input. Progress (AreShown gives v w') input (unread r' left') r'.given old state' before later)
-line_done {V} gives o r r' left left' old state state' v w w' before now later text given (inl none) p =
-    let L : List ℕ → Type 0 = λ t. Gives r r' left left' (Some t) in
-    let W : V → Type 0 = λ y. IfSome o (λ input. Progress (AreShown gives v y) input (unread r' left') r'.given old state' before later) in
-    let S : State → Type 0 = λ s. IfSome o (λ input. Progress (AreShown gives v w) input (unread r' left') r'.given old s before later) in
-    let N : Option (List ℕ) → Type 0 = λ n. IfSome o (λ input. Progress (AreShown gives v w) input (unread r' left') r'.given old state before n) in
-    subst W (sym none.1) (subst S (sym none.2) (subst N (sym none.3) (skipped (AreShown gives v w) o r r' left left' old state before now (subst L none.0 given) p)))
-line_done gives o r r' left left' old state state' v w w' before now later text given (inr done) p =
-    let shown = done.1.2.0 in
-    answered (AreShown gives v w) (AreShown gives v w') o r r' left left' old state state' before now later (Some text) done.1.0 (text_of shown.frame shown.bitmap (length (spelling done.1.0)))
-    given (says_text text done.0) done.1.1 (shown_grows gives v w w' (Some text) done.1.0 shown done.1.2.1) done.1.2.2 p
+    pub ends_shown : {T : Type 0} (o : Option (List ℕ)) (r : Result T (AnswerEnd RunEnd)) → IfErr r Unmade → IfErr r (EndsAnswers (MakesText gives) v w o old image sessions left before now) → IfErr (run_answer r) (EndsRun gives v w o old image sessions left before now)
+    ends_shown o (Ok x) unmade ends = tt
+    ends_shown o (Err (answers.Serve ReadFault)) unmade ends = after o (answers.Serve ReadFault) (Serve ReadFault) read_at ends
+    ends_shown o (Err (answers.Serve SendFault)) unmade ends =
+        after o (answers.Serve SendFault) (Serve SendFault) (λ input new sends. front_told (AreMade (MakesText gives) v w) (AreShown gives v w) input old new before now (tells v w old) sends) ends
+    ends_shown o (Err (answers.Serve DiskFault)) unmade ends = (
+      ends.0,
+      told_so (λ input. SendsLines (AreMade (MakesText gives) v ends.0) input old before now) (λ input. SendsLines (AreShown gives v ends.0) input old before now) o
+          (λ input. lines_told (AreMade (MakesText gives) v ends.0) (AreShown gives v ends.0) input old before now (tells v ends.0 old)) ends.1,
+    )
+    ends_shown o (Err (answers.Serve (Damaged page))) unmade ends = absurd ends
+    ends_shown o (Err (answers.Serve InputTooLong)) unmade ends =
+        after o (answers.Serve InputTooLong) (Serve InputTooLong) (λ input new sends. within_told (AreMade (MakesText gives) v w) (AreShown gives v w) input old new before now (tells v w old) sends) ends
+    ends_shown o (Err (answers.Serve NoMemory)) unmade ends = after o (answers.Serve NoMemory) (Serve NoMemory) some_at ends
+    ends_shown o (Err (answers.Reply (Serve ReadFault))) unmade ends = absurd unmade.5
+    ends_shown o (Err (answers.Reply (Serve SendFault))) unmade ends = absurd unmade.5
+    ends_shown o (Err (answers.Reply (Serve DiskFault))) unmade ends = absurd unmade.5
+    ends_shown o (Err (answers.Reply (Serve (Damaged page)))) unmade ends = absurd unmade.5
+    ends_shown o (Err (answers.Reply (Serve InputTooLong))) unmade ends = absurd unmade.5
+    ends_shown o (Err (answers.Reply (Serve NoMemory))) unmade ends = after o (answers.Reply (Serve NoMemory)) (Serve NoMemory) lacks_at ends
+    ends_shown o (Err (answers.Reply (Show e))) unmade ends = after o (answers.Reply (Show e)) (Show e) (fails_at e) ends
 
--- behind a line that is too long
-pub long_line_done : {V : Type 0} (gives : ShowGives V) (o : Option (List ℕ)) (r r' : Reading) (left left' : Option (List ℕ)) (old state : State) (v w w' : V) (before now later : Option (List ℕ))
-    → Gives r r' left left' None → LongLineDone gives w w' state now later
-    → IfSome o (λ input. Progress (AreShown gives v w) input (unread r left) r.given old state before now)
-    → IfSome o (λ input. Progress (AreShown gives v w') input (unread r' left') r'.given old state before later)
-long_line_done gives o r r' left left' old state v w w' before now later given done p =
-    let shown = done.2.0 in
-    answered (AreShown gives v w) (AreShown gives v w') o r r' left left' old state state before now later None done.0 (text_of shown.frame shown.bitmap (length (spelling done.0)))
-    given refl done.1 (shown_grows gives v w w' None done.0 shown done.2.1) done.2.2 p
+  -- what a crash leaves
+  pub lasts_shown : (v : V) (o before : Option (List ℕ)) (total from : ℕ) (first : State) (old new : View)
+      → IfSome o (λ input. IfSome before (λ bytes. Since old new (IsAhead (AreMadeFrom (MakesText gives) v) input total first from)))
+      → IfSome o (λ input. IfSome before (λ bytes. Since old new (IsAhead (AreShownFrom gives v) input total first from)))
+  lasts_shown v None before total from first old new lasts = tt
+  lasts_shown v (Some input) None total from first old new lasts = tt
+  lasts_shown v (Some input) (Some bytes) total from first old new lasts =
+      since_so old new (IsAhead (AreMadeFrom (MakesText gives) v) input total first from) (IsAhead (AreShownFrom gives v) input total first from)
+      (λ image count is. ahead_told (AreMadeFrom (MakesText gives) v) (AreShownFrom gives v) input total first from image count (tells_from v first) is) lasts
 
--- at a fault of the lines
-pub lines_fault : {V : Type 0} (gives : ShowGives V) (o : Option (List ℕ)) (r r' : Reading) (left left' : Option (List ℕ)) (old state : State) (v w : V) (before now : Option (List ℕ)) (f : LineFault)
-    → (f ≡ fault.ReadFault → NoLineIn (r'.taken - r.given) (unread r left)) → (f ≡ fault.InputTooLong → NoLineIn (2 ^ 32 - r.given) (unread r left)) → (f ≡ fault.InputTooLong → 2 ^ 32 < r'.taken)
-    → left' ≡ left_after (r'.taken - r.given) (unread r left) → r.taken ≡ r.given + length r.pending → input_length r'.taken left' ≡ input_length r.taken left
-    → IfSome o (λ input. Progress (AreShown gives v w) input (unread r left) r.given old state before now)
-    → IfSome o (λ input. EndsRunAt gives v w input old state left' before now (Serve (end_of f)))
-lines_fault gives o r r' left left' old state v w before now fault.ReadFault read far past after counted total =
-    told_so (λ input. Progress (AreShown gives v w) input (unread r left) r.given old state before now) (λ input. EndsRunAt gives v w input old state left' before now (Serve ReadFault)) o
-    (λ input. taken_at (AreShown gives v w) input (unread r left) left' r.given (r'.taken - r.given) old state before now (read refl) after)
-lines_fault gives o r r' left left' old state v w before now fault.InputTooLong read far past after counted total =
-    told_so (λ input. Progress (AreShown gives v w) input (unread r left) r.given old state before now) (λ input. EndsRunAt gives v w input old state left' before now (Serve InputTooLong)) o
-    (λ input. within_at (AreShown gives v w) input r r' left left' old state before now (far refl) (past refl) counted total)
+  -- ---- what a run answers
 
--- want of memory, where nothing more was sent
-some_at : {V : Type 0} (gives : ShowGives V) (o : Option (List ℕ)) (old new : State) (v w : V) (left before now later : Option (List ℕ)) (w' : V) → later ≡ now
-    → IfSome o (λ input. SendsSome (AreShown gives v w) input old new before now) → IfSome o (λ input. EndsRunAt gives v w' input old new left before later (Serve NoMemory))
-some_at gives None old new v w left before now later w' same p = tt
-some_at gives (Some input) old new v w left before now later w' same p =
-    let P : Option (List ℕ) → Type 0 = λ n. SendsSome (AreShown gives v w) input old new before n in
-    (w, subst P (sym same) p)
+  pub run_fault : {T : Type 0} (r : Result T (AnswerEnd RunEnd)) (f : ServeEnd) → (f ≡ NoMemory → ⊥) → IfErr r Unmade → run_answer r ≡ Err (Serve f) → r ≡ Err (answers.Serve f)
+  run_fault (Ok x) f other unmade is = absurd (cc (is))
+  run_fault (Err (answers.Serve e)) f other unmade is = cc
+  run_fault (Err (answers.Reply (Serve ReadFault))) f other unmade is = absurd unmade.5
+  run_fault (Err (answers.Reply (Serve SendFault))) f other unmade is = absurd unmade.5
+  run_fault (Err (answers.Reply (Serve DiskFault))) f other unmade is = absurd unmade.5
+  run_fault (Err (answers.Reply (Serve (Damaged page)))) f other unmade is = absurd unmade.5
+  run_fault (Err (answers.Reply (Serve InputTooLong))) f other unmade is = absurd unmade.5
+  run_fault (Err (answers.Reply (Serve NoMemory))) f other unmade is = absurd (other (cc))
+  run_fault (Err (answers.Reply (Show e))) f other unmade is = absurd (cc (is))
 
-pub no_memory : {V : Type 0} (gives : ShowGives V) (o : Option (List ℕ)) (bytes : Option (List ℕ)) (given : ℕ) (old state new : State) (v w w' : V) (left before now later : Option (List ℕ)) → later ≡ now → KeepsBook state new
-    → IfSome o (λ input. Progress (AreShown gives v w) input bytes given old state before now) → IfSome o (λ input. EndsRunAt gives v w' input old new left before later (Serve NoMemory))
-no_memory gives o bytes given old state new v w w' left before now later same keeps p =
-    some_at gives o old new v w left before now later w' same (kept (AreShown gives v w) o bytes given old state new before now keeps p)
+  pub run_bad : {T : Type 0} (told : Type 0) (catalog : List StoredSeries) (image : Image) (total : ℕ) (r : Result T (AnswerEnd RunEnd)) → IfErr r Unmade → IfErr r (answering.EndsAtBad told catalog image total) → IfErr (run_answer r) (EndsAtBad told catalog image total)
+  run_bad told catalog image total (Ok x) unmade bad = tt
+  run_bad told catalog image total (Err (answers.Serve e)) unmade bad = bad
+  run_bad told catalog image total (Err (answers.Reply (Serve ReadFault))) unmade bad = tt
+  run_bad told catalog image total (Err (answers.Reply (Serve SendFault))) unmade bad = tt
+  run_bad told catalog image total (Err (answers.Reply (Serve DiskFault))) unmade bad = tt
+  run_bad told catalog image total (Err (answers.Reply (Serve (Damaged page)))) unmade bad = absurd unmade.5
+  run_bad told catalog image total (Err (answers.Reply (Serve InputTooLong))) unmade bad = tt
+  run_bad told catalog image total (Err (answers.Reply (Serve NoMemory))) unmade bad = tt
+  run_bad told catalog image total (Err (answers.Reply (Show e))) unmade bad = tt
 
-no_memory_next : {V : Type 0} (gives : ShowGives V) (o : Option (List ℕ)) (r r' : Reading) (left left' : Option (List ℕ)) (old state new : State) (v w w' : V) (before now later : Option (List ℕ)) (line : Option (List ℕ)) (frame : Frame)
-    → later ≡ now → Gives r r' left left' line → Replied line frame state new
-    → IfSome o (λ input. Progress (AreShown gives v w) input (unread r left) r.given old state before now) → IfSome o (λ input. EndsRunAt gives v w' input old new left' before later (Serve NoMemory))
-no_memory_next gives o r r' left left' old state new v w w' before now later line frame same given next p =
-    some_at gives o old new v w left' before now later w' same (unsent (AreShown gives v w) o r r' left left' old state new before now line frame given next p)
+  pub run_shown : {T : Type 0} (r : Result T (AnswerEnd RunEnd)) → IfErr r Unmade → IfErr (run_answer r) (IsShown gives)
+  run_shown (Ok x) unmade = tt
+  run_shown (Err (answers.Serve e)) unmade = tt
+  run_shown (Err (answers.Reply (Serve e))) unmade = tt
+  run_shown (Err (answers.Reply (Show e))) unmade = (unmade.0, spelling unmade.1, unmade.2, unmade.5)
 
--- the frame of the next line wasn't shown
-fails_at : {V : Type 0} (gives : ShowGives V) (input : List ℕ) (r r' : Reading) (left left' : Option (List ℕ)) (old state new : State) (v w w' : V) (before now later : Option (List ℕ)) (line : Option (List ℕ)) (frame : Frame) (e : ClientError)
-    → later ≡ now → Gives r r' left left' line → Replied line frame state new → gives w (spelling frame) (Err e) w'
-    → Progress (AreShown gives v w) input (unread r left) r.given old state before now → ShowFails gives v w' input old new before later e
-fails_at gives input r r' left left' old state new v w w' before now later line frame e same given next fails p =
-    let q = passes (AreShown gives v w) input r r' left left' old state before now line p given in
-    let P : Option (List ℕ) → Type 0 = λ n. ShowFails gives v w' input old new before n e in
-    subst P (sym same) (record {
-      rest = p.rest;
-      between = state;
-      screen = w;
-      first = first_at (AreShown gives v w) input (unread r left) r.given old state before now p;
-      next = record { line = line; later = lines (after_first is_line_feed p.rest); first = q.lines_are; frame = frame; replied = next };
-      fails = fails;
-    })
+  pub follows : (knows : V → ℕ → Bool) → Follows gives knows → knowing.Follows (MakesText gives) knows
+  follows knows is = λ old new frame piece n fits made opens. is old new frame made.0 n fits made.1 opens
 
--- at a frame whose text wasn't sent
-pub frame_stops : {V : Type 0} (gives : ShowGives V) (o : Option (List ℕ)) (r r' : Reading) (left left' : Option (List ℕ)) (old state new : State) (v w w' : V) (before now later : Option (List ℕ)) (line : Option (List ℕ)) (frame : Frame) (end : RunEnd)
-    → Gives r r' left left' line → says line ≡ true → Replied line frame state new → ShowStops gives frame w w' now later end
-    → IfSome o (λ input. Progress (AreShown gives v w) input (unread r left) r.given old state before now) → IfSome o (λ input. EndsRunAt gives v w' input old new left' before later end)
-frame_stops gives o r r' left left' old state new v w w' before now later line frame (Serve ReadFault) given says_so next why p = absurd why
-frame_stops gives o r r' left left' old state new v w w' before now later line frame (Serve SendFault) given says_so next why p =
-    parted (AreShown gives v w) (AreShown gives v w') o r r' left left' old state new before now later line frame (text_of why.0.frame why.0.bitmap (length (spelling frame)))
-    given says_so next (shown_grows gives v w w' line frame why.0 why.1) why.2 p
-frame_stops gives o r r' left left' old state new v w w' before now later line frame (Serve DiskFault) given says_so next why p = absurd why
-frame_stops gives o r r' left left' old state new v w w' before now later line frame (Serve (Damaged page)) given says_so next why p = absurd why
-frame_stops gives o r r' left left' old state new v w w' before now later line frame (Serve InputTooLong) given says_so next why p = absurd why
-frame_stops gives o r r' left left' old state new v w w' before now later line frame (Serve NoMemory) given says_so next why p =
-    no_memory_next gives o r r' left left' old state new v w w' before now later line frame why given next p
-frame_stops gives o r r' left left' old state new v w w' before now later line frame (Show e) given says_so next why p =
-    told_so (λ input. Progress (AreShown gives v w) input (unread r left) r.given old state before now) (λ input. EndsRunAt gives v w' input old new left' before later (Show e)) o
-    (λ input. fails_at gives input r r' left left' old state new v w w' before now later line frame e why.0 given next why.1) p
+  pub run_known : {T : Type 0} (knows : V → ℕ → Bool) (r : Result T (AnswerEnd RunEnd)) → IfErr r (knowing.EndsKnown (MakesText gives) knows) → IfErr (run_answer r) (EndsKnown gives knows)
+  run_known knows (Ok x) known = tt
+  run_known knows (Err (answers.Serve e)) known = tt
+  run_known knows (Err (answers.Reply (Serve e))) known = tt
+  run_known knows (Err (answers.Reply (Show e))) known = known
 
--- at a line that wasn't answered, or whose text wasn't sent
-pub line_stops : {V : Type 0} (gives : ShowGives V) (o : Option (List ℕ)) (r r' : Reading) (left left' : Option (List ℕ)) (old state new : State) (v w w' : V) (before now later : Option (List ℕ)) (text : List ℕ) (end : RunEnd)
-    → Gives r r' left left' (Some text) → LineStopsAt gives text w w' state new now later end
-    → IfSome o (λ input. Progress (AreShown gives v w) input (unread r left) r.given old state before now) → IfSome o (λ input. EndsRunAt gives v w' input old new left' before later end)
-line_stops gives o r r' left left' old state new v w w' before now later text (Serve ReadFault) given why p = absurd why.3
-line_stops gives o r r' left left' old state new v w w' before now later text (Serve SendFault) given why p =
-    frame_stops gives o r r' left left' old state new v w w' before now later (Some text) why.1 (Serve SendFault) given (says_text text why.0) why.2 why.3 p
-line_stops gives o r r' left left' old state new v w w' before now later text (Serve DiskFault) given why p = absurd why.3
-line_stops gives o r r' left left' old state new v w w' before now later text (Serve (Damaged page)) given why p = absurd why.3
-line_stops gives o r r' left left' old state new v w w' before now later text (Serve InputTooLong) given why p = absurd why.3
-line_stops gives o r r' left left' old state new v w w' before now later text (Serve NoMemory) given why p =
-    elim why.1 [
-      | inl keeps ↦ no_memory gives o (unread r left) r.given old state new v w w' left' before now later why.0 keeps p
-      | inr next ↦ no_memory_next gives o r r' left left' old state new v w w' before now later (Some text) next.1 why.0 given next.2 p
-    ]
-line_stops gives o r r' left left' old state new v w w' before now later text (Show e) given why p =
-    frame_stops gives o r r' left left' old state new v w w' before now later (Some text) why.1 (Show e) given (says_text text why.0) why.2 why.3 p
+-- nothing is known of sessions where all are
+pub all_follow : {V : Type 0} (gives : Gives V) → knowing.Follows (MakesText gives) (λ v n. true)
+all_follow gives = λ old new frame piece n fits made opens. refl
 
--- at a line that is too long, whose text wasn't sent
-pub long_line_stops : {V : Type 0} (gives : ShowGives V) (o : Option (List ℕ)) (r r' : Reading) (left left' : Option (List ℕ)) (old state : State) (v w w' : V) (before now later : Option (List ℕ)) (end : RunEnd)
-    → Gives r r' left left' None → LongLineStops gives w w' state now later end
-    → IfSome o (λ input. Progress (AreShown gives v w) input (unread r left) r.given old state before now) → IfSome o (λ input. EndsRunAt gives v w' input old state left' before later end)
-long_line_stops gives o r r' left left' old state v w w' before now later end given why p =
-    frame_stops gives o r r' left left' old state state v w w' before now later None why.0 end given refl why.1 why.2 p
+pub all_known : {V : Type 0} (v : V) (sessions : List Session) → knowing.KnowsOpen (λ w n. true) v sessions
+all_known v sessions = λ n is. refl
+
+pub run_ok : {T : Type 0} (r : Result T (AnswerEnd RunEnd)) (P : Type 0) → OnOk r P → OnOk (run_answer r) P
+run_ok (Ok x) P is = is
+run_ok (Err (answers.Serve e)) P is = tt
+run_ok (Err (answers.Reply e)) P is = tt

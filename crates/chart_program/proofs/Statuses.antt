@@ -3,9 +3,9 @@ use Rattle.std.proofs.Common.{◌≡◌, ◌≢◌, ◌≤◌, ◌^◌, ◌⊎�
 use Rattle.std.specs.Prelude.{Contains}
 use Rattle.block_disk.specs.Counts.{HasRisen}
 use Rattle.block_disk.specs.View.{View, DiskKept}
+use Rattle.chart_world.specs.LineLaws.{told_so}
 use Rattle.om3_coeff.specs.declared.key.Key.{Key}
 use Rattle.chart_frames.specs.Frames.{key_number}
-use Rattle.chart_service.proofs.Progress.{told_so}
 use Rattle.program_words.specs.declared.words.Command.TheVariants.{Plot, Draw}
 use Rattle.chart_program.specs.declared.draw_end.DrawEnd.{DrawEnd}
 use Rattle.chart_program.specs.declared.draw_end.DrawEnd.TheVariants as draw_end

@@ -4,7 +4,8 @@ use Rattle.std.specs.List.{filter}
 use Rattle.line_raster.specs.Canvas.{Canvas}
 use Rattle.block_disk.specs.View.{Image}
 use Rattle.zoom_session.specs.declared.session.Session.{Session}
-use Rattle.chart_world.proofs.LineLaws.{lines_none}
+use Rattle.chart_world.specs.LineLaws.{lines_none}
+use Rattle.chart_world.specs.Fronts.{says}
 use Rattle.chart_frames.specs.declared.frame.Frame.{Frame}
 use Rattle.chart_frames.specs.Frames.{Fits, spelling}
 use Rattle.chart_client.specs.declared.holding.Holding.{Holding}
@@ -15,8 +16,8 @@ use Rattle.chart_client.specs.Showing.{Spells, RejectsBytes, ScreenGives}
 use Rattle.chart_service.specs.State.{State, IsSound}
 use Rattle.chart_service.specs.Replies.{RepliesToLine, Replied}
 use Rattle.chart_service.specs.declared.failure.ServeEnd.TheVariants as serve_end
-use Rattle.chart_service.specs.Moments.{IsAhead}
-use Rattle.chart_service.specs.Serving.{says, told, RepliesToAll, Answers, SendsText, SendsFirst, SendsFrontOf, SendsTaken, SendsWithin, SendsSome, SendsLines}
+use Rattle.chart_service.specs.Telling.{Tells, text_told, first_told, front_told, taken_told, within_told, some_told}
+use Rattle.chart_service.specs.Serving.{told, RepliesToAll, Answers, SendsText, SendsFirst, SendsFrontOf, SendsTaken, SendsWithin, SendsSome, SendsLines}
 use Rattle.drawn_replies.specs.Mirrors.{Mirrors, OnlyLacksMemory}
 use Rattle.drawn_replies.specs.Pictures.{AcceptsAll, ArePictured}
 use Rattle.chart_program.specs.declared.run_end.RunEnd.{RunEnd}
@@ -24,60 +25,6 @@ use Rattle.chart_program.specs.declared.run_end.RunEnd.TheVariants as run_end
 use Rattle.chart_program.specs.Texts.{text_of, texts_of}
 use Rattle.chart_program.specs.Runs.{AreShown, AreShownFrom, ShowFails, EndsRunAt}
 use Rattle.chart_program.specs.Served.{AreTexts}
-
-replies_more : (old between new : State) (lines : List (Option (List ℕ))) (frames : List Frame) (line : Option (List ℕ)) (frame : Frame) → RepliesToAll old lines frames between → Replied line frame between new → RepliesToAll old (lines ++ line ∷ []) (frames ++ frame ∷ []) new
-replies_more old between new [] [] line frame all next = let P : State → Type 0 = λ s. Replied line frame s new in (new, subst P all next, refl)
-replies_more old between new [] (r ∷ rs) line frame all next = absurd all
-replies_more old between new (l ∷ ls) [] line frame all next = absurd all
-replies_more old between new (l ∷ ls) (r ∷ rs) line frame all next = (all.0, all.1, replies_more all.0 between new ls rs line frame all.2 next)
-
-append_none : (xs : List ℕ) → xs ++ [] ≡ xs
-append_none [] = refl
-append_none (x ∷ xs) = ap (λ l. x ∷ l) (append_none xs)
-
--- ---- the same answers, told otherwise
-
--- what is said to lines
-abbrev pub Telling : Type 1
-Telling = List (Option (List ℕ)) → List Frame → List ℕ → Type 0
-
--- what tells a text tells it otherwise too, where lines are answered from the state old on
-abbrev pub Tells : State → Telling → Telling → Type 0
-Tells old T U = (lines : List (Option (List ℕ))) (frames : List Frame) (text : List ℕ) (new : State) → RepliesToAll old lines frames new → T lines frames text → U lines frames text
-
-answers_told : (T U : Telling) (bytes text : List ℕ) (old new : State) → Tells old T U → Answers T bytes text old new → Answers U bytes text old new
-answers_told T U bytes text old new tells a = record { frames = a.frames; replied = a.replied; texts = tells (told bytes) a.frames text new a.replied a.texts }
-
-text_told : (T U : Telling) (input : List ℕ) (old new : State) (before now : Option (List ℕ)) → Tells old T U → SendsText T input old new before now → SendsText U input old new before now
-text_told T U input old new before now tells s = record { text = s.text; answers = answers_told T U input s.text old new tells s.answers; sent = s.sent }
-
-abbrev first_told : (T U : Telling) (input rest : List ℕ) (old new : State) (before now : Option (List ℕ)) → Tells old T U → SendsFirst T input rest old new before now → SendsFirst U input rest old new before now
-first_told T U input rest old new before now tells s =
-    record { front = s.front; begins = s.begins; text = s.text; answers = answers_told T U s.front s.text old new tells s.answers; sent = s.sent }
-
-front_told : (T U : Telling) (input : List ℕ) (old new : State) (before now : Option (List ℕ)) → Tells old T U → SendsFrontOf T input old new before now → SendsFrontOf U input old new before now
-front_told T U input old new before now tells s = record {
-  front = s.front;
-  rest = s.rest;
-  begins = s.begins;
-  text = s.text;
-  answers = answers_told T U s.front s.text old new tells s.answers;
-  count = s.count;
-  within = s.within;
-  sent = s.sent;
-}
-
-taken_told : (T U : Telling) (input bytes : List ℕ) (old new : State) (before now : Option (List ℕ)) → Tells old T U → SendsTaken T input bytes old new before now → SendsTaken U input bytes old new before now
-taken_told T U input bytes old new before now tells s =
-    record { rest = s.rest; first = first_told T U input s.rest old new before now tells s.first; partial = s.partial; taken = s.taken; unended = s.unended }
-
-within_told : (T U : Telling) (input : List ℕ) (old new : State) (before now : Option (List ℕ)) → Tells old T U → SendsWithin T input old new before now → SendsWithin U input old new before now
-within_told T U input old new before now tells s =
-    record { rest = s.rest; first = first_told T U input s.rest old new before now tells s.first; unended = s.unended; past = s.past }
-
-some_told : (T U : Telling) (input : List ℕ) (old new : State) (before now : Option (List ℕ)) → Tells old T U → SendsSome T input old new before now → SendsSome U input old new before now
-some_told T U input old new before now tells s =
-    record { rest = s.rest; between = s.between; first = first_told T U input s.rest old s.between before now tells s.first; state = s.state }
 
 -- ---- a screen
 
@@ -121,38 +68,6 @@ screen_texts one draws start alone sound h lines frames text new replied shown =
 
 pub any_texts : OneFrame → AllDraw → (start : State) → start.sessions ≡ [] → IsSound start → Tells start (AreShownFrom ScreenGives []) (AreTexts start)
 any_texts one draws start alone sound lines frames text new replied shown = screen_texts one draws start alone sound shown.0 lines frames text new replied shown.1
-
--- what is ahead by what is shown is so by the texts
-pub ahead_told : (T U : Telling) (input : List ℕ) (total : ℕ) (start : State) (from : ℕ) (image : Image) (count : ℕ) → Tells start T U → IsAhead T input total start from image count → IsAhead U input total start from image count
-unfolding answers_told
-ahead_told T U input total start from image count tells a = record {
-  front = a.front;
-  rest = a.rest;
-  begins = a.begins;
-  between = a.between;
-  text = a.text;
-  answers = answers_told T U a.front a.text start a.between tells a.answers;
-  total_is = a.total_is;
-  state = elim a.state [
-    | inl is ↦ inl is
-    | inr next ↦ inr (record {
-      after = next.after;
-      next = next.next;
-      said = next.said;
-      stands = next.stands;
-      sent = elim next.sent [
-        | inl none ↦ inl none
-        | inr some ↦ inr (record {
-          reply = some.reply;
-          texts = tells (told a.front ++ next.next.line ∷ []) (a.answers.frames ++ next.next.frame ∷ []) (a.text ++ some.reply) next.after
-              (replies_more start a.between next.after (told a.front) a.answers.frames next.next.line next.next.frame a.answers.replied next.next.replied) some.texts;
-          low = some.low;
-          high = some.high;
-        })
-      ];
-    })
-  ];
-}
 
 -- ---- how a run ends
 

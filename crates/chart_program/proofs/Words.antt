@@ -1,14 +1,14 @@
 -- What the words of a command say of it.
 use Rattle.std.proofs.Common.{◌≡◌, ℕ, zero, suc, Bool, true, false, ◌⊎◌, inl, inr, List, [], ◌∷◌, Option, Some, None, IfSome, get_or, refl, ap, sym, arith, subst, ◌∙◌}
-use Rattle.std.specs.Prelude.{Contains}
+use Rattle.std.specs.Prelude.{Contains, String, map, string_bytes}
 use Rattle.block_disk.specs.View.{View}
 use Rattle.program_words.specs.declared.words.Command.{Command}
 use Rattle.program_words.specs.declared.words.Command.TheVariants.{Plot, Load, Demo, Run, Serve, Draw, Init, Check}
-use Rattle.command_words.specs.Words.{plain_words, has_flag}
-use Rattle.program_words.specs.Words.{Spells, IsWrong, EndsWords}
+use Rattle.program_words.specs.CommandLine.{plain_words, has_flag}
+use Rattle.program_words.specs.Words.{OfCommand, Spells, IsWrong, EndsWords}
 use Rattle.program_words.specs.declared.words.WordsEnd.{WordsEnd}
 use Rattle.program_words.specs.declared.words.WordsEnd.TheVariants.{Wrong}
-use Rattle.chart_program.specs.Ran.{OfCommand, HasOperands, IsStreaming, IsInput, stream_words}
+use Rattle.chart_program.specs.Ran.{HasGoodInput, HasOperands, IsStreaming, IsInput, stream_words}
 
 -- the words are those of this command
 pub of_command : (words : List (List ℕ)) (command told : Command) (P : Command → Type 0) → told ≡ command → Spells told words → P command → OfCommand words P
@@ -66,10 +66,12 @@ chart_codes code (zero, inside, is) = (0, omega arith, is)
 chart_codes code (suc k, inside, is) = (suc (suc k), omega (arith, inside), is)
 
 -- a command that is done with good input is done with that of its words
-pub completes : (left : Option (List ℕ)) (command : Command) (words : List (List ℕ)) (old new : View) (W R S D : Type 0) → Spells command words → IfSome left (λ input. IsInput command old new input → R → S → D)
-    → IfSome left (λ input. W → ((command : Command) → Spells command words → IsInput command old new input) → R → S → D)
-completes None command words old new W R S D spells done = tt
-completes (Some input) command words old new W R S D spells done = λ some good no_read no_send. done (good command spells) no_read no_send
+pub completes : {Z : Type 0} (words : List (String Z)) (left : Option (List ℕ)) (command : Command) (old new : View) (D : Type 0) → Spells command (plain_words (map string_bytes words)) → IfSome left (λ input. IsInput command old new input → D)
+    → HasGoodInput words left (λ told. IsInput told old new) → D
+completes words left command old new D spells done given =
+    let P : Option (List ℕ) → Type 0 = λ o. IfSome o (λ input. IsInput command old new input → D) in
+    let there : IsInput command old new given.input → D = subst P given.told done in
+    there (given.good command spells)
 
 -- words that are those of a command aren't wrong
 pub wrong_end : (end : WordsEnd) (place : ℕ) (words : List (List ℕ)) → end ≡ Wrong place → EndsWords end words → IsWrong place words

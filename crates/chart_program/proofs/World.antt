@@ -1,10 +1,8 @@
 -- What a serving command does to its world, by what it does over a store.
 use Rattle.std.proofs.Common.{◌≡◌, ℕ, ◌≤◌, List, [], Option, Some, None, Result, Ok, Err, IfSome, refl, sym, ap, subst, arith, inl, inr, ◌∙◌}
-use Rattle.std.specs.List.{filter}
 use Rattle.std.proofs.lemmas.Bool.{cases_lt}
-use Rattle.block_disk.specs.Streams.{sent_after}
 use Rattle.block_disk.specs.View.{Image, View, Honest, sent_now}
-use Rattle.chart_world.proofs.LineLaws.{lines_none}
+use Rattle.chart_world.specs.LineLaws.{told_so}
 use Rattle.chart_client.specs.declared.errors.ClientError.TheVariants as client
 use Rattle.gate_pages.specs.GateLaws.{goes_by, goes_then}
 use Rattle.gate_pages.specs.GatePages.{StandsAsBefore}
@@ -12,34 +10,26 @@ use Rattle.gate_pages.specs.Journal.{page_count}
 use Rattle.gate_pages.specs.Pages.{Quiet}
 use Rattle.gate_pages.proofs.Moving.{sent_same}
 use Rattle.series_book.specs.declared.one_series.Series.{Series}
-use Rattle.store_init.proofs.DisksMade.{stood}
-use Rattle.store_open.specs.Held.{HoldsBook}
-use Rattle.store_open.specs.Openings.{Opens, Prevents, IsOutside}
-use Rattle.store_open.specs.declared.causes.OpeningCause.{OpeningCause}
-use Rattle.store_open.specs.declared.causes.OpeningCause.TheVariants as opening
-use Rattle.store_open.proofs.Opened.{stands_on}
+use Rattle.empty_store.proofs.DisksMade.{stood}
+use Rattle.disk_store.specs.Held.{HoldsBook}
+use Rattle.disk_store.specs.Openings.{Opens, Prevents, IsOutside}
+use Rattle.disk_store.specs.declared.causes.OpeningCause.{OpeningCause}
+use Rattle.disk_store.specs.declared.causes.OpeningCause.TheVariants as opening
+use Rattle.disk_store.proofs.Opened.{stands_on}
 use Rattle.stored_book.specs.Standing.{RecoversTo}
 use Rattle.chart_service.specs.State.{State}
-use Rattle.chart_service.specs.Serving.{told, SendsFirst, RepliesToAll, says}
+use Rattle.chart_service.specs.Serving.{told, SendsFirst}
 use Rattle.chart_service.specs.declared.failure.ServeEnd.TheVariants as serve_end
-use Rattle.chart_service.proofs.Joined.{append_none}
-use Rattle.chart_service.proofs.Progress.{told_so}
+use Rattle.chart_service.specs.SentLaws.{sent_none}
+use Rattle.chart_service.specs.Telling.{told_none}
 use Rattle.chart_program.specs.declared.lines_end.LinesEnd.{LinesEnd}
 use Rattle.chart_program.specs.declared.lines_end.LinesEnd.TheVariants as lines_end
 use Rattle.chart_program.specs.declared.run_end.RunEnd.{RunEnd}
 use Rattle.chart_program.specs.declared.run_end.RunEnd.TheVariants as run_end
 use Rattle.chart_program.specs.Served.{Says, Faults, faults_of, AnswersAll, AnswersTaken, AnswersSome, AnswersLines, EndsLines, IsAheadOn, LeavesBooks, IsLinesCause, ServesLines, EndsOpening, ServesWorld, in_world}
-use Rattle.command_status.specs.Books.{begun}
-use Rattle.command_status.proofs.Held.{held, risen_since}
-use Rattle.command_status.proofs.Moments.{sent_so}
-
--- nothing is answered yet
-told_none : (old : State) → RepliesToAll old (told []) [] old
-told_none old = let P : List (Option (List ℕ)) → Type 0 = λ l. RepliesToAll old (filter says l) [] old in subst P (sym lines_none) refl
-
-sent_none : (before : Option (List ℕ)) → before ≡ sent_after [] before
-sent_none None = refl
-sent_none (Some sent) = ap Some (sym (append_none sent))
+use Rattle.store_commands.specs.Books.{begun}
+use Rattle.store_commands.proofs.Held.{held, risen_since}
+use Rattle.store_commands.proofs.Moments.{sent_so}
 
 -- ---- before the first line
 

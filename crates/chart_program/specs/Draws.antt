@@ -15,8 +15,8 @@ use Rattle.chart_client.specs.declared.holding.Holding.{Holding}
 use Rattle.chart_client.specs.declared.errors.ClientError.{ClientError}
 use Rattle.chart_client.specs.declared.errors.ClientError.TheVariants as client
 use Rattle.chart_client.specs.Accepting.{Accepts, Rejects}
-use Rattle.command_status.specs.declared.status.Status.{Status}
-use Rattle.command_status.specs.Status.{status}
+use Rattle.store_commands.specs.declared.status.Status.{Status}
+use Rattle.store_commands.specs.Status.{status}
 use Rattle.drawn_replies.specs.Pictures.{AcceptsAll}
 use Rattle.chart_program.specs.declared.draw_end.DrawEnd.{DrawEnd}
 use Rattle.chart_program.specs.declared.draw_end.DrawEnd.TheVariants.{NoMemory, ReadFault, SendFault, InputTooLong, BadFrame, Missing, BadCoefficient, UnknownSession}

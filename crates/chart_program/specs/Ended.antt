@@ -9,16 +9,16 @@ use Rattle.chart_frames.specs.Frames.{key_number}
 use Rattle.gate_pages.specs.Journal.{page_count}
 use Rattle.gate_pages.specs.Pages.{GoesOn}
 use Rattle.om3_coeff.specs.declared.key.Key.{Key}
-use Rattle.store_open.specs.Openings.{IsDamagedBlock}
+use Rattle.disk_store.specs.Openings.{IsDamagedBlock}
 use Rattle.chart_service.specs.declared.failure.ServeEnd.{ServeEnd}
 use Rattle.chart_service.specs.declared.failure.ServeEnd.TheVariants as serve_end
 use Rattle.chart_program.specs.declared.lines_end.LinesEnd.{LinesEnd}
 use Rattle.chart_program.specs.declared.lines_end.LinesEnd.TheVariants as lines_end
 use Rattle.chart_program.specs.declared.run_end.RunEnd.TheVariants as run_end
-use Rattle.command_status.specs.declared.status.Status.{Status}
-use Rattle.command_status.specs.Status.{status, opening_status}
+use Rattle.store_commands.specs.declared.status.Status.{Status}
+use Rattle.store_commands.specs.Status.{status, opening_status}
 use Rattle.chart_program.specs.Served.{Says, Faults, AnswersAll, AnswersFront, AnswersTaken, AnswersWithin, AnswersSome, AnswersLines, LeavesBooks, IsBadPlace, IsRejected}
-use Rattle.command_status.specs.Books.{Never}
+use Rattle.store_commands.specs.Books.{Never}
 
 -- the status of why a serving ended
 abbrev pub serve_end_status : ServeEnd → Status

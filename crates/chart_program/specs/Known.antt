@@ -1,11 +1,9 @@
 -- What `show` knows of the sessions that are open.
-use Rattle.std.specs.Prelude.{ℕ, Bool, List, IsTrue, Ok, Err, ⊤}
+use Rattle.std.specs.Prelude.{ℕ, Bool, IsTrue, Ok, Err, ⊤}
 use Rattle.chart_client.specs.declared.show.Shown.{Shown}
 use Rattle.chart_frames.specs.declared.frame.Frame.{Frame}
-use Rattle.chart_frames.specs.declared.frame.Frame.TheVariants.{Done, Refused, Opened, Closed, View, Rows}
 use Rattle.chart_frames.specs.Frames.{Fits, spelling}
-use Rattle.zoom_session.specs.declared.session.Session.{Session}
-use Rattle.zoom_session.specs.Sessions.{is_open}
+use Rattle.chart_service.specs.Knowing.{NamesKnown}
 use Rattle.chart_service.specs.Opening.{opens}
 use Rattle.chart_program.specs.declared.run_end.RunEnd.{RunEnd}
 use Rattle.chart_program.specs.declared.run_end.RunEnd.TheVariants.{Serve, Show}
@@ -15,19 +13,6 @@ use Rattle.chart_program.specs.Runs.{Gives}
 abbrev pub Follows : {V : Type 0} → Gives V → (V → ℕ → Bool) → Type 0
 Follows {V} gives knows =
     (old new : V) (frame : Frame) (shown : Shown) (n : ℕ) → Fits frame → gives old (spelling frame) (Ok shown) new → IsTrue (opens frame n (knows old n)) → IsTrue (knows new n)
-
--- each session that is open is known
-abbrev pub KnowsOpen : {V : Type 0} → (V → ℕ → Bool) → V → List Session → Type 0
-KnowsOpen knows show sessions = (n : ℕ) → IsTrue (is_open n sessions) → IsTrue (knows show n)
-
--- a frame that answers in a session, or closes one, names a known one
-abbrev pub NamesKnown : Frame → (ℕ → Bool) → Type 0
-NamesKnown (Done slots) knows = ⊤
-NamesKnown (Refused number a b) knows = ⊤
-NamesKnown (Opened session cache) knows = ⊤
-NamesKnown (Closed session) knows = IsTrue (knows session)
-NamesKnown (View view) knows = IsTrue (knows view.session)
-NamesKnown (Rows rows) knows = IsTrue (knows rows.session)
 
 -- an error of showing was given to a frame that names known sessions
 abbrev pub EndsKnown : {V : Type 0} → Gives V → (V → ℕ → Bool) → RunEnd → Type 0

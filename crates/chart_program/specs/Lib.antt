@@ -4,8 +4,8 @@ pub mod Plotted
 pub mod Texts
 pub mod Runs
 pub mod Known
-pub mod Sending
 pub mod Served
+pub mod Traffic
 pub mod Lives
 pub mod Ended
 pub mod Draws

@@ -1,13 +1,14 @@
 -- Runs over one disk, each begun on an image that a crash of the run before left.
 use Rattle.std.specs.Prelude.{◌≡◌, ℕ, ◌+◌, ◌⊎◌, Bool, true, false, List, [], ◌∷◌, length, ⊤}
 use Rattle.block_disk.specs.View.{Image}
+use Rattle.chart_world.specs.Fronts.{BeginsWith, says}
 use Rattle.series_book.specs.declared.one_series.Series.{Series}
 use Rattle.stored_book.specs.Standing.{RecoversTo}
 use Rattle.chart_service.specs.State.{State}
-use Rattle.chart_service.specs.Serving.{Answers, AnswersNext, BeginsWith, told, says}
+use Rattle.chart_service.specs.Serving.{Answers, AnswersNext, told}
 use Rattle.chart_service.specs.Moments.{SendsReply}
 use Rattle.chart_program.specs.Served.{Says, Spelled, AreTexts, IsAheadOn}
-use Rattle.command_status.specs.Books.{begun}
+use Rattle.store_commands.specs.Books.{begun}
 
 -- A run of `run` or of `serve`, begun on an image with nothing pending where so many bytes were sent before, and an image
 -- that a crash at a moment of it may leave, with the number of bytes sent by then.

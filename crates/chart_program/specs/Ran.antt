@@ -1,10 +1,10 @@
 -- What a run of a command does.
-use Rattle.std.specs.Prelude.{◌≡◌, ◌≢◌, ℕ, ℤ, ◌<◌, ◌≤◌, ◌^◌, ◌⊎◌, List, [], ◌∷◌, length, All, Contains, flat_map, Option, Some, IfSome, codes, ⊤}
+use Rattle.std.specs.Prelude.{◌≡◌, ◌≢◌, ℕ, ℤ, ◌<◌, ◌≤◌, ◌^◌, ◌⊎◌, List, [], ◌∷◌, length, All, Contains, flat_map, Option, Some, IfSome, codes, String, map, string_bytes, ⊤}
 use Rattle.std.specs.List.{filter}
 use Rattle.block_disk.specs.Streams.{sent_after}
 use Rattle.block_disk.specs.View.{Image, View, DiskKept, Honest, Now, Only}
 use Rattle.gate_pages.specs.Journal.{page_count}
-use Rattle.store_init.specs.Stores.{HasStore, IsNewStore, LeavesNew}
+use Rattle.empty_store.specs.Stores.{HasStore, IsNewStore, LeavesNew}
 use Rattle.line_raster.specs.Canvas.{Canvas}
 use Rattle.om3_coeff.specs.declared.key.Key.{Key}
 use Rattle.chart_frames.specs.declared.frame.Frame.{Frame}
@@ -15,29 +15,38 @@ use Rattle.chart_service.specs.Serving.{RepliesToAll}
 use Rattle.gate_pages.specs.Pages.{GoesOn}
 use Rattle.block_disk.specs.Counts.{HasRisen}
 use Rattle.series_book.specs.declared.one_series.Series.{Series}
-use Rattle.store_open.specs.Held.{HoldsBook}
+use Rattle.disk_store.specs.Held.{HoldsBook}
 use Rattle.drawn_replies.specs.Pictures.{ArePictured, AreOwnPictured, NoneRejected, names}
 use Rattle.program_words.specs.declared.words.Command.{Command}
 use Rattle.program_words.specs.declared.words.Command.TheVariants.{Plot, Load, Demo, Run, Serve, Draw, Init, Check}
 use Rattle.chart_program.specs.declared.draw_end.DrawEnd.TheVariants as draw_end
-use Rattle.program_words.specs.Words.{Spells}
+use Rattle.program_words.specs.CommandLine.{plain_words}
+use Rattle.program_words.specs.Words.{AreCommand, ByCommand, Spells}
+use Rattle.store_commands.specs.declared.status.Status.{Status}
+use Rattle.store_commands.specs.Traffic.{Traffic}
 use Rattle.chart_grid.specs.Limits.{IsSide}
 use Rattle.chart_program.specs.Slots.{SpellsAll, FirstBad, HasTooMany, IsTooLong, StoppedBefore, most_slots}
 use Rattle.chart_program.specs.Plotted.{SendsPlot, SendsFront}
-use Rattle.chart_program.specs.Served.{Faults, AreTexts, Spelled, AnswersAll, AnswersFront, AnswersTaken, AnswersWithin, AnswersSome, AnswersLines, LeavesBooks, IsRejected}
-use Rattle.command_status.specs.Books.{FromBook, Never, LeavesSame}
-use Rattle.load_command.specs.Loaded.{Unnamed, LoadsAll, LoadsAndSendsPart, LoadsSome, LoadsToBad, LoadsTaken, LoadsWithin, RefusesSet, LeavesLoads, LeavesUnnamed}
-use Rattle.check_command.specs.Checked.{SendsCounts, SendsCountsPart, IsBadPart}
-use Rattle.demo_command.specs.Demonstrated.{SendsSummary, SendsSummaryPart, AnswersFirst, LeavesDemo}
+use Rattle.chart_program.specs.Served.{Faults, faults_of, AreTexts, Spelled, AnswersAll, AnswersFront, AnswersTaken, AnswersWithin, AnswersSome, AnswersLines, LeavesBooks, IsRejected}
+use Rattle.store_commands.specs.Books.{FromBook, Never, LeavesSame}
+use Rattle.store_commands.specs.Loaded.{Unnamed, LoadsAll, LoadsAndSendsPart, LoadsSome, LoadsToBad, LoadsTaken, LoadsWithin, RefusesSet, LeavesLoads, LeavesUnnamed}
+use Rattle.store_commands.specs.Checked.{SendsCounts, SendsCountsPart, IsBadPart}
+use Rattle.store_commands.specs.Demonstrated.{SendsSummary, SendsSummaryPart, AnswersFirst, LeavesDemo}
 use Rattle.demo_workload.specs.Ending.{MeetsError}
 use Rattle.demo_workload.specs.Workload.{workload}
 use Rattle.series_load.specs.Ends.{IsAtBad, IsAtRefusal}
 use Rattle.series_load.specs.Sets.{IsNamed}
 use Rattle.series_book.specs.declared.refusals.Refusal.{Refusal}
-use Rattle.store_open.specs.Openings.{IsDamagedBlock}
+use Rattle.disk_store.specs.Openings.{IsDamagedBlock}
 use Rattle.chart_program.specs.Ended.{IsDamagedAt}
 use Rattle.chart_program.specs.Texts.{picture_bytes}
 use Rattle.chart_program.specs.Draws.{DrawsAll, DrawsTaken, DrawsWithin, IsCut, StopsAtFrame}
+
+-- The words are those of a command, and where the input is told this is so of the command, of the disk before and now, of
+-- the input, and of what was sent before and now.
+abbrev pub ForCommand : {Z W : Type 0} → List (String Z) → (W → View) → (W → Option (List ℕ)) → (W → Option (List ℕ)) → W → W
+    → (Command → View → View → List ℕ → Option (List ℕ) → Option (List ℕ) → Type 0) → Type 0
+ForCommand words view left sent old new IsSo = ByCommand words (λ command. IfSome (left old) (λ input. IsSo command (view old) (view new) input (sent old) (sent new)))
 
 -- the words of the commands that send before their input has ended
 abbrev pub stream_words : List (List (List ℕ))
@@ -77,6 +86,10 @@ StopsBefore Init old new input before now bytes = ⊥
 StopsBefore (Load name) old new input before now bytes = LoadsTaken name (page_count old.size) old new input bytes
 StopsBefore (Demo seed rounds) old new input before now bytes = ⊥
 StopsBefore Check old new input before now bytes = ⊥
+
+-- the same, where the bytes left are told
+abbrev pub StopsWith : Option (List ℕ) → Command → View → View → List ℕ → Option (List ℕ) → Option (List ℕ) → Type 0
+StopsWith left command old new input before now = IfSome left (StopsBefore command old new input before now)
 
 -- There was no memory. A plot has sent nothing, a serving command what answers some first lines, and `draw` the
 -- pictures of some first frames.
@@ -154,6 +167,10 @@ Leaves (Demo seed rounds) input old new = LeavesDemo (workload seed rounds) (pag
 Leaves Check input old new = LeavesSame (page_count old.size) old new
 Leaves command input old new = ⊤
 
+-- the same where the bytes sent before are told, of which the moments speak
+abbrev pub LeavesTold : Command → View → View → List ℕ → Option (List ℕ) → Option (List ℕ) → Type 0
+LeavesTold command old new input before now = IfSome before (λ bytes. Leaves command input old new)
+
 -- a block was found damaged
 abbrev pub IsDamaged : Command → View → View → ℕ → Type 0
 IsDamaged Run old new place = IsDamagedAt old new place
@@ -199,12 +216,6 @@ abbrev pub IsThere : Command → View → ℕ → Type 0
 IsThere Init old place = (place ≡ 66) × ((128 ≤ old.size) × (Honest old → HasStore (page_count old.size) old.image))
 IsThere command old place = ⊥
 
--- the words are those of a command, and this holds of it
-pub record OfCommand (words : List (List ℕ)) (P : Command → Type 0) : Type 0 where
-  pub command : Command
-  pub spells : Spells command words
-  pub holds : P command
-
 -- there is more input than a plot takes: a slot too many, or bytes past 2^32
 abbrev pub HasTooMuch : List ℕ → ℕ → Type 0
 HasTooMuch input place = ((place ≡ most_slots) × HasTooMany input) ⊎ ((place ≡ 2 ^ 32) × IsTooLong input)
@@ -226,6 +237,10 @@ IsRefused (Load name) old new input left place =
     RefusesSet name (page_count old.size) old new input place
     × Unnamed (page_count old.size) old name (λ total book. (place ≡ 8) × (left ≡ Some input) × HoldsBook (page_count old.size) total book new)
 IsRefused command old new input left place = ⊥
+
+-- the same, by the bytes left and the place
+abbrev pub IsRefusedWith : Option (List ℕ) → ℕ → Command → View → View → List ℕ → Option (List ℕ) → Option (List ℕ) → Type 0
+IsRefusedWith left place command old new input before now = IsRefused command old new input left place
 
 -- a series of no such name has its code, unless a call of the disk fails or there is no memory
 abbrev pub TellsUnnamed : Command → View → ℕ → Type 0
@@ -297,6 +312,21 @@ IsInput (Load name) old new input = AreReadings name old new input
 IsInput (Demo seed rounds) old new input = StandsOn old new
 IsInput Check old new input = StandsOn old new
 
+-- The words are those of a command, the input is told, and it is good for each command whose words they are.
+pub record HasGoodInput {Z : Type 0} (words : List (String Z)) (left : Option (List ℕ)) (IsGood : Command → List ℕ → Type 0) : Type 0 where
+  pub command : AreCommand words
+  pub input : List ℕ
+  pub told : left ≡ Some input
+  pub good : (command : Command) → Spells command (plain_words (map string_bytes words)) → IsGood command input
+
+-- the codes that come with good input: done, no memory, and a fault of the input or of the output
+abbrev pub of_done : List ℕ
+of_done = 0 ∷ 3 ∷ 4 ∷ 5 ∷ []
+
+-- a store fits on the disk, reads give what it is, and it has none
+abbrev pub IsFree : View → Type 0
+IsFree disk = (128 ≤ disk.size) × Honest disk × (HasStore (page_count disk.size) disk.image → ⊥)
+
 -- lines are answered by these frames, over a book and with no session open
 pub record AreReplies (old : State) (lines : List (Option (List ℕ))) (frames : List Frame) (new : State) : Type 0 where
   pub sound : IsSound old
@@ -364,8 +394,13 @@ pub record CommandEnds (command : Command) (old new : View) (left left' before n
   pub part : code ≡ 5 → IfSome left (λ input. SendsPart command old new input before now)
   pub nothing : code ≢ 0 → code ≢ 5 → (IsStreaming command → ⊥) → now ≡ before
   pub pictures : code ≡ 0 → command ≡ Draw → IfSome left (λ input. DrawsReplies input before now)
-  pub crash : IfSome left (λ input. IfSome before (λ bytes. Leaves command input old new))
+  pub crash : IfSome left (λ input. LeavesTold command old new input before now)
   pub disk : LeavesDisk command old new
   pub made : code ≡ 0 → IsMade command old new
-  pub complete : IfSome left (λ input. IsInput command old new input → (HasRisen faults.reads faults.reads_now → ⊥) → (HasRisen faults.sends faults.sends_now → ⊥) → (code ≡ 0) ⊎ (code ≡ 3))
-  pub ready : command ≡ Init → 128 ≤ old.size → Honest old → (HasStore (page_count old.size) old.image → ⊥) → (HasRisen old.faults new.faults → ⊥) → (code ≡ 0) ⊎ (code ≡ 3)
+  pub complete : IfSome left (λ input. IsInput command old new input → Contains of_done code)
+  pub ready : command ≡ Init → IsFree old → (HasRisen old.faults new.faults → ⊥) → (code ≡ 0) ⊎ (code ≡ 3)
+
+-- the same by the status, and by what passed through the streams
+abbrev pub EndsCommand : Command → View → View → Traffic → Status → Type 0
+EndsCommand command old new t end =
+    CommandEnds command old new t.left t.left_now t.sent t.sent_now (faults_of t.reads t.reads_now t.sends t.sends_now) end.code end.place

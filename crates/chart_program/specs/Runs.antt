@@ -1,18 +1,22 @@
 -- What `run_on` sends: for each line that isn't empty the text of what its frame shows.
 use Rattle.std.specs.Prelude.{◌≡◌, ℕ, ◌<◌, ◌⊎◌, List, [], ◌∷◌, ◌++◌, length, Option, None, Some, IfSome, Result, Ok, Err, ⊤}
-use Rattle.block_disk.specs.Streams.{sent_after, PartSent}
 use Rattle.block_disk.specs.View.{Image}
 use Rattle.chart_frames.specs.declared.frame.Frame.{Frame}
 use Rattle.chart_frames.specs.Frames.{spelling}
 use Rattle.chart_client.specs.declared.errors.ClientError.{ClientError}
 use Rattle.chart_client.specs.declared.show.Shown.{Shown}
 use Rattle.chart_service.specs.State.{State}
-use Rattle.chart_service.specs.Replies.{Replied}
-use Rattle.chart_service.specs.Serving.{SendsFirst, SendsFrontOf, SendsTaken, SendsWithin, SendsSome, SendsLines, AnswersNext, KeepsBook}
+use Rattle.chart_service.specs.Serving.{SendsFirst, SendsFrontOf, SendsTaken, SendsWithin, SendsSome, SendsLines, AnswersNext}
 use Rattle.chart_service.specs.Serving as serving
+use Rattle.chart_service.specs.Shown as service
+use Rattle.chart_service.specs.declared.failure.AnswerEnd.{AnswerEnd}
+use Rattle.chart_service.specs.declared.failure.AnswerEnd.TheVariants as answers
+use Rattle.chart_service.specs.declared.service.Service.{Service}
+use Rattle.gate_pages.specs.declared.pages.Pages.{Ghosts}
+use Rattle.series_book.specs.declared.one_series.Series.{Series}
 use Rattle.chart_service.specs.Stepping.{StandsAfter}
 use Rattle.chart_service.specs.declared.failure.ServeEnd.TheVariants.{ReadFault, SendFault, DiskFault, Damaged, InputTooLong, NoMemory}
-use Rattle.store_catalog.specs.declared.stored_series.StoredSeries.{StoredSeries}
+use Rattle.series_catalog.specs.declared.stored_series.StoredSeries.{StoredSeries}
 use Rattle.zoom_session.specs.declared.session.Session.{Session}
 use Rattle.chart_program.specs.declared.run_end.RunEnd.{RunEnd}
 use Rattle.chart_program.specs.declared.run_end.RunEnd.TheVariants.{Serve, Show}
@@ -49,70 +53,16 @@ TextStops gives frame old new (Serve InputTooLong) = ⊥
 TextStops gives frame old new (Serve NoMemory) = ⊤
 TextStops gives frame old new (Show e) = gives old (spelling frame) (Err e) new
 
--- a frame's spelling was given to `show`, and the text of what it showed was sent
-abbrev pub ShowsFrame : {V : Type 0} → Gives V → Frame → V → V → Option (List ℕ) → Option (List ℕ) → Type 0
-ShowsFrame gives frame old new before now =
-    (shown : Shown) × gives old (spelling frame) (Ok shown) new
-    × (now ≡ sent_after (text_of shown.frame shown.bitmap (length (spelling frame))) before)
+-- what making the text of a frame may answer and leave
+abbrev pub MakesText : {V : Type 0} → Gives V → V → Frame → Result (List ℕ) RunEnd → V → Type 0
+MakesText gives old frame (Ok text) new = IsShownText gives frame old new text
+MakesText gives old frame (Err end) new = TextStops gives frame old new end
 
--- the first bytes of the text of what it showed were sent
-abbrev pub ShowsPart : {V : Type 0} → Gives V → Frame → V → V → Option (List ℕ) → Option (List ℕ) → Type 0
-ShowsPart gives frame old new before now =
-    (shown : Shown) × gives old (spelling frame) (Ok shown) new
-    × PartSent (text_of shown.frame shown.bitmap (length (spelling frame))) before now
-
--- why the text of a frame wasn't sent
-abbrev pub ShowStops : {V : Type 0} → Gives V → Frame → V → V → Option (List ℕ) → Option (List ℕ) → RunEnd → Type 0
-ShowStops gives frame old new before now (Serve ReadFault) = ⊥
-ShowStops gives frame old new before now (Serve SendFault) = ShowsPart gives frame old new before now
-ShowStops gives frame old new before now (Serve DiskFault) = ⊥
-ShowStops gives frame old new before now (Serve (Damaged page)) = ⊥
-ShowStops gives frame old new before now (Serve InputTooLong) = ⊥
-ShowStops gives frame old new before now (Serve NoMemory) = now ≡ before
-ShowStops gives frame old new before now (Show e) = (now ≡ before) × gives old (spelling frame) (Err e) new
-
--- a line is answered, and the text of what its frame shows is sent
-abbrev pub AnswersLine : {V : Type 0} → Gives V → List ℕ → V → V → State → State → Option (List ℕ) → Option (List ℕ) → Type 0
-AnswersLine gives text shown shown' old new before now =
-    (frame : Frame) × Replied (Some text) frame old new × ShowsFrame gives frame shown shown' before now
-
--- an empty line is passed over, and every other is answered
-abbrev pub LineDone : {V : Type 0} → Gives V → List ℕ → V → V → State → State → Option (List ℕ) → Option (List ℕ) → Type 0
-LineDone gives text shown shown' old new before now =
-    ((text ≡ []) × (shown' ≡ shown) × (new ≡ old) × (now ≡ before))
-    ⊎ ((0 < length text) × AnswersLine gives text shown shown' old new before now)
-
--- the end of a reply alone: no fault of the disk or of the input, and no damage
-abbrev pub IsReplyEnd : RunEnd → Type 0
-IsReplyEnd (Serve ReadFault) = ⊥
-IsReplyEnd (Serve SendFault) = ⊤
-IsReplyEnd (Serve DiskFault) = ⊥
-IsReplyEnd (Serve (Damaged page)) = ⊥
-IsReplyEnd (Serve InputTooLong) = ⊥
-IsReplyEnd (Serve NoMemory) = ⊤
-IsReplyEnd (Show e) = ⊤
-
--- why a line wasn't answered, or its text not sent, where the pages stand for a book then
-abbrev pub LineStopsAt : {V : Type 0} → Gives V → List ℕ → V → V → State → State → Option (List ℕ) → Option (List ℕ) → RunEnd → Type 0
-LineStopsAt gives text shown shown' old new before now (Serve NoMemory) =
-    (now ≡ before) × (KeepsBook old new ⊎ ((0 < length text) × (frame : Frame) × Replied (Some text) frame old new))
-LineStopsAt gives text shown shown' old new before now end =
-    (0 < length text) × (frame : Frame) × Replied (Some text) frame old new × ShowStops gives frame shown shown' before now end
-
--- why a line wasn't answered, or its text not sent; where it is no fault of the disk, the pages stand for a book then
-abbrev pub LineStops : {V : Type 0} → Gives V → List ℕ → V → V → State → Image → List Session → Option (List ℕ) → Option (List ℕ) → RunEnd → Type 0
-LineStops gives text shown shown' old image sessions before now (Serve DiskFault) = now ≡ before
-LineStops gives text shown shown' old image sessions before now (Serve (Damaged page)) = ⊥
-LineStops gives text shown shown' old image sessions before now end =
-    StandsAfter old.total image sessions (λ new. LineStopsAt gives text shown shown' old new before now end)
-
--- a line that is too long is answered by its refusal
-abbrev pub LongLineDone : {V : Type 0} → Gives V → V → V → State → Option (List ℕ) → Option (List ℕ) → Type 0
-LongLineDone gives shown shown' state before now = (frame : Frame) × Replied None frame state state × ShowsFrame gives frame shown shown' before now
-
--- why its text wasn't sent
-abbrev pub LongLineStops : {V : Type 0} → Gives V → V → V → State → Option (List ℕ) → Option (List ℕ) → RunEnd → Type 0
-LongLineStops gives shown shown' state before now end = (frame : Frame) × Replied None frame state state × ShowStops gives frame shown shown' before now end
+-- what the answering of lines by texts answers, as the end of a run
+abbrev pub run_answer : {T : Type 0} → Result T (AnswerEnd RunEnd) → Result T RunEnd
+run_answer (Ok done) = Ok done
+run_answer (Err (answers.Serve end)) = Err (Serve end)
+run_answer (Err (answers.Reply end)) = Err end
 
 -- The text for some first lines was sent, the next line was answered, and showing its frame gave this error.
 pub record ShowFails {V : Type 0} (gives : Gives V) (shown shown' : V) (input : List ℕ) (old new : State) (before now : Option (List ℕ)) (e : ClientError) : Type 0 where
@@ -153,3 +103,8 @@ EndsAtBad told catalog image total (Show e) = ⊤
 abbrev pub IsShown : {V : Type 0} → Gives V → RunEnd → Type 0
 IsShown gives (Serve end) = ⊤
 IsShown {V} gives (Show e) = (old : V) × (bytes : List ℕ) × (new : V) × gives old bytes (Err e) new
+
+-- why not all lines of a service's input were answered, and what was sent
+abbrev pub RunEndsBy : {P V : Type 0} {g : Ghosts P} → (P → Option (List ℕ)) → (P → Option (List ℕ)) → Gives V → V → V → ℕ → List Series → Service P g → Service P g → RunEnd → Type 0
+RunEndsBy left sent gives shown shown' total book old new =
+    EndsRun gives shown shown' (left (service.pages old)) (service.state old total book) (service.image new) new.sessions (left (service.pages new)) (sent (service.pages old)) (sent (service.pages new))

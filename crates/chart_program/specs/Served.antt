@@ -12,11 +12,11 @@ use Rattle.gate_pages.specs.Journal.{page_count, pages_of}
 use Rattle.gate_pages.specs.Pages.{GoesOn}
 use Rattle.line_raster.specs.Canvas.{Canvas}
 use Rattle.series_book.specs.declared.one_series.Series.{Series}
-use Rattle.store_catalog.specs.declared.stored_series.StoredSeries.{StoredSeries}
-use Rattle.store_open.specs.Held.{HoldsBook}
-use Rattle.store_open.specs.Openings.{Prevents}
-use Rattle.store_open.specs.declared.causes.OpeningCause.{OpeningCause}
-use Rattle.store_open.specs.declared.causes.OpeningCause.TheVariants as opening
+use Rattle.series_catalog.specs.declared.stored_series.StoredSeries.{StoredSeries}
+use Rattle.disk_store.specs.Held.{HoldsBook}
+use Rattle.disk_store.specs.Openings.{Prevents}
+use Rattle.disk_store.specs.declared.causes.OpeningCause.{OpeningCause}
+use Rattle.disk_store.specs.declared.causes.OpeningCause.TheVariants as opening
 use Rattle.chart_service.specs.State.{State}
 use Rattle.chart_service.specs.Moments.{Since, IsAhead}
 use Rattle.chart_service.specs.Serving.{AreSpelled, SendsText, SendsFrontOf, SendsTaken, SendsWithin, SendsSome, SendsLines}
@@ -28,7 +28,7 @@ use Rattle.chart_program.specs.declared.lines_end.LinesEnd.{LinesEnd}
 use Rattle.chart_program.specs.declared.lines_end.LinesEnd.TheVariants as lines_end
 use Rattle.chart_program.specs.declared.run_end.RunEnd.{RunEnd}
 use Rattle.chart_program.specs.declared.run_end.RunEnd.TheVariants as run_end
-use Rattle.command_status.specs.Books.{begun, OfBook, FromBook, Never}
+use Rattle.store_commands.specs.Books.{begun, OfBook, FromBook, Never}
 use Rattle.chart_program.specs.Texts.{texts_of}
 
 -- what is said to lines by the frames that answer them from a state on

@@ -1,7 +1,8 @@
 -- The input of `plot`: a slot on each line that isn't empty.
-use Rattle.std.specs.Prelude.{◌≡◌, ℕ, ℤ, ◌-◌, ◌^◌, ◌<◌, ◌≤◌, ◌⊎◌, Bool, true, false, List, [], ◌∷◌, ◌++◌, length, take, map, All, Option, None, Some}
+use Rattle.std.specs.Prelude.{◌≡◌, ℕ, ℤ, ◌-◌, ◌^◌, ◌<◌, ◌≤◌, ◌⊎◌, true, List, [], ◌∷◌, ◌++◌, length, take, map, All, Option, None, Some}
 use Rattle.std.specs.Fmt.{signed_decimal}
 use Rattle.std.specs.List.{filter}
+use Rattle.chart_world.specs.Fronts.{says, IsWhole}
 use Rattle.chart_world.specs.Lines.{lines, NoLineFeed}
 use Rattle.plain_chart.specs.Samples.{IsSlot}
 use Rattle.chart_program.specs.declared.slot.Entry.{Entry}
@@ -15,12 +16,6 @@ most_slots = 1048576
 abbrev pub spelling : Option ℤ → List ℕ
 spelling None = 45 ∷ []
 spelling (Some v) = signed_decimal v
-
--- the line says something: it isn't empty, or it is too long
-abbrev pub says : Option (List ℕ) → Bool
-says None = true
-says (Some []) = false
-says (Some (byte ∷ bytes)) = true
 
 -- the line is that of a slot
 pub record SpellsSlot (line : Option (List ℕ)) (slot : Option ℤ) : Type 0 where
@@ -42,10 +37,6 @@ IsEntry text Bad = IsBad (Some text)
 pub record SpellsAll (input : List ℕ) (slots : List (Option ℤ)) : Type 0 where
   pub texts : filter says (lines input) ≡ map (λ slot. Some (spelling slot)) slots
   pub in_range : All IsSlot slots
-
--- no byte, or whole lines with their line feeds
-abbrev pub IsWhole : List ℕ → Type 0
-IsWhole bytes = (bytes ≡ []) ⊎ ((before : List ℕ) × (bytes ≡ before ++ 10 ∷ []))
 
 -- The input begins with lines that spell slots, at most as many as a plot has, and this is what stands behind them.
 -- Each of these lines has its line feed, or the input ends with it.

@@ -1,15 +1,13 @@
 //! The commands, each with its status.
-ghost use Rattle.std.specs.Prelude.{◌≡◌, ◌⊎◌, ◌≤◌, [], ◌∷◌, Contains, IfErr};
+ghost use Rattle.std.specs.Prelude.{◌≡◌, ◌⊎◌, [], ◌∷◌, Contains, IfErr};
 ghost use Rattle.block_disk.specs.Counts.{HasRisen};
-ghost use Rattle.block_disk.specs.View.{View, Honest};
-ghost use Rattle.gate_pages.specs.Journal.{page_count};
-ghost use Rattle.store_init.specs.Stores.{HasStore};
+ghost use Rattle.block_disk.specs.View.{View};
 ghost use Rattle.chart_grid.specs.Limits.{IsSide};
 ghost use Rattle.program_words.specs.declared.words.Command.TheVariants.{Plot, Draw, Init};
 ghost use Rattle.chart_program.specs.Plotted.{plotting_status};
 ghost use Rattle.chart_program.specs.Draws.{IsNumbered, drawing_status};
-ghost use Rattle.chart_program.specs.Served.{faults_of};
-ghost use Rattle.chart_program.specs.Ran.{CommandEnds, HasOperands, LeavesDisk, IsMade, IsTooSmall, IsThere};
+ghost use Rattle.store_commands.specs.Traffic.{traffic};
+ghost use Rattle.chart_program.specs.Ran.{EndsCommand, HasOperands, LeavesDisk, IsFree, IsMade, IsTooSmall, IsThere};
 
 use crate::draw::draw;
 use crate::draw_end::DrawEnd;
@@ -20,18 +18,15 @@ use block_disk::{Back, World};
 use chart_frames::laws::{
     length_is_told, more_bytes_mend_nothing, one_frame_a_spelling, spellings_are_good,
 };
-use check_command::check_store;
-use command_status::status::{
+use drawn_replies::laws::{one_session_draws_the_book, replies_draw_the_book};
+use empty_store::{InitCause, make_store};
+use program_words::Command;
+use std::alloc::Global;
+use store_commands::status::{
     BAD_COEFFICIENT, BAD_INPUT, DISK_FAULT, DONE, FIRST_PAGE, IS_STORE, MISSING, MOST_BYTES,
     NO_MEMORY, READ_FAULT, SEND_FAULT, TOO_MUCH, TOO_SMALL, UNKNOWN_SESSION,
 };
-use command_status::{Status, ended};
-use demo_command::run_demo;
-use drawn_replies::laws::{one_session_draws_the_book, replies_draw_the_book};
-use load_command::load_series;
-use program_words::Command;
-use std::alloc::Global;
-use store_init::{InitCause, make_store};
+use store_commands::{Status, check_store, ended, load_series, run_demo};
 
 /// Does a command with the world's input, output and disk, and says how that ended.
 pub(crate) fn status_of_command<W: World>(
@@ -40,7 +35,7 @@ pub(crate) fn status_of_command<W: World>(
     mut world: W,
 ) -> (Status, W)
     requires { HasOperands command }
-    ensures { CommandEnds command (W.view world) (W.view result.1) (W.left world) (W.left result.1) (W.sent world) (W.sent result.1) (faults_of (W.read_faults world) (W.read_faults result.1) (W.send_faults world) (W.send_faults result.1)) result.0.code result.0.place }
+    ensures { EndsCommand command (W.view world) (W.view result.1) (traffic W.left W.sent W.read_faults W.send_faults world result.1) result.0 }
 {
     match command {
         Command::Plot { w, h } => {
@@ -70,7 +65,7 @@ fn init_status<W: World>(alloc: Global, world: W) -> (Status, W)
     ensures sent { W.sent result.1 ≡ W.sent world }
     ensures disk { LeavesDisk Init (W.view world) (W.view result.1) }
     ensures made { result.0.code ≡ DONE → IsMade Init (W.view world) (W.view result.1) }
-    ensures ready { 128 ≤ (W.view world).size → Honest (W.view world) → (HasStore (page_count (W.view world).size) (W.view world).image → ⊥) → (HasRisen (W.view world).faults (W.view result.1).faults → ⊥) → (result.0.code ≡ DONE) ⊎ (result.0.code ≡ NO_MEMORY) }
+    ensures ready { IsFree (W.view world) → (HasRisen (W.view world).faults (W.view result.1).faults → ⊥) → (result.0.code ≡ DONE) ⊎ (result.0.code ≡ NO_MEMORY) }
 {
     match make_store(alloc, world) {
         Ok(world) => (ended(DONE, 0), world),
@@ -90,7 +85,7 @@ fn init_status<W: World>(alloc: Global, world: W) -> (Status, W)
 fn plot_status<W: World>(alloc: Global, w: u16, h: u16, world: &mut W) -> Status
     requires wide { IsSide w }
     requires high { IsSide h }
-    ensures { CommandEnds (Plot w h) (W.view world.old) (W.view world.new) (W.left world.old) (W.left world.new) (W.sent world.old) (W.sent world.new) (faults_of (W.read_faults world.old) (W.read_faults world.new) (W.send_faults world.old) (W.send_faults world.new)) result.code result.place }
+    ensures { EndsCommand (Plot w h) (W.view world.old) (W.view world.new) (traffic W.left W.sent W.read_faults W.send_faults world.old world.new) result }
 {
     let answer = plot(alloc, w, h, world);
     plotting_status(answer)
@@ -113,7 +108,7 @@ fn plotting_status(answer: Result<(), PlotEnd>) -> Status
 
 /// Sends the pictures of the input's frames, and says how that ended.
 fn draw_status<W: World>(alloc: Global, world: &mut W) -> Status
-    ensures { CommandEnds Draw (W.view world.old) (W.view world.new) (W.left world.old) (W.left world.new) (W.sent world.old) (W.sent world.new) (faults_of (W.read_faults world.old) (W.read_faults world.new) (W.send_faults world.old) (W.send_faults world.new)) result.code result.place }
+    ensures { EndsCommand Draw (W.view world.old) (W.view world.new) (traffic W.left W.sent W.read_faults W.send_faults world.old world.new) result }
 {
     one_frame_a_spelling();
     length_is_told();

@@ -14,9 +14,9 @@ use chart_client::Client;
 use chart_client::laws::frames_have_one_answer;
 use chart_frames::laws::{length_is_told, more_bytes_mend_nothing, spellings_are_good};
 use chart_frames::{Decoder, Frame};
-use command_status::status::MOST_BYTES;
 use pbm_writer::pbm;
 use std::alloc::Global;
+use store_commands::status::MOST_BYTES;
 
 /// The bytes of one take.
 const PIECE: usize = 16_384;

@@ -1,6 +1,10 @@
 ghost use Rattle.std.specs.Prelude.{◌≡◌, [], IsTrue};
 ghost use Rattle.block_disk.specs.View.{View};
-ghost use Rattle.chart_program.specs.Served.{AreTexts, Spelled, faults_of, ServesLines, ServesWorld, served, in_world};
+ghost use Rattle.series_store.specs.Shown as stored;
+ghost use Rattle.chart_service.specs.Shown as shown;
+ghost use Rattle.store_commands.specs.Traffic.{traffic};
+ghost use Rattle.chart_program.specs.Served.{AreTexts, Spelled, served, in_world};
+ghost use Rattle.chart_program.specs.Traffic.{PagesServed, WorldServed};
 
 use crate::lines_end::LinesEnd;
 use crate::run::run_on;
@@ -10,16 +14,16 @@ use chart_client::Screen;
 use chart_client::laws::{frames_change_one_session, frames_have_one_answer};
 use chart_frames::laws::one_frame_a_spelling;
 use chart_service::{ServeEnd, Service, serve};
+use disk_store::{disk_of, open_store};
 use drawn_replies::laws::{clients_draw_the_book, replies_draw_the_book};
 use gate_pages::GatePages;
 use series_store::Store;
 use std::alloc::Global;
-use store_open::{disk_of, open_store};
 
 /// Opens the store of a world, sends the frames that answer the lines of the input, and gives the world
 /// back.
 pub fn serve_world<W: World>(alloc: Global, world: W) -> (Result<(), LinesEnd>, W)
-    ensures { ServesWorld Spelled ⊥ (W.view world) (W.view result.1) (W.left world) (W.left result.1) (W.sent world) (W.sent result.1) (faults_of (W.read_faults world) (W.read_faults result.1) (W.send_faults world) (W.send_faults result.1)) result.0 }
+    ensures { WorldServed Spelled ⊥ (W.view world) (W.view result.1) (traffic W.left W.sent W.read_faults W.send_faults world result.1) result.0 }
 {
     match open_store(alloc, world) {
         Ok(store) => {
@@ -33,7 +37,7 @@ pub fn serve_world<W: World>(alloc: Global, world: W) -> (Result<(), LinesEnd>, 
 /// Opens the store of a world, sends the texts that answer the lines of the input, each with the picture
 /// of what it shows, and gives the world back.
 pub fn run_world<W: World>(alloc: Global, world: W) -> (Result<(), LinesEnd>, W)
-    ensures { ServesWorld AreTexts (Unit {0}) (W.view world) (W.view result.1) (W.left world) (W.left result.1) (W.sent world) (W.sent result.1) (faults_of (W.read_faults world) (W.read_faults result.1) (W.send_faults world) (W.send_faults result.1)) result.0 }
+    ensures { WorldServed AreTexts (Unit {0}) (W.view world) (W.view result.1) (traffic W.left W.sent W.read_faults W.send_faults world result.1) result.0 }
 {
     match open_store(alloc, world) {
         Ok(store) => {
@@ -46,8 +50,8 @@ pub fn run_world<W: World>(alloc: Global, world: W) -> (Result<(), LinesEnd>, W)
 
 /// The same over a store that is open.
 fn serve_lines<W: World>(alloc: Global, store: Store<GatePages<W>>) -> (Result<(), RunEnd>, W)
-    requires { IsTrue store.space.pages.sound }
-    ensures { ServesLines Spelled ⊥ store.space.pages.count (W.view store.space.pages.disk) (W.view result.1) (W.left store.space.pages.disk) (W.left result.1) (W.sent store.space.pages.disk) (W.sent result.1) (faults_of (W.read_faults store.space.pages.disk) (W.read_faults result.1) (W.send_faults store.space.pages.disk) (W.send_faults result.1)) result.0 }
+    requires { IsTrue (stored.pages store).sound }
+    ensures { let pages = stored.pages store in PagesServed Spelled ⊥ W.view pages result.1 (traffic W.left W.sent W.read_faults W.send_faults pages.disk result.1) result.0 }
 {
     match Service::new(alloc, store) {
         Ok(service) => serve_service(service),
@@ -56,8 +60,8 @@ fn serve_lines<W: World>(alloc: Global, store: Store<GatePages<W>>) -> (Result<(
 }
 
 fn run_lines<W: World>(alloc: Global, store: Store<GatePages<W>>) -> (Result<(), RunEnd>, W)
-    requires { IsTrue store.space.pages.sound }
-    ensures { ServesLines AreTexts (Unit {0}) store.space.pages.count (W.view store.space.pages.disk) (W.view result.1) (W.left store.space.pages.disk) (W.left result.1) (W.sent store.space.pages.disk) (W.sent result.1) (faults_of (W.read_faults store.space.pages.disk) (W.read_faults result.1) (W.send_faults store.space.pages.disk) (W.send_faults result.1)) result.0 }
+    requires { IsTrue (stored.pages store).sound }
+    ensures { let pages = stored.pages store in PagesServed AreTexts (Unit {0}) W.view pages result.1 (traffic W.left W.sent W.read_faults W.send_faults pages.disk result.1) result.0 }
 {
     match Service::new(alloc, store) {
         Ok(service) => run_service(alloc, service),
@@ -67,9 +71,9 @@ fn run_lines<W: World>(alloc: Global, store: Store<GatePages<W>>) -> (Result<(),
 
 /// The same by a service with no session open.
 fn serve_service<W: World>(mut service: Service<GatePages<W>>) -> (Result<(), RunEnd>, W)
-    requires sound { IsTrue service.store.space.pages.sound }
+    requires sound { IsTrue (shown.pages service).sound }
     requires alone { service.sessions ≡ [] }
-    ensures { ServesLines Spelled ⊥ service.store.space.pages.count (W.view service.store.space.pages.disk) (W.view result.1) (W.left service.store.space.pages.disk) (W.left result.1) (W.sent service.store.space.pages.disk) (W.sent result.1) (faults_of (W.read_faults service.store.space.pages.disk) (W.read_faults result.1) (W.send_faults service.store.space.pages.disk) (W.send_faults result.1)) result.0 }
+    ensures { let pages = shown.pages service in PagesServed Spelled ⊥ W.view pages result.1 (traffic W.left W.sent W.read_faults W.send_faults pages.disk result.1) result.0 }
 {
     let answer = serve(&mut service);
     (of_serving(answer), disk_of(service.into_store()))
@@ -79,9 +83,9 @@ fn run_service<W: World>(
     alloc: Global,
     mut service: Service<GatePages<W>>,
 ) -> (Result<(), RunEnd>, W)
-    requires sound { IsTrue service.store.space.pages.sound }
+    requires sound { IsTrue (shown.pages service).sound }
     requires alone { service.sessions ≡ [] }
-    ensures { ServesLines AreTexts (Unit {0}) service.store.space.pages.count (W.view service.store.space.pages.disk) (W.view result.1) (W.left service.store.space.pages.disk) (W.left result.1) (W.sent service.store.space.pages.disk) (W.sent result.1) (faults_of (W.read_faults service.store.space.pages.disk) (W.read_faults result.1) (W.send_faults service.store.space.pages.disk) (W.send_faults result.1)) result.0 }
+    ensures { let pages = shown.pages service in PagesServed AreTexts (Unit {0}) W.view pages result.1 (traffic W.left W.sent W.read_faults W.send_faults pages.disk result.1) result.0 }
 {
     one_frame_a_spelling();
     frames_have_one_answer();

@@ -1,5 +1,5 @@
 use crate::run_end::RunEnd;
-use store_open::OpeningCause;
+use disk_store::OpeningCause;
 use thiserror::Error;
 
 /// Why a serving command didn't answer all lines of its input.

@@ -28,8 +28,6 @@ mod top;
 
 use block_disk::FileDisk;
 use chart_world::StdWorld;
-pub use command_status::Status;
-use command_status::status;
 pub use run::run_on;
 pub use run_end::RunEnd;
 use std::alloc::Global;
@@ -37,6 +35,8 @@ use std::fs::OpenOptions;
 use std::process::ExitCode;
 use std::rt::{Env, Files};
 use std::{env, io};
+pub use store_commands::Status;
+use store_commands::status;
 pub use top::chart;
 
 fn main(rt: HostRuntime) -> ExitCode {

@@ -1,9 +1,11 @@
 ghost use Rattle.std.specs.Prelude.{◌≡◌, IfErr};
 ghost use Rattle.block_disk.specs.View.{View};
 ghost use Rattle.chart_client.specs.Accepting.{HasNumber};
-ghost use Rattle.chart_program.specs.Ended.{EndsBy, HasNumberedKey, client_status, serve_end_status, status_by};
-ghost use Rattle.command_status.specs.Status.{status};
-ghost use Rattle.chart_program.specs.Served.{AreTexts, Spelled, faults_of};
+ghost use Rattle.store_commands.specs.Status.{status};
+ghost use Rattle.store_commands.specs.Traffic.{traffic};
+ghost use Rattle.chart_program.specs.Ended.{HasNumberedKey, client_status, serve_end_status, status_by};
+ghost use Rattle.chart_program.specs.Served.{AreTexts, Spelled};
+ghost use Rattle.chart_program.specs.Traffic.{EndsInStatus};
 
 use crate::lines::{run_world, serve_world};
 use crate::lines_end::LinesEnd;
@@ -11,17 +13,17 @@ use crate::run_end::RunEnd;
 use block_disk::World;
 use chart_client::ClientError;
 use chart_service::ServeEnd;
-use command_status::status::{
+use std::alloc::Global;
+use store_commands::status::{
     BAD_COEFFICIENT, DAMAGED, DISK_FAULT, DONE, FIRST_PAGE, MISSING, MOST_BYTES, NO_MEMORY,
     READ_FAULT, SEND_FAULT, TOO_MUCH, UNKNOWN_SESSION,
 };
-use command_status::{Status, ended, opening_status};
-use std::alloc::Global;
+use store_commands::{Status, ended, opening_status};
 
 /// Sends the frames that answer the lines of the input, over the store of the world's disk, and says how
 /// that ended.
 pub(crate) fn serve_status<W: World>(alloc: Global, world: W) -> (Status, W)
-    ensures { EndsBy Spelled ⊥ (W.view world) (W.view result.1) (W.left world) (W.left result.1) (W.sent world) (W.sent result.1) (faults_of (W.read_faults world) (W.read_faults result.1) (W.send_faults world) (W.send_faults result.1)) result.0.code result.0.place }
+    ensures { EndsInStatus Spelled ⊥ (W.view world) (W.view result.1) (traffic W.left W.sent W.read_faults W.send_faults world result.1) result.0 }
 {
     let (answer, world) = serve_world(alloc, world);
     (status_of(answer), world)
@@ -30,7 +32,7 @@ pub(crate) fn serve_status<W: World>(alloc: Global, world: W) -> (Status, W)
 /// Sends the texts that answer the lines of the input, each with the picture of what it shows, over the
 /// store of the world's disk, and says how that ended.
 pub(crate) fn run_status<W: World>(alloc: Global, world: W) -> (Status, W)
-    ensures { EndsBy AreTexts (Unit {0}) (W.view world) (W.view result.1) (W.left world) (W.left result.1) (W.sent world) (W.sent result.1) (faults_of (W.read_faults world) (W.read_faults result.1) (W.send_faults world) (W.send_faults result.1)) result.0.code result.0.place }
+    ensures { EndsInStatus AreTexts (Unit {0}) (W.view world) (W.view result.1) (traffic W.left W.sent W.read_faults W.send_faults world result.1) result.0 }
 {
     let (answer, world) = run_world(alloc, world);
     (status_of(answer), world)

@@ -1,11 +1,9 @@
 ghost use Rattle.std.specs.Prelude.{◌≡◌, ◌↔◌, [], ◌∷◌, ℤ, IsTrue, IfSome, IfNone, Some};
-ghost use Rattle.plain_chart.specs.Samples.{IsValue};
+ghost use Rattle.whole_number.specs.Range.{IsValue};
 ghost use Rattle.chart_program.specs.Slots.{IsEntry, SpellsSlot};
 
 use whole_number::integer;
-
-/// The greatest size of a value.
-const GREATEST: u128 = 1_000_000_000_000_000_000;
+use whole_number::limits::GREATEST_VALUE;
 
 /// What a line of the input says.
 #[derive(Clone, Copy, Debug, PartialEq, Eq)]
@@ -50,7 +48,7 @@ fn value_of(line: &[u8]) -> Option<i64>
 fn is_value(number: i128) -> bool
     ensures { IsTrue result ↔ IsValue number }
 {
-    number.unsigned_abs() <= GREATEST
+    number.unsigned_abs() <= u128::from(GREATEST_VALUE)
 }
 
 /// Whether the line is that of a missing slot.

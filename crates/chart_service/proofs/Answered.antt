@@ -1,6 +1,6 @@
 -- What is planned for a view, and how it is answered.
 use Rattle.std.proofs.Common.{◌≡◌, ℕ, ℤ, ◌^◌, ◌<◌, ◌≤◌, Bool, true, List, length, Option, None, Some, Result, Ok, Err, IfOk, IfErr, refl, ap, sym, ◌∙◌, subst, inl, inr, arith}
-use Rattle.std.specs.Prelude.{IsSomeAnd, slice_get, not}
+use Rattle.std.specs.Prelude.{IsSomeAnd, slice_get}
 use Rattle.std.proofs.lemmas.Option.{slice_get_cases}
 use Rattle.chart_grid.specs.declared.grid_error.GridError.{GridError}
 use Rattle.chart_grid.specs.declared.axis.Axis.{Axis}
@@ -23,7 +23,7 @@ use Rattle.zoom_session.specs.declared.view_spec.RangeSpec.{RangeSpec}
 use Rattle.zoom_session.specs.declared.errors.PlanError.{PlanError}
 use Rattle.zoom_session.specs.declared.errors.PlanError.TheVariants.{TooLarge, Node, NoMemory}
 use Rattle.zoom_session.specs.Planned.{IsInBounds}
-use Rattle.zoom_session.specs.Plans.{AreNeeded as NeededBy, PlansIn, CountsNeeded}
+use Rattle.zoom_session.specs.Plans.{AreNeeded as NeededBy, PlansIn}
 use Rattle.zoom_session.specs.Sessions.{session_of, viewed, is_open}
 use Rattle.chart_frames.specs.declared.frame.Frame.{Frame}
 use Rattle.chart_frames.specs.declared.frame.Frame.TheVariants.{View}
@@ -32,36 +32,38 @@ use Rattle.chart_frames.specs.Frames.{FitsView}
 use Rattle.chart_service.specs.State.{State}
 use Rattle.chart_service.specs.Viewing.{AreNeeded, Answers, axis_of, root_of, has_of, least_of, greatest_of, range_spec, view_frame}
 use Rattle.chart_service.specs.Replies.{refused, Refuses, NeedsTooMany, AnswersBy, AnswersView, ViewsSeries, ViewsId, RepliesToView, Moves, MovesLast, MovesIn}
-use Rattle.chart_service.specs.Planning.{TellsOf, AreInFrame, planned_frame, IsPlannedFor, RefusesView, StopsIn, PlansOrStops, IsSpec, RefusesSpec, IsMoved, IsLast, IsLastOf}
+use Rattle.chart_service.specs.Planning.{TellsOf, AreInFrame, planned_frame, IsPlannedFor, RefusesView, CountsOver, StopsIn, PlansOrStops, IsSpec, RefusesSpec, IsMoved, IsLast, IsLastOf}
 use Rattle.chart_service.specs.declared.shown.Planned.{Planned}
 use Rattle.chart_service.specs.declared.shown.Told.{Told}
 use Rattle.chart_service.specs.Looking.{IsGoodPlan}
 use Rattle.chart_service.specs.declared.viewport.Viewport.{Viewport}
 use Rattle.chart_service.proofs.Showing.{plan_fits}
 
-stops_in : (series : Series) (grid : Grid) (session : Option Session) (old new : NodesView) (error : PlanError) → ((e : NodeError) → HasCause old new e → e ≡ DiskFault) → RefusesView session old new error → CountsNeeded series.slots (axis_of series) grid error → StopsIn series grid session error
-stops_in series grid None old new error never refuses counts = refuses
-stops_in series grid (Some s) old new (TooLarge needed cache) never refuses counts = record {
-  keys = counts.0;
-  are_needed = counts.1;
-  counted = counts.2;
+stops_in : (series : Series) (spec : ViewSpec) (session : Option Session) (old new : NodesView) (error : PlanError) → ((e : NodeError) → HasCause old new e → e ≡ DiskFault) → RefusesView session old new error → CountsOver series.slots (axis_of series) spec error → StopsIn series spec session error
+stops_in series spec None old new error never refuses counts = refuses
+stops_in series spec (Some s) old new (TooLarge needed cache) never refuses counts = record {
+  range = counts.0;
+  shown = counts.1;
+  keys = counts.2.0;
+  are_needed = counts.2.1;
+  counted = counts.2.2;
   capacity = refuses.cache_so;
   passes = refuses.more;
 }
-stops_in series grid (Some s) old new (Node e) never refuses counts = never e refuses
-stops_in series grid (Some s) old new NoMemory never refuses counts = tt
+stops_in series spec (Some s) old new (Node e) never refuses counts = never e refuses
+stops_in series spec (Some s) old new NoMemory never refuses counts = tt
 
 -- what is planned over the nodes of a series
-pub planned_so : (series : Series) (spec : ViewSpec) (session : Option Session) (old new : NodesView) (r : Result Planned PlanError) → ((e : NodeError) → HasCause old new e → e ≡ DiskFault) → IfOk r (λ p. AreNeeded series spec.grid p.plan.needed) → IfOk r (λ p. PlansIn session spec.series p.plan) → IfOk r (λ p. IsInBounds p.plan) → IfOk r (λ p. TellsOf series.slots (axis_of series) spec p.told) → IfOk r (λ p. AreInFrame p.told) → IfErr r (RefusesView session old new) → IfErr r (CountsNeeded series.slots (axis_of series) spec.grid) → PlansOrStops series spec session r
+pub planned_so : (series : Series) (spec : ViewSpec) (session : Option Session) (old new : NodesView) (r : Result Planned PlanError) → ((e : NodeError) → HasCause old new e → e ≡ DiskFault) → IfOk r (λ p. AreNeeded series spec.grid p.told.range p.plan.needed) → IfOk r (λ p. PlansIn session spec.series p.plan) → IfOk r (λ p. IsInBounds p.plan) → IfOk r (λ p. TellsOf series.slots (axis_of series) spec p.told) → IfOk r (λ p. AreInFrame p.told) → IfErr r (RefusesView session old new) → IfErr r (CountsOver series.slots (axis_of series) spec) → PlansOrStops series spec session r
 planned_so series spec session old new (Ok p) never needed plans bounds tells frame refuses counts = record { needed = needed; plan = plans; bounds = bounds; told = tells; in_frame = frame }
-planned_so series spec session old new (Err e) never needed plans bounds tells frame refuses counts = stops_in series spec.grid session old new e never refuses counts
+planned_so series spec session old new (Err e) never needed plans bounds tells frame refuses counts = stops_in series spec session old new e never refuses counts
 
 -- the same, by what the nodes agree with
-pub planned_over : (series : Series) (spec : ViewSpec) (session : Option Session) (axis : Axis) (old new : NodesView) (r : Result Planned PlanError) → axis ≡ axis_of series → Agrees old series.slots → ((e : NodeError) → HasCause old new e → e ≡ DiskFault) → ((l : List (Option ℤ)) → Agrees old l → IfOk r (λ p. NeededBy l axis spec.grid p.plan.needed)) → IfOk r (λ p. PlansIn session spec.series p.plan) → IfOk r (λ p. IsInBounds p.plan) → ((l : List (Option ℤ)) → Agrees old l → IfOk r (λ p. TellsOf l axis spec p.told)) → IfOk r (λ p. AreInFrame p.told) → IfErr r (RefusesView session old new) → ((l : List (Option ℤ)) → Agrees old l → IfErr r (CountsNeeded l axis spec.grid)) → PlansOrStops series spec session r
+pub planned_over : (series : Series) (spec : ViewSpec) (session : Option Session) (axis : Axis) (old new : NodesView) (r : Result Planned PlanError) → axis ≡ axis_of series → Agrees old series.slots → ((e : NodeError) → HasCause old new e → e ≡ DiskFault) → ((l : List (Option ℤ)) → Agrees old l → IfOk r (λ p. NeededBy l axis spec.grid p.told.range.lo p.told.range.hi p.plan.needed)) → IfOk r (λ p. PlansIn session spec.series p.plan) → IfOk r (λ p. IsInBounds p.plan) → ((l : List (Option ℤ)) → Agrees old l → IfOk r (λ p. TellsOf l axis spec p.told)) → IfOk r (λ p. AreInFrame p.told) → IfErr r (RefusesView session old new) → ((l : List (Option ℤ)) → Agrees old l → IfErr r (CountsOver l axis spec)) → PlansOrStops series spec session r
 planned_over series spec session axis old new r at mine never needed plans bounds tells frame refuses counts =
-    let N : Axis → Type 0 = λ a. IfOk r (λ p. NeededBy series.slots a spec.grid p.plan.needed) in
+    let N : Axis → Type 0 = λ a. IfOk r (λ p. NeededBy series.slots a spec.grid p.told.range.lo p.told.range.hi p.plan.needed) in
     let T : Axis → Type 0 = λ a. IfOk r (λ p. TellsOf series.slots a spec p.told) in
-    let C : Axis → Type 0 = λ a. IfErr r (CountsNeeded series.slots a spec.grid) in
+    let C : Axis → Type 0 = λ a. IfErr r (CountsOver series.slots a spec) in
     planned_so series spec session old new r never (subst N at (needed series.slots mine)) plans bounds (subst T at (tells series.slots mine)) frame refuses (subst C at (counts series.slots mine))
 
 -- a series that is there
@@ -69,7 +71,7 @@ pub some_and : {X : Type 0} (o : Option X) (x : X) (P : X → Type 0) → o ≡ 
 some_and {X} o x P is holds = let Q : Option X → Type 0 = λ s. IsSomeAnd s P in subst Q (sym is) holds
 
 -- a view with too many keys is refused
-too_many : (series : Series) (spec : ViewSpec) (number needed cache : ℕ) (old : State) (o : Option Session) → session_of number old.sessions ≡ o → StopsIn series spec.grid o (TooLarge needed cache) → NeedsTooMany series spec.grid number (refused (ViewTooLarge needed cache)) old old
+too_many : (series : Series) (spec : ViewSpec) (number needed cache : ℕ) (old : State) (o : Option Session) → session_of number old.sessions ≡ o → StopsIn series spec o (TooLarge needed cache) → NeedsTooMany series spec number (refused (ViewTooLarge needed cache)) old old
 too_many series spec number needed cache old None is stops = absurd stops
 too_many series spec number needed cache old (Some session) is stops =
     let R : ℕ → Type 0 = λ n. Refuses (ViewTooLarge n session.cache.capacity) (refused (ViewTooLarge needed cache)) old old in
@@ -77,13 +79,15 @@ too_many series spec number needed cache old (Some session) is stops =
     record {
       session = session;
       open_is = is;
+      range = stops.range;
+      shown = stops.shown;
       needed = stops.keys;
       are_needed = stops.are_needed;
       passes = omega (arith, stops.passes, stops.capacity, stops.counted);
       refuses = subst R (sym stops.counted) (subst C stops.capacity (record { reply = refl; state = refl }));
     }
 
-pub refused_too_large : (book : Option Series) (spec : ViewSpec) (number needed cache : ℕ) (old : State) (frame : Frame) → IsSomeAnd book (λ series. StopsIn series spec.grid (session_of number old.sessions) (TooLarge needed cache)) → frame ≡ refused (ViewTooLarge needed cache) → IsSomeAnd book (λ series. AnswersBy None series spec number frame old old)
+pub refused_too_large : (book : Option Series) (spec : ViewSpec) (number needed cache : ℕ) (old : State) (frame : Frame) → IsSomeAnd book (λ series. StopsIn series spec (session_of number old.sessions) (TooLarge needed cache)) → frame ≡ refused (ViewTooLarge needed cache) → IsSomeAnd book (λ series. AnswersBy None series spec number frame old old)
 refused_too_large None spec number needed cache old frame stops is = stops
 refused_too_large (Some series) spec number needed cache old frame stops is =
     let P : Frame → Type 0 = λ f. AnswersBy None series spec number f old old in

@@ -1,5 +1,5 @@
 -- What calls in a row leave of the disk.
-use Rattle.std.proofs.Common.{◌≡◌, ◌≤◌, ℕ, refl, ◌∙◌, arith, inl, inr}
+use Rattle.std.proofs.Common.{◌≤◌, ℕ, refl, ◌∙◌, arith, inl, inr}
 use Rattle.block_disk.specs.Counts.{HasRisen}
 use Rattle.block_disk.specs.View.{View, DiskKept}
 use Rattle.chart_service.specs.Serving.{Serves}

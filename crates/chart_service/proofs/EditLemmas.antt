@@ -1,5 +1,5 @@
 -- An edit, and the frame that answers it.
-use Rattle.std.proofs.Common.{◌≡◌, ℕ, ◌≤◌, ◌^◌, List, length, Option, None, Some, Result, Ok, Err, refl, sym, ap, subst, inl, inr, arith}
+use Rattle.std.proofs.Common.{◌≡◌, ℕ, ◌≤◌, List, length, Option, None, Some, Result, Ok, Err, refl, sym, subst, inl, inr, arith}
 use Rattle.block_disk.specs.View.{Image, View, Passes}
 use Rattle.block_disk.proofs.Passing.{passes_weaker}
 use Rattle.chart_frames.specs.declared.frame.Frame.{Frame}
@@ -12,13 +12,13 @@ use Rattle.series_book.specs.declared.edits.Edit.{Edit}
 use Rattle.series_book.specs.declared.outcomes.Outcome.{Outcome}
 use Rattle.series_book.specs.declared.refusals.Refusal.{Refusal}
 use Rattle.series_book.specs.Edits.{Edited, apply}
-use Rattle.series_store.specs.Results.{IsDone, IsAfter, IsBeforeOrAfter as IsEither}
+use Rattle.series_store.specs.Results.{IsDone, IsBeforeOrAfter as IsEither}
 use Rattle.stored_book.specs.Standing.{StandsForBook}
 use Rattle.zoom_session.specs.declared.session.Session.{Session}
 use Rattle.zoom_session.specs.declared.view_spec.ViewSpec.{ViewSpec}
-use Rattle.chart_service.specs.State.{State, IsSound, HasViewOf, AreViewsOf}
+use Rattle.chart_service.specs.State.{IsSound, HasViewOf, AreViewsOf}
 use Rattle.chart_service.specs.Replies.{refused, Edits}
-use Rattle.chart_service.specs.Stepping.{StandsAfter, state_of, RepliedTo, IsAfterReply, IsBeforeOrAfter}
+use Rattle.chart_service.specs.Stepping.{StandsAfter, state_of, RepliedTo, IsBeforeOrAfter}
 use Rattle.chart_service.proofs.Editing.{edit_leaves, edit_fits}
 
 view_grown : (book more : List Series) (last : Option ViewSpec) → length book ≤ length more → HasViewOf book last → HasViewOf more last

@@ -1,6 +1,6 @@
 -- Views by their filters: which answer is whose, and what a filtered view is answered.
-use Rattle.std.proofs.Common.{◌≡◌, ℕ, ℤ, suc, ◌+◌, ◌^◌, ◌<◌, ◌≤◌, false, true, List, [], ◌∷◌, length, Option, None, Some, Result, Ok, Err, IfOk, IfErr, refl, ap, sym, subst, inl, inr, arith}
-use Rattle.std.specs.Prelude.{All, AllPairs, IsSomeAnd, is_none}
+use Rattle.std.proofs.Common.{◌≡◌, ℕ, ℤ, suc, ◌+◌, ◌^◌, ◌<◌, ◌≤◌, false, true, List, [], ◌∷◌, length, Option, None, Some, Result, Ok, Err, IfOk, IfErr, refl, sym, subst, inl, inr, arith}
+use Rattle.std.specs.Prelude.{All, IsSomeAnd, is_none}
 use Rattle.std.proofs.lemmas.List.Elements.{All-head, All-tail}
 use Rattle.chart_grid.specs.declared.axis.Axis.{Axis}
 use Rattle.chart_grid.specs.Limits as window
@@ -8,9 +8,7 @@ use Rattle.om3_coeff.specs.declared.errors.NodeError.{NodeError}
 use Rattle.om3_coeff.specs.declared.errors.NodeError.TheVariants.{DiskFault}
 use Rattle.om3_coeff.specs.View.{NodesView, Agrees, HasCause}
 use Rattle.value_filter.specs.declared.steps.Step.{Step}
-use Rattle.value_filter.specs.declared.faults.FilterFault.{FilterFault}
 use Rattle.value_filter.specs.declared.faults.FilterFault.TheVariants as filter_fault
-use Rattle.value_filter.specs.Steps.{postfix}
 use Rattle.m4_groups.specs.declared.row.Row.{Row}
 use Rattle.m4_groups.specs.Rows.{AreRising}
 use Rattle.m4_groups.specs.Heights.{IsDrawable}

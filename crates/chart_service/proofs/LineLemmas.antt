@@ -1,6 +1,5 @@
 -- A line that is too long, or spells no request.
-use Rattle.std.proofs.Common.{◌≡◌, ℕ, ◌<◌, Bool, true, false, if◌then◌else◌, List, length, Option, None, Some, Result, Ok, Err, refl, sym, subst}
-use Rattle.std.specs.Prelude.{nat_lt}
+use Rattle.std.proofs.Common.{◌≡◌, ℕ, ◌<◌, Bool, if◌then◌else◌, List, length, None, Some, refl, sym, subst}
 use Rattle.std.proofs.lemmas.Bool.{lt-ltb}
 use Rattle.block_disk.specs.View.{Image}
 use Rattle.chart_frames.specs.declared.frame.Frame.{Frame}
@@ -9,7 +8,7 @@ use Rattle.series_book.specs.declared.one_series.Series.{Series}
 use Rattle.series_book.specs.declared.refusals.Refusal.TheVariants.{LineTooLong}
 use Rattle.stored_book.specs.Standing.{StandsForBook}
 use Rattle.zoom_session.specs.declared.session.Session.{Session}
-use Rattle.chart_service.specs.State.{State, IsSound}
+use Rattle.chart_service.specs.State.{IsSound}
 use Rattle.chart_service.specs.Replies.{refused, RepliesToLine, Replied, line_text}
 use Rattle.chart_service.specs.Stepping.{StandsAfter, state_of}
 

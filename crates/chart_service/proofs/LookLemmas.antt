@@ -1,32 +1,31 @@
 -- Calls that leave the pages as they are.
-use Rattle.std.proofs.Common.{◌≡◌, ℕ, ◌+◌, ◌≤◌, List, [], ◌∷◌, length, Option, None, Some, Result, Ok, Err, IfOk, IfErr, refl, sym, ap, subst, inl, inr, ◌∙◌, arith}
-use Rattle.std.specs.Prelude.{OnErr, MatchResult, MatchOption, IsSomeAnd, slice_get}
+use Rattle.std.proofs.Common.{◌≡◌, ℕ, ◌≤◌, List, Option, None, Some, Result, Ok, Err, IfOk, refl, sym, subst, inl, inr, arith}
+use Rattle.std.specs.Prelude.{MatchResult, slice_get}
 use Rattle.block_disk.specs.View.{Image, View, Now, Only, Passes}
 use Rattle.block_disk.proofs.Passing.{passes_none, passes_weaker}
-use Rattle.block_disk.specs.Counts.{HasRisen}
 use Rattle.chart_frames.specs.declared.frame.Frame.{Frame}
 use Rattle.chart_frames.specs.declared.frame.Frame.TheVariants.{Done, Refused, Opened, Closed, View as ViewFrame, Rows}
 use Rattle.chart_frames.specs.Frames.{Fits}
-use Rattle.gate_pages.specs.Pages.{GoesOn, Quiet}
+use Rattle.gate_pages.specs.Pages.{Quiet}
 use Rattle.gate_pages.specs.GateLaws.{goes_none}
 use Rattle.om3_coeff.specs.declared.errors.NodeError.{NodeError}
 use Rattle.om3_coeff.specs.declared.errors.NodeError.TheVariants as node
-use Rattle.om3_coeff.specs.View.{NodesView, HasCause}
+use Rattle.om3_coeff.specs.View.{HasCause}
 use Rattle.page_space.specs.declared.superblock.Superblock.{Superblock}
 use Rattle.series_book.specs.declared.one_series.Series.{Series}
 use Rattle.series_book.specs.declared.refusals.Refusal.{Refusal}
 use Rattle.series_store.specs.Results.{IsUnchanged}
-use Rattle.store_catalog.specs.declared.stored_series.StoredSeries.{StoredSeries}
+use Rattle.series_catalog.specs.declared.stored_series.StoredSeries.{StoredSeries}
 use Rattle.stored_book.specs.Standing.{StandsForBook}
 use Rattle.tree_walk.specs.declared.tree.Tree.{Tree}
 use Rattle.tree_walk.specs.declared.trail.Trail.{Trail}
 use Rattle.tree_walk.specs.Paths.{IsDamaged}
-use Rattle.tree_walk.specs.PagedNodes.{Ground, Keeps, ground, paged_view}
+use Rattle.tree_walk.specs.PagedNodes.{Keeps, ground, paged_view}
 use Rattle.zoom_session.specs.declared.session.Session.{Session}
 use Rattle.chart_service.specs.Opening.{OpensBy, LosesAtMost}
 use Rattle.chart_service.specs.State.{State}
 use Rattle.chart_service.specs.Replies.{refused}
-use Rattle.chart_service.specs.Stepping.{state_of, IsAfterReply, IsBeforeOrAfter, IsDamagedIn, IsOutside, IsUnchangedBy, IsUnchangedFor, Steps}
+use Rattle.chart_service.specs.Stepping.{state_of, IsBeforeOrAfter, IsUnchangedBy, IsUnchangedFor, Steps}
 use Rattle.chart_service.specs.Looking.{Looks, Looked, Replying, IsNodeCause, IsOfPages, IsViewCause, error_of}
 use Rattle.chart_service.specs.declared.failure.ServiceError.{ServiceError}
 use Rattle.chart_service.specs.declared.failure.ServiceError.TheVariants.{DiskFault, Damaged, NoMemory}

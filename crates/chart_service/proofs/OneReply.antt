@@ -11,10 +11,9 @@ use Rattle.om3_coeff.specs.Coefs.{coef}
 use Rattle.coefficient_cache.specs.Views.{to_send}
 use Rattle.view_keys.specs.Needed.{IsNeeded}
 use Rattle.plain_chart.specs.declared.value_range.ValueRange.{ValueRange}
-use Rattle.plain_chart.specs.Samples.{Spans, IsRange, kept, values_of}
+use Rattle.plain_chart.specs.Samples.{Spans, IsRange, kept, values_of, sample_points}
 use Rattle.m4_groups.specs.declared.row.Row.{Row}
 use Rattle.m4_groups.specs.Rows.{AreRowsOf}
-use Rattle.filter_scan.specs.Answers.{points_of}
 use Rattle.value_filter.specs.declared.steps.Step.{Step}
 use Rattle.value_filter.specs.Expressions.{Expression}
 use Rattle.value_filter.specs.Steps.{postfix}
@@ -91,37 +90,41 @@ range_one : (spec : RangeSpec) (values : List ℤ) (r q : ValueRange) → ShowsR
 range_one Auto values r q a b = kept_one values r q a b
 range_one (Fixed lo hi) values r q a b = λ i. record { lo = (a.0 ∙ sym b.0) i; hi = (a.1 ∙ sym b.1) i }
 
-needed_one : (series : Series) (grid : Grid) (a b : List (Key × Coef)) → AreNeeded series grid a → AreNeeded series grid b → a ≡ b
-needed_one series grid a b la lb = one_list (IsNeeded series.slots (axis_of series) grid) (λ k. Some (coef series.slots k)) a b la lb
+needed_one : (series : Series) (grid : Grid) (r q : ValueRange) (a b : List (Key × Coef)) → r ≡ q → AreNeeded series grid r a → AreNeeded series grid q b → a ≡ b
+needed_one series grid r q a b same la lb =
+    let P : ValueRange → Type 0 = λ x. AreNeeded series grid x b in
+    one_list (IsNeeded series.slots (axis_of series) grid r.lo r.hi) (λ k. Some (coef series.slots k)) a b la (subst P (sym same) lb)
 
 answers_one : (series : Series) (spec : ViewSpec) (number : ℕ) (f g : Frame) (old s t : State) → Answers series spec number f old s → Answers series spec number g old t → Same f g s t
 answers_one series spec number f g old s t a b =
     let session : a.session ≡ b.session = some_one (sym a.open_is ∙ b.open_is) in
-    let needed : a.needed ≡ b.needed = needed_one series spec.grid a.needed b.needed a.are_needed b.are_needed in
     let range : a.range ≡ b.range = range_one spec.range (values_of (kept spec.grid (axis_of series) series.slots)) a.range b.range a.shown b.shown in
+    let needed : a.needed ≡ b.needed = needed_one series spec.grid a.range b.range a.needed b.needed range a.are_needed b.are_needed in
     let frames : View (view_frame number spec a.range series (to_send a.session.cache.pairs spec.series a.needed)) ≡ View (view_frame number spec b.range series (to_send b.session.cache.pairs spec.series b.needed)) =
     λ i. View (view_frame number spec (range i) series (to_send ((session i).cache.pairs) spec.series (needed i))) in
     let states : record old { sessions = viewed number spec (Some a.needed) old.sessions } ≡ record old { sessions = viewed number spec (Some b.needed) old.sessions } =
     λ i. record old { sessions = viewed number spec (Some (needed i)) old.sessions } in
     (a.frame_is ∙ frames ∙ sym b.frame_is, a.state ∙ states ∙ sym b.state)
 
-too_many_one : (series : Series) (grid : Grid) (number : ℕ) (f g : Frame) (old s t : State) → NeedsTooMany series grid number f old s → NeedsTooMany series grid number g old t → Same f g s t
-too_many_one series grid number f g old s t a b =
+too_many_one : (series : Series) (spec : ViewSpec) (number : ℕ) (f g : Frame) (old s t : State) → NeedsTooMany series spec number f old s → NeedsTooMany series spec number g old t → Same f g s t
+too_many_one series spec number f g old s t a b =
     let session : a.session ≡ b.session = some_one (sym a.open_is ∙ b.open_is) in
-    let needed : a.needed ≡ b.needed = needed_one series grid a.needed b.needed a.are_needed b.are_needed in
+    let range : a.range ≡ b.range = range_one spec.range (values_of (kept spec.grid (axis_of series) series.slots)) a.range b.range a.shown b.shown in
+    let needed : a.needed ≡ b.needed = needed_one series spec.grid a.range b.range a.needed b.needed range a.are_needed b.are_needed in
     let frames : refused (ViewTooLarge (length a.needed) a.session.cache.capacity) ≡ refused (ViewTooLarge (length b.needed) b.session.cache.capacity) =
     λ i. refused (ViewTooLarge (length (needed i)) ((session i).cache.capacity)) in
     (a.refuses.reply ∙ frames ∙ sym b.refuses.reply, a.refuses.state ∙ sym b.refuses.state)
 
 -- a view isn't both answered and too large
-not_both : (series : Series) (spec : ViewSpec) (number : ℕ) (f g : Frame) (old s t : State) → NeedsTooMany series spec.grid number f old s → Answers series spec number g old t → ⊥
+not_both : (series : Series) (spec : ViewSpec) (number : ℕ) (f g : Frame) (old s t : State) → NeedsTooMany series spec number f old s → Answers series spec number g old t → ⊥
 not_both series spec number f g old s t a b =
     let session : a.session ≡ b.session = some_one (sym a.open_is ∙ b.open_is) in
-    let needed : a.needed ≡ b.needed = needed_one series spec.grid a.needed b.needed a.are_needed b.are_needed in
+    let range : a.range ≡ b.range = range_one spec.range (values_of (kept spec.grid (axis_of series) series.slots)) a.range b.range a.shown b.shown in
+    let needed : a.needed ≡ b.needed = needed_one series spec.grid a.range b.range a.needed b.needed range a.are_needed b.are_needed in
     absurd (omega (arith, a.passes, b.room, ap length needed, ap (λ s. s.cache.capacity) session))
 
 coefs_one : (series : Series) (spec : ViewSpec) (number : ℕ) (f g : Frame) (old s t : State) → AnswersBy None series spec number f old s → AnswersBy None series spec number g old t → Same f g s t
-coefs_one series spec number f g old s t (inl a) (inl b) = too_many_one series spec.grid number f g old s t a b
+coefs_one series spec number f g old s t (inl a) (inl b) = too_many_one series spec number f g old s t a b
 coefs_one series spec number f g old s t (inl a) (inr b) = absurd (not_both series spec number f g old s t a b)
 coefs_one series spec number f g old s t (inr a) (inl b) = absurd (not_both series spec number g f old t s b a)
 coefs_one series spec number f g old s t (inr a) (inr b) = answers_one series spec number f g old s t a b
@@ -129,7 +132,7 @@ coefs_one series spec number f g old s t (inr a) (inr b) = answers_one series sp
 rows_one : (laws : Laws) (series : Series) (spec : ViewSpec) (number : ℕ) (f g : Frame) (old s t : State) → AnswersRows series spec number f old s → AnswersRows series spec number g old t → Same f g s t
 rows_one laws series spec number f g old s t a b =
     let range : a.range ≡ b.range = range_one spec.range (values_of (kept_by spec series)) a.range b.range a.shown b.shown in
-    let rows : a.rows ≡ b.rows = laws.rows spec.grid (points_of (kept_by spec series)) a.rows b.rows a.are_rows b.are_rows in
+    let rows : a.rows ≡ b.rows = laws.rows spec.grid (sample_points (kept_by spec series)) a.rows b.rows a.are_rows b.are_rows in
     let frames : Rows (rows_frame number spec a.range a.rows) ≡ Rows (rows_frame number spec b.range b.rows) =
     λ i. Rows (rows_frame number spec (range i) (rows i)) in
     (a.frame_is ∙ frames ∙ sym b.frame_is, a.state ∙ sym b.state)

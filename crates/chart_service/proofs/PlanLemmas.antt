@@ -1,5 +1,5 @@
 -- Views over the nodes of a selected series.
-use Rattle.std.proofs.Common.{◌≡◌, ℕ, ◌+◌, ◌≤◌, Bool, true, false, List, length, Option, None, Some, Result, Ok, Err, IfOk, IfErr, refl, sym, ap, subst, inl, inr, arith, ◌∙◌}
+use Rattle.std.proofs.Common.{◌≡◌, ℕ, false, List, Option, None, Some, Result, Ok, Err, IfErr, refl, sym, ap, subst, inl, inr, ◌∙◌}
 use Rattle.std.specs.Prelude.{IsSomeAnd, IsTrue, slice_get, is_none}
 use Rattle.block_disk.specs.View.{View}
 use Rattle.chart_frames.specs.declared.frame.Frame.{Frame}
@@ -16,22 +16,22 @@ use Rattle.om3_coeff.specs.View.{NodesView, HasCause}
 use Rattle.page_space.specs.declared.superblock.Superblock.{Superblock}
 use Rattle.series_book.specs.declared.one_series.Series.{Series}
 use Rattle.series_book.specs.declared.refusals.Refusal.TheVariants.{ViewTooLarge}
-use Rattle.store_catalog.specs.declared.stored_series.StoredSeries.{StoredSeries}
+use Rattle.series_catalog.specs.declared.stored_series.StoredSeries.{StoredSeries}
 use Rattle.value_filter.specs.declared.steps.Step.{Step}
 use Rattle.zoom_session.specs.declared.errors.PlanError.{PlanError}
 use Rattle.zoom_session.specs.declared.errors.PlanError.TheVariants.{TooLarge, Node, NoMemory}
 use Rattle.zoom_session.specs.declared.session.Session.{Session}
 use Rattle.zoom_session.specs.declared.view_spec.ViewSpec.{ViewSpec}
-use Rattle.zoom_session.specs.Sessions.{session_of, is_open, without, viewed}
-use Rattle.chart_service.specs.Opening.{OpensBy, LosesAtMost}
+use Rattle.zoom_session.specs.Sessions.{session_of, is_open, viewed}
+use Rattle.chart_service.specs.Opening.{OpensBy}
 use Rattle.chart_service.specs.State.{State}
-use Rattle.chart_service.specs.Replies.{refused, AnswersBy, AnswersView}
+use Rattle.chart_service.specs.Replies.{refused, AnswersBy}
 use Rattle.om3_coeff.specs.declared.key.Key.{Key}
 use Rattle.om3_coeff.specs.declared.coef.Coef.{Coef}
 use Rattle.chart_service.specs.Viewing.{AnswersRows, rows_frame}
 use Rattle.chart_service.specs.Planning.{RefusesView, StopsIn, PlansOrStops, ShowsOrStops, ShowsIn, IsPlannedFor, planned_frame}
 use Rattle.chart_service.specs.Stepping.{state_of, ReadsFor, IsOutside}
-use Rattle.chart_service.specs.Looking.{Looks, Looked, Replying, IsNodeCause, IsPlanCause, IsScanCause, IsViewCause, ReadsBy, ReadsByText, error_of}
+use Rattle.chart_service.specs.Looking.{Looks, Looked, Replying, IsNodeCause, IsPlanCause, IsScanCause, ReadsBy, ReadsByText, error_of}
 use Rattle.chart_service.specs.Planning.{IsFilterOf}
 use Rattle.chart_service.specs.declared.failure.ServiceError.{ServiceError}
 use Rattle.chart_service.specs.declared.failure.ServiceError.TheVariants as step
@@ -59,7 +59,7 @@ if_err (Err e) P Q more is = more e is
 
 -- ---- a view that isn't answered
 
-too_large_at : (book : Option Series) (spec : ViewSpec) (session : Option Session) (needed cache : ℕ) → IsSomeAnd book (λ series. PlansOrStops series spec session (Err (TooLarge needed cache))) → IsSomeAnd book (λ series. StopsIn series spec.grid session (TooLarge needed cache))
+too_large_at : (book : Option Series) (spec : ViewSpec) (session : Option Session) (needed cache : ℕ) → IsSomeAnd book (λ series. PlansOrStops series spec session (Err (TooLarge needed cache))) → IsSomeAnd book (λ series. StopsIn series spec session (TooLarge needed cache))
 too_large_at None spec session needed cache is = absurd is
 too_large_at (Some series) spec session needed cache is = is
 
@@ -77,7 +77,7 @@ replying_too_large book total spec number needed cache ss ss' frame error old ne
     }
 
 -- the disk failed
-node_stops : (session : Option Session) (series : Series) (spec : ViewSpec) (e : NodeError) → StopsIn series spec.grid session (Node e) → e ≡ node.DiskFault
+node_stops : (session : Option Session) (series : Series) (spec : ViewSpec) (e : NodeError) → StopsIn series spec session (Node e) → e ≡ node.DiskFault
 node_stops None series spec e is = absurd is
 node_stops (Some session) series spec e is = is
 

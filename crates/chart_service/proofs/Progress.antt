@@ -1,33 +1,21 @@
 -- How far the lines of an input are answered, whatever text stands for their frames.
-use Rattle.std.proofs.Common.{◌≡◌, ◌≤◌, ◌≢◌, ℕ, suc, ◌+◌, ◌-◌, ◌^◌, ◌<◌, List, [], ◌∷◌, ◌++◌, length, take, drop, Option, Some, None, IfSome, refl, ap, subst, inl, inr, sym, ◌∙◌, arith, append_assoc, length-append}
-use Rattle.std.specs.Prelude.{true, if◌then◌else◌}
+use Rattle.std.proofs.Common.{◌≡◌, ◌≤◌, ℕ, ◌+◌, ◌-◌, ◌^◌, ◌<◌, List, [], ◌∷◌, ◌++◌, length, take, drop, Option, Some, None, IfSome, refl, ap, subst, inl, inr, sym, ◌∙◌, arith, length-append}
+use Rattle.std.specs.Prelude.{true}
 use Rattle.std.specs.List.{filter, after_first}
-use Rattle.std.proofs.lemmas.List.{take-append-drop}
-use Rattle.std.proofs.lemmas.List.Elements.{filter-append}
+use Rattle.std.proofs.lemmas.List.{take-append-drop, append-nil}
+use Rattle.std.proofs.Math.Seq.{take-append-add}
 use Rattle.block_disk.specs.Streams.{sent_after, PartSent, left_after}
 use Rattle.chart_world.specs.Lines.{is_line_feed, lines, NoLineFeed}
-use Rattle.chart_world.specs.Reading.{Reading, unread_input, unread, told_lines, with_first, behind_first, input_length, NoLineIn}
-use Rattle.chart_world.proofs.LineLaws.{lines_none, lines_first}
+use Rattle.chart_world.specs.Reading.{Reading, unread_input, unread, told_lines, input_length, NoLineIn}
+use Rattle.chart_world.specs.LineLaws.{lines_none, piece_line, told_more, said, told_so, no_rest}
+use Rattle.chart_world.specs.Fronts.{says, IsWhole, BeginsWith, Gives, first_piece}
+use Rattle.chart_world.specs.FrontLaws.{passes}
 use Rattle.chart_frames.specs.declared.frame.Frame.{Frame}
 use Rattle.chart_service.specs.State.{State}
+use Rattle.chart_service.specs.Telling.{replies_more, told_none}
 use Rattle.chart_service.specs.Replies.{Replied}
-use Rattle.chart_service.specs.Serving.{says, told, IsWhole, RepliesToAll, Answers, BeginsWith, SendsText, SendsFirst, SendsFrontOf, SendsTaken, SendsWithin, SendsSome, KeepsBook}
-use Rattle.chart_service.proofs.Joined.{lines_joined, first_piece, pieces, piece_ends, piece_line, append_none}
-use Rattle.chart_service.proofs.Passing.{some_left, whole_front, whole_joined, passed, behind_told, told_after}
-
--- what holds of the input, where it is told
-pub told_so : (P Q : List ℕ → Type 0) (o : Option (List ℕ)) → ((input : List ℕ) → P input → Q input) → IfSome o P → IfSome o Q
-told_so P Q None more h = tt
-told_so P Q (Some input) more h = more input h
-
-replies_more : (old between new : State) (lines : List (Option (List ℕ))) (frames : List Frame) (line : Option (List ℕ)) (frame : Frame) → RepliesToAll old lines frames between → Replied line frame between new → RepliesToAll old (lines ++ line ∷ []) (frames ++ frame ∷ []) new
-replies_more old between new [] [] line frame all next = let P : State → Type 0 = λ s. Replied line frame s new in (new, subst P all next, refl)
-replies_more old between new [] (r ∷ rs) line frame all next = absurd all
-replies_more old between new (l ∷ ls) [] line frame all next = absurd all
-replies_more old between new (l ∷ ls) (r ∷ rs) line frame all next = (all.0, all.1, replies_more all.0 between new ls rs line frame all.2 next)
-
-said : (line : Option (List ℕ)) → says line ≡ true → filter says (line ∷ []) ≡ line ∷ []
-said line some = ap (λ b. if b then line ∷ [] else []) some
+use Rattle.chart_service.specs.SentLaws.{sent_none, sent_more}
+use Rattle.chart_service.specs.Serving.{told, RepliesToAll, Answers, SendsText, SendsFirst, SendsFrontOf, SendsTaken, SendsWithin, SendsSome, KeepsBook}
 
 -- with a frame more the text is as much longer
 abbrev pub Grows : (List (Option (List ℕ)) → List Frame → List ℕ → Type 0) → (List (Option (List ℕ)) → List Frame → List ℕ → Type 0) → Option (List ℕ) → Frame → List ℕ → Type 0
@@ -36,8 +24,7 @@ Grows T T' line frame more = (lines : List (Option (List ℕ))) (frames : List F
 -- a line more is answered
 answers_more : (T T' : List (Option (List ℕ)) → List Frame → List ℕ → Type 0) (front piece text more : List ℕ) (old state new : State) (line : Option (List ℕ)) (frame : Frame) → IsWhole front → lines piece ≡ line ∷ [] → says line ≡ true → Answers T front text old state → Replied line frame state new → Grows T T' line frame more → Answers T' (front ++ piece) (text ++ more) old new
 answers_more T T' front piece text more old state new line frame whole first some a next grows =
-    let told_is : told (front ++ piece) ≡ told front ++ line ∷ [] =
-    ap (filter says) (lines_joined front piece whole ∙ ap (λ l. lines front ++ l) first) ∙ filter-append says (lines front) (line ∷ []) ∙ ap (λ l. told front ++ l) (said line some) in
+    let told_is : told (front ++ piece) ≡ told front ++ line ∷ [] = told_more front piece line whole first ∙ ap (λ l. told front ++ l) (said line some) in
     let P : List (Option (List ℕ)) → Type 0 = λ l. RepliesToAll old l (a.frames ++ frame ∷ []) new in
     let Q : List (Option (List ℕ)) → Type 0 = λ l. T' l (a.frames ++ frame ∷ []) (text ++ more) in
     record {
@@ -49,8 +36,7 @@ answers_more T T' front piece text more old state new line frame whole first som
 -- an empty line is passed over
 answers_same : (T : List (Option (List ℕ)) → List Frame → List ℕ → Type 0) (front piece text : List ℕ) (old state : State) → IsWhole front → lines piece ≡ Some [] ∷ [] → Answers T front text old state → Answers T (front ++ piece) text old state
 answers_same T front piece text old state whole first a =
-    let told_is : told (front ++ piece) ≡ told front =
-    ap (filter says) (lines_joined front piece whole ∙ ap (λ l. lines front ++ l) first) ∙ filter-append says (lines front) (Some [] ∷ []) ∙ append_none (told front) in
+    let told_is : told (front ++ piece) ≡ told front = told_more front piece (Some []) whole first ∙ append-nil (told front) in
     let P : List (Option (List ℕ)) → Type 0 = λ l. RepliesToAll old l a.frames state in
     let Q : List (Option (List ℕ)) → Type 0 = λ l. T l a.frames text in
     record { frames = a.frames; replied = subst P (sym told_is) a.replied; texts = subst Q (sym told_is) a.texts }
@@ -66,33 +52,11 @@ pub record Progress (T : List (Option (List ℕ)) → List Frame → List ℕ �
   pub answers : Answers T front text old state
   pub sent : now ≡ sent_after text before
 
-begins_more : (input front rest : List ℕ) → BeginsWith input front rest → rest ≢ [] → BeginsWith input (front ++ first_piece rest) (after_first is_line_feed rest)
-begins_more input front rest b some =
-    let whole = whole_front front rest b.whole some in
-    record {
-      split = b.split ∙ ap (λ l. front ++ l) (pieces rest) ∙ sym (append_assoc front (first_piece rest) (after_first is_line_feed rest));
-      whole = elim (piece_ends rest) [
-        | inl ended ↦ inl (whole_joined front (first_piece rest) whole ended)
-        | inr none ↦ inr none
-      ];
-    }
-
-sent_more : (text more : List ℕ) (before now later : Option (List ℕ)) → now ≡ sent_after text before → later ≡ sent_after more now → later ≡ sent_after (text ++ more) before
-sent_more text more None now later first second = second ∙ ap (sent_after more) first
-sent_more text more (Some sent) now later first second = second ∙ ap (sent_after more) first ∙ ap Some (append_assoc sent text more)
-
 -- nothing is answered yet
-told_none : (old : State) → RepliesToAll old (told []) [] old
-told_none old = let P : List (Option (List ℕ)) → Type 0 = λ l. RepliesToAll old (filter says l) [] old in subst P (sym lines_none) refl
-
 no_answers : (T : List (Option (List ℕ)) → List Frame → List ℕ → Type 0) (old : State) → T [] [] [] → Answers T [] [] old old
 no_answers T old none =
     let P : List (Option (List ℕ)) → Type 0 = λ l. T (filter says l) [] [] in
     record { frames = []; replied = told_none old; texts = subst P (sym lines_none) none }
-
-sent_none : (before : Option (List ℕ)) → before ≡ sent_after [] before
-sent_none None = refl
-sent_none (Some sent) = ap Some (sym (append_none sent))
 
 start_at : (T : List (Option (List ℕ)) → List Frame → List ℕ → Type 0) (input : List ℕ) (old : State) (before : Option (List ℕ)) → T [] [] [] → Progress T input (Some ([] ++ input)) 0 old old before before
 start_at T input old before none = record {
@@ -116,63 +80,31 @@ starts T o before r old none fresh =
     let P : Reading → Type 0 = λ x. IfSome o (λ input. Progress T input (unread x o) x.given old old before before) in
     subst P (sym fresh) (start_told T o before old none)
 
--- what a step of the reader of lines gives: the line is the first of those that were unread
-pub record Gives (old new : Reading) (left left' : Option (List ℕ)) (line : Option (List ℕ)) : Type 0 where
-  pub first : told_lines (unread old left) ≡ with_first line (told_lines (unread new left'))
-  pub rest : unread new left' ≡ behind_first (unread old left)
-  pub counted : old.taken ≡ old.given + length old.pending
-  pub counted_new : new.taken ≡ new.given + length new.pending
-  pub total : input_length new.taken left' ≡ input_length old.taken left
-
-pub gives_by : (old new : Reading) (left left' line : Option (List ℕ)) → told_lines (unread old left) ≡ with_first line (told_lines (unread new left')) → unread new left' ≡ behind_first (unread old left) → old.taken ≡ old.given + length old.pending → new.taken ≡ new.given + length new.pending → input_length new.taken left' ≡ input_length old.taken left → Gives old new left left' line
-gives_by old new left left' line first rest counted counted_new total = record { first = first; rest = rest; counted = counted; counted_new = counted_new; total = total }
-
--- the first line of what is left, and what stands behind it
-pub record Passed (input : List ℕ) (rest : List ℕ) (bytes : Option (List ℕ)) (given : ℕ) (line : Option (List ℕ)) (front : List ℕ) : Type 0 where
-  pub some : rest ≢ []
-  pub lines_are : lines rest ≡ line ∷ lines (after_first is_line_feed rest)
-  told_rest : bytes ≡ Some (after_first is_line_feed rest)
-  counted : given ≡ length (front ++ first_piece rest)
-
-pub passes : (T : List (Option (List ℕ)) → List Frame → List ℕ → Type 0) (input : List ℕ) (r r' : Reading) (left left' : Option (List ℕ)) (old state : State) (before now : Option (List ℕ)) (line : Option (List ℕ)) → (p : Progress T input (unread r left) r.given old state before now) → Gives r r' left left' line → Passed input p.rest (unread r' left') r'.given line p.front
-passes T input r r' left left' old state before now line p gives =
-    let told' = behind_told p.rest (unread r left) (unread r' left') p.told_rest gives.rest in
-    let lines_are = told_after p.rest (unread r left) (unread r' left') line p.told_rest told' gives.first in
-    let sum = passed r r' left left' p.rest (after_first is_line_feed p.rest) p.told_rest told' gives.counted gives.counted_new gives.total in
-    record {
-      some = some_left p.rest line (lines (after_first is_line_feed p.rest)) lines_are;
-      lines_are = lines_are;
-      told_rest = told';
-      counted = omega (arith, sum, p.counted, ap length (pieces p.rest), length-append (first_piece p.rest) (after_first is_line_feed p.rest), length-append p.front (first_piece p.rest));
-    }
-
 answered_at : (T T' : List (Option (List ℕ)) → List Frame → List ℕ → Type 0) (input : List ℕ) (r r' : Reading) (left left' : Option (List ℕ)) (old state state' : State) (before now later : Option (List ℕ)) (line : Option (List ℕ)) (frame : Frame) (more : List ℕ) → Gives r r' left left' line → says line ≡ true → Replied line frame state state' → Grows T T' line frame more → later ≡ sent_after more now → Progress T input (unread r left) r.given old state before now → Progress T' input (unread r' left') r'.given old state' before later
 answered_at T T' input r r' left left' old state state' before now later line frame more gives says_so next grows sends p =
-    let q = passes T input r r' left left' old state before now line p gives in
-    let whole = whole_front p.front p.rest p.begins.whole q.some in
+    let q = passes input p.front p.rest r r' left left' line p.told_rest p.counted p.begins gives in
     record {
       rest = after_first is_line_feed p.rest;
       told_rest = q.told_rest;
       front = p.front ++ first_piece p.rest;
-      begins = begins_more input p.front p.rest p.begins q.some;
+      begins = q.begins;
       counted = q.counted;
       text = p.text ++ more;
-      answers = answers_more T T' p.front (first_piece p.rest) p.text more old state state' line frame whole (piece_line p.rest line q.lines_are) says_so p.answers next grows;
+      answers = answers_more T T' p.front (first_piece p.rest) p.text more old state state' line frame q.whole (piece_line p.rest line q.lines_are) says_so p.answers next grows;
       sent = sent_more p.text more before now later p.sent sends;
     }
 
 skipped_at : (T : List (Option (List ℕ)) → List Frame → List ℕ → Type 0) (input : List ℕ) (r r' : Reading) (left left' : Option (List ℕ)) (old state : State) (before now : Option (List ℕ)) → Gives r r' left left' (Some []) → Progress T input (unread r left) r.given old state before now → Progress T input (unread r' left') r'.given old state before now
 skipped_at T input r r' left left' old state before now gives p =
-    let q = passes T input r r' left left' old state before now (Some []) p gives in
-    let whole = whole_front p.front p.rest p.begins.whole q.some in
+    let q = passes input p.front p.rest r r' left left' (Some []) p.told_rest p.counted p.begins gives in
     record {
       rest = after_first is_line_feed p.rest;
       told_rest = q.told_rest;
       front = p.front ++ first_piece p.rest;
-      begins = begins_more input p.front p.rest p.begins q.some;
+      begins = q.begins;
       counted = q.counted;
       text = p.text;
-      answers = answers_same T p.front (first_piece p.rest) p.text old state whole (piece_line p.rest (Some []) q.lines_are) p.answers;
+      answers = answers_same T p.front (first_piece p.rest) p.text old state q.whole (piece_line p.rest (Some []) q.lines_are) p.answers;
       sent = p.sent;
     }
 
@@ -188,20 +120,12 @@ skipped T o r r' left left' old state before now gives =
     told_so (λ input. Progress T input (unread r left) r.given old state before now) (λ input. Progress T input (unread r' left') r'.given old state before now) o
     (λ input. skipped_at T input r r' left left' old state before now gives)
 
-pub says_text : (text : List ℕ) → 0 < length text → says (Some text) ≡ true
-says_text [] some = absurd (omega (arith, some))
-says_text (b ∷ bs) some = refl
-
-pub no_rest : (rest : List ℕ) → lines rest ≡ [] → rest ≡ []
-no_rest [] none = refl
-no_rest (b ∷ bs) none = let first = lines_first (b ∷ bs) (λ e. cc) in cc
-
 -- where no line is left, all of the input is answered
 front_is : (T : List (Option (List ℕ)) → List Frame → List ℕ → Type 0) (input : List ℕ) (bytes : Option (List ℕ)) (given : ℕ) (old state : State) (before now : Option (List ℕ)) → IfSome (told_lines bytes) (λ all. all ≡ []) → (p : Progress T input bytes given old state before now) → p.front ≡ input
 front_is T input bytes given old state before now none p =
     let P : Option (List ℕ) → Type 0 = λ b. IfSome (told_lines b) (λ all. all ≡ []) in
     let rest_none : p.rest ≡ [] = no_rest p.rest (subst P p.told_rest none) in
-    sym (p.begins.split ∙ ap (λ l. p.front ++ l) rest_none ∙ append_none p.front)
+    sym (p.begins.split ∙ ap (λ l. p.front ++ l) rest_none ∙ append-nil p.front)
 
 end_at : (T : List (Option (List ℕ)) → List Frame → List ℕ → Type 0) (input : List ℕ) (bytes : Option (List ℕ)) (given : ℕ) (old state : State) (before now : Option (List ℕ)) → IfSome (told_lines bytes) (λ all. all ≡ []) → Progress T input bytes given old state before now → SendsText T input old state before now
 end_at T input bytes given old state before now none p =
@@ -238,10 +162,10 @@ taken_at T input bytes left given n old state before now none after p =
     })
 
 -- at a byte past 2^32
-pub within_at : (T : List (Option (List ℕ)) → List Frame → List ℕ → Type 0) (input : List ℕ) (r r' : Reading) (left left' : Option (List ℕ)) (old state : State) (before now : Option (List ℕ)) → NoLineIn (2 ^ 32 - r.given) (unread r left) → 2 ^ 32 < r'.taken → r.taken ≡ r.given + length r.pending → input_length r'.taken left' ≡ input_length r.taken left → Progress T input (unread r left) r.given old state before now → SendsWithin T input old state before now
-within_at T input r r' None left' old state before now none past counted total p = let told_rest = p.told_rest in cc
-within_at T input r r' (Some l) None old state before now none past counted total p = cc
-within_at T input r r' (Some l) (Some l') old state before now none past counted total p =
+pub within_at : (T : List (Option (List ℕ)) → List Frame → List ℕ → Type 0) (input : List ℕ) (r r' : Reading) (left left' : Option (List ℕ)) (old state : State) (before now : Option (List ℕ)) → r.given ≤ 2 ^ 32 → NoLineIn (2 ^ 32 - r.given) (unread r left) → 2 ^ 32 < r'.taken → r.taken ≡ r.given + length r.pending → input_length r'.taken left' ≡ input_length r.taken left → Progress T input (unread r left) r.given old state before now → SendsWithin T input old state before now
+within_at T input r r' None left' old state before now few none past counted total p = let told_rest = p.told_rest in cc
+within_at T input r r' (Some l) None old state before now few none past counted total p = cc
+within_at T input r r' (Some l) (Some l') old state before now few none past counted total p =
     let P : Option (List ℕ) → Type 0 = NoLineIn (2 ^ 32 - r.given) in
     let N : ℕ → Type 0 = λ n. NoLineFeed (take (2 ^ 32 - n) p.rest) in
     let sum : r'.taken + length l' ≡ r.taken + length l = cc in
@@ -250,31 +174,25 @@ within_at T input r r' (Some l) (Some l') old state before now none past counted
     record {
       rest = p.rest;
       first = record { front = p.front; begins = p.begins; text = p.text; answers = p.answers; sent = p.sent };
+      few = omega (arith, few, p.counted);
       unended = subst N p.counted (subst P p.told_rest none);
       past = omega (arith, past, sum, counted, ap length here, length-append r.pending l, ap length p.begins.split, length-append p.front p.rest, p.counted);
     }
 
-take_past : (xs ys : List ℕ) (n : ℕ) → take (length xs + n) (xs ++ ys) ≡ xs ++ take n ys
-take_past [] ys n = ap (λ k. take k ys) (omega arith)
-take_past (x ∷ xs) ys n =
-    let at : length (x ∷ xs) + n ≡ suc (length xs + n) = omega arith in
-    ap (λ k. take k (x ∷ (xs ++ ys))) at ∙ ap (λ l. x ∷ l) (take_past xs ys n)
-
 -- a text was sent in part: the text so far, and its first bytes
 pub part_at : (T T' : List (Option (List ℕ)) → List Frame → List ℕ → Type 0) (input : List ℕ) (r r' : Reading) (left left' : Option (List ℕ)) (old state state' : State) (before now later : Option (List ℕ)) (line : Option (List ℕ)) (frame : Frame) (more : List ℕ) → Gives r r' left left' line → says line ≡ true → Replied line frame state state' → Grows T T' line frame more → PartSent more now later → Progress T input (unread r left) r.given old state before now → SendsFrontOf T' input old state' before later
 part_at T T' input r r' left left' old state state' before now later line frame more gives says_so next grows part p =
-    let q = passes T input r r' left left' old state before now line p gives in
-    let front_whole = whole_front p.front p.rest p.begins.whole q.some in
+    let q = passes input p.front p.rest r r' left left' line p.told_rest p.counted p.begins gives in
     let sum = length-append p.text more in
     record {
       front = p.front ++ first_piece p.rest;
       rest = after_first is_line_feed p.rest;
-      begins = begins_more input p.front p.rest p.begins q.some;
+      begins = q.begins;
       text = p.text ++ more;
-      answers = answers_more T T' p.front (first_piece p.rest) p.text more old state state' line frame front_whole (piece_line p.rest line q.lines_are) says_so p.answers next grows;
+      answers = answers_more T T' p.front (first_piece p.rest) p.text more old state state' line frame q.whole (piece_line p.rest line q.lines_are) says_so p.answers next grows;
       count = length p.text + part.count;
       within = omega (arith, part.within, sum);
-      sent = sent_more p.text (take part.count more) before now later p.sent part.sent ∙ ap (λ t. sent_after t before) (sym (take_past p.text more part.count));
+      sent = sent_more p.text (take part.count more) before now later p.sent part.sent ∙ ap (λ t. sent_after t before) (sym (take-append-add p.text more part.count));
     }
 
 pub parted : (T T' : List (Option (List ℕ)) → List Frame → List ℕ → Type 0) (o : Option (List ℕ)) (r r' : Reading) (left left' : Option (List ℕ)) (old state state' : State) (before now later : Option (List ℕ)) (line : Option (List ℕ)) (frame : Frame) (more : List ℕ) → Gives r r' left left' line → says line ≡ true → Replied line frame state state' → Grows T T' line frame more → PartSent more now later → IfSome o (λ input. Progress T input (unread r left) r.given old state before now) → IfSome o (λ input. SendsFrontOf T' input old state' before later)
@@ -299,7 +217,7 @@ kept T o bytes given old state new before now keeps =
 -- want of memory, where the answer to a line wasn't sent
 pub unsent_at : (T : List (Option (List ℕ)) → List Frame → List ℕ → Type 0) (input : List ℕ) (r r' : Reading) (left left' : Option (List ℕ)) (old state new : State) (before now : Option (List ℕ)) (line : Option (List ℕ)) (frame : Frame) → Gives r r' left left' line → Replied line frame state new → Progress T input (unread r left) r.given old state before now → SendsSome T input old new before now
 unsent_at T input r r' left left' old state new before now line frame gives next p =
-    let q = passes T input r r' left left' old state before now line p gives in
+    let q = passes input p.front p.rest r r' left left' line p.told_rest p.counted p.begins gives in
     record {
       rest = p.rest;
       between = state;

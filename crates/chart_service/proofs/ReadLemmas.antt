@@ -1,5 +1,5 @@
 -- Blocks that weren't read.
-use Rattle.std.proofs.Common.{◌≡◌, ℕ, ◌≤◌, List, Option, None, Some, refl, arith}
+use Rattle.std.proofs.Common.{ℕ, List, Option, None, Some, refl, arith}
 use Rattle.request_lines.specs.declared.requests.Request.{Request}
 use Rattle.request_lines.specs.declared.requests.Request.TheVariants.{Edit as EditRequest, Open, View as ViewRequest, Zoom, Pan, Close}
 use Rattle.series_book.specs.declared.one_series.Series.{Series}

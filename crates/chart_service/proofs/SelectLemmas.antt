@@ -11,8 +11,8 @@ use Rattle.series_store.specs.declared.series_info.SeriesInfo.{SeriesInfo}
 use Rattle.series_store.specs.Asking.{IsInfo}
 use Rattle.series_store.proofs.AskLemmas.{kept_as}
 use Rattle.catalog_page.specs.Entries.{IsEntry}
-use Rattle.store_catalog.specs.Catalogs.{AreAsTold, entry_of}
-use Rattle.store_catalog.specs.declared.stored_series.StoredSeries.{StoredSeries}
+use Rattle.series_catalog.specs.Catalogs.{AreAsTold, entry_of}
+use Rattle.series_catalog.specs.declared.stored_series.StoredSeries.{StoredSeries}
 use Rattle.stored_book.specs.Standing.{IsStore}
 use Rattle.tree_walk.specs.declared.tree.Tree.{Tree}
 use Rattle.tree_walk.specs.Paths.{IsDamaged}

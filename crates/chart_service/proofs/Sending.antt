@@ -1,37 +1,39 @@
 -- A line is answered: its step, and the sending of its reply.
-use Rattle.std.proofs.Common.{◌≡◌, ℕ, ◌+◌, ◌^◌, ◌<◌, ◌≤◌, List, [], ◌∷◌, length, Option, Some, None, Result, Ok, Err, IfErr, OnOk, refl, ap, subst, inl, inr, sym, ◌∙◌, arith}
+use Rattle.std.proofs.Common.{◌≡◌, ℕ, ◌+◌, ◌≤◌, List, length, Option, Some, None, Result, Ok, Err, IfErr, OnOk, refl, ap, subst, inl, inr, sym, arith}
 use Rattle.std.specs.Prelude.{IsErrAnd, true}
-use Rattle.block_disk.specs.Streams.{sent_after}
 use Rattle.block_disk.specs.View.{Image, View, Now, Only, Passes, sent_now}
+use Rattle.chart_world.specs.Fronts.{says}
 use Rattle.chart_frames.specs.declared.frame.Frame.{Frame}
-use Rattle.chart_frames.specs.Frames.{Fits, spelling}
+use Rattle.chart_frames.specs.Frames.{Fits}
 use Rattle.gate_pages.specs.Pages.{Quiet}
 use Rattle.gate_pages.proofs.Moving.{sent_same}
 use Rattle.series_book.specs.declared.one_series.Series.{Series}
 use Rattle.series_book.specs.declared.refusals.Refusal.TheVariants.{LineTooLong}
 use Rattle.stored_book.specs.Standing.{StandsForBook}
 use Rattle.zoom_session.specs.declared.session.Session.{Session}
-use Rattle.chart_service.specs.State.{State, IsSound}
+use Rattle.chart_service.specs.Making.{Makes, FrameSent, FrameStops, LineDone, LineStopsAt, LineStops, IsReplyEnd, ReplySent, FrameMoments, LineMoments}
 use Rattle.chart_service.specs.Replies.{Replied, line_text, refused}
-use Rattle.chart_service.specs.Sending.{Through, FrameMoments, LineDone, LineStops, LineMoments, SendStops, AnswersPart}
-use Rattle.chart_service.specs.Serving.{says, end_of_step}
+use Rattle.chart_service.specs.Serving.{end_of_step}
+use Rattle.chart_service.specs.State.{State, IsSound}
 use Rattle.chart_service.specs.Stepping.{StandsAfter, IsBeforeOrAfter, IsOutside, IsUnchangedFor, state_of}
+use Rattle.chart_service.specs.MomentLaws.{through_by, through_so, through_then}
+use Rattle.chart_service.specs.Moments.{Through}
+use Rattle.chart_service.specs.declared.failure.AnswerEnd.{AnswerEnd}
+use Rattle.chart_service.specs.declared.failure.AnswerEnd.TheVariants.{Serve, Reply}
 use Rattle.chart_service.specs.declared.failure.ServiceError.{ServiceError}
 use Rattle.chart_service.specs.declared.failure.ServiceError.TheVariants as step
-use Rattle.chart_service.specs.declared.failure.ServeEnd.{ServeEnd}
 use Rattle.chart_service.specs.declared.failure.ServeEnd.TheVariants.{ReadFault, SendFault, DiskFault, Damaged, InputTooLong, NoMemory}
-use Rattle.chart_service.proofs.Moments.{through_step, through_reply, through_then}
 
 -- an error that is passed on
 pub error_goes : {T E : Type 0} (Q : E → Type 0) (r : Result T E) (from : E) → IsErrAnd r (λ e. e ≡ from) → Q from → IfErr r Q
 error_goes Q (Ok v) from is so = tt
 error_goes Q (Err e) from is so = subst Q (sym is) so
 
-ok_so : {T E : Type 0} (r : Result T E) (P Q : Type 0) → (P → Q) → OnOk r P → OnOk r Q
+pub ok_so : {T E : Type 0} (r : Result T E) (P Q : Type 0) → (P → Q) → OnOk r P → OnOk r Q
 ok_so (Ok v) P Q more is = more is
 ok_so (Err e) P Q more is = tt
 
-error_so : {T E : Type 0} (r : Result T E) (P Q : E → Type 0) → ((e : E) → P e → Q e) → IfErr r P → IfErr r Q
+pub error_so : {T E : Type 0} (r : Result T E) (P Q : E → Type 0) → ((e : E) → P e → Q e) → IfErr r P → IfErr r Q
 error_so (Ok v) P Q more is = tt
 error_so (Err e) P Q more is = more e is
 
@@ -42,76 +44,126 @@ stands_on total image image' sessions sessions' P Q same same_sessions more afte
     let S : List Session → Type 0 = λ s. Q (state_of after.book total s) in
     record { book = after.book; stands = subst I (sym same) after.stands; so = subst S (sym same_sessions) (more (state_of after.book total sessions) after.so) }
 
--- the step answered no frame
-pub step_stops : (line : Option (List ℕ)) (total : ℕ) (book : List Series) (own sessions : List Session) (told : Type 0) (old new : View) (before now : Option (List ℕ)) (e : ServiceError)
-    → told → StandsForBook old.image total book → now ≡ before → IsOutside e → IsUnchangedFor e told old new → LineStops line (state_of book total own) new.image sessions before now (end_of_step e)
-step_stops line total book own sessions told old new before now step.DiskFault is stands same outside unchanged = same
-step_stops line total book own sessions told old new before now (step.Damaged page) is stands same outside unchanged = elim outside [ inl e ↦ cc | inr e ↦ cc ]
-step_stops line total book own sessions told old new before now step.NoMemory is stands same outside unchanged =
-    let I : Image → Type 0 = λ i. StandsForBook i total book in
-    record { book = book; stands = subst I (sym (unchanged.image is)) stands; so = (same, inl (refl, refl)) }
-
--- the frame was sent, behind a step that sent nothing
-pub answer_done : {T E : Type 0} (r : Result T E) (line : Option (List ℕ)) (frame : Frame) (total : ℕ) (first : State) (image image' : Image) (sessions sessions' : List Session) (before now later : Option (List ℕ)) → says line ≡ true
-    → StandsAfter total image sessions (λ new. Replied line frame first new) → image' ≡ image → sessions' ≡ sessions → now ≡ before → OnOk r (later ≡ sent_after (spelling frame) now)
-    → OnOk r (StandsAfter total image' sessions' (λ new. LineDone line first new before later))
-answer_done r line frame total first image image' sessions sessions' before now later said after same same_sessions same_sent =
-    ok_so r (later ≡ sent_after (spelling frame) now) (StandsAfter total image' sessions' (λ new. LineDone line first new before later))
-    (λ sent. stands_on total image image' sessions sessions' (λ new. Replied line frame first new) (λ new. LineDone line first new before later) same same_sessions
-    (λ new is. inr (record { said = said; frame = frame; replied = is; sent = sent ∙ ap (sent_after (spelling frame)) same_sent })) after)
-
--- it wasn't
-stops_at : (line : Option (List ℕ)) (frame : Frame) (first : State) (image image' : Image) (sessions sessions' : List Session) (before now later : Option (List ℕ)) → says line ≡ true
-    → StandsAfter first.total image sessions (λ new. Replied line frame first new) → image' ≡ image → sessions' ≡ sessions → now ≡ before → (e : ServeEnd) → SendStops (spelling frame) now later e → LineStops line first image' sessions' before later e
-stops_at line frame first image image' sessions sessions' before now later said after same same_sessions same_sent ReadFault why = absurd why
-stops_at line frame first image image' sessions sessions' before now later said after same same_sessions same_sent SendFault why =
-    let N : Option (List ℕ) → Type 0 = λ n. SendStops (spelling frame) n later SendFault in
-    stands_on first.total image image' sessions sessions' (λ new. Replied line frame first new) (λ new. AnswersPart line first new before later) same same_sessions
-    (λ new is. record { said = said; frame = frame; replied = is; part = subst N same_sent why }) after
-stops_at line frame first image image' sessions sessions' before now later said after same same_sessions same_sent DiskFault why = absurd why
-stops_at line frame first image image' sessions sessions' before now later said after same same_sessions same_sent (Damaged page) why = absurd why
-stops_at line frame first image image' sessions sessions' before now later said after same same_sessions same_sent InputTooLong why = absurd why
-stops_at line frame first image image' sessions sessions' before now later said after same same_sessions same_sent NoMemory why =
-    record {
-      book = after.book;
-      stands = let I : Image → Type 0 = λ i. StandsForBook i first.total after.book in subst I (sym same) after.stands;
-      so = let S : List Session → Type 0 = λ s. Replied line frame first (state_of after.book first.total s) in (why ∙ same_sent, inr (frame, subst S (sym same_sessions) after.so));
-    }
-
-pub answer_stops : {T : Type 0} (r : Result T ServeEnd) (line : Option (List ℕ)) (frame : Frame) (first : State) (image image' : Image) (sessions sessions' : List Session) (before now later : Option (List ℕ)) → says line ≡ true
-    → StandsAfter first.total image sessions (λ new. Replied line frame first new) → image' ≡ image → sessions' ≡ sessions → now ≡ before → IfErr r (SendStops (spelling frame) now later) → IfErr r (LineStops line first image' sessions' before later)
-answer_stops r line frame first image image' sessions sessions' before now later said after same same_sessions same_sent =
-    error_so r (SendStops (spelling frame) now later) (LineStops line first image' sessions' before later)
-    (λ e why. stops_at line frame first image image' sessions sessions' before now later said after same same_sessions same_sent e why)
-
--- ---- a line of at most 8,192 bytes
-
 pub text_is : (text : List ℕ) → length text ≤ 8192 → line_text text ≡ Some text
 text_is text short = grind (arith)
 
--- what a step of it answers
+-- what is answered, behind a reply that leaves the pages and the sessions
+pub replied_kept : (line : Option (List ℕ)) (frame : Frame) (total : ℕ) (first : State) (image image' : Image) (sessions sessions' : List Session) → image' ≡ image → sessions' ≡ sessions
+    → StandsAfter total image sessions (λ new. Replied line frame first new) → StandsAfter total image' sessions' (λ new. Replied line frame first new)
+replied_kept line frame total first image image' sessions sessions' same same_sessions after =
+    stands_on total image image' sessions sessions' (λ new. Replied line frame first new) (λ new. Replied line frame first new) same same_sessions (λ s is. is) after
+
+-- what a step of a line of at most 8,192 bytes answers
 pub text_replied : (text : List ℕ) (frame : Frame) (total : ℕ) (first : State) (image : Image) (sessions : List Session) → length text ≤ 8192 → StandsAfter total image sessions (λ new. Replied (line_text text) frame first new) → StandsAfter total image sessions (λ new. Replied (Some text) frame first new)
 text_replied text frame total first image sessions short after =
     let L : Option (List ℕ) → Type 0 = λ l. StandsAfter total image sessions (λ new. Replied l frame first new) in
     subst L (text_is text short) after
 
-pub text_step : (text : List ℕ) (total : ℕ) (book : List Series) (own : List Session) (old new : View) → length text ≤ 8192 → says (Some text) ≡ true → Passes old new (IsBeforeOrAfter (Replied (line_text text)) total book own) (Quiet old)
-    → Through old new (LineMoments (Some text) (state_of book total own) (sent_now old))
-text_step text total book own old new short said passes =
+-- a line that is too long is refused
+pub long_replied : (frame : Frame) (state : State) → frame ≡ refused LineTooLong → Fits frame → IsSound state → Replied None frame state state
+long_replied frame state is fits sound = (record { reply = is; state = refl }, fits, sound)
+
+pub long_after : (frame : Frame) (total : ℕ) (book : List Series) (own : List Session) (image : Image) → Replied None frame (state_of book total own) (state_of book total own) → StandsForBook image total book
+    → StandsAfter total image own (λ new. Replied None frame (state_of book total own) new)
+long_after frame total book own image replied stands = record { book = book; stands = stands; so = replied }
+
+-- the bytes of the frame were sent, behind a step that sent nothing
+pub answer_done : {S F T E : Type 0} (makes : Makes S F) (v w : S) (r : Result T E) (line : Option (List ℕ)) (frame : Frame) (total : ℕ) (first : State) (image image' : Image) (sessions sessions' : List Session) (before now later : Option (List ℕ)) → says line ≡ true
+    → StandsAfter total image sessions (λ new. Replied line frame first new) → image' ≡ image → sessions' ≡ sessions → now ≡ before → OnOk r (FrameSent makes frame v w now later)
+    → OnOk r (StandsAfter total image' sessions' (λ new. LineDone makes line v w first new before later))
+answer_done makes v w r line frame total first image image' sessions sessions' before now later said after same same_sessions same_sent =
+    let N : Option (List ℕ) → Type 0 = λ n. FrameSent makes frame v w n later in
+    ok_so r (FrameSent makes frame v w now later) (StandsAfter total image' sessions' (λ new. LineDone makes line v w first new before later))
+    (λ sent. stands_on total image image' sessions sessions' (λ new. Replied line frame first new) (λ new. LineDone makes line v w first new before later) same same_sessions
+    (λ new is. inr (record { said = said; frame = frame; replied = is; sent = subst N same_sent sent })) after)
+
+-- they weren't
+stops_at : {S F : Type 0} (makes : Makes S F) (v w : S) (line : Option (List ℕ)) (frame : Frame) (first : State) (image : Image) (sessions : List Session) (before later : Option (List ℕ)) → says line ≡ true
+    → StandsAfter first.total image sessions (λ new. Replied line frame first new) → (end : AnswerEnd F) → FrameStops makes frame v w before later end → LineStops makes line v w first image sessions before later end
+stops_at makes v w line frame first image sessions before later said after (Serve ReadFault) why = absurd why
+stops_at makes v w line frame first image sessions before later said after (Serve SendFault) why =
+    stands_on first.total image image sessions sessions (λ new. Replied line frame first new) (λ new. LineStopsAt makes line v w first new before later (Serve SendFault)) refl refl
+    (λ new is. (said, frame, is, why)) after
+stops_at makes v w line frame first image sessions before later said after (Serve DiskFault) why = absurd why
+stops_at makes v w line frame first image sessions before later said after (Serve (Damaged page)) why = absurd why
+stops_at makes v w line frame first image sessions before later said after (Serve InputTooLong) why = absurd why
+stops_at makes v w line frame first image sessions before later said after (Serve NoMemory) why = absurd why
+stops_at makes v w line frame first image sessions before later said after (Reply e) why =
+    stands_on first.total image image sessions sessions (λ new. Replied line frame first new) (λ new. LineStopsAt makes line v w first new before later (Reply e)) refl refl
+    (λ new is. (said, frame, is, why)) after
+
+pub answer_stops : {S F T : Type 0} (makes : Makes S F) (v w : S) (r : Result T (AnswerEnd F)) (line : Option (List ℕ)) (frame : Frame) (first : State) (image image' : Image) (sessions sessions' : List Session) (before now later : Option (List ℕ)) → says line ≡ true
+    → StandsAfter first.total image sessions (λ new. Replied line frame first new) → image' ≡ image → sessions' ≡ sessions → now ≡ before → IfErr r (FrameStops makes frame v w now later)
+    → IfErr r (LineStops makes line v w first image' sessions' before later)
+answer_stops makes v w r line frame first image image' sessions sessions' before now later said after same same_sessions same_sent =
+    let kept = replied_kept line frame first.total first image image' sessions sessions' same same_sessions after in
+    error_so r (FrameStops makes frame v w now later) (LineStops makes line v w first image' sessions' before later)
+    (λ e why.
+    let N : Option (List ℕ) → Type 0 = λ n. FrameStops makes frame v w n later e in
+    stops_at makes v w line frame first image' sessions' before later said kept e (subst N same_sent why))
+
+-- the step answered no frame
+pub step_stops : {S F : Type 0} (makes : Makes S F) (v : S) (line : Option (List ℕ)) (total : ℕ) (book : List Series) (own sessions : List Session) (told : Type 0) (old new : View) (before now : Option (List ℕ)) (e : ServiceError)
+    → told → StandsForBook old.image total book → now ≡ before → IsOutside e → IsUnchangedFor e told old new → LineStops makes line v v (state_of book total own) new.image sessions before now (Serve (end_of_step e))
+step_stops makes v line total book own sessions told old new before now step.DiskFault is stands same outside unchanged = same
+step_stops makes v line total book own sessions told old new before now (step.Damaged page) is stands same outside unchanged = elim outside [ inl e ↦ cc | inr e ↦ cc ]
+step_stops makes v line total book own sessions told old new before now step.NoMemory is stands same outside unchanged =
+    let I : Image → Type 0 = λ i. StandsForBook i total book in
+    record { book = book; stands = subst I (sym (unchanged.image is)) stands; so = (same, (refl, refl)) }
+
+-- ---- what a crash leaves
+
+-- while the bytes of a frame are sent
+pub reply_sent : {S F : Type 0} (makes : Makes S F) (v w : S) (frame : Frame) (piece text : List ℕ) (old new : View) → makes v frame (Ok piece) w → text ≡ piece
+    → Passes old new (Now old) (λ count. (sent_now old ≤ count) × (count ≤ sent_now new)) → sent_now new ≤ sent_now old + length text → FrameMoments makes v frame old new
+reply_sent makes v w frame piece text old new given is passes most =
+    through_by old new (Now old) (λ count. (sent_now old ≤ count) × (count ≤ sent_now new)) (λ image count. Now old image × ReplySent makes v frame (sent_now old) count) passes
+    (λ image count left between. (left, inr (piece, w, given, between.0, omega (arith, between.1, most, ap length is))))
+
+-- while its request is answered
+step_moments : {S F : Type 0} (makes : Makes S F) (v : S) (line : Option (List ℕ)) (total : ℕ) (book : List Series) (sessions : List Session) (old new : View) → says line ≡ true → Passes old new (IsBeforeOrAfter (Replied line) total book sessions) (Quiet old)
+    → Through old new (LineMoments makes v line (state_of book total sessions) (sent_now old))
+step_moments makes v line total book sessions old new said passes =
+    through_by old new (IsBeforeOrAfter (Replied line) total book sessions) (Quiet old) (LineMoments makes v line (state_of book total sessions) (sent_now old)) passes
+    (λ image count which quiet. elim which [
+      | inl before ↦ inl (before, quiet)
+      | inr after ↦ inr (record { said = said; frame = after.frame; after = state_of after.after.book total after.left; replied = after.after.so; stands = after.after.stands; sent = inl quiet })
+    ])
+
+-- while the reply of a frame that leaves this state is sent
+pub reply_moments : {S F : Type 0} (makes : Makes S F) (v : S) (line : Option (List ℕ)) (frame : Frame) (start after : State) (from : ℕ) (old new : View) → says line ≡ true → Replied line frame start after → Only old.image (Now old) → StandsForBook old.image start.total after.book → sent_now old ≡ from
+    → FrameMoments makes v frame old new → Through old new (LineMoments makes v line start from)
+reply_moments makes v line frame start after from old new said replied only stands same moments =
+    let B : Image → Type 0 = λ image. StandsForBook image start.total after.book in
+    through_so old new (λ image count. Now old image × ReplySent makes v frame (sent_now old) count) (LineMoments makes v line start from)
+    (λ image count is.
+    let P : ℕ → Type 0 = λ n. ReplySent makes v frame n count in
+    inr (record { said = said; frame = frame; after = after; replied = replied; stands = subst B (sym (only image is.0)) stands; sent = subst P same is.1 }))
+    moments
+
+pub text_step : {S F : Type 0} (makes : Makes S F) (v : S) (text : List ℕ) (total : ℕ) (book : List Series) (own : List Session) (old new : View) → length text ≤ 8192 → says (Some text) ≡ true → Passes old new (IsBeforeOrAfter (Replied (line_text text)) total book own) (Quiet old)
+    → Through old new (LineMoments makes v (Some text) (state_of book total own) (sent_now old))
+text_step makes v text total book own old new short said passes =
     let L : Option (List ℕ) → Type 0 = λ l. Passes old new (IsBeforeOrAfter (Replied l) total book own) (Quiet old) in
-    through_step (Some text) total book own old new said (subst L (text_is text short) passes)
+    step_moments makes v (Some text) total book own old new said (subst L (text_is text short) passes)
 
 -- and the moments of the step and of the sending
-pub text_moments : (text : List ℕ) (frame : Frame) (total : ℕ) (book : List Series) (own sessions : List Session) (old mid new : View) → length text ≤ 8192 → says (Some text) ≡ true → Passes old mid (IsBeforeOrAfter (Replied (line_text text)) total book own) (Quiet old)
-    → Only mid.image (Now mid) → StandsAfter total mid.image sessions (λ state. Replied (line_text text) frame (state_of book total own) state) → FrameMoments frame mid new
-    → Through old new (LineMoments (Some text) (state_of book total own) (sent_now old))
-text_moments text frame total book own sessions old mid new short said passes only after moments =
-    through_then old mid new (LineMoments (Some text) (state_of book total own) (sent_now old)) (text_step text total book own old mid short said passes)
-    (through_reply (Some text) frame total book own sessions (sent_now old) mid new said only (sent_same old mid (IsBeforeOrAfter (Replied (line_text text)) total book own) passes)
-    (text_replied text frame total (state_of book total own) mid.image sessions short after) moments)
+pub text_moments : {S F : Type 0} (makes : Makes S F) (v : S) (text : List ℕ) (frame : Frame) (total : ℕ) (book : List Series) (own sessions : List Session) (old mid new : View) → length text ≤ 8192 → says (Some text) ≡ true → Passes old mid (IsBeforeOrAfter (Replied (line_text text)) total book own) (Quiet old)
+    → Only mid.image (Now mid) → StandsAfter total mid.image sessions (λ state. Replied (line_text text) frame (state_of book total own) state) → FrameMoments makes v frame mid new
+    → Through old new (LineMoments makes v (Some text) (state_of book total own) (sent_now old))
+text_moments makes v text frame total book own sessions old mid new short said passes only after moments =
+    let done = text_replied text frame total (state_of book total own) mid.image sessions short after in
+    through_then old mid new (LineMoments makes v (Some text) (state_of book total own) (sent_now old)) (text_step makes v text total book own old mid short said passes)
+    (reply_moments makes v (Some text) frame (state_of book total own) (state_of done.book total sessions) (sent_now old) mid new said done.so only done.stands
+    (sent_same old mid (IsBeforeOrAfter (Replied (line_text text)) total book own) passes) moments)
 
--- ---- a line that is too long
+-- ---- the end of a reply
 
-pub long_replied : (frame : Frame) (total : ℕ) (book : List Series) (own : List Session) (image : Image) → frame ≡ refused LineTooLong → Fits frame → IsSound (state_of book total own) → StandsForBook image total book
-    → StandsAfter total image own (λ new. Replied None frame (state_of book total own) new)
-long_replied frame total book own image is fits sound stands = record { book = book; stands = stands; so = (record { reply = is; state = refl }, fits, sound) }
+pub stops_end : {S F : Type 0} (makes : Makes S F) (frame : Frame) (v w : S) (before now : Option (List ℕ)) (end : AnswerEnd F) → FrameStops makes frame v w before now end → IsReplyEnd end
+stops_end makes frame v w before now (Serve ReadFault) why = why
+stops_end makes frame v w before now (Serve SendFault) why = tt
+stops_end makes frame v w before now (Serve DiskFault) why = why
+stops_end makes frame v w before now (Serve (Damaged page)) why = why
+stops_end makes frame v w before now (Serve InputTooLong) why = why
+stops_end makes frame v w before now (Serve NoMemory) why = why
+stops_end makes frame v w before now (Reply e) why = tt

@@ -1,8 +1,9 @@
 -- The fields of an answered view are those that a frame may have.
-use Rattle.std.proofs.Common.{◌≡◌, ℕ, zero, suc, ℤ, ◌*◌, ◌^◌, ◌<◌, ◌≤◌, List, [], ◌∷◌, length, get_or, Option, None, Some, refl, sym, subst, inl, inr, arith}
+use Rattle.std.proofs.Common.{◌≡◌, ℕ, zero, suc, ℤ, ◌*◌, ◌^◌, ◌<◌, ◌≤◌, List, [], ◌∷◌, get_or, Option, None, Some, refl, sym, subst, inl, inr, arith}
 use Rattle.std.specs.Prelude.{AllPairs, IsSome, unsigned_abs, ◌-ℤ◌}
 use Rattle.std.proofs.lemmas.Int.{ints}
 use Rattle.std.proofs.lemmas.List.Kept.{AllPairs-cons}
+use Rattle.whole_number.specs.Range.{IsValue, IsTime}
 use Rattle.om3_coeff.specs.declared.key.Key.{Key}
 use Rattle.om3_coeff.specs.declared.coef.Coef.{Coef}
 use Rattle.om3_coeff.specs.declared.span.Span.{Span}
@@ -19,7 +20,7 @@ use Rattle.chart_service.specs.Planning.{planned_frame}
 use Rattle.chart_service.specs.Looking.{IsGoodPlan}
 use Rattle.chart_service.specs.declared.shown.Planned.{Planned}
 
-apart_small : (a b : ℤ) → unsigned_abs a ≤ 10 ^ 18 → unsigned_abs b ≤ 10 ^ 18 → unsigned_abs (a -ℤ b) ≤ 2 * 10 ^ 18
+apart_small : (a b : ℤ) → IsValue a → IsValue b → IsTime (a -ℤ b)
 apart_small a b x y = grind (arith, ints)
 
 precedes : (a b : Key × Coef) → ComesBefore a.0 b.0 → Precedes a b

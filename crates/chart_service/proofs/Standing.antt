@@ -227,10 +227,12 @@ own_open_at n cache frame old new not_full false is r =
     let P : Option Refusal → Type 0 = λ o. Opens o n cache frame (alone n old) (alone n new) in
     subst P (sym (refusal_only n cache old.sessions is)) (own_opened n cache (cache_refusal cache) frame old new (crowded n cache frame old new not_full (nat_le most_sessions (length old.sessions)) r))
 
-own_many : (n : ℕ) (series : Series) (grid : Grid) (frame : Frame) (old new : State) → NeedsTooMany series grid n frame old new → NeedsTooMany series grid n frame (alone n old) (alone n new)
-own_many n series grid frame old new many = record {
+own_many : (n : ℕ) (series : Series) (spec : ViewSpec) (frame : Frame) (old new : State) → NeedsTooMany series spec n frame old new → NeedsTooMany series spec n frame (alone n old) (alone n new)
+own_many n series spec frame old new many = record {
   session = many.session;
   open_is = only_session n old.sessions ∙ many.open_is;
+  range = many.range;
+  shown = many.shown;
   needed = many.needed;
   are_needed = many.are_needed;
   passes = many.passes;
@@ -263,7 +265,7 @@ own_rows n series spec frame old new a = record {
 }
 
 own_by : (n : ℕ) (o : Option (List Step)) (series : Series) (spec : ViewSpec) (frame : Frame) (old new : State) → AnswersBy o series spec n frame old new → AnswersBy o series spec n frame (alone n old) (alone n new)
-own_by n None series spec frame old new (inl many) = inl (own_many n series spec.grid frame old new many)
+own_by n None series spec frame old new (inl many) = inl (own_many n series spec frame old new many)
 own_by n None series spec frame old new (inr a) = inr (own_answers n series spec frame old new a)
 own_by n (Some steps) series spec frame old new a = own_rows n series spec frame old new a
 

@@ -1,24 +1,21 @@
 -- Views by the name of a series, and over another window.
-use Rattle.std.proofs.Common.{◌≡◌, ℕ, ℤ, Bool, true, ◌<◌, ◌≤◌, List, length, Option, None, Some, Result, Ok, Err, refl, sym, ap, subst}
-use Rattle.std.specs.Prelude.{IsSomeAnd, slice_get}
-use Rattle.block_disk.specs.View.{View}
+use Rattle.std.proofs.Common.{◌≡◌, ℕ, ℤ, Bool, true, List, Option, None, Some, Ok, refl, sym, ap, subst}
+use Rattle.std.specs.Prelude.{slice_get}
 use Rattle.chart_grid.specs.declared.grid.Grid.{Grid}
-use Rattle.chart_grid.specs.Projection.{HasCanvas}
 use Rattle.chart_frames.specs.declared.frame.Frame.{Frame}
 use Rattle.request_lines.specs.declared.ranges.RangeWord.{RangeWord}
 use Rattle.series_book.specs.declared.one_series.Series.{Series}
-use Rattle.series_book.specs.declared.refusals.Refusal.{Refusal}
 use Rattle.series_book.specs.declared.refusals.Refusal.TheVariants.{UnknownSeries}
 use Rattle.series_book.specs.Edits.{id_of}
 use Rattle.value_filter.specs.declared.steps.Step.{Step}
 use Rattle.zoom_session.specs.declared.session.Session.{Session}
 use Rattle.zoom_session.specs.declared.view_spec.ViewSpec.{ViewSpec}
-use Rattle.zoom_session.specs.Sessions.{is_open, session_of, last_of}
+use Rattle.zoom_session.specs.Sessions.{is_open, last_of}
 use Rattle.chart_service.specs.Looking.{ReadsBy}
 use Rattle.chart_service.specs.Planning.{IsSpec, IsMoved, IsLast, IsLastOf}
-use Rattle.chart_service.specs.Replies.{refused, Refuses, RepliesToView, ViewsId}
+use Rattle.chart_service.specs.Replies.{refused, RepliesToView, ViewsId}
 use Rattle.chart_service.specs.State.{State}
-use Rattle.chart_service.specs.Stepping.{state_of, series_at, ReadsFor, ReadsLast}
+use Rattle.chart_service.specs.Stepping.{series_at, ReadsFor, ReadsLast}
 use Rattle.chart_service.specs.declared.viewport.Viewport.{Viewport}
 
 -- no series has the name

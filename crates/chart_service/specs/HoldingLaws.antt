@@ -1,5 +1,5 @@
 -- Of what a service holds there is one proof.
-use Rattle.std.specs.Prelude.{ℕ, List, All, Option, None, Some}
+use Rattle.std.specs.Prelude.{ℕ, List, Option, None, Some}
 use Rattle.std.proofs.Common.{refl, ◌∙◌}
 use Rattle.std.proofs.Props.{props}
 use Rattle.zoom_session.specs.declared.session.Session.{Session}

@@ -7,7 +7,15 @@ pub mod Alone
 pub mod Stepping
 pub mod Looking
 pub mod Serving
-pub mod Sending
 pub mod Moments
+pub mod MomentLaws
+pub mod SentLaws
+pub mod Making
+pub mod Spelled
+pub mod Knowing
+pub mod Answering
+pub mod Telling
+pub mod Called
 pub mod Holding
 pub mod HoldingLaws
+pub mod Shown

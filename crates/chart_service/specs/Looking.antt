@@ -1,5 +1,5 @@
 -- What a request that is no edit does. Private contracts are stated by these words.
-use Rattle.std.specs.Prelude.{ℕ, ◌≡◌, ◌+◌, ◌≤◌, List, Option, None, Some, Result, IfOk, IfErr, OnErr, slice_get, ⊤}
+use Rattle.std.specs.Prelude.{ℕ, ◌≡◌, ◌≤◌, List, Option, None, Some, Result, IfOk, IfErr, OnErr, ⊤}
 use Rattle.block_disk.specs.Counts.{HasRisen}
 use Rattle.block_disk.specs.View.{View, Now, Passes}
 use Rattle.chart_frames.specs.declared.frame.Frame.{Frame}
@@ -11,14 +11,13 @@ use Rattle.page_space.specs.declared.superblock.Superblock.{Superblock}
 use Rattle.request_lines.specs.declared.requests.Request.{Request}
 use Rattle.request_lines.specs.declared.requests.Request.TheVariants.{Edit as EditRequest, Open, View as ViewRequest, Zoom, Pan, Close}
 use Rattle.series_book.specs.declared.one_series.Series.{Series}
-use Rattle.store_catalog.specs.declared.stored_series.StoredSeries.{StoredSeries}
+use Rattle.series_catalog.specs.declared.stored_series.StoredSeries.{StoredSeries}
 use Rattle.value_filter.specs.declared.steps.Step.{Step}
 use Rattle.zoom_session.specs.declared.errors.PlanError.{PlanError}
 use Rattle.zoom_session.specs.declared.errors.PlanError.TheVariants as plan
 use Rattle.filter_scan.specs.declared.scan_error.ScanError.{ScanError}
 use Rattle.filter_scan.specs.declared.scan_error.ScanError.TheVariants as scan
 use Rattle.zoom_session.specs.declared.session.Session.{Session}
-use Rattle.zoom_session.specs.declared.view_spec.ViewSpec.{ViewSpec}
 use Rattle.zoom_session.specs.Planned.{IsInBounds}
 use Rattle.zoom_session.specs.Plans.{HasEntries}
 use Rattle.chart_service.specs.Opening.{OpensBy, LosesAtMost}

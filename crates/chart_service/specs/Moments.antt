@@ -1,17 +1,24 @@
 -- What a crash leaves at each moment of a serving, and how many bytes were sent by then.
-use Rattle.std.specs.Prelude.{ℕ, ◌≡◌, ◌+◌, ◌≤◌, ◌⊎◌, true, List, [], ◌∷◌, ◌++◌, length, Option}
+use Rattle.std.specs.Prelude.{ℕ, ◌≡◌, ◌+◌, ◌<◌, ◌≤◌, ◌⊎◌, true, List, [], ◌∷◌, ◌++◌, length, Option}
 use Rattle.block_disk.specs.View.{Image, View}
+use Rattle.chart_world.specs.Fronts.{BeginsWith, says}
 use Rattle.gate_pages.specs.Pages.{GoesOn}
 use Rattle.chart_frames.specs.declared.frame.Frame.{Frame}
 use Rattle.stored_book.specs.Standing.{StandsForBook}
 use Rattle.chart_service.specs.State.{State}
-use Rattle.chart_service.specs.Serving.{Answers, AnswersNext, BeginsWith, told, says}
+use Rattle.chart_service.specs.Serving.{Answers, AnswersNext, told}
 
 -- Time goes on from old to new. At each moment since, an image that a crash may leave and the number of bytes sent by
 -- then are so.
 pub record Since (old new : View) (IsSo : Image → ℕ → Type 0) : Type 0 where
   pub goes : GoesOn old new
   pub here : (at : ℕ) (image : Image) → old.clock ≤ at → at ≤ new.clock → new.crash at image → IsSo image (new.sent_by at)
+
+-- Time goes on from old to new. At each later moment an image that a crash may leave and the number of bytes sent by
+-- then are so.
+pub record Through (old new : View) (IsSo : Image → ℕ → Type 0) : Type 0 where
+  pub goes : GoesOn old new
+  pub here : (at : ℕ) (image : Image) → old.clock < at → at ≤ new.clock → new.crash at image → IsSo image (new.sent_by at)
 
 -- no more bytes were sent than the text of the lines and the reply of the next line, whose frame is this
 pub record SendsReply (IsText : List (Option (List ℕ)) → List Frame → List ℕ → Type 0) (lines : List (Option (List ℕ))) (frames : List Frame) (text : List ℕ) (line : Option (List ℕ)) (frame : Frame) (from count : ℕ) : Type 0 where

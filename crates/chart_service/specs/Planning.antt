@@ -12,7 +12,8 @@ use Rattle.om3_coeff.specs.declared.errors.NodeError.TheVariants.{DiskFault as A
 use Rattle.om3_coeff.specs.Keys.{height}
 use Rattle.om3_coeff.specs.Spans.{IsProperIfAny, span_over}
 use Rattle.om3_coeff.specs.View.{NodesView, HasCause}
-use Rattle.plain_chart.specs.Samples.{kept, values_of}
+use Rattle.plain_chart.specs.declared.value_range.ValueRange.{ValueRange}
+use Rattle.plain_chart.specs.Samples.{kept, values_of, sample_points}
 use Rattle.request_lines.specs.declared.ranges.RangeWord.{RangeWord}
 use Rattle.value_filter.specs.declared.steps.Step.{Step}
 use Rattle.value_filter.specs.declared.faults.FilterFault.{FilterFault}
@@ -22,7 +23,6 @@ use Rattle.value_filter.specs.Steps.{postfix}
 use Rattle.value_filter.specs.Grammar.{IsFilter, LeavesAt}
 use Rattle.m4_groups.specs.Rows.{AreRising, AreRowsOf}
 use Rattle.needed_nodes.specs.Answers.{IsShownRow}
-use Rattle.filter_scan.specs.Answers.{points_of}
 use Rattle.filter_scan.specs.declared.scan_error.ScanError.{ScanError}
 use Rattle.filter_scan.specs.declared.scan_error.ScanError.TheVariants as scan
 use Rattle.series_book.specs.declared.one_series.Series.{Series}
@@ -32,7 +32,7 @@ use Rattle.zoom_session.specs.declared.session.Session.{Session}
 use Rattle.zoom_session.specs.declared.view_spec.ViewSpec.{ViewSpec}
 use Rattle.zoom_session.specs.declared.errors.PlanError.{PlanError}
 use Rattle.zoom_session.specs.declared.errors.PlanError.TheVariants.{TooLarge, Node, NoMemory}
-use Rattle.zoom_session.specs.Plans.{PlansIn, IsTooMany}
+use Rattle.zoom_session.specs.Plans.{PlansIn, IsTooMany, CountsNeeded}
 use Rattle.zoom_session.specs.Planned.{IsInBounds}
 use Rattle.chart_frames.specs.Frames.{IsRange}
 use Rattle.chart_frames.specs.declared.frame.ViewFrame.{ViewFrame}
@@ -115,7 +115,7 @@ IsFilterOf (Some text) (Err filter_fault.NoMemory) = ⊤
 
 -- what a filtered view shows of a list of slots with these times
 pub record ShowsOf (list : List (Option ℤ)) (axis : Axis) (spec : ViewSpec) (shown : ShownRows) : Type 0 where
-  pub rows : AreRowsOf spec.grid (points_of (kept_of spec axis list)) shown.rows
+  pub rows : AreRowsOf spec.grid (sample_points (kept_of spec axis list)) shown.rows
   pub range : ShowsRange spec.range (values_of (kept_of spec axis list)) shown.range
 
 -- the rows and the range are those that a frame for a canvas of w columns may have
@@ -142,31 +142,41 @@ RefusesView (Some session) old new (TooLarge needed cache) = IsTooMany session n
 RefusesView (Some session) old new (Node error) = HasCause old new error
 RefusesView (Some session) old new NoMemory = ⊤
 
+-- a view that is too large needs, over the range that it shows, just as many keys as the error says
+abbrev pub CountsOver : List (Option ℤ) → Axis → ViewSpec → PlanError → Type 0
+CountsOver list axis spec (TooLarge needed cache) =
+    (range : ValueRange) × ShowsRange spec.range (values_of (kept spec.grid axis list)) range
+    × CountsNeeded list axis spec.grid range.lo range.hi (TooLarge needed cache)
+CountsOver list axis spec (Node error) = ⊤
+CountsOver list axis spec NoMemory = ⊤
+
 -- the most blocks that a view's asks read: those for the keys that it needs, and those for the range
 abbrev pub most_view_reads : ℕ → ℕ → ℕ
 most_view_reads w n = (4 * w + 4) * height n
 
 -- what is planned for a view of a series in a session
 pub record IsPlannedFor (series : Series) (spec : ViewSpec) (session : Option Session) (planned : Planned) : Type 0 where
-  pub needed : AreNeeded series spec.grid planned.plan.needed
+  pub needed : AreNeeded series spec.grid planned.told.range planned.plan.needed
   pub plan : PlansIn session spec.series planned.plan
   pub bounds : IsInBounds planned.plan
   pub told : TellsOf series.slots (axis_of series) spec planned.told
   pub in_frame : AreInFrame planned.told
 
 -- why it isn't planned: the view needs too many keys, or the disk failed
-pub record IsTooLarge (series : Series) (grid : Grid) (session : Session) (needed cache : ℕ) : Type 0 where
+pub record IsTooLarge (series : Series) (spec : ViewSpec) (session : Session) (needed cache : ℕ) : Type 0 where
+  pub range : ValueRange
+  pub shown : ShowsRange spec.range (values_of (kept spec.grid (axis_of series) series.slots)) range
   pub keys : List (Key × Coef)
-  pub are_needed : AreNeeded series grid keys
+  pub are_needed : AreNeeded series spec.grid range keys
   pub counted : length keys ≡ needed
   pub capacity : cache ≡ session.cache.capacity
   pub passes : cache < needed
 
-abbrev pub StopsIn : Series → Grid → Option Session → PlanError → Type 0
-StopsIn series grid None error = ⊥
-StopsIn series grid (Some session) (TooLarge needed cache) = IsTooLarge series grid session needed cache
-StopsIn series grid (Some session) (Node error) = error ≡ AtDisk
-StopsIn series grid (Some session) NoMemory = ⊤
+abbrev pub StopsIn : Series → ViewSpec → Option Session → PlanError → Type 0
+StopsIn series spec None error = ⊥
+StopsIn series spec (Some session) (TooLarge needed cache) = IsTooLarge series spec session needed cache
+StopsIn series spec (Some session) (Node error) = error ≡ AtDisk
+StopsIn series spec (Some session) NoMemory = ⊤
 
 -- the fields of the frame of what is planned
 abbrev pub planned_frame : ℕ → ℕ → Grid → Told → List (Key × Coef) → ViewFrame
@@ -191,4 +201,4 @@ planned_frame number id grid told send = record {
 
 abbrev pub PlansOrStops : Series → ViewSpec → Option Session → Result Planned PlanError → Type 0
 PlansOrStops series spec session (Ok planned) = IsPlannedFor series spec session planned
-PlansOrStops series spec session (Err error) = StopsIn series spec.grid session error
+PlansOrStops series spec session (Err error) = StopsIn series spec session error

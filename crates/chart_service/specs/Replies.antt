@@ -16,6 +16,8 @@ use Rattle.request_lines.specs.Requests.{read_line}
 use Rattle.chart_grid.specs.declared.grid.Grid.{Grid}
 use Rattle.chart_grid.specs.Limits.{IsWindow, IsSide, IsBadWindow, IsBadSide}
 use Rattle.chart_grid.specs.Projection.{ShowsWindow, HasCanvas}
+use Rattle.plain_chart.specs.declared.value_range.ValueRange.{ValueRange}
+use Rattle.plain_chart.specs.Samples.{kept, values_of}
 use Rattle.om3_coeff.specs.declared.key.Key.{Key}
 use Rattle.om3_coeff.specs.declared.coef.Coef.{Coef}
 use Rattle.zoom_session.specs.declared.session.Session.{Session}
@@ -26,7 +28,7 @@ use Rattle.chart_frames.specs.declared.frame.Frame.{Frame}
 use Rattle.chart_frames.specs.declared.frame.Frame.TheVariants.{Done, Refused, Opened, Closed}
 use Rattle.chart_frames.specs.Frames.{Fits}
 use Rattle.chart_service.specs.State.{State, IsSound}
-use Rattle.chart_service.specs.Viewing.{IsGoodRange, IsBadRange, range_spec, AreNeeded, Answers, AnswersRows}
+use Rattle.chart_service.specs.Viewing.{IsGoodRange, IsBadRange, range_spec, ShowsRange, axis_of, AreNeeded, Answers, AnswersRows}
 
 -- the frame of a refusal
 abbrev pub refused : Refusal → Frame
@@ -58,19 +60,21 @@ abbrev pub cache_of : Option ℕ → ℕ
 cache_of None = 65536
 cache_of (Some cache) = cache
 
--- the view needs more keys than the session's client keeps
-pub record NeedsTooMany (series : Series) (grid : Grid) (number : ℕ) (answer : Frame) (old new : State) : Type 0 where
+-- the view needs more keys, over the range that it shows, than the session's client keeps
+pub record NeedsTooMany (series : Series) (spec : ViewSpec) (number : ℕ) (answer : Frame) (old new : State) : Type 0 where
   pub session : Session
   pub open_is : session_of number old.sessions ≡ Some session
+  pub range : ValueRange
+  pub shown : ShowsRange spec.range (values_of (kept spec.grid (axis_of series) series.slots)) range
   pub needed : List (Key × Coef)
-  pub are_needed : AreNeeded series grid needed
+  pub are_needed : AreNeeded series spec.grid range needed
   pub passes : session.cache.capacity < length needed
   pub refuses : Refuses (ViewTooLarge (length needed) session.cache.capacity) answer old new
 
 -- the reply to a view of a series that is in range, by its filter
 abbrev pub AnswersBy : Option (List Step) → Series → ViewSpec → ℕ → Frame → State → State → Type 0
 AnswersBy None series spec number answer old new =
-    NeedsTooMany series spec.grid number answer old new ⊎ Answers series spec number answer old new
+    NeedsTooMany series spec number answer old new ⊎ Answers series spec number answer old new
 AnswersBy (Some steps) series spec number answer old new = AnswersRows series spec number answer old new
 
 abbrev pub AnswersView : Series → ViewSpec → ℕ → Frame → State → State → Type 0

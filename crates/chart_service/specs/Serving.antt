@@ -1,15 +1,16 @@
 -- What is sent for the lines of an input: the frames that answer those that aren't empty, as a text.
-use Rattle.std.specs.Prelude.{◌≡◌, ℕ, ◌-◌, ◌^◌, ◌<◌, ◌≤◌, ◌⊎◌, Bool, true, false, List, [], ◌∷◌, ◌++◌, length, take, flat_map, Option, None, Some, IfSome, ⊤}
+use Rattle.std.specs.Prelude.{◌≡◌, ℕ, ◌-◌, ◌^◌, ◌<◌, ◌≤◌, ◌⊎◌, List, [], ◌∷◌, ◌++◌, length, take, flat_map, Option, IfSome, ⊤}
 use Rattle.std.specs.List.{filter}
-use Rattle.block_disk.specs.Streams.{sent_after, PartSent}
-use Rattle.block_disk.specs.View.{Image, View}
+use Rattle.block_disk.specs.Streams.{sent_after}
+use Rattle.block_disk.specs.View.{Image, View, DiskKept}
 use Rattle.chart_world.specs.declared.line_answer.LineFault.{LineFault}
 use Rattle.chart_world.specs.declared.line_answer.LineFault.TheVariants as fault
+use Rattle.chart_world.specs.Fronts.{says, BeginsWith}
 use Rattle.chart_world.specs.Lines.{lines, NoLineFeed}
+use Rattle.gate_pages.specs.Pages.{GoesOn}
 use Rattle.chart_frames.specs.declared.frame.Frame.{Frame}
 use Rattle.chart_frames.specs.Frames.{spelling}
-use Rattle.series_book.specs.declared.one_series.Series.{Series}
-use Rattle.store_catalog.specs.declared.stored_series.StoredSeries.{StoredSeries}
+use Rattle.series_catalog.specs.declared.stored_series.StoredSeries.{StoredSeries}
 use Rattle.zoom_session.specs.declared.session.Session.{Session}
 use Rattle.chart_service.specs.State.{State}
 use Rattle.chart_service.specs.Replies.{Replied}
@@ -18,12 +19,6 @@ use Rattle.chart_service.specs.declared.failure.ServiceError.{ServiceError}
 use Rattle.chart_service.specs.declared.failure.ServiceError.TheVariants as step
 use Rattle.chart_service.specs.declared.failure.ServeEnd.{ServeEnd}
 use Rattle.chart_service.specs.declared.failure.ServeEnd.TheVariants.{ReadFault, SendFault, DiskFault, Damaged, InputTooLong, NoMemory}
-
--- the line says something: it isn't empty, or it is too long
-abbrev pub says : Option (List ℕ) → Bool
-says None = true
-says (Some []) = false
-says (Some (byte ∷ bytes)) = true
 
 -- the lines that are answered: those that aren't empty
 abbrev pub told : List ℕ → List (Option (List ℕ))
@@ -42,16 +37,6 @@ pub record Answers (IsText : List (Option (List ℕ)) → List Frame → List �
   pub frames : List Frame
   pub replied : RepliesToAll old (told bytes) frames new
   pub texts : IsText (told bytes) frames text
-
--- no byte, or whole lines with their line feeds
-abbrev pub IsWhole : List ℕ → Type 0
-IsWhole bytes = (bytes ≡ []) ⊎ ((before : List ℕ) × (bytes ≡ before ++ 10 ∷ []))
-
--- The input begins with these bytes, and this stands behind them. Each of their lines has its line
--- feed, or the input ends with it.
-pub record BeginsWith (input front rest : List ℕ) : Type 0 where
-  pub split : input ≡ front ++ rest
-  pub whole : IsWhole front ⊎ (rest ≡ [])
 
 -- the text for the whole input was sent
 pub record SendsText (IsText : List (Option (List ℕ)) → List Frame → List ℕ → Type 0) (input : List ℕ) (old new : State) (before now : Option (List ℕ)) : Type 0 where
@@ -86,10 +71,11 @@ pub record SendsTaken (IsText : List (Option (List ℕ)) → List Frame → List
   pub taken : rest ≡ partial ++ before_left
   pub unended : NoLineFeed partial
 
--- all lines that ended among the first 2^32 bytes were answered, and there is a byte more
+-- the lines that ended among the first 2^32 bytes were answered, all and no other, and there is a byte more
 pub record SendsWithin (IsText : List (Option (List ℕ)) → List Frame → List ℕ → Type 0) (input : List ℕ) (old new : State) (before now : Option (List ℕ)) : Type 0 where
   pub rest : List ℕ
   pub first : SendsFirst IsText input rest old new before now
+  pub few : length first.front ≤ 2 ^ 32
   pub unended : NoLineFeed (take (2 ^ 32 - length first.front) rest)
   pub past : 2 ^ 32 < length input
 
@@ -154,6 +140,13 @@ pub record Serves (told_old told_new : Type 0) (old new : View) : Type 0 where
   pub faults : old.faults ≤ new.faults
   pub syncs : old.syncs ≤ new.syncs
   pub writes : old.writes ≤ new.writes
+
+-- the pages stay
+pub record KeepsPages (told_old told_new : Type 0) (old new under under' : View) : Type 0 where
+  pub disk : DiskKept old new
+  pub told : told_old → told_new
+  pub was_told : told_new → told_old
+  pub goes_on : GoesOn under under'
 
 -- what a fault of the lines is for the serving
 abbrev pub end_of : LineFault → ServeEnd

@@ -1,5 +1,5 @@
 -- What a step does: over the book that the pages of the store stand for, and to these pages.
-use Rattle.std.specs.Prelude.{ℕ, ◌≡◌, ◌+◌, ◌*◌, ◌≤◌, ◌<◌, ◌⊎◌, List, length, Option, None, Some, Result, Ok, Err, MatchOption, slice_get, ⊤}
+use Rattle.std.specs.Prelude.{ℕ, ◌≡◌, ◌+◌, ◌≤◌, ◌<◌, ◌⊎◌, List, length, Option, None, Some, Result, Ok, Err, MatchOption, slice_get, ⊤}
 use Rattle.block_disk.specs.Counts.{HasRisen}
 use Rattle.block_disk.specs.View.{Image, View, Rises}
 use Rattle.chart_frames.specs.declared.frame.Frame.{Frame}
@@ -11,7 +11,7 @@ use Rattle.request_lines.specs.Requests.{read_line}
 use Rattle.series_book.specs.declared.one_series.Series.{Series}
 use Rattle.series_book.specs.Edits.{id_of}
 use Rattle.series_store.specs.Results.{IsUnchanged}
-use Rattle.store_catalog.specs.declared.stored_series.StoredSeries.{StoredSeries}
+use Rattle.series_catalog.specs.declared.stored_series.StoredSeries.{StoredSeries}
 use Rattle.stored_book.specs.Standing.{StandsForBook}
 use Rattle.tree_walk.specs.Paths.{IsDamaged}
 use Rattle.zoom_session.specs.declared.session.Session.{Session}

@@ -1,5 +1,6 @@
 -- An answered view: its frame, and the chart that it stands for.
 use Rattle.std.specs.Prelude.{◌≡◌, ◌⊎◌, ℕ, ℤ, pos, ◌^◌, ◌<◌, ◌≤◌, ◌≤ℤ◌, ◌<ℤ◌, unsigned_abs, ⊤, List, length, filter, Option, None, Some}
+use Rattle.whole_number.specs.declared.limits.TheConstants.{GREATEST_VALUE}
 use Rattle.series_book.specs.declared.one_series.Series.{Series}
 use Rattle.request_lines.specs.declared.ranges.RangeWord.{RangeWord}
 use Rattle.request_lines.specs.declared.ranges.RangeWord.TheVariants as word
@@ -20,13 +21,13 @@ use Rattle.zoom_session.specs.declared.view_spec.RangeSpec.TheVariants.{Auto, Fi
 use Rattle.zoom_session.specs.Sessions.{session_of, viewed}
 use Rattle.plain_chart.specs.declared.value_range.ValueRange.{ValueRange}
 use Rattle.plain_chart.specs.declared.sample.Sample.{Sample}
-use Rattle.plain_chart.specs.Samples.{kept, values_of, IsRange, IsValue}
+use Rattle.plain_chart.specs.Samples.{kept, values_of, IsRange, sample_points}
+use Rattle.whole_number.specs.Range.{IsValue}
 use Rattle.line_raster.specs.Canvas.{Canvas}
 use Rattle.plain_chart.specs.Chart.{IsChart}
 use Rattle.m4_groups.specs.declared.row.Row.{Row}
 use Rattle.m4_groups.specs.Rows.{AreRowsOf}
 use Rattle.query_rewriter.specs.Kept.{passes}
-use Rattle.filter_scan.specs.Answers.{points_of}
 use Rattle.chart_frames.specs.declared.frame.Frame.{Frame}
 use Rattle.chart_frames.specs.declared.frame.Frame.TheVariants.{View, Rows}
 use Rattle.chart_frames.specs.declared.frame.ViewFrame.{ViewFrame}
@@ -45,7 +46,7 @@ IsGoodRange (word.Fixed lo hi) = (lo ≤ℤ hi) × IsValue lo × IsValue hi
 -- they are out of order, or one passes 10^18 in size
 abbrev pub IsBadRange : RangeWord → Type 0
 IsBadRange word.Auto = ⊥
-IsBadRange (word.Fixed lo hi) = (hi <ℤ lo) ⊎ ((10 ^ 18 < unsigned_abs lo) ⊎ (10 ^ 18 < unsigned_abs hi))
+IsBadRange (word.Fixed lo hi) = (hi <ℤ lo) ⊎ ((GREATEST_VALUE < unsigned_abs lo) ⊎ (GREATEST_VALUE < unsigned_abs hi))
 
 -- the range of a view by the word that asks for it
 abbrev pub range_spec : RangeWord → RangeSpec
@@ -95,21 +96,21 @@ view_frame number spec range series send = record {
   coefs = send;
 }
 
--- the keys that a view of a series needs, with their present coefficients, in order
-abbrev pub AreNeeded : Series → Grid → List (Key × Coef) → Type 0
-AreNeeded series grid needed =
-    IsListOf (IsNeeded series.slots (axis_of series) grid) (λ k. Some (coef series.slots k)) needed
+-- the keys that a view of a series over this range needs, with their present coefficients, in order
+abbrev pub AreNeeded : Series → Grid → ValueRange → List (Key × Coef) → Type 0
+AreNeeded series grid range needed =
+    IsListOf (IsNeeded series.slots (axis_of series) grid range.lo range.hi) (λ k. Some (coef series.slots k)) needed
 
 -- The view, which has no filter, is answered: of the keys that it needs those are sent which the session's client lacks or
 -- holds with an old coefficient, and the session keeps the view and the client's list.
 pub record Answers (series : Series) (spec : ViewSpec) (number : ℕ) (answer : Frame) (old new : State) : Type 0 where
   pub session : Session
   pub open_is : session_of number old.sessions ≡ Some session
-  pub needed : List (Key × Coef)
-  pub are_needed : AreNeeded series spec.grid needed
-  pub room : length needed ≤ session.cache.capacity
   pub range : ValueRange
   pub shown : ShowsRange spec.range (values_of (kept spec.grid (axis_of series) series.slots)) range
+  pub needed : List (Key × Coef)
+  pub are_needed : AreNeeded series spec.grid range needed
+  pub room : length needed ≤ session.cache.capacity
   pub frame_is : answer ≡ View (view_frame number spec range series (to_send session.cache.pairs spec.series needed))
   pub state : new ≡ record old { sessions = viewed number spec (Some needed) old.sessions }
 
@@ -142,7 +143,7 @@ pub record AnswersRows (series : Series) (spec : ViewSpec) (number : ℕ) (answe
   pub range : ValueRange
   pub shown : ShowsRange spec.range (values_of (kept_by spec series)) range
   pub rows : List Row
-  pub are_rows : AreRowsOf spec.grid (points_of (kept_by spec series)) rows
+  pub are_rows : AreRowsOf spec.grid (sample_points (kept_by spec series)) rows
   pub frame_is : answer ≡ Rows (rows_frame number spec range rows)
   pub state : new ≡ record old { sessions = viewed number spec None old.sessions }
 

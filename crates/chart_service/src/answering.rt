@@ -5,11 +5,11 @@ ghost use Rattle.series_book.specs.declared.one_series.Series.{Series};
 ghost use Rattle.stored_book.specs.Standing.{StandsForBook};
 ghost use Rattle.zoom_session.specs.Sessions.{is_open, session_of};
 ghost use Rattle.chart_service.specs.Holding.{IsViewIn};
-ghost use Rattle.chart_service.specs.Looking.{Looks, Looked, Replying, ReadsBy, IsPlanCause, IsScanCause, IsOfPages, IsGoodPlan, error_of};
+ghost use Rattle.chart_service.specs.Looking.{IsPlanCause, IsScanCause, IsOfPages, IsGoodPlan, error_of};
 ghost use Rattle.chart_service.specs.Planning.{PlansOrStops, ShowsOrStops, FitInFrame};
-ghost use Rattle.chart_service.specs.Replies.{AnswersBy};
 ghost use Rattle.chart_service.specs.Stepping.{ReadsFor};
-ghost use Rattle.chart_service.specs.Viewing.{AnswersRows};
+ghost use Rattle.chart_service.specs.Called.{HasCoefs, HasRows, LooksIn, LooksOnly, ReadsAny, ReadsForSpec, RepliesOver};
+ghost use Rattle.chart_service.specs.Shown as shown;
 
 use crate::failure::ServiceError;
 use crate::refusals::refused;
@@ -39,13 +39,12 @@ fn node_error(error: NodeError) -> ServiceError
 impl<P: Pages> Service<P> {
     /// Answers a filtered view by the rows of what it keeps.
     pub(crate) fn answer_rows(&mut self, number: u32, spec: ViewSpec) -> Result<Frame, ServiceError>
-        requires sound { (P.view self.old.store.space.pages).fit }
+        requires sound { (shown.view self.old).fit }
         requires number { 1 ≤ number }
         requires opened { IsTrue (is_open number self.old.sessions) }
-        requires view { IsViewIn (length self.old.store.catalog.series.items) spec }
-        ensures replying { (total : ℕ) (book : List Series) → P.told self.old.store.space.pages → StandsForBook (P.view self.old.store.space.pages).image total book
-            → Replying (λ frame old new. IsSomeAnd (slice_get old.book spec.series) (λ series. AnswersRows series spec number frame old new)) (λ old new. Unit {0}) result total book self.old.sessions self.new.sessions (P.view self.old.store.space.pages) (P.view self.new.store.space.pages) }
-        ensures looked { Looked (Some number) result self.old.sessions self.new.sessions (P.told self.old.store.space.pages) (P.told self.new.store.space.pages) (P.view self.old.store.space.pages) (P.view self.new.store.space.pages) (P.under self.old.store.space.pages) (P.under self.new.store.space.pages) self.old.store.space.superblock self.new.store.space.superblock self.old.store.catalog.series.items self.new.store.catalog.series.items }
+        requires view { IsViewIn (length (shown.catalog self.old)) spec }
+        ensures replying { RepliesOver (HasRows spec number) ReadsAny result self.old self.new }
+        ensures looked { LooksIn (Some number) result self.old self.new }
     {
         let shown = match self.rows(&spec) {
             Ok(shown) => shown,
@@ -61,13 +60,12 @@ impl<P: Pages> Service<P> {
 
     /// What a filtered view of a series shows.
     fn rows(&mut self, spec: &ViewSpec) -> Result<ShownRows, ScanError>
-        requires sound { (P.view self.old.store.space.pages).fit }
-        requires view { IsViewIn (length self.old.store.catalog.series.items) spec.now }
-        ensures shown { (total : ℕ) (book : List Series) → P.told self.old.store.space.pages → StandsForBook (P.view self.old.store.space.pages).image total book
-            → IsSomeAnd (slice_get book spec.now.series) (λ series. ShowsOrStops series spec.now result) }
+        requires sound { (shown.view self.old).fit }
+        requires view { IsViewIn (length (shown.catalog self.old)) spec.now }
+        ensures shown { shown.ForBook self.old (λ total book. IsSomeAnd (slice_get book spec.now.series) (λ series. ShowsOrStops series spec.now result)) }
         ensures fit { IfOk result (FitInFrame spec.now.grid.w) }
-        ensures cause { IfErr result (λ error. IsScanCause error (P.told self.old.store.space.pages) self.old.store.catalog.series.items self.old.store.space.superblock.total (P.view self.old.store.space.pages) (P.view self.new.store.space.pages)) }
-        ensures looks { Looks (P.told self.old.store.space.pages) (P.told self.new.store.space.pages) (P.view self.old.store.space.pages) (P.view self.new.store.space.pages) (P.under self.old.store.space.pages) (P.under self.new.store.space.pages) self.old.store.space.superblock self.new.store.space.superblock self.old.store.catalog.series.items self.new.store.catalog.series.items }
+        ensures cause { IfErr result (λ error. IsScanCause error (shown.IsTold self.old) (shown.catalog self.old) (shown.total self.old) (shown.view self.old) (shown.view self.new)) }
+        ensures looks { LooksOnly self.old self.new }
         ensures sessions { self.new.sessions ≡ self.old.sessions }
     {
         let axis = selected(&mut self.store, spec.series);
@@ -80,14 +78,13 @@ impl<P: Pages> Service<P> {
         number: u32,
         spec: ViewSpec,
     ) -> Result<Frame, ServiceError>
-        requires sound { (P.view self.old.store.space.pages).fit }
+        requires sound { (shown.view self.old).fit }
         requires number { 1 ≤ number }
         requires opened { IsTrue (is_open number self.old.sessions) }
-        requires view { IsViewIn (length self.old.store.catalog.series.items) spec }
+        requires view { IsViewIn (length (shown.catalog self.old)) spec }
         requires unfiltered { spec.filter ≡ None }
-        ensures replying { (total : ℕ) (book : List Series) → P.told self.old.store.space.pages → StandsForBook (P.view self.old.store.space.pages).image total book
-            → Replying (λ frame old new. IsSomeAnd (slice_get old.book spec.series) (λ series. AnswersBy None series spec number frame old new)) (ReadsFor spec.grid.w (slice_get book spec.series)) result total book self.old.sessions self.new.sessions (P.view self.old.store.space.pages) (P.view self.new.store.space.pages) }
-        ensures looked { Looked (Some number) result self.old.sessions self.new.sessions (P.told self.old.store.space.pages) (P.told self.new.store.space.pages) (P.view self.old.store.space.pages) (P.view self.new.store.space.pages) (P.under self.old.store.space.pages) (P.under self.new.store.space.pages) self.old.store.space.superblock self.new.store.space.superblock self.old.store.catalog.series.items self.new.store.catalog.series.items }
+        ensures replying { RepliesOver (HasCoefs spec number) (ReadsForSpec spec) result self.old self.new }
+        ensures looked { LooksIn (Some number) result self.old self.new }
     {
         let planned = match self.plan(number, &spec) {
             Ok(planned) => planned,
@@ -110,17 +107,15 @@ impl<P: Pages> Service<P> {
 
     /// What a view of a series takes and tells.
     fn plan(&mut self, number: u32, spec: &ViewSpec) -> Result<Planned, PlanError>
-        requires sound { (P.view self.old.store.space.pages).fit }
+        requires sound { (shown.view self.old).fit }
         requires opened { IsTrue (is_open number self.old.sessions) }
-        requires view { IsViewIn (length self.old.store.catalog.series.items) spec.now }
+        requires view { IsViewIn (length (shown.catalog self.old)) spec.now }
         requires unfiltered { spec.now.filter ≡ None }
-        ensures planned { (total : ℕ) (book : List Series) → P.told self.old.store.space.pages → StandsForBook (P.view self.old.store.space.pages).image total book
-            → IsSomeAnd (slice_get book spec.now.series) (λ series. PlansOrStops series spec.now (session_of number self.old.sessions) result) }
+        ensures planned { shown.ForBook self.old (λ total book. IsSomeAnd (slice_get book spec.now.series) (λ series. PlansOrStops series spec.now (session_of number self.old.sessions) result)) }
         ensures good { IfOk result IsGoodPlan }
-        ensures cause { IfErr result (λ error. IsPlanCause error (P.told self.old.store.space.pages) self.old.store.catalog.series.items self.old.store.space.superblock.total (P.view self.old.store.space.pages) (P.view self.new.store.space.pages)) }
-        ensures looks { Looks (P.told self.old.store.space.pages) (P.told self.new.store.space.pages) (P.view self.old.store.space.pages) (P.view self.new.store.space.pages) (P.under self.old.store.space.pages) (P.under self.new.store.space.pages) self.old.store.space.superblock self.new.store.space.superblock self.old.store.catalog.series.items self.new.store.catalog.series.items }
-        ensures reads { (total : ℕ) (book : List Series) → P.told self.old.store.space.pages → StandsForBook (P.view self.old.store.space.pages).image total book
-            → ReadsFor spec.now.grid.w (slice_get book spec.now.series) (P.view self.old.store.space.pages).reads (P.view self.new.store.space.pages).reads }
+        ensures cause { IfErr result (λ error. IsPlanCause error (shown.IsTold self.old) (shown.catalog self.old) (shown.total self.old) (shown.view self.old) (shown.view self.new)) }
+        ensures looks { LooksOnly self.old self.new }
+        ensures reads { shown.ForBook self.old (λ total book. ReadsFor spec.now.grid.w (slice_get book spec.now.series) (shown.view self.old).reads (shown.view self.new).reads) }
         ensures sessions { self.new.sessions ≡ self.old.sessions }
         ensures few { spec.now.series < 512 }
     {

@@ -9,6 +9,8 @@ ghost use Rattle.stored_book.specs.Standing.{StandsForBook};
 ghost use Rattle.request_lines.specs.declared.requests.Request.TheVariants.{Edit as EditRequest};
 ghost use Rattle.chart_service.specs.Opening.{OpensBy};
 ghost use Rattle.chart_service.specs.Stepping.{StandsAfter, state_of, RepliedTo, IsBeforeOrAfter, IsStepCause, IsOutside, IsUnchangedBy, IsUnchangedFor, Steps};
+ghost use Rattle.chart_service.specs.Called.{AnswersSo, CommitsOnly, IsCause};
+ghost use Rattle.chart_service.specs.Shown as shown;
 
 use crate::failure::ServiceError;
 use crate::refusals::refused;
@@ -21,23 +23,21 @@ use series_store::StoreError;
 impl<P: Pages> Service<P> {
     /// Does an edit, in one commit.
     pub(crate) fn edit(&mut self, edit: &Edit) -> Result<Frame, ServiceError>
-        requires sound { (P.view self.old.store.space.pages).fit }
+        requires sound { (shown.view self.old).fit }
         requires is_edit { IsEdit edit.now }
-        ensures reply { (total : ℕ) (book : List Series) → P.told self.old.store.space.pages → StandsForBook (P.view self.old.store.space.pages).image total book
-            → IfOk result (λ frame. StandsAfter total (P.view self.new.store.space.pages).image self.new.sessions (λ new. RepliedTo (EditRequest edit.now) frame (state_of book total self.old.sessions) new)) }
-        ensures standing { (total : ℕ) (book : List Series) → P.told self.old.store.space.pages → StandsForBook (P.view self.old.store.space.pages).image total book → IfErr result IsOutside }
-        ensures moments { (total : ℕ) (book : List Series) → P.told self.old.store.space.pages → StandsForBook (P.view self.old.store.space.pages).image total book
-            → Passes (P.view self.old.store.space.pages) (P.view self.new.store.space.pages) (IsBeforeOrAfter (RepliedTo (EditRequest edit.now)) total book self.old.sessions) (Quiet (P.view self.old.store.space.pages)) }
-        ensures reads { (P.view self.new.store.space.pages).reads ≤ (P.view self.old.store.space.pages).reads + 96 }
+        ensures reply { shown.ForBook self.old (λ total book. IfOk result (AnswersSo (RepliedTo (EditRequest edit.now)) total book self.old self.new)) }
+        ensures standing { shown.ForBook self.old (λ total book. IfErr result IsOutside) }
+        ensures moments { shown.ForBook self.old (λ total book. shown.PassesBy (RepliedTo (EditRequest edit.now)) total book self.old self.new) }
+        ensures reads { (shown.view self.new).reads ≤ (shown.view self.old).reads + 96 }
         ensures fits { IfOk result Fits }
         ensures opens { IfOk result (λ frame. OpensBy frame self.old.sessions self.new.sessions) }
         ensures sessions { self.new.sessions ≡ self.old.sessions }
-        ensures unchanged { MatchResult result (λ frame. IsUnchangedBy frame (P.told self.old.store.space.pages) (P.view self.old.store.space.pages) (P.view self.new.store.space.pages)) (λ error. IsUnchangedFor error (P.told self.old.store.space.pages) (P.view self.old.store.space.pages) (P.view self.new.store.space.pages)) }
-        ensures cause { IfErr result (λ error. IsStepCause (EditRequest edit.now) error (P.told self.old.store.space.pages) self.old.store.catalog.series.items self.old.store.space.superblock.total (P.view self.old.store.space.pages) (P.view self.new.store.space.pages)) }
-        ensures steps { Steps (P.told self.old.store.space.pages) (P.told self.new.store.space.pages) (P.view self.old.store.space.pages) (P.view self.new.store.space.pages) }
-        ensures goes_on { GoesOn (P.under self.old.store.space.pages) (P.under self.new.store.space.pages) }
-        ensures sound { OnOk result (P.view self.new.store.space.pages).fit }
-        ensures total { self.new.store.space.superblock.total ≡ self.old.store.space.superblock.total }
+        ensures unchanged { CommitsOnly result self.old self.new }
+        ensures cause { IfErr result (IsCause (EditRequest edit.now) self.old self.new) }
+        ensures steps { Steps (shown.IsTold self.old) (shown.IsTold self.new) (shown.view self.old) (shown.view self.new) }
+        ensures goes_on { GoesOn (shown.under self.old) (shown.under self.new) }
+        ensures sound { OnOk result (shown.view self.new).fit }
+        ensures total { shown.total self.new ≡ shown.total self.old }
     {
         // It brings in what holds of the book and of the sessions.
         self.is_sound();

@@ -44,6 +44,15 @@ pub enum ServeEnd {
     NoMemory,
 }
 
+/// Why `answer_lines` didn't answer all lines of its input. What the lines before did stays.
+#[derive(Drop)]
+pub enum AnswerEnd<F> {
+    /// As a serving ends.
+    Serve(ServeEnd),
+    /// The bytes of a reply weren't made, for this cause.
+    Reply(F),
+}
+
 impl From<AllocError> for NoMemory {
     fn from(_error: AllocError) -> NoMemory {
         NoMemory
@@ -121,5 +130,41 @@ impl From<ServiceError> for ServeEnd {
             ServiceError::Damaged { page } => ServeEnd::Damaged { page },
             ServiceError::NoMemory => ServeEnd::NoMemory,
         }
+    }
+}
+
+impl<F> From<LineFault> for AnswerEnd<F> {
+    ghost use Rattle.std.specs.Prelude.{◌≡◌};
+    ghost use Rattle.chart_service.specs.Serving.{end_of};
+    ghost use Rattle.chart_service.specs.declared.failure.AnswerEnd.TheVariants.{Serve};
+
+    ghost from_gives = { λ fault end. end ≡ Serve (end_of fault) };
+
+    fn from(fault: LineFault) -> AnswerEnd<F> {
+        AnswerEnd::Serve(ServeEnd::from(fault))
+    }
+}
+
+impl<F> From<chart_world::NoMemory> for AnswerEnd<F> {
+    ghost use Rattle.std.specs.Prelude.{◌≡◌};
+    ghost use Rattle.chart_service.specs.declared.failure.AnswerEnd.TheVariants.{Serve};
+    ghost use Rattle.chart_service.specs.declared.failure.ServeEnd.TheVariants.{NoMemory};
+
+    ghost from_gives = { λ _ end. end ≡ Serve NoMemory };
+
+    fn from(_error: chart_world::NoMemory) -> AnswerEnd<F> {
+        AnswerEnd::Serve(ServeEnd::NoMemory)
+    }
+}
+
+impl<F> From<ServiceError> for AnswerEnd<F> {
+    ghost use Rattle.std.specs.Prelude.{◌≡◌};
+    ghost use Rattle.chart_service.specs.Serving.{end_of_step};
+    ghost use Rattle.chart_service.specs.declared.failure.AnswerEnd.TheVariants.{Serve};
+
+    ghost from_gives = { λ error end. end ≡ Serve (end_of_step error) };
+
+    fn from(error: ServiceError) -> AnswerEnd<F> {
+        AnswerEnd::Serve(ServeEnd::from(error))
     }
 }

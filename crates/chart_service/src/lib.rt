@@ -11,13 +11,15 @@
 //! - A view with a filter, and a zoom or pan of one, is answered by the rows of the points that it
 //!   keeps, and leaves the list of coefficients that the client keeps.
 //!
-//! `serve` answers the lines of the stream that stands beside the pages, one frame a line. After a fault
+//! `answer_lines` answers the lines of the stream that stands beside the pages, each by the bytes that a
+//! `Reply` makes of its frame; `serve` does so by the frames' spellings. After a fault
 //! of the disk the store has to be opened again; with every other error nothing was committed for the
 //! request, and its session may be closed. Invariant: the last view of each session is of a series that
 //! the store has. Drawing is the client's.
 #![tactic(auto)]
 
 mod answering;
+mod answers;
 mod edits;
 mod failure;
 mod filters;
@@ -25,6 +27,7 @@ pub mod laws;
 mod looking;
 mod ranges;
 mod refusals;
+mod replying;
 mod selecting;
 mod service;
 mod service_calls;
@@ -36,7 +39,9 @@ mod streams;
 mod viewing;
 mod viewport;
 
-pub use failure::{NoMemory, ServeEnd, ServiceError};
+pub use answers::answer_lines;
+pub use failure::{AnswerEnd, NoMemory, ServeEnd, ServiceError};
 pub use refusals::refused;
+pub use replying::Reply;
 pub use service::Service;
 pub use serving::serve;

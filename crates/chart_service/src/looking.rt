@@ -5,12 +5,14 @@ ghost use Rattle.chart_frames.specs.Frames.{Fits};
 ghost use Rattle.request_lines.specs.Requests.{IsInRange};
 ghost use Rattle.series_book.specs.declared.one_series.Series.{Series};
 ghost use Rattle.stored_book.specs.Standing.{StandsForBook};
-ghost use Rattle.zoom_session.specs.Sessions.{is_open, open_refusal};
+ghost use Rattle.zoom_session.specs.Sessions.{is_open};
 ghost use Rattle.chart_service.specs.Alone.{session_in};
-ghost use Rattle.chart_service.specs.Looking.{IsNoEdit, Looked, Replying};
+ghost use Rattle.chart_service.specs.Looking.{IsNoEdit};
 ghost use Rattle.chart_service.specs.Opening.{OpensBy};
-ghost use Rattle.chart_service.specs.Replies.{Opens, Closes, Replies, cache_of};
-ghost use Rattle.chart_service.specs.Stepping.{state_of, IsStepCause, ReadsFew};
+ghost use Rattle.chart_service.specs.Replies.{Closes, Replies, cache_of};
+ghost use Rattle.chart_service.specs.Stepping.{ReadsFew};
+ghost use Rattle.chart_service.specs.Called.{IsCause, LooksIn, OpensIn, RepliesOver};
+ghost use Rattle.chart_service.specs.Shown as shown;
 
 use crate::failure::ServiceError;
 use crate::refusals::refused;
@@ -24,13 +26,12 @@ use zoom_session::{DEFAULT_CACHE, SessionError};
 impl<P: Pages> Service<P> {
     /// Answers a request that is no edit.
     pub(crate) fn look(&mut self, request: &Request) -> Result<Frame, ServiceError>
-        requires sound { (P.view self.old.store.space.pages).fit }
+        requires sound { (shown.view self.old).fit }
         requires range { IsInRange request.now }
         requires no_edit { IsNoEdit request.now }
-        ensures replying { (total : ℕ) (book : List Series) → P.told self.old.store.space.pages → StandsForBook (P.view self.old.store.space.pages).image total book
-            → Replying (Replies request.now) (ReadsFew request.now book self.old.sessions) result total book self.old.sessions self.new.sessions (P.view self.old.store.space.pages) (P.view self.new.store.space.pages) }
-        ensures cause { IfErr result (λ error. IsStepCause request.now error (P.told self.old.store.space.pages) self.old.store.catalog.series.items self.old.store.space.superblock.total (P.view self.old.store.space.pages) (P.view self.new.store.space.pages)) }
-        ensures looked { Looked (session_in request.now) result self.old.sessions self.new.sessions (P.told self.old.store.space.pages) (P.told self.new.store.space.pages) (P.view self.old.store.space.pages) (P.view self.new.store.space.pages) (P.under self.old.store.space.pages) (P.under self.new.store.space.pages) self.old.store.space.superblock self.new.store.space.superblock self.old.store.catalog.series.items self.new.store.catalog.series.items }
+        ensures replying { RepliesOver (Replies request.now) (λ book. ReadsFew request.now book self.old.sessions) result self.old self.new }
+        ensures cause { IfErr result (IsCause request.now self.old self.new) }
+        ensures looked { LooksIn (session_in request.now) result self.old self.new }
     {
         match request {
             Request::Edit(_) => unreachable!(),
@@ -62,7 +63,7 @@ impl<P: Pages> Service<P> {
     /// Opens a session.
     fn open(&mut self, number: u32, cache: u64) -> Result<Frame, ServiceError>
         requires { 1 ≤ number }
-        ensures reply { (total : ℕ) (book : List Series) → IfOk result (λ frame. Opens (open_refusal self.old.sessions number cache) number cache frame (state_of book total self.old.sessions) (state_of book total self.new.sessions)) }
+        ensures reply { (total : ℕ) (book : List Series) → IfOk result (OpensIn number cache (shown.state self.old total book) (shown.state self.new total book)) }
         ensures fits { IfOk result Fits }
         ensures opens { IfOk result (λ frame. OpensBy frame self.old.sessions self.new.sessions) }
         ensures kept { OnErr result (self.new.sessions ≡ self.old.sessions) }
@@ -83,7 +84,7 @@ impl<P: Pages> Service<P> {
     #[tactic(auto, using(crate::proofs::Keeping::views_closed, crate::proofs::Openings::opens_closed))]
     fn close(&mut self, number: u32) -> Frame
         requires { 1 ≤ number }
-        ensures reply { (total : ℕ) (book : List Series) → Closes (is_open number self.old.sessions) number result (state_of book total self.old.sessions) (state_of book total self.new.sessions) }
+        ensures reply { (total : ℕ) (book : List Series) → Closes (is_open number self.old.sessions) number result (shown.state self.old total book) (shown.state self.new total book) }
         ensures fits { Fits result }
         ensures opens { OpensBy result self.old.sessions self.new.sessions }
         ensures store { self.new.store ≡ self.old.store }

@@ -1,9 +1,11 @@
 ghost use Rattle.std.specs.Prelude.{◌≡◌, ◌^◌, IsTrue, false, nat_lt, unsigned_abs};
-ghost use Rattle.plain_chart.specs.Samples.{IsValue};
+ghost use Rattle.whole_number.specs.declared.limits.TheConstants.{GREATEST_VALUE};
+ghost use Rattle.whole_number.specs.Range.{IsValue};
 ghost use Rattle.zoom_session.specs.Views.{IsRangeSpec};
 ghost use Rattle.chart_service.specs.Viewing.{IsBadRange, IsGoodRange, range_spec};
 
 use request_lines::RangeWord;
+use whole_number::limits::GREATEST_VALUE;
 use zoom_session::RangeSpec;
 
 /// Whether the ends of a range are out of order, or one passes 10^18 in size.
@@ -19,9 +21,9 @@ pub(crate) fn is_bad_range(word: RangeWord) -> bool
 
 /// Whether a number passes 10^18 in size.
 fn is_too_large(value: i128) -> bool
-    ensures { result ≡ nat_lt (10 ^ 18) (unsigned_abs value) }
+    ensures { result ≡ nat_lt GREATEST_VALUE (unsigned_abs value) }
 {
-    value.unsigned_abs() > 1_000_000_000_000_000_000
+    value.unsigned_abs() > u128::from(GREATEST_VALUE)
 }
 
 /// The range of a view by the word that asks for it.

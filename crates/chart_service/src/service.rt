@@ -1,5 +1,6 @@
 //! A service.
 ghost use Rattle.std.specs.Prelude.{length};
+ghost use Rattle.series_store.specs.Shown as stored;
 ghost use Rattle.chart_service.specs.Holding.{AreViewsIn};
 ghost use Rattle.chart_service.specs.HoldingLaws.{views_prop};
 
@@ -14,5 +15,5 @@ pub struct Service<P: Pages> {
     pub(crate) alloc: Global,
     pub(crate) store: Store<P>,
     pub(crate) sessions: Sessions,
-    ghost views: { AreViewsIn (length store.catalog.series.items) sessions } by { views_prop (length store.catalog.series.items) sessions },
+    ghost views: { AreViewsIn (length (stored.catalog store)) sessions } by { views_prop (length (stored.catalog store)) sessions },
 }

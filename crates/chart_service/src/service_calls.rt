@@ -5,6 +5,7 @@ ghost use Rattle.series_book.specs.declared.one_series.Series.{Series};
 ghost use Rattle.stored_book.specs.Standing.{StandsForBook};
 ghost use Rattle.chart_service.specs.State.{IsSound};
 ghost use Rattle.chart_service.specs.Stepping.{state_of};
+ghost use Rattle.chart_service.specs.Shown as shown;
 
 use crate::failure::NoMemory;
 use crate::service::Service;
@@ -43,8 +44,8 @@ impl<P: Pages> Service<P> {
 
     /// Whether more calls may be made. After a fault in a commit they may not.
     pub fn is_sound(&self) -> bool
-        ensures sound { IsTrue result ↔ (P.view self.now.store.space.pages).fit }
-        ensures state { (total : ℕ) (book : List Series) → (P.view self.now.store.space.pages).fit → P.told self.now.store.space.pages → StandsForBook (P.view self.now.store.space.pages).image total book → IsSound (state_of book total self.now.sessions) }
+        ensures sound { IsTrue result ↔ (shown.view self.now).fit }
+        ensures state { shown.ForSoundBook self.now (λ total book. IsSound (shown.state self.now total book)) }
     {
         let _count = self.store.len();
         let _open = self.sessions.is_open(1);

@@ -4,13 +4,13 @@ ghost use Rattle.om3_coeff.specs.Spans.{IsProperIfAny};
 ghost use Rattle.om3_coeff.specs.View.{Agrees, HasCause};
 ghost use Rattle.needed_nodes.specs.Answers.{IsSpanOfValues};
 ghost use Rattle.zoom_session.specs.Planned.{IsInBounds};
-ghost use Rattle.zoom_session.specs.Plans.{AreNeeded, PlansIn, HasEntries, CountsNeeded};
+ghost use Rattle.zoom_session.specs.Plans.{AreNeeded, PlansIn, HasEntries};
 ghost use Rattle.zoom_session.specs.Sessions.{is_open, session_of};
 ghost use Rattle.zoom_session.specs.Views.{IsRangeSpec};
 ghost use Rattle.plain_chart.specs.Samples.{kept, values_of, IsRange as AreKeptIn};
 ghost use Rattle.chart_frames.specs.Frames.{IsRange};
 ghost use Rattle.chart_service.specs.Viewing.{ShowsRange, has_of, least_of, greatest_of};
-ghost use Rattle.chart_service.specs.Planning.{TellsOf, AreInFrame, RefusesView, most_view_reads, planned_frame};
+ghost use Rattle.chart_service.specs.Planning.{TellsOf, AreInFrame, RefusesView, CountsOver, most_view_reads, planned_frame};
 
 use chart_frames::ViewFrame;
 use chart_grid::{Axis, Grid};
@@ -53,7 +53,7 @@ pub(crate) fn plan<N: Nodes>(
     requires step { 0 < axis.step }
 
     ensures needed { (list : List (Option ℤ)) → Agrees (N.view nodes.old) list →
-        IfOk result (λ planned. AreNeeded list axis spec.now.grid planned.plan.needed) }
+        IfOk result (λ planned. AreNeeded list axis spec.now.grid planned.told.range.lo planned.told.range.hi planned.plan.needed) }
     ensures planned { IfOk result (λ planned. PlansIn (session_of number sessions.now) spec.now.series planned.plan) }
     ensures told { (list : List (Option ℤ)) → Agrees (N.view nodes.old) list →
         IfOk result (λ planned. TellsOf list axis spec.now planned.told) }
@@ -66,7 +66,7 @@ pub(crate) fn plan<N: Nodes>(
     // why nothing is planned
     ensures refused { IfErr result (RefusesView (session_of number sessions.now) (N.view nodes.old) (N.view nodes.new)) }
     ensures counted { (list : List (Option ℤ)) → Agrees (N.view nodes.old) list →
-        IfErr result (CountsNeeded list axis spec.now.grid) }
+        IfErr result (CountsOver list axis spec.now) }
 
     // the nodes
     ensures fit { (N.view nodes.new).fit }
@@ -74,13 +74,13 @@ pub(crate) fn plan<N: Nodes>(
     ensures reads { (N.view nodes.new).reads ≤ (N.view nodes.old).reads + most_view_reads spec.now.grid.w axis.slots }
     ensures faults { (N.view nodes.old).faults ≤ (N.view nodes.new).faults }
 {
-    agreeing_nodes_agree_for_views(nodes);
     spans_add_up();
-    let plan = sessions.plan_view(number, spec, axis, nodes)?;
     let range = match shown_range(nodes, axis, spec.grid, spec.range) {
         Ok(range) => range,
         Err(error) => return Err(PlanError::Node(error)),
     };
+    agreeing_nodes_agree_for_views(nodes);
+    let plan = sessions.plan_view(number, spec, axis, range.lo, range.hi, nodes)?;
     let root = nodes.root();
     Ok(Planned {
         plan,

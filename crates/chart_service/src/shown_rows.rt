@@ -5,11 +5,11 @@ ghost use Rattle.om3_coeff.specs.Keys.{height};
 ghost use Rattle.om3_coeff.specs.View.{Agrees};
 ghost use Rattle.chart_grid.specs.declared.grid.Grid.{Grid};
 ghost use Rattle.plain_chart.specs.declared.sample.Sample.{Sample};
-ghost use Rattle.plain_chart.specs.Samples.{values_of};
+ghost use Rattle.plain_chart.specs.Samples.{values_of, sample_points};
 ghost use Rattle.m4_groups.specs.Heights.{IsDrawable};
 ghost use Rattle.m4_groups.specs.Rows.{AreRowsOf};
 ghost use Rattle.zoom_session.specs.Views.{IsRangeSpec};
-ghost use Rattle.filter_scan.specs.Answers.{points_of, IsCauseOf};
+ghost use Rattle.filter_scan.specs.Answers.{IsCauseOf};
 ghost use Rattle.chart_frames.specs.Frames.{IsRange};
 ghost use Rattle.chart_service.specs.Viewing.{ShowsRange, rows_frame};
 ghost use Rattle.chart_service.specs.Planning.{ShowsOf, FitInFrame};
@@ -78,7 +78,7 @@ fn query_of(spec: &ViewSpec, axis: Axis) -> Result<ViewQuery, NoMemory>
 /// The range of values that a view shows whose rows these are.
 fn range_over(rows: &Rows, range: RangeSpec) -> ValueRange
     requires { IsRangeSpec range }
-    ensures shown { (grid : Grid) (samples : List Sample) → AreRowsOf grid (points_of samples) rows.now → ShowsRange range (values_of samples) result }
+    ensures shown { (grid : Grid) (samples : List Sample) → AreRowsOf grid (sample_points samples) rows.now → ShowsRange range (values_of samples) result }
     ensures in_frame { (w : ℕ) → All (IsDrawable w) rows.now → IsRange result.lo result.hi }
 {
     match range {

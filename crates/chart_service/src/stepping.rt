@@ -1,5 +1,5 @@
 //! A service answers requests and lines.
-ghost use Rattle.std.specs.Prelude.{◌≡◌, ◌≤◌, ◌^◌, ℕ, List, length, IfOk, IfErr, OnErr, OnOk, MatchResult};
+ghost use Rattle.std.specs.Prelude.{◌≡◌, ◌≤◌, ◌^◌, ℕ, List, length, IfOk, IfErr, OnErr, OnOk};
 ghost use Rattle.block_disk.specs.Counts.{HasRisen};
 ghost use Rattle.block_disk.specs.View.{View, Passes};
 ghost use Rattle.chart_frames.specs.Frames.{Fits};
@@ -10,7 +10,9 @@ ghost use Rattle.stored_book.specs.Standing.{StandsForBook};
 ghost use Rattle.chart_service.specs.Alone.{session_in, session_named};
 ghost use Rattle.chart_service.specs.Opening.{OpensBy, LosesAtMost};
 ghost use Rattle.chart_service.specs.Replies.{Replied, line_text};
-ghost use Rattle.chart_service.specs.Stepping.{StandsAfter, state_of, RepliedTo, IsBeforeOrAfter, IsStepCause, IsLineCause, NamesBad, IsOutside, IsUnchangedBy, IsUnchangedFor, Steps, ReadsFew};
+ghost use Rattle.chart_service.specs.Stepping.{RepliedTo, NamesBad, IsOutside, Steps, ReadsFew};
+ghost use Rattle.chart_service.specs.Called.{AnswersSo, CommitsOnly, IsCause, IsCauseOfLine};
+ghost use Rattle.chart_service.specs.Shown as shown;
 
 use crate::failure::ServiceError;
 use crate::refusals::refused;
@@ -31,27 +33,24 @@ impl<P: Pages> Service<P> {
     /// opened again. `Damaged` never comes where the pages stand for a book. With it and with `NoMemory`
     /// nothing was committed. After an error the session that the request names may be closed.
     pub fn step(&mut self, request: &Request) -> Result<Frame, ServiceError>
-        requires sound { (P.view self.old.store.space.pages).fit }
+        requires sound { (shown.view self.old).fit }
         requires range { IsInRange request.now }
-        ensures reply { (total : ℕ) (book : List Series) → P.told self.old.store.space.pages → StandsForBook (P.view self.old.store.space.pages).image total book
-            → IfOk result (λ frame. StandsAfter total (P.view self.new.store.space.pages).image self.new.sessions (λ new. RepliedTo request.now frame (state_of book total self.old.sessions) new)) }
-        ensures standing { (total : ℕ) (book : List Series) → P.told self.old.store.space.pages → StandsForBook (P.view self.old.store.space.pages).image total book → IfErr result IsOutside }
+        ensures reply { shown.ForBook self.old (λ total book. IfOk result (AnswersSo (RepliedTo request.now) total book self.old self.new)) }
+        ensures standing { shown.ForBook self.old (λ total book. IfErr result IsOutside) }
         // a crash at any moment leaves the book from before, or the one that the reply leaves
-        ensures moments { (total : ℕ) (book : List Series) → P.told self.old.store.space.pages → StandsForBook (P.view self.old.store.space.pages).image total book
-            → Passes (P.view self.old.store.space.pages) (P.view self.new.store.space.pages) (IsBeforeOrAfter (RepliedTo request.now) total book self.old.sessions) (Quiet (P.view self.old.store.space.pages)) }
-        ensures reads { (total : ℕ) (book : List Series) → P.told self.old.store.space.pages → StandsForBook (P.view self.old.store.space.pages).image total book
-            → ReadsFew request.now book self.old.sessions (P.view self.old.store.space.pages).reads (P.view self.new.store.space.pages).reads }
+        ensures moments { shown.ForBook self.old (λ total book. shown.PassesBy (RepliedTo request.now) total book self.old self.new) }
+        ensures reads { shown.ForBook self.old (λ total book. ReadsFew request.now book self.old.sessions (shown.view self.old).reads (shown.view self.new).reads) }
         // whatever the pages are
         ensures fits { IfOk result Fits }
         ensures opens { IfOk result (λ frame. OpensBy frame self.old.sessions self.new.sessions) }
         ensures sessions { OnErr result (LosesAtMost (session_in request.now) self.old.sessions self.new.sessions) }
-        ensures unchanged { MatchResult result (λ frame. IsUnchangedBy frame (P.told self.old.store.space.pages) (P.view self.old.store.space.pages) (P.view self.new.store.space.pages)) (λ error. IsUnchangedFor error (P.told self.old.store.space.pages) (P.view self.old.store.space.pages) (P.view self.new.store.space.pages)) }
-        ensures cause { IfErr result (λ error. IsStepCause request.now error (P.told self.old.store.space.pages) self.old.store.catalog.series.items self.old.store.space.superblock.total (P.view self.old.store.space.pages) (P.view self.new.store.space.pages)) }
-        ensures bad { IfErr result (NamesBad (P.told self.new.store.space.pages) self.new.store.catalog.series.items (P.view self.new.store.space.pages).image self.new.store.space.superblock.total) }
-        ensures steps { Steps (P.told self.old.store.space.pages) (P.told self.new.store.space.pages) (P.view self.old.store.space.pages) (P.view self.new.store.space.pages) }
-        ensures goes_on { GoesOn (P.under self.old.store.space.pages) (P.under self.new.store.space.pages) }
-        ensures sound { OnOk result (P.view self.new.store.space.pages).fit }
-        ensures total { self.new.store.space.superblock.total ≡ self.old.store.space.superblock.total }
+        ensures unchanged { CommitsOnly result self.old self.new }
+        ensures cause { IfErr result (IsCause request.now self.old self.new) }
+        ensures bad { IfErr result (NamesBad (shown.IsTold self.new) (shown.catalog self.new) (shown.image self.new) (shown.total self.new)) }
+        ensures steps { Steps (shown.IsTold self.old) (shown.IsTold self.new) (shown.view self.old) (shown.view self.new) }
+        ensures goes_on { GoesOn (shown.under self.old) (shown.under self.new) }
+        ensures sound { OnOk result (shown.view self.new).fit }
+        ensures total { shown.total self.new ≡ shown.total self.old }
     {
         match request {
             Request::Edit(edit) => self.edit(edit),
@@ -66,25 +65,23 @@ impl<P: Pages> Service<P> {
     /// Answers a line. A line of more than 8,192 bytes is refused as too long, and one that spells no
     /// request as bad at the offset of its fault. Else as `step`.
     pub fn step_line(&mut self, line: &[u8]) -> Result<Frame, ServiceError>
-        requires { (P.view self.old.store.space.pages).fit }
-        ensures reply { (total : ℕ) (book : List Series) → P.told self.old.store.space.pages → StandsForBook (P.view self.old.store.space.pages).image total book
-            → IfOk result (λ frame. StandsAfter total (P.view self.new.store.space.pages).image self.new.sessions (λ new. Replied (line_text line.now) frame (state_of book total self.old.sessions) new)) }
-        ensures standing { (total : ℕ) (book : List Series) → P.told self.old.store.space.pages → StandsForBook (P.view self.old.store.space.pages).image total book → IfErr result IsOutside }
+        requires { (shown.view self.old).fit }
+        ensures reply { shown.ForBook self.old (λ total book. IfOk result (AnswersSo (Replied (line_text line.now)) total book self.old self.new)) }
+        ensures standing { shown.ForBook self.old (λ total book. IfErr result IsOutside) }
         // a crash at any moment leaves the book from before, or the one that the reply leaves
-        ensures moments { (total : ℕ) (book : List Series) → P.told self.old.store.space.pages → StandsForBook (P.view self.old.store.space.pages).image total book
-            → Passes (P.view self.old.store.space.pages) (P.view self.new.store.space.pages) (IsBeforeOrAfter (Replied (line_text line.now)) total book self.old.sessions) (Quiet (P.view self.old.store.space.pages)) }
+        ensures moments { shown.ForBook self.old (λ total book. shown.PassesBy (Replied (line_text line.now)) total book self.old self.new) }
         // whatever the pages are
         ensures fits { IfOk result Fits }
         ensures opens { IfOk result (λ frame. OpensBy frame self.old.sessions self.new.sessions) }
         ensures sessions { OnErr result (LosesAtMost (session_named (line_text line.now)) self.old.sessions self.new.sessions) }
-        ensures unchanged { MatchResult result (λ frame. IsUnchangedBy frame (P.told self.old.store.space.pages) (P.view self.old.store.space.pages) (P.view self.new.store.space.pages)) (λ error. IsUnchangedFor error (P.told self.old.store.space.pages) (P.view self.old.store.space.pages) (P.view self.new.store.space.pages)) }
-        ensures cause { IfErr result (λ error. IsLineCause (line_text line.now) error (P.told self.old.store.space.pages) self.old.store.catalog.series.items self.old.store.space.superblock.total (P.view self.old.store.space.pages) (P.view self.new.store.space.pages)) }
-        ensures disk { result ≡ Err ServiceError.DiskFault → HasRisen (P.view self.old.store.space.pages).faults (P.view self.new.store.space.pages).faults }
-        ensures bad { IfErr result (NamesBad (P.told self.new.store.space.pages) self.new.store.catalog.series.items (P.view self.new.store.space.pages).image self.new.store.space.superblock.total) }
-        ensures steps { Steps (P.told self.old.store.space.pages) (P.told self.new.store.space.pages) (P.view self.old.store.space.pages) (P.view self.new.store.space.pages) }
-        ensures goes_on { GoesOn (P.under self.old.store.space.pages) (P.under self.new.store.space.pages) }
-        ensures sound { OnOk result (P.view self.new.store.space.pages).fit }
-        ensures total { self.new.store.space.superblock.total ≡ self.old.store.space.superblock.total }
+        ensures unchanged { CommitsOnly result self.old self.new }
+        ensures cause { IfErr result (IsCauseOfLine (line_text line.now) self.old self.new) }
+        ensures disk { result ≡ Err ServiceError.DiskFault → HasRisen (shown.view self.old).faults (shown.view self.new).faults }
+        ensures bad { IfErr result (NamesBad (shown.IsTold self.new) (shown.catalog self.new) (shown.image self.new) (shown.total self.new)) }
+        ensures steps { Steps (shown.IsTold self.old) (shown.IsTold self.new) (shown.view self.old) (shown.view self.new) }
+        ensures goes_on { GoesOn (shown.under self.old) (shown.under self.new) }
+        ensures sound { OnOk result (shown.view self.new).fit }
+        ensures total { shown.total self.new ≡ shown.total self.old }
     {
         self.is_sound();
         if line.len() > LONGEST_LINE {

@@ -2,15 +2,16 @@
 ghost use Rattle.std.specs.Prelude.{◌≡◌, ◌≤◌, ◌+ℤ◌, ℕ, ℤ, List, None, Some, length, slice_get, IfOk, IfSome, OnOk, IsTrue, IsSomeAnd, MatchResult, Ok, Err};
 ghost use Rattle.block_disk.specs.View.{View};
 ghost use Rattle.series_book.specs.declared.one_series.Series.{Series};
-ghost use Rattle.series_book.specs.Edits.{id_of};
 ghost use Rattle.stored_book.specs.Standing.{StandsForBook};
-ghost use Rattle.zoom_session.specs.Sessions.{is_open, session_of, last_of};
+ghost use Rattle.zoom_session.specs.Sessions.{is_open, session_of};
 ghost use Rattle.zoom_session.specs.Views.{IsRangeSpec};
 ghost use Rattle.chart_service.specs.Holding.{IsViewIn};
-ghost use Rattle.chart_service.specs.Looking.{Looked, Replying, ReadsBy, ReadsByText};
+ghost use Rattle.chart_service.specs.Looking.{Replying, ReadsBy};
 ghost use Rattle.chart_service.specs.Planning.{IsSpecFor, IsLastOf, IsMoved, IsGridFor};
-ghost use Rattle.chart_service.specs.Replies.{AnswersView, RepliesToView, RepliesByText, Moves, MovesIn};
-ghost use Rattle.chart_service.specs.Stepping.{ReadsLast, series_at};
+ghost use Rattle.chart_service.specs.Replies.{Moves};
+ghost use Rattle.chart_service.specs.Called.{LooksIn, MovesTo, ReadsByName, ReadsFiltered, ReadsLastOf, ReadsNamed, RepliesOver, Shows, ShowsBy, ShowsByText};
+ghost use Rattle.chart_service.specs.Stepping.{ReadsLast};
+ghost use Rattle.chart_service.specs.Shown as shown;
 
 use crate::failure::ServiceError;
 use crate::filters::filter_of;
@@ -37,12 +38,11 @@ impl<P: Pages> Service<P> {
         word: RangeWord,
         text: &Option<FilterText>,
     ) -> Result<Frame, ServiceError>
-        requires sound { (P.view self.old.store.space.pages).fit }
+        requires sound { (shown.view self.old).fit }
         requires number { 1 ≤ number }
         requires short { IfSome text.now (λ text. length text ≤ 8192) }
-        ensures replying { (total : ℕ) (book : List Series) → P.told self.old.store.space.pages → StandsForBook (P.view self.old.store.space.pages).image total book
-            → Replying (λ frame old new. RepliesByText text.now (λ filter. RepliesToView (is_open number old.sessions) number name.now viewport.w viewport.h viewport.t0 viewport.t1 word filter frame old new) frame old new) (ReadsByText text.now viewport.w (series_at book (id_of name.now book))) result total book self.old.sessions self.new.sessions (P.view self.old.store.space.pages) (P.view self.new.store.space.pages) }
-        ensures looked { Looked (Some number) result self.old.sessions self.new.sessions (P.told self.old.store.space.pages) (P.told self.new.store.space.pages) (P.view self.old.store.space.pages) (P.view self.new.store.space.pages) (P.under self.old.store.space.pages) (P.under self.new.store.space.pages) self.old.store.space.superblock self.new.store.space.superblock self.old.store.catalog.series.items self.new.store.catalog.series.items }
+        ensures replying { RepliesOver (ShowsByText text.now number name.now viewport word) (ReadsByName text.now name.now viewport) result self.old self.new }
+        ensures looked { LooksIn (Some number) result self.old self.new }
     {
         match filter_of(self.alloc, text) {
             Ok(filter) => self.view(number, name, viewport, word, filter),
@@ -60,11 +60,10 @@ impl<P: Pages> Service<P> {
         word: RangeWord,
         filter: Option<Filter>,
     ) -> Result<Frame, ServiceError>
-        requires sound { (P.view self.old.store.space.pages).fit }
+        requires sound { (shown.view self.old).fit }
         requires number { 1 ≤ number }
-        ensures replying { (total : ℕ) (book : List Series) → P.told self.old.store.space.pages → StandsForBook (P.view self.old.store.space.pages).image total book
-            → Replying (λ frame old new. RepliesToView (is_open number old.sessions) number name.now viewport.w viewport.h viewport.t0 viewport.t1 word filter frame old new) (ReadsBy filter viewport.w (series_at book (id_of name.now book))) result total book self.old.sessions self.new.sessions (P.view self.old.store.space.pages) (P.view self.new.store.space.pages) }
-        ensures looked { Looked (Some number) result self.old.sessions self.new.sessions (P.told self.old.store.space.pages) (P.told self.new.store.space.pages) (P.view self.old.store.space.pages) (P.view self.new.store.space.pages) (P.under self.old.store.space.pages) (P.under self.new.store.space.pages) self.old.store.space.superblock self.new.store.space.superblock self.old.store.catalog.series.items self.new.store.catalog.series.items }
+        ensures replying { RepliesOver (ShowsBy filter number name.now viewport word) (ReadsNamed filter name.now viewport) result self.old self.new }
+        ensures looked { LooksIn (Some number) result self.old self.new }
     {
         if !self.sessions.is_open(number) {
             return Ok(refused(Refusal::UnknownSession));
@@ -82,11 +81,10 @@ impl<P: Pages> Service<P> {
 
     /// Answers a session's last view over another window.
     pub(crate) fn zoom(&mut self, number: u32, t0: i128, t1: i128) -> Result<Frame, ServiceError>
-        requires sound { (P.view self.old.store.space.pages).fit }
+        requires sound { (shown.view self.old).fit }
         requires number { 1 ≤ number }
-        ensures replying { (total : ℕ) (book : List Series) → P.told self.old.store.space.pages → StandsForBook (P.view self.old.store.space.pages).image total book
-            → Replying (λ frame old new. MovesIn (session_of number old.sessions) number (λ last. (t0, t1)) frame old new) (ReadsLast book (last_of (session_of number self.old.sessions))) result total book self.old.sessions self.new.sessions (P.view self.old.store.space.pages) (P.view self.new.store.space.pages) }
-        ensures looked { Looked (Some number) result self.old.sessions self.new.sessions (P.told self.old.store.space.pages) (P.told self.new.store.space.pages) (P.view self.old.store.space.pages) (P.view self.new.store.space.pages) (P.under self.old.store.space.pages) (P.under self.new.store.space.pages) self.old.store.space.superblock self.new.store.space.superblock self.old.store.catalog.series.items self.new.store.catalog.series.items }
+        ensures replying { RepliesOver (MovesTo number (λ last. (t0, t1))) (ReadsLastOf number self.old.sessions) result self.old self.new }
+        ensures looked { LooksIn (Some number) result self.old self.new }
     {
         let last = match self.last_view(number) {
             Ok(last) => last.copy()?,
@@ -98,11 +96,10 @@ impl<P: Pages> Service<P> {
 
     /// Answers a session's last view, its window moved by this much.
     pub(crate) fn pan(&mut self, number: u32, by: i128) -> Result<Frame, ServiceError>
-        requires sound { (P.view self.old.store.space.pages).fit }
+        requires sound { (shown.view self.old).fit }
         requires number { 1 ≤ number }
-        ensures replying { (total : ℕ) (book : List Series) → P.told self.old.store.space.pages → StandsForBook (P.view self.old.store.space.pages).image total book
-            → Replying (λ frame old new. MovesIn (session_of number old.sessions) number (λ last. (last.grid.t0 +ℤ by, last.grid.t1 +ℤ by)) frame old new) (ReadsLast book (last_of (session_of number self.old.sessions))) result total book self.old.sessions self.new.sessions (P.view self.old.store.space.pages) (P.view self.new.store.space.pages) }
-        ensures looked { Looked (Some number) result self.old.sessions self.new.sessions (P.told self.old.store.space.pages) (P.told self.new.store.space.pages) (P.view self.old.store.space.pages) (P.view self.new.store.space.pages) (P.under self.old.store.space.pages) (P.under self.new.store.space.pages) self.old.store.space.superblock self.new.store.space.superblock self.old.store.catalog.series.items self.new.store.catalog.series.items }
+        ensures replying { RepliesOver (MovesTo number (λ last. (last.grid.t0 +ℤ by, last.grid.t1 +ℤ by))) (ReadsLastOf number self.old.sessions) result self.old self.new }
+        ensures looked { LooksIn (Some number) result self.old self.new }
     {
         let last = match self.last_view(number) {
             Ok(last) => last.copy()?,
@@ -119,13 +116,13 @@ impl<P: Pages> Service<P> {
         last: ViewSpec,
         grid: Result<Grid, GridError>,
     ) -> Result<Frame, ServiceError>
-        requires sound { (P.view self.old.store.space.pages).fit }
+        requires sound { (shown.view self.old).fit }
         requires number { 1 ≤ number }
         requires opened { IsTrue (is_open number self.old.sessions) }
-        requires view { IsViewIn (length self.old.store.catalog.series.items) last }
-        ensures replying { (total : ℕ) (book : List Series) (t0 t1 : ℤ) → P.told self.old.store.space.pages → StandsForBook (P.view self.old.store.space.pages).image total book → IsMoved last.grid t0 t1 grid
-            → Replying (λ frame old new. Moves last number t0 t1 frame old new) (ReadsLast book (Some last)) result total book self.old.sessions self.new.sessions (P.view self.old.store.space.pages) (P.view self.new.store.space.pages) }
-        ensures looked { Looked (Some number) result self.old.sessions self.new.sessions (P.told self.old.store.space.pages) (P.told self.new.store.space.pages) (P.view self.old.store.space.pages) (P.view self.new.store.space.pages) (P.under self.old.store.space.pages) (P.under self.new.store.space.pages) self.old.store.space.superblock self.new.store.space.superblock self.old.store.catalog.series.items self.new.store.catalog.series.items }
+        requires view { IsViewIn (length (shown.catalog self.old)) last }
+        ensures replying { (total : ℕ) (book : List Series) (t0 t1 : ℤ) → shown.IsTold self.old → StandsForBook (shown.image self.old) total book → IsMoved last.grid t0 t1 grid
+            → Replying (λ frame old new. Moves last number t0 t1 frame old new) (ReadsLast book (Some last)) result total book self.old.sessions self.new.sessions (shown.view self.old) (shown.view self.new) }
+        ensures looked { LooksIn (Some number) result self.old self.new }
     {
         // It brings in how many series there are.
         let _count = self.store.len();
@@ -147,7 +144,7 @@ impl<P: Pages> Service<P> {
     #[tactic(auto, using(crate::proofs::Lasts::none_of, crate::proofs::Lasts::no_last, crate::proofs::Lasts::last_so, crate::proofs::Lasts::view_so))]
     fn last_view(&self, number: u32) -> Result<&ViewSpec, Refusal>
         ensures last { MatchResult result (λ last. IsLastOf (session_of number self.now.sessions) (Ok last.now)) (λ refusal. IsLastOf (session_of number self.now.sessions) (Err refusal)) }
-        ensures view { IfOk result (λ last. IsViewIn (length self.now.store.catalog.series.items) last.now) }
+        ensures view { IfOk result (λ last. IsViewIn (length (shown.catalog self.now)) last.now) }
         ensures answer { OnOk result (IsTrue (is_open number self.now.sessions)) }
     {
         if !self.sessions.is_open(number) {
@@ -161,13 +158,12 @@ impl<P: Pages> Service<P> {
 
     /// Answers a view of a series in an open session.
     fn answer(&mut self, number: u32, spec: ViewSpec) -> Result<Frame, ServiceError>
-        requires sound { (P.view self.old.store.space.pages).fit }
+        requires sound { (shown.view self.old).fit }
         requires number { 1 ≤ number }
         requires opened { IsTrue (is_open number self.old.sessions) }
-        requires view { IsViewIn (length self.old.store.catalog.series.items) spec }
-        ensures replying { (total : ℕ) (book : List Series) → P.told self.old.store.space.pages → StandsForBook (P.view self.old.store.space.pages).image total book
-            → Replying (λ frame old new. IsSomeAnd (slice_get old.book spec.series) (λ series. AnswersView series spec number frame old new)) (ReadsBy spec.filter spec.grid.w (slice_get book spec.series)) result total book self.old.sessions self.new.sessions (P.view self.old.store.space.pages) (P.view self.new.store.space.pages) }
-        ensures looked { Looked (Some number) result self.old.sessions self.new.sessions (P.told self.old.store.space.pages) (P.told self.new.store.space.pages) (P.view self.old.store.space.pages) (P.view self.new.store.space.pages) (P.under self.old.store.space.pages) (P.under self.new.store.space.pages) self.old.store.space.superblock self.new.store.space.superblock self.old.store.catalog.series.items self.new.store.catalog.series.items }
+        requires view { IsViewIn (length (shown.catalog self.old)) spec }
+        ensures replying { RepliesOver (Shows spec number) (ReadsFiltered spec) result self.old self.new }
+        ensures looked { LooksIn (Some number) result self.old self.new }
     {
         if spec.filter.is_none() {
             self.answer_coefs(number, spec)

@@ -3,15 +3,12 @@
 use block_disk::{FuseDisk, MemDisk};
 use chart_service::{ServeEnd, Service, serve};
 use chart_world::MemWorld;
-use check_command::check_store;
-use command_status::opening_status;
-use demo_command::run_demo;
-use load_command::load_series;
+use disk_store::{disk_of, open_store};
+use empty_store::make_store;
 use series_book::{Edit, Name};
 use std::alloc::Global;
 use std::test::Fail;
-use store_init::make_store;
-use store_open::{disk_of, open_store};
+use store_commands::{check_store, load_series, opening_status, run_demo};
 
 type World = MemWorld<FuseDisk<MemDisk>>;
 

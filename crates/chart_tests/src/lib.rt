@@ -1,4 +1,4 @@
-//! Tests of the crates from value_filter up to demo_command, and nothing else: of what no clause says and no golden
+//! Tests of the crates from value_filter up to store_commands, and nothing else: of what no clause says and no golden
 //! run of the program shows. A crate with tests is proved twice, so they stand here, over the libraries.
 #![tactic(auto)]
 

@@ -20,7 +20,7 @@ fn plan_of(alloc: Global, text: &[u8]) -> Result<Plan, Fail> {
         grid: Grid::new(98, 102, 4, 4)?,
         filter: Some(Filter::parse(alloc, text)?),
     };
-    Ok(rewrite(&query)?)
+    Ok(rewrite(alloc, &query)?)
 }
 
 #[test]

@@ -31,7 +31,7 @@ fn rows_are_found_by_points_and_by_nodes(rt: HostRuntime) -> Result<(), Fail> {
     let grid = Grid::new(0, 4, 2, 4)?;
     let rows = [row(0, 4, 4, 7, 7), row(1, 2, 2, 2, 2)];
     let mut nodes = ListNodes::new(&SLOTS);
-    let by_nodes = rows_of(rt.alloc(), &mut nodes, AXIS, grid)?;
+    let by_nodes = rows_of(rt.alloc(), &mut nodes, AXIS, grid, 2, 7)?;
     assert_eq!(rt; by_nodes.into_vec().as_slice(), rows.as_slice());
     let mut groups = Groups::new(rt.alloc(), grid)?;
     groups.push(0, 4)?;

@@ -9,7 +9,7 @@ use Rattle.gate_pages.proofs.Moving.{time_then}
 use Rattle.request_lines.specs.declared.requests.Request.{Request}
 use Rattle.zoom_session.specs.declared.session.Session.{Session}
 use Rattle.chart_client.specs.declared.holding.Holding.{Holding}
-use Rattle.store_catalog.specs.declared.stored_series.StoredSeries.{StoredSeries}
+use Rattle.series_catalog.specs.declared.stored_series.StoredSeries.{StoredSeries}
 use Rattle.chart_service.specs.State.{State}
 use Rattle.chart_service.specs.Stepping.{RepliedTo, IsBeforeOrAfter, Steps}
 use Rattle.demo_workload.specs.declared.summaries.Summary.{Summary}

@@ -4,7 +4,7 @@ use Rattle.block_disk.specs.View.{Image, View}
 use Rattle.line_raster.specs.Canvas.{Canvas}
 use Rattle.series_book.specs.declared.one_series.Series.{Series}
 use Rattle.stored_book.specs.Standing.{StandsForBook}
-use Rattle.store_catalog.specs.declared.stored_series.StoredSeries.{StoredSeries}
+use Rattle.series_catalog.specs.declared.stored_series.StoredSeries.{StoredSeries}
 use Rattle.request_lines.specs.declared.requests.Request.{Request}
 use Rattle.chart_frames.specs.declared.frame.Frame.{Frame}
 use Rattle.zoom_session.specs.declared.session.Session.{Session}

@@ -7,7 +7,7 @@ use Rattle.line_raster.specs.Canvas.{Canvas}
 use Rattle.request_lines.specs.declared.requests.Request.{Request}
 use Rattle.series_book.specs.declared.one_series.Series.{Series}
 use Rattle.stored_book.specs.Standing.{StandsForBook}
-use Rattle.store_catalog.specs.declared.stored_series.StoredSeries.{StoredSeries}
+use Rattle.series_catalog.specs.declared.stored_series.StoredSeries.{StoredSeries}
 use Rattle.chart_frames.specs.declared.frame.Frame.{Frame}
 use Rattle.zoom_session.specs.declared.session.Session.{Session}
 use Rattle.zoom_session.specs.Sessions.{is_open}
@@ -15,6 +15,9 @@ use Rattle.chart_client.specs.declared.holding.Holding.{Holding}
 use Rattle.chart_client.specs.declared.errors.ClientError.TheVariants as client
 use Rattle.chart_client.specs.Holdings.{holding_of}
 use Rattle.chart_client.specs.Accepting.{Accepts, Rejects}
+use Rattle.gate_pages.specs.declared.pages.Pages.{Ghosts}
+use Rattle.chart_service.specs.Shown as shown
+use Rattle.chart_service.specs.declared.service.Service.{Service}
 use Rattle.chart_service.specs.State.{State, IsSound}
 use Rattle.chart_service.specs.Stepping.{RepliedTo, IsBadPage, state_of}
 use Rattle.drawn_replies.specs.Mirrors.{Mirrors, IsPictureOf}
@@ -22,12 +25,17 @@ use Rattle.drawn_replies.specs.Pictures.{AcceptsAll}
 use Rattle.demo_workload.specs.declared.summaries.Summary.{Summary}
 use Rattle.demo_workload.specs.declared.demo_end.DemoEnd.{DemoEnd}
 use Rattle.demo_workload.specs.declared.demo_end.DemoEnd.TheVariants.{DiskFault, Damaged, Missing, BadCoefficient, NoMemory}
-use Rattle.demo_workload.specs.Summaries.{summary_of}
+use Rattle.demo_workload.specs.Summaries.{summary_of, AddsReply}
 use Rattle.demo_workload.specs.Replying.{PicturesEach}
 
 -- the client holds something of just the sessions that are open
 abbrev pub KnowsOpen : List Session → List Holding → Type 0
 KnowsOpen sessions holdings = (n : ℕ) → is_some (holding_of n holdings) ≡ is_open n sessions
+
+-- so of the state over each book that the pages of a service stand for, where it is sound and the client mirrors its sessions
+module _ {P : Type 0} {g : Ghosts P} where
+  abbrev pub ForMirrored : Service P g → List Holding → (ℕ → State → Type 0) → Type 0
+  ForMirrored it holdings IsSo = shown.ForBook it (λ total book. IsSound (shown.state it total book) → Mirrors it.sessions holdings → IsSo total (shown.state it total book))
 
 -- A request is answered, the client draws the picture of its frame and goes on mirroring the sessions, and the
 -- summary has one more reply.
@@ -37,8 +45,7 @@ pub record AnswersOne (request : Request) (old new : State) (holdings : List Hol
   pub replied : RepliedTo request frame old new
   pub pictured : IsPictureOf old new frame picture
   pub mirrors : Mirrors new.sessions holdings
-  pub sums : (frames : List Frame) (pictures : List (Option Canvas)) → before ≡ summary_of frames pictures
-      → now ≡ summary_of (frames ++ frame ∷ []) (pictures ++ picture ∷ [])
+  pub sums : AddsReply frame picture before now
 
 -- the client accepted one more frame
 pub record AcceptsOne (old new : List Holding) : Type 0 where

@@ -1,9 +1,9 @@
 -- Why a workload wasn't answered to its end, and what stays.
-use Rattle.std.specs.Prelude.{ℕ, ◌≡◌, ◌≤◌, ◌⊎◌, List, [], Option, ⊤}
+use Rattle.std.specs.Prelude.{ℕ, ◌≡◌, ◌≢◌, ◌≤◌, ◌⊎◌, List, [], Option, Result, IfErr, ⊤}
 use Rattle.block_disk.specs.Counts.{HasRisen}
 use Rattle.block_disk.specs.View.{View}
 use Rattle.line_raster.specs.Canvas.{Canvas}
-use Rattle.store_catalog.specs.declared.stored_series.StoredSeries.{StoredSeries}
+use Rattle.series_catalog.specs.declared.stored_series.StoredSeries.{StoredSeries}
 use Rattle.chart_frames.specs.declared.frame.Frame.{Frame}
 use Rattle.chart_client.specs.declared.holding.Holding.{Holding}
 use Rattle.chart_client.specs.declared.errors.ClientError.{ClientError}
@@ -25,6 +25,10 @@ end_of_step step.NoMemory = NoMemory
 -- where the pages stand for a book, a fault of the disk or want of memory alone keeps from the summary
 abbrev pub IsOutside : DemoEnd → Type 0
 IsOutside end = (end ≡ DiskFault) ⊎ (end ≡ NoMemory)
+
+-- where not all was answered, and no call of the disk failed, this is so
+abbrev pub IfStopped : {T : Type 0} → Result T DemoEnd → Type 0 → Type 0
+IfStopped result IsSo = IfErr result (λ end. end ≢ DiskFault → IsSo)
 
 -- the client accepted some frames one after the other, and rejects the next one for this error
 pub record MeetsError (error : ClientError) : Type 0 where

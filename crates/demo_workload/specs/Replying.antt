@@ -1,12 +1,14 @@
 -- What requests are answered one after the other, the pictures of the replies, and the book that they leave.
 use Rattle.std.specs.Prelude.{ℕ, ◌≡◌, ◌++◌, List, [], ◌∷◌, Option}
-use Rattle.block_disk.specs.View.{Image}
+use Rattle.block_disk.specs.View.{Image, View, Passes}
+use Rattle.gate_pages.specs.Pages.{Quiet}
 use Rattle.line_raster.specs.Canvas.{Canvas}
 use Rattle.request_lines.specs.declared.requests.Request.{Request}
 use Rattle.chart_frames.specs.declared.frame.Frame.{Frame}
 use Rattle.stored_book.specs.Standing.{StandsForBook}
 use Rattle.chart_service.specs.State.{State}
-use Rattle.chart_service.specs.Stepping.{RepliedTo}
+use Rattle.series_book.specs.declared.one_series.Series.{Series}
+use Rattle.chart_service.specs.Stepping.{RepliedTo, state_of}
 use Rattle.drawn_replies.specs.Mirrors.{IsPictureOf}
 use Rattle.demo_workload.specs.declared.summaries.Summary.{Summary}
 use Rattle.demo_workload.specs.Summaries.{summary_of}
@@ -44,3 +46,7 @@ pub record IsPartWay (requests : List Request) (total : ℕ) (old : State) (imag
   pub new : State
   pub answered : AnswersEach old first frames new
   pub stands : StandsForBook image total new.book
+
+-- at each moment from old to new a crash leaves such pages, and no byte is sent
+abbrev pub PassesPartWay : List Request → ℕ → List Series → View → View → Type 0
+PassesPartWay requests total book old new = Passes old new (IsPartWay requests total (state_of book total [])) (Quiet old)

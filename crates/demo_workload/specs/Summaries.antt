@@ -1,5 +1,5 @@
 -- The summary of the replies to requests.
-use Rattle.std.specs.Prelude.{ℕ, ◌*◌, ◌^◌, ◌≤◌, Bool, true, false, List, length, ◌++◌, sum_by, count_by, Option, None, Some, codes}
+use Rattle.std.specs.Prelude.{ℕ, ◌≡◌, ◌*◌, ◌^◌, ◌≤◌, Bool, true, false, List, [], ◌∷◌, length, ◌++◌, sum_by, count_by, Option, None, Some, codes}
 use Rattle.std.specs.Fmt.{decimal}
 use Rattle.line_raster.specs.Canvas.{Canvas, black_pixels}
 use Rattle.chart_frames.specs.declared.frame.Frame.{Frame}
@@ -57,6 +57,11 @@ summary_of frames pictures = record {
   sent = sum_by view_bytes frames;
   black = sum_by picture_pixels pictures;
 }
+
+-- a summary has one reply more, with its picture
+abbrev pub AddsReply : Frame → Option Canvas → Summary → Summary → Type 0
+AddsReply frame picture old new =
+    (frames : List Frame) (pictures : List (Option Canvas)) → old ≡ summary_of frames pictures → new ≡ summary_of (frames ++ frame ∷ []) (pictures ++ picture ∷ [])
 
 -- the line of a summary
 unfoldable pub summary_line : Summary → List ℕ

@@ -1,19 +1,16 @@
 //! One request of a workload: the service answers it, and a client draws what it is sent.
-ghost use Rattle.std.specs.Prelude.{◌≡◌, ◌≢◌, ◌+◌, ◌<◌, ◌^◌, ℕ, List, None, Some, IfOk, IfErr, OnOk, Err};
-ghost use Rattle.block_disk.specs.View.{View, Passes};
-ghost use Rattle.gate_pages.specs.Pages.{GoesOn, Quiet};
+ghost use Rattle.std.specs.Prelude.{◌≡◌, ◌≢◌, ◌+◌, ◌<◌, ◌^◌, ℕ, None, Some, IfOk, IfErr, OnOk, Err};
+ghost use Rattle.block_disk.specs.View.{View};
+ghost use Rattle.gate_pages.specs.Pages.{GoesOn};
 ghost use Rattle.request_lines.specs.Requests.{IsInRange};
-ghost use Rattle.series_book.specs.declared.one_series.Series.{Series};
-ghost use Rattle.stored_book.specs.Standing.{StandsForBook};
 ghost use Rattle.chart_frames.specs.Frames.{Fits};
 ghost use Rattle.chart_client.specs.Holdings.{holding_of};
 ghost use Rattle.chart_client.specs.Accepting.{Accepts, session_in};
-ghost use Rattle.chart_service.specs.State.{IsSound};
-ghost use Rattle.chart_service.specs.Stepping.{StandsAfter, state_of, RepliedTo, IsBeforeOrAfter, Steps};
-ghost use Rattle.drawn_replies.specs.Mirrors.{Mirrors};
+ghost use Rattle.chart_service.specs.Shown as shown;
+ghost use Rattle.chart_service.specs.Stepping.{RepliedTo, IsBeforeOrAfter, Steps};
 ghost use Rattle.demo_workload.specs.Summaries.{IsSmall};
-ghost use Rattle.demo_workload.specs.Ending.{IsOutside, end_of_step};
-ghost use Rattle.demo_workload.specs.Answering.{KnowsOpen, AnswersOne, AcceptsOne, RejectsAs, IsOneCause};
+ghost use Rattle.demo_workload.specs.Ending.{IfStopped, IsOutside, end_of_step};
+ghost use Rattle.demo_workload.specs.Answering.{ForMirrored, KnowsOpen, AnswersOne, AcceptsOne, RejectsAs, IsOneCause};
 
 use crate::demo_end::DemoEnd;
 use crate::summaries::Summary;
@@ -37,28 +34,23 @@ pub(crate) fn answer<P: Pages>(
     client: &mut Client,
     summary: &mut Summary,
 ) -> Result<(), DemoEnd>
-    requires fit { (P.view service.old.store.space.pages).fit }
+    requires fit { (shown.view service.old).fit }
     requires range { IsInRange request.now }
     requires known { KnowsOpen service.old.sessions client.old }
     requires few { summary.old.requests < 2 ^ 32 }
     requires small { IsSmall summary.old }
-    ensures answered { (total : ℕ) (book : List Series) → P.told service.old.store.space.pages → StandsForBook (P.view service.old.store.space.pages).image total book
-        → IsSound (state_of book total service.old.sessions) → Mirrors service.old.sessions client.old
-        → OnOk result (StandsAfter total (P.view service.new.store.space.pages).image service.new.sessions (λ new. AnswersOne request.now (state_of book total service.old.sessions) new client.new summary.old summary.new)) }
-    ensures standing { (total : ℕ) (book : List Series) → P.told service.old.store.space.pages → StandsForBook (P.view service.old.store.space.pages).image total book
-        → IsSound (state_of book total service.old.sessions) → Mirrors service.old.sessions client.old → IfErr result IsOutside }
-    ensures moments { (total : ℕ) (book : List Series) → P.told service.old.store.space.pages → StandsForBook (P.view service.old.store.space.pages).image total book
-        → Passes (P.view service.old.store.space.pages) (P.view service.new.store.space.pages) (IsBeforeOrAfter (RepliedTo request.now) total book service.old.sessions) (Quiet (P.view service.old.store.space.pages)) }
-    ensures left { (total : ℕ) (book : List Series) → P.told service.old.store.space.pages → StandsForBook (P.view service.old.store.space.pages).image total book
-        → IfErr result (λ end. end ≢ DemoEnd.DiskFault → IsBeforeOrAfter (RepliedTo request.now) total book service.old.sessions (P.view service.new.store.space.pages).image) }
+    ensures answered { ForMirrored service.old client.old (λ total old. OnOk result (shown.StandsSo total service.new (λ new. AnswersOne request.now old new client.new summary.old summary.new))) }
+    ensures standing { ForMirrored service.old client.old (λ total old. IfErr result IsOutside) }
+    ensures moments { shown.ForBook service.old (λ total book. shown.PassesBy (RepliedTo request.now) total book service.old service.new) }
+    ensures left { shown.ForBook service.old (λ total book. IfStopped result (IsBeforeOrAfter (RepliedTo request.now) total book service.old.sessions (shown.image service.new))) }
     // whatever the pages are
     ensures known { OnOk result (KnowsOpen service.new.sessions client.new) }
     ensures accepts { OnOk result (AcceptsOne client.old client.new) }
-    ensures cause { IfErr result (λ end. IsOneCause end client.old (P.told service.new.store.space.pages) service.new.store.catalog.series.items service.new.store.space.superblock.total (P.view service.old.store.space.pages) (P.view service.new.store.space.pages)) }
-    ensures steps { Steps (P.told service.old.store.space.pages) (P.told service.new.store.space.pages) (P.view service.old.store.space.pages) (P.view service.new.store.space.pages) }
-    ensures goes_on { GoesOn (P.under service.old.store.space.pages) (P.under service.new.store.space.pages) }
-    ensures fit { result ≢ Err DemoEnd.DiskFault → (P.view service.new.store.space.pages).fit }
-    ensures total { service.new.store.space.superblock.total ≡ service.old.store.space.superblock.total }
+    ensures cause { IfErr result (λ end. IsOneCause end client.old (shown.IsTold service.new) (shown.catalog service.new) (shown.total service.new) (shown.view service.old) (shown.view service.new)) }
+    ensures steps { Steps (shown.IsTold service.old) (shown.IsTold service.new) (shown.view service.old) (shown.view service.new) }
+    ensures goes_on { GoesOn (shown.under service.old) (shown.under service.new) }
+    ensures fit { result ≢ Err DemoEnd.DiskFault → (shown.view service.new).fit }
+    ensures total { shown.total service.new ≡ shown.total service.old }
     ensures small { OnOk result (IsSmall summary.new) }
     ensures requests { OnOk result (summary.new.requests ≡ summary.old.requests + 1) }
 {

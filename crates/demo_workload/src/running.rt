@@ -1,13 +1,12 @@
 //! A workload is given to a service and a client of it.
-ghost use Rattle.std.specs.Prelude.{◌≡◌, ◌≢◌, ◌≤◌, ℕ, List, [], IfOk, IfErr, Err};
-ghost use Rattle.block_disk.specs.View.{View, Passes, Now, Only};
-ghost use Rattle.gate_pages.specs.Pages.{GoesOn, Quiet};
-ghost use Rattle.series_book.specs.declared.one_series.Series.{Series};
-ghost use Rattle.stored_book.specs.Standing.{StandsForBook};
-ghost use Rattle.chart_service.specs.Stepping.{StandsAfter, state_of};
+ghost use Rattle.std.specs.Prelude.{◌≡◌, ◌≢◌, ◌≤◌, [], IfOk, IfErr, Err};
+ghost use Rattle.block_disk.specs.View.{View, Now, Only};
+ghost use Rattle.gate_pages.specs.Pages.{GoesOn};
+ghost use Rattle.chart_service.specs.Shown as shown;
+ghost use Rattle.chart_service.specs.Stepping.{state_of};
 ghost use Rattle.demo_workload.specs.Workload.{workload};
-ghost use Rattle.demo_workload.specs.Replying.{Summarizes, IsPartWay};
-ghost use Rattle.demo_workload.specs.Ending.{IsOutside, IsCause, Runs};
+ghost use Rattle.demo_workload.specs.Replying.{Summarizes, IsPartWay, PassesPartWay};
+ghost use Rattle.demo_workload.specs.Ending.{IfStopped, IsOutside, IsCause, Runs};
 
 use crate::answering::answer;
 use crate::demo_end::DemoEnd;
@@ -33,23 +32,20 @@ pub fn run_workload<P: Pages>(
     seed: u64,
     count: u32,
 ) -> Result<Summary, DemoEnd>
-    requires fit { (P.view service.old.store.space.pages).fit }
+    requires fit { (shown.view service.old).fit }
     requires alone { service.old.sessions ≡ [] }
     requires rounds { count ≤ 4096 }
-    ensures done { (total : ℕ) (book : List Series) → P.told service.old.store.space.pages → StandsForBook (P.view service.old.store.space.pages).image total book
-        → IfOk result (λ summary. StandsAfter total (P.view service.new.store.space.pages).image service.new.sessions (λ new. Summarizes (workload seed count) (state_of book total []) new summary)) }
-    ensures standing { (total : ℕ) (book : List Series) → P.told service.old.store.space.pages → StandsForBook (P.view service.old.store.space.pages).image total book → IfErr result IsOutside }
-    ensures moments { (total : ℕ) (book : List Series) → P.told service.old.store.space.pages → StandsForBook (P.view service.old.store.space.pages).image total book
-        → Passes (P.view service.old.store.space.pages) (P.view service.new.store.space.pages) (IsPartWay (workload seed count) total (state_of book total [])) (Quiet (P.view service.old.store.space.pages)) }
-    ensures left { (total : ℕ) (book : List Series) → P.told service.old.store.space.pages → StandsForBook (P.view service.old.store.space.pages).image total book
-        → IfErr result (λ end. end ≢ DemoEnd.DiskFault → IsPartWay (workload seed count) total (state_of book total []) (P.view service.new.store.space.pages).image) }
+    ensures done { shown.ForBook service.old (λ total book. IfOk result (λ summary. shown.StandsSo total service.new (λ new. Summarizes (workload seed count) (state_of book total []) new summary))) }
+    ensures standing { shown.ForBook service.old (λ total book. IfErr result IsOutside) }
+    ensures moments { shown.ForBook service.old (λ total book. PassesPartWay (workload seed count) total book (shown.view service.old) (shown.view service.new)) }
+    ensures left { shown.ForBook service.old (λ total book. IfStopped result (IsPartWay (workload seed count) total (state_of book total []) (shown.image service.new))) }
     // whatever the pages are
-    ensures cause { IfErr result (λ end. IsCause end (P.told service.new.store.space.pages) service.new.store.catalog.series.items service.new.store.space.superblock.total (P.view service.old.store.space.pages) (P.view service.new.store.space.pages)) }
-    ensures runs { Runs (P.told service.old.store.space.pages) (P.told service.new.store.space.pages) (P.view service.old.store.space.pages) (P.view service.new.store.space.pages) }
-    ensures goes_on { GoesOn (P.under service.old.store.space.pages) (P.under service.new.store.space.pages) }
-    ensures fit { result ≢ Err DemoEnd.DiskFault → (P.view service.new.store.space.pages).fit }
-    ensures rests { result ≢ Err DemoEnd.DiskFault → Only (P.view service.new.store.space.pages).image (Now (P.view service.new.store.space.pages)) }
-    ensures total { service.new.store.space.superblock.total ≡ service.old.store.space.superblock.total }
+    ensures cause { IfErr result (λ end. IsCause end (shown.IsTold service.new) (shown.catalog service.new) (shown.total service.new) (shown.view service.old) (shown.view service.new)) }
+    ensures runs { Runs (shown.IsTold service.old) (shown.IsTold service.new) (shown.view service.old) (shown.view service.new) }
+    ensures goes_on { GoesOn (shown.under service.old) (shown.under service.new) }
+    ensures fit { result ≢ Err DemoEnd.DiskFault → (shown.view service.new).fit }
+    ensures rests { result ≢ Err DemoEnd.DiskFault → Only (shown.image service.new) (Now (shown.view service.new)) }
+    ensures total { shown.total service.new ≡ shown.total service.old }
 {
     let _sound = service.is_sound();
     let mut workload = Workload::new(seed, count);

@@ -1,9 +1,7 @@
-ghost use Rattle.std.specs.Prelude.{ℕ, ◌≡◌, ◌+◌, ◌≤◌, ◌<◌, ◌^◌, ◌∷◌, ◌++◌, [], List, Option, length, IfOk, codes};
+ghost use Rattle.std.specs.Prelude.{◌≡◌, ◌+◌, ◌≤◌, ◌<◌, ◌^◌, ◌++◌, [], length, IfOk, codes};
 ghost use Rattle.std.specs.Fmt.{decimal};
-ghost use Rattle.line_raster.specs.Canvas.{Canvas};
-ghost use Rattle.chart_frames.specs.declared.frame.Frame.{Frame};
 ghost use Rattle.chart_frames.specs.Frames.{spelling};
-ghost use Rattle.demo_workload.specs.Summaries.{summary_of, summary_line, picture_pixels, IsSmall};
+ghost use Rattle.demo_workload.specs.Summaries.{AddsReply, summary_of, summary_line, picture_pixels, IsSmall};
 
 use crate::errors::NoMemory;
 use chart_frames::Frame;
@@ -51,7 +49,7 @@ impl Summary {
         requires small { IsSmall self.old }
         requires spelled { bytes ≡ length (spelling frame.now) }
         requires short { bytes ≤ 4194308 }
-        ensures summary { (frames : List Frame) (pictures : List (Option Canvas)) → self.old ≡ summary_of frames pictures → self.new ≡ summary_of (frames ++ frame.now ∷ []) (pictures ++ picture.now ∷ []) }
+        ensures summary { AddsReply frame.now picture.now self.old self.new }
         ensures small { IsSmall self.new }
         ensures requests { self.new.requests ≡ self.old.requests + 1 }
     {

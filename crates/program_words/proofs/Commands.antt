@@ -1,6 +1,6 @@
 -- Where words are those of a command, and where the first wrong one is.
 use Rattle.std.proofs.Common.{◌≡◌, ℕ, zero, suc, ◌<◌, ◌≤◌, ◌^◌, List, [], ◌∷◌, length, length-take, take, Option, Some, refl, ap, sym, subst, ◌∙◌, arith}
-use Rattle.std.specs.Prelude.{slice_get, codes, min, Bool, true, false, not, IsTrue, if◌then◌else◌, None, Result, Ok, Err, IfErr, IsErrAnd}
+use Rattle.std.specs.Prelude.{slice_get, codes, min, Bool, true, false, not, IsTrue, if◌then◌else◌, None, Result, Ok, Err}
 use Rattle.std.specs.Str.Parse.{ParsesUnsigned}
 use Rattle.std.proofs.lemmas.Fmt.{parse-decimal}
 use Rattle.std.proofs.lemmas.Slice.Eq.{bytes_eq-Decides}
@@ -427,10 +427,6 @@ no_side words place n word here spells off side is there =
     let same : word ≡ decimal side = inside (slice_get words place) word (decimal side) here there in
     let equal : n ≡ side = one_natural word n side spells (same, omega (arith, is.most)) in
     off (omega (arith, equal, is.some), omega (arith, equal, is.most))
-
-pub error_so : {T E : Type 0} (P Q : E → Type 0) (r : Result T E) → IsErrAnd r P → ((e : E) → P e → Q e) → IfErr r Q
-error_so P Q (Ok v) is more = tt
-error_so P Q (Err e) is more = more e is
 
 -- without a word the command is missing
 pub wrong_none : (words : List (List ℕ)) → words ≡ [] → IsWrongAt 0 words

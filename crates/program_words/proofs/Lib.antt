@@ -1,1 +1,6 @@
+pub mod WalkLemmas
+pub mod FaultLemmas
+pub mod TurnLemmas
+pub mod ReadLemmas
+pub mod FoundLemmas
 pub mod Commands

@@ -1,9 +1,9 @@
 -- The words of the command line.
-use Rattle.std.specs.Prelude.{◌≡◌, ◌⊎◌, ℕ, ◌+◌, ◌<◌, ◌^◌, true, false, List, [], ◌∷◌, take, codes, slice_get, Some, Result, Ok, Err, IsTrue, ⊤}
+use Rattle.std.specs.Prelude.{◌≡◌, ◌⊎◌, ℕ, ◌+◌, ◌<◌, ◌^◌, true, false, List, [], ◌∷◌, take, map, codes, slice_get, Some, Result, Ok, Err, String, string_bytes, IsTrue, ⊤}
 use Rattle.std.specs.Fmt.{decimal}
 use Rattle.chart_grid.specs.Limits.{IsSide}
 use Rattle.series_book.specs.Names.{is_name}
-use Rattle.command_words.specs.Words.{plain_words, has_flag}
+use Rattle.program_words.specs.CommandLine.{plain_words, has_flag}
 use Rattle.program_words.specs.declared.words.Command.{Command}
 use Rattle.program_words.specs.declared.words.Command.TheVariants.{Plot, Load, Demo, Run, Serve, Draw, Init, Check}
 use Rattle.program_words.specs.declared.words.WordsEnd.{WordsEnd}
@@ -79,3 +79,21 @@ IsWrong place words = ((has_flag words ≡ true) × (place ≡ 0)) ⊎ ((has_fla
 abbrev pub EndsWords : WordsEnd → List (List ℕ) → Type 0
 EndsWords (Wrong place) words = IsWrong place words
 EndsWords NoMemory words = ⊤
+
+-- the words are those of a command, and this holds of it
+pub record OfCommand (words : List (List ℕ)) (P : Command → Type 0) : Type 0 where
+  pub command : Command
+  pub spells : Spells command words
+  pub holds : P command
+
+-- the same of the words that a program is given
+abbrev pub ByCommand : {Z : Type 0} → List (String Z) → (Command → Type 0) → Type 0
+ByCommand words P = OfCommand (plain_words (map string_bytes words)) P
+
+-- they are those of some command, and none is a flag
+abbrev pub AreCommand : {Z : Type 0} → List (String Z) → Type 0
+AreCommand words = (has_flag (map string_bytes words) ≡ false) × ByCommand words (λ command. Unit {0})
+
+-- they are those of this command
+abbrev pub AreWordsOf : {Z : Type 0} → Command → List (String Z) → Type 0
+AreWordsOf command words = (has_flag (map string_bytes words) ≡ false) × Spells command (plain_words (map string_bytes words))

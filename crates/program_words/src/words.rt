@@ -1,11 +1,12 @@
 ghost use Rattle.std.specs.Prelude.{◌≡◌, ◌≢◌, ◌↔◌, ◌<◌, ◌^◌, false, ℕ, IsTrue, map, None, Some, MatchOption, string_bytes, slice_get, IfOk, IfErr, IfSome, IfNone, codes};
 ghost use Rattle.std.specs.Fmt.{decimal};
 ghost use Rattle.chart_grid.specs.Limits.{IsSide};
-ghost use Rattle.command_words.specs.Words.{plain_words, has_flag};
+ghost use Rattle.program_words.specs.CommandLine.{plain_words, has_flag};
 ghost use Rattle.program_words.specs.Words.{Spells, IsWrongAt, IsWrongBy, IsSingle, EndsWords, HasNoSeed, word_of, placed};
 ghost use Rattle.program_words.specs.declared.words.Command.{Command};
 
-use command_words::{WordsError, read_words};
+use crate::errors::WordsError;
+use crate::reading::read_words;
 use series_book::{Name, NameError};
 use std::alloc::Global;
 use whole_number::natural;

@@ -1,5 +1,5 @@
 use Rattle.std.proofs.Common.{ap, arith, sym, ◌∙◌}
-use Rattle.command_status.specs.declared.status.Status.{Status}
+use Rattle.store_commands.specs.declared.status.Status.{Status}
 use Rattle.chart_program.proofs.commands.init_status.Goals as goal
 use Rattle.chart_program.proofs.commands.init_status.Goals.{in-NoMemory, in-DiskFault, in-TooSmall, in-IsStore}
 

@@ -1,5 +1,5 @@
 use Rattle.std.proofs.Common.{sym, subst}
-use Rattle.command_status.specs.declared.status.Status.{Status}
+use Rattle.store_commands.specs.declared.status.Status.{Status}
 use Rattle.program_words.specs.declared.words.Command.TheVariants.{Plot}
 use Rattle.chart_program.specs.Served.{faults_of}
 use Rattle.chart_program.specs.Ran.{CommandEnds}

@@ -1,4 +1,5 @@
-use Rattle.chart_program.proofs.Drawing.{error_so, no_memory_first}
+use Rattle.program_words.specs.Errors.{error_so}
+use Rattle.chart_program.proofs.Drawing.{no_memory_first}
 use Rattle.chart_program.proofs.draw.draw.Goals as goal
 
 pub returns-in_err-client-clause-ends : goal.returns-in_err-client-clause-ends

@@ -1,4 +1,5 @@
-use Rattle.chart_program.proofs.Drawing.{error_so, piece_unfed}
+use Rattle.program_words.specs.Errors.{error_so}
+use Rattle.chart_program.proofs.Drawing.{piece_unfed}
 use Rattle.chart_program.proofs.draw.draw_piece.Goals as goal
 
 pub returns-in_err-feed-clause-stops : goal.returns-in_err-feed-clause-stops

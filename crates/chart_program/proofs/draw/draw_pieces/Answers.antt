@@ -4,7 +4,8 @@ use Rattle.chart_service.proofs.DiskKept.{kept_none}
 use Rattle.chart_program.specs.declared.draw_end.DrawEnd.{DrawEnd}
 use Rattle.chart_program.specs.Draws.{EndsDraw}
 use Rattle.chart_program.proofs.DiskKept.{kept_then}
-use Rattle.chart_program.proofs.Drawing.{drawn_start, start_partial, start_counted, error_so, if_err, on_ok, read_all, cut_so, stopped_so, within_so, drawn_piece, drawn_sent, counted_more}
+use Rattle.program_words.specs.Errors.{error_so}
+use Rattle.chart_program.proofs.Drawing.{drawn_start, start_partial, start_counted, if_err, on_ok, read_all, cut_so, stopped_so, within_so, drawn_piece, drawn_sent, counted_more}
 use Rattle.chart_program.proofs.draw.draw_pieces.Goals as goal
 
 pub pieces-init : goal.pieces-init

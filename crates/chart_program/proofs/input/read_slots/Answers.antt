@@ -1,11 +1,12 @@
 use Rattle.std.proofs.Common.{ℤ, ◌^◌, List, Option, Ok, Err, IsTrue, IfSome, All, length, refl, ap, sym, subst, ◌∙◌, arith}
 use Rattle.std.proofs.lemmas.List.Elements.{All-nil}
 use Rattle.chart_world.specs.Reading.{Reading, unread}
+use Rattle.chart_world.specs.FrontLaws.{same_line}
 use Rattle.plain_chart.specs.Samples.{IsSlot}
-use Rattle.chart_service.proofs.Passing.{same_line}
 use Rattle.chart_program.specs.declared.input.InputEnd.{InputEnd}
 use Rattle.chart_program.specs.Reads.{Stops}
-use Rattle.chart_program.proofs.Ending.{start_so, end_so, read_all, bad_so, too_long_bad, not_added_so, fault_so, error_so, line_so, values_so, few_so}
+use Rattle.program_words.specs.Errors.{error_so}
+use Rattle.chart_program.proofs.Ending.{start_so, end_so, read_all, bad_so, too_long_bad, not_added_so, fault_so, line_so, values_so, few_so}
 use Rattle.chart_program.proofs.input.read_slots.Goals as goal
 
 pub lines-init : goal.lines-init

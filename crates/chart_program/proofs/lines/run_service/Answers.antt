@@ -2,12 +2,13 @@ use Rattle.std.proofs.Common.{◌≡◌, Err, sym, subst, ◌∙◌}
 use Rattle.std.specs.Prelude.{IsTrue}
 use Rattle.gate_pages.specs.GatePages.{IsClosed}
 use Rattle.chart_service.specs.declared.failure.ServeEnd.TheVariants.{DiskFault, NoMemory}
+use Rattle.chart_service.specs.Shown as shown
 use Rattle.chart_program.specs.declared.run_end.RunEnd.TheVariants.{Serve}
 use Rattle.chart_program.specs.Served.{AreTexts, faults_of, ServesLines}
 use Rattle.chart_program.proofs.LinesServed.{run_made, run_causes, made_none}
 use Rattle.chart_program.proofs.Telling.{texts_none}
 use Rattle.chart_program.proofs.Knowing.{holds_of, screen_follows, known_first}
-use Rattle.command_status.proofs.Stores.{store_disk, store_sound}
+use Rattle.store_commands.proofs.Stores.{store_disk, store_sound}
 use Rattle.chart_program.proofs.lines.run_service.Goals as goal
 
 pub returns-in-Ok : goal.returns-in-Ok
@@ -17,9 +18,9 @@ returns-in-Ok g c =
     let sent = g.W.Streams.sent in
     let reads = g.W.Streams.read_faults in
     let sends = g.W.Streams.send_faults in
-    let pages = c.args.service.store.space.pages in
+    let pages = shown.pages c.args.service in
     let after = c.run_on-answer.new.service in
-    let end_pages = after.store.space.pages in
+    let end_pages = shown.pages after in
     let store = c.into_store.result in
     let disk = pages.disk in
     let new = end_pages.disk in
@@ -36,7 +37,7 @@ returns-in-Ok g c =
     let all = run_made pages.count end_pages.count pages.sound end_pages.sound (view disk) (view new) (left disk) (left new) (sent disk) (sent new) faults after.sessions made.serves.size made.serves.told made.goes_on made.serves.faults
     c.one_frame_a_spelling.ensures c.replies_draw_the_book.ensures c.clients_draw_the_book.ensures.accepts c.run_on-answer.result c.in-Ok.screen c.run_on-answer.new.show own c.in-Ok.ensures c.requires.alone
     (λ total book told stands. c.is_sound.ensures.state total book c.requires.sound told stands) made.done made.within made.ends made.crash closed
-    (run_causes c.one_frame_a_spelling.ensures law.numbered pages.count end_pages.count (view disk) (view new) faults after.store.catalog.series.items after.store.space.superblock.total c.run_on-answer.result made.serves.size made.read made.send made.disk made.bad made.shown
+    (run_causes c.one_frame_a_spelling.ensures law.numbered pages.count end_pages.count (view disk) (view new) faults (shown.catalog after) (shown.total after) c.run_on-answer.result made.serves.size made.read made.send made.disk made.bad made.shown
     (made.known holds_of (screen_follows change.others change.opened change.viewed c.one_frame_a_spelling.ensures) (known_first c.in-Ok.screen own c.requires.alone))) in
     let D : g.row.W.Denot → Type 0 = λ d. ServesLines AreTexts (Unit {0}) pages.count (view disk) (view d) (left disk) (left d) (sent disk) (sent d) (faults_of (reads disk) (reads d) (sends disk) (sends d)) c.run_on-answer.result in
     subst D (sym same_disk) all
@@ -48,7 +49,7 @@ returns-in-Err g c =
     let sent = g.W.Streams.sent in
     let reads = g.W.Streams.read_faults in
     let sends = g.W.Streams.send_faults in
-    let pages = c.args.service.store.space.pages in
+    let pages = shown.pages c.args.service in
     let disk = pages.disk in
     let D : g.row.W.Denot → Type 0 = λ d. ServesLines AreTexts (Unit {0}) pages.count (view disk) (view d) (left disk) (left d) (sent disk) (sent d) (faults_of (reads disk) (reads d) (sends disk) (sends d)) (Err (Serve NoMemory)) in
     subst D (sym (c.disk_of-in-Err.ensures.disk ∙ store_disk c.into_store-in-Err.result c.args.service.store c.into_store-in-Err.ensures))

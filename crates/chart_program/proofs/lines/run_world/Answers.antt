@@ -1,5 +1,6 @@
 use Rattle.std.proofs.Common.{sym, ap, ◌∙◌}
 use Rattle.block_disk.specs.View.{Beside}
+use Rattle.series_store.specs.Shown as stored
 use Rattle.chart_program.specs.Served.{AreTexts, faults_of}
 use Rattle.chart_program.proofs.Telling.{texts_none}
 use Rattle.chart_program.proofs.World.{serves_opened, serves_not, same_faults}
@@ -13,11 +14,11 @@ returns-in-Ok g c =
     let reads = g.W.Streams.read_faults in
     let sends = g.W.Streams.send_faults in
     let old = c.args.world in
-    let mid = c.in-Ok.store.space.pages.disk in
+    let mid = (stored.pages c.in-Ok.store).disk in
     let new = c.run_lines-answer.result.1 in
     let beside = c.in-Ok.ensures.opens.beside_is in
     let w = g.met.W.World in
-    serves_opened AreTexts (Unit {0}) c.in-Ok.store.space.pages.count (view old) (view mid) (view new) (left mid) (left old) (left new) (sent mid) (sent old) (sent new)
+    serves_opened AreTexts (Unit {0}) (stored.pages c.in-Ok.store).count (view old) (view mid) (view new) (left mid) (left old) (left new) (sent mid) (sent old) (sent new)
     (faults_of (reads mid) (reads new) (sends mid) (sends new)) (faults_of (reads old) (reads new) (sends old) (sends new)) c.run_lines-answer.result.0 c.of_answering.result texts_none c.in-Ok.ensures.opens c.in-Ok.ensures.count
     (sym (w.beside_left mid) ∙ ap (λ (b : Beside). b.left) beside ∙ w.beside_left old)
     (sym (w.beside_sent mid) ∙ ap (λ (b : Beside). b.sent) beside ∙ w.beside_sent old)

@@ -1,10 +1,11 @@
 use Rattle.std.proofs.Common.{ℕ, Err, refl, sym, subst, ◌∙◌}
 use Rattle.std.specs.Prelude.{IsTrue}
 use Rattle.chart_service.specs.declared.failure.ServeEnd.TheVariants.{NoMemory}
+use Rattle.series_store.specs.Shown as stored
 use Rattle.chart_program.specs.declared.run_end.RunEnd.TheVariants.{Serve}
 use Rattle.chart_program.specs.Served.{Spelled, faults_of, ServesLines}
 use Rattle.chart_program.proofs.LinesServed.{made_none}
-use Rattle.command_status.proofs.Stores.{store_disk, store_count, store_sound}
+use Rattle.store_commands.proofs.Stores.{store_disk, store_count, store_sound}
 use Rattle.chart_program.proofs.lines.serve_lines.Goals as goal
 
 pub serve_service-requires-clause-sound : goal.serve_service-requires-clause-sound
@@ -19,10 +20,10 @@ returns-in-Ok g c =
     let sends = g.W.Streams.send_faults in
     let store = c.args.store in
     let made = c.in-Ok.service.store in
-    let disk = store.space.pages.disk in
+    let disk = (stored.pages store).disk in
     let new = c.serve_service.result.1 in
     let answer = c.serve_service.result.0 in
-    let D : g.row.W.Denot → Type 0 = λ d. ServesLines Spelled ⊥ made.space.pages.count (view d) (view new) (left d) (left new) (sent d) (sent new) (faults_of (reads d) (reads new) (sends d) (sends new)) answer in
+    let D : g.row.W.Denot → Type 0 = λ d. ServesLines Spelled ⊥ (stored.pages made).count (view d) (view new) (left d) (left new) (sent d) (sent new) (faults_of (reads d) (reads new) (sends d) (sends new)) answer in
     let C : ℕ → Type 0 = λ n. ServesLines Spelled ⊥ n (view disk) (view new) (left disk) (left new) (sent disk) (sent new) (faults_of (reads disk) (reads new) (sends disk) (sends new)) answer in
     subst C (store_count made store c.in-Ok.ensures.store) (subst D (store_disk made store c.in-Ok.ensures.store) c.serve_service.ensures)
 
@@ -34,8 +35,8 @@ returns-in-Err g c =
     let reads = g.W.Streams.read_faults in
     let sends = g.W.Streams.send_faults in
     let store = c.args.store in
-    let disk = store.space.pages.disk in
+    let disk = (stored.pages store).disk in
     let back = c.in-Err.field-0.value in
-    let D : g.row.W.Denot → Type 0 = λ d. ServesLines Spelled ⊥ store.space.pages.count (view disk) (view d) (left disk) (left d) (sent disk) (sent d) (faults_of (reads disk) (reads d) (sends disk) (sends d)) (Err (Serve NoMemory)) in
+    let D : g.row.W.Denot → Type 0 = λ d. ServesLines Spelled ⊥ (stored.pages store).count (view disk) (view d) (left disk) (left d) (sent disk) (sent d) (faults_of (reads disk) (reads d) (sends disk) (sends d)) (Err (Serve NoMemory)) in
     subst D (sym (c.disk_of.ensures.disk ∙ store_disk back store c.in-Err.ensures.back))
-    (made_none Spelled ⊥ store.space.pages.count (view disk) (left disk) (sent disk) (faults_of (reads disk) (reads disk) (sends disk) (sends disk)) (λ start. refl))
+    (made_none Spelled ⊥ (stored.pages store).count (view disk) (left disk) (sent disk) (faults_of (reads disk) (reads disk) (sends disk) (sends disk)) (λ start. refl))

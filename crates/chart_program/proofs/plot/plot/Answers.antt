@@ -1,11 +1,11 @@
 use Rattle.std.proofs.Common.{◌≡◌, ◌≢◌, Result, Err, IfSome, refl, sym, ap, ◌∙◌}
 use Rattle.chart_service.proofs.Sending.{error_goes}
-use Rattle.chart_service.proofs.Served.{error_is}
+use Rattle.chart_service.proofs.Ends.{error_is}
 use Rattle.chart_program.specs.declared.input.InputEnd.{InputEnd}
 use Rattle.chart_program.specs.declared.plot.PlotEnd.{PlotEnd}
 use Rattle.chart_program.specs.declared.plot.PlotEnd.TheVariants.{Input, SendFault}
 use Rattle.chart_program.specs.Plotted.{EndsPlot}
-use Rattle.chart_program.proofs.RunEnds.{on_err}
+use Rattle.chart_service.proofs.Ends.{on_err}
 use Rattle.chart_program.proofs.plot.plot.Goals as goal
 
 input_is : {T : Type 0} {e f : InputEnd} → ◌≡◌ {A = Result T PlotEnd} (Err (Input e)) (Err (Input f)) → e ≡ f

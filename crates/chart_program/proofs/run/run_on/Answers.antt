@@ -1,666 +1,80 @@
-use Rattle.std.proofs.Common.{ℕ, ◌≤◌, ◌^◌, None, Some, Ok, Err, IsTrue, length, refl, ap, sym, subst, ◌∙◌, arith}
-use Rattle.chart_world.specs.Reading.{Reading, unread, unread_input, input_length}
-use Rattle.gate_pages.specs.GateLaws.{goes_none, goes_then}
-use Rattle.page_space.specs.declared.superblock.Superblock.{Superblock}
-use Rattle.command_status.proofs.Held.{risen_since}
-use Rattle.chart_service.specs.Serving.{end_of}
-use Rattle.chart_service.specs.Stepping.{state_of}
-use Rattle.chart_service.specs.declared.failure.ServeEnd.TheVariants.{NoMemory}
-use Rattle.chart_service.proofs.DiskKept.{serves_none, serves_then, serves_kept as serves_disk}
-use Rattle.chart_service.proofs.Passing.{same_line}
-use Rattle.chart_service.proofs.Progress.{Gives}
-use Rattle.chart_service.proofs.Sending.{error_goes}
-use Rattle.chart_service.proofs.Served.{error_is, read_whole}
-use Rattle.chart_program.specs.declared.run_end.RunEnd.TheVariants.{Serve}
+use Rattle.std.proofs.Common.{◌≤◌, ◌^◌, IfErr, IfSome, OnOk, length, ap, sym, subst, ◌∙◌}
+use Rattle.block_disk.specs.View.{sent_now}
+use Rattle.chart_service.specs.Answering.{SendsAll}
+use Rattle.chart_service.specs.Shown as shown
+use Rattle.chart_service.specs.declared.failure.ServeEnd.TheVariants.{ReadFault, SendFault, DiskFault}
+use Rattle.chart_service.proofs.Sending.{ok_so}
 use Rattle.chart_program.specs.Known.{EndsKnown}
-use Rattle.chart_program.specs.Runs.{EndsRun, EndsAtBad, IsShown, IsReplyEnd}
-use Rattle.chart_program.proofs.Knowing.{known_kept}
-use Rattle.chart_program.specs.Sending.{Beside}
-use Rattle.chart_program.proofs.Replying.{serves_kept, reply_bad}
-use Rattle.chart_program.proofs.RunEnds.{differ, end_is, on_err, fault_read, fault_unsent, fault_disk, fault_bad}
-use Rattle.chart_program.proofs.RunStands.{far_first, far_kept, far_line, far_long_line, all_done, run_ends, no_memory_first, ends_lines, ends_line, ends_long_line, lasts_first, lasts_take, lasts_line}
+use Rattle.chart_program.specs.Runs.{AreShown, RunEndsBy, EndsAtBad, IsShown, run_answer}
+use Rattle.chart_program.proofs.Running.{done_shown, ends_shown, lasts_shown, run_fault, run_bad, run_shown, run_known, run_ok, follows, all_follow, all_known}
 use Rattle.chart_program.proofs.run.run_on.Goals as goal
 
-pub lines-init : goal.lines-init
-lines-init g c =
-    let view = g.P.Pages.view in
-    let pages = c.args.service.now.store.space.pages in
-    let o = g.P.Streams.left pages in
-    let before = g.P.Streams.sent pages in
-    let own = c.args.service.now.sessions in
-    let fresh = c.in_ok-lines.ensures in
-    let U : Reading → Type 0 = λ r. IsTrue r.usable in
-    record {
-      usable = subst U (sym fresh) refl;
-      counted = omega (arith, ap (λ r. r.taken) fresh, ap (λ r. r.given) fresh, ap (λ r. length r.pending) fresh);
-      within = omega (arith, ap (λ r. r.given) fresh);
-      whole = ap (λ r. input_length r.taken o) fresh;
-      fit = c.requires;
-      far = λ total book told stands. far_first g.V.Show.gives c.args.show.now o total book own before (view pages).image c.in_ok-lines.lines stands fresh;
-      lasts = λ total book told stands. lasts_first g.V.Show.gives c.args.show.now o before total book own (view pages) c.in_ok-lines.lines
-          (far_first g.V.Show.gives c.args.show.now o total book own before (view pages).image c.in_ok-lines.lines stands fresh) (g.met.P.Pages.rests pages c.requires) (g.met.P.PageWorld.counts_sent pages);
-      known = λ knows follows known. known;
-      serves = serves_none (g.P.Pages.told pages) (view pages);
-      goes_on = goes_none (g.P.Pages.under pages);
-      total_is = refl;
-      read_faults = omega arith;
-      send_faults = omega arith;
-    }
-
-pub returns-in_err-lines-clause-ends : goal.returns-in_err-lines-clause-ends
-returns-in_err-lines-clause-ends g c =
-    let view = g.P.Pages.view in
-    let pages = c.args.service.now.store.space.pages in
-    let o = g.P.Streams.left pages in
-    let before = g.P.Streams.sent pages in
-    let own = c.args.service.now.sessions in
-    λ total book told stands.
-    error_goes (λ end. EndsRun g.V.Show.gives c.args.show.now c.args.show.now o (state_of book total own) (view pages).image own o before before end) c.from_residual.result (Serve NoMemory) c.from_residual.ensures.1
-    (no_memory_first g.V.Show.gives c.args.show.now o total book own before (view pages).image o (Serve NoMemory) stands refl)
-
-pub returns-in_err-lines-clause-crash : goal.returns-in_err-lines-clause-crash
-returns-in_err-lines-clause-crash g c =
-    let view = g.P.Pages.view in
-    let pages = c.args.service.now.store.space.pages in
-    let o = g.P.Streams.left pages in
-    let before = g.P.Streams.sent pages in
-    let own = c.args.service.now.sessions in
-    λ total book told stands.
-    lasts_first g.V.Show.gives c.args.show.now o before total book own (view pages) unread_input
-    (far_first g.V.Show.gives c.args.show.now o total book own before (view pages).image unread_input stands refl) (g.met.P.Pages.rests pages c.requires) (g.met.P.PageWorld.counts_sent pages)
-
-pub returns-in_err-next-clause-ends : goal.returns-in_err-next-clause-ends
-returns-in_err-next-clause-ends g c =
-    let view = g.P.Pages.view in
-    let pages = c.args.service.now.store.space.pages in
-    let mid = c.lines.service.store.space.pages in
-    let taken = c.next.new.from.store.space.pages in
-    let o = g.P.Streams.left pages in
-    let before = g.P.Streams.sent pages in
-    let own = c.args.service.now.sessions in
-    let inv = c.lines.invariant in
-    let beside = c.next.ensures.beside in
-    let takes = beside.store_is.pages_are in
-    let kept = g.met.P.PageWorld.take_keeps mid taken takes in
-    let f = c.in_err-next.field-0.0 in
-    let no = c.in_err-next.ensures in
-    λ total book told stands.
-    let far = far_kept g.V.Show.gives c.args.show.now o total book own before c.lines.show c.lines.lines (g.P.Streams.left mid) (g.P.Streams.sent mid) (g.P.Streams.sent taken) (view mid).image (view taken).image c.lines.service.sessions c.next.new.from.sessions kept.image beside.sessions c.next.ensures.sent (inv.far total book told stands) in
-    error_goes (λ end. EndsRun g.V.Show.gives c.args.show.now c.lines.show o (state_of book total own) (view taken).image c.next.new.from.sessions (g.P.Streams.left taken) before (g.P.Streams.sent taken) end) c.from_residual-in_err-next.result (Serve (end_of f)) c.from_residual-in_err-next.ensures.1
-    (ends_lines g.V.Show.gives c.args.show.now o total book own before c.lines.show c.lines.lines c.next.new.self (g.P.Streams.left mid) (g.P.Streams.left taken) (g.P.Streams.sent taken) (view taken).image c.next.new.from.sessions f
-    (λ h. no.read_before (ap Err h)) (λ h. no.past_before (ap Err h)) (λ h. no.past (ap Err h)) no.left_on_err inv.counted no.total far)
-
-pub returns-in_err-next-clause-crash : goal.returns-in_err-next-clause-crash
-returns-in_err-next-clause-crash g c =
-    let view = g.P.Pages.view in
-    let pages = c.args.service.now.store.space.pages in
-    let mid = c.lines.service.store.space.pages in
-    let taken = c.next.new.from.store.space.pages in
-    let o = g.P.Streams.left pages in
-    let before = g.P.Streams.sent pages in
-    let own = c.args.service.now.sessions in
-    let inv = c.lines.invariant in
-    let beside = c.next.ensures.beside in
-    let takes = beside.store_is.pages_are in
-    λ total book told stands. lasts_take g.V.Show.gives c.args.show.now c.lines.show o before (g.P.Streams.sent mid) total book own c.lines.service.sessions (view pages) (view mid) (view taken) c.lines.lines (g.P.Streams.left mid) (inv.far total book told stands) (g.met.P.Pages.rests mid inv.fit) (g.met.P.PageWorld.counts_sent pages) (g.met.P.PageWorld.counts_sent mid) (g.met.P.PageWorld.take_passes mid taken takes) (inv.lasts total book told stands)
-
-pub returns-in_err-next-clause-goes_on : goal.returns-in_err-next-clause-goes_on
-returns-in_err-next-clause-goes_on g c =
-    let pages = c.args.service.now.store.space.pages in
-    let mid = c.lines.service.store.space.pages in
-    let taken = c.next.new.from.store.space.pages in
-    let inv = c.lines.invariant in
-    let beside = c.next.ensures.beside in
-    let takes = beside.store_is.pages_are in
-    goes_then (g.P.Pages.under pages) (g.P.Pages.under mid) (g.P.Pages.under taken) inv.goes_on (g.met.P.PageWorld.take_goes_on mid taken takes)
-
-pub returns-in-End-clause-done : goal.returns-in-End-clause-done
-returns-in-End-clause-done g c =
-    let view = g.P.Pages.view in
-    let pages = c.args.service.now.store.space.pages in
-    let mid = c.lines.service.store.space.pages in
-    let taken = c.next.new.from.store.space.pages in
-    let o = g.P.Streams.left pages in
-    let before = g.P.Streams.sent pages in
-    let own = c.args.service.now.sessions in
-    let inv = c.lines.invariant in
-    let beside = c.next.ensures.beside in
-    let takes = beside.store_is.pages_are in
-    let kept = g.met.P.PageWorld.take_keeps mid taken takes in
-    λ total book told stands.
-    let far = far_kept g.V.Show.gives c.args.show.now o total book own before c.lines.show c.lines.lines (g.P.Streams.left mid) (g.P.Streams.sent mid) (g.P.Streams.sent taken) (view mid).image (view taken).image c.lines.service.sessions c.next.new.from.sessions kept.image beside.sessions c.next.ensures.sent (inv.far total book told stands) in
-    all_done g.V.Show.gives c.args.show.now o total book own before c.lines.show c.lines.lines (g.P.Streams.left mid) (g.P.Streams.sent taken) (view taken).image c.next.new.from.sessions (c.in_ok-next.ensures.end (ap Ok c.in-End.is)) far
-
-pub returns-in-End-clause-within : goal.returns-in-End-clause-within
-returns-in-End-clause-within g c =
-    let mid = c.lines.service.store.space.pages in
-    let inv = c.lines.invariant in
-    read_whole (g.P.Streams.left c.args.service.now.store.space.pages) (g.P.Streams.left mid) c.lines.lines (2 ^ 32) (c.in_ok-next.ensures.end (ap Ok c.in-End.is)) inv.counted inv.within inv.whole
-
-pub returns-in-End-clause-crash : goal.returns-in-End-clause-crash
-returns-in-End-clause-crash g c =
-    let view = g.P.Pages.view in
-    let pages = c.args.service.now.store.space.pages in
-    let mid = c.lines.service.store.space.pages in
-    let taken = c.next.new.from.store.space.pages in
-    let o = g.P.Streams.left pages in
-    let before = g.P.Streams.sent pages in
-    let own = c.args.service.now.sessions in
-    let inv = c.lines.invariant in
-    let beside = c.next.ensures.beside in
-    let takes = beside.store_is.pages_are in
-    λ total book told stands. lasts_take g.V.Show.gives c.args.show.now c.lines.show o before (g.P.Streams.sent mid) total book own c.lines.service.sessions (view pages) (view mid) (view taken) c.lines.lines (g.P.Streams.left mid) (inv.far total book told stands) (g.met.P.Pages.rests mid inv.fit) (g.met.P.PageWorld.counts_sent pages) (g.met.P.PageWorld.counts_sent mid) (g.met.P.PageWorld.take_passes mid taken takes) (inv.lasts total book told stands)
-
-pub returns-in-End-clause-goes_on : goal.returns-in-End-clause-goes_on
-returns-in-End-clause-goes_on g c =
-    let pages = c.args.service.now.store.space.pages in
-    let mid = c.lines.service.store.space.pages in
-    let taken = c.next.new.from.store.space.pages in
-    let inv = c.lines.invariant in
-    let beside = c.next.ensures.beside in
-    let takes = beside.store_is.pages_are in
-    goes_then (g.P.Pages.under pages) (g.P.Pages.under mid) (g.P.Pages.under taken) inv.goes_on (g.met.P.PageWorld.take_goes_on mid taken takes)
-
-pub lines-preserved-in-Continue-branch-4 : goal.lines-preserved-in-Continue-branch-4
-lines-preserved-in-Continue-branch-4 g c =
-    let view = g.P.Pages.view in
-    let pages = c.args.service.now.store.space.pages in
-    let mid = c.lines.service.store.space.pages in
-    let taken = c.next.new.from.store.space.pages in
-    let o = g.P.Streams.left pages in
-    let before = g.P.Streams.sent pages in
-    let own = c.args.service.now.sessions in
-    let inv = c.lines.invariant in
-    let beside = c.next.ensures.beside in
-    let takes = beside.store_is.pages_are in
-    let kept = g.met.P.PageWorld.take_keeps mid taken takes in
-    let next = c.in_ok-next.ensures in
-    let new = c.answer_long_line.new.service.store.space.pages in
-    let made = c.answer_long_line.ensures in
-    let told_in = g.P.Pages.told in
-    let gives : Gives c.lines.lines c.next.new.self (g.P.Streams.left mid) (g.P.Streams.left taken) (None) = record {
-      first = next.too_long (ap Ok c.in-TooLong.is);
-      rest = next.rest;
-      counted = inv.counted;
-      counted_new = next.given;
-      total = next.total;
-    } in
-    record {
-      usable = next.usable;
-      counted = next.given;
-      within = next.within;
-      whole = ap (λ l. input_length c.next.new.self.taken l) made.left ∙ next.total ∙ inv.whole;
-      fit = made.kept.disk.fit (kept.fit inv.fit);
-      far = λ total book told stands.
-          let far = far_kept g.V.Show.gives c.args.show.now o total book own before c.lines.show c.lines.lines (g.P.Streams.left mid) (g.P.Streams.sent mid) (g.P.Streams.sent taken) (view mid).image (view taken).image c.lines.service.sessions c.next.new.from.sessions kept.image beside.sessions c.next.ensures.sent (inv.far total book told stands) in
-          let told' = g.met.P.PageWorld.take_told mid taken takes (inv.serves.told told) in
-          far_long_line g.V.Show.gives c.args.show.now o total book own before c.lines.show c.answer_long_line.new.show c.lines.lines c.next.new.self (g.P.Streams.left mid) (g.P.Streams.left taken) (g.P.Streams.left new) (g.P.Streams.sent taken) (g.P.Streams.sent new) (view taken).image (view new).image c.next.new.from.sessions c.answer_long_line.new.service.sessions gives made.left made.kept.disk.image (ap (λ (b : Beside). b.sessions) made.kept.same) far (c.in_ok-answer_long_line-in-TooLong.ensures.done total far.book told' far.stands);
-      lasts = λ total book told stands.
-          let far = far_kept g.V.Show.gives c.args.show.now o total book own before c.lines.show c.lines.lines (g.P.Streams.left mid) (g.P.Streams.sent mid) (g.P.Streams.sent taken) (view mid).image (view taken).image c.lines.service.sessions c.next.new.from.sessions kept.image beside.sessions c.next.ensures.sent (inv.far total book told stands) in
-          let told' = g.met.P.PageWorld.take_told mid taken takes (inv.serves.told told) in
-          lasts_line g.V.Show.gives c.args.show.now c.lines.show o before (g.P.Streams.sent taken) total book own c.next.new.from.sessions (view pages) (view taken) (view new) c.lines.lines c.next.new.self (g.P.Streams.left mid) (g.P.Streams.left taken) None far (g.met.P.PageWorld.counts_sent pages) (g.met.P.PageWorld.counts_sent taken) gives (made.moments total far.book told' far.stands) (lasts_take g.V.Show.gives c.args.show.now c.lines.show o before (g.P.Streams.sent mid) total book own c.lines.service.sessions (view pages) (view mid) (view taken) c.lines.lines (g.P.Streams.left mid) (inv.far total book told stands) (g.met.P.Pages.rests mid inv.fit) (g.met.P.PageWorld.counts_sent pages) (g.met.P.PageWorld.counts_sent mid) (g.met.P.PageWorld.take_passes mid taken takes) (inv.lasts total book told stands));
-      known = λ knows follows known. c.in_ok-answer_long_line-in-TooLong.ensures.known knows follows (known_kept knows c.lines.show c.lines.service.sessions c.next.new.from.sessions c.next.ensures.beside.sessions (c.lines.invariant.known knows follows known));
-      serves = serves_then (told_in pages) (told_in taken) (told_in new) (view pages) (view taken) (view new) (serves_then (told_in pages) (told_in mid) (told_in taken) (view pages) (view mid) (view taken) inv.serves (serves_disk (told_in mid) (told_in taken) (view mid) (view taken) kept (g.met.P.PageWorld.take_told mid taken takes) (g.met.P.PageWorld.take_was_told mid taken takes))) (serves_kept (told_in taken) (told_in new) (view taken) (view new) (g.P.Pages.under taken) (g.P.Pages.under new) _ _ made.kept);
-      goes_on = goes_then (g.P.Pages.under pages) (g.P.Pages.under taken) (g.P.Pages.under new) (goes_then (g.P.Pages.under pages) (g.P.Pages.under mid) (g.P.Pages.under taken) inv.goes_on (g.met.P.PageWorld.take_goes_on mid taken takes)) made.kept.under_goes;
-      total_is = ap (λ (b : Beside). b.total) made.kept.same ∙ ap (λ (s : Superblock). s.total) beside.store_is.superblock ∙ inv.total_is;
-      read_faults = omega (arith, next.read_faults, inv.read_faults, made.read_faults);
-      send_faults = omega (arith, next.send_faults, inv.send_faults, made.send_faults);
-    }
-
-pub returns-in_err-answer_long_line-in-TooLong-clause-ends : goal.returns-in_err-answer_long_line-in-TooLong-clause-ends
-returns-in_err-answer_long_line-in-TooLong-clause-ends g c =
-    let view = g.P.Pages.view in
-    let pages = c.args.service.now.store.space.pages in
-    let mid = c.lines.service.store.space.pages in
-    let taken = c.next.new.from.store.space.pages in
-    let o = g.P.Streams.left pages in
-    let before = g.P.Streams.sent pages in
-    let own = c.args.service.now.sessions in
-    let inv = c.lines.invariant in
-    let beside = c.next.ensures.beside in
-    let takes = beside.store_is.pages_are in
-    let kept = g.met.P.PageWorld.take_keeps mid taken takes in
-    let next = c.in_ok-next.ensures in
-    let new = c.answer_long_line.new.service.store.space.pages in
-    let made = c.answer_long_line.ensures in
-    let gives : Gives c.lines.lines c.next.new.self (g.P.Streams.left mid) (g.P.Streams.left taken) (None) = record {
-      first = next.too_long (ap Ok c.in-TooLong.is);
-      rest = next.rest;
-      counted = inv.counted;
-      counted_new = next.given;
-      total = next.total;
-    } in
-    λ total book told stands.
-    let far = far_kept g.V.Show.gives c.args.show.now o total book own before c.lines.show c.lines.lines (g.P.Streams.left mid) (g.P.Streams.sent mid) (g.P.Streams.sent taken) (view mid).image (view taken).image c.lines.service.sessions c.next.new.from.sessions kept.image beside.sessions c.next.ensures.sent (inv.far total book told stands) in
-    let told' = g.met.P.PageWorld.take_told mid taken takes (inv.serves.told told) in
-    error_goes (λ end. EndsRun g.V.Show.gives c.args.show.now c.answer_long_line.new.show o (state_of book total own) (view new).image c.answer_long_line.new.service.sessions (g.P.Streams.left new) before (g.P.Streams.sent new) end) c.from_residual-in_err-answer_long_line-in-TooLong.result c.in_err-answer_long_line-in-TooLong.field-0.0 c.from_residual-in_err-answer_long_line-in-TooLong.ensures.1
-    (run_ends g.V.Show.gives c.args.show.now o total book own before c.answer_long_line.new.show (view new).image c.answer_long_line.new.service.sessions (g.P.Streams.left taken) (g.P.Streams.left new) (g.P.Streams.sent new) (g.P.Streams.sent new) c.in_err-answer_long_line-in-TooLong.field-0.0 c.in_err-answer_long_line-in-TooLong.field-0.0 made.left refl refl
-    (ends_long_line g.V.Show.gives c.args.show.now o total book own before c.lines.show c.answer_long_line.new.show c.lines.lines c.next.new.self (g.P.Streams.left mid) (g.P.Streams.left taken) (g.P.Streams.sent taken) (g.P.Streams.sent new) (view taken).image (view new).image c.next.new.from.sessions c.answer_long_line.new.service.sessions far c.in_err-answer_long_line-in-TooLong.field-0.0 gives made.kept.disk.image (ap (λ (b : Beside). b.sessions) made.kept.same) (c.in_err-answer_long_line-in-TooLong.ensures.stops total far.book told' far.stands)))
-
-pub returns-in_err-answer_long_line-in-TooLong-clause-crash : goal.returns-in_err-answer_long_line-in-TooLong-clause-crash
-returns-in_err-answer_long_line-in-TooLong-clause-crash g c =
-    let view = g.P.Pages.view in
-    let pages = c.args.service.now.store.space.pages in
-    let mid = c.lines.service.store.space.pages in
-    let taken = c.next.new.from.store.space.pages in
-    let o = g.P.Streams.left pages in
-    let before = g.P.Streams.sent pages in
-    let own = c.args.service.now.sessions in
-    let inv = c.lines.invariant in
-    let beside = c.next.ensures.beside in
-    let takes = beside.store_is.pages_are in
-    let kept = g.met.P.PageWorld.take_keeps mid taken takes in
-    let next = c.in_ok-next.ensures in
-    let new = c.answer_long_line.new.service.store.space.pages in
-    let made = c.answer_long_line.ensures in
-    let gives : Gives c.lines.lines c.next.new.self (g.P.Streams.left mid) (g.P.Streams.left taken) (None) = record {
-      first = next.too_long (ap Ok c.in-TooLong.is);
-      rest = next.rest;
-      counted = inv.counted;
-      counted_new = next.given;
-      total = next.total;
-    } in
-    λ total book told stands.
-    let far = far_kept g.V.Show.gives c.args.show.now o total book own before c.lines.show c.lines.lines (g.P.Streams.left mid) (g.P.Streams.sent mid) (g.P.Streams.sent taken) (view mid).image (view taken).image c.lines.service.sessions c.next.new.from.sessions kept.image beside.sessions c.next.ensures.sent (inv.far total book told stands) in
-    let told' = g.met.P.PageWorld.take_told mid taken takes (inv.serves.told told) in
-    lasts_line g.V.Show.gives c.args.show.now c.lines.show o before (g.P.Streams.sent taken) total book own c.next.new.from.sessions (view pages) (view taken) (view new) c.lines.lines c.next.new.self (g.P.Streams.left mid) (g.P.Streams.left taken) None far (g.met.P.PageWorld.counts_sent pages) (g.met.P.PageWorld.counts_sent taken) gives (made.moments total far.book told' far.stands) (lasts_take g.V.Show.gives c.args.show.now c.lines.show o before (g.P.Streams.sent mid) total book own c.lines.service.sessions (view pages) (view mid) (view taken) c.lines.lines (g.P.Streams.left mid) (inv.far total book told stands) (g.met.P.Pages.rests mid inv.fit) (g.met.P.PageWorld.counts_sent pages) (g.met.P.PageWorld.counts_sent mid) (g.met.P.PageWorld.take_passes mid taken takes) (inv.lasts total book told stands))
-
-pub returns-in_err-answer_long_line-in-TooLong-clause-serves : goal.returns-in_err-answer_long_line-in-TooLong-clause-serves
-returns-in_err-answer_long_line-in-TooLong-clause-serves g c =
-    let view = g.P.Pages.view in
-    let pages = c.args.service.now.store.space.pages in
-    let mid = c.lines.service.store.space.pages in
-    let taken = c.next.new.from.store.space.pages in
-    let inv = c.lines.invariant in
-    let beside = c.next.ensures.beside in
-    let takes = beside.store_is.pages_are in
-    let kept = g.met.P.PageWorld.take_keeps mid taken takes in
-    let new = c.answer_long_line.new.service.store.space.pages in
-    let made = c.answer_long_line.ensures in
-    let told_in = g.P.Pages.told in
-    serves_then (told_in pages) (told_in taken) (told_in new) (view pages) (view taken) (view new) (serves_then (told_in pages) (told_in mid) (told_in taken) (view pages) (view mid) (view taken) inv.serves (serves_disk (told_in mid) (told_in taken) (view mid) (view taken) kept (g.met.P.PageWorld.take_told mid taken takes) (g.met.P.PageWorld.take_was_told mid taken takes))) (serves_kept (told_in taken) (told_in new) (view taken) (view new) (g.P.Pages.under taken) (g.P.Pages.under new) _ _ made.kept)
-
-pub returns-in_err-answer_long_line-in-TooLong-clause-goes_on : goal.returns-in_err-answer_long_line-in-TooLong-clause-goes_on
-returns-in_err-answer_long_line-in-TooLong-clause-goes_on g c =
-    let pages = c.args.service.now.store.space.pages in
-    let mid = c.lines.service.store.space.pages in
-    let taken = c.next.new.from.store.space.pages in
-    let inv = c.lines.invariant in
-    let beside = c.next.ensures.beside in
-    let takes = beside.store_is.pages_are in
-    let new = c.answer_long_line.new.service.store.space.pages in
-    let made = c.answer_long_line.ensures in
-    goes_then (g.P.Pages.under pages) (g.P.Pages.under taken) (g.P.Pages.under new) (goes_then (g.P.Pages.under pages) (g.P.Pages.under mid) (g.P.Pages.under taken) inv.goes_on (g.met.P.PageWorld.take_goes_on mid taken takes)) made.kept.under_goes
-
-pub lines-preserved : goal.lines-preserved
-lines-preserved g c =
-    let view = g.P.Pages.view in
-    let pages = c.args.service.now.store.space.pages in
-    let mid = c.lines.service.store.space.pages in
-    let taken = c.next.new.from.store.space.pages in
-    let o = g.P.Streams.left pages in
-    let before = g.P.Streams.sent pages in
-    let own = c.args.service.now.sessions in
-    let inv = c.lines.invariant in
-    let beside = c.next.ensures.beside in
-    let takes = beside.store_is.pages_are in
-    let kept = g.met.P.PageWorld.take_keeps mid taken takes in
-    let next = c.in_ok-next.ensures in
-    let new = c.answer_line.new.service.store.space.pages in
-    let made = c.answer_line.ensures in
-    let told_in = g.P.Pages.told in
-    let gives : Gives c.lines.lines c.next.new.self (g.P.Streams.left mid) (g.P.Streams.left taken) (Some c.line.result.now) = record {
-      first = same_line (unread c.lines.lines (g.P.Streams.left mid)) (unread c.next.new.self (g.P.Streams.left taken)) c.line.result.now c.next.new.self.line c.line.ensures.line (next.line (ap Ok c.in-Line.is));
-      rest = next.rest;
-      counted = inv.counted;
-      counted_new = next.given;
-      total = next.total;
-    } in
-    record {
-      usable = next.usable;
-      counted = next.given;
-      within = next.within;
-      whole = ap (λ l. input_length c.next.new.self.taken l) made.left ∙ next.total ∙ inv.whole;
-      fit = c.in_ok-answer_line-in-Line.ensures.sound (λ e. cc);
-      far = λ total book told stands.
-          let far = far_kept g.V.Show.gives c.args.show.now o total book own before c.lines.show c.lines.lines (g.P.Streams.left mid) (g.P.Streams.sent mid) (g.P.Streams.sent taken) (view mid).image (view taken).image c.lines.service.sessions c.next.new.from.sessions kept.image beside.sessions c.next.ensures.sent (inv.far total book told stands) in
-          let told' = g.met.P.PageWorld.take_told mid taken takes (inv.serves.told told) in
-          far_line g.V.Show.gives c.args.show.now o total book own before c.lines.show c.answer_line.new.show c.lines.lines c.next.new.self (g.P.Streams.left mid) (g.P.Streams.left taken) (g.P.Streams.left new) (g.P.Streams.sent taken) (g.P.Streams.sent new) c.line.result.now (view taken).image (view new).image c.next.new.from.sessions c.answer_line.new.service.sessions gives made.left far (c.in_ok-answer_line-in-Line.ensures.done total far.book told' far.stands);
-      lasts = λ total book told stands.
-          let far = far_kept g.V.Show.gives c.args.show.now o total book own before c.lines.show c.lines.lines (g.P.Streams.left mid) (g.P.Streams.sent mid) (g.P.Streams.sent taken) (view mid).image (view taken).image c.lines.service.sessions c.next.new.from.sessions kept.image beside.sessions c.next.ensures.sent (inv.far total book told stands) in
-          let told' = g.met.P.PageWorld.take_told mid taken takes (inv.serves.told told) in
-          lasts_line g.V.Show.gives c.args.show.now c.lines.show o before (g.P.Streams.sent taken) total book own c.next.new.from.sessions (view pages) (view taken) (view new) c.lines.lines c.next.new.self (g.P.Streams.left mid) (g.P.Streams.left taken) (Some c.line.result.now) far (g.met.P.PageWorld.counts_sent pages) (g.met.P.PageWorld.counts_sent taken) gives (made.moments total far.book told' far.stands) (lasts_take g.V.Show.gives c.args.show.now c.lines.show o before (g.P.Streams.sent mid) total book own c.lines.service.sessions (view pages) (view mid) (view taken) c.lines.lines (g.P.Streams.left mid) (inv.far total book told stands) (g.met.P.Pages.rests mid inv.fit) (g.met.P.PageWorld.counts_sent pages) (g.met.P.PageWorld.counts_sent mid) (g.met.P.PageWorld.take_passes mid taken takes) (inv.lasts total book told stands));
-      known = λ knows follows known. c.in_ok-answer_line-in-Line.ensures.known knows follows (known_kept knows c.lines.show c.lines.service.sessions c.next.new.from.sessions c.next.ensures.beside.sessions (c.lines.invariant.known knows follows known));
-      serves = serves_then (told_in pages) (told_in taken) (told_in new) (view pages) (view taken) (view new) (serves_then (told_in pages) (told_in mid) (told_in taken) (view pages) (view mid) (view taken) inv.serves (serves_disk (told_in mid) (told_in taken) (view mid) (view taken) kept (g.met.P.PageWorld.take_told mid taken takes) (g.met.P.PageWorld.take_was_told mid taken takes))) made.serves;
-      goes_on = goes_then (g.P.Pages.under pages) (g.P.Pages.under taken) (g.P.Pages.under new) (goes_then (g.P.Pages.under pages) (g.P.Pages.under mid) (g.P.Pages.under taken) inv.goes_on (g.met.P.PageWorld.take_goes_on mid taken takes)) made.goes_on;
-      total_is = made.total ∙ ap (λ (s : Superblock). s.total) beside.store_is.superblock ∙ inv.total_is;
-      read_faults = omega (arith, next.read_faults, inv.read_faults, made.read_faults);
-      send_faults = omega (arith, next.send_faults, inv.send_faults, made.send_faults);
-    }
-
-pub returns-in_err-answer_line-in-Line-clause-ends : goal.returns-in_err-answer_line-in-Line-clause-ends
-returns-in_err-answer_line-in-Line-clause-ends g c =
-    let view = g.P.Pages.view in
-    let pages = c.args.service.now.store.space.pages in
-    let mid = c.lines.service.store.space.pages in
-    let taken = c.next.new.from.store.space.pages in
-    let o = g.P.Streams.left pages in
-    let before = g.P.Streams.sent pages in
-    let own = c.args.service.now.sessions in
-    let inv = c.lines.invariant in
-    let beside = c.next.ensures.beside in
-    let takes = beside.store_is.pages_are in
-    let kept = g.met.P.PageWorld.take_keeps mid taken takes in
-    let next = c.in_ok-next.ensures in
-    let new = c.answer_line.new.service.store.space.pages in
-    let made = c.answer_line.ensures in
-    let gives : Gives c.lines.lines c.next.new.self (g.P.Streams.left mid) (g.P.Streams.left taken) (Some c.line.result.now) = record {
-      first = same_line (unread c.lines.lines (g.P.Streams.left mid)) (unread c.next.new.self (g.P.Streams.left taken)) c.line.result.now c.next.new.self.line c.line.ensures.line (next.line (ap Ok c.in-Line.is));
-      rest = next.rest;
-      counted = inv.counted;
-      counted_new = next.given;
-      total = next.total;
-    } in
-    λ total book told stands.
-    let far = far_kept g.V.Show.gives c.args.show.now o total book own before c.lines.show c.lines.lines (g.P.Streams.left mid) (g.P.Streams.sent mid) (g.P.Streams.sent taken) (view mid).image (view taken).image c.lines.service.sessions c.next.new.from.sessions kept.image beside.sessions c.next.ensures.sent (inv.far total book told stands) in
-    let told' = g.met.P.PageWorld.take_told mid taken takes (inv.serves.told told) in
-    error_goes (λ end. EndsRun g.V.Show.gives c.args.show.now c.answer_line.new.show o (state_of book total own) (view new).image c.answer_line.new.service.sessions (g.P.Streams.left new) before (g.P.Streams.sent new) end) c.from_residual-in_err-answer_line-in-Line.result c.in_err-answer_line-in-Line.field-0.0 c.from_residual-in_err-answer_line-in-Line.ensures.1
-    (run_ends g.V.Show.gives c.args.show.now o total book own before c.answer_line.new.show (view new).image c.answer_line.new.service.sessions (g.P.Streams.left taken) (g.P.Streams.left new) (g.P.Streams.sent new) (g.P.Streams.sent new) c.in_err-answer_line-in-Line.field-0.0 c.in_err-answer_line-in-Line.field-0.0 made.left refl refl
-    (ends_line g.V.Show.gives c.args.show.now o total book own before c.lines.show c.answer_line.new.show c.lines.lines c.next.new.self (g.P.Streams.left mid) (g.P.Streams.left taken) (g.P.Streams.sent taken) (g.P.Streams.sent new) (view taken).image (view new).image c.next.new.from.sessions c.answer_line.new.service.sessions far c.line.result.now c.in_err-answer_line-in-Line.field-0.0 gives (c.in_err-answer_line-in-Line.ensures.stops total far.book told' far.stands)))
-
-pub returns-in_err-answer_line-in-Line-clause-crash : goal.returns-in_err-answer_line-in-Line-clause-crash
-returns-in_err-answer_line-in-Line-clause-crash g c =
-    let view = g.P.Pages.view in
-    let pages = c.args.service.now.store.space.pages in
-    let mid = c.lines.service.store.space.pages in
-    let taken = c.next.new.from.store.space.pages in
-    let o = g.P.Streams.left pages in
-    let before = g.P.Streams.sent pages in
-    let own = c.args.service.now.sessions in
-    let inv = c.lines.invariant in
-    let beside = c.next.ensures.beside in
-    let takes = beside.store_is.pages_are in
-    let kept = g.met.P.PageWorld.take_keeps mid taken takes in
-    let next = c.in_ok-next.ensures in
-    let new = c.answer_line.new.service.store.space.pages in
-    let made = c.answer_line.ensures in
-    let gives : Gives c.lines.lines c.next.new.self (g.P.Streams.left mid) (g.P.Streams.left taken) (Some c.line.result.now) = record {
-      first = same_line (unread c.lines.lines (g.P.Streams.left mid)) (unread c.next.new.self (g.P.Streams.left taken)) c.line.result.now c.next.new.self.line c.line.ensures.line (next.line (ap Ok c.in-Line.is));
-      rest = next.rest;
-      counted = inv.counted;
-      counted_new = next.given;
-      total = next.total;
-    } in
-    λ total book told stands.
-    let far = far_kept g.V.Show.gives c.args.show.now o total book own before c.lines.show c.lines.lines (g.P.Streams.left mid) (g.P.Streams.sent mid) (g.P.Streams.sent taken) (view mid).image (view taken).image c.lines.service.sessions c.next.new.from.sessions kept.image beside.sessions c.next.ensures.sent (inv.far total book told stands) in
-    let told' = g.met.P.PageWorld.take_told mid taken takes (inv.serves.told told) in
-    lasts_line g.V.Show.gives c.args.show.now c.lines.show o before (g.P.Streams.sent taken) total book own c.next.new.from.sessions (view pages) (view taken) (view new) c.lines.lines c.next.new.self (g.P.Streams.left mid) (g.P.Streams.left taken) (Some c.line.result.now) far (g.met.P.PageWorld.counts_sent pages) (g.met.P.PageWorld.counts_sent taken) gives (made.moments total far.book told' far.stands) (lasts_take g.V.Show.gives c.args.show.now c.lines.show o before (g.P.Streams.sent mid) total book own c.lines.service.sessions (view pages) (view mid) (view taken) c.lines.lines (g.P.Streams.left mid) (inv.far total book told stands) (g.met.P.Pages.rests mid inv.fit) (g.met.P.PageWorld.counts_sent pages) (g.met.P.PageWorld.counts_sent mid) (g.met.P.PageWorld.take_passes mid taken takes) (inv.lasts total book told stands))
-
-pub returns-in_err-answer_line-in-Line-clause-serves : goal.returns-in_err-answer_line-in-Line-clause-serves
-returns-in_err-answer_line-in-Line-clause-serves g c =
-    let view = g.P.Pages.view in
-    let pages = c.args.service.now.store.space.pages in
-    let mid = c.lines.service.store.space.pages in
-    let taken = c.next.new.from.store.space.pages in
-    let inv = c.lines.invariant in
-    let beside = c.next.ensures.beside in
-    let takes = beside.store_is.pages_are in
-    let kept = g.met.P.PageWorld.take_keeps mid taken takes in
-    let new = c.answer_line.new.service.store.space.pages in
-    let made = c.answer_line.ensures in
-    let told_in = g.P.Pages.told in
-    serves_then (told_in pages) (told_in taken) (told_in new) (view pages) (view taken) (view new) (serves_then (told_in pages) (told_in mid) (told_in taken) (view pages) (view mid) (view taken) inv.serves (serves_disk (told_in mid) (told_in taken) (view mid) (view taken) kept (g.met.P.PageWorld.take_told mid taken takes) (g.met.P.PageWorld.take_was_told mid taken takes))) made.serves
-
-pub returns-in_err-answer_line-in-Line-clause-goes_on : goal.returns-in_err-answer_line-in-Line-clause-goes_on
-returns-in_err-answer_line-in-Line-clause-goes_on g c =
-    let pages = c.args.service.now.store.space.pages in
-    let mid = c.lines.service.store.space.pages in
-    let taken = c.next.new.from.store.space.pages in
-    let inv = c.lines.invariant in
-    let beside = c.next.ensures.beside in
-    let takes = beside.store_is.pages_are in
-    let new = c.answer_line.new.service.store.space.pages in
-    let made = c.answer_line.ensures in
-    goes_then (g.P.Pages.under pages) (g.P.Pages.under taken) (g.P.Pages.under new) (goes_then (g.P.Pages.under pages) (g.P.Pages.under mid) (g.P.Pages.under taken) inv.goes_on (g.met.P.PageWorld.take_goes_on mid taken takes)) made.goes_on
-
-pub returns-in_err-answer_line-in-Line-clause-disk : goal.returns-in_err-answer_line-in-Line-clause-disk
-returns-in_err-answer_line-in-Line-clause-disk g c =
-    let view = g.P.Pages.view in
-    let pages = c.args.service.now.store.space.pages in
-    let mid = c.lines.service.store.space.pages in
-    let taken = c.next.new.from.store.space.pages in
-    let inv = c.lines.invariant in
-    let beside = c.next.ensures.beside in
-    let takes = beside.store_is.pages_are in
-    let kept = g.met.P.PageWorld.take_keeps mid taken takes in
-    let new = c.answer_line.new.service.store.space.pages in
-    λ is. risen_since (view pages).faults (view taken).faults (view new).faults (omega (arith, inv.serves.faults, kept.faults)) (c.in_err-answer_line-in-Line.ensures.disk (sym (error_is c.from_residual-in_err-answer_line-in-Line.result c.in_err-answer_line-in-Line.field-0.0 c.from_residual-in_err-answer_line-in-Line.ensures.1) ∙ is))
-
-pub returns-in_err-answer_long_line-in-TooLong-clause-known : goal.returns-in_err-answer_long_line-in-TooLong-clause-known
-returns-in_err-answer_long_line-in-TooLong-clause-known g c = λ knows follows known.
-    let f = c.in_err-answer_long_line-in-TooLong.field-0.0 in
-    error_goes (EndsKnown g.V.Show.gives knows) c.from_residual-in_err-answer_long_line-in-TooLong.result f c.from_residual-in_err-answer_long_line-in-TooLong.ensures.1
-    (c.in_err-answer_long_line-in-TooLong.ensures.named knows follows (known_kept knows c.lines.show c.lines.service.sessions c.next.new.from.sessions c.next.ensures.beside.sessions (c.lines.invariant.known knows follows known)))
-
-pub returns-in_err-answer_line-in-Line-clause-known : goal.returns-in_err-answer_line-in-Line-clause-known
-returns-in_err-answer_line-in-Line-clause-known g c = λ knows follows known.
-    let f = c.in_err-answer_line-in-Line.field-0.0 in
-    error_goes (EndsKnown g.V.Show.gives knows) c.from_residual-in_err-answer_line-in-Line.result f c.from_residual-in_err-answer_line-in-Line.ensures.1
-    (c.in_err-answer_line-in-Line.ensures.named knows follows (known_kept knows c.lines.show c.lines.service.sessions c.next.new.from.sessions c.next.ensures.beside.sessions (c.lines.invariant.known knows follows known)))
-
-pub returns-in_err-lines-clause-known : goal.returns-in_err-lines-clause-known
-returns-in_err-lines-clause-known g c = λ knows follows known. error_goes (EndsKnown g.V.Show.gives knows) c.from_residual.result (Serve NoMemory) c.from_residual.ensures.1 tt
-
-pub returns-in_err-next-clause-known : goal.returns-in_err-next-clause-known
-returns-in_err-next-clause-known g c = λ knows follows known. error_goes (EndsKnown g.V.Show.gives knows) c.from_residual-in_err-next.result (Serve (end_of c.in_err-next.field-0.0)) c.from_residual-in_err-next.ensures.1 tt
-
-pub returns-in_err-lines-clause-done : goal.returns-in_err-lines-clause-done
-returns-in_err-lines-clause-done g c = λ total book told stands. on_err c.from_residual.result _ _ c.from_residual.ensures.1
-
-pub returns-in_err-lines-clause-within : goal.returns-in_err-lines-clause-within
-returns-in_err-lines-clause-within g c = on_err c.from_residual.result _ _ c.from_residual.ensures.1
-
-pub returns-in_err-lines-clause-read : goal.returns-in_err-lines-clause-read
-returns-in_err-lines-clause-read g c = λ fault. differ (sym (error_is c.from_residual.result (Serve NoMemory) c.from_residual.ensures.1) ∙ fault) refl
-
-pub returns-in_err-lines-clause-send : goal.returns-in_err-lines-clause-send
-returns-in_err-lines-clause-send g c = λ fault. differ (sym (error_is c.from_residual.result (Serve NoMemory) c.from_residual.ensures.1) ∙ fault) refl
-
-pub returns-in_err-lines-clause-disk : goal.returns-in_err-lines-clause-disk
-returns-in_err-lines-clause-disk g c = λ fault. differ (sym (error_is c.from_residual.result (Serve NoMemory) c.from_residual.ensures.1) ∙ fault) refl
-
-pub returns-in_err-lines-clause-shown : goal.returns-in_err-lines-clause-shown
-returns-in_err-lines-clause-shown g c = error_goes (IsShown g.V.Show.gives) c.from_residual.result (Serve NoMemory) c.from_residual.ensures.1 tt
-
-pub returns-in_err-lines-clause-bad : goal.returns-in_err-lines-clause-bad
-returns-in_err-lines-clause-bad g c =
-    let store = c.args.service.now.store in
-    error_goes (EndsAtBad (g.P.Pages.told store.space.pages) store.catalog.series.items (g.P.Pages.view store.space.pages).image store.space.superblock.total) c.from_residual.result (Serve NoMemory) c.from_residual.ensures.1 tt
-
-pub returns-in_err-lines-clause-serves : goal.returns-in_err-lines-clause-serves
-returns-in_err-lines-clause-serves g c = serves_none (g.P.Pages.told c.args.service.now.store.space.pages) (g.P.Pages.view c.args.service.now.store.space.pages)
-
-pub returns-in_err-lines-clause-goes_on : goal.returns-in_err-lines-clause-goes_on
-returns-in_err-lines-clause-goes_on g c = goes_none (g.P.Pages.under c.args.service.now.store.space.pages)
-
-pub returns-in_err-lines-clause-sound : goal.returns-in_err-lines-clause-sound
-returns-in_err-lines-clause-sound g c = λ other. c.requires
-
-pub returns-in_err-lines-clause-total : goal.returns-in_err-lines-clause-total
-returns-in_err-lines-clause-total g c = refl
-
-pub returns-in_err-next-clause-done : goal.returns-in_err-next-clause-done
-returns-in_err-next-clause-done g c = λ total book told stands. on_err c.from_residual-in_err-next.result _ _ c.from_residual-in_err-next.ensures.1
-
-pub returns-in_err-next-clause-within : goal.returns-in_err-next-clause-within
-returns-in_err-next-clause-within g c = on_err c.from_residual-in_err-next.result _ _ c.from_residual-in_err-next.ensures.1
-
-pub returns-in_err-next-clause-read : goal.returns-in_err-next-clause-read
-returns-in_err-next-clause-read g c =
-    let pages = c.args.service.now.store.space.pages in
-    let mid = c.lines.service.store.space.pages in
-    let taken = c.next.new.from.store.space.pages in
-    let reads = g.P.Streams.read_faults in
-    λ fault. risen_since (reads pages) (reads mid) (reads taken) c.lines.invariant.read_faults (c.in_err-next.ensures.read_fault (ap Err (fault_read c.in_err-next.field-0.0 (sym (error_is c.from_residual-in_err-next.result (Serve (end_of c.in_err-next.field-0.0)) c.from_residual-in_err-next.ensures.1) ∙ fault))))
-
-pub returns-in_err-next-clause-send : goal.returns-in_err-next-clause-send
-returns-in_err-next-clause-send g c = λ fault. fault_unsent c.in_err-next.field-0.0 (sym (error_is c.from_residual-in_err-next.result (Serve (end_of c.in_err-next.field-0.0)) c.from_residual-in_err-next.ensures.1) ∙ fault)
-
-pub returns-in_err-next-clause-disk : goal.returns-in_err-next-clause-disk
-returns-in_err-next-clause-disk g c = λ fault. fault_disk c.in_err-next.field-0.0 (sym (error_is c.from_residual-in_err-next.result (Serve (end_of c.in_err-next.field-0.0)) c.from_residual-in_err-next.ensures.1) ∙ fault)
-
-pub returns-in_err-next-clause-shown : goal.returns-in_err-next-clause-shown
-returns-in_err-next-clause-shown g c = error_goes (IsShown g.V.Show.gives) c.from_residual-in_err-next.result (Serve (end_of c.in_err-next.field-0.0)) c.from_residual-in_err-next.ensures.1 tt
-
-pub returns-in_err-next-clause-bad : goal.returns-in_err-next-clause-bad
-returns-in_err-next-clause-bad g c =
-    let store = c.next.new.from.store in
-    let taken = store.space.pages in
-    error_goes (EndsAtBad (g.P.Pages.told taken) store.catalog.series.items (g.P.Pages.view taken).image store.space.superblock.total) c.from_residual-in_err-next.result (Serve (end_of c.in_err-next.field-0.0)) c.from_residual-in_err-next.ensures.1
-    (fault_bad (g.P.Pages.told taken) store.catalog.series.items (g.P.Pages.view taken).image store.space.superblock.total c.in_err-next.field-0.0)
-
-pub returns-in_err-next-clause-serves : goal.returns-in_err-next-clause-serves
-returns-in_err-next-clause-serves g c =
-    let view = g.P.Pages.view in
-    let pages = c.args.service.now.store.space.pages in
-    let mid = c.lines.service.store.space.pages in
-    let taken = c.next.new.from.store.space.pages in
-    let inv = c.lines.invariant in
-    let takes = c.next.ensures.beside.store_is.pages_are in
-    let kept = g.met.P.PageWorld.take_keeps mid taken takes in
-    let told_in = g.P.Pages.told in
-    serves_then (told_in pages) (told_in mid) (told_in taken) (view pages) (view mid) (view taken) inv.serves (serves_disk (told_in mid) (told_in taken) (view mid) (view taken) kept (g.met.P.PageWorld.take_told mid taken takes) (g.met.P.PageWorld.take_was_told mid taken takes))
-
-pub returns-in_err-next-clause-sound : goal.returns-in_err-next-clause-sound
-returns-in_err-next-clause-sound g c =
-    let mid = c.lines.service.store.space.pages in
-    let taken = c.next.new.from.store.space.pages in
-    let inv = c.lines.invariant in
-    let takes = c.next.ensures.beside.store_is.pages_are in
-    let kept = g.met.P.PageWorld.take_keeps mid taken takes in
-    λ other. kept.fit inv.fit
-
-pub returns-in_err-next-clause-total : goal.returns-in_err-next-clause-total
-returns-in_err-next-clause-total g c = ap (λ (s : Superblock). s.total) c.next.ensures.beside.store_is.superblock ∙ c.lines.invariant.total_is
-
-pub returns-in-End-clause-ends : goal.returns-in-End-clause-ends
-returns-in-End-clause-ends g c = λ total book told stands. tt
-
-pub returns-in-End-clause-read : goal.returns-in-End-clause-read
-returns-in-End-clause-read g c = λ fault. differ fault refl
-
-pub returns-in-End-clause-send : goal.returns-in-End-clause-send
-returns-in-End-clause-send g c = λ fault. differ fault refl
-
-pub returns-in-End-clause-disk : goal.returns-in-End-clause-disk
-returns-in-End-clause-disk g c = λ fault. differ fault refl
-
-pub returns-in-End-clause-shown : goal.returns-in-End-clause-shown
-returns-in-End-clause-shown g c = tt
-
-pub returns-in-End-clause-known : goal.returns-in-End-clause-known
-returns-in-End-clause-known g c = λ knows follows known. tt
-
-pub returns-in-End-clause-bad : goal.returns-in-End-clause-bad
-returns-in-End-clause-bad g c = tt
-
-pub returns-in-End-clause-serves : goal.returns-in-End-clause-serves
-returns-in-End-clause-serves g c =
-    let view = g.P.Pages.view in
-    let pages = c.args.service.now.store.space.pages in
-    let mid = c.lines.service.store.space.pages in
-    let taken = c.next.new.from.store.space.pages in
-    let inv = c.lines.invariant in
-    let takes = c.next.ensures.beside.store_is.pages_are in
-    let kept = g.met.P.PageWorld.take_keeps mid taken takes in
-    let told_in = g.P.Pages.told in
-    serves_then (told_in pages) (told_in mid) (told_in taken) (view pages) (view mid) (view taken) inv.serves (serves_disk (told_in mid) (told_in taken) (view mid) (view taken) kept (g.met.P.PageWorld.take_told mid taken takes) (g.met.P.PageWorld.take_was_told mid taken takes))
-
-pub returns-in-End-clause-sound : goal.returns-in-End-clause-sound
-returns-in-End-clause-sound g c =
-    let mid = c.lines.service.store.space.pages in
-    let taken = c.next.new.from.store.space.pages in
-    let inv = c.lines.invariant in
-    let takes = c.next.ensures.beside.store_is.pages_are in
-    let kept = g.met.P.PageWorld.take_keeps mid taken takes in
-    λ other. kept.fit inv.fit
-
-pub returns-in-End-clause-total : goal.returns-in-End-clause-total
-returns-in-End-clause-total g c = ap (λ (s : Superblock). s.total) c.next.ensures.beside.store_is.superblock ∙ c.lines.invariant.total_is
-
-pub returns-in_err-answer_long_line-in-TooLong-clause-done : goal.returns-in_err-answer_long_line-in-TooLong-clause-done
-returns-in_err-answer_long_line-in-TooLong-clause-done g c = λ total book told stands. on_err c.from_residual-in_err-answer_long_line-in-TooLong.result _ _ c.from_residual-in_err-answer_long_line-in-TooLong.ensures.1
-
-pub returns-in_err-answer_long_line-in-TooLong-clause-within : goal.returns-in_err-answer_long_line-in-TooLong-clause-within
-returns-in_err-answer_long_line-in-TooLong-clause-within g c = on_err c.from_residual-in_err-answer_long_line-in-TooLong.result _ _ c.from_residual-in_err-answer_long_line-in-TooLong.ensures.1
-
-pub returns-in_err-answer_long_line-in-TooLong-clause-read : goal.returns-in_err-answer_long_line-in-TooLong-clause-read
-returns-in_err-answer_long_line-in-TooLong-clause-read g c = λ fault. absurd (subst IsReplyEnd (end_is (sym (error_is c.from_residual-in_err-answer_long_line-in-TooLong.result c.in_err-answer_long_line-in-TooLong.field-0.0 c.from_residual-in_err-answer_long_line-in-TooLong.ensures.1) ∙ fault)) c.in_err-answer_long_line-in-TooLong.ensures.ends)
-
-pub returns-in_err-answer_long_line-in-TooLong-clause-send : goal.returns-in_err-answer_long_line-in-TooLong-clause-send
-returns-in_err-answer_long_line-in-TooLong-clause-send g c =
-    let pages = c.args.service.now.store.space.pages in
-    let mid = c.lines.service.store.space.pages in
-    let taken = c.next.new.from.store.space.pages in
-    let new = c.answer_long_line.new.service.store.space.pages in
-    let sends = g.P.Streams.send_faults in
-    let Low : ℕ → Type 0 = λ n. sends pages ≤ n in
-    λ fault. risen_since (sends pages) (sends taken) (sends new) (subst Low (sym c.next.ensures.send_faults) c.lines.invariant.send_faults) (c.in_err-answer_long_line-in-TooLong.ensures.send (sym (error_is c.from_residual-in_err-answer_long_line-in-TooLong.result c.in_err-answer_long_line-in-TooLong.field-0.0 c.from_residual-in_err-answer_long_line-in-TooLong.ensures.1) ∙ fault))
-
-pub returns-in_err-answer_long_line-in-TooLong-clause-disk : goal.returns-in_err-answer_long_line-in-TooLong-clause-disk
-returns-in_err-answer_long_line-in-TooLong-clause-disk g c = λ fault. absurd (subst IsReplyEnd (end_is (sym (error_is c.from_residual-in_err-answer_long_line-in-TooLong.result c.in_err-answer_long_line-in-TooLong.field-0.0 c.from_residual-in_err-answer_long_line-in-TooLong.ensures.1) ∙ fault)) c.in_err-answer_long_line-in-TooLong.ensures.ends)
-
-pub returns-in_err-answer_long_line-in-TooLong-clause-shown : goal.returns-in_err-answer_long_line-in-TooLong-clause-shown
-returns-in_err-answer_long_line-in-TooLong-clause-shown g c = error_goes (IsShown g.V.Show.gives) c.from_residual-in_err-answer_long_line-in-TooLong.result c.in_err-answer_long_line-in-TooLong.field-0.0 c.from_residual-in_err-answer_long_line-in-TooLong.ensures.1 c.in_err-answer_long_line-in-TooLong.ensures.shown
-
-pub returns-in_err-answer_long_line-in-TooLong-clause-bad : goal.returns-in_err-answer_long_line-in-TooLong-clause-bad
-returns-in_err-answer_long_line-in-TooLong-clause-bad g c =
-    let store = c.answer_long_line.new.service.store in
-    let new = store.space.pages in
-    error_goes (EndsAtBad (g.P.Pages.told new) store.catalog.series.items (g.P.Pages.view new).image store.space.superblock.total) c.from_residual-in_err-answer_long_line-in-TooLong.result c.in_err-answer_long_line-in-TooLong.field-0.0 c.from_residual-in_err-answer_long_line-in-TooLong.ensures.1 (reply_bad (g.P.Pages.told new) store.catalog.series.items (g.P.Pages.view new).image store.space.superblock.total c.in_err-answer_long_line-in-TooLong.field-0.0 c.in_err-answer_long_line-in-TooLong.ensures.ends)
-
-pub returns-in_err-answer_long_line-in-TooLong-clause-sound : goal.returns-in_err-answer_long_line-in-TooLong-clause-sound
-returns-in_err-answer_long_line-in-TooLong-clause-sound g c =
-    let mid = c.lines.service.store.space.pages in
-    let taken = c.next.new.from.store.space.pages in
-    let inv = c.lines.invariant in
-    let takes = c.next.ensures.beside.store_is.pages_are in
-    let kept = g.met.P.PageWorld.take_keeps mid taken takes in
-    λ other. c.answer_long_line.ensures.kept.disk.fit (kept.fit inv.fit)
-
-pub returns-in_err-answer_long_line-in-TooLong-clause-total : goal.returns-in_err-answer_long_line-in-TooLong-clause-total
-returns-in_err-answer_long_line-in-TooLong-clause-total g c = ap (λ (b : Beside). b.total) c.answer_long_line.ensures.kept.same ∙ ap (λ (s : Superblock). s.total) c.next.ensures.beside.store_is.superblock ∙ c.lines.invariant.total_is
-
-pub returns-in_err-answer_line-in-Line-clause-done : goal.returns-in_err-answer_line-in-Line-clause-done
-returns-in_err-answer_line-in-Line-clause-done g c = λ total book told stands. on_err c.from_residual-in_err-answer_line-in-Line.result _ _ c.from_residual-in_err-answer_line-in-Line.ensures.1
-
-pub returns-in_err-answer_line-in-Line-clause-within : goal.returns-in_err-answer_line-in-Line-clause-within
-returns-in_err-answer_line-in-Line-clause-within g c = on_err c.from_residual-in_err-answer_line-in-Line.result _ _ c.from_residual-in_err-answer_line-in-Line.ensures.1
-
-pub returns-in_err-answer_line-in-Line-clause-read : goal.returns-in_err-answer_line-in-Line-clause-read
-returns-in_err-answer_line-in-Line-clause-read g c = λ fault. absurd (c.in_err-answer_line-in-Line.ensures.read (sym (error_is c.from_residual-in_err-answer_line-in-Line.result c.in_err-answer_line-in-Line.field-0.0 c.from_residual-in_err-answer_line-in-Line.ensures.1) ∙ fault))
-
-pub returns-in_err-answer_line-in-Line-clause-send : goal.returns-in_err-answer_line-in-Line-clause-send
-returns-in_err-answer_line-in-Line-clause-send g c =
-    let pages = c.args.service.now.store.space.pages in
-    let mid = c.lines.service.store.space.pages in
-    let taken = c.next.new.from.store.space.pages in
-    let new = c.answer_line.new.service.store.space.pages in
-    let sends = g.P.Streams.send_faults in
-    let Low : ℕ → Type 0 = λ n. sends pages ≤ n in
-    λ fault. risen_since (sends pages) (sends taken) (sends new) (subst Low (sym c.next.ensures.send_faults) c.lines.invariant.send_faults) (c.in_err-answer_line-in-Line.ensures.send (sym (error_is c.from_residual-in_err-answer_line-in-Line.result c.in_err-answer_line-in-Line.field-0.0 c.from_residual-in_err-answer_line-in-Line.ensures.1) ∙ fault))
-
-pub returns-in_err-answer_line-in-Line-clause-shown : goal.returns-in_err-answer_line-in-Line-clause-shown
-returns-in_err-answer_line-in-Line-clause-shown g c = error_goes (IsShown g.V.Show.gives) c.from_residual-in_err-answer_line-in-Line.result c.in_err-answer_line-in-Line.field-0.0 c.from_residual-in_err-answer_line-in-Line.ensures.1 c.in_err-answer_line-in-Line.ensures.shown
-
-pub returns-in_err-answer_line-in-Line-clause-bad : goal.returns-in_err-answer_line-in-Line-clause-bad
-returns-in_err-answer_line-in-Line-clause-bad g c =
-    let store = c.answer_line.new.service.store in
-    let new = store.space.pages in
-    error_goes (EndsAtBad (g.P.Pages.told new) store.catalog.series.items (g.P.Pages.view new).image store.space.superblock.total) c.from_residual-in_err-answer_line-in-Line.result c.in_err-answer_line-in-Line.field-0.0 c.from_residual-in_err-answer_line-in-Line.ensures.1 c.in_err-answer_line-in-Line.ensures.bad
-
-pub returns-in_err-answer_line-in-Line-clause-sound : goal.returns-in_err-answer_line-in-Line-clause-sound
-returns-in_err-answer_line-in-Line-clause-sound g c = λ other. c.in_err-answer_line-in-Line.ensures.sound (λ fault. other (error_is c.from_residual-in_err-answer_line-in-Line.result c.in_err-answer_line-in-Line.field-0.0 c.from_residual-in_err-answer_line-in-Line.ensures.1 ∙ fault))
-
-pub returns-in_err-answer_line-in-Line-clause-total : goal.returns-in_err-answer_line-in-Line-clause-total
-returns-in_err-answer_line-in-Line-clause-total g c = c.answer_line.ensures.total ∙ ap (λ (s : Superblock). s.total) c.next.ensures.beside.store_is.superblock ∙ c.lines.invariant.total_is
+pub returns-clause-done : goal.returns-clause-done
+returns-clause-done g c = λ total book told stands.
+    let old = c.args.service.now in
+    let new = c.answer_lines-answer.new.service in
+    let pages = shown.pages old in
+    let after = shown.pages new in
+    let gives = g.V.Show.gives in
+    let answer = c.answer_lines-answer.result in
+    let X = SendsAll g.P.Streams.left g.P.Streams.sent (AreShown gives c.args.show.now c.answer_lines-answer.new.kept) total book old new in
+    subst (λ r. OnOk r X) (sym c.of_answers.ensures) (run_ok answer X
+    (ok_so answer _ X (done_shown gives c.args.show.now c.answer_lines-answer.new.kept (g.P.Streams.left pages) total (shown.state old total book) (shown.image new) new.sessions (g.P.Streams.sent pages) (g.P.Streams.sent after)) (c.answer_lines-answer.ensures.done total book told stands)))
+
+pub returns-clause-within : goal.returns-clause-within
+returns-clause-within g c =
+    let X = IfSome (g.P.Streams.left (shown.pages c.args.service.now)) (λ input. length input ≤ 2 ^ 32) in
+    subst (λ r. OnOk r X) (sym c.of_answers.ensures) (run_ok c.answer_lines-answer.result X c.answer_lines-answer.ensures.within)
+
+pub returns-clause-ends : goal.returns-clause-ends
+returns-clause-ends g c = λ total book told stands.
+    let old = c.args.service.now in
+    let new = c.answer_lines-answer.new.service in
+    let pages = shown.pages old in
+    let after = shown.pages new in
+    let gives = g.V.Show.gives in
+    let unmade = c.answer_lines-answer.ensures.known _ (all_follow gives) (all_known c.args.show.now old.sessions) in
+    subst (λ r. IfErr r (RunEndsBy g.P.Streams.left g.P.Streams.sent gives c.args.show.now c.answer_lines-answer.new.kept total book old new)) (sym c.of_answers.ensures)
+    (ends_shown gives c.args.show.now c.answer_lines-answer.new.kept (shown.state old total book) (shown.image new) new.sessions (g.P.Streams.left after) (g.P.Streams.sent pages) (g.P.Streams.sent after) (g.P.Streams.left pages) c.answer_lines-answer.result unmade (c.answer_lines-answer.ensures.ends total book told stands))
+
+pub returns-clause-crash : goal.returns-clause-crash
+returns-clause-crash g c = λ total book told stands.
+    let old = c.args.service.now in
+    let new = c.answer_lines-answer.new.service in
+    let pages = shown.pages old in
+    lasts_shown g.V.Show.gives c.args.show.now (g.P.Streams.left pages) (g.P.Streams.sent pages) total (sent_now (shown.view old)) (shown.state old total book) (shown.view old) (shown.view new) (c.answer_lines-answer.ensures.crash total book told stands)
+
+pub returns-clause-read : goal.returns-clause-read
+returns-clause-read g c = λ fault.
+    let unmade = c.answer_lines-answer.ensures.known _ (all_follow g.V.Show.gives) (all_known c.args.show.now c.args.service.now.sessions) in
+    c.answer_lines-answer.ensures.read (run_fault g.V.Show.gives c.answer_lines-answer.result ReadFault (λ e. cc) unmade (sym c.of_answers.ensures ∙ fault))
+
+pub returns-clause-send : goal.returns-clause-send
+returns-clause-send g c = λ fault.
+    let unmade = c.answer_lines-answer.ensures.known _ (all_follow g.V.Show.gives) (all_known c.args.show.now c.args.service.now.sessions) in
+    c.answer_lines-answer.ensures.send (run_fault g.V.Show.gives c.answer_lines-answer.result SendFault (λ e. cc) unmade (sym c.of_answers.ensures ∙ fault))
+
+pub returns-clause-disk : goal.returns-clause-disk
+returns-clause-disk g c = λ fault.
+    let unmade = c.answer_lines-answer.ensures.known _ (all_follow g.V.Show.gives) (all_known c.args.show.now c.args.service.now.sessions) in
+    c.answer_lines-answer.ensures.disk (run_fault g.V.Show.gives c.answer_lines-answer.result DiskFault (λ e. cc) unmade (sym c.of_answers.ensures ∙ fault))
+
+pub returns-clause-shown : goal.returns-clause-shown
+returns-clause-shown g c =
+    let unmade = c.answer_lines-answer.ensures.known _ (all_follow g.V.Show.gives) (all_known c.args.show.now c.args.service.now.sessions) in
+    subst (λ r. IfErr r (IsShown g.V.Show.gives)) (sym c.of_answers.ensures) (run_shown g.V.Show.gives c.answer_lines-answer.result unmade)
+
+pub returns-clause-known : goal.returns-clause-known
+returns-clause-known g c = λ knows is known.
+    let gives = g.V.Show.gives in
+    subst (λ r. IfErr r (EndsKnown gives knows)) (sym c.of_answers.ensures) (run_known gives knows c.answer_lines-answer.result (c.answer_lines-answer.ensures.known knows (follows gives knows is) known))
+
+pub returns-clause-bad : goal.returns-clause-bad
+returns-clause-bad g c =
+    let it = c.answer_lines-answer.new.service in
+    let unmade = c.answer_lines-answer.ensures.known _ (all_follow g.V.Show.gives) (all_known c.args.show.now c.args.service.now.sessions) in
+    subst (λ r. IfErr r (EndsAtBad (shown.IsTold it) (shown.catalog it) (shown.image it) (shown.total it))) (sym c.of_answers.ensures)
+    (run_bad g.V.Show.gives (shown.IsTold it) (shown.catalog it) (shown.image it) (shown.total it) c.answer_lines-answer.result unmade c.answer_lines-answer.ensures.bad)
+
+pub returns-clause-sound : goal.returns-clause-sound
+returns-clause-sound g c = λ other. c.answer_lines-answer.ensures.sound (λ is. other (c.of_answers.ensures ∙ ap run_answer is))

@@ -2,7 +2,7 @@ use Rattle.std.proofs.Common.{ℤ, subst, sym, arith}
 use Rattle.std.specs.Prelude.{FitsSigned, IsTrue, false}
 use Rattle.std.specs.Int.{w128}
 use Rattle.std.proofs.lemmas.Int.{ints, to_z-of_z}
-use Rattle.plain_chart.specs.Samples.{IsValue}
+use Rattle.whole_number.specs.Range.{IsValue}
 use Rattle.chart_program.proofs.Entries.{no_slot}
 use Rattle.chart_program.proofs.slot.value_of.Goals as goal
 

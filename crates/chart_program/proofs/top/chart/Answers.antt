@@ -9,7 +9,7 @@ pub returns-in-Err-NoMemory-clause-codes : goal.returns-in-Err-NoMemory-clause-c
 returns-in-Err-NoMemory-clause-codes g c = (2, omega arith, sym c.ended-in-Err-NoMemory.ensures.code)
 
 pub returns-in-Err-Wrong-clause-ready : goal.returns-in-Err-Wrong-clause-ready
-returns-in-Err-Wrong-clause-ready g c = λ plain init large honest fresh whole. absurd (wrong_never c.in-Err-Wrong.place _ Init plain init (wrong_end c.in-Err-Wrong.field-0 c.in-Err-Wrong.place _ c.in-Err-Wrong.field-0-is c.in-Err-Wrong.ensures.wrong))
+returns-in-Err-Wrong-clause-ready g c = λ own free whole. absurd (wrong_never c.in-Err-Wrong.place _ Init own.0 own.1 (wrong_end c.in-Err-Wrong.field-0 c.in-Err-Wrong.place _ c.in-Err-Wrong.field-0-is c.in-Err-Wrong.ensures.wrong))
 
 pub status_of_command-requires : goal.status_of_command-requires
 status_of_command-requires g c = with_operands c.in-Ok.command _ c.in-Ok.ensures.command
@@ -152,12 +152,12 @@ returns-in-Ok-clause-pictures g c =
 pub returns-in-Ok-clause-ready : goal.returns-in-Ok-clause-ready
 returns-in-Ok-clause-ready g c =
     let e = c.status_of_command.ensures in
-    λ plain init. e.ready (one_init c.in-Ok.command _ c.in-Ok.ensures.command init)
+    λ own. e.ready (one_init c.in-Ok.command _ c.in-Ok.ensures.command own.1)
 
 pub returns-in-Ok-clause-complete : goal.returns-in-Ok-clause-complete
 returns-in-Ok-clause-complete g c =
     let e = c.status_of_command.ensures in
-    λ plain. completes _ c.in-Ok.command _ _ _ _ _ _ _ c.in-Ok.ensures.command e.complete
+    completes c.args.words.now _ c.in-Ok.command _ _ _ c.in-Ok.ensures.command e.complete
 
 pub returns-in-Err-Wrong-clause-codes : goal.returns-in-Err-Wrong-clause-codes
 returns-in-Err-Wrong-clause-codes g c = (1, omega arith, sym c.ended.ensures.code)
@@ -334,4 +334,11 @@ pub returns-in-Err-NoMemory-clause-untouched : goal.returns-in-Err-NoMemory-clau
 returns-in-Err-NoMemory-clause-untouched g c = λ is. refl
 
 pub returns-in-Err-NoMemory-clause-ready : goal.returns-in-Err-NoMemory-clause-ready
-returns-in-Err-NoMemory-clause-ready g c = λ plain init large honest fresh whole. inr c.ended-in-Err-NoMemory.ensures.code
+returns-in-Err-NoMemory-clause-ready g c = λ own free whole. inr c.ended-in-Err-NoMemory.ensures.code
+
+pub returns-in-Err-Wrong-clause-complete : goal.returns-in-Err-Wrong-clause-complete
+returns-in-Err-Wrong-clause-complete g c = λ given.
+    absurd (wrong_never c.in-Err-Wrong.place _ given.command.1.command given.command.0 given.command.1.spells (wrong_end c.in-Err-Wrong.field-0 c.in-Err-Wrong.place _ c.in-Err-Wrong.field-0-is c.in-Err-Wrong.ensures.wrong))
+
+pub returns-in-Err-NoMemory-clause-complete : goal.returns-in-Err-NoMemory-clause-complete
+returns-in-Err-NoMemory-clause-complete g c = λ given. (1, omega arith, sym c.ended-in-Err-NoMemory.ensures.code)

@@ -1,14 +1,74 @@
-use Rattle.om3_coeff.specs.View.{StaysSame}
+use Rattle.std.proofs.Common.{◌≡◌, ℤ, ◌≤ℤ◌, ◌∙◌, FitsSigned, to_z, of_z, w64, sym, subst, rules}
+use Rattle.std.proofs.lemmas.Int.{to_z-of_z}
+use Rattle.om3_coeff.specs.View.{NodesView, StaysSame, Agrees}
 use Rattle.om3_coeff.proofs.WalkLemmas.{still_agrees}
+use Rattle.tree_walk.proofs.StepLemmas.{error_so}
+use Rattle.zoom_session.specs.Plans.{AreNeeded, CountsNeeded}
+use Rattle.zoom_session.specs.Sessions.{session_of}
+use Rattle.zoom_session.specs.declared.errors.PlanError.{PlanError}
+use Rattle.chart_service.specs.Planning.{RefusesView, CountsOver}
 use Rattle.chart_service.proofs.Told.{tells_so}
+use Rattle.chart_service.proofs.Ranged.{range_refused, plan_refused, plan_counts, range_at, order_back}
 use Rattle.chart_service.proofs.shown.plan.Goals as goal
+
+pub returns-in-Err-clause-refused : goal.returns-in-Err-clause-refused
+returns-in-Err-clause-refused g c =
+    range_refused c.args.number c.args.sessions.now (g.N.Nodes.view c.args.nodes.now) (g.N.Nodes.view c.shown_range.new.nodes) c.in-Err.error c.requires.opened c.in-Err.ensures.cause
+
+pub plan_view-requires-clause-slots : goal.plan_view-requires-clause-slots
+plan_view-requires-clause-slots g c =
+    let first : StaysSame (g.N.Nodes.view c.args.nodes.now) (g.N.Nodes.view c.shown_range.new.nodes) =
+    g.met.N.Nodes.keeps_same c.args.nodes.now c.shown_range.new.nodes c.shown_range.ensures.kept in
+    c.requires.slots ∙ sym first.slots
+
+pub plan_view-requires-clause-range : goal.plan_view-requires-clause-range
+plan_view-requires-clause-range g c = order_back c.in-Ok.range.lo c.in-Ok.range.hi (search rules) (search rules) c.in-Ok.ensures.in_frame.ordered
+
+pub returns-in_err-plan-clause-refused : goal.returns-in_err-plan-clause-refused
+returns-in_err-plan-clause-refused g c =
+    let old : NodesView = g.N.Nodes.view c.args.nodes.now in
+    let mid : NodesView = g.N.Nodes.view c.shown_range.new.nodes in
+    let new : NodesView = g.N.Nodes.view c.plan_view.new.nodes in
+    let first : StaysSame old mid = g.met.N.Nodes.keeps_same c.args.nodes.now c.shown_range.new.nodes c.shown_range.ensures.kept in
+    let P : PlanError → Type 0 = RefusesView (session_of c.args.number c.args.sessions.now) old new in
+    error_so (λ (e : PlanError). e ≡ c.in_err-plan.field-0.0) P c.from_residual.result c.from_residual.ensures.1
+    (λ e is. subst P (sym is)
+    (plan_refused (session_of c.args.number c.args.sessions.now) old mid new c.args.axis c.args.spec.now.grid _ _ c.in_err-plan.field-0.0 first c.shown_range.ensures.faults c.in_err-plan.ensures.refused))
+
+pub returns-in_err-plan-clause-counted : goal.returns-in_err-plan-clause-counted
+returns-in_err-plan-clause-counted g c = λ list agrees.
+    let old : NodesView = g.N.Nodes.view c.args.nodes.now in
+    let mid : NodesView = g.N.Nodes.view c.shown_range.new.nodes in
+    let first : StaysSame old mid = g.met.N.Nodes.keeps_same c.args.nodes.now c.shown_range.new.nodes c.shown_range.ensures.kept in
+    let P : PlanError → Type 0 = CountsOver list c.args.axis c.args.spec.now in
+    error_so (λ (e : PlanError). e ≡ c.in_err-plan.field-0.0) P c.from_residual.result c.from_residual.ensures.1
+    (λ e is. subst P (sym is)
+    (plan_counts list c.args.axis c.args.spec.now c.in-Ok.range c.in_err-plan.field-0.0 (c.in-Ok.ensures.shown list agrees)
+    (range_at (λ lo hi. CountsNeeded list c.args.axis c.args.spec.now.grid lo hi c.in_err-plan.field-0.0) _ _ c.in-Ok.range.lo c.in-Ok.range.hi
+    (to_z-of_z w64 c.in-Ok.range.lo (search rules)) (to_z-of_z w64 c.in-Ok.range.hi (search rules))
+    (c.in_err-plan.ensures.counted list (c.agreeing_nodes_agree_for_views.ensures list c.args.axis c.args.spec.now.grid _ _ (still_agrees old mid list first agrees))))))
+
+pub returns-in_err-plan-clause-kept : goal.returns-in_err-plan-clause-kept
+returns-in_err-plan-clause-kept g c =
+    g.met.N.Nodes.keeps_on c.args.nodes.now c.shown_range.new.nodes c.plan_view.new.nodes c.shown_range.ensures.kept c.plan_view.ensures.kept
+
+pub returns-clause-kept : goal.returns-clause-kept
+returns-clause-kept g c =
+    g.met.N.Nodes.keeps_on c.args.nodes.now c.shown_range.new.nodes c.plan_view.new.nodes c.shown_range.ensures.kept c.plan_view.ensures.kept
+
+pub returns-clause-needed : goal.returns-clause-needed
+returns-clause-needed g c = λ list agrees.
+    let old : NodesView = g.N.Nodes.view c.args.nodes.now in
+    let mid : NodesView = g.N.Nodes.view c.shown_range.new.nodes in
+    let first : StaysSame old mid = g.met.N.Nodes.keeps_same c.args.nodes.now c.shown_range.new.nodes c.shown_range.ensures.kept in
+    range_at (λ lo hi. AreNeeded list c.args.axis c.args.spec.now.grid lo hi c.in_ok-plan.plan.needed) _ _ c.in-Ok.range.lo c.in-Ok.range.hi
+    (to_z-of_z w64 c.in-Ok.range.lo (search rules)) (to_z-of_z w64 c.in-Ok.range.hi (search rules))
+    (c.in_ok-plan.ensures.needed list (c.agreeing_nodes_agree_for_views.ensures list c.args.axis c.args.spec.now.grid _ _ (still_agrees old mid list first agrees)))
 
 pub returns-clause-told : goal.returns-clause-told
 returns-clause-told g c = λ list agrees.
-    let first : StaysSame (g.N.Nodes.view c.args.nodes.now) (g.N.Nodes.view c.plan_view.new.nodes) =
-    g.met.N.Nodes.keeps_same c.args.nodes.now c.plan_view.new.nodes c.plan_view.ensures.kept in
-    let all : StaysSame (g.N.Nodes.view c.args.nodes.now) (g.N.Nodes.view c.shown_range.new.nodes) =
-    g.met.N.Nodes.keeps_same c.args.nodes.now c.shown_range.new.nodes
-    (g.met.N.Nodes.keeps_on c.args.nodes.now c.plan_view.new.nodes c.shown_range.new.nodes c.plan_view.ensures.kept c.shown_range.ensures.kept) in
-    tells_so c.spans_add_up.ensures.all (g.N.Nodes.view c.args.nodes.now) (g.N.Nodes.view c.shown_range.new.nodes) list c.args.axis c.args.spec.now c.root-root.result c.in-Ok.range agrees all
-    c.root-root.ensures.root (c.in-Ok.ensures.shown list (still_agrees _ _ list first agrees))
+    let all : StaysSame (g.N.Nodes.view c.args.nodes.now) (g.N.Nodes.view c.plan_view.new.nodes) =
+    g.met.N.Nodes.keeps_same c.args.nodes.now c.plan_view.new.nodes
+    (g.met.N.Nodes.keeps_on c.args.nodes.now c.shown_range.new.nodes c.plan_view.new.nodes c.shown_range.ensures.kept c.plan_view.ensures.kept) in
+    tells_so c.spans_add_up.ensures.all (g.N.Nodes.view c.args.nodes.now) (g.N.Nodes.view c.plan_view.new.nodes) list c.args.axis c.args.spec.now c.root-root.result c.in-Ok.range agrees all
+    c.root-root.ensures.root (c.in-Ok.ensures.shown list agrees)

@@ -1,4 +1,4 @@
-use Rattle.std.proofs.Common.{◌≤◌, ap, length, arith}
+use Rattle.std.proofs.Common.{ap, length, arith}
 use Rattle.chart_service.proofs.Filtered.{few_rows}
 use Rattle.chart_service.proofs.shown_rows.rows_frame.Goals as goal
 

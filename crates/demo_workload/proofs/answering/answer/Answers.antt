@@ -1,4 +1,5 @@
 use Rattle.std.proofs.Common.{sym, subst}
+use Rattle.chart_service.specs.Shown as shown
 use Rattle.demo_workload.specs.declared.demo_end.DemoEnd.{DemoEnd}
 use Rattle.demo_workload.specs.Ending.{IsOutside}
 use Rattle.demo_workload.proofs.Knowing.{Changes, knows_on}
@@ -12,22 +13,22 @@ returns-in-Err-clause-standing g c = λ total book told stands sound mirrors.
 
 pub returns-in_default-clause-left : goal.returns-in_default-clause-left
 returns-in_default-clause-left g c = λ total book told stands apart.
-    left_behind c.args.request.now c.in-Ok.frame total book c.args.service.now.sessions c.step.new.self.sessions (g.P.Pages.view c.step.new.self.store.space.pages).image
+    left_behind c.args.request.now c.in-Ok.frame total book c.args.service.now.sessions c.step.new.self.sessions (shown.image c.step.new.self)
     (c.in-Ok.ensures.reply total book told stands)
 
 pub returns-in-Err-draw-clause-standing : goal.returns-in-Err-draw-clause-standing
 returns-in-Err-draw-clause-standing g c = λ total book told stands sound mirrors.
-    outside_frame c.clients_draw_requests.ensures.accepts c.args.request.now c.in-Ok.frame total book (g.P.Pages.view c.step.new.self.store.space.pages).image c.args.service.now.sessions
+    outside_frame c.clients_draw_requests.ensures.accepts c.args.request.now c.in-Ok.frame total book (shown.image c.step.new.self) c.args.service.now.sessions
     c.step.new.self.sessions c.args.client.now c.in-Err-draw.end sound mirrors (c.in-Ok.ensures.reply total book told stands) c.in-Err-draw.ensures.rejected
 
 pub returns-in-Err-draw-clause-left : goal.returns-in-Err-draw-clause-left
 returns-in-Err-draw-clause-left g c = λ total book told stands apart.
-    left_behind c.args.request.now c.in-Ok.frame total book c.args.service.now.sessions c.step.new.self.sessions (g.P.Pages.view c.step.new.self.store.space.pages).image
+    left_behind c.args.request.now c.in-Ok.frame total book c.args.service.now.sessions c.step.new.self.sessions (shown.image c.step.new.self)
     (c.in-Ok.ensures.reply total book told stands)
 
 pub returns-clause-answered : goal.returns-clause-answered
 returns-clause-answered g c = λ total book told stands sound mirrors.
-    answered_one c.clients_draw_requests.ensures.draws c.args.request.now c.in-Ok.frame c.in-Ok-draw.picture total book (g.P.Pages.view c.step.new.self.store.space.pages).image
+    answered_one c.clients_draw_requests.ensures.draws c.args.request.now c.in-Ok.frame c.in-Ok-draw.picture total book (shown.image c.step.new.self)
     c.args.service.now.sessions c.step.new.self.sessions c.args.client.now c.draw.new.client c.args.summary.now c.add.new.self sound mirrors (c.in-Ok.ensures.reply total book told stands)
     c.in-Ok-draw.ensures.accepted c.add.ensures.summary
 

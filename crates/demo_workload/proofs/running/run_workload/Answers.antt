@@ -3,6 +3,7 @@ use Rattle.block_disk.proofs.Passing.{passes_none}
 use Rattle.gate_pages.specs.Pages.{Quiet}
 use Rattle.gate_pages.specs.GateLaws.{goes_none, goes_then}
 use Rattle.chart_service.specs.Stepping.{state_of}
+use Rattle.chart_service.specs.Shown as shown
 use Rattle.demo_workload.specs.declared.demo_end.DemoEnd.TheVariants.{DiskFault}
 use Rattle.demo_workload.specs.Workload.{workload}
 use Rattle.demo_workload.specs.Replying.{IsPartWay}
@@ -13,7 +14,7 @@ use Rattle.demo_workload.proofs.Moved.{runs_none, runs_on, moments_more, given_s
 use Rattle.demo_workload.proofs.running.run_workload.Goals as goal
 
 pub returns-in_default-clause-left : goal.returns-in_default-clause-left
-returns-in_default-clause-left g c = λ total book told stands apart. nothing_done (workload c.args.seed c.args.count) total book (g.P.Pages.view c.args.service.now.store.space.pages).image stands
+returns-in_default-clause-left g c = λ total book told stands apart. nothing_done (workload c.args.seed c.args.count) total book (shown.image c.args.service.now) stands
 
 pub requests-init : goal.requests-init
 requests-init g c = record {
@@ -27,25 +28,25 @@ requests-init g c = record {
   knows = knows_none c.args.service.now.sessions c.in-Ok.client c.requires.alone c.in-Ok.ensures;
   accepted = accepted_none c.in-Ok.client c.in-Ok.ensures;
   reaches = λ total book told stands.
-      starts (workload c.args.seed c.args.count) c.new-workload.result total book (g.P.Pages.view c.args.service.now.store.space.pages).image c.args.service.now.sessions c.in-Ok.client
+      starts (workload c.args.seed c.args.count) c.new-workload.result total book (shown.image c.args.service.now) c.args.service.now.sessions c.in-Ok.client
       c.new-summary.result c.new-workload.ensures c.requires.alone c.in-Ok.ensures c.new-summary.ensures.summary stands (c.is_sound-sound.ensures.state total book c.requires.fit told stands);
   moments = λ total book told stands.
-      passes_none (g.P.Pages.view c.args.service.now.store.space.pages) (IsPartWay (workload c.args.seed c.args.count) total (state_of book total []))
-      (Quiet (g.P.Pages.view c.args.service.now.store.space.pages));
-  runs = runs_none (g.P.Pages.told c.args.service.now.store.space.pages) (g.P.Pages.view c.args.service.now.store.space.pages);
-  goes_on = goes_none (g.P.Pages.under c.args.service.now.store.space.pages);
+      passes_none (shown.view c.args.service.now) (IsPartWay (workload c.args.seed c.args.count) total (state_of book total []))
+      (Quiet (shown.view c.args.service.now));
+  runs = runs_none (shown.IsTold c.args.service.now) (shown.view c.args.service.now);
+  goes_on = goes_none (shown.under c.args.service.now);
   total = refl;
 }
 
 pub returns-in_default-next-clause-left : goal.returns-in_default-next-clause-left
 returns-in_default-next-clause-left g c = λ total book told stands apart.
-    reached_part (workload c.args.seed c.args.count) c.requests.workload total (state_of book total []) (g.P.Pages.view c.requests.service.store.space.pages).image c.requests.service.sessions
+    reached_part (workload c.args.seed c.args.count) c.requests.workload total (state_of book total []) (shown.image c.requests.service) c.requests.service.sessions
     c.requests.client c.requests.summary (c.requests.invariant.reaches total book told stands)
 
 pub returns-in_default-next-2-clause-done : goal.returns-in_default-next-2-clause-done
 returns-in_default-next-2-clause-done g c = λ total book told stands.
     let none = given_none c.in-Ok-next.next _ _ c.in-Ok-next.ensures.given c.in_default-next-2.is in
-    reached_all (workload c.args.seed c.args.count) c.requests.workload total (state_of book total []) (g.P.Pages.view c.requests.service.store.space.pages).image c.requests.service.sessions
+    reached_all (workload c.args.seed c.args.count) c.requests.workload total (state_of book total []) (shown.image c.requests.service) c.requests.service.sessions
     c.requests.client c.requests.summary none.0 (c.requests.invariant.reaches total book told stands)
 
 pub returns-in-Err-clause-standing : goal.returns-in-Err-clause-standing
@@ -56,15 +57,15 @@ returns-in-Err-clause-standing g c = λ total book told stands.
 pub returns-in-Err-clause-moments : goal.returns-in-Err-clause-moments
 returns-in-Err-clause-moments g c = λ total book told stands.
     let is : c.requests.workload ≡ c.in-Some.request ∷ c.next.new.self = given_some c.in-Ok-next.next c.in-Some.request _ _ c.in-Ok-next.ensures.given c.in-Some.is in
-    let r = next_reaches (workload c.args.seed c.args.count) c.requests.workload c.next.new.self c.in-Some.request total (state_of book total []) (g.P.Pages.view c.requests.service.store.space.pages).image c.requests.service.sessions c.requests.client c.requests.summary is (c.requests.invariant.reaches total book told stands) in
-    moments_more (workload c.args.seed c.args.count) c.next.new.self c.in-Some.request total (state_of book total []) (g.P.Pages.view c.args.service.now.store.space.pages) (g.P.Pages.view c.requests.service.store.space.pages) (g.P.Pages.view c.answer.new.service.store.space.pages) c.requests.service.sessions c.requests.client c.requests.summary r
+    let r = next_reaches (workload c.args.seed c.args.count) c.requests.workload c.next.new.self c.in-Some.request total (state_of book total []) (shown.image c.requests.service) c.requests.service.sessions c.requests.client c.requests.summary is (c.requests.invariant.reaches total book told stands) in
+    moments_more (workload c.args.seed c.args.count) c.next.new.self c.in-Some.request total (state_of book total []) (shown.view c.args.service.now) (shown.view c.requests.service) (shown.view c.answer.new.service) c.requests.service.sessions c.requests.client c.requests.summary r
     (c.requests.invariant.moments total book told stands) (c.in-Err.ensures.moments total r.book (c.requests.invariant.runs.told told) r.stands)
 
 pub returns-in-Err-clause-left : goal.returns-in-Err-clause-left
 returns-in-Err-clause-left g c = λ total book told stands apart.
     let is : c.requests.workload ≡ c.in-Some.request ∷ c.next.new.self = given_some c.in-Ok-next.next c.in-Some.request _ _ c.in-Ok-next.ensures.given c.in-Some.is in
-    let r = next_reaches (workload c.args.seed c.args.count) c.requests.workload c.next.new.self c.in-Some.request total (state_of book total []) (g.P.Pages.view c.requests.service.store.space.pages).image c.requests.service.sessions c.requests.client c.requests.summary is (c.requests.invariant.reaches total book told stands) in
-    next_part (workload c.args.seed c.args.count) c.next.new.self c.in-Some.request total (state_of book total []) (g.P.Pages.view c.requests.service.store.space.pages).image (g.P.Pages.view c.answer.new.service.store.space.pages).image c.requests.service.sessions c.requests.client c.requests.summary r
+    let r = next_reaches (workload c.args.seed c.args.count) c.requests.workload c.next.new.self c.in-Some.request total (state_of book total []) (shown.image c.requests.service) c.requests.service.sessions c.requests.client c.requests.summary is (c.requests.invariant.reaches total book told stands) in
+    next_part (workload c.args.seed c.args.count) c.next.new.self c.in-Some.request total (state_of book total []) (shown.image c.requests.service) (shown.image c.answer.new.service) c.requests.service.sessions c.requests.client c.requests.summary r
     (c.in-Err.ensures.left total r.book (c.requests.invariant.runs.told told) r.stands apart)
 
 pub requests-preserved-in-Ok-answer : goal.requests-preserved-in-Ok-answer
@@ -80,17 +81,17 @@ requests-preserved-in-Ok-answer g c =
       knows = c.in-Ok-answer.ensures.known;
       accepted = accepted_more c.requests.client c.answer.new.client c.requests.invariant.accepted c.in-Ok-answer.ensures.accepts;
       reaches = λ total book told stands.
-          let r = next_reaches (workload c.args.seed c.args.count) c.requests.workload c.next.new.self c.in-Some.request total (state_of book total []) (g.P.Pages.view c.requests.service.store.space.pages).image c.requests.service.sessions c.requests.client c.requests.summary is (c.requests.invariant.reaches total book told stands) in
-          reaches_more (workload c.args.seed c.args.count) c.next.new.self c.in-Some.request total (state_of book total []) (g.P.Pages.view c.requests.service.store.space.pages).image (g.P.Pages.view c.answer.new.service.store.space.pages).image c.requests.service.sessions c.answer.new.service.sessions
+          let r = next_reaches (workload c.args.seed c.args.count) c.requests.workload c.next.new.self c.in-Some.request total (state_of book total []) (shown.image c.requests.service) c.requests.service.sessions c.requests.client c.requests.summary is (c.requests.invariant.reaches total book told stands) in
+          reaches_more (workload c.args.seed c.args.count) c.next.new.self c.in-Some.request total (state_of book total []) (shown.image c.requests.service) (shown.image c.answer.new.service) c.requests.service.sessions c.answer.new.service.sessions
           c.requests.client c.answer.new.client c.requests.summary c.answer.new.summary r
           (c.in-Ok-answer.ensures.answered total r.book (c.requests.invariant.runs.told told) r.stands r.sound r.mirrors);
       moments = λ total book told stands.
-          let r = next_reaches (workload c.args.seed c.args.count) c.requests.workload c.next.new.self c.in-Some.request total (state_of book total []) (g.P.Pages.view c.requests.service.store.space.pages).image c.requests.service.sessions c.requests.client c.requests.summary is (c.requests.invariant.reaches total book told stands) in
-          moments_more (workload c.args.seed c.args.count) c.next.new.self c.in-Some.request total (state_of book total []) (g.P.Pages.view c.args.service.now.store.space.pages) (g.P.Pages.view c.requests.service.store.space.pages) (g.P.Pages.view c.answer.new.service.store.space.pages) c.requests.service.sessions c.requests.client c.requests.summary r
+          let r = next_reaches (workload c.args.seed c.args.count) c.requests.workload c.next.new.self c.in-Some.request total (state_of book total []) (shown.image c.requests.service) c.requests.service.sessions c.requests.client c.requests.summary is (c.requests.invariant.reaches total book told stands) in
+          moments_more (workload c.args.seed c.args.count) c.next.new.self c.in-Some.request total (state_of book total []) (shown.view c.args.service.now) (shown.view c.requests.service) (shown.view c.answer.new.service) c.requests.service.sessions c.requests.client c.requests.summary r
           (c.requests.invariant.moments total book told stands) (c.in-Ok-answer.ensures.moments total r.book (c.requests.invariant.runs.told told) r.stands);
-      runs = runs_on (g.P.Pages.told c.args.service.now.store.space.pages) (g.P.Pages.told c.requests.service.store.space.pages) (g.P.Pages.told c.answer.new.service.store.space.pages)
-          (g.P.Pages.view c.args.service.now.store.space.pages) (g.P.Pages.view c.requests.service.store.space.pages) (g.P.Pages.view c.answer.new.service.store.space.pages) c.requests.invariant.runs c.in-Ok-answer.ensures.steps;
-      goes_on = goes_then (g.P.Pages.under c.args.service.now.store.space.pages) (g.P.Pages.under c.requests.service.store.space.pages) (g.P.Pages.under c.answer.new.service.store.space.pages)
+      runs = runs_on (shown.IsTold c.args.service.now) (shown.IsTold c.requests.service) (shown.IsTold c.answer.new.service)
+          (shown.view c.args.service.now) (shown.view c.requests.service) (shown.view c.answer.new.service) c.requests.invariant.runs c.in-Ok-answer.ensures.steps;
+      goes_on = goes_then (shown.under c.args.service.now) (shown.under c.requests.service) (shown.under c.answer.new.service)
           c.requests.invariant.goes_on c.in-Ok-answer.ensures.goes_on;
       total = c.in-Ok-answer.ensures.total ∙ c.requests.invariant.total;
     }
@@ -108,17 +109,17 @@ requests-preserved-in-Ok-answer-2 g c =
       knows = c.in-Ok-answer.ensures.known;
       accepted = accepted_more c.requests.client c.answer.new.client c.requests.invariant.accepted c.in-Ok-answer.ensures.accepts;
       reaches = λ total book told stands.
-          let r = next_reaches (workload c.args.seed c.args.count) c.requests.workload c.next.new.self c.in-Some.request total (state_of book total []) (g.P.Pages.view c.requests.service.store.space.pages).image c.requests.service.sessions c.requests.client c.requests.summary is (c.requests.invariant.reaches total book told stands) in
-          reaches_more (workload c.args.seed c.args.count) c.next.new.self c.in-Some.request total (state_of book total []) (g.P.Pages.view c.requests.service.store.space.pages).image (g.P.Pages.view c.answer.new.service.store.space.pages).image c.requests.service.sessions c.answer.new.service.sessions
+          let r = next_reaches (workload c.args.seed c.args.count) c.requests.workload c.next.new.self c.in-Some.request total (state_of book total []) (shown.image c.requests.service) c.requests.service.sessions c.requests.client c.requests.summary is (c.requests.invariant.reaches total book told stands) in
+          reaches_more (workload c.args.seed c.args.count) c.next.new.self c.in-Some.request total (state_of book total []) (shown.image c.requests.service) (shown.image c.answer.new.service) c.requests.service.sessions c.answer.new.service.sessions
           c.requests.client c.answer.new.client c.requests.summary c.answer.new.summary r
           (c.in-Ok-answer.ensures.answered total r.book (c.requests.invariant.runs.told told) r.stands r.sound r.mirrors);
       moments = λ total book told stands.
-          let r = next_reaches (workload c.args.seed c.args.count) c.requests.workload c.next.new.self c.in-Some.request total (state_of book total []) (g.P.Pages.view c.requests.service.store.space.pages).image c.requests.service.sessions c.requests.client c.requests.summary is (c.requests.invariant.reaches total book told stands) in
-          moments_more (workload c.args.seed c.args.count) c.next.new.self c.in-Some.request total (state_of book total []) (g.P.Pages.view c.args.service.now.store.space.pages) (g.P.Pages.view c.requests.service.store.space.pages) (g.P.Pages.view c.answer.new.service.store.space.pages) c.requests.service.sessions c.requests.client c.requests.summary r
+          let r = next_reaches (workload c.args.seed c.args.count) c.requests.workload c.next.new.self c.in-Some.request total (state_of book total []) (shown.image c.requests.service) c.requests.service.sessions c.requests.client c.requests.summary is (c.requests.invariant.reaches total book told stands) in
+          moments_more (workload c.args.seed c.args.count) c.next.new.self c.in-Some.request total (state_of book total []) (shown.view c.args.service.now) (shown.view c.requests.service) (shown.view c.answer.new.service) c.requests.service.sessions c.requests.client c.requests.summary r
           (c.requests.invariant.moments total book told stands) (c.in-Ok-answer.ensures.moments total r.book (c.requests.invariant.runs.told told) r.stands);
-      runs = runs_on (g.P.Pages.told c.args.service.now.store.space.pages) (g.P.Pages.told c.requests.service.store.space.pages) (g.P.Pages.told c.answer.new.service.store.space.pages)
-          (g.P.Pages.view c.args.service.now.store.space.pages) (g.P.Pages.view c.requests.service.store.space.pages) (g.P.Pages.view c.answer.new.service.store.space.pages) c.requests.invariant.runs c.in-Ok-answer.ensures.steps;
-      goes_on = goes_then (g.P.Pages.under c.args.service.now.store.space.pages) (g.P.Pages.under c.requests.service.store.space.pages) (g.P.Pages.under c.answer.new.service.store.space.pages)
+      runs = runs_on (shown.IsTold c.args.service.now) (shown.IsTold c.requests.service) (shown.IsTold c.answer.new.service)
+          (shown.view c.args.service.now) (shown.view c.requests.service) (shown.view c.answer.new.service) c.requests.invariant.runs c.in-Ok-answer.ensures.steps;
+      goes_on = goes_then (shown.under c.args.service.now) (shown.under c.requests.service) (shown.under c.answer.new.service)
           c.requests.invariant.goes_on c.in-Ok-answer.ensures.goes_on;
       total = c.in-Ok-answer.ensures.total ∙ c.requests.invariant.total;
     }
@@ -136,17 +137,17 @@ requests-preserved-in-Ok-answer-3 g c =
       knows = c.in-Ok-answer.ensures.known;
       accepted = accepted_more c.requests.client c.answer.new.client c.requests.invariant.accepted c.in-Ok-answer.ensures.accepts;
       reaches = λ total book told stands.
-          let r = next_reaches (workload c.args.seed c.args.count) c.requests.workload c.next.new.self c.in-Some.request total (state_of book total []) (g.P.Pages.view c.requests.service.store.space.pages).image c.requests.service.sessions c.requests.client c.requests.summary is (c.requests.invariant.reaches total book told stands) in
-          reaches_more (workload c.args.seed c.args.count) c.next.new.self c.in-Some.request total (state_of book total []) (g.P.Pages.view c.requests.service.store.space.pages).image (g.P.Pages.view c.answer.new.service.store.space.pages).image c.requests.service.sessions c.answer.new.service.sessions
+          let r = next_reaches (workload c.args.seed c.args.count) c.requests.workload c.next.new.self c.in-Some.request total (state_of book total []) (shown.image c.requests.service) c.requests.service.sessions c.requests.client c.requests.summary is (c.requests.invariant.reaches total book told stands) in
+          reaches_more (workload c.args.seed c.args.count) c.next.new.self c.in-Some.request total (state_of book total []) (shown.image c.requests.service) (shown.image c.answer.new.service) c.requests.service.sessions c.answer.new.service.sessions
           c.requests.client c.answer.new.client c.requests.summary c.answer.new.summary r
           (c.in-Ok-answer.ensures.answered total r.book (c.requests.invariant.runs.told told) r.stands r.sound r.mirrors);
       moments = λ total book told stands.
-          let r = next_reaches (workload c.args.seed c.args.count) c.requests.workload c.next.new.self c.in-Some.request total (state_of book total []) (g.P.Pages.view c.requests.service.store.space.pages).image c.requests.service.sessions c.requests.client c.requests.summary is (c.requests.invariant.reaches total book told stands) in
-          moments_more (workload c.args.seed c.args.count) c.next.new.self c.in-Some.request total (state_of book total []) (g.P.Pages.view c.args.service.now.store.space.pages) (g.P.Pages.view c.requests.service.store.space.pages) (g.P.Pages.view c.answer.new.service.store.space.pages) c.requests.service.sessions c.requests.client c.requests.summary r
+          let r = next_reaches (workload c.args.seed c.args.count) c.requests.workload c.next.new.self c.in-Some.request total (state_of book total []) (shown.image c.requests.service) c.requests.service.sessions c.requests.client c.requests.summary is (c.requests.invariant.reaches total book told stands) in
+          moments_more (workload c.args.seed c.args.count) c.next.new.self c.in-Some.request total (state_of book total []) (shown.view c.args.service.now) (shown.view c.requests.service) (shown.view c.answer.new.service) c.requests.service.sessions c.requests.client c.requests.summary r
           (c.requests.invariant.moments total book told stands) (c.in-Ok-answer.ensures.moments total r.book (c.requests.invariant.runs.told told) r.stands);
-      runs = runs_on (g.P.Pages.told c.args.service.now.store.space.pages) (g.P.Pages.told c.requests.service.store.space.pages) (g.P.Pages.told c.answer.new.service.store.space.pages)
-          (g.P.Pages.view c.args.service.now.store.space.pages) (g.P.Pages.view c.requests.service.store.space.pages) (g.P.Pages.view c.answer.new.service.store.space.pages) c.requests.invariant.runs c.in-Ok-answer.ensures.steps;
-      goes_on = goes_then (g.P.Pages.under c.args.service.now.store.space.pages) (g.P.Pages.under c.requests.service.store.space.pages) (g.P.Pages.under c.answer.new.service.store.space.pages)
+      runs = runs_on (shown.IsTold c.args.service.now) (shown.IsTold c.requests.service) (shown.IsTold c.answer.new.service)
+          (shown.view c.args.service.now) (shown.view c.requests.service) (shown.view c.answer.new.service) c.requests.invariant.runs c.in-Ok-answer.ensures.steps;
+      goes_on = goes_then (shown.under c.args.service.now) (shown.under c.requests.service) (shown.under c.answer.new.service)
           c.requests.invariant.goes_on c.in-Ok-answer.ensures.goes_on;
       total = c.in-Ok-answer.ensures.total ∙ c.requests.invariant.total;
     }
@@ -164,17 +165,17 @@ requests-preserved-in-Ok-answer-4 g c =
       knows = c.in-Ok-answer.ensures.known;
       accepted = accepted_more c.requests.client c.answer.new.client c.requests.invariant.accepted c.in-Ok-answer.ensures.accepts;
       reaches = λ total book told stands.
-          let r = next_reaches (workload c.args.seed c.args.count) c.requests.workload c.next.new.self c.in-Some.request total (state_of book total []) (g.P.Pages.view c.requests.service.store.space.pages).image c.requests.service.sessions c.requests.client c.requests.summary is (c.requests.invariant.reaches total book told stands) in
-          reaches_more (workload c.args.seed c.args.count) c.next.new.self c.in-Some.request total (state_of book total []) (g.P.Pages.view c.requests.service.store.space.pages).image (g.P.Pages.view c.answer.new.service.store.space.pages).image c.requests.service.sessions c.answer.new.service.sessions
+          let r = next_reaches (workload c.args.seed c.args.count) c.requests.workload c.next.new.self c.in-Some.request total (state_of book total []) (shown.image c.requests.service) c.requests.service.sessions c.requests.client c.requests.summary is (c.requests.invariant.reaches total book told stands) in
+          reaches_more (workload c.args.seed c.args.count) c.next.new.self c.in-Some.request total (state_of book total []) (shown.image c.requests.service) (shown.image c.answer.new.service) c.requests.service.sessions c.answer.new.service.sessions
           c.requests.client c.answer.new.client c.requests.summary c.answer.new.summary r
           (c.in-Ok-answer.ensures.answered total r.book (c.requests.invariant.runs.told told) r.stands r.sound r.mirrors);
       moments = λ total book told stands.
-          let r = next_reaches (workload c.args.seed c.args.count) c.requests.workload c.next.new.self c.in-Some.request total (state_of book total []) (g.P.Pages.view c.requests.service.store.space.pages).image c.requests.service.sessions c.requests.client c.requests.summary is (c.requests.invariant.reaches total book told stands) in
-          moments_more (workload c.args.seed c.args.count) c.next.new.self c.in-Some.request total (state_of book total []) (g.P.Pages.view c.args.service.now.store.space.pages) (g.P.Pages.view c.requests.service.store.space.pages) (g.P.Pages.view c.answer.new.service.store.space.pages) c.requests.service.sessions c.requests.client c.requests.summary r
+          let r = next_reaches (workload c.args.seed c.args.count) c.requests.workload c.next.new.self c.in-Some.request total (state_of book total []) (shown.image c.requests.service) c.requests.service.sessions c.requests.client c.requests.summary is (c.requests.invariant.reaches total book told stands) in
+          moments_more (workload c.args.seed c.args.count) c.next.new.self c.in-Some.request total (state_of book total []) (shown.view c.args.service.now) (shown.view c.requests.service) (shown.view c.answer.new.service) c.requests.service.sessions c.requests.client c.requests.summary r
           (c.requests.invariant.moments total book told stands) (c.in-Ok-answer.ensures.moments total r.book (c.requests.invariant.runs.told told) r.stands);
-      runs = runs_on (g.P.Pages.told c.args.service.now.store.space.pages) (g.P.Pages.told c.requests.service.store.space.pages) (g.P.Pages.told c.answer.new.service.store.space.pages)
-          (g.P.Pages.view c.args.service.now.store.space.pages) (g.P.Pages.view c.requests.service.store.space.pages) (g.P.Pages.view c.answer.new.service.store.space.pages) c.requests.invariant.runs c.in-Ok-answer.ensures.steps;
-      goes_on = goes_then (g.P.Pages.under c.args.service.now.store.space.pages) (g.P.Pages.under c.requests.service.store.space.pages) (g.P.Pages.under c.answer.new.service.store.space.pages)
+      runs = runs_on (shown.IsTold c.args.service.now) (shown.IsTold c.requests.service) (shown.IsTold c.answer.new.service)
+          (shown.view c.args.service.now) (shown.view c.requests.service) (shown.view c.answer.new.service) c.requests.invariant.runs c.in-Ok-answer.ensures.steps;
+      goes_on = goes_then (shown.under c.args.service.now) (shown.under c.requests.service) (shown.under c.answer.new.service)
           c.requests.invariant.goes_on c.in-Ok-answer.ensures.goes_on;
       total = c.in-Ok-answer.ensures.total ∙ c.requests.invariant.total;
     }
@@ -192,17 +193,17 @@ requests-preserved-in-Ok-answer-5 g c =
       knows = c.in-Ok-answer.ensures.known;
       accepted = accepted_more c.requests.client c.answer.new.client c.requests.invariant.accepted c.in-Ok-answer.ensures.accepts;
       reaches = λ total book told stands.
-          let r = next_reaches (workload c.args.seed c.args.count) c.requests.workload c.next.new.self c.in-Some.request total (state_of book total []) (g.P.Pages.view c.requests.service.store.space.pages).image c.requests.service.sessions c.requests.client c.requests.summary is (c.requests.invariant.reaches total book told stands) in
-          reaches_more (workload c.args.seed c.args.count) c.next.new.self c.in-Some.request total (state_of book total []) (g.P.Pages.view c.requests.service.store.space.pages).image (g.P.Pages.view c.answer.new.service.store.space.pages).image c.requests.service.sessions c.answer.new.service.sessions
+          let r = next_reaches (workload c.args.seed c.args.count) c.requests.workload c.next.new.self c.in-Some.request total (state_of book total []) (shown.image c.requests.service) c.requests.service.sessions c.requests.client c.requests.summary is (c.requests.invariant.reaches total book told stands) in
+          reaches_more (workload c.args.seed c.args.count) c.next.new.self c.in-Some.request total (state_of book total []) (shown.image c.requests.service) (shown.image c.answer.new.service) c.requests.service.sessions c.answer.new.service.sessions
           c.requests.client c.answer.new.client c.requests.summary c.answer.new.summary r
           (c.in-Ok-answer.ensures.answered total r.book (c.requests.invariant.runs.told told) r.stands r.sound r.mirrors);
       moments = λ total book told stands.
-          let r = next_reaches (workload c.args.seed c.args.count) c.requests.workload c.next.new.self c.in-Some.request total (state_of book total []) (g.P.Pages.view c.requests.service.store.space.pages).image c.requests.service.sessions c.requests.client c.requests.summary is (c.requests.invariant.reaches total book told stands) in
-          moments_more (workload c.args.seed c.args.count) c.next.new.self c.in-Some.request total (state_of book total []) (g.P.Pages.view c.args.service.now.store.space.pages) (g.P.Pages.view c.requests.service.store.space.pages) (g.P.Pages.view c.answer.new.service.store.space.pages) c.requests.service.sessions c.requests.client c.requests.summary r
+          let r = next_reaches (workload c.args.seed c.args.count) c.requests.workload c.next.new.self c.in-Some.request total (state_of book total []) (shown.image c.requests.service) c.requests.service.sessions c.requests.client c.requests.summary is (c.requests.invariant.reaches total book told stands) in
+          moments_more (workload c.args.seed c.args.count) c.next.new.self c.in-Some.request total (state_of book total []) (shown.view c.args.service.now) (shown.view c.requests.service) (shown.view c.answer.new.service) c.requests.service.sessions c.requests.client c.requests.summary r
           (c.requests.invariant.moments total book told stands) (c.in-Ok-answer.ensures.moments total r.book (c.requests.invariant.runs.told told) r.stands);
-      runs = runs_on (g.P.Pages.told c.args.service.now.store.space.pages) (g.P.Pages.told c.requests.service.store.space.pages) (g.P.Pages.told c.answer.new.service.store.space.pages)
-          (g.P.Pages.view c.args.service.now.store.space.pages) (g.P.Pages.view c.requests.service.store.space.pages) (g.P.Pages.view c.answer.new.service.store.space.pages) c.requests.invariant.runs c.in-Ok-answer.ensures.steps;
-      goes_on = goes_then (g.P.Pages.under c.args.service.now.store.space.pages) (g.P.Pages.under c.requests.service.store.space.pages) (g.P.Pages.under c.answer.new.service.store.space.pages)
+      runs = runs_on (shown.IsTold c.args.service.now) (shown.IsTold c.requests.service) (shown.IsTold c.answer.new.service)
+          (shown.view c.args.service.now) (shown.view c.requests.service) (shown.view c.answer.new.service) c.requests.invariant.runs c.in-Ok-answer.ensures.steps;
+      goes_on = goes_then (shown.under c.args.service.now) (shown.under c.requests.service) (shown.under c.answer.new.service)
           c.requests.invariant.goes_on c.in-Ok-answer.ensures.goes_on;
       total = c.in-Ok-answer.ensures.total ∙ c.requests.invariant.total;
     }
@@ -220,17 +221,17 @@ requests-preserved-in-Ok-answer-6 g c =
       knows = c.in-Ok-answer.ensures.known;
       accepted = accepted_more c.requests.client c.answer.new.client c.requests.invariant.accepted c.in-Ok-answer.ensures.accepts;
       reaches = λ total book told stands.
-          let r = next_reaches (workload c.args.seed c.args.count) c.requests.workload c.next.new.self c.in-Some.request total (state_of book total []) (g.P.Pages.view c.requests.service.store.space.pages).image c.requests.service.sessions c.requests.client c.requests.summary is (c.requests.invariant.reaches total book told stands) in
-          reaches_more (workload c.args.seed c.args.count) c.next.new.self c.in-Some.request total (state_of book total []) (g.P.Pages.view c.requests.service.store.space.pages).image (g.P.Pages.view c.answer.new.service.store.space.pages).image c.requests.service.sessions c.answer.new.service.sessions
+          let r = next_reaches (workload c.args.seed c.args.count) c.requests.workload c.next.new.self c.in-Some.request total (state_of book total []) (shown.image c.requests.service) c.requests.service.sessions c.requests.client c.requests.summary is (c.requests.invariant.reaches total book told stands) in
+          reaches_more (workload c.args.seed c.args.count) c.next.new.self c.in-Some.request total (state_of book total []) (shown.image c.requests.service) (shown.image c.answer.new.service) c.requests.service.sessions c.answer.new.service.sessions
           c.requests.client c.answer.new.client c.requests.summary c.answer.new.summary r
           (c.in-Ok-answer.ensures.answered total r.book (c.requests.invariant.runs.told told) r.stands r.sound r.mirrors);
       moments = λ total book told stands.
-          let r = next_reaches (workload c.args.seed c.args.count) c.requests.workload c.next.new.self c.in-Some.request total (state_of book total []) (g.P.Pages.view c.requests.service.store.space.pages).image c.requests.service.sessions c.requests.client c.requests.summary is (c.requests.invariant.reaches total book told stands) in
-          moments_more (workload c.args.seed c.args.count) c.next.new.self c.in-Some.request total (state_of book total []) (g.P.Pages.view c.args.service.now.store.space.pages) (g.P.Pages.view c.requests.service.store.space.pages) (g.P.Pages.view c.answer.new.service.store.space.pages) c.requests.service.sessions c.requests.client c.requests.summary r
+          let r = next_reaches (workload c.args.seed c.args.count) c.requests.workload c.next.new.self c.in-Some.request total (state_of book total []) (shown.image c.requests.service) c.requests.service.sessions c.requests.client c.requests.summary is (c.requests.invariant.reaches total book told stands) in
+          moments_more (workload c.args.seed c.args.count) c.next.new.self c.in-Some.request total (state_of book total []) (shown.view c.args.service.now) (shown.view c.requests.service) (shown.view c.answer.new.service) c.requests.service.sessions c.requests.client c.requests.summary r
           (c.requests.invariant.moments total book told stands) (c.in-Ok-answer.ensures.moments total r.book (c.requests.invariant.runs.told told) r.stands);
-      runs = runs_on (g.P.Pages.told c.args.service.now.store.space.pages) (g.P.Pages.told c.requests.service.store.space.pages) (g.P.Pages.told c.answer.new.service.store.space.pages)
-          (g.P.Pages.view c.args.service.now.store.space.pages) (g.P.Pages.view c.requests.service.store.space.pages) (g.P.Pages.view c.answer.new.service.store.space.pages) c.requests.invariant.runs c.in-Ok-answer.ensures.steps;
-      goes_on = goes_then (g.P.Pages.under c.args.service.now.store.space.pages) (g.P.Pages.under c.requests.service.store.space.pages) (g.P.Pages.under c.answer.new.service.store.space.pages)
+      runs = runs_on (shown.IsTold c.args.service.now) (shown.IsTold c.requests.service) (shown.IsTold c.answer.new.service)
+          (shown.view c.args.service.now) (shown.view c.requests.service) (shown.view c.answer.new.service) c.requests.invariant.runs c.in-Ok-answer.ensures.steps;
+      goes_on = goes_then (shown.under c.args.service.now) (shown.under c.requests.service) (shown.under c.answer.new.service)
           c.requests.invariant.goes_on c.in-Ok-answer.ensures.goes_on;
       total = c.in-Ok-answer.ensures.total ∙ c.requests.invariant.total;
     }
@@ -248,17 +249,17 @@ requests-preserved g c =
       knows = c.in-Ok-answer.ensures.known;
       accepted = accepted_more c.requests.client c.answer.new.client c.requests.invariant.accepted c.in-Ok-answer.ensures.accepts;
       reaches = λ total book told stands.
-          let r = next_reaches (workload c.args.seed c.args.count) c.requests.workload c.next.new.self c.in-Some.request total (state_of book total []) (g.P.Pages.view c.requests.service.store.space.pages).image c.requests.service.sessions c.requests.client c.requests.summary is (c.requests.invariant.reaches total book told stands) in
-          reaches_more (workload c.args.seed c.args.count) c.next.new.self c.in-Some.request total (state_of book total []) (g.P.Pages.view c.requests.service.store.space.pages).image (g.P.Pages.view c.answer.new.service.store.space.pages).image c.requests.service.sessions c.answer.new.service.sessions
+          let r = next_reaches (workload c.args.seed c.args.count) c.requests.workload c.next.new.self c.in-Some.request total (state_of book total []) (shown.image c.requests.service) c.requests.service.sessions c.requests.client c.requests.summary is (c.requests.invariant.reaches total book told stands) in
+          reaches_more (workload c.args.seed c.args.count) c.next.new.self c.in-Some.request total (state_of book total []) (shown.image c.requests.service) (shown.image c.answer.new.service) c.requests.service.sessions c.answer.new.service.sessions
           c.requests.client c.answer.new.client c.requests.summary c.answer.new.summary r
           (c.in-Ok-answer.ensures.answered total r.book (c.requests.invariant.runs.told told) r.stands r.sound r.mirrors);
       moments = λ total book told stands.
-          let r = next_reaches (workload c.args.seed c.args.count) c.requests.workload c.next.new.self c.in-Some.request total (state_of book total []) (g.P.Pages.view c.requests.service.store.space.pages).image c.requests.service.sessions c.requests.client c.requests.summary is (c.requests.invariant.reaches total book told stands) in
-          moments_more (workload c.args.seed c.args.count) c.next.new.self c.in-Some.request total (state_of book total []) (g.P.Pages.view c.args.service.now.store.space.pages) (g.P.Pages.view c.requests.service.store.space.pages) (g.P.Pages.view c.answer.new.service.store.space.pages) c.requests.service.sessions c.requests.client c.requests.summary r
+          let r = next_reaches (workload c.args.seed c.args.count) c.requests.workload c.next.new.self c.in-Some.request total (state_of book total []) (shown.image c.requests.service) c.requests.service.sessions c.requests.client c.requests.summary is (c.requests.invariant.reaches total book told stands) in
+          moments_more (workload c.args.seed c.args.count) c.next.new.self c.in-Some.request total (state_of book total []) (shown.view c.args.service.now) (shown.view c.requests.service) (shown.view c.answer.new.service) c.requests.service.sessions c.requests.client c.requests.summary r
           (c.requests.invariant.moments total book told stands) (c.in-Ok-answer.ensures.moments total r.book (c.requests.invariant.runs.told told) r.stands);
-      runs = runs_on (g.P.Pages.told c.args.service.now.store.space.pages) (g.P.Pages.told c.requests.service.store.space.pages) (g.P.Pages.told c.answer.new.service.store.space.pages)
-          (g.P.Pages.view c.args.service.now.store.space.pages) (g.P.Pages.view c.requests.service.store.space.pages) (g.P.Pages.view c.answer.new.service.store.space.pages) c.requests.invariant.runs c.in-Ok-answer.ensures.steps;
-      goes_on = goes_then (g.P.Pages.under c.args.service.now.store.space.pages) (g.P.Pages.under c.requests.service.store.space.pages) (g.P.Pages.under c.answer.new.service.store.space.pages)
+      runs = runs_on (shown.IsTold c.args.service.now) (shown.IsTold c.requests.service) (shown.IsTold c.answer.new.service)
+          (shown.view c.args.service.now) (shown.view c.requests.service) (shown.view c.answer.new.service) c.requests.invariant.runs c.in-Ok-answer.ensures.steps;
+      goes_on = goes_then (shown.under c.args.service.now) (shown.under c.requests.service) (shown.under c.answer.new.service)
           c.requests.invariant.goes_on c.in-Ok-answer.ensures.goes_on;
       total = c.in-Ok-answer.ensures.total ∙ c.requests.invariant.total;
     }

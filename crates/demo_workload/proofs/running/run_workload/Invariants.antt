@@ -4,6 +4,7 @@ use Rattle.gate_pages.specs.Pages.{GoesOn, Quiet}
 use Rattle.series_book.specs.declared.one_series.Series.{Series}
 use Rattle.stored_book.specs.Standing.{StandsForBook}
 use Rattle.chart_service.specs.Stepping.{state_of}
+use Rattle.chart_service.specs.Shown as shown
 use Rattle.demo_workload.specs.Workload.{workload}
 use Rattle.demo_workload.specs.Summaries.{IsSmall}
 use Rattle.demo_workload.specs.Replying.{IsPartWay}
@@ -14,18 +15,18 @@ use Rattle.demo_workload.proofs.running.run_workload.Given as goal
 -- the requests so far are answered
 abbrev pub invariant-requests : goal.invariant-requests
 invariant-requests g l = record {
-  fit : (g.P.Pages.view l.service.store.space.pages).fit;
+  fit : (shown.view l.service).fit;
   small : IsSmall l.summary;
   few : l.summary.requests + length l.workload ≤ 12290;
   knows : KnowsOpen l.service.sessions l.client;
   accepted : HasAccepted l.client;
-  reaches : (total : ℕ) (book : List Series) → g.P.Pages.told l.fn.service.store.space.pages → StandsForBook (g.P.Pages.view l.fn.service.store.space.pages).image total book
-      → Reaches (workload l.fn.seed l.fn.count) l.workload total (state_of book total []) (g.P.Pages.view l.service.store.space.pages).image l.service.sessions l.client l.summary;
-  moments : (total : ℕ) (book : List Series) → g.P.Pages.told l.fn.service.store.space.pages → StandsForBook (g.P.Pages.view l.fn.service.store.space.pages).image total book
-      → Passes (g.P.Pages.view l.fn.service.store.space.pages) (g.P.Pages.view l.service.store.space.pages) (IsPartWay (workload l.fn.seed l.fn.count) total (state_of book total [])) (Quiet (g.P.Pages.view l.fn.service.store.space.pages));
-  runs : Runs (g.P.Pages.told l.fn.service.store.space.pages) (g.P.Pages.told l.service.store.space.pages) (g.P.Pages.view l.fn.service.store.space.pages) (g.P.Pages.view l.service.store.space.pages);
-  goes_on : GoesOn (g.P.Pages.under l.fn.service.store.space.pages) (g.P.Pages.under l.service.store.space.pages);
-  total : l.service.store.space.superblock.total ≡ l.fn.service.store.space.superblock.total;
+  reaches : (total : ℕ) (book : List Series) → shown.IsTold l.fn.service → StandsForBook (shown.image l.fn.service) total book
+      → Reaches (workload l.fn.seed l.fn.count) l.workload total (state_of book total []) (shown.image l.service) l.service.sessions l.client l.summary;
+  moments : (total : ℕ) (book : List Series) → shown.IsTold l.fn.service → StandsForBook (shown.image l.fn.service) total book
+      → Passes (shown.view l.fn.service) (shown.view l.service) (IsPartWay (workload l.fn.seed l.fn.count) total (state_of book total [])) (Quiet (shown.view l.fn.service));
+  runs : Runs (shown.IsTold l.fn.service) (shown.IsTold l.service) (shown.view l.fn.service) (shown.view l.service);
+  goes_on : GoesOn (shown.under l.fn.service) (shown.under l.service);
+  total : shown.total l.service ≡ shown.total l.fn.service;
 }
 
 abbrev pub decreases-requests : goal.decreases-requests

@@ -2,7 +2,8 @@ use Rattle.std.proofs.Common.{◌<◌, ◌≤◌, ℕ, length, map, sym, subst, 
 use Rattle.std.specs.Prelude.{slice_get}
 use Rattle.std.proofs.lemmas.List.{length-map}
 use Rattle.program_words.specs.Words.{IsWrongAt}
-use Rattle.program_words.proofs.Commands.{error_so, wrong_first, no_command, wrong_behind, right_single}
+use Rattle.program_words.specs.Errors.{error_so}
+use Rattle.program_words.proofs.Commands.{wrong_first, no_command, wrong_behind, right_single}
 use Rattle.program_words.proofs.words.alone.Goals as goal
 
 pub returns-in_err-command-clause-wrong : goal.returns-in_err-command-clause-wrong

@@ -1,6 +1,6 @@
 use Rattle.std.proofs.Common.{inl, inr, refl, ap, Err}
 use Rattle.std.specs.Prelude.{map, string_bytes, Bool, true, false, ◌≡◌, ◌⊎◌, List, ℕ, []}
-use Rattle.command_words.specs.Words.{plain_words, has_flag}
+use Rattle.program_words.specs.CommandLine.{plain_words, has_flag}
 use Rattle.program_words.specs.Words.{IsWrong}
 use Rattle.program_words.proofs.Commands.{wrong_none}
 use Rattle.program_words.proofs.words.command_of.Goals as goal

@@ -2,7 +2,8 @@ use Rattle.std.proofs.Common.{◌<◌, ◌≤◌, length, map, sym, subst, arith
 use Rattle.std.proofs.lemmas.List.{length-map}
 use Rattle.program_words.specs.declared.words.WordsEnd.{WordsEnd}
 use Rattle.program_words.specs.Words.{IsWrongBy}
-use Rattle.program_words.proofs.Commands.{error_so, seed_end, wrong_rounds, wrong_behind_rounds, right_demo}
+use Rattle.program_words.specs.Errors.{error_so}
+use Rattle.program_words.proofs.Commands.{seed_end, wrong_rounds, wrong_behind_rounds, right_demo}
 use Rattle.program_words.proofs.words.demo_of.Goals as goal
 
 pub returns-in_err-seed-clause-wrong : goal.returns-in_err-seed-clause-wrong

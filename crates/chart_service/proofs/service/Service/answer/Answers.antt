@@ -1,7 +1,5 @@
-use Rattle.std.proofs.Common.{◌≡◌, ℕ, true, false, None, rules}
+use Rattle.std.proofs.Common.{◌≡◌, true, false, None, rules}
 use Rattle.std.specs.Prelude.{IsSomeAnd, slice_get, is_none}
-use Rattle.chart_frames.specs.declared.frame.Frame.{Frame}
-use Rattle.chart_service.specs.State.{State}
 use Rattle.chart_service.specs.Looking.{ReadsBy}
 use Rattle.chart_service.specs.Replies.{AnswersBy, AnswersView}
 use Rattle.chart_service.specs.Stepping.{state_of, ReadsFor}

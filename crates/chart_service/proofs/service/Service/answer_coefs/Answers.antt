@@ -11,6 +11,7 @@ use Rattle.chart_service.specs.Looking.{IsGoodPlan}
 use Rattle.chart_service.specs.Planning.{PlansOrStops}
 use Rattle.chart_service.specs.Replies.{AnswersBy}
 use Rattle.chart_service.specs.Stepping.{ReadsFor}
+use Rattle.chart_service.specs.Shown as shown
 use Rattle.chart_service.proofs.Answered.{answered_fits}
 use Rattle.chart_service.proofs.Keeping.{views_after_view}
 use Rattle.chart_service.proofs.PlanLemmas.{replying_too_large, replying_node, replying_want, replying_view, looked_viewed, opens_view}
@@ -22,7 +23,7 @@ returns-in-Err-TooLarge-clause-replying g c = λ total book told stands.
     let ss = c.args.self.now.sessions in
     let R : Result Planned PlanError → Type 0 = λ r. IsSomeAnd (slice_get book spec.series) (λ series. PlansOrStops series spec (session_of c.args.number ss) r) in
     replying_too_large book total spec c.args.number c.in-Err-TooLarge.needed c.in-Err-TooLarge.cache ss c.plan.new.self.sessions c.refused.result c.in-Err-TooLarge.field-0
-    (g.P.Pages.view c.args.self.now.store.space.pages) (g.P.Pages.view c.plan.new.self.store.space.pages) c.plan.ensures.sessions c.in-Err-TooLarge.field-0-is
+    (g.P.Pages.view (shown.pages c.args.self.now)) (g.P.Pages.view (shown.pages c.plan.new.self)) c.plan.ensures.sessions c.in-Err-TooLarge.field-0-is
     (subst R c.in-Err-TooLarge.is (c.plan.ensures.planned total book told stands)) c.refused.ensures.frame (c.plan.ensures.reads total book told stands)
 
 pub returns-in-Err-Node-clause-replying : goal.returns-in-Err-Node-clause-replying
@@ -31,18 +32,18 @@ returns-in-Err-Node-clause-replying g c = λ total book told stands.
     let ss = c.args.self.now.sessions in
     let R : Result Planned PlanError → Type 0 = λ r. IsSomeAnd (slice_get book spec.series) (λ series. PlansOrStops series spec (session_of c.args.number ss) r) in
     replying_node (λ frame old new. IsSomeAnd (slice_get old.book spec.series) (λ series. AnswersBy None series spec c.args.number frame old new)) (ReadsFor spec.grid.w (slice_get book spec.series)) book total spec c.args.number ss c.plan.new.self.sessions c.in-Err-Node.error c.in-Err-Node.field-0 c.node_error.result
-    (g.P.Pages.view c.args.self.now.store.space.pages) (g.P.Pages.view c.plan.new.self.store.space.pages) c.in-Err-Node.field-0-is c.node_error.ensures
+    (g.P.Pages.view (shown.pages c.args.self.now)) (g.P.Pages.view (shown.pages c.plan.new.self)) c.in-Err-Node.field-0-is c.node_error.ensures
     (subst R c.in-Err-Node.is (c.plan.ensures.planned total book told stands)) (c.plan.ensures.reads total book told stands)
 
 pub returns-in-Err-NoMemory-clause-replying : goal.returns-in-Err-NoMemory-clause-replying
 returns-in-Err-NoMemory-clause-replying g c = λ total book told stands.
     let spec = c.args.spec in
     replying_want (λ frame old new. IsSomeAnd (slice_get old.book spec.series) (λ series. AnswersBy None series spec c.args.number frame old new)) (ReadsFor spec.grid.w (slice_get book spec.series)) book total c.args.self.now.sessions c.plan.new.self.sessions
-    (g.P.Pages.view c.args.self.now.store.space.pages) (g.P.Pages.view c.plan.new.self.store.space.pages) (c.plan.ensures.reads total book told stands)
+    (g.P.Pages.view (shown.pages c.args.self.now)) (g.P.Pages.view (shown.pages c.plan.new.self)) (c.plan.ensures.reads total book told stands)
 
 pub invariant_of-self : goal.invariant_of-self
 invariant_of-self g c =
-    let count = length c.plan.new.self.store.catalog.series.items in
+    let count = length (shown.catalog c.plan.new.self) in
     let needed : Option (List (Key × Coef)) = Some c.in-Ok.planned.plan.needed in
     record { views = views_after_view c.apply.result count c.args.number c.args.spec needed c.plan.new.self.sessions c.apply.new.self c.apply.ensures.viewed c.apply.ensures.closed (rw c.plan.ensures.looks.catalog_is c.requires.view) c.plan.new.self.views }
 
@@ -50,7 +51,7 @@ pub returns-then-is_err-clause-replying : goal.returns-then-is_err-clause-replyi
 returns-then-is_err-clause-replying g c = λ total book told stands.
     let spec = c.args.spec in
     replying_want (λ frame old new. IsSomeAnd (slice_get old.book spec.series) (λ series. AnswersBy None series spec c.args.number frame old new)) (ReadsFor spec.grid.w (slice_get book spec.series)) book total c.args.self.now.sessions c.apply.new.self
-    (g.P.Pages.view c.args.self.now.store.space.pages) (g.P.Pages.view c.plan.new.self.store.space.pages) (c.plan.ensures.reads total book told stands)
+    (g.P.Pages.view (shown.pages c.args.self.now)) (g.P.Pages.view (shown.pages c.plan.new.self)) (c.plan.ensures.reads total book told stands)
 
 pub returns-clause-replying : goal.returns-clause-replying
 returns-clause-replying g c = λ total book told stands.
@@ -59,7 +60,7 @@ returns-clause-replying g c = λ total book told stands.
     let needed : Option (List (Key × Coef)) = Some c.in-Ok.planned.plan.needed in
     let kept : c.apply.new.self ≡ viewed c.args.number spec needed c.plan.new.self.sessions = search rules in
     replying_view book total spec c.args.number c.in-Ok.planned c.plan.result c.view_frame.result ss c.plan.new.self.sessions c.apply.new.self
-    (g.P.Pages.view c.args.self.now.store.space.pages) (g.P.Pages.view c.plan.new.self.store.space.pages) c.in-Ok.is (c.plan.ensures.planned total book told stands) c.view_frame.ensures.fields c.plan.ensures.sessions kept (c.plan.ensures.reads total book told stands)
+    (g.P.Pages.view (shown.pages c.args.self.now)) (g.P.Pages.view (shown.pages c.plan.new.self)) c.in-Ok.is (c.plan.ensures.planned total book told stands) c.view_frame.ensures.fields c.plan.ensures.sessions kept (c.plan.ensures.reads total book told stands)
 
 pub returns-clause-looked : goal.returns-clause-looked
 returns-clause-looked g c =

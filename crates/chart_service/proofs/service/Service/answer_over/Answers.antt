@@ -1,4 +1,4 @@
-use Rattle.std.proofs.Common.{ℕ, Ok, Err, Some, subst, arith, refl}
+use Rattle.std.proofs.Common.{Ok, Some, subst, arith}
 use Rattle.std.specs.Prelude.{IsSomeAnd, slice_get}
 use Rattle.chart_service.specs.Looking.{ReadsBy}
 use Rattle.chart_service.specs.Planning.{IsMoved}

@@ -8,6 +8,7 @@ use Rattle.zoom_session.specs.Sessions.{viewed}
 use Rattle.chart_service.specs.declared.shown_rows.ShownRows.{ShownRows}
 use Rattle.chart_service.specs.Planning.{ShowsOrStops, FitInFrame}
 use Rattle.chart_service.specs.Viewing.{AnswersRows}
+use Rattle.chart_service.specs.Shown as shown
 use Rattle.chart_service.proofs.Filtered.{rows_fit}
 use Rattle.chart_service.proofs.Keeping.{views_after_view}
 use Rattle.chart_service.proofs.PlanLemmas.{replying_scan, replying_rows, looked_viewed, opens_rows_of}
@@ -18,12 +19,12 @@ returns-in-Err-Node-clause-replying g c = λ total book told stands.
     let spec = c.args.spec in
     let R : Result ShownRows ScanError → Type 0 = λ r. IsSomeAnd (slice_get book spec.series) (λ series. ShowsOrStops series spec r) in
     replying_scan (λ frame old new. IsSomeAnd (slice_get old.book spec.series) (λ series. AnswersRows series spec c.args.number frame old new)) (λ old new. Unit {0}) book total spec c.args.self.now.sessions c.rows.new.self.sessions c.in-Err-Node.error c.in-Err-Node.field-0 c.node_error.result
-    (g.P.Pages.view c.args.self.now.store.space.pages) (g.P.Pages.view c.rows.new.self.store.space.pages) c.in-Err-Node.field-0-is c.node_error.ensures
+    (g.P.Pages.view (shown.pages c.args.self.now)) (g.P.Pages.view (shown.pages c.rows.new.self)) c.in-Err-Node.field-0-is c.node_error.ensures
     (subst R c.in-Err-Node.is (c.rows.ensures.shown total book told stands)) tt
 
 pub invariant_of-self : goal.invariant_of-self
 invariant_of-self g c =
-    let count = length c.rows.new.self.store.catalog.series.items in
+    let count = length (shown.catalog c.rows.new.self) in
     record { views = views_after_view c.apply.result count c.args.number c.args.spec None c.rows.new.self.sessions c.apply.new.self c.apply.ensures.viewed c.apply.ensures.closed (rw c.rows.ensures.looks.catalog_is c.requires.view) c.rows.new.self.views }
 
 pub returns-clause-replying : goal.returns-clause-replying
@@ -31,7 +32,7 @@ returns-clause-replying g c = λ total book told stands.
     let spec = c.args.spec in
     let kept : c.apply.new.self ≡ viewed c.args.number spec None c.rows.new.self.sessions = search rules in
     replying_rows book total spec c.args.number c.in-Ok.shown c.rows.result c.rows_frame-frame.result c.args.self.now.sessions c.rows.new.self.sessions c.apply.new.self
-    (g.P.Pages.view c.args.self.now.store.space.pages) (g.P.Pages.view c.rows.new.self.store.space.pages) c.in-Ok.is (c.rows.ensures.shown total book told stands) c.rows_frame-frame.ensures c.rows.ensures.sessions kept c.requires.opened
+    (g.P.Pages.view (shown.pages c.args.self.now)) (g.P.Pages.view (shown.pages c.rows.new.self)) c.in-Ok.is (c.rows.ensures.shown total book told stands) c.rows_frame-frame.ensures c.rows.ensures.sessions kept c.requires.opened
 
 pub returns-clause-looked : goal.returns-clause-looked
 returns-clause-looked g c =

@@ -1,11 +1,11 @@
-use Rattle.std.proofs.Common.{◌≡◌, ℕ, ℤ, List, Option, Result, IfOk, IfErr, refl, sym, ap, subst, rules, to_z, of_z, ◌∙◌}
+use Rattle.std.proofs.Common.{◌≡◌, ℕ, ℤ, IfOk, IfErr, refl, sym, ap, subst, rules, to_z, of_z, ◌∙◌}
 use Rattle.std.specs.Int.{w128}
 use Rattle.request_lines.specs.declared.requests.Request.{Request}
-use Rattle.request_lines.specs.declared.requests.Request.TheVariants.{Edit as EditRequest, Open, View, Zoom, Pan, Close}
+use Rattle.request_lines.specs.declared.requests.Request.TheVariants.{View, Zoom, Pan}
 use Rattle.series_book.specs.Edits.{id_of}
 use Rattle.zoom_session.specs.Sessions.{is_open, open_refusal}
 use Rattle.chart_service.specs.Looking.{Replying, ReadsByText}
-use Rattle.chart_service.specs.Replies.{Opens, Replies, RepliesToView, RepliesByText, cache_of}
+use Rattle.chart_service.specs.Replies.{Opens, Replies, RepliesToView, RepliesByText}
 use Rattle.chart_service.specs.Stepping.{state_of, series_at, IsStepCause, ReadsFew}
 use Rattle.chart_service.proofs.LookLemmas.{replying_so}
 use Rattle.chart_service.proofs.StepLemmas.{few_by_text, open_outside, open_cause, view_why, zoom_why, pan_why}

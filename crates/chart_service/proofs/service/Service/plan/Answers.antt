@@ -1,9 +1,10 @@
-use Rattle.std.proofs.Common.{◌≡◌, ℕ, length, Some, ap, refl, sym, subst}
+use Rattle.std.proofs.Common.{ap}
 use Rattle.chart_grid.specs.declared.axis.Axis.{Axis}
-use Rattle.std.specs.Prelude.{slice_get}
 use Rattle.om3_coeff.specs.View.{NodesView}
 use Rattle.tree_walk.specs.PagedNodes.{ground, paged_view}
 use Rattle.zoom_session.specs.Sessions.{session_of}
+use Rattle.series_store.specs.Shown as store
+use Rattle.chart_service.specs.Shown as shown
 use Rattle.chart_service.specs.Planning.{PlansOrStops, RefusesView}
 use Rattle.chart_service.specs.Looking.{IsPlanCause}
 use Rattle.chart_service.proofs.Answered.{planned_over}
@@ -18,29 +19,29 @@ returns-clause-planned g c = λ total book told stands.
     let session = session_of c.args.number c.args.self.now.sessions in
     let before = c.selected-axis.new.store in
     let after = c.plan.new.nodes in
-    let nodes : NodesView = paged_view (ground (g.P.Pages.told before.space.pages) (g.P.Pages.view before.space.pages) (g.P.Pages.under before.space.pages) before.space.superblock before.tree) before.trail in
-    let nodes' : NodesView = paged_view (ground (g.P.Pages.told after.space.pages) (g.P.Pages.view after.space.pages) (g.P.Pages.under after.space.pages) after.space.superblock after.tree) after.trail in
+    let nodes : NodesView = paged_view (ground (g.P.Pages.told (store.pages before)) (g.P.Pages.view (store.pages before)) (g.P.Pages.under (store.pages before)) (store.numbers before) before.tree) before.trail in
+    let nodes' : NodesView = paged_view (ground (g.P.Pages.told (store.pages after)) (g.P.Pages.view (store.pages after)) (g.P.Pages.under (store.pages after)) (store.numbers after) after.tree) after.trail in
     let fit = c.requires.sound in
     some_there book spec.series (λ series. PlansOrStops series spec session c.plan.result) (c.selected-axis.ensures.there total book fit told stands) (λ series at.
     planned_over series spec session c.selected-axis.result nodes nodes' c.plan.result
     (c.selected-axis.ensures.axis_is total book series fit told stands at)
     (c.selected-axis.ensures.agrees total book series fit told stands at)
-    (λ e cause. disk_alone (g.P.Pages.told before.space.pages) (g.P.Pages.view before.space.pages) (g.P.Pages.view after.space.pages) (g.P.Pages.under before.space.pages) (g.P.Pages.told after.space.pages) (g.P.Pages.under after.space.pages) before.space.superblock after.space.superblock before.tree after.tree before.trail after.trail e (rw c.selected-axis.ensures.space told) (λ page. c.selected-axis.ensures.whole total book series page fit told stands at) cause)
+    (λ e cause. disk_alone (g.P.Pages.told (store.pages before)) (g.P.Pages.view (store.pages before)) (g.P.Pages.view (store.pages after)) (g.P.Pages.under (store.pages before)) (g.P.Pages.told (store.pages after)) (g.P.Pages.under (store.pages after)) (store.numbers before) (store.numbers after) before.tree after.tree before.trail after.trail e (rw (store.pages, c.selected-axis.ensures.space) told) (c.selected-axis.ensures.whole total book series fit told stands at) cause)
     c.plan.ensures.needed c.plan.ensures.planned c.plan.ensures.bounds c.plan.ensures.told c.plan.ensures.in_frame c.plan.ensures.refused c.plan.ensures.counted)
 
 pub returns-clause-cause : goal.returns-clause-cause
-returns-clause-cause g c = rw (← c.selected-axis.ensures.space) (
+returns-clause-cause g c = rw (shown.IsTold, shown.view, shown.catalog, shown.total, store.IsTold, store.view, store.catalog, store.total, store.pages, ← c.selected-axis.ensures.space) (
     let spec = c.args.spec.now in
     let session = session_of c.args.number c.args.self.now.sessions in
-    let catalog = c.args.self.now.store.catalog.series.items in
+    let catalog = shown.catalog c.args.self.now in
     let before = c.selected-axis.new.store in
     let after = c.plan.new.nodes in
-    let nodes : NodesView = paged_view (ground (g.P.Pages.told before.space.pages) (g.P.Pages.view before.space.pages) (g.P.Pages.under before.space.pages) before.space.superblock before.tree) before.trail in
-    let nodes' : NodesView = paged_view (ground (g.P.Pages.told after.space.pages) (g.P.Pages.view after.space.pages) (g.P.Pages.under after.space.pages) after.space.superblock after.tree) after.trail in
+    let nodes : NodesView = paged_view (ground (g.P.Pages.told (store.pages before)) (g.P.Pages.view (store.pages before)) (g.P.Pages.under (store.pages before)) (store.numbers before) before.tree) before.trail in
+    let nodes' : NodesView = paged_view (ground (g.P.Pages.told (store.pages after)) (g.P.Pages.view (store.pages after)) (g.P.Pages.under (store.pages after)) (store.numbers after) after.tree) after.trail in
     let one = there catalog spec.series c.requires.view.there in
-    if_err c.plan.result (RefusesView session nodes nodes') (λ error. IsPlanCause error (g.P.Pages.told before.space.pages) catalog before.space.superblock.total (g.P.Pages.view before.space.pages) (g.P.Pages.view after.space.pages))
-    (λ error. plan_cause session nodes nodes' (g.P.Pages.told before.space.pages) catalog before.space.superblock.total (g.P.Pages.view before.space.pages) (g.P.Pages.view after.space.pages) error
-    (λ e. node_cause (g.P.Pages.told before.space.pages) (g.P.Pages.view before.space.pages) (g.P.Pages.view after.space.pages) (g.P.Pages.under before.space.pages) (g.P.Pages.told after.space.pages) (g.P.Pages.under after.space.pages) before.space.superblock after.space.superblock before.tree after.tree before.trail after.trail catalog spec.series one.0 e one.1 (c.selected-axis.ensures.tree one.0 one.1)))
+    if_err c.plan.result (RefusesView session nodes nodes') (λ error. IsPlanCause error (g.P.Pages.told (store.pages before)) catalog (store.total before) (g.P.Pages.view (store.pages before)) (g.P.Pages.view (store.pages after)))
+    (λ error. plan_cause session nodes nodes' (g.P.Pages.told (store.pages before)) catalog (store.total before) (g.P.Pages.view (store.pages before)) (g.P.Pages.view (store.pages after)) error
+    (λ e. node_cause (g.P.Pages.told (store.pages before)) (g.P.Pages.view (store.pages before)) (g.P.Pages.view (store.pages after)) (g.P.Pages.under (store.pages before)) (g.P.Pages.told (store.pages after)) (g.P.Pages.under (store.pages after)) (store.numbers before) (store.numbers after) before.tree after.tree before.trail after.trail catalog spec.series one.0 e one.1 (c.selected-axis.ensures.tree one.0 one.1)))
     c.plan.ensures.refused)
 
 pub returns-clause-reads : goal.returns-clause-reads
@@ -48,7 +49,7 @@ returns-clause-reads g c = λ total book told stands.
     let spec = c.args.spec.now in
     let before = c.selected-axis.new.store in
     let after = c.plan.new.nodes in
-    let few = rw c.selected-axis.ensures.space at c.plan.ensures.reads in
+    let few = rw (store.view, store.pages, c.selected-axis.ensures.space) at c.plan.ensures.reads in
     let fit = c.requires.sound in
-    reads_there spec.grid.w book spec.series c.selected-axis.result.slots (g.P.Pages.view c.args.self.now.store.space.pages).reads (g.P.Pages.view after.space.pages).reads (c.selected-axis.ensures.there total book fit told stands)
+    reads_there spec.grid.w book spec.series c.selected-axis.result.slots (g.P.Pages.view (shown.pages c.args.self.now)).reads (g.P.Pages.view (store.pages after)).reads (c.selected-axis.ensures.there total book fit told stands)
     (λ series at. ap (λ (a : Axis). a.slots) (c.selected-axis.ensures.axis_is total book series fit told stands at)) few

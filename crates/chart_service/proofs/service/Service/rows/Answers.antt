@@ -1,8 +1,8 @@
-use Rattle.std.proofs.Common.{◌≡◌, ℕ, length, Some, refl, sym, subst}
-use Rattle.std.specs.Prelude.{slice_get}
 use Rattle.filter_scan.specs.Answers.{IsCauseOf}
 use Rattle.om3_coeff.specs.View.{NodesView}
 use Rattle.tree_walk.specs.PagedNodes.{ground, paged_view}
+use Rattle.series_store.specs.Shown as store
+use Rattle.chart_service.specs.Shown as shown
 use Rattle.chart_service.specs.Planning.{ShowsOrStops}
 use Rattle.chart_service.specs.Looking.{IsScanCause}
 use Rattle.chart_service.proofs.Filtered.{shows_over}
@@ -16,26 +16,26 @@ returns-clause-shown g c = λ total book told stands.
     let spec = c.args.spec.now in
     let before = c.selected-axis.new.store in
     let after = c.shown_rows.new.nodes in
-    let nodes : NodesView = paged_view (ground (g.P.Pages.told before.space.pages) (g.P.Pages.view before.space.pages) (g.P.Pages.under before.space.pages) before.space.superblock before.tree) before.trail in
-    let nodes' : NodesView = paged_view (ground (g.P.Pages.told after.space.pages) (g.P.Pages.view after.space.pages) (g.P.Pages.under after.space.pages) after.space.superblock after.tree) after.trail in
+    let nodes : NodesView = paged_view (ground (g.P.Pages.told (store.pages before)) (g.P.Pages.view (store.pages before)) (g.P.Pages.under (store.pages before)) (store.numbers before) before.tree) before.trail in
+    let nodes' : NodesView = paged_view (ground (g.P.Pages.told (store.pages after)) (g.P.Pages.view (store.pages after)) (g.P.Pages.under (store.pages after)) (store.numbers after) after.tree) after.trail in
     let fit = c.requires.sound in
     some_there book spec.series (λ series. ShowsOrStops series spec c.shown_rows.result) (c.selected-axis.ensures.there total book fit told stands) (λ series at.
     shows_over series spec c.selected-axis.result nodes nodes' c.shown_rows.result
     (c.selected-axis.ensures.axis_is total book series fit told stands at)
     (c.selected-axis.ensures.agrees total book series fit told stands at)
-    (λ e cause. disk_alone (g.P.Pages.told before.space.pages) (g.P.Pages.view before.space.pages) (g.P.Pages.view after.space.pages) (g.P.Pages.under before.space.pages) (g.P.Pages.told after.space.pages) (g.P.Pages.under after.space.pages) before.space.superblock after.space.superblock before.tree after.tree before.trail after.trail e (rw c.selected-axis.ensures.space told) (λ page. c.selected-axis.ensures.whole total book series page fit told stands at) cause)
+    (λ e cause. disk_alone (g.P.Pages.told (store.pages before)) (g.P.Pages.view (store.pages before)) (g.P.Pages.view (store.pages after)) (g.P.Pages.under (store.pages before)) (g.P.Pages.told (store.pages after)) (g.P.Pages.under (store.pages after)) (store.numbers before) (store.numbers after) before.tree after.tree before.trail after.trail e (rw (store.pages, c.selected-axis.ensures.space) told) (c.selected-axis.ensures.whole total book series fit told stands at) cause)
     c.shown_rows.ensures.shown c.shown_rows.ensures.in_frame c.shown_rows.ensures.cause)
 
 pub returns-clause-cause : goal.returns-clause-cause
-returns-clause-cause g c = rw (← c.selected-axis.ensures.space) (
+returns-clause-cause g c = rw (shown.IsTold, shown.view, shown.catalog, shown.total, store.IsTold, store.view, store.catalog, store.total, store.pages, ← c.selected-axis.ensures.space) (
     let spec = c.args.spec.now in
-    let catalog = c.args.self.now.store.catalog.series.items in
+    let catalog = shown.catalog c.args.self.now in
     let before = c.selected-axis.new.store in
     let after = c.shown_rows.new.nodes in
-    let nodes : NodesView = paged_view (ground (g.P.Pages.told before.space.pages) (g.P.Pages.view before.space.pages) (g.P.Pages.under before.space.pages) before.space.superblock before.tree) before.trail in
-    let nodes' : NodesView = paged_view (ground (g.P.Pages.told after.space.pages) (g.P.Pages.view after.space.pages) (g.P.Pages.under after.space.pages) after.space.superblock after.tree) after.trail in
+    let nodes : NodesView = paged_view (ground (g.P.Pages.told (store.pages before)) (g.P.Pages.view (store.pages before)) (g.P.Pages.under (store.pages before)) (store.numbers before) before.tree) before.trail in
+    let nodes' : NodesView = paged_view (ground (g.P.Pages.told (store.pages after)) (g.P.Pages.view (store.pages after)) (g.P.Pages.under (store.pages after)) (store.numbers after) after.tree) after.trail in
     let one = there catalog spec.series c.requires.view.there in
-    if_err c.shown_rows.result (IsCauseOf nodes nodes') (λ error. IsScanCause error (g.P.Pages.told before.space.pages) catalog before.space.superblock.total (g.P.Pages.view before.space.pages) (g.P.Pages.view after.space.pages))
-    (λ error. scan_cause nodes nodes' (g.P.Pages.told before.space.pages) catalog before.space.superblock.total (g.P.Pages.view before.space.pages) (g.P.Pages.view after.space.pages) error
-    (λ e. node_cause (g.P.Pages.told before.space.pages) (g.P.Pages.view before.space.pages) (g.P.Pages.view after.space.pages) (g.P.Pages.under before.space.pages) (g.P.Pages.told after.space.pages) (g.P.Pages.under after.space.pages) before.space.superblock after.space.superblock before.tree after.tree before.trail after.trail catalog spec.series one.0 e one.1 (c.selected-axis.ensures.tree one.0 one.1)))
+    if_err c.shown_rows.result (IsCauseOf nodes nodes') (λ error. IsScanCause error (g.P.Pages.told (store.pages before)) catalog (store.total before) (g.P.Pages.view (store.pages before)) (g.P.Pages.view (store.pages after)))
+    (λ error. scan_cause nodes nodes' (g.P.Pages.told (store.pages before)) catalog (store.total before) (g.P.Pages.view (store.pages before)) (g.P.Pages.view (store.pages after)) error
+    (λ e. node_cause (g.P.Pages.told (store.pages before)) (g.P.Pages.view (store.pages before)) (g.P.Pages.view (store.pages after)) (g.P.Pages.under (store.pages before)) (g.P.Pages.told (store.pages after)) (g.P.Pages.under (store.pages after)) (store.numbers before) (store.numbers after) before.tree after.tree before.trail after.trail catalog spec.series one.0 e one.1 (c.selected-axis.ensures.tree one.0 one.1)))
     c.shown_rows.ensures.cause)

@@ -1,12 +1,12 @@
-use Rattle.std.proofs.Common.{◌≡◌, ℕ, Result, IfOk, IfErr, sym, ap, subst}
+use Rattle.std.proofs.Common.{IfOk, sym, ap, subst}
 use Rattle.block_disk.specs.View.{Image, Passes}
 use Rattle.gate_pages.specs.Pages.{Quiet}
 use Rattle.page_space.specs.declared.superblock.Superblock.{Superblock}
 use Rattle.request_lines.specs.declared.requests.Request.{Request}
 use Rattle.stored_book.specs.Standing.{StandsForBook}
-use Rattle.chart_service.specs.Looking.{Replying}
-use Rattle.chart_service.specs.Replies.{Replies}
-use Rattle.chart_service.specs.Stepping.{StandsAfter, state_of, RepliedTo, IsBeforeOrAfter, IsStepCause, ReadsFew}
+use Rattle.chart_service.specs.Stepping.{StandsAfter, state_of, RepliedTo, IsBeforeOrAfter, ReadsFew}
+use Rattle.chart_service.specs.Shown as shown
+use Rattle.series_store.specs.Shown as stored
 use Rattle.chart_service.proofs.LookLemmas.{unchanged, unchanged_so, steps_so, moments_so}
 use Rattle.chart_service.proofs.StepLemmas.{look_reply, look_bad, edit_bad, on_ok}
 use Rattle.chart_service.proofs.service.Service.step.Goals as goal
@@ -14,21 +14,21 @@ use Rattle.chart_service.proofs.service.Service.step.Goals as goal
 pub returns-in-Edit-clause-reply : goal.returns-in-Edit-clause-reply
 returns-in-Edit-clause-reply g c = λ total book told stands.
     let ss = c.args.self.now.sessions in
-    let E : Request → Type 0 = λ r. IfOk c.edit.result (λ frame. StandsAfter total (g.P.Pages.view c.edit.new.self.store.space.pages).image c.edit.new.self.sessions (λ new. RepliedTo r frame (state_of book total ss) new)) in
+    let E : Request → Type 0 = λ r. IfOk c.edit.result (λ frame. StandsAfter total (g.P.Pages.view (shown.pages c.edit.new.self)).image c.edit.new.self.sessions (λ new. RepliedTo r frame (state_of book total ss) new)) in
     subst E (sym c.in-Edit.is) (c.edit.ensures.reply total book told stands)
 
 pub returns-in-Edit-clause-moments : goal.returns-in-Edit-clause-moments
 returns-in-Edit-clause-moments g c = λ total book told stands.
     let ss = c.args.self.now.sessions in
-    let old = g.P.Pages.view c.args.self.now.store.space.pages in
-    let E : Request → Type 0 = λ r. Passes old (g.P.Pages.view c.edit.new.self.store.space.pages) (IsBeforeOrAfter (RepliedTo r) total book ss) (Quiet old) in
+    let old = g.P.Pages.view (shown.pages c.args.self.now) in
+    let E : Request → Type 0 = λ r. Passes old (g.P.Pages.view (shown.pages c.edit.new.self)) (IsBeforeOrAfter (RepliedTo r) total book ss) (Quiet old) in
     subst E (sym c.in-Edit.is) (c.edit.ensures.moments total book told stands)
 
 pub returns-in-Edit-clause-bad : goal.returns-in-Edit-clause-bad
 returns-in-Edit-clause-bad g c =
     let store = c.args.self.now.store in
     let new = c.edit.new.self.store in
-    edit_bad c.edit.result c.in-Edit.edit (g.P.Pages.told store.space.pages) (g.P.Pages.told new.space.pages) store.catalog.series.items new.catalog.series.items store.space.superblock.total new.space.superblock.total (g.P.Pages.view store.space.pages) (g.P.Pages.view new.space.pages) c.edit.ensures.total c.edit.ensures.cause
+    edit_bad c.edit.result c.in-Edit.edit (g.P.Pages.told (stored.pages store)) (g.P.Pages.told (stored.pages new)) (stored.catalog store) (stored.catalog new) (stored.total store) (stored.total new) (g.P.Pages.view (stored.pages store)) (g.P.Pages.view (stored.pages new)) c.edit.ensures.total c.edit.ensures.cause
 
 pub returns-in_default : goal.returns-in_default
 returns-in_default g c =
@@ -45,19 +45,19 @@ returns-in_default g c =
       reply = λ total book told stands.
           let S : Image → Type 0 = λ i. StandsForBook i total book in
           let there = subst S (sym (looks.image told)) stands in
-          look_reply request (ReadsFew request book ss) r total book ss ss' (g.P.Pages.view store.space.pages) (g.P.Pages.view new.space.pages) (g.P.Pages.view new.space.pages).image
+          look_reply request (ReadsFew request book ss) r total book ss ss' (g.P.Pages.view (stored.pages store)) (g.P.Pages.view (stored.pages new)) (g.P.Pages.view (stored.pages new)).image
           (c.look-reply.ensures.replying total book told stands) looked.fits (c.is_sound.ensures.state total book fit (looks.told told) there) there;
       standing = λ total book told stands. (c.look-reply.ensures.replying total book told stands).standing;
-      moments = λ total book told stands. moments_so (RepliedTo request) total book ss (g.P.Pages.view store.space.pages) (g.P.Pages.view new.space.pages) (g.met.P.Pages.rests store.space.pages c.requires.sound) stands looks.time;
+      moments = λ total book told stands. moments_so (RepliedTo request) total book ss (g.P.Pages.view (stored.pages store)) (g.P.Pages.view (stored.pages new)) (g.met.P.Pages.rests (stored.pages store) c.requires.sound) stands looks.time;
       reads = λ total book told stands. (c.look-reply.ensures.replying total book told stands).reads;
       fits = looked.fits;
       opens = looked.opens;
       sessions = looked.lost;
-      unchanged = unchanged_so r (g.P.Pages.told store.space.pages) (g.P.Pages.view store.space.pages) (g.P.Pages.view new.space.pages) (unchanged _ _ _ _ _ _ _ _ _ _ looks);
+      unchanged = unchanged_so r (g.P.Pages.told (stored.pages store)) (g.P.Pages.view (stored.pages store)) (g.P.Pages.view (stored.pages new)) (unchanged _ _ _ _ _ _ _ _ _ _ looks);
       cause = c.look-reply.ensures.cause;
       bad = look_bad r _ _ _ _ _ _ _ _ _ _ looks looked.cause;
       steps = steps_so _ _ _ _ _ _ _ _ _ _ looks;
       goes_on = looks.goes_on;
-      sound = on_ok r (g.P.Pages.view new.space.pages).fit fit;
+      sound = on_ok r (g.P.Pages.view (stored.pages new)).fit fit;
       total = ap (λ (s : Superblock). s.total) looks.superblock;
     }

@@ -1,6 +1,7 @@
 use Rattle.std.proofs.Common.{◌≡◌, ◌≤◌, length, Ok, Err, subst, arith}
 use Rattle.request_lines.specs.declared.line_errors.LineError.{LineError}
 use Rattle.request_lines.specs.Requests.{read_line, ReadsAs}
+use Rattle.chart_service.specs.Shown as shown
 use Rattle.chart_service.proofs.LineLemmas.{long_line}
 use Rattle.chart_service.proofs.StepLemmas.{line_reply, line_moments, bad_line}
 use Rattle.chart_service.proofs.service.Service.step_line.Goals as goal
@@ -8,19 +9,19 @@ use Rattle.chart_service.proofs.service.Service.step_line.Goals as goal
 pub returns-then-line-gt-LONGEST_LINE-clause-reply : goal.returns-then-line-gt-LONGEST_LINE-clause-reply
 returns-then-line-gt-LONGEST_LINE-clause-reply g c = λ total book told stands.
     let sound = c.is_sound.ensures.state total book c.requires told stands in
-    long_line c.args.line.now c.refused.result total book c.args.self.now.sessions (g.P.Pages.view c.args.self.now.store.space.pages).image c.if-line-gt-LONGEST_LINE.true c.refused.ensures.frame c.refused.ensures.fits sound stands
+    long_line c.args.line.now c.refused.result total book c.args.self.now.sessions (g.P.Pages.view (shown.pages c.args.self.now)).image c.if-line-gt-LONGEST_LINE.true c.refused.ensures.frame c.refused.ensures.fits sound stands
 
 pub returns-in-Ok-clause-reply : goal.returns-in-Ok-clause-reply
 returns-in-Ok-clause-reply g c = λ total book told stands.
     let short : length c.args.line.now ≤ 8192 = omega arith in
     let is : read_line c.args.line.now ≡ Ok c.in-Ok.request = c.in-Ok.ensures.reading in
-    line_reply c.step.result c.args.line.now c.in-Ok.request total book c.args.self.now.sessions c.step.new.self.sessions (g.P.Pages.view c.step.new.self.store.space.pages).image short is (c.step.ensures.reply total book told stands)
+    line_reply c.step.result c.args.line.now c.in-Ok.request total book c.args.self.now.sessions c.step.new.self.sessions (g.P.Pages.view (shown.pages c.step.new.self)).image short is (c.step.ensures.reply total book told stands)
 
 pub returns-in-Ok-clause-moments : goal.returns-in-Ok-clause-moments
 returns-in-Ok-clause-moments g c = λ total book told stands.
     let short : length c.args.line.now ≤ 8192 = omega arith in
     let is : read_line c.args.line.now ≡ Ok c.in-Ok.request = c.in-Ok.ensures.reading in
-    line_moments c.args.line.now c.in-Ok.request total book c.args.self.now.sessions (g.P.Pages.view c.args.self.now.store.space.pages) (g.P.Pages.view c.step.new.self.store.space.pages) short is (c.step.ensures.moments total book told stands)
+    line_moments c.args.line.now c.in-Ok.request total book c.args.self.now.sessions (g.P.Pages.view (shown.pages c.args.self.now)) (g.P.Pages.view (shown.pages c.step.new.self)) short is (c.step.ensures.moments total book told stands)
 
 pub returns-in-Ok-clause-bad : goal.returns-in-Ok-clause-bad
 returns-in-Ok-clause-bad g c = c.step.ensures.bad
@@ -31,4 +32,4 @@ returns-in-Err-BadLine-clause-reply g c = λ total book told stands.
     let short : length c.args.line.now ≤ 8192 = omega arith in
     let R : LineError → Type 0 = λ e. ReadsAs (read_line c.args.line.now) (Err e) in
     let is : read_line c.args.line.now ≡ Err c.in-Err-BadLine.at = subst R c.in-Err-BadLine.field-0-is c.in-Err-BadLine.ensures.reading in
-    bad_line c.args.line.now c.in-Err-BadLine.at c.refused-in-Err-BadLine.result total book c.args.self.now.sessions (g.P.Pages.view c.args.self.now.store.space.pages).image short is c.refused-in-Err-BadLine.ensures.frame c.refused-in-Err-BadLine.ensures.fits sound stands
+    bad_line c.args.line.now c.in-Err-BadLine.at c.refused-in-Err-BadLine.result total book c.args.self.now.sessions (g.P.Pages.view (shown.pages c.args.self.now)).image short is c.refused-in-Err-BadLine.ensures.frame c.refused-in-Err-BadLine.ensures.fits sound stands

@@ -1,6 +1,5 @@
-use Rattle.std.proofs.Common.{◌≡◌, ◌<◌, ℕ, true, length, List, None, Some, Ok, Err, Option, rules, subst, arith}
-use Rattle.std.specs.Prelude.{IsSomeAnd, MatchOption, slice_get}
-use Rattle.series_book.specs.declared.one_series.Series.{Series}
+use Rattle.std.proofs.Common.{◌≡◌, ◌<◌, true, length, None, Some, rules, subst, arith}
+use Rattle.std.specs.Prelude.{IsSomeAnd, slice_get}
 use Rattle.series_book.specs.Edits.{id_of}
 use Rattle.zoom_session.specs.Sessions.{is_open}
 use Rattle.chart_service.specs.Looking.{ReadsBy}

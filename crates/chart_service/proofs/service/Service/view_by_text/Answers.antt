@@ -1,4 +1,4 @@
-use Rattle.std.proofs.Common.{ℕ, List, Option, Ok}
+use Rattle.std.proofs.Common.{List, Option, Ok}
 use Rattle.series_book.specs.Edits.{id_of}
 use Rattle.value_filter.specs.declared.steps.Step.{Step}
 use Rattle.zoom_session.specs.Sessions.{is_open}

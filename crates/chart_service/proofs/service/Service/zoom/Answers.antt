@@ -1,4 +1,4 @@
-use Rattle.std.proofs.Common.{to_z, of_z, ◌≡◌, ℕ, ℤ, Ok, Some, FitsSigned, rules, sym, subst}
+use Rattle.std.proofs.Common.{to_z, of_z, ℤ, Ok, Some, FitsSigned, rules, sym, subst}
 use Rattle.std.specs.Int.{w128}
 use Rattle.std.proofs.lemmas.Int.{to_z-of_z}
 use Rattle.zoom_session.specs.declared.view_spec.ViewSpec.{ViewSpec}

@@ -1,0 +1,78 @@
+-- What a service shows.
+use Rattle.std.specs.Prelude.{ℕ, List}
+use Rattle.block_disk.specs.View.{Image, View, Passes}
+use Rattle.gate_pages.specs.Pages.{Quiet}
+use Rattle.gate_pages.specs.declared.pages.Pages.{Ghosts}
+use Rattle.chart_frames.specs.declared.frame.Frame.{Frame}
+use Rattle.page_space.specs.declared.superblock.Superblock.{Superblock}
+use Rattle.series_book.specs.declared.one_series.Series.{Series}
+use Rattle.series_catalog.specs.declared.stored_series.StoredSeries.{StoredSeries}
+use Rattle.series_store.specs.Shown as store
+use Rattle.chart_service.specs.State.{State}
+use Rattle.chart_service.specs.Stepping.{StandsAfter, IsBeforeOrAfter, state_of}
+use Rattle.chart_service.specs.Holding.{KeepsSessions}
+use Rattle.chart_service.specs.HoldingLaws.{sessions_none, sessions_then, sessions_so}
+use Rattle.chart_service.specs.declared.service.Service.{Service}
+
+module _ {P : Type 0} {g : Ghosts P} where
+  abbrev pub pages : Service P g → P
+  pages it = store.pages it.store
+
+  abbrev pub view : Service P g → View
+  view it = store.view it.store
+
+  abbrev pub under : Service P g → View
+  under it = store.under it.store
+
+  abbrev pub image : Service P g → Image
+  image it = store.image it.store
+
+  abbrev pub total : Service P g → ℕ
+  total it = store.total it.store
+
+  -- what page 0 tells
+  abbrev pub numbers : Service P g → Superblock
+  numbers it = store.numbers it.store
+
+  abbrev pub catalog : Service P g → List StoredSeries
+  catalog it = store.catalog it.store
+
+  -- reads give what the pages are
+  abbrev pub IsTold : Service P g → Type 0
+  IsTold it = store.IsTold it.store
+
+  -- its state over a book of its store
+  abbrev pub state : Service P g → ℕ → List Series → State
+  state it total book = state_of book total it.sessions
+
+  -- so of each book that the pages stand for
+  abbrev pub ForBook : Service P g → (ℕ → List Series → Type 0) → Type 0
+  ForBook it = store.ForBook it.store
+
+  -- so of each book that the pages stand for, where calls may be made
+  abbrev pub ForSoundBook : Service P g → (ℕ → List Series → Type 0) → Type 0
+  ForSoundBook it = store.ForSoundBook it.store
+
+  -- the pages stand for a book with this total, and the state with it is so
+  abbrev pub StandsSo : ℕ → Service P g → (State → Type 0) → Type 0
+  StandsSo total it IsSo = StandsAfter total (image it) it.sessions IsSo
+
+  -- at each moment a crash leaves the book from before, or one that an answer leaves
+  abbrev pub PassesBy : (Frame → State → State → Type 0) → ℕ → List Series → Service P g → Service P g → Type 0
+  PassesBy Reply total book old new = Passes (view old) (view new) (IsBeforeOrAfter Reply total book old.sessions) (Quiet (view old))
+
+  -- the pages change so, and all else stays
+  abbrev pub Keeps : Type 0 → Service P g → Service P g → Type 0
+  Keeps so old new = KeepsSessions (store.Keeps so old.store new.store) old.sessions new.sessions
+
+  pub keeps_none : {so : Type 0} (at : Service P g) → so → Keeps so at at
+  keeps_none {so} at are = sessions_none (store.Keeps so at.store at.store) at.sessions (store.keeps_none at.store are)
+
+  pub keeps_then : {one two both : Type 0} (old between new : Service P g) → (one → two → both) → Keeps one old between → Keeps two between new → Keeps both old new
+  keeps_then {one} {two} {both} old between new join first second =
+      sessions_then (store.Keeps one old.store between.store) (store.Keeps two between.store new.store) (store.Keeps both old.store new.store) old.sessions between.sessions new.sessions
+      (store.keeps_then old.store between.store new.store join) first second
+
+  pub keeps_so : {one two : Type 0} (old new : Service P g) → (one → two) → Keeps one old new → Keeps two old new
+  keeps_so {one} {two} old new more keeps =
+      sessions_so (store.Keeps one old.store new.store) (store.Keeps two old.store new.store) old.sessions new.sessions (store.keeps_so old.store new.store more) keeps

@@ -1,0 +1,147 @@
+//! The lines of a service's streams are answered.
+ghost use Rattle.std.specs.Prelude.{◌≡◌, ◌≢◌, ◌≤◌, ◌^◌, ℕ, Bool, List, Some, None, length, IfErr, IfSome, OnOk};
+ghost use Rattle.block_disk.specs.Counts.{HasRisen};
+ghost use Rattle.block_disk.specs.View.{Now, Only};
+ghost use Rattle.chart_frames.specs.Frames.{Fits};
+ghost use Rattle.gate_pages.specs.Pages.{GoesOn};
+ghost use Rattle.chart_service.specs.Answering.{SendsAll, EndsBy, LastsBy, EndsAtBad, AnswersOn, StopsOn, LeavesBy};
+ghost use Rattle.chart_service.specs.Knowing.{Follows, KnowsOpen, EndsKnown};
+ghost use Rattle.chart_service.specs.Making.{AreMade, AreMadeFrom, FrameSent, FrameStops, IsReplyEnd, FrameMoments};
+ghost use Rattle.chart_service.specs.Serving.{KeepsPages, Serves};
+ghost use Rattle.chart_service.specs.Shown as shown;
+
+use crate::failure::{AnswerEnd, ServeEnd};
+use crate::refusals::refused;
+use crate::replying::Reply;
+use crate::service::Service;
+use block_disk::Streams;
+use chart_frames::Frame;
+use chart_world::{LineAnswer, Lines};
+use gate_pages::PageWorld;
+use series_book::Refusal;
+
+/// Answers each line of the input that isn't empty, in order, by sending the bytes that `reply` makes of
+/// its frame. A line of more than 8,192 bytes is refused as too long. After `Ok` the input was read to its
+/// end.
+pub fn answer_lines<P: PageWorld, S, F, R: Reply<S, F>>(
+    service: &mut Service<P>,
+    reply: &R,
+    kept: &mut S,
+) -> Result<(), AnswerEnd<F>>
+    requires { (shown.view service.old).fit }
+    ensures done { shown.ForBook service.old (λ total book. OnOk result (SendsAll P.left P.sent (AreMade R.makes kept.old kept.new) total book service.old service.new)) }
+    ensures within { OnOk result (IfSome (P.left (shown.pages service.old)) (λ input. length input ≤ 2 ^ 32)) }
+    ensures ends { shown.ForBook service.old (λ total book. IfErr result (EndsBy P.left P.sent R.makes kept.old kept.new total book service.old service.new)) }
+    // at each moment a crash leaves a book with each edit whose bytes were sent by then, and at most one edit more
+    ensures crash { shown.ForBook service.old (λ total book. LastsBy P.left P.sent (AreMadeFrom R.makes kept.old) total book service.old service.new) }
+    // whatever the pages are
+    ensures read { result ≡ Err (AnswerEnd.Serve ServeEnd.ReadFault) → HasRisen (P.read_faults (shown.pages service.old)) (P.read_faults (shown.pages service.new)) }
+    ensures send { result ≡ Err (AnswerEnd.Serve ServeEnd.SendFault) → HasRisen (P.send_faults (shown.pages service.old)) (P.send_faults (shown.pages service.new)) }
+    ensures disk { result ≡ Err (AnswerEnd.Serve ServeEnd.DiskFault) → HasRisen (shown.view service.old).faults (shown.view service.new).faults }
+    // where the open sessions are known, a frame whose bytes weren't made names known ones
+    ensures known { (knows : S → ℕ → Bool) → Follows R.makes knows → KnowsOpen knows kept.old service.old.sessions → IfErr result (EndsKnown R.makes knows) }
+    ensures bad { IfErr result (EndsAtBad (shown.IsTold service.new) (shown.catalog service.new) (shown.image service.new) (shown.total service.new)) }
+    ensures serves { Serves (shown.IsTold service.old) (shown.IsTold service.new) (shown.view service.old) (shown.view service.new) }
+    ensures goes_on { GoesOn (shown.under service.old) (shown.under service.new) }
+    ensures sound { result ≢ Err (AnswerEnd.Serve ServeEnd.DiskFault) → (shown.view service.new).fit }
+    ensures rests { result ≢ Err (AnswerEnd.Serve ServeEnd.DiskFault) → Only (shown.image service.new) (Now (shown.view service.new)) }
+    ensures total { shown.total service.new ≡ shown.total service.old }
+{
+    let mut lines = Lines::new(service.alloc)?;
+    'lines: loop {
+        match lines.next(service)? {
+            LineAnswer::End => return Ok(()),
+            LineAnswer::TooLong => answer_long_line(service, reply, kept)?,
+            LineAnswer::Line => answer_line(service, lines.line(), reply, kept)?,
+        }
+    }
+}
+
+/// Answers a line, unless it is empty.
+fn answer_line<P: PageWorld, S, F, R: Reply<S, F>>(
+    service: &mut Service<P>,
+    line: &[u8],
+    reply: &R,
+    kept: &mut S,
+) -> Result<(), AnswerEnd<F>>
+    requires sound { (shown.view service.old).fit }
+    requires short { length line.now ≤ 8192 }
+    ensures done { shown.ForBook service.old (λ total book. OnOk result (AnswersOn P.sent R.makes (Some line.now) kept.old kept.new total book service.old service.new)) }
+    ensures stops { shown.ForBook service.old (λ total book. IfErr result (StopsOn P.sent R.makes (Some line.now) kept.old kept.new total book service.old service.new)) }
+    ensures moments { shown.ForBook service.old (λ total book. LeavesBy R.makes kept.old (Some line.now) total book service.old service.new) }
+    ensures known { (knows : S → ℕ → Bool) → Follows R.makes knows → KnowsOpen knows kept.old service.old.sessions → OnOk result (KnowsOpen knows kept.new service.new.sessions) }
+    ensures named { (knows : S → ℕ → Bool) → Follows R.makes knows → KnowsOpen knows kept.old service.old.sessions → IfErr result (EndsKnown R.makes knows) }
+    ensures send { result ≡ Err (AnswerEnd.Serve ServeEnd.SendFault) → HasRisen (P.send_faults (shown.pages service.old)) (P.send_faults (shown.pages service.new)) }
+    ensures disk { result ≡ Err (AnswerEnd.Serve ServeEnd.DiskFault) → HasRisen (shown.view service.old).faults (shown.view service.new).faults }
+    ensures read { result ≢ Err (AnswerEnd.Serve ServeEnd.ReadFault) }
+    ensures bad { IfErr result (EndsAtBad (shown.IsTold service.new) (shown.catalog service.new) (shown.image service.new) (shown.total service.new)) }
+    ensures serves { Serves (shown.IsTold service.old) (shown.IsTold service.new) (shown.view service.old) (shown.view service.new) }
+    ensures goes_on { GoesOn (shown.under service.old) (shown.under service.new) }
+    ensures sound { result ≢ Err (AnswerEnd.Serve ServeEnd.DiskFault) → (shown.view service.new).fit }
+    ensures total { shown.total service.new ≡ shown.total service.old }
+    ensures left { P.left (shown.pages service.new) ≡ P.left (shown.pages service.old) }
+    ensures read_faults { P.read_faults (shown.pages service.new) ≡ P.read_faults (shown.pages service.old) }
+    ensures send_faults { P.send_faults (shown.pages service.old) ≤ P.send_faults (shown.pages service.new) }
+{
+    if line.is_empty() {
+        return Ok(());
+    }
+    let frame = service.step_line(line)?;
+    send_reply(service, &frame, reply, kept)
+}
+
+/// Answers a line that is too long.
+fn answer_long_line<P: PageWorld, S, F, R: Reply<S, F>>(
+    service: &mut Service<P>,
+    reply: &R,
+    kept: &mut S,
+) -> Result<(), AnswerEnd<F>>
+    requires { (shown.view service.old).fit }
+    ensures done { shown.ForBook service.old (λ total book. OnOk result (AnswersOn P.sent R.makes None kept.old kept.new total book service.old service.new)) }
+    ensures stops { shown.ForBook service.old (λ total book. IfErr result (StopsOn P.sent R.makes None kept.old kept.new total book service.old service.new)) }
+    ensures moments { shown.ForBook service.old (λ total book. LeavesBy R.makes kept.old None total book service.old service.new) }
+    ensures known { (knows : S → ℕ → Bool) → Follows R.makes knows → KnowsOpen knows kept.old service.old.sessions → OnOk result (KnowsOpen knows kept.new service.new.sessions) }
+    ensures named { (knows : S → ℕ → Bool) → Follows R.makes knows → KnowsOpen knows kept.old service.old.sessions → IfErr result (EndsKnown R.makes knows) }
+    ensures ends { IfErr result IsReplyEnd }
+    ensures send { result ≡ Err (AnswerEnd.Serve ServeEnd.SendFault) → HasRisen (P.send_faults (shown.pages service.old)) (P.send_faults (shown.pages service.new)) }
+    ensures keeps { KeepsPages (shown.IsTold service.old) (shown.IsTold service.new) (shown.view service.old) (shown.view service.new) (shown.under service.old) (shown.under service.new) }
+    ensures total { shown.total service.new ≡ shown.total service.old }
+    ensures left { P.left (shown.pages service.new) ≡ P.left (shown.pages service.old) }
+    ensures read_faults { P.read_faults (shown.pages service.new) ≡ P.read_faults (shown.pages service.old) }
+    ensures send_faults { P.send_faults (shown.pages service.old) ≤ P.send_faults (shown.pages service.new) }
+{
+    service.is_sound();
+    send_reply(service, &refused(Refusal::LineTooLong), reply, kept)
+}
+
+/// Sends the bytes that `reply` makes of a frame.
+fn send_reply<P: PageWorld, S, F, R: Reply<S, F>>(
+    service: &mut Service<P>,
+    frame: &Frame,
+    reply: &R,
+    kept: &mut S,
+) -> Result<(), AnswerEnd<F>>
+    requires { Fits frame.now }
+    ensures done { OnOk result (FrameSent R.makes frame.now kept.old kept.new (P.sent (shown.pages service.old)) (P.sent (shown.pages service.new))) }
+    ensures stops { IfErr result (FrameStops R.makes frame.now kept.old kept.new (P.sent (shown.pages service.old)) (P.sent (shown.pages service.new))) }
+    // a crash leaves what it might have left before
+    ensures moments { FrameMoments R.makes kept.old frame.now (shown.view service.old) (shown.view service.new) }
+    ensures ends { IfErr result IsReplyEnd }
+    ensures send { result ≡ Err (AnswerEnd.Serve ServeEnd.SendFault) → HasRisen (P.send_faults (shown.pages service.old)) (P.send_faults (shown.pages service.new)) }
+    ensures keeps { KeepsPages (shown.IsTold service.old) (shown.IsTold service.new) (shown.view service.old) (shown.view service.new) (shown.under service.old) (shown.under service.new) }
+    ensures total { shown.total service.new ≡ shown.total service.old }
+    ensures catalog { shown.catalog service.new ≡ shown.catalog service.old }
+    ensures sessions { service.new.sessions ≡ service.old.sessions }
+    ensures left { P.left (shown.pages service.new) ≡ P.left (shown.pages service.old) }
+    ensures read_faults { P.read_faults (shown.pages service.new) ≡ P.read_faults (shown.pages service.old) }
+    ensures send_faults { P.send_faults (shown.pages service.old) ≤ P.send_faults (shown.pages service.new) }
+{
+    let bytes = match reply.make(frame, kept) {
+        Ok(bytes) => bytes,
+        Err(error) => return Err(AnswerEnd::Reply(error)),
+    };
+    if service.send(bytes.as_slice()).is_err() {
+        return Err(AnswerEnd::Serve(ServeEnd::SendFault));
+    }
+    Ok(())
+}

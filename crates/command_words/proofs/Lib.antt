@@ -1,5 +1,0 @@
-pub mod WalkLemmas
-pub mod FaultLemmas
-pub mod TurnLemmas
-pub mod ReadLemmas
-pub mod FoundLemmas

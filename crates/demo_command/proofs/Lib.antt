@@ -1,4 +1,0 @@
-pub mod Moments
-pub mod Requests
-pub mod Sent
-pub mod Ends

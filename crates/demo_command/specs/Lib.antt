@@ -1,2 +1,0 @@
-pub mod Demonstrated
-pub mod Parts

@@ -1,0 +1,112 @@
+-- A store is read, and what a check found is sent: the disk holds its book on.
+use Rattle.std.proofs.Common.{◌≡◌, ℕ, ◌≤◌, Bool, List, Option, refl, sym, subst, arith, inl, inr}
+use Rattle.block_disk.specs.View.{Image, View, Now, Honest, Passes, sent_now}
+use Rattle.block_disk.proofs.Passing.{passes_weaker}
+use Rattle.gate_pages.specs.GateLaws.{goes_by, goes_then}
+use Rattle.gate_pages.specs.GatePages.{PagesOf, IsClosed, pages_view}
+use Rattle.gate_pages.specs.Journal.{pages_of}
+use Rattle.gate_pages.specs.Pages.{Quiet, GoesOn}
+use Rattle.gate_pages.proofs.Moving.{sent_same}
+use Rattle.page_space.specs.Layout.{superblock_page}
+use Rattle.page_space.specs.declared.superblock.Superblock.{Superblock}
+use Rattle.series_book.specs.declared.one_series.Series.{Series}
+use Rattle.series_store.specs.Counting.{AreCounts, IsCheckCause}
+use Rattle.series_store.specs.Opening.{IsOutside}
+use Rattle.series_store.specs.declared.counts.Counts.{Counts}
+use Rattle.series_store.specs.declared.errors.StoreError.{StoreError}
+use Rattle.series_store.specs.declared.errors.StoreError.TheVariants as of_store
+use Rattle.disk_store.specs.Held.{HoldsBook}
+use Rattle.disk_store.proofs.Lowered.{holds_closed}
+use Rattle.stored_book.specs.Standing.{StandsForBook, RecoversTo}
+use Rattle.tree_walk.specs.Holding.{KeptWalking}
+use Rattle.chart_service.specs.MomentLaws.{since_none}
+use Rattle.store_commands.specs.Books.{OfBook, LeavesSame}
+use Rattle.store_commands.specs.declared.status.Status.{Status}
+use Rattle.store_commands.proofs.Held.{stands_held, within_held, holds_sent}
+use Rattle.store_commands.proofs.Moments.{since_worked, since_sent}
+use Rattle.store_commands.specs.Checked.{counts_text, AreWhole}
+use Rattle.store_commands.specs.Checking.{check_status, EndsCheck, ChecksStore}
+use Rattle.store_commands.specs.Sending.{SendsText}
+use Rattle.store_commands.specs.Codes.{status_is}
+
+-- what may be left of the pages stands for the book
+left_stands : (count total : ℕ) (book : List Series) (disk : View) → HoldsBook count total book disk → (pages : Image) → PagesOf count (Now disk) pages → StandsForBook pages total book
+left_stands count total book disk holds pages left =
+    let was = holds.images left.from left.was in
+    let P : Image → Type 0 = λ i. StandsForBook i total book in
+    subst P (sym (left.same was.readable)) was.stands
+
+-- The pages of a disk are read.
+module _ (count count' : ℕ) (sound sound' : Bool) (old mid : View) (kept : KeptWalking (Honest old) (Honest mid) (pages_view count sound old) (pages_view count' sound' mid)) (goes : GoesOn old mid) where
+  pub looked_since : LeavesSame count old mid
+  looked_since = λ total book holds.
+      let IsSo : Image → ℕ → Type 0 = λ image sent. RecoversTo count image total book in
+      let Q : Image → Type 0 = λ pages. StandsForBook pages total book in
+      let before = pages_view count sound old in
+      let passes : Passes before (pages_view count' sound' mid) Q (Quiet before) =
+      passes_weaker before (pages_view count' sound' mid) (PagesOf count (Now old)) Q (Quiet before) (Quiet before) (left_stands count total book old holds) (λ sent quiet. quiet) kept.time in
+      since_worked IsSo count count' total sound sound' old old mid Q (λ pages is. book) kept.size (within_held count total book old holds) (λ pages is. is) passes goes refl
+      (λ image on. record { readable = on.readable; within = on.within; stands = on.so }) (since_none old IsSo holds.images)
+
+  pub looked_holds : IsClosed mid → OfBook count old (λ total book. HoldsBook count total book mid)
+  looked_holds closed = λ total book holds.
+      let P : Image → Type 0 = λ pages. StandsForBook pages total book in
+      let C : ℕ → Type 0 = λ c. StandsForBook (pages_of c mid.image) total book in
+      holds_closed count total book mid closed (kept.told holds.honest) (within_held count total book old holds)
+      (subst C kept.size (subst P (sym (kept.image holds.honest)) (stands_held count total book old holds)))
+
+  pub looked_quiet : sent_now mid ≡ sent_now old
+  looked_quiet = sent_same (pages_view count sound old) (pages_view count' sound' mid) (PagesOf count (Now old)) kept.time
+
+-- how the sending of counts ends a check
+counts_sent : (count : ℕ) (old mid new : View) (counts : Counts) (before now : Option (List ℕ)) (sends sends_now : ℕ) (end : Status) → OfBook count old (λ total book. AreCounts total book counts) → AreWhole count old counts → SendsText (counts_text counts) mid new before now sends sends_now end
+    → EndsCheck count old new before now sends sends_now end
+counts_sent count old mid new counts before now sends sends_now end of_book whole s = elim s.codes [
+  | inl all ↦ inl (status_is end 0 0 all s.place, record { counts = counts; of_book = of_book; whole = whole; sent = s.whole all })
+  | inr (inl none) ↦ inr (inr (inl (status_is end 3 0 none s.place, s.none none)))
+  | inr (inr part) ↦ inr (inl (status_is end 5 0 part s.place, (s.send part, record { counts = counts; of_book = of_book; whole = whole; sent = s.part part })))
+]
+
+-- how a store that isn't counted does
+not_counted : (count count' : ℕ) (sound sound' : Bool) (old new : View) (s : Superblock) (before now : Option (List ℕ)) (sends sends_now : ℕ) (error : StoreError) → now ≡ before → (Honest old → pages_of count old.image 0 ≡ superblock_page s)
+    → IsCheckCause error (Honest old) s (pages_view count sound old) (pages_view count' sound' new) → OfBook count old (λ total book. IsOutside error) → EndsCheck count old new before now sends sends_now (check_status error)
+not_counted count count' sound sound' old new s before now sends sends_now (of_store.Refused refusal) same spelled is outside = absurd is
+not_counted count count' sound sound' old new s before now sends sends_now of_store.NotAStore same spelled is outside = absurd is
+not_counted count count' sound sound' old new s before now sends sends_now of_store.DiskFault same spelled is outside = inr (inr (inr (inl (refl, (is, same)))))
+not_counted count count' sound sound' old new s before now sends sends_now (of_store.Damaged page) same spelled is outside = inr (inr (inr (inr (record {
+  page = page;
+  end_is = refl;
+  bad = record { page = page; place_is = refl; superblock = s; spelled = spelled; bad = is };
+  none = λ total book holds. elim (outside total book holds) [ inl fault ↦ cc | inr memory ↦ cc ];
+  unsent = same;
+}))))
+not_counted count count' sound sound' old new s before now sends sends_now of_store.NoMemory same spelled is outside = inr (inr (inl (refl, same)))
+
+-- A store was read, and then its disk is at rest.
+module _ (count count' : ℕ) (sound sound' : Bool) (old mid : View) (kept : KeptWalking (Honest old) (Honest mid) (pages_view count sound old) (pages_view count' sound' mid)) (goes : GoesOn old mid) (closed : IsClosed mid) where
+  pub checks_not : (s : Superblock) (before now : Option (List ℕ)) (sends sends_now : ℕ) (error : StoreError) (end : Status) → end ≡ check_status error → now ≡ before → (Honest old → pages_of count old.image 0 ≡ superblock_page s)
+      → IsCheckCause error (Honest old) s (pages_view count sound old) (pages_view count' sound' mid) → OfBook count old (λ total book. IsOutside error) → ChecksStore count old mid before now sends sends_now end
+  checks_not s before now sends sends_now error end end_is same spelled cause outside = record {
+    ends =
+        let P : Status → Type 0 = λ e. EndsCheck count old mid before now sends sends_now e in
+        subst P (sym end_is) (not_counted count count' sound sound' old mid s before now sends sends_now error same spelled cause outside);
+    crash = looked_since count count' sound sound' old mid kept goes;
+    holds = looked_holds count count' sound sound' old mid kept goes closed;
+    goes_on = goes;
+  }
+
+  pub checks_sent : (new : View) (counts : Counts) (before mid_before now : Option (List ℕ)) (sends mid_sends sends_now : ℕ) (end : Status) → mid_before ≡ before → mid_sends ≡ sends
+      → OfBook count old (λ total book. AreCounts total book counts) → AreWhole count old counts → SendsText (counts_text counts) mid new mid_before now mid_sends sends_now end → ChecksStore count old new before now sends sends_now end
+  checks_sent new counts before mid_before now sends mid_sends sends_now end same same_sends of_book whole sent = record {
+    ends =
+        let P : Option (List ℕ) → Type 0 = λ b. EndsCheck count old new b now mid_sends sends_now end in
+        let S : ℕ → Type 0 = λ s. EndsCheck count old new before now s sends_now end in
+        subst S same_sends (subst P same (counts_sent count old mid new counts mid_before now mid_sends sends_now end of_book whole sent));
+    crash = λ total book holds.
+        since_sent (λ image bytes. RecoversTo count image total book) old mid new sent.time (looked_quiet count count' sound sound' old mid kept goes)
+        (λ image bytes left low. (looked_holds count count' sound sound' old mid kept goes closed total book holds).images image left)
+        (looked_since count count' sound sound' old mid kept goes total book holds);
+    holds = λ total book holds.
+        holds_sent count total book mid new (λ bytes. (sent_now mid ≤ bytes) × (bytes ≤ sent_now new)) sent.kept sent.time (looked_holds count count' sound sound' old mid kept goes closed total book holds);
+    goes_on = goes_then old mid new goes (goes_by mid new (Now mid) (λ bytes. (sent_now mid ≤ bytes) × (bytes ≤ sent_now new)) sent.time);
+  }

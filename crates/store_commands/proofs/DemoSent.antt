@@ -1,0 +1,90 @@
+-- How a demo ends whose requests were all answered, by the sending of its summary.
+use Rattle.std.proofs.Common.{◌≡◌, ℕ, ◌≤◌, ◌⊎◌, List, [], ◌∷◌, Option, Ok, sym, subst, inl, inr, arith}
+use Rattle.std.specs.Prelude.{Contains}
+use Rattle.std.proofs.lemmas.List.{append-nil}
+use Rattle.block_disk.specs.View.{View, Now, DiskKept, Passes, sent_now}
+use Rattle.gate_pages.specs.GateLaws.{goes_by, goes_then}
+use Rattle.gate_pages.specs.Journal.{page_count}
+use Rattle.request_lines.specs.declared.requests.Request.{Request}
+use Rattle.series_book.specs.declared.one_series.Series.{Series}
+use Rattle.disk_store.specs.Held.{HoldsBook}
+use Rattle.chart_service.specs.State.{State}
+use Rattle.demo_workload.specs.declared.summaries.Summary.{Summary}
+use Rattle.demo_workload.specs.Replying.{Summarizes}
+use Rattle.demo_workload.specs.Summaries.{summary_line}
+use Rattle.demo_workload.specs.Workload.{workload}
+use Rattle.demo_workload.proofs.Replies.{pictures_answers}
+use Rattle.store_commands.specs.Books.{begun, FromBook}
+use Rattle.store_commands.proofs.Moments.{since_sent}
+use Rattle.store_commands.specs.Demonstrated.{AnswersFirst, DemoEnds, IsAheadDemo, LeavesDemo, SendsSummary, SendsSummaryPart}
+use Rattle.store_commands.specs.Answering.{Answered}
+use Rattle.store_commands.specs.declared.status.Status.{Status}
+use Rattle.store_commands.specs.Sending.{SendsText}
+use Rattle.store_commands.specs.Codes.{sent_code, unsent}
+use Rattle.store_commands.proofs.Held.{holds_sent}
+
+-- all requests are some first ones
+first_all : (requests : List Request) (start state : State) (summary : Summary) → Summarizes requests start state summary → AnswersFirst requests start state
+first_all requests start state summary sums = record {
+  first = requests;
+  rest = [];
+  split = sym (append-nil requests);
+  frames = sums.frames;
+  answered = pictures_answers requests sums.frames sums.pictures start state sums.replied;
+}
+
+-- a code is one of those of a demo
+one_code : (code : ℕ) → (code ≡ 0) ⊎ ((code ≡ 3) ⊎ (code ≡ 5)) → Contains (0 ∷ 3 ∷ 5 ∷ 6 ∷ 7 ∷ 10 ∷ 11 ∷ 12 ∷ []) code
+one_code code (inl is) = (0, omega arith, sym is)
+one_code code (inr (inl is)) = (1, omega arith, sym is)
+one_code code (inr (inr is)) = (2, omega arith, sym is)
+
+module _ (requests : List Request) (count : ℕ) (old mid new : View) (summary : Summary) (a : Answered requests count old mid (Ok summary)) (kept : DiskKept mid new) (time : Passes mid new (Now mid) (λ sent. (sent_now mid ≤ sent) × (sent ≤ sent_now new))) where
+  -- all requests were answered, and so is this
+  pub all_done : (Done : State → State → Type 0) → ((start state : State) → Summarizes requests start state summary → Done start state) → FromBook count old new Done
+  all_done Done so = λ total book holds.
+      let all = a.done total book holds in
+      (all.0, so (begun total book) all.0 all.1, holds_sent count total all.0.book mid new (λ sent. (sent_now mid ≤ sent) × (sent ≤ sent_now new)) kept time all.2)
+
+  pub all_leave : LeavesDemo requests count old new
+  all_leave = λ total book holds.
+      let all = a.done total book holds in
+      let answered = pictures_answers requests all.1.frames all.1.pictures (begun total book) all.0 all.1.replied in
+      since_sent (IsAheadDemo requests count total (begun total book) (sent_now old)) old mid new time (a.quiet total book holds)
+      (λ image sent left low.
+      let is = all.2.images image left in
+      record {
+        readable = is.readable;
+        within = is.within;
+        some = record { first = requests; rest = []; split = sym (append-nil requests); frames = all.1.frames; new = all.0; answered = answered; stands = is.stands };
+        all = λ more. (all.1.frames, all.0, answered, is.stands);
+      })
+      (a.crash total book holds)
+
+-- the summary was sent, in part or not at all
+pub sent_ends : (seed rounds : ℕ) (old mid new : View) (before between now : Option (List ℕ)) (sends sends_mid sends_now : ℕ) (end : Status) (summary : Summary) → Answered (workload seed rounds) (page_count old.size) old mid (Ok summary)
+    → between ≡ before → sends_mid ≡ sends → SendsText (summary_line summary) mid new between now sends_mid sends_now end → DemoEnds seed rounds old new before now sends sends_now end.code end.place
+sent_ends seed rounds old mid new before between now sends sends_mid sends_now end summary a same same_sends s =
+    let requests = workload seed rounds in
+    let count = page_count old.size in
+    let low = (sent_code end.code s.codes).0 in
+    let B : Option (List ℕ) → Type 0 = λ b. SendsText (summary_line summary) mid new b now sends_mid sends_now end in
+    let S : ℕ → Type 0 = λ n. SendsText (summary_line summary) mid new before now n sends_now end in
+    let t = subst S same_sends (subst B same s) in
+    record {
+      codes = one_code end.code t.codes;
+      done = λ is. all_done requests count old mid new summary a t.kept t.time (λ start state. SendsSummary requests start state before now) (λ start state sums. record { summary = summary; sums = sums; sent = t.whole is });
+      memory = λ is. all_done requests count old mid new summary a t.kept t.time (AnswersFirst requests) (λ start state sums. first_all requests start state summary sums);
+      send = t.send;
+      part = λ is. all_done requests count old mid new summary a t.kept t.time (λ start state. SendsSummaryPart requests start state before now) (λ start state sums. record { summary = summary; sums = sums; sent = t.part is });
+      fault = λ is. absurd (omega (arith, is, low));
+      damaged = λ is. absurd (omega (arith, is, low));
+      undamaged = λ is. absurd (omega (arith, is, low));
+      missing = λ is. absurd (omega (arith, is, low));
+      misfit = λ is. absurd (omega (arith, is, low));
+      small = λ is. absurd (omega (arith, is, low));
+      nothing = λ whole part. unsent end.code before now t.codes t.none whole part;
+      zero_place = λ is. t.place;
+      crash = all_leave requests count old mid new summary a t.kept t.time;
+      goes_on = goes_then old mid new a.goes_on (goes_by mid new (Now mid) (λ sent. (sent_now mid ≤ sent) × (sent ≤ sent_now new)) t.time);
+    }

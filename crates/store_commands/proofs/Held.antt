@@ -1,0 +1,62 @@
+-- What is done over the pages of a disk, in the words of the disk.
+use Rattle.std.proofs.Common.{◌≡◌, ℕ, ◌≤◌, List, refl, sym, ap, subst, arith, inl, inr}
+use Rattle.block_disk.specs.Counts.{HasRisen}
+use Rattle.block_disk.specs.View.{Image, View, Now, Honest, DiskKept, Passes}
+use Rattle.block_disk.proofs.Passing.{now_back}
+use Rattle.gate_pages.specs.GateLaws.{closed_readable, kept_told}
+use Rattle.gate_pages.specs.GatePages.{IsReadable, IsClosed}
+use Rattle.gate_pages.specs.Journal.{page_count, pages_of}
+use Rattle.series_book.specs.declared.one_series.Series.{Series}
+use Rattle.disk_store.specs.Held.{HoldsBook}
+use Rattle.disk_store.specs.Openings.{Opens}
+use Rattle.disk_store.proofs.Lowered.{holds_closed}
+use Rattle.disk_store.proofs.Opened.{holds_on}
+use Rattle.stored_book.specs.Standing.{StandsForBook}
+use Rattle.zoom_session.specs.declared.session.Session.{Session}
+use Rattle.chart_service.specs.State.{State}
+use Rattle.chart_service.specs.Stepping.{StandsAfter, state_of}
+use Rattle.store_commands.specs.Books.{begun, OfBook, FromBook, IsOn, HoldsPages}
+
+-- the book that the disk holds is the one that the pages stand for
+pub stands_held : (count total : ℕ) (book : List Series) (disk : View) → HoldsBook count total book disk → StandsForBook (pages_of count disk.image) total book
+stands_held count total book disk holds = (holds.images disk.image holds.honest).stands
+
+pub within_held : (count total : ℕ) (book : List Series) (disk : View) → HoldsBook count total book disk → total ≤ count
+within_held count total book disk holds = (holds.images disk.image holds.honest).within
+
+-- an opening leaves the same book
+pub held : (old mid : View) → Opens (page_count old.size) old mid → (total : ℕ) (book : List Series) → HoldsBook (page_count old.size) total book old → HoldsBook (page_count old.size) total book mid
+held old mid opens total book holds = holds_on (page_count old.size) total book old mid holds opens
+
+-- a count that has risen since a later moment has risen
+pub risen_since : (old mid new : ℕ) → old ≤ mid → HasRisen mid new → HasRisen old new
+risen_since old mid new low (inl more) = inl (omega (arith, low, more))
+risen_since old mid new low (inr most) = inr most
+
+-- a disk at rest holds the pages that it has
+pub holds_pages : (count total : ℕ) (IsSo : Image → Type 0) (disk : View) → IsClosed disk → Honest disk → total ≤ count → IsSo (pages_of count disk.image) → HoldsPages count total IsSo disk
+holds_pages count total IsSo disk closed honest within so = record {
+  honest = honest;
+  on = record { readable = closed_readable count disk.image (closed.gate honest); within = within; so = so };
+  images = λ image left.
+      let P : Image → Type 0 = λ i. IsReadable count i × (pages_of count i ≡ pages_of count disk.image) in
+      subst P (sym (closed.only image left)) (closed_readable count disk.image (closed.gate honest), refl);
+}
+
+-- what a disk holds it holds on while a text is sent
+pub holds_sent : (count total : ℕ) (book : List Series) (old new : View) (sent : ℕ → Type 0) → DiskKept old new → Passes old new (Now old) sent → HoldsBook count total book old → HoldsBook count total book new
+holds_sent count total book old new sent kept time holds = record {
+  honest = kept_told old new kept holds.honest;
+  images = λ image left. holds.images image (now_back old new sent time image left);
+}
+
+-- Calls over the pages of a disk, which is at rest afterwards.
+module _ (count count' : ℕ) (old new : View) (same : count' ≡ count) (told : Honest old → Honest new) where
+  pub held_after : (total : ℕ) (sessions : List Session) (P : State → Type 0) → IsClosed new → Honest new → total ≤ count → StandsAfter total (pages_of count' new.image) sessions P → (state : State) × P state × HoldsBook count total state.book new
+  held_after total sessions P closed honest within after =
+      let S : ℕ → Type 0 = λ c. StandsForBook (pages_of c new.image) total after.book in
+      (state_of after.book total sessions, after.so, holds_closed count total after.book new closed honest within (subst S same after.stands))
+
+  pub from_book : (sessions : List Session) (Done : State → State → Type 0) → IsClosed new → OfBook count old (λ total book. StandsAfter total (pages_of count' new.image) sessions (λ state. Done (begun total book) state)) → FromBook count old new Done
+  from_book sessions Done closed all = λ total book holds.
+      held_after total sessions (λ state. Done (begun total book) state) closed (told holds.honest) (within_held count total book old holds) (all total book holds)

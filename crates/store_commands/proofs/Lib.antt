@@ -1,0 +1,10 @@
+pub mod Stores
+pub mod Held
+pub mod Moments
+pub mod LoadStored
+pub mod LoadEnds
+pub mod CheckLooks
+pub mod CheckEnds
+pub mod DemoRequests
+pub mod DemoSent
+pub mod DemoEnds

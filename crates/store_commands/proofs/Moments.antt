@@ -1,0 +1,96 @@
+-- The moments of a command over a store: its opening, the work on its pages, and the sending of an answer.
+use Rattle.std.proofs.Common.{◌≡◌, ℕ, ◌≤◌, ◌<◌, Bool, List, sym, ap, subst, arith, inl, inr, ◌∙◌}
+use Rattle.std.proofs.lemmas.Bool.{cases_lt}
+use Rattle.block_disk.specs.View.{Image, View, Now, Passes, sent_now}
+use Rattle.gate_pages.specs.GateLaws.{goes_by}
+use Rattle.gate_pages.specs.GatePages.{PagesOf, StandsAsBefore, pages_view}
+use Rattle.gate_pages.specs.Journal.{page_count}
+use Rattle.gate_pages.specs.Pages.{Quiet, GoesOn}
+use Rattle.gate_pages.proofs.Moving.{sent_same}
+use Rattle.series_book.specs.declared.one_series.Series.{Series}
+use Rattle.empty_store.proofs.DisksMade.{stood}
+use Rattle.disk_store.specs.Held.{HoldsBook}
+use Rattle.disk_store.specs.Openings.{Opens}
+use Rattle.disk_store.proofs.Lowered.{lowered_readable, lowered_is}
+use Rattle.disk_store.proofs.Opened.{stands_on}
+use Rattle.stored_book.specs.Standing.{StandsForBook, RecoversTo}
+use Rattle.chart_service.specs.MomentLaws.{since_then}
+use Rattle.chart_service.specs.Moments.{Since}
+use Rattle.store_commands.specs.Books.{IsOn, LeavesSame}
+
+-- no byte was sent by a moment of quiet calls
+pub sent_so : (old mid : View) (images : Image → Type 0) → Passes old mid images (Quiet old) → (at : ℕ) → old.clock ≤ at → at ≤ mid.clock → mid.sent_by at ≡ sent_now old
+sent_so old mid images passes at low high = elim (cases_lt old.clock at) [
+  | inl moved ↦ passes.sent_here at moved high
+  | inr stands ↦
+      let same : at ≡ old.clock = omega (arith, low, stands) in
+      passes.sent_past at stands ∙ ap (λ time. old.sent_by time) same
+]
+
+-- At each moment of an opening a crash leaves the book.
+pub since_opened : (IsSo : Image → ℕ → Type 0) (old mid : View) (total : ℕ) (book : List Series) → Opens (page_count old.size) old mid → HoldsBook (page_count old.size) total book old
+    → ((image : Image) → RecoversTo (page_count old.size) image total book → IsSo image (sent_now old)) → Since old mid IsSo
+since_opened IsSo old mid total book opens holds so =
+    let count = page_count old.size in
+    record {
+      goes = goes_by old mid (StandsAsBefore count old) (Quiet old) opens.time;
+      here = λ at image low high left.
+          let P : ℕ → Type 0 = λ sent. IsSo image sent in
+          subst P (sym (sent_so old mid (StandsAsBefore count old) opens.time at low high))
+          (so image (stands_on count total book old image holds.images (stood count old mid opens.time at image low high left)));
+    }
+
+-- the book of a store that is opened stays
+pub opened_since : (old mid : View) → Opens (page_count old.size) old mid → LeavesSame (page_count old.size) old mid
+opened_since old mid opens = λ total book holds. since_opened (λ image sent. RecoversTo (page_count old.size) image total book) old mid total book opens holds (λ image is. is)
+
+-- and time goes on
+pub opened_goes : (old mid : View) → Opens (page_count old.size) old mid → GoesOn old mid
+opened_goes old mid opens = goes_by old mid (StandsAsBefore (page_count old.size) old) (Quiet old) opens.time
+
+-- Moments, and then others: those up to mid stay as they were.
+pub since_on : (IsSo : Image → ℕ → Type 0) (old mid new : View) → Since old mid IsSo → GoesOn mid new
+    → ((at : ℕ) (image : Image) → mid.clock < at → at ≤ new.clock → new.crash at image → IsSo image (new.sent_by at)) → Since old new IsSo
+since_on IsSo old mid new first goes later = since_then old mid new IsSo first (record { goes = goes; here = later })
+
+-- At each moment of quiet calls over the pages of a disk, each image that a crash may leave can be read, and its pages
+-- are so: they stand for some book.
+module _ (count count' total : ℕ) (sound sound' : Bool) (mid new : View) (same : count' ≡ count) (within : total ≤ count)
+    (Q : Image → Type 0) (book_of : (pages : Image) → Q pages → List Series) (stand : (pages : Image) (is : Q pages) → StandsForBook pages total (book_of pages is))
+    (passes : Passes (pages_view count sound mid) (pages_view count' sound' new) Q (Quiet (pages_view count sound mid))) where
+  pub on_at : (at : ℕ) (image : Image) → mid.clock < at → at ≤ new.clock → new.crash at image → IsOn count total Q image
+  on_at at image low high left =
+      let P : ℕ → Type 0 = λ c. (pages : Image) → PagesOf c (new.crash at) pages → Q pages in
+      let each : P count' = λ pages found. passes.here at pages low high found in
+      let all : P count = subst P same each in
+      let total_of : (pages : Image) → Q pages → ℕ = λ pages is. total in
+      record {
+        readable = lowered_readable count (new.crash at) Q total_of book_of stand all image left;
+        within = within;
+        so = lowered_is count (new.crash at) Q total_of book_of stand all image left;
+      }
+
+  pub quiet_at : (at : ℕ) → mid.clock < at → at ≤ new.clock → new.sent_by at ≡ sent_now mid
+  quiet_at at low high = passes.sent_here at low high
+
+-- so they are at the moments of work on the pages of an opened store
+pub since_worked : (IsSo : Image → ℕ → Type 0) (count count' total : ℕ) (sound sound' : Bool) (old mid new : View) (Q : Image → Type 0) (book_of : (pages : Image) → Q pages → List Series) → count' ≡ count → total ≤ count
+    → ((pages : Image) (is : Q pages) → StandsForBook pages total (book_of pages is)) → Passes (pages_view count sound mid) (pages_view count' sound' new) Q (Quiet (pages_view count sound mid)) → GoesOn mid new → sent_now mid ≡ sent_now old
+    → ((image : Image) → IsOn count total Q image → IsSo image (sent_now old)) → Since old mid IsSo → Since old new IsSo
+since_worked IsSo count count' total sound sound' old mid new Q book_of same within stand passes goes quiet so first =
+    since_on IsSo old mid new first goes (λ at image low high left.
+    let P : ℕ → Type 0 = λ sent. IsSo image sent in
+    subst P (sym (quiet_at count count' total sound sound' mid new same within Q book_of stand passes at low high ∙ quiet))
+    (so image (on_at count count' total sound sound' mid new same within Q book_of stand passes at image low high left)))
+
+-- and while an answer is sent, where the images stay as they were before
+pub since_sent : (IsSo : Image → ℕ → Type 0) (old mid new : View) → Passes mid new (Now mid) (λ count. (sent_now mid ≤ count) × (count ≤ sent_now new)) → sent_now mid ≡ sent_now old
+    → ((image : Image) (count : ℕ) → Now mid image → sent_now old ≤ count → IsSo image count) → Since old mid IsSo → Since old new IsSo
+since_sent IsSo old mid new passes quiet so first =
+    since_on IsSo old mid new first (goes_by mid new (Now mid) (λ count. (sent_now mid ≤ count) × (count ≤ sent_now new)) passes) (λ at image low high left.
+    let sent = passes.sent_here at low high in
+    so image (new.sent_by at) (passes.here at image low high left) (omega (arith, sent.0, quiet)))
+
+-- an opening sends nothing
+pub opened_quiet : (old mid : View) → Opens (page_count old.size) old mid → sent_now mid ≡ sent_now old
+opened_quiet old mid opens = sent_same old mid (StandsAsBefore (page_count old.size) old) opens.time

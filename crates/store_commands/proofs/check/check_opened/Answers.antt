@@ -1,0 +1,61 @@
+use Rattle.std.proofs.Common.{sym, subst, ap, ◌∙◌}
+use Rattle.block_disk.specs.View.{Beside}
+use Rattle.store_commands.specs.Checked.{counts_text}
+use Rattle.series_store.specs.Shown as shown
+use Rattle.store_commands.specs.Checking.{ChecksStore}
+use Rattle.store_commands.specs.Sending.{SendsText}
+use Rattle.store_commands.proofs.Held.{stands_held}
+use Rattle.store_commands.proofs.CheckLooks.{checks_sent, checks_not}
+use Rattle.store_commands.proofs.check.check_opened.Goals as goal
+
+pub returns-in-Ok : goal.returns-in-Ok
+returns-in-Ok g c =
+    let view = g.W.Disk.view in
+    let sent = g.W.Streams.sent in
+    let sends = g.W.Streams.send_faults in
+    let pages = shown.pages c.args.store in
+    let read = shown.pages c.check-counted.new.self in
+    let e = c.check-counted.ensures in
+    let old = pages.disk in
+    let mid = read.disk in
+    let world = c.disk_of-world.result in
+    let new = c.send_text.result.1 in
+    let counts = c.in-Ok.counts in
+    let w = g.met.W.World in
+    let beside = e.looks.kept.beside in
+    let closed = read.at_rest (e.looks.kept.fit c.requires) in
+    let P : g.row.W.Denot → Type 0 = λ d. SendsText (counts_text counts) (view d) (view new) (sent d) (sent new) (sends d) (sends new) c.send_text.result.0 in
+    checks_sent pages.count read.count pages.sound read.sound (view old) (view mid) e.looks.kept e.looks.over.goes_on closed (view new) counts (sent old) (sent mid) (sent new) (sends old) (sends mid) (sends new) c.send_text.result.0
+    (sym (w.beside_sent mid) ∙ ap (λ (b : Beside). b.sent) beside ∙ w.beside_sent old)
+    (sym (w.beside_send_faults mid) ∙ ap (λ (b : Beside). b.send_faults) beside ∙ w.beside_send_faults old)
+    (λ total book holds. c.in-Ok.ensures.counts total book holds.honest (stands_held pages.count total book (view old) holds))
+    (record {
+      superblock = (shown.numbers c.args.store);
+      numbers = c.in-Ok.ensures.numbers;
+      spelled = c.args.store.space.spelled c.requires;
+      catalog = c.args.store.whole c.requires;
+      sound = c.in-Ok.ensures.whole;
+    })
+    (subst P c.disk_of-world.ensures.disk (c.send_text.ensures (counts_text counts) c.counts_text.ensures))
+
+pub returns-in-Err : goal.returns-in-Err
+returns-in-Err g c =
+    let view = g.W.Disk.view in
+    let sent = g.W.Streams.sent in
+    let sends = g.W.Streams.send_faults in
+    let pages = shown.pages c.args.store in
+    let read = shown.pages c.check-counted.new.self in
+    let e = c.check-counted.ensures in
+    let old = pages.disk in
+    let mid = read.disk in
+    let world = c.disk_of-world.result in
+    let w = g.met.W.World in
+    let beside = e.looks.kept.beside in
+    let closed = read.at_rest (e.looks.kept.fit c.requires) in
+    let P : g.row.W.Denot → Type 0 = λ d. ChecksStore pages.count (view old) (view d) (sent old) (sent d) (sends old) (sends d) c.check_status.result in
+    subst P (sym c.disk_of-world.ensures.disk)
+    (checks_not pages.count read.count pages.sound read.sound (view old) (view mid) e.looks.kept e.looks.over.goes_on closed (shown.numbers c.args.store) (sent old) (sent mid) (sends old) (sends mid) c.in-Err.error c.check_status.result c.check_status.ensures
+    (sym (w.beside_sent mid) ∙ ap (λ (b : Beside). b.sent) beside ∙ w.beside_sent old)
+    (c.args.store.space.spelled c.requires)
+    c.in-Err.ensures.cause
+    (λ total book holds. c.in-Err.ensures.a_store total book holds.honest (stands_held pages.count total book (view old) holds)))

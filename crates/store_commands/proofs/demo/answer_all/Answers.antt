@@ -1,0 +1,32 @@
+use Rattle.std.proofs.Common.{◌≢◌, ℕ, Err, sym, subst, ◌∙◌}
+use Rattle.std.specs.Prelude.{IsTrue}
+use Rattle.gate_pages.specs.GatePages.{IsClosed}
+use Rattle.chart_service.specs.Shown as shown
+use Rattle.demo_workload.specs.declared.demo_end.DemoEnd.TheVariants.{DiskFault}
+use Rattle.demo_workload.specs.Workload.{workload}
+use Rattle.store_commands.proofs.Stores.{store_disk, store_sound}
+use Rattle.store_commands.specs.Answering.{Answered}
+use Rattle.store_commands.proofs.DemoRequests.{answered_by}
+use Rattle.store_commands.proofs.demo.answer_all.Goals as goal
+
+pub returns : goal.returns
+returns g c =
+    let view = g.W.Disk.view in
+    let pages = shown.pages c.args.service in
+    let after = c.run_workload-answer.new.service in
+    let end_pages = shown.pages after in
+    let answer = c.run_workload-answer.result in
+    let store = c.into_store.result in
+    let disk = pages.disk in
+    let new = end_pages.disk in
+    let made = c.run_workload-answer.ensures in
+    let same_disk = c.disk_of.ensures.disk ∙ store_disk store after.store c.into_store.ensures in
+    let closed : answer ≢ Err DiskFault → IsClosed (view new) =
+    λ other.
+    let P : g.row.W.Denot → Type 0 = λ d. IsClosed (view d) in
+    subst P same_disk (c.disk_of.ensures.rests (subst IsTrue (sym (store_sound store after.store c.into_store.ensures)) (made.fit other))) in
+    let R : ℕ → Type 0 = λ n. Answered (workload c.args.seed n) pages.count (view disk) (view new) answer in
+    let D : g.row.W.Denot → Type 0 = λ d. Answered (workload c.args.seed c.args.rounds) pages.count (view disk) (view d) answer in
+    subst D (sym same_disk) (subst R c.from.ensures (answered_by (workload c.args.seed c.from.result) pages.count end_pages.count pages.sound end_pages.sound (view disk) (view new) after.sessions
+    made.runs.size made.runs.told made.runs.faults made.runs.beside made.goes_on c.frames_have_one_answer.ensures.numbered (shown.catalog after) (shown.total after) answer
+    made.done made.standing made.moments made.left made.cause closed))

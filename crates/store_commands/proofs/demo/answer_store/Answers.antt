@@ -1,0 +1,18 @@
+use Rattle.std.proofs.Common.{Err, sym, subst, ◌∙◌}
+use Rattle.series_store.specs.Shown as shown
+use Rattle.demo_workload.specs.declared.demo_end.DemoEnd.TheVariants.{NoMemory}
+use Rattle.demo_workload.specs.Workload.{workload}
+use Rattle.store_commands.proofs.Stores.{store_disk}
+use Rattle.store_commands.specs.Answering.{Answered}
+use Rattle.store_commands.proofs.DemoRequests.{answered_none}
+use Rattle.store_commands.proofs.demo.answer_store.Goals as goal
+
+pub returns-in-Err : goal.returns-in-Err
+returns-in-Err g c =
+    let view = g.W.Disk.view in
+    let store = c.args.store in
+    let pages = shown.pages store in
+    let back = c.in-Err.field-0.value in
+    let requests = workload c.args.seed c.args.rounds in
+    let D : g.row.W.Denot → Type 0 = λ d. Answered requests pages.count (view pages.disk) (view d) (Err NoMemory) in
+    subst D (sym (c.disk_of.ensures.disk ∙ store_disk back store c.in-Err.ensures.back)) (answered_none requests pages.count (view pages.disk))

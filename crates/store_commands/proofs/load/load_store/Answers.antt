@@ -1,0 +1,33 @@
+use Rattle.std.proofs.Common.{◌≢◌, Err, sym, ap, subst}
+use Rattle.gate_pages.specs.GatePages.{IsClosed, pages_view}
+use Rattle.series_load.specs.declared.load_end.LoadEnd.TheVariants.{DiskFault}
+use Rattle.series_store.specs.Shown as shown
+use Rattle.store_commands.specs.Storing.{Stores}
+use Rattle.store_commands.proofs.Stores.{store_disk}
+use Rattle.store_commands.proofs.LoadStored.{stores_by, sound_after}
+use Rattle.store_commands.proofs.load.load_store.Goals as goal
+
+pub returns : goal.returns
+returns g c =
+    let view = g.W.Disk.view in
+    let left = g.W.Streams.left in
+    let sent = g.W.Streams.sent in
+    let reads = g.W.Streams.read_faults in
+    let sends = g.W.Streams.send_faults in
+    let before = c.args.store in
+    let after = c.load-answer.new.store in
+    let pages = shown.pages before in
+    let end_pages = shown.pages after in
+    let disk = pages.disk in
+    let new = end_pages.disk in
+    let answer = c.load-answer.result in
+    let made = c.load-answer.ensures in
+    let name = c.args.name.now in
+    let closed : answer ≢ Err DiskFault → IsClosed (view new) =
+    λ other.
+    let P : g.row.W.Denot → Type 0 = λ d. IsClosed (view d) in
+    subst P c.disk_of.ensures.disk (c.disk_of.ensures.rests (sound_after answer (pages_view end_pages.count end_pages.sound (view new)) made.sound made.sound_for other)) in
+    let all = stores_by name pages.count end_pages.count pages.sound end_pages.sound (view disk) (view new) (left disk) (left new) made.goes.size made.goes.is_told made.goes.goes_on answer (sent disk) (sent new) (shown.total before) (reads disk) (reads new) (sends disk) (sends new)
+    made.outcome made.unknown made.within made.cause closed (λ is. let same = store_disk after before (made.untouched is) in (ap view same, ap left same)) made.goes.sent_is made.goes.sends made.goes.reads made.goes.faults in
+    let D : g.row.W.Denot → Type 0 = λ d. Stores name pages.count (view disk) (view d) (left disk) (left d) (sent disk) (sent d) (reads disk) (reads d) (sends disk) (sends d) answer in
+    subst D (sym c.disk_of.ensures.disk) all

@@ -1,0 +1,54 @@
+-- What a demo does over an opened store: the answers to its requests. Private contracts are stated by these words.
+use Rattle.std.specs.Prelude.{ℕ, ◌≡◌, ◌≢◌, ◌+◌, ◌^◌, ◌<◌, ◌≤◌, List, Result, IfOk, IfErr, ⊤}
+use Rattle.block_disk.specs.Counts.{HasRisen}
+use Rattle.block_disk.specs.View.{View, sent_now}
+use Rattle.chart_client.specs.declared.errors.ClientError.TheVariants as client
+use Rattle.chart_frames.specs.Frames.{key_number}
+use Rattle.gate_pages.specs.Pages.{GoesOn}
+use Rattle.request_lines.specs.declared.requests.Request.{Request}
+use Rattle.demo_workload.specs.declared.demo_end.DemoEnd.{DemoEnd}
+use Rattle.demo_workload.specs.declared.demo_end.DemoEnd.TheVariants.{DiskFault, Damaged, Missing, BadCoefficient, NoMemory}
+use Rattle.demo_workload.specs.declared.summaries.Summary.{Summary}
+use Rattle.demo_workload.specs.Ending.{IsOutside, MeetsError}
+use Rattle.demo_workload.specs.Replying.{Summarizes}
+use Rattle.store_commands.specs.declared.status.Status.{Status}
+use Rattle.store_commands.specs.Books.{OfBook, FromBook}
+use Rattle.store_commands.specs.Status.{status}
+use Rattle.store_commands.specs.Demonstrated.{AnswersFirst, LeavesDemo}
+
+-- the status of why a workload wasn't answered to its end
+abbrev pub end_status : DemoEnd → Status
+end_status DiskFault = status 6 0
+end_status (Damaged page) = status 7 (66 + page)
+end_status (Missing key) = status 10 (key_number key)
+end_status (BadCoefficient key) = status 11 (key_number key)
+end_status NoMemory = status 3 0
+
+-- a key that the end names has a number
+abbrev pub HasNumberedKey : DemoEnd → Type 0
+HasNumberedKey DiskFault = ⊤
+HasNumberedKey (Damaged page) = ⊤
+HasNumberedKey (Missing key) = key.index < 2 ^ 40
+HasNumberedKey (BadCoefficient key) = key.index < 2 ^ 40
+HasNumberedKey NoMemory = ⊤
+
+-- why it wasn't; want of memory is free
+abbrev pub IsEndCause : DemoEnd → View → View → Type 0
+IsEndCause DiskFault old new = HasRisen old.faults new.faults
+IsEndCause (Damaged page) old new = ⊤
+IsEndCause (Missing key) old new = MeetsError (client.Missing key)
+IsEndCause (BadCoefficient key) old new = MeetsError (client.BadCoefficient key)
+IsEndCause NoMemory old new = ⊤
+
+-- Requests were answered over the book that a disk holds, all of them or some first ones. Nothing was sent.
+pub record Answered (requests : List Request) (count : ℕ) (old new : View) (answer : Result Summary DemoEnd) : Type 0 where
+  pub done : IfOk answer (λ summary. FromBook count old new (λ start state. Summarizes requests start state summary))
+  pub stopped : IfErr answer (λ end. end ≢ DiskFault → FromBook count old new (AnswersFirst requests))
+  pub outside : IfErr answer (λ end. OfBook count old (λ total book. IsOutside end))
+  pub cause : IfErr answer (λ end. IsEndCause end old new)
+  pub numbered : IfErr answer HasNumberedKey
+  pub crash : LeavesDemo requests count old new
+  pub quiet : OfBook count old (λ total book. sent_now new ≡ sent_now old)
+  pub beside : new.beside ≡ old.beside
+  pub faults : old.faults ≤ new.faults
+  pub goes_on : GoesOn old new

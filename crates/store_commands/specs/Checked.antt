@@ -1,0 +1,68 @@
+-- How a check of the disk's store ends, by its status.
+use Rattle.std.specs.Prelude.{◌≡◌, ◌≢◌, ℕ, ◌+◌, ◌<◌, ◌≤◌, ◌⊎◌, List, [], ◌∷◌, ◌++◌, Contains, Option, codes}
+use Rattle.std.specs.Fmt.{decimal}
+use Rattle.block_disk.specs.Counts.{HasRisen}
+use Rattle.block_disk.specs.Streams.{sent_after}
+use Rattle.block_disk.specs.View.{View, Honest}
+use Rattle.gate_pages.specs.Journal.{page_count, pages_of}
+use Rattle.gate_pages.specs.Pages.{GoesOn}
+use Rattle.page_space.specs.declared.superblock.Superblock.{Superblock}
+use Rattle.page_space.specs.Layout.{superblock_page}
+use Rattle.series_store.specs.Counting.{AreCounts, AreNumbers, AreSound, HasBadTree, HasBadLink}
+use Rattle.series_store.specs.declared.counts.Counts.{Counts}
+use Rattle.disk_store.specs.Held.{HoldsBook}
+use Rattle.disk_store.specs.Openings.{IsDamagedBlock}
+use Rattle.stored_book.specs.Standing.{AreCatalog}
+use Rattle.store_commands.specs.Books.{OfBook, Never, LeavesSame, SendsPartOf}
+
+-- the three lines of a check
+unfoldable pub counts_text : Counts → List ℕ
+counts_text counts =
+    codes "series " ++ (decimal counts.series ++ (codes "\nvalues " ++ (decimal counts.values ++ (codes "\npages " ++ (decimal counts.used ++ (codes " of " ++ (decimal counts.total ++ codes "\n")))))))
+
+-- The pages for which the disk stands are sound, all of them: page 0 has these numbers, which are those that were counted,
+-- the pages of the catalog keep their layout, and those of the trees and of the chain are right for their places.
+pub record AreWhole (count : ℕ) (disk : View) (counts : Counts) : Type 0 where
+  pub superblock : Superblock
+  pub numbers : AreNumbers superblock counts
+  pub spelled : Honest disk → pages_of count disk.image 0 ≡ superblock_page superblock
+  pub catalog : Honest disk → AreCatalog (pages_of count disk.image) superblock.fresh superblock.series
+  pub sound : Honest disk → AreSound (pages_of count disk.image) superblock
+
+-- the counts were sent, which are those of the book that the disk holds
+pub record SendsCounts (count : ℕ) (disk : View) (before now : Option (List ℕ)) : Type 0 where
+  pub counts : Counts
+  pub of_book : OfBook count disk (λ total book. AreCounts total book counts)
+  pub whole : AreWhole count disk counts
+  pub sent : now ≡ sent_after (counts_text counts) before
+
+-- the same, of which the first bytes were sent
+pub record SendsCountsPart (count : ℕ) (disk : View) (before now : Option (List ℕ)) : Type 0 where
+  pub counts : Counts
+  pub of_book : OfBook count disk (λ total book. AreCounts total book counts)
+  pub whole : AreWhole count disk counts
+  pub sent : SendsPartOf (counts_text counts) before now
+
+-- this block is a page of the trees or of the chain, by the numbers of page 0, that is bad for its place
+pub record IsBadPart (count : ℕ) (disk : View) (place : ℕ) : Type 0 where
+  pub page : ℕ
+  pub place_is : place ≡ 66 + page
+  pub superblock : Superblock
+  pub spelled : Honest disk → pages_of count disk.image 0 ≡ superblock_page superblock
+  pub bad : Honest disk → HasBadTree (pages_of count disk.image) superblock page ⊎ HasBadLink (pages_of count disk.image) superblock superblock.chain page
+
+-- What a check sent and left, and why it ended, by the status.
+pub record CheckEnds (old new : View) (before now : Option (List ℕ)) (sends sends_now code place : ℕ) : Type 0 where
+  pub codes : Contains (0 ∷ 3 ∷ 5 ∷ 6 ∷ 7 ∷ 12 ∷ []) code
+  pub done : code ≡ 0 → SendsCounts (page_count old.size) old before now
+  pub send : code ≡ 5 → HasRisen sends sends_now
+  pub part : code ≡ 5 → SendsCountsPart (page_count old.size) old before now
+  pub fault : code ≡ 6 → HasRisen old.faults new.faults
+  pub damaged : code ≡ 7 → ((place ≡ 1) ⊎ (66 ≤ place)) × ((Honest old → IsDamagedBlock (page_count old.size) old.image place) ⊎ IsBadPart (page_count old.size) old place)
+  pub undamaged : code ≡ 7 → Never (page_count old.size) old
+  pub small : code ≡ 12 → (place ≡ old.size) × (old.size < 128)
+  pub nothing : code ≢ 0 → code ≢ 5 → now ≡ before
+  pub zero_place : Contains (0 ∷ 3 ∷ 5 ∷ 6 ∷ []) code → place ≡ 0
+  pub crash : LeavesSame (page_count old.size) old new
+  pub holds : OfBook (page_count old.size) old (λ total book. HoldsBook (page_count old.size) total book new)
+  pub goes_on : GoesOn old new

@@ -1,0 +1,71 @@
+-- How the workload of a seed ends over the disk's store, by its status.
+use Rattle.std.specs.Prelude.{◌≡◌, ◌≢◌, ℕ, ◌<◌, ◌≤◌, ◌⊎◌, List, [], ◌∷◌, ◌++◌, Contains, Option}
+use Rattle.block_disk.specs.Counts.{HasRisen}
+use Rattle.block_disk.specs.Streams.{sent_after}
+use Rattle.block_disk.specs.View.{Image, View, sent_now}
+use Rattle.chart_client.specs.declared.errors.ClientError.TheVariants as client
+use Rattle.chart_frames.specs.declared.frame.Frame.{Frame}
+use Rattle.chart_frames.specs.Frames.{key_number}
+use Rattle.gate_pages.specs.GatePages.{IsReadable}
+use Rattle.gate_pages.specs.Journal.{page_count, pages_of}
+use Rattle.gate_pages.specs.Pages.{GoesOn}
+use Rattle.om3_coeff.specs.declared.key.Key.{Key}
+use Rattle.request_lines.specs.declared.requests.Request.{Request}
+use Rattle.stored_book.specs.Standing.{StandsForBook}
+use Rattle.chart_service.specs.Moments.{Since}
+use Rattle.chart_service.specs.State.{State}
+use Rattle.demo_workload.specs.declared.summaries.Summary.{Summary}
+use Rattle.demo_workload.specs.Ending.{MeetsError}
+use Rattle.demo_workload.specs.Replying.{AnswersEach, Summarizes, IsPartWay}
+use Rattle.demo_workload.specs.Summaries.{summary_line}
+use Rattle.demo_workload.specs.Workload.{workload}
+use Rattle.store_commands.specs.Books.{OfBook, FromBook, Never, SendsPartOf, begun}
+
+-- all requests were answered, and their summary was sent
+pub record SendsSummary (requests : List Request) (start state : State) (before now : Option (List ℕ)) : Type 0 where
+  pub summary : Summary
+  pub sums : Summarizes requests start state summary
+  pub sent : now ≡ sent_after (summary_line summary) before
+
+-- the same, of which the first bytes were sent
+pub record SendsSummaryPart (requests : List Request) (start state : State) (before now : Option (List ℕ)) : Type 0 where
+  pub summary : Summary
+  pub sums : Summarizes requests start state summary
+  pub sent : SendsPartOf (summary_line summary) before now
+
+-- some first requests were answered
+pub record AnswersFirst (requests : List Request) (start state : State) : Type 0 where
+  pub first : List Request
+  pub rest : List Request
+  pub split : requests ≡ first ++ rest
+  pub frames : List Frame
+  pub answered : AnswersEach start first frames state
+
+-- The image recovers to the book behind some first requests; once a byte of the summary was sent, behind all.
+pub record IsAheadDemo (requests : List Request) (count total : ℕ) (start : State) (from : ℕ) (image : Image) (sent : ℕ) : Type 0 where
+  pub readable : IsReadable count image
+  pub within : total ≤ count
+  pub some : IsPartWay requests total start (pages_of count image)
+  pub all : from < sent → (frames : List Frame) × (state : State) × AnswersEach start requests frames state × StandsForBook (pages_of count image) total state.book
+
+-- at each moment from old to new a crash leaves such an image
+abbrev pub LeavesDemo : List Request → ℕ → View → View → Type 0
+LeavesDemo requests count old new = OfBook count old (λ total book. Since old new (IsAheadDemo requests count total (begun total book) (sent_now old)))
+
+-- What the workload did, sent and left, and why it ended, by the status.
+pub record DemoEnds (seed rounds : ℕ) (old new : View) (before now : Option (List ℕ)) (sends sends_now code place : ℕ) : Type 0 where
+  pub codes : Contains (0 ∷ 3 ∷ 5 ∷ 6 ∷ 7 ∷ 10 ∷ 11 ∷ 12 ∷ []) code
+  pub done : code ≡ 0 → FromBook (page_count old.size) old new (λ start state. SendsSummary (workload seed rounds) start state before now)
+  pub memory : code ≡ 3 → FromBook (page_count old.size) old new (AnswersFirst (workload seed rounds))
+  pub send : code ≡ 5 → HasRisen sends sends_now
+  pub part : code ≡ 5 → FromBook (page_count old.size) old new (λ start state. SendsSummaryPart (workload seed rounds) start state before now)
+  pub fault : code ≡ 6 → HasRisen old.faults new.faults
+  pub damaged : code ≡ 7 → (place ≡ 1) ⊎ (66 ≤ place)
+  pub undamaged : code ≡ 7 → Never (page_count old.size) old
+  pub missing : code ≡ 10 → Never (page_count old.size) old × ((key : Key) × (place ≡ key_number key) × MeetsError (client.Missing key))
+  pub misfit : code ≡ 11 → Never (page_count old.size) old × ((key : Key) × (place ≡ key_number key) × MeetsError (client.BadCoefficient key))
+  pub small : code ≡ 12 → (place ≡ old.size) × (old.size < 128)
+  pub nothing : code ≢ 0 → code ≢ 5 → now ≡ before
+  pub zero_place : Contains (0 ∷ 3 ∷ 5 ∷ 6 ∷ []) code → place ≡ 0
+  pub crash : LeavesDemo (workload seed rounds) (page_count old.size) old new
+  pub goes_on : GoesOn old new

@@ -1,0 +1,11 @@
+pub mod Status
+pub mod Books
+pub mod Traffic
+pub mod Sending
+pub mod Codes
+pub mod Loaded
+pub mod Storing
+pub mod Checked
+pub mod Checking
+pub mod Demonstrated
+pub mod Answering

@@ -1,0 +1,19 @@
+-- Statuses of commands.
+use Rattle.std.specs.Prelude.{ℕ, List, [], ◌∷◌}
+use Rattle.disk_store.specs.declared.causes.OpeningCause.{OpeningCause}
+use Rattle.disk_store.specs.declared.causes.OpeningCause.TheVariants as opening
+use Rattle.store_commands.specs.declared.status.Status.{Status}
+
+-- the codes of all statuses
+abbrev pub status_codes : List ℕ
+status_codes = 0 ∷ 2 ∷ 3 ∷ 4 ∷ 5 ∷ 6 ∷ 7 ∷ 8 ∷ 9 ∷ 10 ∷ 11 ∷ 12 ∷ 13 ∷ 14 ∷ 15 ∷ []
+
+abbrev pub status : ℕ → ℕ → Status
+status code place = record { code = code; place = place }
+
+-- the status of why a store wasn't opened
+abbrev pub opening_status : OpeningCause → Status
+opening_status (opening.TooSmall size) = status 12 size
+opening_status (opening.Damaged block) = status 7 block
+opening_status opening.DiskFault = status 6 0
+opening_status opening.NoMemory = status 3 0

@@ -1,0 +1,26 @@
+-- What passed through the streams of a world from one moment to another.
+use Rattle.std.specs.Prelude.{ℕ, List, Option}
+
+-- the bytes left to take and those sent, where they are told, and the counts of faults, before and now
+pub record Traffic : Type 0 where
+  pub left : Option (List ℕ)
+  pub left_now : Option (List ℕ)
+  pub sent : Option (List ℕ)
+  pub sent_now : Option (List ℕ)
+  pub reads : ℕ
+  pub reads_now : ℕ
+  pub sends : ℕ
+  pub sends_now : ℕ
+
+-- that from an old world to a new one
+abbrev pub traffic : {W : Type 0} → (W → Option (List ℕ)) → (W → Option (List ℕ)) → (W → ℕ) → (W → ℕ) → W → W → Traffic
+traffic left sent read_faults send_faults old new = record {
+  left = left old;
+  left_now = left new;
+  sent = sent old;
+  sent_now = sent new;
+  reads = read_faults old;
+  reads_now = read_faults new;
+  sends = send_faults old;
+  sends_now = send_faults new;
+}

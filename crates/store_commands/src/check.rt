@@ -1,0 +1,64 @@
+//! The command `check`: every page of the store is read, and what it holds is counted and sent.
+ghost use Rattle.std.specs.Prelude.{◌≡◌, IfOk, IsTrue};
+ghost use Rattle.block_disk.specs.View.{View};
+ghost use Rattle.series_store.specs.Shown as shown;
+ghost use Rattle.store_commands.specs.Checked.{CheckEnds, counts_text};
+ghost use Rattle.store_commands.specs.Checking.{ChecksOn, check_status};
+ghost use Rattle.store_commands.specs.Traffic.{traffic};
+
+use crate::sending::send_text;
+use crate::status::{DAMAGED, DISK_FAULT, FIRST_PAGE, NO_MEMORY, Status, ended, opening_status};
+use block_disk::{Back, World};
+use disk_store::{disk_of, open_store};
+use gate_pages::GatePages;
+use series_store::{Counts, Store, StoreError};
+use std::alloc::{AllocError, Global};
+
+/// Reads every page of the store of the world's disk, and sends three lines: `series N`, `values N` and
+/// `pages USED of TOTAL`.
+pub fn check_store<W: World>(alloc: Global, world: W) -> (Status, W)
+    ensures { CheckEnds (W.view world) (W.view result.1) (W.sent world) (W.sent result.1) (W.send_faults world) (W.send_faults result.1) result.0.code result.0.place }
+{
+    match open_store(alloc, world) {
+        Ok(store) => check_opened(alloc, store),
+        Err(Back { value, cause }) => (opening_status(cause), value),
+    }
+}
+
+/// The same over a store that is open.
+fn check_opened<W: World>(alloc: Global, mut store: Store<GatePages<W>>) -> (Status, W)
+    requires { IsTrue (shown.pages store).sound }
+    ensures { let pages = shown.pages store in ChecksOn pages.count (W.view pages.disk) (W.view result.1) (traffic W.left W.sent W.read_faults W.send_faults pages.disk result.1) result.0 }
+{
+    let counted = store.check();
+    let world = disk_of(store);
+    match counted {
+        Ok(counts) => send_text(counts_text(alloc, counts), world),
+        Err(error) => (check_status(error), world),
+    }
+}
+
+/// The three lines of a check.
+#[tactic(auto, unfolding(crate::specs::Checked::counts_text))]
+fn counts_text(alloc: Global, counts: Counts) -> Result<Vec<u8>, AllocError>
+    ensures { IfOk result (λ text. text.items ≡ counts_text counts) }
+{
+    let text = format!(in alloc;
+        "series {}\nvalues {}\npages {} of {}\n",
+        counts.series, counts.values, counts.used, counts.total
+    )?;
+    Ok(text.into_bytes())
+}
+
+/// The status of why a store wasn't counted. `NotAStore` and `Refused` come from no check.
+fn check_status(error: StoreError) -> Status
+    ensures { result ≡ check_status error }
+{
+    match error {
+        StoreError::Damaged { page } => ended(DAMAGED, FIRST_PAGE + u64::from(page)),
+        StoreError::DiskFault => ended(DISK_FAULT, 0),
+        StoreError::NotAStore | StoreError::Refused(_) | StoreError::NoMemory => {
+            ended(NO_MEMORY, 0)
+        }
+    }
+}

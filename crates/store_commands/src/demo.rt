@@ -1,0 +1,88 @@
+//! The command `demo`: the workload that a number makes is answered, and the summary of its replies is sent.
+ghost use Rattle.std.specs.Prelude.{◌≡◌, ◌≤◌, [], IsTrue};
+ghost use Rattle.block_disk.specs.View.{View};
+ghost use Rattle.series_store.specs.Shown as shown;
+ghost use Rattle.chart_service.specs.Shown as service_shown;
+ghost use Rattle.demo_workload.specs.Workload.{workload};
+ghost use Rattle.store_commands.specs.Answering.{Answered, HasNumberedKey, end_status};
+ghost use Rattle.store_commands.specs.Demonstrated.{DemoEnds};
+
+use crate::sending::send_text;
+use crate::status::{
+    BAD_COEFFICIENT, DAMAGED, DISK_FAULT, FIRST_PAGE, MISSING, NO_MEMORY, Status, ended,
+    opening_status,
+};
+use block_disk::{Back, World};
+use chart_client::laws::frames_have_one_answer;
+use chart_service::Service;
+use demo_workload::{DemoEnd, Summary, run_workload};
+use disk_store::{disk_of, open_store};
+use gate_pages::GatePages;
+use series_store::Store;
+use std::alloc::Global;
+
+/// Answers the workload of a seed with so many rounds over the store of the world's disk, draws what is sent
+/// for it, and sends one line: `requests R done D refused F views V sent S black P`.
+pub fn run_demo<W: World>(alloc: Global, seed: u64, rounds: u16, world: W) -> (Status, W)
+    requires { rounds ≤ 4096 }
+    ensures { DemoEnds seed rounds (W.view world) (W.view result.1) (W.sent world) (W.sent result.1) (W.send_faults world) (W.send_faults result.1) result.0.code result.0.place }
+{
+    match open_store(alloc, world) {
+        Ok(store) => {
+            let (answer, world) = answer_store(alloc, seed, rounds, store);
+            match answer {
+                Ok(summary) => send_text(summary.line(alloc), world),
+                Err(end) => (end_status(end), world),
+            }
+        }
+        Err(Back { value, cause }) => (opening_status(cause), value),
+    }
+}
+
+/// Answers the workload over a store: the summary of the replies, and the disk.
+fn answer_store<W: World>(
+    alloc: Global,
+    seed: u64,
+    rounds: u16,
+    store: Store<GatePages<W>>,
+) -> (Result<Summary, DemoEnd>, W)
+    requires sound { IsTrue (shown.pages store).sound }
+    requires rounds { rounds ≤ 4096 }
+    ensures { let pages = shown.pages store in Answered (workload seed rounds) pages.count (W.view pages.disk) (W.view result.1) result.0 }
+{
+    match Service::new(alloc, store) {
+        Ok(service) => answer_all(alloc, seed, rounds, service),
+        Err(Back { value, cause: _ }) => (Err(DemoEnd::NoMemory), disk_of(value)),
+    }
+}
+
+/// The same by a service with no session open.
+fn answer_all<W: World>(
+    alloc: Global,
+    seed: u64,
+    rounds: u16,
+    mut service: Service<GatePages<W>>,
+) -> (Result<Summary, DemoEnd>, W)
+    requires sound { IsTrue (service_shown.pages service).sound }
+    requires alone { service.sessions ≡ [] }
+    requires rounds { rounds ≤ 4096 }
+    ensures { let pages = service_shown.pages service in Answered (workload seed rounds) pages.count (W.view pages.disk) (W.view result.1) result.0 }
+{
+    frames_have_one_answer();
+    let answer = run_workload(alloc, &mut service, seed, u32::from(rounds));
+    (answer, disk_of(service.into_store()))
+}
+
+/// The status of why a workload wasn't answered to its end.
+fn end_status(end: DemoEnd) -> Status
+    requires { HasNumberedKey end }
+    ensures { result ≡ end_status end }
+{
+    match end {
+        DemoEnd::DiskFault => ended(DISK_FAULT, 0),
+        DemoEnd::Damaged { page } => ended(DAMAGED, FIRST_PAGE + u64::from(page)),
+        DemoEnd::Missing { key } => ended(MISSING, key.number()),
+        DemoEnd::BadCoefficient { key } => ended(BAD_COEFFICIENT, key.number()),
+        DemoEnd::NoMemory => ended(NO_MEMORY, 0),
+    }
+}

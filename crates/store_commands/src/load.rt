@@ -1,0 +1,75 @@
+//! The command `load`: the readings of the input are stored in a series, and their number is sent.
+ghost use Rattle.std.specs.Prelude.{◌≡◌, IfOk, IsTrue};
+ghost use Rattle.block_disk.specs.View.{View};
+ghost use Rattle.series_store.specs.Shown as shown;
+ghost use Rattle.store_commands.specs.Loaded.{EndsLoad, loaded_text};
+ghost use Rattle.store_commands.specs.Storing.{StoresOn, end_status};
+ghost use Rattle.store_commands.specs.Traffic.{traffic};
+
+use crate::sending::send_text;
+use crate::status::{
+    BAD_INPUT, DAMAGED, DISK_FAULT, FIRST_PAGE, MOST_BYTES, NO_MEMORY, READ_FAULT, REFUSED, Status,
+    TOO_MUCH, ended, opening_status,
+};
+use block_disk::{Back, World};
+use disk_store::{disk_of, open_store};
+use gate_pages::GatePages;
+use series_book::Name;
+use series_load::{LoadEnd, load};
+use series_store::Store;
+use std::alloc::{AllocError, Global};
+
+/// Stores the readings of the input, CSV lines, in the series of this name in the store of the world's disk,
+/// and sends how many there were: `loaded N` and a line feed.
+pub fn load_series<W: World>(alloc: Global, name: &Name, world: W) -> (Status, W)
+    ensures { EndsLoad name.now (W.view world) (W.view result.1) (traffic W.left W.sent W.read_faults W.send_faults world result.1) result.0 }
+{
+    match open_store(alloc, world) {
+        Ok(store) => {
+            let (answer, world) = load_store(alloc, name, store);
+            match answer {
+                Ok(readings) => send_text(loaded_text(alloc, readings), world),
+                Err(end) => (end_status(end), world),
+            }
+        }
+        Err(Back { value, cause }) => (opening_status(cause), value),
+    }
+}
+
+/// Loads the input into a series of a store: how many readings it had, and the disk.
+fn load_store<W: World>(
+    alloc: Global,
+    name: &Name,
+    mut store: Store<GatePages<W>>,
+) -> (Result<u64, LoadEnd>, W)
+    requires { IsTrue (shown.pages store).sound }
+    ensures { let pages = shown.pages store in StoresOn name.now pages.count (W.view pages.disk) (W.view result.1) (traffic W.left W.sent W.read_faults W.send_faults pages.disk result.1) result.0 }
+{
+    let answer = load(alloc, &mut store, name);
+    (answer, disk_of(store))
+}
+
+/// What is said of so many readings.
+fn loaded_text(alloc: Global, readings: u64) -> Result<Vec<u8>, AllocError>
+    ensures { IfOk result (λ text. text.items ≡ loaded_text readings) }
+{
+    Ok(format!(in alloc; "loaded {readings}\n")?.into_bytes())
+}
+
+/// The status of why not all of the input was loaded.
+fn end_status(end: LoadEnd) -> Status
+    ensures { result ≡ end_status end }
+{
+    match end {
+        LoadEnd::UnknownSeries => ended(REFUSED, 8),
+        LoadEnd::BadLine { at } => ended(BAD_INPUT, u64::from(at)),
+        LoadEnd::Refused { at, refusal } => {
+            ended(REFUSED, 256 * u64::from(at) + u64::from(refusal.number()))
+        }
+        LoadEnd::ReadFault => ended(READ_FAULT, 0),
+        LoadEnd::InputTooLong => ended(TOO_MUCH, MOST_BYTES),
+        LoadEnd::DiskFault => ended(DISK_FAULT, 0),
+        LoadEnd::Damaged { page } => ended(DAMAGED, FIRST_PAGE + u64::from(page)),
+        LoadEnd::NoMemory => ended(NO_MEMORY, 0),
+    }
+}

@@ -1,0 +1,20 @@
+//! The text of a command is sent.
+ghost use Rattle.std.specs.Prelude.{◌≡◌};
+ghost use Rattle.block_disk.specs.View.{View};
+ghost use Rattle.store_commands.specs.Sending.{SendsMade};
+
+use crate::status::{DONE, NO_MEMORY, SEND_FAULT, Status, ended};
+use block_disk::World;
+
+/// Sends a text, where there was memory to make it, and says how that ended.
+pub(crate) fn send_text<W: World, E: Drop>(made: Result<Vec<u8>, E>, mut world: W) -> (Status, W)
+    ensures { SendsMade made (W.view world) (W.view result.1) (W.sent world) (W.sent result.1) (W.send_faults world) (W.send_faults result.1) result.0 }
+{
+    let Ok(text) = made else {
+        return (ended(NO_MEMORY, 0), world);
+    };
+    match world.send(text.as_slice()) {
+        Ok(()) => (ended(DONE, 0), world),
+        Err(_) => (ended(SEND_FAULT, 0), world),
+    }
+}
