@@ -2,8 +2,8 @@
 use Rattle.std.proofs.Common.{◌≡◌, ◌≢◌, ℕ, ◌+◌, ◌≤◌, ◌<◌, List, [], ◌∷◌, ◌++◌, Option, None, Some, IfSome, Contains, length, take, drop, get_or, subst, cond, true, ltb, refl, ap, sym, inl, inr, ◌∙◌, arith, length-append}
 use Rattle.std.specs.List.{position_or_len, before_first, after_first}
 use Rattle.std.proofs.lemmas.List.{take_all, take-append-le, length-take, get_or-take}
-use Rattle.std.proofs.lemmas.List.Sums.{fails_before_first}
-use Rattle.std.proofs.lemmas.Bool.{cases_lt, eqb-false, lt-ltb, ltb-true, false_from_ne_true}
+use Rattle.std.proofs.lemmas.List.Sums.{fails_before_first, passes_at_first}
+use Rattle.std.proofs.lemmas.Bool.{cases_lt, eqb-false, eqb-true, lt-ltb, ltb-true, false_from_ne_true}
 use Rattle.chart_world.specs.Lines.{is_line_feed, without_return, text_of, lines}
 use Rattle.chart_world.specs.Feed.{Gathered}
 use Rattle.chart_world.specs.Reading.{in_front_of, behind_first, told_lines, with_first}
@@ -76,3 +76,9 @@ contains_early count bytes (k, below, is) = elim (cases_lt k (position_or_len is
 pub of_value : (P : ℕ → Type 0) (o : Option ℕ) (n : ℕ) → o ≡ Some n → IfSome o P → P n
 of_value P None n is holds = absurd (cc (is))
 of_value P (Some m) n is holds = let e : m ≡ n = cc (is) in subst P e holds
+
+-- the first bytes have a line feed where the first of all stands among them
+pub early_contains : (count : ℕ) (bytes : List ℕ) → position_or_len is_line_feed bytes < length bytes → position_or_len is_line_feed bytes < count → Contains (take count bytes) 10
+early_contains count bytes here early =
+    let at = position_or_len is_line_feed bytes in
+    (at, omega (arith, here, early, length-take count bytes), get_or-take count bytes at 10 early ∙ eqb-true (get_or bytes at 10) 10 (passes_at_first is_line_feed bytes 10 here))

@@ -1,5 +1,5 @@
 -- How far a reader of lines has come in its input.
-use Rattle.std.specs.Prelude.{ℕ, ◌+◌, Bool, true, List, [], ◌∷◌, ◌++◌, Option, None, Some, length, take, IfSome}
+use Rattle.std.specs.Prelude.{ℕ, ◌+◌, ◌-◌, ◌^◌, Bool, true, List, [], ◌∷◌, ◌++◌, Contains, Option, None, Some, length, take, IfSome}
 use Rattle.std.specs.List.{after_first}
 use Rattle.chart_world.specs.Lines.{is_line_feed, lines, NoLineFeed}
 
@@ -24,6 +24,10 @@ unread_input = record { given = 0; pending = []; taken = 0; line = []; offset = 
 abbrev pub in_front_of : List ℕ → Option (List ℕ) → Option (List ℕ)
 in_front_of pending None = None
 in_front_of pending (Some left) = Some (pending ++ left)
+
+-- the next line is pending, up to its line feed, which is among the first 2^32 bytes of the input
+abbrev pub HasLine : Reading → Type 0
+HasLine reading = Contains (take (2 ^ 32 - reading.given) reading.pending) 10
 
 -- The bytes behind the lines that were given, where the stream tells what is left to take.
 abbrev pub unread : Reading → Option (List ℕ) → Option (List ℕ)

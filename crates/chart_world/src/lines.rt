@@ -1,10 +1,10 @@
 //! The lines of a stream, one at a time.
-ghost use Rattle.std.specs.Prelude.{false, ◌≡◌, ◌≢◌, ◌≤◌, ◌<◌, ◌+◌, ◌-◌, ◌^◌, ◌++◌, [], IsTrue, Contains, IfSome, length, take, drop, IfOk, IfErr, OnOk, OnErr};
+ghost use Rattle.std.specs.Prelude.{true, false, ◌≡◌, ◌≢◌, ◌≤◌, ◌<◌, ◌+◌, ◌-◌, ◌^◌, ◌++◌, [], IsTrue, Contains, IfSome, length, take, drop, IfOk, IfErr, OnOk, OnErr};
 ghost use Rattle.std.specs.List.{position_or_len};
 ghost use Rattle.block_disk.specs.Counts.{HasRisen};
 ghost use Rattle.block_disk.specs.Streams.{left_after};
 ghost use Rattle.chart_world.specs.Lines.{is_line_feed, text_of};
-ghost use Rattle.chart_world.specs.Reading.{unread_input, unread, told_lines, with_first, behind_first, input_length, NoLineIn};
+ghost use Rattle.chart_world.specs.Reading.{unread_input, unread, told_lines, with_first, behind_first, input_length, HasLine, NoLineIn};
 
 use crate::feed::{Feed, LIMIT, LONGEST};
 use crate::line_answer::{LineAnswer, LineFault};
@@ -116,7 +116,7 @@ impl Lines {
         // no byte is lost, and no more are taken than the line needs
         ensures total { input_length self.new.taken (S.left from.new) ≡ input_length self.old.taken (S.left from.old) }
         ensures forward { self.old.taken ≤ self.new.taken }
-        ensures waits { Contains (take (2 ^ 32 - self.old.given) self.old.pending) 10 → from.new ≡ from.old }
+        ensures waits { HasLine self.old → from.new ≡ from.old }
         // of the stream nothing changes but by takes
         ensures sent { S.sent from.new ≡ S.sent from.old }
         ensures send_faults { S.send_faults from.new ≡ S.send_faults from.old }
@@ -145,6 +145,16 @@ impl Lines {
         let end = text_len(self.feed.spill.as_slice());
         self.place = Place::Spill { end };
         Ok(LineAnswer::Line)
+    }
+
+    /// Whether the next line is pending: then `next` takes nothing. A line counts only where its line
+    /// feed is among the first 2^32 bytes of the input, and the rest behind the last line feed never does.
+    pub fn ready(&self) -> bool
+        ensures ready { result ≡ true → HasLine self.now }
+        ensures unready { result ≡ false → HasLine self.now → ⊥ }
+    {
+        let before = self.feed.line_feed();
+        before < self.feed.len() && self.feed.given() + (before as u64) < LIMIT
     }
 
     /// The line of the last answer, where that was `Line`; empty otherwise.

@@ -10,7 +10,7 @@ use Rattle.node_page.proofs.Coefs.{coef_made}
 abbrev pub IsBlank : List ℕ → Type 0
 IsBlank page = (k : ℕ) → 8 ≤ k → k < 2584 → get_or page k 0 ≡ 0
 
-big_zero : (n i : ℕ) (xs : List ℕ) → ((k : ℕ) → i ≤ k → k < i + n → get_or xs k 0 ≡ 0) → big_from i n xs ≡ 0
+pub big_zero : (n i : ℕ) (xs : List ℕ) → ((k : ℕ) → i ≤ k → k < i + n → get_or xs k 0 ≡ 0) → big_from i n xs ≡ 0
 big_zero zero i xs zeros = refl
 big_zero (suc n) i xs zeros =
     let byte : get_or xs i 0 ≡ 0 = zeros i (omega arith) (omega arith) in

@@ -1,10 +1,7 @@
 -- What the tests of the rules show.
-use Rattle.std.proofs.Common.{◌≡◌, ℕ, ◌+◌, ◌-◌, ◌<◌, ◌≤◌, Bool, true, false, not, ◌==◌, List, length, get_or, take, drop, refl, sym, ap, ◌∙◌, arith, length-drop, inl, inr}
+use Rattle.std.proofs.Common.{◌≡◌, ℕ, ◌+◌, ◌-◌, ◌<◌, ◌≤◌, Bool, true, false, not, List, length, get_or, take, drop, refl, sym, ap, ◌∙◌, arith, length-drop}
 use Rattle.std.proofs.lemmas.List.{get_or-drop, get_or-take, length-take-le}
-use Rattle.std.proofs.lemmas.Bool.Decides.{eqb_tells}
 use mathlib.Core.Bool.{beq}
-use Rattle.node_page.specs.Fields.{level_at, child_at}
-use Rattle.node_page.specs.Layout.{IsChild, has_child}
 
 -- a part of a page is all zero exactly where the page's bytes there are
 pub zero_in : (at n : ℕ) (page : List ℕ) → at + n ≤ length page → ((k : ℕ) → k < length (take n (drop at page)) → get_or (take n (drop at page)) k 0 ≡ 0)
@@ -32,52 +29,9 @@ same_test false false h = refl
 same_test true false h = cc
 same_test false true h = cc
 
-test_is : (a b : Bool) → beq a b ≡ true → a ≡ b
-test_is true true h = refl
-test_is false false h = refl
-test_is true false h = cc
-test_is false true h = cc
-
-is_test : (a b : Bool) → a ≡ b → beq a b ≡ true
-is_test true true h = refl
-is_test false false h = refl
-is_test true false h = cc
-is_test false true h = cc
-
-no_page : (at : ℕ) → not (at == 0) ≡ false → at ≡ 0
-no_page at h = elim (eqb_tells at 0) [ inl zero ↦ zero.1 | inr more ↦ absurd (let yes : not (at == 0) ≡ true = ap not more.0 in cc) ]
-
-some_page : (at : ℕ) → not (at == 0) ≡ true → at ≡ 0 → ⊥
-some_page at h zero = let no : not (at == 0) ≡ false = ap (λ (n : ℕ). not (n == 0)) zero in cc
-
-is_no_page : (at : ℕ) → at ≡ 0 → not (at == 0) ≡ false
-is_no_page at zero = ap (λ (n : ℕ). not (n == 0)) zero
-
-is_some_page : (at : ℕ) → (at ≡ 0 → ⊥) → not (at == 0) ≡ true
-is_some_page at some = elim (eqb_tells at 0) [ inl zero ↦ absurd (some zero.1) | inr more ↦ ap not more.0 ]
-
--- the test of a child shows its rule, on page level 1
-pub lowest_child : (page : List ℕ) (child at : ℕ) (wanted : Bool) → at ≡ child_at page child → level_at page ≡ 1 → wanted ≡ false
-    → (beq (not (at == 0)) wanted ≡ true → IsChild page child) × (IsChild page child → beq (not (at == 0)) wanted ≡ true)
-lowest_child page child at wanted same low is = (
-  λ h.
-      let none : child_at page child ≡ 0 = sym same ∙ no_page at (test_is (not (at == 0)) wanted h ∙ is) in
-      record { lowest = λ _. none; empty = λ _. none; there = λ more yes zero. absurd (omega (arith, more, low)) },
-  λ rule. is_test (not (at == 0)) wanted (is_no_page at (same ∙ rule.lowest low) ∙ sym is),
-)
-
--- and above it
-pub higher_child : (page : List ℕ) (child at : ℕ) (has wanted : Bool) → at ≡ child_at page child → 1 < level_at page → has_child page child ≡ has → wanted ≡ has
-    → (beq (not (at == 0)) wanted ≡ true → IsChild page child) × (IsChild page child → beq (not (at == 0)) wanted ≡ true)
-higher_child page child at true wanted same high has is = (
-  λ h.
-      let some : at ≡ 0 → ⊥ = some_page at (test_is (not (at == 0)) wanted h ∙ is) in
-      record { lowest = λ one. absurd (omega (arith, one, high)); empty = λ no. absurd (cc); there = λ more yes zero. some (same ∙ zero) },
-  λ rule. is_test (not (at == 0)) wanted (is_some_page at (λ zero. rule.there high has (sym same ∙ zero)) ∙ sym is),
-)
-higher_child page child at false wanted same high has is = (
-  λ h.
-      let none : child_at page child ≡ 0 = sym same ∙ no_page at (test_is (not (at == 0)) wanted h ∙ is) in
-      record { lowest = λ _. none; empty = λ _. none; there = λ more yes zero. absurd (cc) },
-  λ rule. is_test (not (at == 0)) wanted (is_no_page at (same ∙ rule.empty has) ∙ sym is),
-)
+-- and of which it was found that they do
+pub other_test : (a b : Bool) → not (beq a b) ≡ true → a ≡ b → ⊥
+other_test true true h same = cc
+other_test false false h same = cc
+other_test true false h same = cc
+other_test false true h same = cc

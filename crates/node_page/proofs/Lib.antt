@@ -6,3 +6,6 @@ pub mod Coefs
 pub mod Puts
 pub mod Deciding
 pub mod Blank
+pub mod Childless
+pub mod Differences
+pub mod FullPages

@@ -1,18 +1,14 @@
 -- Two pages that keep the layout and have the same fields have the same bytes.
-use Rattle.std.proofs.Common.{◌≡◌, ℕ, zero, suc, ◌+◌, ◌-◌, ◌*◌, ◌/◌, ◌%◌, ◌^◌, ◌<◌, ◌≤◌, ◌==◌, List, length, get_or, sym, ap, inl, inr, ◌∙◌, arith}
+use Rattle.std.proofs.Common.{◌≡◌, ℕ, zero, suc, ◌+◌, ◌-◌, ◌*◌, ◌/◌, ◌%◌, ◌<◌, ◌≤◌, ◌==◌, List, get_or, sym, ap, inl, inr, ◌∙◌, arith}
 use Rattle.std.proofs.lemmas.Bool.{cases_lt}
-use Rattle.std.proofs.lemmas.Nat.{div-mul-add, mod-mul-add}
 use Rattle.std.proofs.lemmas.Nat.Bits.{same_from_bits_below, bit_at-lt}
-use Rattle.std.proofs.lemmas.Int.{of_z-to_z}
 use Rattle.std.proofs.lemmas.Grind.{same_number_lists}
-use Rattle.std.specs.Int.{w64, bit_at, cast_unsigned}
+use Rattle.std.specs.Int.{bit_at}
 use Rattle.block_disk.specs.Blocks.{block_size, IsBlock}
-use Rattle.byteorder.specs.Endian.{big_from}
-use Rattle.byteorder.specs.Numbers.{big_from-lt}
 use Rattle.om3_coeff.specs.declared.coef.Coef.{Coef}
-use Rattle.node_page.specs.Fields.{number_at, signed_at, flag_at, level_at, coef_at, child_at}
+use Rattle.node_page.specs.Fields.{signed_at, flag_at, level_at, coef_at, child_at}
 use Rattle.node_page.specs.Layout.{KeepsLayout}
-use Rattle.node_page.specs.Numbers.{IsBytes, number_bytes, number_below, signed_bytes}
+use Rattle.node_page.specs.Numbers.{IsBytes, number_bytes, signed_bytes}
 
 one_bit : (x y : ℕ) → x < 2 → y < 2 → (x == 1) ≡ (y == 1) → x ≡ y
 one_bit x y low low' same = grind arith

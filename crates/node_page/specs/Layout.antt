@@ -1,10 +1,10 @@
 -- The rules of a tree page's fields, in the order in which they are named.
-use Rattle.std.specs.Prelude.{ℕ, ◌≡◌, ◌+◌, ◌*◌, ◌/◌, ◌%◌, ◌^◌, ◌<◌, ◌≤◌, ◌⊎◌, ◌==◌, Bool, true, false, ◌&&◌, ◌||◌, unsigned_abs, if◌then◌else◌, List, slice_index}
+use Rattle.std.specs.Prelude.{ℕ, ◌≡◌, ◌+◌, ◌*◌, ◌/◌, ◌%◌, ◌<◌, ◌≤◌, ◌⊎◌, ◌==◌, Bool, true, false, ◌&&◌, ◌||◌, if◌then◌else◌, List, slice_index}
 use Rattle.whole_number.specs.Range.{IsTime}
 use Rattle.block_disk.specs.Blocks.{block_size}
 use Rattle.om3_coeff.specs.declared.coef.Coef.{Coef}
 use Rattle.om3_coeff.specs.Coefs.{IsFlat}
-use Rattle.node_page.specs.Fields.{flag_at, level_at, coef_at, child_at}
+use Rattle.node_page.specs.Fields.{flag_at, level_at, signed_at, coef_at, child_at}
 use Rattle.node_page.specs.declared.errors.BadPage.{BadPage}
 use Rattle.node_page.specs.declared.errors.BadPage.TheVariants.{Kind, Level, Reserved, Flags, Differences, Children}
 
@@ -39,6 +39,14 @@ pub record HasDifferences (c : Coef) : Type 0 where
   pub least : IsTime c.dmin
   pub greatest : IsTime c.dmax
   pub flat : (c.left && c.right) ≡ false → IsFlat c
+
+-- the same by places: no difference is above that
+abbrev pub AreSmall : List ℕ → Type 0
+AreSmall page = (place : ℕ) → place < 254 → IsTime (signed_at page (40 + 8 * place))
+
+-- and a node has two flags or no difference
+abbrev pub IsFullOrFlat : List ℕ → ℕ → Type 0
+IsFullOrFlat page n = ((coef_at page n).left && (coef_at page n).right) ≡ false → IsFlat (coef_at page n)
 
 abbrev pub AreDifferences : List ℕ → Type 0
 AreDifferences page = (n : ℕ) → n < 127 → HasDifferences (coef_at page n)

@@ -6,12 +6,11 @@ ghost use Rattle.node_page.specs.Fields.{with_bytes};
 pub fn are_zero(bytes: &[u8]) -> bool
     ensures { IsTrue result ↔ ((k : ℕ) → k < length bytes.now → slice_index bytes.now k ≡ 0) }
 {
+    let mut greatest = 0;
     for byte in bytes {
-        if *byte != 0 {
-            return false;
-        }
+        greatest = greatest.max(*byte);
     }
-    true
+    greatest == 0
 }
 
 /// Puts bytes in the place of those from an offset on.

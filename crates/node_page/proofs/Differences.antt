@@ -1,0 +1,59 @@
+-- The differences of all nodes, by their places and by the bytes of the flags.
+use Rattle.std.proofs.Common.{◌≡◌, ℕ, zero, suc, ◌+◌, ◌*◌, ◌/◌, ◌%◌, ◌<◌, ◌≤◌, Bool, true, false, ◌&&◌, ◌==◌, List, get_or, refl, ap, subst, ◌∙◌, arith}
+use Rattle.std.specs.Int.{bit_at}
+use Rattle.whole_number.specs.Range.{IsTime}
+use Rattle.node_page.specs.Fields.{signed_at, flag_at, coef_at}
+use Rattle.node_page.specs.Layout.{HasDifferences, AreDifferences, AreSmall, IsFullOrFlat}
+
+bit_of_full : (i : ℕ) → i < 8 → (bit_at 255 i == 1) ≡ true
+bit_of_full zero few = refl
+bit_of_full (suc zero) few = refl
+bit_of_full (suc (suc zero)) few = refl
+bit_of_full (suc (suc (suc zero))) few = refl
+bit_of_full (suc (suc (suc (suc zero)))) few = refl
+bit_of_full (suc (suc (suc (suc (suc zero))))) few = refl
+bit_of_full (suc (suc (suc (suc (suc (suc zero)))))) few = refl
+bit_of_full (suc (suc (suc (suc (suc (suc (suc zero))))))) few = refl
+bit_of_full (suc (suc (suc (suc (suc (suc (suc (suc i)))))))) few = absurd (omega (arith, few))
+
+pub flag_of_full : (page : List ℕ) (byte flag : ℕ) → get_or page (8 + byte) 0 ≡ 255 → flag / 8 ≡ byte → flag_at page flag ≡ true
+unfolding flag_at
+flag_of_full page byte flag full is =
+    ap (λ (b : ℕ). bit_at (get_or page (8 + b) 0) (flag % 8) == 1) is ∙ ap (λ (x : ℕ). bit_at x (flag % 8) == 1) full ∙ bit_of_full (flag % 8) (omega arith)
+
+both : (left right : Bool) → left ≡ true → right ≡ true → (left && right) ≡ false → ⊥
+both true true l r half = cc (half)
+both true false l r half = cc (r)
+both false right l r half = cc (l)
+
+-- where a byte of flags is full, so are its four nodes
+pub four_full : (page : List ℕ) (byte n : ℕ) → get_or page (8 + byte) 0 ≡ 255 → 4 * byte ≤ n → n < 4 * byte + 4 → IsFullOrFlat page n
+unfolding coef_at
+four_full page byte n full low high half =
+    absurd (both (flag_at page (2 * n)) (flag_at page (2 * n + 1)) (flag_of_full page byte (2 * n) full (omega (arith, low, high))) (flag_of_full page byte (2 * n + 1) full (omega (arith, low, high))) half)
+
+pub differences_from : (page : List ℕ) → AreSmall page → ((n : ℕ) → n < 127 → IsFullOrFlat page n) → AreDifferences page
+unfolding coef_at
+differences_from page small flat n few =
+    let second : 40 + 8 * (2 * n + 1) ≡ 40 + 16 * n + 8 = omega arith in
+    let first : 40 + 8 * (2 * n) ≡ 40 + 16 * n = omega arith in
+    let IsSmall : ℕ → Type 0 = λ at. IsTime (signed_at page at) in
+    record {
+      least = subst IsSmall first (small (2 * n) (omega (arith, few)));
+      greatest = subst IsSmall second (small (2 * n + 1) (omega (arith, few)));
+      flat = flat n few;
+    }
+
+-- a place is one of a node's two
+halves : (page : List ℕ) (n rest place : ℕ) → place ≡ 2 * n + rest → rest < 2 → HasDifferences (coef_at page n) → IsTime (signed_at page (40 + 8 * place))
+unfolding coef_at
+halves page n zero place is few has =
+    let at : 40 + 16 * n ≡ 40 + 8 * place = omega (arith, is) in
+    let IsSmall : ℕ → Type 0 = λ at. IsTime (signed_at page at) in subst IsSmall at has.least
+halves page n (suc zero) place is few has =
+    let at : 40 + 16 * n + 8 ≡ 40 + 8 * place = omega (arith, is) in
+    let IsSmall : ℕ → Type 0 = λ at. IsTime (signed_at page at) in subst IsSmall at has.greatest
+halves page n (suc (suc rest)) place is few has = absurd (omega (arith, few))
+
+pub small_of : (page : List ℕ) → AreDifferences page → AreSmall page
+small_of page differences place few = halves page (place / 2) (place % 2) place (omega arith) (omega arith) (differences (place / 2) (omega (arith, few)))
