@@ -123,19 +123,19 @@ risen_before low before now less (inl risen) = inl (omega (arith, risen, less))
 risen_before low before now less (inr last) = inr last
 
 -- why no store was opened on the pages
-pub store_prevents : (cause : StoreError) (n count count' : ℕ) (sound sound' : Bool) (old mid new : View) → count ≡ n → n ≡ page_count old.size → 128 ≤ old.size → (Honest old → Honest mid) → (Honest old → pages_of count mid.image ≡ pages_of count old.image) → old.faults ≤ mid.faults
+pub store_prevents : (cause : StoreError) (n count count' : ℕ) (sound sound' : Bool) (old mid new : View) → count ≡ n → n ≡ page_count old.size → 128 ≤ old.size → (Honest old → Honest mid) → (Honest old → pages_of count mid.image ≡ pages_of count old.image) → old.faults ≤ mid.faults → IsFirstPage cause
     → IsOpenCause cause (Honest mid) (pages_view count sound mid) (pages_view count' sound' new) → Prevents (store_cause_of cause) old new
-store_prevents (of_store.Refused refusal) n count count' sound sound' old mid new counted is_n large honest same faults is = tt
-store_prevents of_store.NotAStore n count count' sound sound' old mid new counted is_n large honest same faults is =
+store_prevents (of_store.Refused refusal) n count count' sound sound' old mid new counted is_n large honest same faults first is = tt
+store_prevents of_store.NotAStore n count count' sound sound' old mid new counted is_n large honest same faults first is =
     let P : ℕ → Type 0 = λ m. IsDamagedBlock m old.image 66 in
     let M : Image → Type 0 = λ pages. HasMagic (pages 0) in
-    (large, (inr (omega arith), λ h. subst P (counted ∙ is_n) (inr (inl (refl, λ magic. is (honest h) (subst M (sym (same h)) magic))))))
-store_prevents of_store.DiskFault n count count' sound sound' old mid new counted is_n large honest same faults is = risen_before old.faults mid.faults new.faults faults is
-store_prevents (of_store.Damaged page) n count count' sound sound' old mid new counted is_n large honest same faults is =
+    (large, (inr (omega arith, omega arith), λ h. subst P (counted ∙ is_n) (inr (inl (refl, λ magic. is (honest h) (subst M (sym (same h)) magic))))))
+store_prevents of_store.DiskFault n count count' sound sound' old mid new counted is_n large honest same faults first is = risen_before old.faults mid.faults new.faults faults is
+store_prevents (of_store.Damaged page) n count count' sound sound' old mid new counted is_n large honest same faults first is =
     let P : ℕ → Type 0 = λ m. IsDamagedBlock m old.image (66 + page) in
     let B : Image → Type 0 = λ pages. IsBrokenPage count pages page in
-    (large, (inr (omega arith), λ h. subst P (counted ∙ is_n) (inr (inr (page, refl, subst B (same h) (is (honest h)))))))
-store_prevents of_store.NoMemory n count count' sound sound' old mid new counted is_n large honest same faults is = tt
+    (large, (inr (omega arith, omega (arith, first)), λ h. subst P (counted ∙ is_n) (inr (inr (page, refl, subst B (same h) (is (honest h)))))))
+store_prevents of_store.NoMemory n count count' sound sound' old mid new counted is_n large honest same faults first is = tt
 
 pub store_outside : (cause : StoreError) → store_opening.IsOutside cause → IsOutside (store_cause_of cause)
 store_outside cause (inl same) = inl (ap store_cause_of same)

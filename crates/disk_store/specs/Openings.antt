@@ -33,10 +33,14 @@ IsDamagedBlock count image block =
     ⊎ (((block ≡ 66) × (HasMagic (pages_of count image 0) → ⊥))
     ⊎ ((page : ℕ) × (block ≡ 66 + page) × IsBrokenPage count (pages_of count image) page))
 
--- whatever the disk is, a block that is called damaged is the directory, or it has page 0 or a page of the catalog
+-- the block is the directory, or it has page 0 or a page of the catalog
+abbrev pub IsFirstBlock : ℕ → Type 0
+IsFirstBlock block = (block ≡ 1) ⊎ ((66 ≤ block) × (block ≤ 82))
+
+-- whatever the disk is, a block that is called damaged is one of these
 abbrev pub IsOpeningPlace : OpeningCause → Type 0
 IsOpeningPlace (TooSmall size) = Unit {0}
-IsOpeningPlace (Damaged block) = (block ≡ 1) ⊎ ((66 ≤ block) × (block ≤ 82))
+IsOpeningPlace (Damaged block) = IsFirstBlock block
 IsOpeningPlace DiskFault = Unit {0}
 IsOpeningPlace NoMemory = Unit {0}
 
@@ -44,7 +48,7 @@ IsOpeningPlace NoMemory = Unit {0}
 abbrev pub Prevents : OpeningCause → View → View → Type 0
 Prevents (TooSmall size) old new = (size ≡ old.size) × (size < 128)
 Prevents (Damaged block) old new =
-    (128 ≤ old.size) × (((block ≡ 1) ⊎ (66 ≤ block)) × (Honest old → IsDamagedBlock (page_count old.size) old.image block))
+    (128 ≤ old.size) × (IsFirstBlock block × (Honest old → IsDamagedBlock (page_count old.size) old.image block))
 Prevents DiskFault old new = HasRisen old.faults new.faults
 Prevents NoMemory old new = Unit {0}
 

@@ -5,5 +5,7 @@ pub mod Transactions
 pub mod Causes
 pub mod Opened
 pub mod Firsts
+pub mod Copies
+pub mod Beside
 pub mod Shown
 pub mod Changing

@@ -9,6 +9,9 @@ pub(crate) const FIRST: u32 = 17;
 /// The fewest pages of a store.
 pub(crate) const FEWEST: u32 = 62;
 
+/// How many pages the cache has a place for.
+pub(crate) const PLACES: usize = 1024;
+
 /// The most series of a store.
 pub(crate) const MOST_SERIES: u32 = 512;
 

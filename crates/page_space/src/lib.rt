@@ -4,13 +4,14 @@
 //! A page is taken from the head of the chain where there is one, else it is the first page that was
 //! never used. A freed page becomes the head of the chain and names the one behind it. A transaction
 //! keeps the pages that it changes, page 0 among them, until they are committed in one batch; dropping
-//! it changes nothing.
+//! it changes nothing. A page that is read stays in a cache, in the place of its number mod 1,024.
 //!
 //! Invariant of a space: its numbers keep the rules of page 0, and while the pages are sound, page 0
-//! spells them. Invariant of a transaction: its page 0 spells its numbers. What the pages of the
-//! catalog and the pages given out hold is for the layers above.
+//! spells them, and what the cache has of a page is that page. Invariant of a transaction: its page 0
+//! spells its numbers. What the pages of the catalog and the pages given out hold is for the layers above.
 #![tactic(auto)]
 
+mod cache_calls;
 mod errors;
 mod fields;
 mod freed_page;
@@ -18,6 +19,7 @@ mod initial;
 pub mod laws;
 mod layout;
 mod opening;
+mod page_cache;
 mod space;
 mod space_calls;
 mod space_streams;

@@ -1,5 +1,5 @@
 //! A space is made, and opened.
-ghost use Rattle.std.specs.Prelude.{◌≡◌, ◌≤◌, ℕ, [], IfOk, IfErr, OnOk};
+ghost use Rattle.std.specs.Prelude.{◌≡◌, ◌≤◌, ℕ, [], None, IfOk, IfErr, OnOk};
 ghost use Rattle.block_disk.specs.Blocks.{IsBlock};
 ghost use Rattle.gate_pages.specs.Batch.{put_all};
 ghost use Rattle.gate_pages.specs.Pages.{Reads, Commits, GoesOn};
@@ -15,6 +15,7 @@ ghost use Rattle.page_space.specs.declared.errors.SpaceError.{SpaceError};
 use crate::errors::SpaceError;
 use crate::initial::first_batch;
 use crate::layout::SUPERBLOCK;
+use crate::page_cache::PageCache;
 use crate::space::Space;
 use crate::superblock::Superblock;
 use crate::superblock_page::superblock_in;
@@ -37,13 +38,24 @@ impl<P: Pages> Space<P> {
         ensures done { IfOk result (λ space. P.told pages → shown.image space ≡ put_all (first_pages (P.view pages).size) (P.view pages).image) }
         ensures sound { IfOk result (λ space. shown.IsSound space) }
         ensures superblock { IfOk result (λ space. shown.numbers space ≡ empty_of (P.view pages).size) }
+        ensures copies { IfOk result (λ space. (p : ℕ) → shown.copies space p ≡ None) }
         // page 0 and the catalog, and behind them the pages from before: no page is in use there, and none is freed
         ensures first { (p : ℕ) → put_all (first_pages (P.view pages).size) (P.view pages).image p ≡ empty_over (P.view pages).size (P.view pages).image p }
         ensures empty { Stands (P.view pages).size (put_all (first_pages (P.view pages).size) (P.view pages).image) (empty_of (P.view pages).size) [] [] }
         ensures stands { IfOk result (λ space. P.told pages → Stands (P.view pages).size (shown.image space) (shown.numbers space) [] []) }
     {
+        let Ok(cache) = PageCache::new(alloc) else {
+            return Err(Back {
+                value: pages,
+                cause: SpaceError::NoMemory,
+            });
+        };
         match write_first(alloc, &mut pages) {
-            Ok(superblock) => Ok(Space { pages, superblock }),
+            Ok(superblock) => Ok(Space {
+                pages,
+                superblock,
+                cache,
+            }),
             Err(cause) => Err(Back {
                 value: pages,
                 cause,
@@ -62,11 +74,22 @@ impl<P: Pages> Space<P> {
         ensures goes_on { GoesOn (P.under pages) (P.under (pages_in result)) }
         ensures superblock { IfOk result (λ space. P.told pages → Keeps (P.view pages).size (shown.numbers space) ((P.view pages).image 0)) }
         ensures only { IfOk result (λ space. P.told pages → (s : Superblock) → Keeps (P.view pages).size s ((P.view pages).image 0) → s ≡ shown.numbers space) }
+        ensures copies { IfOk result (λ space. (p : ℕ) → shown.copies space p ≡ None) }
         // where page 0 keeps its layout, the disk and the memory alone may fail
         ensures a_store { P.told pages → (s : Superblock) → Keeps (P.view pages).size s ((P.view pages).image 0) → IfErr result (λ back. IsOutside back.cause) }
     {
+        let Ok(cache) = PageCache::new(alloc) else {
+            return Err(Back {
+                value: pages,
+                cause: SpaceError::NoMemory,
+            });
+        };
         match read_first(alloc, &mut pages) {
-            Ok(superblock) => Ok(Space { pages, superblock }),
+            Ok(superblock) => Ok(Space {
+                pages,
+                superblock,
+                cache,
+            }),
             Err(cause) => Err(Back {
                 value: pages,
                 cause,

@@ -4,6 +4,7 @@ ghost use Rattle.block_disk.specs.Blocks.{IsBlock};
 ghost use Rattle.block_disk.specs.Counts.{HasRisen};
 ghost use Rattle.block_disk.specs.View.{Image};
 ghost use Rattle.page_space.specs.Changing.{StandsAs, KeepsStanding, KeepsStandingOff, Frees, StandsWith};
+ghost use Rattle.page_space.specs.Copies.{renewed};
 ghost use Rattle.page_space.specs.Layout.{superblock_page, freed_page, IsGiven, in_use, with_head, with_series};
 ghost use Rattle.page_space.specs.Shown as shown;
 ghost use Rattle.page_space.specs.Spaces.{Stands};
@@ -74,7 +75,16 @@ impl<P: Pages> Space<P> {
         self.pages
     }
 
-    /// Reads a page. After `DiskFault`, `out` may hold anything.
+    /// Whether a page is held in memory, where `get` finds it without the disk.
+    pub fn holds(&self, p: u32) -> bool
+        ensures held { IsTrue result ↔ shown.Holds self.now p }
+        // where reads tell the pages, what is held of a page is the page
+        ensures same { shown.IsSound self.now → shown.IsTold self.now → IsTrue result → shown.copies self.now p ≡ Some (shown.image self.now p) }
+    {
+        self.cache.holds(p)
+    }
+
+    /// Reads a page, and holds it from then on. After `DiskFault`, `out` may hold anything.
     pub fn get(&mut self, p: u32, out: &mut [u8]) -> Result<(), DiskFault>
         requires sound { shown.IsSound self.old }
         requires p_in_total { p < shown.total self.old }
@@ -84,8 +94,20 @@ impl<P: Pages> Space<P> {
         ensures goes_on { shown.TimeGoesOn self.old self.new }
         ensures superblock { shown.numbers self.new ≡ shown.numbers self.old }
         ensures cause { OnErr result (HasRisen (shown.view self.old).faults (shown.view self.new).faults) }
+        // a page that is held is read without the disk
+        ensures hit { shown.Holds self.old p → IsOk result × (self.new ≡ self.old) }
+        // a page that was read is held, and the other places hold what they held
+        ensures kept { OnOk result (shown.copies self.new p ≡ Some out.new) }
+        ensures others { shown.KeepsCopiesOff p self.old self.new }
+        ensures none { OnErr result ((q : ℕ) → shown.copies self.new q ≡ shown.copies self.old q) }
     {
-        self.pages.get(p, out)
+        if let Some(page) = self.cache.get(p) {
+            out.copy_from_slice(page);
+            return Ok(());
+        }
+        self.pages.get(p, out)?;
+        self.cache.keep(p, out);
+        Ok(())
     }
 
     /// A transaction over the pages as they are. It holds page 0 alone.
@@ -101,7 +123,7 @@ impl<P: Pages> Space<P> {
         Txn::new(alloc, self.superblock)
     }
 
-    /// Reads a page as a transaction would leave it. One that it holds is read without the disk.
+    /// Reads a page as a transaction would leave it. One that it holds is read without the disk, another as by `get`.
     pub fn read(&mut self, txn: &Txn, p: u32, out: &mut [u8]) -> Result<(), DiskFault>
         requires sound { shown.IsSound self.old }
         requires p_in_total { p < shown.total self.old }
@@ -112,13 +134,18 @@ impl<P: Pages> Space<P> {
         ensures goes_on { shown.TimeGoesOn self.old self.new }
         ensures superblock { shown.numbers self.new ≡ shown.numbers self.old }
         ensures cause { OnErr result (HasRisen (shown.view self.old).faults (shown.view self.new).faults) }
+        // else as get does
+        ensures hit { shown.Holds self.old p → IsOk result × (self.new ≡ self.old) }
+        ensures kept { held_page txn.now p ≡ None → OnOk result (shown.copies self.new p ≡ Some out.new) }
+        ensures others { shown.KeepsCopiesOff p self.old self.new }
+        ensures none { OnErr result ((q : ℕ) → shown.copies self.new q ≡ shown.copies self.old q) }
     {
         match txn.batch.get(p) {
             Some(page) => {
                 out.copy_from_slice(page);
                 Ok(())
             }
-            None => self.pages.get(p, out),
+            None => self.get(p, out),
         }
     }
 
@@ -194,9 +221,13 @@ impl<P: Pages> Space<P> {
         ensures sound { OnOk result (shown.IsSound self.new) }
         ensures unsound { OnErr result (shown.IsSound self.new → ⊥) }
         ensures cause { OnErr result (HasRisen (shown.view self.old).faults (shown.view self.new).faults) }
+        // a page that was held still is, with its new bytes; after a fault with its old ones
+        ensures held { OnOk result ((p : ℕ) → shown.copies self.new p ≡ renewed (held txn) (shown.copies self.old) p) }
+        ensures old_held { OnErr result ((p : ℕ) → shown.copies self.new p ≡ shown.copies self.old p) }
     {
         self.pages.commit(&txn.batch)?;
         self.superblock = txn.superblock;
+        self.cache.renew(&txn.batch);
         Ok(())
     }
 }

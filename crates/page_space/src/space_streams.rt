@@ -1,6 +1,5 @@
 //! The streams that stand beside the pages of a space.
-ghost use Rattle.std.proofs.Common.{◌∙◌};
-ghost use Rattle.std.specs.Prelude.{◌≡◌, refl};
+ghost use Rattle.page_space.specs.Shown as shown;
 
 use crate::space::Space;
 use block_disk::{Failed, Streams};
@@ -17,10 +16,10 @@ impl<P: PageWorld> Streams for Space<P> {
 
     ghost pieces = { λ space. P.pieces space.pages };
 
-    /// The superblock stays.
-    ghost takes = { λ old new. P.takes old.pages new.pages × (new.superblock ≡ old.superblock) };
+    /// The numbers of page 0 and the cache stay.
+    ghost takes = { λ old new. shown.Keeps (P.takes old.pages new.pages) old new };
 
-    ghost sends = { λ count old new. P.sends count old.pages new.pages × (new.superblock ≡ old.superblock) };
+    ghost sends = { λ count old new. shown.Keeps (P.sends count old.pages new.pages) old new };
 
     fn take(&mut self, buf: &mut [u8]) -> Result<usize, Failed> {
         self.pages.take(buf)
@@ -30,13 +29,13 @@ impl<P: PageWorld> Streams for Space<P> {
         self.pages.send(piece)
     }
 
-    ghost takes_none = { λ at. (P.takes_none at.pages, refl) };
+    ghost takes_none = { λ at. shown.keeps_none at (P.takes_none at.pages) };
 
-    ghost takes_then = { λ old between new first second. (P.takes_then old.pages between.pages new.pages first.0 second.0, second.1 ∙ first.1) };
+    ghost takes_then = { λ old between new. shown.keeps_then old between new (P.takes_then old.pages between.pages new.pages) };
 
-    ghost sends_none = { λ at. (P.sends_none at.pages, refl) };
+    ghost sends_none = { λ at. shown.keeps_none at (P.sends_none at.pages) };
 
-    ghost sends_more = { λ count more old new within sent. (P.sends_more count more old.pages new.pages within sent.0, sent.1) };
+    ghost sends_more = { λ count more old new within. shown.keeps_so old new (P.sends_more count more old.pages new.pages within) };
 
-    ghost sends_then = { λ first second old between new one two. (P.sends_then first second old.pages between.pages new.pages one.0 two.0, two.1 ∙ one.1) };
+    ghost sends_then = { λ first second old between new. shown.keeps_then old between new (P.sends_then first second old.pages between.pages new.pages) };
 }

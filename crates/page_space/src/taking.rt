@@ -34,9 +34,11 @@ impl<P: Pages> Space<P> {
         ensures reads { shown.ReadsOne self.old self.new }
         ensures goes_on { shown.TimeGoesOn self.old self.new }
         ensures superblock { shown.numbers self.new ≡ shown.numbers self.old }
-        // no block is read where the chain is empty, or the transaction holds its head: it freed that page
+        // no block is read where the chain is empty, or its head is held: by the transaction, which freed that page, or in memory
         ensures unread { txn.old.superblock.chain ≡ 0 → self.new ≡ self.old }
         ensures freed { IsTrue (is_some (held_page txn.old txn.old.superblock.head)) → self.new ≡ self.old }
+        ensures hit { shown.Holds self.old txn.old.superblock.head → self.new ≡ self.old }
+        ensures others { shown.KeepsCopiesOff txn.old.superblock.head self.old self.new }
         // the page was not in use, and now it is
         ensures stands { shown.IsTold self.old → IfOk result (λ p. TakesInto (shown.image self.old) p txn.old txn.new) }
         // where the pages stand, none is damaged
@@ -58,6 +60,8 @@ impl<P: Pages> Space<P> {
         ensures superblock { shown.numbers self.new ≡ shown.numbers self.old }
         ensures unread { txn.now.superblock.chain ≡ 0 → self.new ≡ self.old }
         ensures freed { IsTrue (is_some (held_page txn.now txn.now.superblock.head)) → self.new ≡ self.old }
+        ensures hit { shown.Holds self.old txn.now.superblock.head → self.new ≡ self.old }
+        ensures others { shown.KeepsCopiesOff txn.now.superblock.head self.old self.new }
         ensures rules { IfOk result (λ found. IsSuperblock found.1.total found.1) }
         ensures same_total { IfOk result (λ found. found.1.total ≡ txn.now.superblock.total) }
         ensures small { IfOk result (λ found. (txn.now.superblock.fresh < 2 ^ 32) × (found.1.head < 2 ^ 32)) }

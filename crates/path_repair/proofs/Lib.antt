@@ -17,3 +17,5 @@ pub mod ReadLemmas
 pub mod SpareLemmas
 pub mod CallLemmas
 pub mod DamageLemmas
+pub mod ApartLemmas
+pub mod StoredLemmas

@@ -5,7 +5,7 @@ use Rattle.om3_coeff.specs.declared.span.Span.{Span}
 use Rattle.node_page.specs.Fields.{level_at, coef_at, child_at}
 use Rattle.node_page.specs.Layout.{KeepsLayout}
 use Rattle.page_space.specs.declared.superblock.Superblock.{Superblock}
-use Rattle.page_space.specs.Layout.{Links}
+use Rattle.page_space.specs.Layout.{Links, without_head}
 use Rattle.page_spans.specs.Heaps.{IsSplit}
 use Rattle.page_spans.specs.Failing.{IsFirstBad}
 use Rattle.tree_walk.specs.Holding.{IsBadPage}
@@ -107,3 +107,10 @@ IsHeadCause image s (Full needed have) = Unit {0}
 IsHeadCause image s DiskFault = Unit {0}
 IsHeadCause image s (Damaged at) = IsBadHead image s at
 IsHeadCause image s NoMemory = ⊥
+
+-- of the next so many pages of the chain with these numbers, this one breaks its layout
+abbrev pub HasBadLink : Image → Superblock → ℕ → ℕ → Type 0
+HasBadLink image s zero at = ⊥
+HasBadLink image s (suc left) at =
+    ((at ≡ s.head) × ((next : ℕ) → Links s next (image s.head) → ⊥))
+    ⊎ ((next : ℕ) × Links s next (image s.head) × HasBadLink image (without_head s next) left at)

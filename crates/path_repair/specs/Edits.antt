@@ -1,11 +1,12 @@
 -- An edit of a tree: the slots that are given values, and how many slots there are afterwards.
-use Rattle.std.specs.Prelude.{ℕ, ℤ, ◌+◌, List, [], ◌∷◌, length, max, Option, Some}
+use Rattle.std.specs.Prelude.{ℕ, ℤ, Bool, ◌+◌, List, [], ◌∷◌, length, max, Option, Some}
 use Rattle.block_disk.specs.View.{Image}
 use Rattle.om3_coeff.specs.Keys.{page_levels}
 use Rattle.om3_coeff.specs.declared.span.Span.{Span}
 use Rattle.page_space.specs.Transactions.{left_by}
 use Rattle.page_space.specs.declared.txn.Txn.{Txn}
 use Rattle.tree_walk.specs.declared.tree.Tree.{Tree}
+use Rattle.path_repair.specs.Apart.{TellsUnfit, AreApart, NamesDamaged, reached_pages}
 use Rattle.path_repair.specs.Costs.{touch}
 use Rattle.path_repair.specs.Damage.{IsDamage, IsUnfitBelow}
 use Rattle.path_repair.specs.Edited.{IsEditedTree}
@@ -53,6 +54,13 @@ IsAfter old new base count tree list others = IsEditedTree count (left_by old ba
 -- which page of the tree `Damaged` names
 abbrev pub IsDamageOf : Txn → Txn → Image → Tree → RepairError → Type 0
 IsDamageOf old new base tree cause = IsDamage (left_by new base) old.superblock.fresh new.superblock (page_levels tree.slots) tree.root tree.span cause
+
+-- the page is damaged before the change, where the pages of the tree, as far as they fit, and of the chain are apart
+abbrev pub BlamesStored : Txn → Image → Tree → RepairError → Type 0
+BlamesStored txn base tree cause =
+    (fits : ℕ → ℕ → Bool) → TellsUnfit (left_by txn base) txn.superblock.total fits
+    → AreApart (left_by txn base) txn.superblock (reached_pages fits (left_by txn base) (page_levels tree.slots) tree.root)
+    → NamesDamaged (left_by txn base) txn.superblock txn.superblock.total (page_levels tree.slots) tree.root tree.span cause
 
 -- which page of the tree below a place `Damaged` names
 abbrev pub IsDamageAt : Txn → Txn → Image → ℕ → ℕ → ℕ → ℕ → Option Span → RepairError → Type 0

@@ -9,3 +9,4 @@ pub mod Damage
 pub mod Keeping
 pub mod Edits
 pub mod Repairs
+pub mod Apart

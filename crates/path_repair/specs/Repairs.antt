@@ -1,16 +1,18 @@
 -- What the calls that change a tree on a space do.
-use Rattle.std.specs.Prelude.{ℕ, ℤ, suc, ◌≡◌, ◌+◌, ◌*◌, List, Option}
+use Rattle.std.specs.Prelude.{ℕ, ℤ, Bool, suc, ◌≡◌, ◌+◌, ◌*◌, List, Option}
 use Rattle.block_disk.specs.View.{Image}
 use Rattle.gate_pages.specs.declared.pages.Pages.{Ghosts}
 use Rattle.page_space.specs.Shown as shown
 use Rattle.page_space.specs.Spaces.{Stands}
 use Rattle.page_space.specs.Transactions.{left_by}
+use Rattle.page_space.specs.declared.superblock.Superblock.{Superblock}
 use Rattle.page_space.specs.declared.space.Space.{Space}
 use Rattle.page_space.specs.declared.txn.Txn.{Txn}
 use Rattle.tree_walk.specs.declared.tree.Tree.{Tree}
 use Rattle.path_repair.specs.Changes.{IsEdited}
 use Rattle.path_repair.specs.Edited.{IsHeldTree}
 use Rattle.path_repair.specs.Edits.{Edit, passed, old_passed}
+use Rattle.path_repair.specs.Apart.{StandsApart}
 use Rattle.path_repair.specs.Standing.{AreTold, Moved, IsCause}
 use Rattle.path_repair.specs.declared.errors.RepairError.{RepairError}
 
@@ -51,3 +53,9 @@ module _ {P : Type 0} {g : Ghosts P} where
   ForStanding it txn IsSo =
       (base : Image) (count : ℕ) (used freed : List ℕ) → AreTold (shown.IsTold it) (shown.view it) base
       → Stands count (left_by txn base) txn.superblock used freed → IsSo base count used
+
+  -- so of the pages as they were stored, where these are apart: those in hand, and those left alone
+  abbrev pub ForApart : Space P g → Txn → ((ℕ → ℕ → Bool) → Image → (ℕ → ℕ) → ℕ → ℕ) → (Image → (ℕ → ℕ → Bool) → Image → Superblock → (ℕ → ℕ) → (ℕ → ℕ) → Type 0) → Type 0
+  ForApart it txn left IsSo =
+      (base : Image) (fits : ℕ → ℕ → Bool) (stored : Image) (from : Superblock) (mine kept : ℕ → ℕ) → AreTold (shown.IsTold it) (shown.view it) base
+      → StandsApart fits stored (left_by txn base) from txn.superblock mine (left fits stored kept) → IsSo base fits stored from mine kept

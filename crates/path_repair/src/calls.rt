@@ -6,7 +6,7 @@ ghost use Rattle.whole_number.specs.Range.{IsValue};
 ghost use Rattle.page_space.specs.Shown as shown;
 ghost use Rattle.page_space.specs.Transactions.{held};
 ghost use Rattle.path_repair.specs.Edited.{IsErrorFor};
-ghost use Rattle.path_repair.specs.Edits.{edit_of, run_in, slot_in, grow_to, clear_in, passed, IsAfter, IsDamageOf, LeavesCatalog};
+ghost use Rattle.path_repair.specs.Edits.{edit_of, run_in, slot_in, grow_to, clear_in, passed, IsAfter, IsDamageOf, BlamesStored, LeavesCatalog};
 ghost use Rattle.path_repair.specs.Keeping.{IsNewTree};
 ghost use Rattle.path_repair.specs.Repairs as repairs;
 ghost use Rattle.path_repair.specs.declared.errors.RepairError.{RepairError};
@@ -52,6 +52,8 @@ fn fill<P: Pages>(
     ensures catalog { repairs.ForPages space.old (λ base. LeavesCatalog txn.old txn.new base) }
     ensures tree { IfOk result (λ new. IsNewTree len txn.new.superblock tree new) }
     ensures damaged { repairs.ForPages space.old (λ base. IfErr result (λ e. IsDamageOf txn.old txn.new base tree e)) }
+    // where the pages of the tree and of the chain are apart, it is so before the change
+    ensures stored { repairs.ForPages space.old (λ base. IfErr result (BlamesStored txn.old base tree)) }
     ensures edited { repairs.ForEdit space.old txn.old tree (edit_of slots.first slots.end len values.now)
         (λ base count list list' others. IfOk result (λ new. IsAfter txn.old txn.new base count new list' others)) }
     ensures errors { repairs.ForEdit space.old txn.old tree (edit_of slots.first slots.end len values.now)
@@ -108,6 +110,8 @@ pub fn put_run<P: Pages>(
     ensures catalog { repairs.ForPages space.old (λ base. LeavesCatalog txn.old txn.new base) }
     ensures tree { IfOk result (λ new. IsNewTree (max tree.slots (slot + length values.now)) txn.new.superblock tree new) }
     ensures damaged { repairs.ForPages space.old (λ base. IfErr result (λ e. IsDamageOf txn.old txn.new base tree e)) }
+    // where the pages of the tree and of the chain are apart, it is so before the change
+    ensures stored { repairs.ForPages space.old (λ base. IfErr result (BlamesStored txn.old base tree)) }
     ensures few_puts { length values.now ≤ 256 → length (held txn.new) ≤ length (held txn.old) + (30 + 2 * levels_of (max tree.slots (slot + length values.now))) }
     ensures edited { repairs.ForEdit space.old txn.old tree (run_in tree slot values.now) (λ base count list list' others. IfOk result (λ new. IsAfter txn.old txn.new base count new list' others)) }
     ensures errors { repairs.ForEdit space.old txn.old tree (run_in tree slot values.now) (λ base count list list' others. IfErr result (λ e. IsErrorFor txn.old txn.new list list' e)) }
@@ -138,6 +142,8 @@ pub fn put_slot<P: Pages>(
     ensures catalog { repairs.ForPages space.old (λ base. LeavesCatalog txn.old txn.new base) }
     ensures tree { IfOk result (λ new. IsNewTree (max tree.slots (slot + 1)) txn.new.superblock tree new) }
     ensures damaged { repairs.ForPages space.old (λ base. IfErr result (λ e. IsDamageOf txn.old txn.new base tree e)) }
+    // where the pages of the tree and of the chain are apart, it is so before the change
+    ensures stored { repairs.ForPages space.old (λ base. IfErr result (BlamesStored txn.old base tree)) }
     ensures few_reads { (shown.view space.new).reads ≤ (shown.view space.old).reads + 2 * levels_of (max tree.slots (slot + 1)) }
     ensures few_puts { length (held txn.new) ≤ length (held txn.old) + 2 * levels_of (max tree.slots (slot + 1)) }
     ensures edited { repairs.ForEdit space.old txn.old tree (slot_in tree slot value) (λ base count list list' others. IfOk result (λ new. IsAfter txn.old txn.new base count new list' others)) }
@@ -169,6 +175,8 @@ pub fn grow<P: Pages>(
     ensures catalog { repairs.ForPages space.old (λ base. LeavesCatalog txn.old txn.new base) }
     ensures tree { IfOk result (λ new. IsNewTree slots txn.new.superblock tree new) }
     ensures damaged { repairs.ForPages space.old (λ base. IfErr result (λ e. IsDamageOf txn.old txn.new base tree e)) }
+    // where the pages of the tree and of the chain are apart, it is so before the change
+    ensures stored { repairs.ForPages space.old (λ base. IfErr result (BlamesStored txn.old base tree)) }
     ensures few_puts { length (held txn.new) ≤ length (held txn.old) + (levels_of slots - levels_of tree.slots) }
     ensures edited { repairs.ForEdit space.old txn.old tree (grow_to slots) (λ base count list list' others. IfOk result (λ new. IsAfter txn.old txn.new base count new list' others)) }
     ensures errors { repairs.ForEdit space.old txn.old tree (grow_to slots) (λ base count list list' others. IfErr result (λ e. IsErrorFor txn.old txn.new list list' e)) }
@@ -197,6 +205,8 @@ pub fn clear_run<P: Pages>(
     ensures catalog { repairs.ForPages space.old (λ base. LeavesCatalog txn.old txn.new base) }
     ensures tree { IfOk result (λ new. IsNewTree tree.slots txn.new.superblock tree new) }
     ensures damaged { repairs.ForPages space.old (λ base. IfErr result (λ e. IsDamageOf txn.old txn.new base tree e)) }
+    // where the pages of the tree and of the chain are apart, it is so before the change
+    ensures stored { repairs.ForPages space.old (λ base. IfErr result (BlamesStored txn.old base tree)) }
     ensures few_puts { count ≤ 4096 → length (held txn.new) ≤ length (held txn.old) + (30 + 2 * levels_of tree.slots) }
     ensures edited { repairs.ForEdit space.old txn.old tree (clear_in tree slot count) (λ base size list list' others. IfOk result (λ new. IsAfter txn.old txn.new base size new list' others)) }
     ensures errors { repairs.ForEdit space.old txn.old tree (clear_in tree slot count) (λ base size list list' others. IfErr result (λ e. e ≡ RepairError.DiskFault)) }

@@ -11,7 +11,8 @@ ghost use Rattle.path_repair.specs.Forms.{IsForm};
 ghost use Rattle.path_repair.specs.TreePages.{is_stored};
 ghost use Rattle.path_repair.specs.Standing.{AreTold, IsPlaced, IsPartWay, IsTaken};
 ghost use Rattle.path_repair.specs.Damage.{IsHeadCause};
-ghost use Rattle.path_repair.specs.Keeping.{IsOwn, IsOpened, IsAsTold};
+ghost use Rattle.path_repair.specs.Apart.{StandsApart, NamesDamaged, NamesLink, and_page, and_tree, and_children};
+ghost use Rattle.path_repair.specs.Keeping.{IsOwn, IsOpened, IsAsTold, root_level};
 ghost use Rattle.page_space.specs.Shown as shown;
 ghost use Rattle.path_repair.specs.Edits.{IsDamageAt};
 ghost use Rattle.path_repair.specs.Repairs as repairs;
@@ -37,6 +38,8 @@ fn take<P: Pages>(space: &mut Space<P>, txn: &mut Txn) -> Result<u32, RepairErro
     ensures own { (base : Image) (level : ℕ) → AreTold (shown.IsTold space.old) (shown.view space.old) base
         → IfOk result (λ p. IsOwn (left_by txn.old base) txn.old.superblock.fresh txn.new.superblock.fresh level p) }
     ensures head { repairs.ForPages space.old (λ base. IfErr result (λ e. IsHeadCause (left_by txn.new base) txn.new.superblock e)) }
+    ensures apart { repairs.ForApart space.old txn.old (λ fits stored kept. kept) (λ base fits stored from mine kept. IfOk result (λ p. StandsApart fits stored (left_by txn.new base) from txn.new.superblock (and_page p mine) kept)) }
+    ensures broken { repairs.ForApart space.old txn.old (λ fits stored kept. kept) (λ base fits stored from mine kept. IfErr result (NamesLink stored from)) }
     ensures taken { repairs.ForStanding space.old txn.old (λ base count used. IfOk result (λ p. IsTaken count (left_by txn.old base) (left_by txn.new base) txn.new.superblock used p)) }
     ensures sound { repairs.ForStanding space.old txn.old (λ base count used. 18 + length used ≤ txn.old.superblock.total → IfErr result (λ e. e ≡ RepairError.DiskFault)) }
 {
@@ -108,6 +111,10 @@ pub(crate) fn open_page<P: Pages>(
     ensures opened { OnOk result (IsOpened at.height at.level at.index root.page root.span bytes.new (span_at spans.new)) }
     ensures as_told { repairs.ForPages space.old (λ base. OnOk result (IsAsTold (left_by txn.old base) at.height at.level at.index root.page bytes.new)) }
     ensures damaged { repairs.ForPagesAbove space.old at.level (λ base below. IfErr result (λ e. IsDamageAt txn.old txn.new base at.height at.level at.index root.page root.span e)) }
+    ensures apart { (below : ℕ) → at.level ≡ suc below → repairs.ForApart space.old txn.old (λ fits stored. and_tree fits stored at.height at.level at.index root.page)
+        (λ base fits stored from mine kept. IfOk result (λ number. StandsApart fits stored (left_by txn.new base) from txn.new.superblock (and_page number mine) (and_children fits stored at.height below at.index bytes.new 0 kept))) }
+    ensures broken { (below : ℕ) → at.level ≡ suc below → repairs.ForApart space.old txn.old (λ fits stored. and_tree fits stored at.height at.level at.index root.page)
+        (λ base fits stored from mine kept. IfErr result (NamesDamaged stored from (shown.total space.old) (root_level at.height at.level at.index) root.page root.span)) }
     ensures part { (base : Image) (count : ℕ) (list list' : List (Option ℤ)) (others : List ℕ) (below : ℕ) → AreTold (shown.IsTold space.old) (shown.view space.old) base
         → at.level ≡ suc below → AreSlots list
         → IsPlaced count (left_by txn.old base) txn.old.superblock list list' at.height at.level at.index root.page root.span others → (root.page ≡ 0 → is_stored list' at.level at.index ≡ true)

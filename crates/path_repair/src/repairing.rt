@@ -1,5 +1,5 @@
 //! The change of a tree, page by page.
-ghost use Rattle.std.specs.Prelude.{◌≡◌, ◌≢◌, ◌<◌, ◌≤◌, ◌+◌, ◌^◌, ℕ, ℤ, Some, Option, List, length, slice_get, IfOk, IfErr};
+ghost use Rattle.std.specs.Prelude.{◌≡◌, ◌≢◌, ◌<◌, ◌≤◌, ◌+◌, ◌^◌, ℕ, ℤ, Some, Option, List, length, slice_get, IfOk, IfErr, OnOk};
 ghost use Rattle.block_disk.specs.Blocks.{IsBlock};
 ghost use Rattle.block_disk.specs.View.{Image};
 ghost use Rattle.om3_coeff.specs.Keys.{end_slot};
@@ -12,7 +12,8 @@ ghost use Rattle.page_spans.specs.Heaps.{span_at};
 ghost use Rattle.path_repair.specs.Forms.{IsForm};
 ghost use Rattle.path_repair.specs.Costs.{touch};
 ghost use Rattle.path_repair.specs.Standing.{AreTold, AreLists, IsPlaced, IsRepaired};
-ghost use Rattle.path_repair.specs.Keeping.{IsNewRoot, IsMatched, Spares};
+ghost use Rattle.path_repair.specs.Keeping.{IsNewRoot, IsMatched, Spares, root_level};
+ghost use Rattle.path_repair.specs.Apart.{StandsApart, NamesDamaged, and_tree};
 ghost use Rattle.page_space.specs.Shown as shown;
 ghost use Rattle.path_repair.specs.Edits.{IsDamageAt};
 ghost use Rattle.path_repair.specs.Repairs as repairs;
@@ -82,6 +83,11 @@ pub(crate) fn repair<P: Pages>(
     ensures matched { IfOk result (λ next. 1 ≤ at.level → IsMatched root.page root.span → IsMatched next.page next.span) }
     ensures spares { repairs.ForPages space.old (λ base. Spares at.level txn.old.superblock.fresh txn.new.superblock.fresh (left_by txn.old base) (left_by txn.new base)) }
     ensures damaged { repairs.ForPages space.old (λ base. IfErr result (λ e. IsDamageAt txn.old txn.new base at.height at.level at.index root.page root.span e)) }
+    ensures apart { repairs.ForApart space.old txn.old (λ fits stored. and_tree fits stored at.height at.level at.index root.page)
+        (λ base fits stored from mine kept. OnOk result (StandsApart fits stored (left_by txn.new base) from txn.new.superblock mine kept)) }
+    // while the pages are apart as they were stored, the damaged one is so as it was stored
+    ensures broken { repairs.ForApart space.old txn.old (λ fits stored. and_tree fits stored at.height at.level at.index root.page)
+        (λ base fits stored from mine kept. IfErr result (NamesDamaged stored from (shown.total space.old) (root_level at.height at.level at.index) root.page root.span)) }
     ensures repaired { (base : Image) (count : ℕ) (list list' : List (Option ℤ)) (others : List ℕ) → AreTold (shown.IsTold space.old) (shown.view space.old) base
         → AreLists slots.first slots.end values.now list list' → IsPlaced count (left_by txn.old base) txn.old.superblock list list' at.height at.level at.index root.page root.span others
         → IfOk result (λ next. IsRepaired count (left_by txn.old base) (left_by txn.new base) txn.new.superblock list' at.level at.index next.page next.span others) }

@@ -2,3 +2,4 @@ pub mod Records
 pub mod Standing
 pub mod Changing
 pub mod Books
+pub mod Damage

@@ -145,15 +145,15 @@ path_damaged view tree k s page node seen bad = record {
 pub path_way : (told : Type 0) (old new : View) (tree : Tree) (k : Key) (s : Span) (e : NodeError) → IsNode (height tree.slots) k → IsSeen told old tree k s
     → IsCauseOf told old new tree k e → IsWayError told old tree k s e
 path_way told old new tree k s DiskFault node seen cause = tt
-path_way told old new tree k s (Damaged page) node seen cause = λ tells. path_damaged old tree k s page node (seen tells) (cause tells)
+path_way told old new tree k s (Damaged page) node seen cause = λ tells. path_damaged old tree k s page node (seen tells) (cause.1 tells)
 path_way told old new tree k s (Missing key) node seen cause = cause
 path_way told old new tree k s (BadCoefficient key) node seen cause = cause
 
 pub path_cause : (old new : Ground) (trail trail' : Trail) (k : Key) (s : Span) (e : NodeError) → IsNode (height old.tree.slots) k → IsSeen old.told old.view old.tree k s
     → IsCauseOf old.told old.view new.view old.tree k e → HasCause (paged_view old trail) (paged_view new trail') e
 path_cause old new trail trail' k s DiskFault node seen cause = cause
-path_cause old new trail trail' k s (Damaged page) node seen cause = λ tells.
-    damaged_by old.view.image old.view.size old.tree k s page node (seen tells) (path_damaged old.view old.tree k s page node (seen tells) (cause tells))
+path_cause old new trail trail' k s (Damaged page) node seen cause =
+    (cause.0, λ tells. damaged_by old.view.image old.view.size old.tree k s page node (seen tells) (path_damaged old.view old.tree k s page node (seen tells) (cause.1 tells)))
 path_cause old new trail trail' k s (Missing key) node seen cause = cause
 path_cause old new trail trail' k s (BadCoefficient key) node seen cause = cause
 

@@ -25,25 +25,25 @@ next_is pages k levels depth number child bytes same way is = is ∙ ap₂ (λ (
 
 -- there is none
 pub step_none : (told : Type 0) (old new : View) (pages : List HeldPage) (k : Key) (levels depth number child total : ℕ) (bytes : List ℕ) (e : NodeError)
-    → number_at pages depth ≡ number → bytes_at pages depth ≡ bytes → child ≡ path_child k (levels - depth) → total ≡ old.size
+    → number_at pages depth ≡ number → bytes_at pages depth ≡ bytes → child ≡ path_child k (levels - depth) → total ≡ old.size → number_at pages depth < old.size
     → (child_at bytes child ≡ 0) ⊎ (total ≤ child_at bytes child) → e ≡ Damaged number → IsStepCause told old new pages k levels depth e
-step_none told old new pages k levels depth number child total bytes e number_same same way size none is =
+step_none told old new pages k levels depth number child total bytes e number_same same way size low none is =
     let next : child_at bytes child ≡ next_at pages k levels depth = next_is pages k levels depth (child_at bytes child) child bytes same way refl in
     let P : NodeError → Type 0 = λ e. IsStepCause told old new pages k levels depth e in
     let N : ℕ → Type 0 = λ n. (n ≡ 0) ⊎ (old.size ≤ n) in
     let none' : N (child_at bytes child) = elim none [ inl zero_child ↦ inl zero_child | inr past ↦ inr (omega (arith, past, size)) ] in
-    let cause : P (Damaged number) = λ tells. inl (sym number_same, subst N next none') in
+    let cause : P (Damaged number) = (omega (arith, low, number_same), λ tells. inl (sym number_same, subst N next none')) in
     subst P (sym is) cause
 
 -- it isn't as it has to be
-pub step_bad : (told : Type 0) (old new : View) (pages : List HeldPage) (k : Key) (levels depth number : ℕ) (e : NodeError) → number ≡ next_at pages k levels depth → number ≢ 0
+pub step_bad : (told : Type 0) (old new : View) (pages : List HeldPage) (k : Key) (levels depth number : ℕ) (e : NodeError) → number ≡ next_at pages k levels depth → number ≢ 0 → number < old.size
     → IsHoldCause told old new number (levels - (depth + 1)) e → IsStepCause told old new pages k levels depth e
-step_bad told old new pages k levels depth number DiskFault is there cause = cause
-step_bad told old new pages k levels depth number (Damaged page) is there cause =
+step_bad told old new pages k levels depth number DiskFault is there low cause = cause
+step_bad told old new pages k levels depth number (Damaged page) is there low cause =
     let P : ℕ → Type 0 = λ n. IsBadPage (old.image n) (levels - (depth + 1)) in
-    λ tells. inr ((λ none. there (is ∙ none)), cause.0 ∙ is, subst P (sym cause.0) (cause.1 tells))
-step_bad told old new pages k levels depth number (Missing key) is there cause = cause
-step_bad told old new pages k levels depth number (BadCoefficient key) is there cause = cause
+    (omega (arith, low, cause.0), λ tells. inr ((λ none. there (is ∙ none)), cause.0 ∙ is, subst P (sym cause.0) (cause.1 tells)))
+step_bad told old new pages k levels depth number (Missing key) is there low cause = cause
+step_bad told old new pages k levels depth number (BadCoefficient key) is there low cause = cause
 
 -- a linked page is held already
 pub linked_hit : (trail : Trail) (k : Key) (levels depth number : ℕ) → depth + 1 < trail.len → IsLinked trail.pages.items k levels depth → number ≡ next_at trail.pages.items k levels depth

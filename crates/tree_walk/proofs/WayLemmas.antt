@@ -225,22 +225,24 @@ top_reads_failed levels new old at tree k same deep top =
     absurd (omega (arith, deep, same, top_page k.level (page_levels tree.slots) top))
 
 -- why the root's page wasn't held
-pub root_bad : (told : Type 0) (old new : View) (tree : Tree) (k : Key) (levels : ℕ) (e : NodeError) → levels ≡ page_levels tree.slots → IsNode (height tree.slots) k
+pub root_bad : (told : Type 0) (old new : View) (tree : Tree) (k : Key) (levels : ℕ) (e : NodeError) → levels ≡ page_levels tree.slots → IsNode (height tree.slots) k → tree.root < old.size
     → IsHoldCause told old new tree.root (levels - 0) e → IsCauseOf told old new tree k e
-root_bad told old new tree k levels DiskFault same node cause = cause
-root_bad told old new tree k levels (Damaged page) same node cause = λ tells.
+root_bad told old new tree k levels DiskFault same node low cause = cause
+root_bad told old new tree k levels (Damaged page) same node low cause =
     let P : ℕ → Type 0 = λ n. IsBadPage (old.image n) (levels - 0) in
-    let Q : ℕ → Type 0 = λ n. IsBadPage (old.image page) n in
-    record {
-      level = levels;
-      above = omega (arith, level_few k.level (page_levels tree.slots) node.high, same);
-      below = omega (arith, same);
-      there = on_path old.image tree k levels page 0 (omega (arith, same)) (omega (arith, same))
-          (root_below old.image tree.root (path_index k levels) ∙ ap (λ n. Some n) (sym cause.0));
-      bad = inl (subst Q (let e : levels - 0 ≡ levels = omega arith in e) (subst P (sym cause.0) (cause.1 tells)));
-    }
-root_bad told old new tree k levels (Missing key) same node cause = cause
-root_bad told old new tree k levels (BadCoefficient key) same node cause = cause
+    let Q : ℕ → Type 0 = λ n. IsBadPage (old.image page) n in (
+      omega (arith, cause.0, low),
+      λ tells. record {
+        level = levels;
+        above = omega (arith, level_few k.level (page_levels tree.slots) node.high, same);
+        below = omega (arith, same);
+        there = on_path old.image tree k levels page 0 (omega (arith, same)) (omega (arith, same))
+            (root_below old.image tree.root (path_index k levels) ∙ ap (λ n. Some n) (sym cause.0));
+        bad = inl (subst Q (let e : levels - 0 ≡ levels = omega arith in e) (subst P (sym cause.0) (cause.1 tells)));
+      },
+    )
+root_bad told old new tree k levels (Missing key) same node low cause = cause
+root_bad told old new tree k levels (BadCoefficient key) same node low cause = cause
 
 risen_since : (old mid new : ℕ) → old ≤ mid → HasRisen mid new → HasRisen old new
 risen_since old mid new low (inl more) = inl (omega (arith, low, more))
@@ -308,7 +310,7 @@ bad_here told told' old mid tree levels was is k at page same deep way tells (in
 pub way_bad : (told told' : Type 0) (old mid new : View) (tree : Tree) (levels : ℕ) (was is : Trail) (k : Key) (at : ℕ) (e : NodeError) → levels ≡ page_levels tree.slots → at < levels - page_level k.level
     → IsOnWay told told' old mid tree levels was is k at → IsStepCause told' mid new is.pages.items k levels at e → IsCauseOf told old new tree k e
 way_bad told told' old mid new tree levels was is k at DiskFault same deep way cause = risen_since old.faults mid.faults new.faults way.kept.faults cause
-way_bad told told' old mid new tree levels was is k at (Damaged page) same deep way cause = λ tells.
-    bad_here told told' old mid tree levels was is k at page same deep way tells (cause (way.kept.told tells))
+way_bad told told' old mid new tree levels was is k at (Damaged page) same deep way cause =
+    (omega (arith, cause.0, way.kept.size), λ tells. bad_here told told' old mid tree levels was is k at page same deep way tells (cause.1 (way.kept.told tells)))
 way_bad told told' old mid new tree levels was is k at (Missing key) same deep way cause = cause
 way_bad told told' old mid new tree levels was is k at (BadCoefficient key) same deep way cause = cause

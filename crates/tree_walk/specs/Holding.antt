@@ -65,7 +65,7 @@ IsBadStep view pages k levels depth page =
 -- why the page below a depth wasn't held
 abbrev pub IsStepCause : Type 0 → View → View → List HeldPage → Key → ℕ → ℕ → NodeError → Type 0
 IsStepCause tells old new pages k levels depth DiskFault = HasRisen old.faults new.faults
-IsStepCause tells old new pages k levels depth (Damaged page) = tells → IsBadStep old pages k levels depth page
+IsStepCause tells old new pages k levels depth (Damaged page) = (page < old.size) × (tells → IsBadStep old pages k levels depth page)
 IsStepCause tells old new pages k levels depth (Missing key) = ⊥
 IsStepCause tells old new pages k levels depth (BadCoefficient key) = ⊥
 
@@ -89,6 +89,6 @@ pub record IsBadOnPath (view : View) (tree : Tree) (k : Key) (page : ℕ) : Type
 -- why the pages on the way to the key weren't found
 abbrev pub IsCauseOf : Type 0 → View → View → Tree → Key → NodeError → Type 0
 IsCauseOf tells old new tree k DiskFault = HasRisen old.faults new.faults
-IsCauseOf tells old new tree k (Damaged page) = tells → IsBadOnPath old tree k page
+IsCauseOf tells old new tree k (Damaged page) = (page < old.size) × (tells → IsBadOnPath old tree k page)
 IsCauseOf tells old new tree k (Missing key) = ⊥
 IsCauseOf tells old new tree k (BadCoefficient key) = ⊥

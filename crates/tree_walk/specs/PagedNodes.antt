@@ -1,7 +1,7 @@
 -- What nodes over pages mean.
 use Rattle.std.specs.Prelude.{ℕ, ◌≡◌, ◌^◌, ◌<◌, ◌≤◌, Some}
 use Rattle.block_disk.specs.View.{Image, View, Now, Passes}
-use Rattle.std.proofs.Common.{sym, subst, ap, refl, ◌∙◌}
+use Rattle.std.proofs.Common.{sym, subst, ap, refl, arith, ◌∙◌}
 use Rattle.block_disk.proofs.Passing.{passes_none, passes_weaker, now_back}
 use Rattle.gate_pages.specs.Pages.{Quiet, GoesOn}
 use Rattle.gate_pages.specs.GateLaws.{goes_none, goes_then}
@@ -33,11 +33,11 @@ pub record IsFit (tells : Type 0) (pages : View) (tree : Tree) (trail : Trail) :
   pub proper : IsProperIfAny tree.span
   pub trail_is : IsTrail tells pages tree trail
 
--- what an ask may answer beside a fault of the disk: that a page is damaged, and where the pages tell
--- what they are, it is
+-- what an ask may answer beside a fault of the disk: that one of the pages is damaged, and where the pages
+-- tell what they are, it is
 abbrev pub IsPageError : Type 0 → View → Tree → NodeError → Type 0
 IsPageError tells pages tree DiskFault = ⊥
-IsPageError tells pages tree (Damaged page) = tells → IsDamaged pages.image pages.size tree page
+IsPageError tells pages tree (Damaged page) = (page < pages.size) × (tells → IsDamaged pages.image pages.size tree page)
 IsPageError tells pages tree (Missing key) = ⊥
 IsPageError tells pages tree (BadCoefficient key) = ⊥
 
@@ -134,11 +134,14 @@ pages_keep_on old mid new first second = record {
 same_error : (told told' : Type 0) (old new : View) (tree tree' : Tree) (e : NodeError) → (told' → told) → (told' → new.image ≡ old.image) → new.size ≡ old.size → tree' ≡ tree
     → IsPageError told old tree e → IsPageError told' new tree' e
 same_error told told' old new tree tree' DiskFault back image size same bad = bad
-same_error told told' old new tree tree' (Damaged page) back image size same bad = λ t.
-    let P : Image → Type 0 = λ pages. IsDamaged pages old.size tree page in
-    let Q : ℕ → Type 0 = λ total. IsDamaged new.image total tree page in
-    let R : Tree → Type 0 = λ one. IsDamaged new.image new.size one page in
-    subst R (sym same) (subst Q (sym size) (subst P (sym (image t)) (bad (back t))))
+same_error told told' old new tree tree' (Damaged page) back image size same (low, bad) = (
+  omega (arith, low, size),
+  λ t.
+      let P : Image → Type 0 = λ pages. IsDamaged pages old.size tree page in
+      let Q : ℕ → Type 0 = λ total. IsDamaged new.image total tree page in
+      let R : Tree → Type 0 = λ one. IsDamaged new.image new.size one page in
+      subst R (sym same) (subst Q (sym size) (subst P (sym (image t)) (bad (back t)))),
+)
 same_error told told' old new tree tree' (Missing key) back image size same bad = bad
 same_error told told' old new tree tree' (BadCoefficient key) back image size same bad = bad
 

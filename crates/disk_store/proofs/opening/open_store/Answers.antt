@@ -64,7 +64,7 @@ returns-in-Err-open-clause-cause g c =
     let P : g.row.D.Denot → Type 0 = λ disk. Prevents c.store_cause.result old (view disk) in
     let Q : OpeningCause → Type 0 = λ cause. Prevents cause old (view back.disk) in
     subst P (sym c.into_disk.ensures.disk) (subst Q (sym c.store_cause.ensures)
-    (store_prevents c.in-Err-open.field-0.cause (page_count old.size) pages.count back.count pages.sound back.sound old (view pages.disk) (view back.disk) e.count refl e.large e.moves.honest e.pages e.moves.faults c.in-Err-open.ensures.cause))
+    (store_prevents c.in-Err-open.field-0.cause (page_count old.size) pages.count back.count pages.sound back.sound old (view pages.disk) (view back.disk) e.count refl e.large e.moves.honest e.pages e.moves.faults c.in-Err-open.ensures.place c.in-Err-open.ensures.cause))
 
 pub returns-in-Err-open-clause-a_store : goal.returns-in-Err-open-clause-a_store
 returns-in-Err-open-clause-a_store g c = λ total book honest recovers.

@@ -9,7 +9,9 @@ use Rattle.path_repair.specs.declared.errors.RepairError.{RepairError}
 use Rattle.path_repair.specs.Damage.{IsDamage}
 use Rattle.path_repair.specs.Keeping.{root_level}
 use Rattle.path_repair.proofs.CallLemmas.{same_touch, clear_puts}
+use Rattle.path_repair.specs.Edits.{BlamesStored}
 use Rattle.path_repair.proofs.DamageLemmas.{root_top}
+use Rattle.path_repair.proofs.StoredLemmas.{stored_call, apart_call}
 use Rattle.path_repair.proofs.EditLemmas.{top_small, lists_of, cleared_for, cleared_fewer, edited_for}
 use Rattle.path_repair.proofs.MoveLemmas.{moved_more}
 use Rattle.page_space.specs.Shown as shown
@@ -77,3 +79,14 @@ returns-in_err-next-clause-damaged g c = λ base told.
     let D : RepairError → Type 0 = λ e. IsDamage (left_by c.repair.new.txn base) c.args.txn.now.superblock.fresh c.repair.new.txn.superblock (page_levels c.args.tree.slots) c.args.tree.root c.args.tree.span e in
     error_so _ D c.from_residual.result c.from_residual.ensures.1
     (λ e same. subst D (sym same) (subst L root_is (c.in_err-next.ensures.damaged base told)))
+
+pub returns-in_err-next-clause-stored : goal.returns-in_err-next-clause-stored
+returns-in_err-next-clause-stored g c = λ base told.
+    let levels_is : c.page_levels-levels.result ≡ page_levels c.args.tree.slots = c.page_levels-levels.ensures.levels in
+    let root_is : root_level c.page_levels-levels.result c.page_levels-levels.result 0 ≡ page_levels c.args.tree.slots = root_top c.page_levels-levels.result c.page_levels-levels.result (omega arith) ∙ levels_is in
+    let image = left_by c.args.txn.now base in
+    let s = c.args.txn.now.superblock in
+    let D : RepairError → Type 0 = λ e. BlamesStored c.args.txn.now base c.args.tree e in
+    error_so _ D c.from_residual.result c.from_residual.ensures.1
+    (λ e same. subst D (sym same) (λ fits tells apart. stored_call image s (shown.total c.args.space.now) s.total (root_level c.page_levels-levels.result c.page_levels-levels.result 0) (page_levels c.args.tree.slots) c.args.tree.root c.args.tree.span c.in_err-next.field-0.0 (sym c.requires.total) root_is
+    (c.in_err-next.ensures.broken base fits image s (λ p. 0) (λ p. 0) told (apart_call fits image s c.page_levels-levels.result c.page_levels-levels.result (page_levels c.args.tree.slots) c.args.tree.root root_is tells apart))))

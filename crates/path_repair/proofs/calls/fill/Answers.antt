@@ -12,7 +12,9 @@ use Rattle.path_repair.specs.declared.errors.RepairError.{RepairError}
 use Rattle.path_repair.specs.Damage.{IsDamage}
 use Rattle.path_repair.specs.Keeping.{count_most, root_level}
 use Rattle.path_repair.proofs.CallLemmas.{same_touch, first_reads}
+use Rattle.path_repair.specs.Edits.{BlamesStored}
 use Rattle.path_repair.proofs.DamageLemmas.{root_top, unfit_damage}
+use Rattle.path_repair.proofs.StoredLemmas.{stored_first, stored_call, apart_call}
 use Rattle.path_repair.proofs.EditLemmas.{levels_more, top_small, root_for, lists_of, placed_for, edited_for, full_for, disk_error}
 use Rattle.path_repair.proofs.MoveLemmas.{moved_then, moved_more, told_on}
 use Rattle.page_space.specs.Shown as shown
@@ -179,3 +181,30 @@ returns-in_err-next-clause-damaged g c = λ base told.
     let D : RepairError → Type 0 = λ e. IsDamage (left_by c.repair.new.txn base) c.args.txn.now.superblock.fresh c.repair.new.txn.superblock (page_levels c.args.tree.slots) c.args.tree.root c.args.tree.span e in
     error_so _ D c.from_residual-in_err-next.result c.from_residual-in_err-next.ensures.1
     (λ e same. subst D (sym same) (subst L root_is (c.in_err-next.ensures.damaged base told')))
+
+pub returns-in_err-more-clause-stored : goal.returns-in_err-more-clause-stored
+returns-in_err-more-clause-stored g c = λ base told.
+    let height_is : c.page_levels-height.result ≡ page_levels c.args.tree.slots = c.page_levels-height.ensures.levels in
+    let level_is : c.page_levels-level.result ≡ page_levels c.args.len = c.page_levels-level.ensures.levels in
+    let root_is : root_level c.page_levels-height.result c.page_levels-level.result 0 ≡ page_levels c.args.tree.slots
+    = root_top c.page_levels-height.result c.page_levels-level.result (omega (arith, height_is, level_is, levels_more c.args.tree.slots c.args.len c.requires.longer)) ∙ height_is in
+    let image = left_by c.args.txn.now base in
+    let s = c.args.txn.now.superblock in
+    let D : RepairError → Type 0 = λ e. BlamesStored c.args.txn.now base c.args.tree e in
+    error_so _ D c.from_residual.result c.from_residual.ensures.1
+    (λ e same. subst D (sym same) (λ fits tells apart. stored_first image s (shown.total c.args.space.now) s.total (root_level c.page_levels-height.result c.page_levels-level.result 0) (page_levels c.args.tree.slots) c.args.tree.root c.args.tree.span c.in_err-more.field-0.0 (sym c.requires.total) root_is (c.in_err-more.ensures.unfit base told)))
+
+pub returns-in_err-next-clause-stored : goal.returns-in_err-next-clause-stored
+returns-in_err-next-clause-stored g c = λ base told.
+    let height_is : c.page_levels-height.result ≡ page_levels c.args.tree.slots = c.page_levels-height.ensures.levels in
+    let level_is : c.page_levels-level.result ≡ page_levels c.args.len = c.page_levels-level.ensures.levels in
+    let root_is : root_level c.page_levels-height.result c.page_levels-level.result 0 ≡ page_levels c.args.tree.slots
+    = root_top c.page_levels-height.result c.page_levels-level.result (omega (arith, height_is, level_is, levels_more c.args.tree.slots c.args.len c.requires.longer)) ∙ height_is in
+    let told' = told_on (count_most c.args.tree.root c.args.slots.first c.args.slots.end c.page_levels-height.result c.page_levels-level.result 0) (shown.IsTold c.args.space.now) (shown.IsTold c.new_pages.new.space) (shown.view c.args.space.now) (shown.view c.new_pages.new.space) base c.new_pages.ensures.moved.reads told in
+    let image = left_by c.args.txn.now base in
+    let s = c.args.txn.now.superblock in
+    let total_is : shown.total c.new_pages.new.space ≡ s.total = ap (λ (one : Superblock). one.total) c.new_pages.ensures.moved.over.superblock ∙ sym c.requires.total in
+    let D : RepairError → Type 0 = λ e. BlamesStored c.args.txn.now base c.args.tree e in
+    error_so _ D c.from_residual-in_err-next.result c.from_residual-in_err-next.ensures.1
+    (λ e same. subst D (sym same) (λ fits tells apart. stored_call image s (shown.total c.new_pages.new.space) s.total (root_level c.page_levels-height.result c.page_levels-level.result 0) (page_levels c.args.tree.slots) c.args.tree.root c.args.tree.span c.in_err-next.field-0.0 total_is root_is
+    (c.in_err-next.ensures.broken base fits image s (λ p. 0) (λ p. 0) told' (apart_call fits image s c.page_levels-height.result c.page_levels-level.result (page_levels c.args.tree.slots) c.args.tree.root root_is tells apart))))

@@ -5,6 +5,7 @@ use Rattle.page_space.specs.Transactions.{left_by, held_page}
 use Rattle.page_spans.specs.Heaps.{span_at}
 use Rattle.path_repair.proofs.CountLemmas.{none_of}
 use Rattle.path_repair.proofs.CloseLemmas.{close_none_at, close_some_at, free_numbers}
+use Rattle.path_repair.proofs.ApartLemmas.{apart_free, apart_put}
 use Rattle.page_space.specs.Shown as shown
 use Rattle.path_repair.proofs.closing.close_page.Goals as goal
 
@@ -32,3 +33,13 @@ returns-then-is_none-clause-moved g c =
       fresh = omega (arith, numbers.1);
       held = search rules;
     }
+
+pub returns-then-is_none-clause-apart : goal.returns-then-is_none-clause-apart
+returns-then-is_none-clause-apart g c = λ fits base stored from mine kept apart.
+    apart_free stored base from c.args.txn.now c.free.new.txn c.args.number mine kept c.free.ensures.nothing c.free.ensures.superblock
+    (λ given room. ap (λ page. unwrap_or page (base c.args.number)) (c.free.ensures.page given room)) (λ p some other. ap (λ page. unwrap_or page (base p)) (c.free.ensures.others p some other)) apart
+
+pub returns-clause-apart : goal.returns-clause-apart
+returns-clause-apart g c = λ fits base stored from mine kept apart.
+    apart_put stored (left_by c.args.txn.now base) (left_by c.put.new.txn base) from c.args.txn.now.superblock c.put.new.txn.superblock c.args.number mine kept c.put.ensures.superblock
+    (λ p other. ap (λ page. unwrap_or page (base p)) (c.put.ensures.page p ∙ ap (λ b. cond b (Some c.gather.new.bytes) (held_page c.args.txn.now p)) (ne_eqb p c.args.number other))) apart

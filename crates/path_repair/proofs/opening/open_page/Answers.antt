@@ -9,7 +9,9 @@ use Rattle.path_repair.proofs.opening.open_page.Goals.{else-root-ne0-via-then-ro
 use Rattle.path_repair.specs.declared.errors.RepairError.{RepairError}
 use Rattle.path_repair.specs.Damage.{IsDamage}
 use Rattle.path_repair.specs.Keeping.{root_level}
+use Rattle.path_repair.specs.Apart.{NamesDamaged, and_tree}
 use Rattle.path_repair.proofs.DamageLemmas.{damage_here}
+use Rattle.path_repair.proofs.StoredLemmas.{apart_read, sound_read, apart_new, stored_here, stored_link}
 use Rattle.page_space.specs.Shown as shown
 use Rattle.path_repair.proofs.opening.open_page.Goals as goal
 
@@ -55,3 +57,33 @@ returns-in_err-read_page-clause-damaged g c = λ base below told is.
 
 pub returns-clause-own : goal.returns-clause-own
 returns-clause-own g c = λ base told. c.in_ok-number.ensures.own base c.args.at.level told
+
+pub returns-in_err-read_page-clause-broken : goal.returns-in_err-read_page-clause-broken
+returns-in_err-read_page-clause-broken g c = λ below is base fits stored from mine kept told apart.
+    let D : RepairError → Type 0 = λ e. NamesDamaged stored from (shown.total c.args.space.now) (root_level c.args.at.height c.args.at.level c.args.at.index) c.args.root.page c.args.root.span e in
+    error_so _ D c.from_residual.result c.from_residual.ensures.1
+    (λ e same. subst D (sym same) (stored_here stored (left_by c.args.txn.now base) from c.args.txn.now.superblock (shown.total c.args.space.now) c.args.at.height c.args.at.level below c.args.at.index c.args.root.page c.args.root.span mine kept c.in_err-read_page.field-0.0
+    is c.if-root-ne0.true (sym c.if-not-is_new_root.ensures) apart (c.in_err-read_page.ensures.bad base told)))
+
+pub returns-then-not-is_new_root-clause-apart : goal.returns-then-not-is_new_root-clause-apart
+returns-then-not-is_new_root-clause-apart g c = λ below is base fits stored from mine kept told apart.
+    apart_read stored (left_by c.args.txn.now base) from c.args.txn.now.superblock c.args.at.height c.args.at.level below c.args.at.index c.args.root.page c.read_page.new.bytes mine kept
+    is c.if-root-ne0.true (sym c.if-not-is_new_root.ensures) (c.in_ok-read_page.ensures.bytes base told)
+    (sound_read (shown.total c.args.space.now) c.args.txn.now.superblock.total c.args.at.level c.read_page.new.bytes (left_by c.args.txn.now base c.args.root.page) (c.in_ok-read_page.ensures.bytes base told) c.requires.total c.in_ok-read_page.ensures.keeps c.in_ok-read_page.ensures.form) apart
+
+pub returns-in_err-number-clause-broken : goal.returns-in_err-number-clause-broken
+returns-in_err-number-clause-broken g c = λ below is base fits stored from mine kept told apart.
+    let D : RepairError → Type 0 = λ e. NamesDamaged stored from (shown.total c.args.space.now) (root_level c.args.at.height c.args.at.level c.args.at.index) c.args.root.page c.args.root.span e in
+    error_so _ D c.from_residual-in_err-number.result c.from_residual-in_err-number.ensures.1
+    (λ e same. subst D (sym same) (stored_link stored from (shown.total c.args.space.now) (root_level c.args.at.height c.args.at.level c.args.at.index) c.args.root.page c.args.root.span c.in_err-number.field-0.0
+    (c.in_err-number.ensures.broken base fits stored from mine (and_tree fits stored c.args.at.height c.args.at.level c.args.at.index c.args.root.page kept) told apart)))
+
+pub returns-clause-apart : goal.returns-clause-apart
+returns-clause-apart g c = λ below is base fits stored from mine kept told apart.
+    let new : (c.args.root.page ≡ 0) ⊎ (is_new_root c.args.at.height c.args.at.level c.args.at.index ≡ true) = elim c.else-root-ne0.branch [
+      | else-root-ne0-via-then-root-ne0+else-not-is_new_root w ↦ inr (sym w.if-not-is_new_root.ensures)
+      | else-root-ne0-via-else-root-ne0 w ↦ inl w.if-root-ne0.false
+    ] in
+    apart_new stored (left_by c.take.new.txn base) from c.take.new.txn.superblock c.args.at.height c.args.at.level below c.args.at.index c.args.root.page c.in_ok-number.number c.start.new.bytes mine kept
+    is (record { why = new; first = c.start.ensures.first; none = c.start.ensures.none })
+    (c.in_ok-number.ensures.apart base fits stored from mine (and_tree fits stored c.args.at.height c.args.at.level c.args.at.index c.args.root.page kept) told apart)

@@ -5,7 +5,9 @@ use Rattle.page_space.specs.Transactions.{left_by}
 use Rattle.page_space.proofs.Spacing.{stands_counts}
 use Rattle.page_space.specs.Causes.{Refuses}
 use Rattle.page_space.specs.declared.errors.SpaceError.{SpaceError}
-use Rattle.page_space.specs.declared.errors.SpaceError.TheVariants.{Full}
+use Rattle.page_space.specs.declared.errors.SpaceError.TheVariants.{Full, Damaged}
+use Rattle.path_repair.specs.Apart.{StandsApart, and_page}
+use Rattle.path_repair.proofs.ApartLemmas.{apart_taken, apart_broken}
 use Rattle.path_repair.specs.Keeping.{IsOwn}
 use Rattle.path_repair.proofs.KeepLemmas.{taken_own}
 use Rattle.page_space.specs.Shown as shown
@@ -37,3 +39,16 @@ pub returns-in-Ok-clause-own : goal.returns-in-Ok-clause-own
 returns-in-Ok-clause-own g c = λ base level told.
     let P : Image → Type 0 = λ image. IsOwn (left_by c.args.txn.now image) c.args.txn.now.superblock.fresh c.alloc.new.txn.superblock.fresh level c.in-Ok.page in
     subst P told.are (taken_own (shown.IsTold c.args.space.now) (left_by c.args.txn.now (shown.image c.args.space.now)) c.args.txn.now.superblock c.alloc.new.txn.superblock level c.in-Ok.page told.are_told c.in-Ok.ensures.takes c.in-Ok.ensures.given)
+
+pub returns-in-Ok-clause-apart : goal.returns-in-Ok-clause-apart
+returns-in-Ok-clause-apart g c = λ base fits stored from mine kept told apart.
+    let before : Image → Type 0 = λ image. StandsApart fits stored (left_by c.args.txn.now image) from c.args.txn.now.superblock mine kept in
+    let after : Image → Type 0 = λ image. StandsApart fits stored (left_by c.alloc.new.txn image) from c.alloc.new.txn.superblock (and_page c.in-Ok.page mine) kept in
+    subst after told.are (apart_taken (shown.IsTold c.args.space.now) stored (shown.image c.args.space.now) from c.args.txn.now c.alloc.new.txn c.in-Ok.page mine kept told.are_told c.alloc.ensures.pages c.in-Ok.ensures.given c.in-Ok.ensures.takes (subst before (sym told.are) apart))
+
+pub returns-in-Err-Damaged-clause-broken : goal.returns-in-Err-Damaged-clause-broken
+returns-in-Err-Damaged-clause-broken g c = λ base fits stored from mine kept told apart.
+    let before : Image → Type 0 = λ image. StandsApart fits stored (left_by c.args.txn.now image) from c.args.txn.now.superblock mine kept in
+    let P : SpaceError → Type 0 = λ e. Refuses e (shown.IsTold c.args.space.now) (left_by c.args.txn.now (shown.image c.args.space.now)) c.args.txn.now.superblock (shown.view c.args.space.now).faults (shown.view c.alloc.new.self).faults in
+    let refused : P (Damaged c.in-Err-Damaged.page) = subst P c.in-Err-Damaged.field-0-is c.in-Err-Damaged.ensures.cause in
+    apart_broken (shown.IsTold c.args.space.now) stored (left_by c.args.txn.now (shown.image c.args.space.now)) from c.args.txn.now.superblock c.in-Err-Damaged.page mine kept (shown.view c.args.space.now).faults (shown.view c.alloc.new.self).faults told.are_told refused (subst before (sym told.are) apart)

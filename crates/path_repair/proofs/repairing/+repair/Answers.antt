@@ -1,6 +1,7 @@
 use Rattle.std.proofs.Common.{rules, ◌≡◌, ◌<◌, ◌+◌, ◌-◌, ◌^◌, ◌++◌, ◌∷◌, ℕ, suc, refl, sym, ap, subst, arith, ◌∙◌}
 use Rattle.page_space.specs.declared.superblock.Superblock.{Superblock}
 use Rattle.page_space.specs.Transactions.{left_by}
+use Rattle.node_page.specs.Fields.{child_at}
 use Rattle.page_spans.specs.Heaps.{span_at}
 use Rattle.tree_walk.proofs.StepLemmas.{error_so}
 use Rattle.path_repair.specs.Costs.{touch}
@@ -12,6 +13,9 @@ use Rattle.path_repair.proofs.RepairLemmas.{way_start, way_child, way_on, way_mo
 use Rattle.path_repair.specs.declared.errors.RepairError.{RepairError}
 use Rattle.path_repair.specs.Damage.{IsDamage}
 use Rattle.path_repair.specs.Keeping.{root_level}
+use Rattle.path_repair.specs.Apart.{NamesDamaged, and_page, and_tree, and_children}
+use Rattle.path_repair.proofs.ApartLemmas.{apart_settled}
+use Rattle.path_repair.proofs.StoredLemmas.{apart_child, apart_end, stored_up}
 use Rattle.path_repair.proofs.KeepLemmas.{spares_up}
 use Rattle.path_repair.proofs.SpareLemmas.{first_spares, none_spares, spare_start, spare_child, spare_on, spare_damage, spare_end, new_root}
 use Rattle.page_space.specs.Shown as shown
@@ -47,7 +51,10 @@ loop-child-init g t c =
       way_start (shown.IsTold c.args.space.now) (shown.IsTold c.open_page.new.space) (shown.view c.args.space.now) (shown.view c.open_page.new.space) (shown.under c.args.space.now) (shown.under c.open_page.new.space) (shown.numbers c.args.space.now) (shown.numbers c.open_page.new.space) c.args.txn.now c.open_page.new.txn c.args.slots.first c.args.slots.end c.args.values.now c.args.at.height c.args.at.level (c.args.at.level - 1) c.args.at.index c.args.root.page c.args.root.span c.in_ok-number.number c.open_page.new.bytes (span_at c.open_page.new.spans)
           c.open_page.ensures.moved c.in_ok-number.ensures.form
           (λ base count list list' others told lists placed. c.in_ok-number.ensures.part base count list list' others (c.args.at.level - 1) told is lists.old_values placed (λ none. gives c.args.slots.first c.args.slots.end c.args.values.now list list' c.args.at.level c.args.at.index lists ((c.if-is_settled.ensures.unsettled refl).something none))),
-      spare_start (shown.IsTold c.args.space.now) (shown.view c.args.space.now) c.args.txn.now c.open_page.new.txn (c.args.at.level - 1) c.open_page.new.bytes (span_at c.open_page.new.spans) c.open_page.ensures.first,
+      (
+        spare_start (shown.IsTold c.args.space.now) (shown.view c.args.space.now) c.args.txn.now c.open_page.new.txn (c.args.at.level - 1) c.open_page.new.bytes (span_at c.open_page.new.spans) c.open_page.ensures.first,
+        c.in_ok-number.ensures.apart (c.args.at.level - 1) is,
+      ),
     )
 
 pub repair-requires : goal.repair-requires
@@ -105,15 +112,22 @@ returns-in_err-next-clause-only_faults g t c = λ base count list list' others t
 
 pub loop-child-preserved : goal.loop-child-preserved
 loop-child-preserved g t c =
-    let child_level : c.child.result.level ≡ c.args.at.level - 1 = omega (arith, c.child.ensures.level) in (
+    let child_level : c.child.result.level ≡ c.args.at.level - 1 = omega (arith, c.child.ensures.level) in
+    let page_is : c.child_root-old.result.page ≡ child_at c.open_page.new.bytes c.loop-child.child = c.child_root-old.ensures.page ∙ c.loop-child.invariant.1.0.children c.loop-child.child (omega arith) in (
       way_on (shown.IsTold c.args.space.now) (shown.IsTold c.loop-child.space) (shown.IsTold c.repair.new.space) (shown.view c.args.space.now) (shown.view c.loop-child.space) (shown.view c.repair.new.space) (shown.under c.args.space.now) (shown.under c.loop-child.space) (shown.under c.repair.new.space) (shown.numbers c.args.space.now) (shown.numbers c.loop-child.space) (shown.numbers c.repair.new.space) c.args.txn.now c.loop-child.txn c.repair.new.txn c.args.slots.first c.args.slots.end c.args.values.now c.args.at.height c.args.at.level (c.args.at.level - 1) c.args.at.index c.args.root.page c.args.root.span c.in_ok-number.number c.loop-child.bytes c.set_root.new.bytes (span_at c.loop-child.spans) (span_at c.set_root.new.spans) c.loop-child.child c.child.result.height c.child.result.level c.child.result.index c.child_root-old.result.page c.in_ok-next.next.page c.child_root-old.result.span c.in_ok-next.next.span
           c.loop-child.invariant.0 c.loop-child-test.true c.child.ensures.height child_level c.child.ensures.index c.child_root-old.ensures.page c.child_root-old.ensures.span c.repair.ensures.moved
           (λ base count list list' others told lists placed. c.in_ok-next.ensures.repaired base count list list' others told lists placed)
           (c.set_root.ensures.form c.args.at.level (shown.total c.args.space.now) c.loop-child.invariant.0.form (let page : c.in_ok-next.next.page < (shown.total c.loop-child.space) = c.in_ok-next.ensures.page in omega (arith, page, ap (λ (s : Superblock). s.total) c.loop-child.invariant.0.moved.over.superblock)))
           c.set_root.ensures.page c.set_root.ensures.pages c.set_root.ensures.span c.set_root.ensures.spans,
-      spare_on (shown.IsTold c.args.space.now) (shown.view c.args.space.now) c.args.txn.now c.open_page.new.txn c.loop-child.txn c.repair.new.txn (c.args.at.level - 1) c.child.result.level c.open_page.new.bytes c.loop-child.bytes c.set_root.new.bytes (span_at c.open_page.new.spans) (span_at c.loop-child.spans) (span_at c.set_root.new.spans) c.loop-child.child c.loop-child.invariant.1 child_level c.loop-child.invariant.0.moved.fresh c.repair.ensures.moved.fresh
-          (λ base at. c.repair.ensures.spares base (told_on (1 + passed_below c.args.slots.first c.args.slots.end c.args.at.height (c.args.at.level - 1) c.args.at.index c.loop-child.child) (shown.IsTold c.args.space.now) (shown.IsTold c.loop-child.space) (shown.view c.args.space.now) (shown.view c.loop-child.space) base c.loop-child.invariant.0.moved.reads at))
-          c.set_root.ensures.pages c.set_root.ensures.spans,
+      (
+        spare_on (shown.IsTold c.args.space.now) (shown.view c.args.space.now) c.args.txn.now c.open_page.new.txn c.loop-child.txn c.repair.new.txn (c.args.at.level - 1) c.child.result.level c.open_page.new.bytes c.loop-child.bytes c.set_root.new.bytes (span_at c.open_page.new.spans) (span_at c.loop-child.spans) (span_at c.set_root.new.spans) c.loop-child.child c.loop-child.invariant.1.0 child_level c.loop-child.invariant.0.moved.fresh c.repair.ensures.moved.fresh
+            (λ base at. c.repair.ensures.spares base (told_on (1 + passed_below c.args.slots.first c.args.slots.end c.args.at.height (c.args.at.level - 1) c.args.at.index c.loop-child.child) (shown.IsTold c.args.space.now) (shown.IsTold c.loop-child.space) (shown.view c.args.space.now) (shown.view c.loop-child.space) base c.loop-child.invariant.0.moved.reads at))
+            c.set_root.ensures.pages c.set_root.ensures.spans,
+        λ base fits stored from mine kept at apart. c.in_ok-next.ensures.apart base fits stored from (and_page c.in_ok-number.number mine) (and_children fits stored c.args.at.height (c.args.at.level - 1) c.args.at.index c.open_page.new.bytes (c.loop-child.child + 1) kept)
+            (told_on (1 + passed_below c.args.slots.first c.args.slots.end c.args.at.height (c.args.at.level - 1) c.args.at.index c.loop-child.child) (shown.IsTold c.args.space.now) (shown.IsTold c.loop-child.space) (shown.view c.args.space.now) (shown.view c.loop-child.space) base c.loop-child.invariant.0.moved.reads at)
+            (apart_child stored (left_by c.loop-child.txn base) from c.loop-child.txn.superblock c.args.at.height (c.args.at.level - 1) c.args.at.index c.loop-child.child c.child.result.height c.child.result.level c.child.result.index c.child_root-old.result.page c.open_page.new.bytes (and_page c.in_ok-number.number mine) kept
+            c.loop-child-test.true c.child.ensures.height child_level c.child.ensures.index page_is (c.loop-child.invariant.1.1 base fits stored from mine kept at apart)),
+      ),
     )
 
 pub close_page-requires-clause-room : goal.close_page-requires-clause-room
@@ -155,7 +169,7 @@ pub returns-in_err-next-clause-spares : goal.returns-in_err-next-clause-spares
 returns-in_err-next-clause-spares g t c = λ base at.
     let child_level : c.child.result.level ≡ c.args.at.level - 1 = omega (arith, c.child.ensures.level) in
     spares_up (c.args.at.level - 1) c.args.at.level c.args.txn.now.superblock.fresh c.repair.new.txn.superblock.fresh (left_by c.args.txn.now base) (left_by c.repair.new.txn base) (omega arith)
-    (spare_child (shown.IsTold c.args.space.now) (shown.view c.args.space.now) c.args.txn.now c.open_page.new.txn c.loop-child.txn c.repair.new.txn (c.args.at.level - 1) c.child.result.level c.open_page.new.bytes c.loop-child.bytes (span_at c.open_page.new.spans) (span_at c.loop-child.spans) c.loop-child.child c.loop-child.invariant.1 child_level c.loop-child.invariant.0.moved.fresh c.repair.ensures.moved.fresh base at
+    (spare_child (shown.IsTold c.args.space.now) (shown.view c.args.space.now) c.args.txn.now c.open_page.new.txn c.loop-child.txn c.repair.new.txn (c.args.at.level - 1) c.child.result.level c.open_page.new.bytes c.loop-child.bytes (span_at c.open_page.new.spans) (span_at c.loop-child.spans) c.loop-child.child c.loop-child.invariant.1.0 child_level c.loop-child.invariant.0.moved.fresh c.repair.ensures.moved.fresh base at
     (c.repair.ensures.spares base (told_on (1 + passed_below c.args.slots.first c.args.slots.end c.args.at.height (c.args.at.level - 1) c.args.at.index c.loop-child.child) (shown.IsTold c.args.space.now) (shown.IsTold c.loop-child.space) (shown.view c.args.space.now) (shown.view c.loop-child.space) base c.loop-child.invariant.0.moved.reads at)))
 
 pub returns-in_err-next-clause-damaged : goal.returns-in_err-next-clause-damaged
@@ -167,16 +181,55 @@ returns-in_err-next-clause-damaged g t c = λ base at.
     error_so _ D c.from_residual-in_err-next.result c.from_residual-in_err-next.ensures.1
     (λ e same. subst D (sym same)
     (spare_damage (shown.IsTold c.args.space.now) (shown.view c.args.space.now) c.args.txn.now c.open_page.new.txn c.loop-child.txn c.repair.new.txn c.args.at.height c.args.at.level (c.args.at.level - 1) c.args.at.index c.args.root.page c.child.result.height c.child.result.level c.child.result.index c.child_root-old.result.page c.args.root.span c.child_root-old.result.span c.open_page.new.bytes c.loop-child.bytes (span_at c.open_page.new.spans) (span_at c.loop-child.spans) c.loop-child.child c.in_err-next.field-0.0
-    c.loop-child.invariant.1 is c.loop-child-test.true c.child.ensures.height child_level c.child.ensures.index c.child_root-old.ensures.page c.child_root-old.ensures.span c.loop-child.invariant.0.moved.fresh c.repair.ensures.moved.fresh
+    c.loop-child.invariant.1.0 is c.loop-child-test.true c.child.ensures.height child_level c.child.ensures.index c.child_root-old.ensures.page c.child_root-old.ensures.span c.loop-child.invariant.0.moved.fresh c.repair.ensures.moved.fresh
     c.in_ok-number.ensures.opened base at (c.in_ok-number.ensures.as_told base at) (c.repair.ensures.spares base told) (c.in_err-next.ensures.damaged base told)))
 
 pub returns-clause-root : goal.returns-clause-root
 returns-clause-root g t c =
-    new_root c.open_page.new.txn.superblock.fresh c.close_page.new.txn.superblock.fresh c.args.root.page c.in_ok-number.number c.close_page.result.page (omega (arith, c.loop-child.invariant.1.fresh, c.close_page.ensures.moved.fresh)) c.in_ok-number.ensures.root c.close_page.ensures.root
+    new_root c.open_page.new.txn.superblock.fresh c.close_page.new.txn.superblock.fresh c.args.root.page c.in_ok-number.number c.close_page.result.page (omega (arith, c.loop-child.invariant.1.0.fresh, c.close_page.ensures.moved.fresh)) c.in_ok-number.ensures.root c.close_page.ensures.root
 
 pub returns-clause-matched : goal.returns-clause-matched
 returns-clause-matched g t c = λ some was. c.close_page.ensures.matched
 
 pub returns-clause-spares : goal.returns-clause-spares
 returns-clause-spares g t c = λ base at.
-    spare_end (shown.IsTold c.args.space.now) (shown.view c.args.space.now) c.args.txn.now c.open_page.new.txn c.loop-child.txn c.close_page.new.txn c.args.at.level (c.args.at.level - 1) c.in_ok-number.number c.open_page.new.bytes c.loop-child.bytes (span_at c.open_page.new.spans) (span_at c.loop-child.spans) c.loop-child.child c.loop-child.invariant.1 (omega arith) (omega (arith, c.loop-child.invariant.1.fresh, c.close_page.ensures.moved.fresh)) c.close_page.ensures.moved.fresh base at (c.in_ok-number.ensures.own base at) c.close_page.ensures.others
+    spare_end (shown.IsTold c.args.space.now) (shown.view c.args.space.now) c.args.txn.now c.open_page.new.txn c.loop-child.txn c.close_page.new.txn c.args.at.level (c.args.at.level - 1) c.in_ok-number.number c.open_page.new.bytes c.loop-child.bytes (span_at c.open_page.new.spans) (span_at c.loop-child.spans) c.loop-child.child c.loop-child.invariant.1.0 (omega arith) (omega (arith, c.loop-child.invariant.1.0.fresh, c.close_page.ensures.moved.fresh)) c.close_page.ensures.moved.fresh base at (c.in_ok-number.ensures.own base at) c.close_page.ensures.others
+
+pub returns-then-at-eq0-clause-apart : goal.returns-then-at-eq0-clause-apart
+returns-then-at-eq0-clause-apart g t c = λ base fits stored from mine kept at apart.
+    apart_settled stored (left_by c.args.txn.now base) from c.args.txn.now.superblock c.args.at.height c.args.at.level c.args.at.index c.args.root.page mine kept apart
+
+pub returns-then-is_settled-clause-apart : goal.returns-then-is_settled-clause-apart
+returns-then-is_settled-clause-apart g t c = λ base fits stored from mine kept at apart.
+    apart_settled stored (left_by c.args.txn.now base) from c.args.txn.now.superblock c.args.at.height c.args.at.level c.args.at.index c.args.root.page mine kept apart
+
+pub returns-in_err-number-clause-broken : goal.returns-in_err-number-clause-broken
+returns-in_err-number-clause-broken g t c = λ base fits stored from mine kept at apart.
+    let is : c.args.at.level ≡ suc (c.args.at.level - 1) = omega (arith, c.if-at-eq0.false) in
+    let D : RepairError → Type 0 = λ e. NamesDamaged stored from (shown.total c.args.space.now) (root_level c.args.at.height c.args.at.level c.args.at.index) c.args.root.page c.args.root.span e in
+    error_so _ D c.from_residual.result c.from_residual.ensures.1
+    (λ e same. subst D (sym same) (c.in_err-number.ensures.broken (c.args.at.level - 1) is base fits stored from mine kept at apart))
+
+pub returns-in_err-next-clause-broken : goal.returns-in_err-next-clause-broken
+returns-in_err-next-clause-broken g t c = λ base fits stored from mine kept at apart.
+    let is : c.args.at.level ≡ suc (c.args.at.level - 1) = omega (arith, c.if-at-eq0.false) in
+    let child_level : c.child.result.level ≡ c.args.at.level - 1 = omega (arith, c.child.ensures.level) in
+    let page_is : c.child_root-old.result.page ≡ child_at c.open_page.new.bytes c.loop-child.child = c.child_root-old.ensures.page ∙ c.loop-child.invariant.1.0.children c.loop-child.child (omega arith) in
+    let top_is : c.child_root-old.result.span ≡ span_at c.open_page.new.spans (127 + c.loop-child.child) = c.child_root-old.ensures.span ∙ c.loop-child.invariant.1.0.tops c.loop-child.child (omega arith) in
+    let told = told_on (1 + passed_below c.args.slots.first c.args.slots.end c.args.at.height (c.args.at.level - 1) c.args.at.index c.loop-child.child) (shown.IsTold c.args.space.now) (shown.IsTold c.loop-child.space) (shown.view c.args.space.now) (shown.view c.loop-child.space) base c.loop-child.invariant.0.moved.reads at in
+    let D : RepairError → Type 0 = λ e. NamesDamaged stored from (shown.total c.args.space.now) (root_level c.args.at.height c.args.at.level c.args.at.index) c.args.root.page c.args.root.span e in
+    let T : ℕ → Type 0 = λ n. NamesDamaged stored from n (root_level c.child.result.height c.child.result.level c.child.result.index) c.child_root-old.result.page c.child_root-old.result.span c.in_err-next.field-0.0 in
+    let total_is : shown.total c.loop-child.space ≡ shown.total c.args.space.now = ap (λ (s : Superblock). s.total) c.loop-child.invariant.0.moved.over.superblock in
+    let bad = c.in_err-next.ensures.broken base fits stored from (and_page c.in_ok-number.number mine) (and_children fits stored c.args.at.height (c.args.at.level - 1) c.args.at.index c.open_page.new.bytes (c.loop-child.child + 1) kept) told
+    (apart_child stored (left_by c.loop-child.txn base) from c.loop-child.txn.superblock c.args.at.height (c.args.at.level - 1) c.args.at.index c.loop-child.child c.child.result.height c.child.result.level c.child.result.index c.child_root-old.result.page c.open_page.new.bytes (and_page c.in_ok-number.number mine) kept
+    c.loop-child-test.true c.child.ensures.height child_level c.child.ensures.index page_is (c.loop-child.invariant.1.1 base fits stored from mine kept at apart)) in
+    error_so _ D c.from_residual-in_err-next.result c.from_residual-in_err-next.ensures.1
+    (λ e same. subst D (sym same)
+    (stored_up stored (left_by c.args.txn.now base) from c.args.txn.now.superblock (shown.total c.args.space.now) c.args.at.height c.args.at.level (c.args.at.level - 1) c.args.at.index c.loop-child.child c.child.result.height c.child.result.level c.child.result.index c.args.root.page c.child_root-old.result.page c.args.root.span c.child_root-old.result.span c.open_page.new.bytes (span_at c.open_page.new.spans) mine kept c.in_err-next.field-0.0
+    is c.loop-child-test.true c.child.ensures.height child_level c.child.ensures.index page_is top_is
+    c.in_ok-number.ensures.opened (c.in_ok-number.ensures.as_told base at) apart (subst T total_is bad)))
+
+pub returns-clause-apart : goal.returns-clause-apart
+returns-clause-apart g t c = λ base fits stored from mine kept at apart.
+    c.close_page.ensures.apart fits base stored from mine kept
+    (apart_end stored (left_by c.loop-child.txn base) from c.loop-child.txn.superblock c.args.at.height (c.args.at.level - 1) c.args.at.index c.loop-child.child c.open_page.new.bytes (and_page c.in_ok-number.number mine) kept (c.loop-child.invariant.1.1 base fits stored from mine kept at apart))

@@ -22,3 +22,6 @@ returns-in_err-add_page-clause-cause g c =
     error_so _ Q c.from_residual-in_err-add_page.result c.from_residual-in_err-add_page.ensures.1
     (λ e is. page_cause (shown.IsTold c.args.space.now) (shown.numbers c.args.space.now) (shown.view c.args.space.now) (shown.view c.get.new.self) c.args.page c.series-count.result c.fresh-fresh.result c.get.new.out (series_in c.args.catalog.now) e
     c.requires.low c.requires.high c.series-count.ensures.series c.fresh-fresh.ensures.fresh c.in_ok-get.ensures.page c.requires.told (subst P (sym is) c.in_err-add_page.ensures.cause))
+
+pub returns-clause-told : goal.returns-clause-told
+returns-clause-told g c = λ told. c.in_ok-add_page.ensures.told (shown.image c.args.space.now) (sym (c.in_ok-get.ensures.page told)) (c.requires.told told)

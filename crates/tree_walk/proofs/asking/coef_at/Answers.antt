@@ -47,9 +47,12 @@ returns-then-is_err-clause-cause g c =
     let bytes = bytes_are trail.pages.items depth page within c.index-page.ensures in
     let coef = end_coef trail.pages.items depth c.args.key c.coef_at-coef.result c.node_number.result c.of.result.bytes.now c.as_slice.result.now page.bytes.items
     c.coef_at-coef.ensures.coef c.of.ensures.bytes c.as_slice.ensures.value bytes c.node_number.ensures.node in
-    end_bad (shown.IsTold c.args.space.now) (shown.IsTold c.descend.new.space) (walk.pages c.args.space.now) (walk.pages c.descend.new.space) c.args.tree trail.pages.items trail.len c.args.key c.args.span depth page.number c.coef_at-coef.result c.descend.ensures.kept c.descend.ensures.held
-    c.in_ok-depth.ensures.leads c.in_ok-depth.ensures.depth c.requires.seen (number_is trail.pages.items depth page within c.index-page.ensures) coef
-    (splits_none c.split.result c.args.span c.coef_at-coef.result (sym c.is_err.ensures.value ∙ c.if-is_err.true) c.split.ensures.none)
+    let held = c.descend.ensures.held depth (omega (arith, c.in_ok-depth.ensures.depth, c.in_ok-depth.ensures.leads.long)) in (
+      omega (arith, held.below, number_is trail.pages.items depth page within c.index-page.ensures, c.descend.ensures.kept.size),
+      end_bad (shown.IsTold c.args.space.now) (shown.IsTold c.descend.new.space) (walk.pages c.args.space.now) (walk.pages c.descend.new.space) c.args.tree trail.pages.items trail.len c.args.key c.args.span depth page.number c.coef_at-coef.result c.descend.ensures.kept c.descend.ensures.held
+          c.in_ok-depth.ensures.leads c.in_ok-depth.ensures.depth c.requires.seen (number_is trail.pages.items depth page within c.index-page.ensures) coef
+          (splits_none c.split.result c.args.span c.coef_at-coef.result (sym c.is_err.ensures.value ∙ c.if-is_err.true) c.split.ensures.none),
+    )
 
 pub returns-then-is_err-clause-damaged : goal.returns-then-is_err-clause-damaged
 returns-then-is_err-clause-damaged g c =

@@ -22,7 +22,7 @@ returns-in_err-hold-clause-cause g c =
     let levels : c.from-levels.result ≡ page_levels c.args.tree.slots = c.from-levels.ensures ∙ c.page_levels.ensures.levels in
     let C : NodeError → Type 0 = λ e. IsHoldCause (shown.IsTold c.args.space.now) (walk.pages c.args.space.now) (walk.pages c.hold.new.space) c.args.tree.root (c.from-levels.result - 0) e in
     error_so _ _ c.from_residual.result c.from_residual.ensures.1
-    (λ e is. root_bad (shown.IsTold c.args.space.now) (walk.pages c.args.space.now) (walk.pages c.hold.new.space) c.args.tree c.args.key c.from-levels.result e levels c.requires.key
+    (λ e is. root_bad (shown.IsTold c.args.space.now) (walk.pages c.args.space.now) (walk.pages c.hold.new.space) c.args.tree c.args.key c.from-levels.result e levels c.requires.key c.requires.root
     (subst C (sym is) c.in_err-hold.ensures.cause))
 
 pub loop-above-init : goal.loop-above-init

@@ -22,7 +22,7 @@ returns-in_err-number-clause-cause g c =
     error_so _ _ c.from_residual.result c.from_residual.ensures.1
     (λ e is. step_none (shown.IsTold c.args.space.now) (walk.pages c.args.space.now) (walk.pages c.args.space.now) trail.pages.items c.args.key c.args.levels c.args.depth
     page.number c.path_child-child.result c.total.result page.bytes.items e (number_is trail.pages.items c.args.depth page within c.index.ensures) (bytes_are trail.pages.items c.args.depth page within c.index.ensures)
-    c.path_child-child.ensures.child c.total.ensures.total c.in_err-number.ensures.missing (is ∙ c.in_err-number.ensures.names))
+    c.path_child-child.ensures.child c.total.ensures.total (c.requires.held c.args.depth c.requires.reached).below c.in_err-number.ensures.missing (is ∙ c.in_err-number.ensures.names))
 
 pub returns-clause-hit : goal.returns-clause-hit
 returns-clause-hit g c = λ long linked.
@@ -58,5 +58,5 @@ returns-clause-cause g c =
     let next = next_is trail.pages.items c.args.key c.args.levels c.args.depth c.in_ok-number.number c.path_child-child.result page.bytes.items bytes c.path_child-child.ensures.child c.in_ok-number.ensures.number in
     IfErr-weaker c.hold.result _ _
     (λ e cause. step_bad (shown.IsTold c.args.space.now) (walk.pages c.args.space.now) (walk.pages c.hold.new.space) trail.pages.items c.args.key c.args.levels c.args.depth
-    c.in_ok-number.number e next c.in_ok-number.ensures.there cause)
+    c.in_ok-number.number e next c.in_ok-number.ensures.there (omega (arith, c.in_ok-number.ensures.below, c.total.ensures.total)) cause)
     c.hold.ensures.cause

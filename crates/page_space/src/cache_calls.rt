@@ -1,0 +1,102 @@
+//! The calls of a cache of pages.
+ghost use Rattle.std.specs.Prelude.{◌≡◌, ◌≢◌, ◌≤◌, ◌<◌, ◌+◌, ◌*◌, ◌%◌, ℕ, List, None, Some, length, is_some, IfOk, IfSome};
+ghost use Rattle.std.specs.Option.{option_copied};
+ghost use Rattle.block_disk.specs.Blocks.{block_size, IsBlock};
+ghost use Rattle.block_disk.specs.MemDisk.{blocks_of, put};
+ghost use Rattle.gate_pages.specs.Batch.{page_in};
+ghost use Rattle.gate_pages.specs.Entries.{entries};
+ghost use Rattle.page_space.specs.Copies.{place as place_of, copies_in, with_copy, renewed};
+
+use crate::layout::PLACES;
+use crate::page_cache::PageCache;
+use block_disk::BLOCK;
+use gate_pages::Batch;
+use std::alloc::{AllocError, Global};
+
+/// The place of a page.
+fn place(p: u32) -> usize
+    ensures place { result ≡ place_of p }
+    ensures within { result < 1024 }
+{
+    p as usize % PLACES
+}
+
+/// Puts a block in place of the one at a place.
+fn put_block(bytes: &mut [u8], at: usize, block: &[u8])
+    requires whole { IsBlock block.now }
+    requires within { block_size * at + block_size ≤ length bytes.old }
+    ensures put { blocks_of bytes.new ≡ put at block.now (blocks_of bytes.old) }
+    ensures len { length bytes.new ≡ length bytes.old }
+{
+    let start = BLOCK * at;
+    bytes[start..start + BLOCK].copy_from_slice(block);
+}
+
+impl PageCache {
+    /// A cache that holds no page. No other call of it takes memory.
+    pub(crate) fn new(alloc: Global) -> Result<PageCache, AllocError>
+        ensures { IfOk result (λ cache. (p : ℕ) → copies_in cache p ≡ None) }
+    {
+        let numbers = vec![in alloc; None; PLACES]?;
+        let bytes = vec![in alloc; 0; BLOCK * PLACES]?;
+        Ok(PageCache { numbers, bytes })
+    }
+
+    /// Whether it holds a page.
+    pub(crate) fn holds(&self, p: u32) -> bool
+        ensures { result ≡ is_some (copies_in self.now p) }
+    {
+        match self.numbers[place(p)] {
+            Some(number) => number == p,
+            None => false,
+        }
+    }
+
+    /// The copy of a page, where it holds one.
+    pub(crate) fn get(&self, p: u32) -> Option<&[u8]>
+        ensures copy { option_copied result ≡ copies_in self.now p }
+        ensures whole { IfSome result (λ bytes. IsBlock bytes.now) }
+    {
+        if !self.holds(p) {
+            return None;
+        }
+        let start = BLOCK * place(p);
+        let bytes = self.bytes.as_slice();
+        Some(&bytes[start..start + BLOCK])
+    }
+
+    /// Holds a page in its place.
+    pub(crate) fn keep(&mut self, p: u32, bytes: &[u8])
+        requires { IsBlock bytes.now }
+        ensures { (q : ℕ) → copies_in self.new q ≡ with_copy p bytes.now (copies_in self.old) q }
+    {
+        let at = place(p);
+        self.numbers[at] = Some(p);
+        put_block(self.bytes.as_mut_slice(), at, bytes);
+    }
+
+    /// Gives each page that it holds its new bytes, where the batch has such.
+    pub(crate) fn renew(&mut self, batch: &Batch)
+        requires { (p : ℕ) (bytes : List ℕ) → page_in (entries batch.now) p ≡ Some bytes → IsBlock bytes }
+        ensures { (p : ℕ) → copies_in self.new p ≡ renewed (entries batch.now) (copies_in self.old) p }
+    {
+        for at in 0..PLACES {
+            self.renew_place(at, batch);
+        }
+    }
+
+    /// The same at one place.
+    fn renew_place(&mut self, at: usize, batch: &Batch)
+        requires whole { (p : ℕ) (bytes : List ℕ) → page_in (entries batch.now) p ≡ Some bytes → IsBlock bytes }
+        requires within { at < 1024 }
+        ensures here { (p : ℕ) → place_of p ≡ at → copies_in self.new p ≡ renewed (entries batch.now) (copies_in self.old) p }
+        ensures others { (p : ℕ) → place_of p ≢ at → copies_in self.new p ≡ copies_in self.old p }
+    {
+        let Some(p) = self.numbers[at] else {
+            return;
+        };
+        if let Some(bytes) = batch.get(p) {
+            put_block(self.bytes.as_mut_slice(), at, bytes);
+        }
+    }
+}
