@@ -15,22 +15,13 @@ use Rattle.coefficient_cache.proofs.Finds.{or_else, lookup-append}
 use Rattle.coefficient_cache.proofs.Given.{found-needed}
 use Rattle.chart_frames.specs.Frames.{Precedes}
 use Rattle.view_keys.specs.Listed.{ComesBefore}
+use Rattle.view_keys.proofs.Orders.{not_itself, before_on}
 use Rattle.chart_client.specs.HeldNodes.{sent_for, held_told}
 
 -- a coefficient that stands before another one
 precedes_before : (a b : Key × Coef) → Precedes a b → ComesBefore a.0 b.0
 precedes_before a b (inl lower) = inl lower
 precedes_before a b (inr less) = inr (sym less.0, less.1)
-
-not_itself : (k : Key) → ComesBefore k k → ⊥
-not_itself k (inl less) = omega (arith, less)
-not_itself k (inr less) = omega (arith, less.1)
-
-before_on : (a b c : Key) → ComesBefore a b → ComesBefore b c → ComesBefore a c
-before_on a b c (inl x) (inl y) = inl (omega (arith, x, y))
-before_on a b c (inl x) (inr y) = inl (omega (arith, x, y.0))
-before_on a b c (inr x) (inl y) = inl (omega (arith, x.0, y))
-before_on a b c (inr x) (inr y) = inr (omega (arith, x.0, y.0), omega (arith, x.1, y.1))
 
 pub same_or_apart : (a b : Key) → (ComesBefore a b → ⊥) → (ComesBefore b a → ⊥) → a ≡ b
 same_or_apart a b forth back = elim (cases_lt b.level a.level) [

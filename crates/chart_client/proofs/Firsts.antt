@@ -7,8 +7,9 @@ use Rattle.chart_grid.specs.declared.axis.Axis.{Axis}
 use Rattle.chart_grid.specs.declared.grid.Grid.{Grid}
 use Rattle.chart_grid.specs.Slots.{IsInColumn}
 use Rattle.view_keys.specs.Flat.{IsFlat}
-use Rattle.view_keys.specs.Wanted.{Seen, IsWanted}
+use Rattle.view_keys.specs.Wanted.{Seen}
 use Rattle.view_keys.specs.Listed.{ComesBefore}
+use Rattle.view_keys.proofs.Orders.{not_itself, before_on}
 use Rattle.chart_client.specs.Failing.{Fails}
 use Rattle.chart_client.specs.Searching.{IsFailing, IsFirst, IsFirstOf, IsEarlier, IsWantedIn, IsWantedBelow, Finds, failure_of}
 use Rattle.chart_client.specs.declared.failure.Failure.{Failure}
@@ -17,16 +18,6 @@ use Rattle.chart_client.specs.declared.search.End.{End}
 use Rattle.chart_client.proofs.Columns.{FlatBelow, IsColumn, IsOf, IsGood, wanted_ends, ends_at, stuck_good}
 
 -- ---- the order of keys
-
-pub not_itself : (k : Key) → ComesBefore k k → ⊥
-not_itself k (inl less) = omega (arith, less)
-not_itself k (inr less) = omega (arith, less.1)
-
-pub before_on : (a b c : Key) → ComesBefore a b → ComesBefore b c → ComesBefore a c
-before_on a b c (inl x) (inl y) = inl (omega (arith, x, y))
-before_on a b c (inl x) (inr y) = inl (omega (arith, x, y.0))
-before_on a b c (inr x) (inl y) = inl (omega (arith, x.0, y))
-before_on a b c (inr x) (inr y) = inr (omega (arith, x.0, y.0), omega (arith, x.1, y.1))
 
 -- a key doesn't come before another one: the other one isn't below it
 before_cases : (a b : Key) → ComesBefore a b ⊎ ((a.level ≤ b.level) × (a.level ≡ b.level → b.index ≤ a.index))
@@ -178,11 +169,3 @@ more_first seen axis grid lo hi n x y r hx hy is =
     (λ k either. elim either [ inl h ↦ (h.0, omega (arith, h.1), h.2) | inr h ↦ (n, omega arith, h) ])
     (λ k wanted fails. below_cases seen axis grid lo hi n k wanted)
     (merged seen axis.slots (IsWantedBelow seen axis grid lo hi n) (IsWantedIn seen axis grid lo hi n) x y r hx hy is)
-
-pub all_first : (seen : Seen) (axis : Axis) (grid : Grid) (lo hi : ℤ) (x : Option Failure) → IsFirstOf seen axis.slots (IsWantedBelow seen axis grid lo hi grid.w) x
-    → IsFirstOf seen axis.slots (IsWanted seen axis grid lo hi) x
-all_first seen axis grid lo hi x h =
-    first_same seen axis.slots (IsWantedBelow seen axis grid lo hi grid.w) (IsWanted seen axis grid lo hi) x
-    (λ k below. record { node = below.2.node; span = below.2.span; known_so = below.2.known_so; column = below.0; shown = below.1; reason = below.2.reason })
-    (λ k wanted fails. (wanted.column, wanted.shown, record { node = wanted.node; span = wanted.span; known_so = wanted.known_so; reason = wanted.reason }))
-    h

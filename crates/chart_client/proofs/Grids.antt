@@ -1,43 +1,12 @@
 -- Grids of the same window and canvas are one.
-use Rattle.std.proofs.Common.{ℕ, ℤ, ◌≡◌, ap, ◌∙◌, subst, sym}
-use Rattle.std.proofs.Math.Bridge.{le_prop}
-use Rattle.std.proofs.Math.Dec.{T_prop}
+use Rattle.std.proofs.Common.{◌≡◌, ◌∙◌, sym}
 use Rattle.chart_grid.specs.declared.grid.Grid.{Grid}
-use Rattle.chart_grid.specs.Limits.{IsWindow, IsSide}
 use Rattle.chart_frames.specs.declared.frame.ViewFrame.{ViewFrame}
+use Rattle.view_keys.proofs.Grids.{grid_same}
 use Rattle.chart_client.specs.Agreeing.{IsGridOf}
-
-abbrev IsOne : Type 0 → Type 0
-IsOne A = (a b : A) → a ≡ b
-
-window_one : (t0 t1 : ℤ) → IsOne (IsWindow t0 t1)
-window_one t0 t1 = hlevel (le_prop, T_prop)
-
-side_one : (n : ℕ) → IsOne (IsSide n)
-side_one n = hlevel (le_prop, T_prop)
-
-abbrev make : (t0 t1 : ℤ) (w h : ℕ) → IsWindow t0 t1 → IsSide w → IsSide h → Grid
-make t0 t1 w h a b c = record { t0 = t0; t1 = t1; w = w; h = h; window = a; wide = b; high = c }
-
-made_same : (t0 t1 : ℤ) (w h : ℕ) (a d : IsWindow t0 t1) (b e : IsSide w) (c f : IsSide h) → make t0 t1 w h a b c ≡ make t0 t1 w h d e f
-made_same t0 t1 w h a d b e c f =
-    ap (λ x. make t0 t1 w h x b c) (window_one t0 t1 a d)
-    ∙ ap (λ x. make t0 t1 w h d x c) (side_one w b e)
-    ∙ ap (λ x. make t0 t1 w h d e x) (side_one h c f)
-
-abbrev Same : Grid → ℤ → ℤ → ℕ → ℕ → Type 0
-Same g t0 t1 w h = (a : IsWindow t0 t1) (b : IsSide w) (c : IsSide h) → g ≡ make t0 t1 w h a b c
-
-same_at : (g : Grid) (t0 t1 : ℤ) (w h : ℕ) → g.t0 ≡ t0 → g.t1 ≡ t1 → g.w ≡ w → g.h ≡ h → Same g t0 t1 w h
-same_at g t0 t1 w h from to wide high =
-    subst (λ (t : ℤ). Same g t t1 w h) from
-    (subst (λ (t : ℤ). Same g g.t0 t w h) to
-    (subst (λ (n : ℕ). Same g g.t0 g.t1 n h) wide
-    (subst (λ (n : ℕ). Same g g.t0 g.t1 g.w n) high
-    (λ a b c. made_same g.t0 g.t1 g.w g.h g.window a g.wide b g.high c))))
 
 -- a view has one grid
 pub grid_one : (view : ViewFrame) (a b : Grid) → IsGridOf view a → IsGridOf view b → a ≡ b
 grid_one view a b x y =
-    same_at a b.t0 b.t1 b.w b.h (x.window.from ∙ sym y.window.from) (x.window.to ∙ sym y.window.to)
-    (x.canvas.columns ∙ sym y.canvas.columns) (x.canvas.rows ∙ sym y.canvas.rows) b.window b.wide b.high
+    grid_same a b (x.window.from ∙ sym y.window.from) (x.window.to ∙ sym y.window.to)
+    (x.canvas.columns ∙ sym y.canvas.columns) (x.canvas.rows ∙ sym y.canvas.rows)

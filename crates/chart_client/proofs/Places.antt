@@ -18,7 +18,7 @@ use Rattle.coefficient_cache.specs.Views.{AreDistinct}
 use Rattle.view_keys.specs.Listed.{ComesBefore, AreInOrder}
 use Rattle.chart_client.specs.Holdings.{holding_of, with_cache}
 use Rattle.chart_client.specs.declared.holding.Holding.{Holding}
-use Rattle.chart_client.proofs.Firsts.{not_itself}
+use Rattle.view_keys.proofs.Orders.{not_itself}
 
 -- the first holding of this number stands at this place
 pub record IsAt (number : ℕ) (hs : List Holding) (place : ℕ) (h : Holding) : Type 0 where

@@ -77,9 +77,44 @@ init_codes code (suc (suc (suc zero)), inside, is) = (10, omega arith, is)
 init_codes code (suc (suc (suc (suc zero))), inside, is) = (11, omega arith, is)
 init_codes code (suc (suc (suc (suc (suc k)))), inside, is) = absurd (omega (arith, inside))
 
--- codes of a serving command are codes of a command
+-- the codes of the commands that serve lines
 abbrev pub of_lines : List ℕ
 of_lines = 0 ∷ 3 ∷ 4 ∷ 5 ∷ 6 ∷ 7 ∷ 9 ∷ 10 ∷ 11 ∷ 12 ∷ 15 ∷ []
+
+abbrev pub of_serve : List ℕ
+of_serve = 0 ∷ 3 ∷ 4 ∷ 5 ∷ 6 ∷ 7 ∷ 9 ∷ 12 ∷ []
+
+abbrev pub of_run : List ℕ
+of_run = 0 ∷ 3 ∷ 4 ∷ 5 ∷ 6 ∷ 7 ∷ 9 ∷ 10 ∷ 11 ∷ 12 ∷ []
+
+-- no client stands in the way of `serve`, and none of those that `run` has lacks a session
+pub serve_codes : (code : ℕ) → Contains of_lines code → (code ≡ 10 → ⊥) → (code ≡ 11 → ⊥) → (code ≡ 15 → ⊥) → Contains of_serve code
+serve_codes code (zero, inside, is) missing misfit opened = (0, omega arith, is)
+serve_codes code (suc zero, inside, is) missing misfit opened = (1, omega arith, is)
+serve_codes code (suc (suc zero), inside, is) missing misfit opened = (2, omega arith, is)
+serve_codes code (suc (suc (suc zero)), inside, is) missing misfit opened = (3, omega arith, is)
+serve_codes code (suc (suc (suc (suc zero))), inside, is) missing misfit opened = (4, omega arith, is)
+serve_codes code (suc (suc (suc (suc (suc zero)))), inside, is) missing misfit opened = (5, omega arith, is)
+serve_codes code (suc (suc (suc (suc (suc (suc zero))))), inside, is) missing misfit opened = (6, omega arith, is)
+serve_codes code (suc (suc (suc (suc (suc (suc (suc zero)))))), inside, is) missing misfit opened = absurd (missing (sym is))
+serve_codes code (suc (suc (suc (suc (suc (suc (suc (suc zero))))))), inside, is) missing misfit opened = absurd (misfit (sym is))
+serve_codes code (suc (suc (suc (suc (suc (suc (suc (suc (suc zero)))))))), inside, is) missing misfit opened = (7, omega arith, is)
+serve_codes code (suc (suc (suc (suc (suc (suc (suc (suc (suc (suc zero))))))))), inside, is) missing misfit opened = absurd (opened (sym is))
+serve_codes code (suc (suc (suc (suc (suc (suc (suc (suc (suc (suc (suc k)))))))))), inside, is) missing misfit opened = absurd (omega (arith, inside))
+
+pub run_codes : (code : ℕ) → Contains of_lines code → (code ≡ 15 → ⊥) → Contains of_run code
+run_codes code (zero, inside, is) opened = (0, omega arith, is)
+run_codes code (suc zero, inside, is) opened = (1, omega arith, is)
+run_codes code (suc (suc zero), inside, is) opened = (2, omega arith, is)
+run_codes code (suc (suc (suc zero)), inside, is) opened = (3, omega arith, is)
+run_codes code (suc (suc (suc (suc zero))), inside, is) opened = (4, omega arith, is)
+run_codes code (suc (suc (suc (suc (suc zero)))), inside, is) opened = (5, omega arith, is)
+run_codes code (suc (suc (suc (suc (suc (suc zero))))), inside, is) opened = (6, omega arith, is)
+run_codes code (suc (suc (suc (suc (suc (suc (suc zero)))))), inside, is) opened = (7, omega arith, is)
+run_codes code (suc (suc (suc (suc (suc (suc (suc (suc zero))))))), inside, is) opened = (8, omega arith, is)
+run_codes code (suc (suc (suc (suc (suc (suc (suc (suc (suc zero)))))))), inside, is) opened = (9, omega arith, is)
+run_codes code (suc (suc (suc (suc (suc (suc (suc (suc (suc (suc zero))))))))), inside, is) opened = absurd (opened (sym is))
+run_codes code (suc (suc (suc (suc (suc (suc (suc (suc (suc (suc (suc k)))))))))), inside, is) opened = absurd (omega (arith, inside))
 
 pub lines_codes : (code : ℕ) → Contains of_lines code → Contains (0 ∷ 3 ∷ 4 ∷ 5 ∷ 6 ∷ 7 ∷ 8 ∷ 9 ∷ 10 ∷ 11 ∷ 12 ∷ 13 ∷ 14 ∷ 15 ∷ []) code
 lines_codes code (zero, inside, is) = (0, omega arith, is)
@@ -124,6 +159,20 @@ check_codes code (suc (suc (suc zero)), inside, is) = (4, omega arith, is)
 check_codes code (suc (suc (suc (suc zero))), inside, is) = (5, omega arith, is)
 check_codes code (suc (suc (suc (suc (suc zero)))), inside, is) = (10, omega arith, is)
 check_codes code (suc (suc (suc (suc (suc (suc k))))), inside, is) = absurd (omega (arith, inside))
+
+-- codes of the command `export` are codes of a command
+abbrev pub of_export : List ℕ
+of_export = 0 ∷ 3 ∷ 5 ∷ 6 ∷ 7 ∷ 12 ∷ 14 ∷ []
+
+pub export_codes : (code : ℕ) → Contains of_export code → Contains (0 ∷ 3 ∷ 4 ∷ 5 ∷ 6 ∷ 7 ∷ 8 ∷ 9 ∷ 10 ∷ 11 ∷ 12 ∷ 13 ∷ 14 ∷ 15 ∷ []) code
+export_codes code (zero, inside, is) = (0, omega arith, is)
+export_codes code (suc zero, inside, is) = (1, omega arith, is)
+export_codes code (suc (suc zero), inside, is) = (3, omega arith, is)
+export_codes code (suc (suc (suc zero)), inside, is) = (4, omega arith, is)
+export_codes code (suc (suc (suc (suc zero))), inside, is) = (5, omega arith, is)
+export_codes code (suc (suc (suc (suc (suc zero)))), inside, is) = (10, omega arith, is)
+export_codes code (suc (suc (suc (suc (suc (suc zero))))), inside, is) = (12, omega arith, is)
+export_codes code (suc (suc (suc (suc (suc (suc (suc k)))))), inside, is) = absurd (omega (arith, inside))
 
 -- codes of the command `demo` are codes of a command
 abbrev pub of_demo : List ℕ

@@ -1,8 +1,10 @@
 -- Each command ends as its own clauses say.
-use Rattle.std.proofs.Common.{◌≡◌, ℕ, ◌≤◌, ◌^◌, zero, suc, ◌⊎◌, false, List, [], ◌∷◌, Option, Some, None, IfSome, length, refl, inl, inr, sym, arith}
+use Rattle.std.proofs.Common.{◌≡◌, ℕ, ◌<◌, ◌≤◌, ◌^◌, zero, suc, ◌⊎◌, List, [], ◌∷◌, Option, Some, None, IfSome, length, refl, sym, arith}
 use Rattle.std.specs.Prelude.{Contains, ◌≢◌}
 use Rattle.block_disk.specs.Counts.{HasRisen}
-use Rattle.block_disk.specs.View.{View, DiskKept}
+use Rattle.block_disk.specs.View.{View}
+use Rattle.chart_program.specs.Alone.{StaysAlone}
+use Rattle.chart_program.proofs.DiskKept.{alone_leaves, alone_holds}
 use Rattle.disk_store.specs.Held.{HoldsBook}
 use Rattle.disk_store.proofs.Opened.{is_large}
 use Rattle.series_book.specs.declared.one_series.Series.{Series}
@@ -12,8 +14,11 @@ use Rattle.store_commands.specs.Checked.{CheckEnds}
 use Rattle.store_commands.specs.Demonstrated.{DemoEnds}
 use Rattle.program_words.specs.declared.words.Command.TheVariants.{Plot, Load, Demo, Run, Serve, Draw, Init, Check}
 use Rattle.chart_program.specs.Served.{Says, Faults, Spelled, AreTexts}
+use Rattle.store_commands.specs.Away.{IsTurnedAway}
+use Rattle.store_commands.specs.Books.{HoldsAgain}
+use Rattle.chart_program.specs.CommandStatuses.{codes_of, IsBarred}
 use Rattle.chart_program.specs.Ended.{EndsBy}
-use Rattle.chart_program.specs.Ran.{CommandEnds, AreLines, AreReadings, StandsOn, IsRefused, IsBadInput, HasTooMuch, Lacks, Misfits, NamesUnopened, IsFrames, DrawsReplies, LeavesDisk, IsMade, IsTooSmall, IsThere, IsFree, of_done}
+use Rattle.chart_program.specs.Ran.{CommandEnds, AreLines, AreReadings, StandsOn, IsRefused, IsBadInput, HasTooMuch, Lacks, Misfits, NamesUnopened, IsFrames, IsOfReplies, DrawsReplies, LeavesDisk, IsMade, IsTooSmall, IsThere, IsFree, of_done}
 use Rattle.chart_program.specs.declared.draw_end.DrawEnd.TheVariants as draw_end
 use Rattle.chart_program.specs.Slots.{FirstBad, StoppedBefore}
 use Rattle.chart_program.specs.Plotted.{SendsPlot, SendsFront}
@@ -26,13 +31,13 @@ both_told None b P Q first second = tt
 both_told (Some input) None P Q first second = tt
 both_told (Some input) (Some bytes) P Q first second = (first, second)
 
-all_told : (o b : Option (List ℕ)) (P : Type 0) → P → IfSome o (λ input. IfSome b (λ bytes. P))
+pub all_told : (o b : Option (List ℕ)) (P : Type 0) → P → IfSome o (λ input. IfSome b (λ bytes. P))
 all_told None b P holds = tt
 all_told (Some input) None P holds = tt
 all_told (Some input) (Some bytes) P holds = holds
 
 -- a disk that holds a book isn't too small
-small_never : (old : View) (total : ℕ) (book : List Series) → HoldsBook (page_count old.size) total book old → old.size ≤ 127 → ⊥
+pub small_never : (old : View) (total : ℕ) (book : List Series) → HoldsBook (page_count old.size) total book old → old.size ≤ 127 → ⊥
 small_never old total book holds small = omega (arith, small, is_large old.size total old.image book (holds.images old.image holds.honest))
 
 -- with a good input it is done, a stream fails, or there is no memory
@@ -102,9 +107,15 @@ demo_complete : (seed rounds : ℕ) (old new : View) (left left' before now : Op
 demo_complete seed rounds old new None left' before now faults code place e = tt
 demo_complete seed rounds old new (Some input) left' before now faults code place e = λ good. demo_completed seed rounds old new input left' before now faults code place good e e.codes
 
-pub run_ends : (old new : View) (left left' before now : Option (List ℕ)) (faults : Faults) (code place : ℕ) → EndsBy AreTexts (Unit {0}) old new left left' before now faults code place → CommandEnds Run old new left left' before now faults code place
-run_ends old new left left' before now faults code place e = record {
+pub run_ends : (old new : View) (left left' before now : Option (List ℕ)) (faults : Faults) (code place : ℕ) → EndsBy AreTexts (Unit {0}) old new left left' before now faults code place → Contains (codes_of Run) code → (old.size < 128 → IsTurnedAway left left' before now code) → (code ≡ 7 → IsBarred (page_count old.size) new left left' before now place) → CommandEnds Run old new left left' before now faults code place
+run_ends old new left left' before now faults code place e own away bars = record {
   codes = lines_codes code e.codes;
+  own = own;
+  away = λ over. away;
+  untaken = λ none. absurd none;
+  bars = bars;
+  reads = tt;
+  unsent = λ is. absurd (never of_lines code 14 e.codes refl is);
   read = e.read;
   stopped = e.stopped;
   send = e.send;
@@ -128,16 +139,24 @@ run_ends old new left left' before now faults code place e = record {
   part = e.part;
   nothing = λ some unsent quiet. absurd (quiet tt);
   pictures = λ is command. cc;
+  holds = e.holds;
   crash = e.crash;
   disk = e.goes_on;
   made = λ is. tt;
   complete = lines_complete AreTexts (Unit {0}) old new left left' before now faults code place e;
+  drawn = λ command. cc;
   ready = λ command. cc;
 }
 
-pub serve_ends : (old new : View) (left left' before now : Option (List ℕ)) (faults : Faults) (code place : ℕ) → EndsBy Spelled ⊥ old new left left' before now faults code place → CommandEnds Serve old new left left' before now faults code place
-serve_ends old new left left' before now faults code place e = record {
+pub serve_ends : (old new : View) (left left' before now : Option (List ℕ)) (faults : Faults) (code place : ℕ) → EndsBy Spelled ⊥ old new left left' before now faults code place → Contains (codes_of Serve) code → (old.size < 128 → IsTurnedAway left left' before now code) → (code ≡ 7 → IsBarred (page_count old.size) new left left' before now place) → CommandEnds Serve old new left left' before now faults code place
+serve_ends old new left left' before now faults code place e own away bars = record {
   codes = lines_codes code e.codes;
+  own = own;
+  away = λ over. away;
+  untaken = λ none. absurd none;
+  bars = bars;
+  reads = tt;
+  unsent = λ is. absurd (never of_lines code 14 e.codes refl is);
   read = e.read;
   stopped = e.stopped;
   send = e.send;
@@ -161,10 +180,12 @@ serve_ends old new left left' before now faults code place e = record {
   part = e.part;
   nothing = λ some unsent quiet. absurd (quiet tt);
   pictures = λ is command. cc;
+  holds = e.holds;
   crash = e.crash;
   disk = e.goes_on;
   made = λ is. tt;
   complete = lines_complete Spelled ⊥ old new left left' before now faults code place e;
+  drawn = λ command. cc;
   ready = λ command. cc;
 }
 
@@ -173,9 +194,15 @@ refused_told : (name : List ℕ) (old new : View) (left left' : Option (List ℕ
 refused_told name old new None left' place refused unknown = tt
 refused_told name old new (Some input) left' place refused unknown = (refused, unknown)
 
-pub load_ends : (name : List ℕ) (old new : View) (left left' before now : Option (List ℕ)) (faults : Faults) (code place : ℕ) → LoadEnds name old new left left' before now faults.reads faults.reads_now faults.sends faults.sends_now code place → CommandEnds (Load name) old new left left' before now faults code place
-load_ends name old new left left' before now faults code place e = record {
+pub load_ends : (name : List ℕ) (old new : View) (left left' before now : Option (List ℕ)) (faults : Faults) (code place : ℕ) → LoadEnds name old new left left' before now faults.reads faults.reads_now faults.sends faults.sends_now code place → (old.size < 128 → IsTurnedAway left left' before now code) → (code ≢ 6 → HoldsAgain (page_count old.size) old new) → CommandEnds (Load name) old new left left' before now faults code place
+load_ends name old new left left' before now faults code place e away holds = record {
   codes = load_codes code e.codes;
+  own = e.codes;
+  away = λ over. away;
+  untaken = λ none. absurd none;
+  bars = λ is. e.nothing (omega (arith, is)) (omega (arith, is));
+  reads = tt;
+  unsent = λ is. e.nothing (omega (arith, is)) (omega (arith, is));
   read = e.read;
   stopped = e.stopped;
   send = e.send;
@@ -199,16 +226,24 @@ load_ends name old new left left' before now faults code place e = record {
   part = e.part;
   nothing = λ some unsent quiet. e.nothing some unsent;
   pictures = λ is command. cc;
+  holds = λ other. told_all left _ (holds other);
   crash = both_told left before _ _ e.crash (λ total book holds none. (e.unnamed total book holds none).moments);
   disk = e.goes_on;
   made = λ is. tt;
   complete = load_complete name old new left left' before now faults code place e;
+  drawn = λ command. cc;
   ready = λ command. cc;
 }
 
-pub check_ends : (old new : View) (left left' before now : Option (List ℕ)) (faults : Faults) (code place : ℕ) → CheckEnds old new before now faults.sends faults.sends_now code place → CommandEnds Check old new left left' before now faults code place
-check_ends old new left left' before now faults code place e = record {
+pub check_ends : (old new : View) (left left' before now : Option (List ℕ)) (faults : Faults) (code place : ℕ) → CheckEnds old new before now faults.sends faults.sends_now code place → (old.size < 128 → IsTurnedAway left left' before now code) → left' ≡ left → CommandEnds Check old new left left' before now faults code place
+check_ends old new left left' before now faults code place e away untaken = record {
   codes = check_codes code e.codes;
+  own = e.codes;
+  away = λ over. away;
+  untaken = λ none. untaken;
+  bars = λ is. e.nothing (omega (arith, is)) (omega (arith, is));
+  reads = tt;
+  unsent = λ is. absurd (never of_check code 14 e.codes refl is);
   read = λ is. absurd (never of_check code 4 e.codes refl is);
   stopped = λ is. absurd (never of_check code 4 e.codes refl is);
   send = e.send;
@@ -232,16 +267,24 @@ check_ends old new left left' before now faults code place e = record {
   part = λ is. told_all left _ (e.part is);
   nothing = λ some unsent quiet. e.nothing some unsent;
   pictures = λ is command. cc;
+  holds = λ other. told_all left _ (λ total book held. (book, e.holds total book held));
   crash = all_told left before _ e.crash;
   disk = e.goes_on;
   made = λ is. tt;
   complete = check_complete old new left left' before now faults code place e;
+  drawn = λ command. cc;
   ready = λ command. cc;
 }
 
-pub demo_ends : (seed rounds : ℕ) (old new : View) (left left' before now : Option (List ℕ)) (faults : Faults) (code place : ℕ) → DemoEnds seed rounds old new before now faults.sends faults.sends_now code place → CommandEnds (Demo seed rounds) old new left left' before now faults code place
-demo_ends seed rounds old new left left' before now faults code place e = record {
+pub demo_ends : (seed rounds : ℕ) (old new : View) (left left' before now : Option (List ℕ)) (faults : Faults) (code place : ℕ) → DemoEnds seed rounds old new before now faults.sends faults.sends_now code place → (old.size < 128 → IsTurnedAway left left' before now code) → left' ≡ left → (code ≢ 6 → HoldsAgain (page_count old.size) old new) → CommandEnds (Demo seed rounds) old new left left' before now faults code place
+demo_ends seed rounds old new left left' before now faults code place e away untaken holds = record {
   codes = demo_codes code e.codes;
+  own = e.codes;
+  away = λ over. away;
+  untaken = λ none. untaken;
+  bars = λ is. e.nothing (omega (arith, is)) (omega (arith, is));
+  reads = tt;
+  unsent = λ is. absurd (never of_demo code 14 e.codes refl is);
   read = λ is. absurd (never of_demo code 4 e.codes refl is);
   stopped = λ is. absurd (never of_demo code 4 e.codes refl is);
   send = e.send;
@@ -265,10 +308,12 @@ demo_ends seed rounds old new left left' before now faults code place e = record
   part = λ is. told_all left _ (e.part is);
   nothing = λ some unsent quiet. e.nothing some unsent;
   pictures = λ is command. cc;
+  holds = λ other. told_all left _ (holds other);
   crash = all_told left before _ e.crash;
   disk = e.goes_on;
   made = λ is. tt;
   complete = demo_complete seed rounds old new left left' before now faults code place e;
+  drawn = λ command. cc;
   ready = λ command. cc;
 }
 
@@ -293,9 +338,15 @@ never_input : (o : Option (List ℕ)) (D : Type 0) → IfSome o (λ input. ⊥ �
 never_input None D = tt
 never_input (Some input) D = λ none. absurd none
 
-pub plot_ends : (w h : ℕ) (old new : View) (left left' before now : Option (List ℕ)) (faults : Faults) (code place : ℕ) → Contains of_plot code → (code ≡ 4 → HasRisen faults.reads faults.reads_now) → (code ≡ 4 → IfSome left (λ input. IfSome left' (StoppedBefore input))) → (code ≡ 5 → HasRisen faults.sends faults.sends_now) → (code ≡ 8 → IfSome left (λ input. FirstBad input place)) → (code ≡ 9 → IfSome left (λ input. HasTooMuch input place)) → (code ≢ 8 → code ≢ 9 → place ≡ 0) → (code ≡ 0 → IfSome left (λ input. SendsPlot w h input before now)) → (code ≡ 0 → IfSome left (λ input. length input ≤ 2 ^ 32)) → (code ≡ 5 → IfSome left (λ input. SendsFront w h input before now)) → (code ≢ 0 → code ≢ 5 → now ≡ before) → DiskKept old new → CommandEnds (Plot w h) old new left left' before now faults code place
+pub plot_ends : (w h : ℕ) (old new : View) (left left' before now : Option (List ℕ)) (faults : Faults) (code place : ℕ) → Contains of_plot code → (code ≡ 4 → HasRisen faults.reads faults.reads_now) → (code ≡ 4 → IfSome left (λ input. IfSome left' (StoppedBefore input))) → (code ≡ 5 → HasRisen faults.sends faults.sends_now) → (code ≡ 8 → IfSome left (λ input. FirstBad input place)) → (code ≡ 9 → IfSome left (λ input. HasTooMuch input place)) → (code ≢ 8 → code ≢ 9 → place ≡ 0) → (code ≡ 0 → IfSome left (λ input. SendsPlot w h input before now)) → (code ≡ 0 → IfSome left (λ input. length input ≤ 2 ^ 32)) → (code ≡ 5 → IfSome left (λ input. SendsFront w h input before now)) → (code ≢ 0 → code ≢ 5 → now ≡ before) → StaysAlone old new → CommandEnds (Plot w h) old new left left' before now faults code place
 plot_ends w h old new left left' before now faults code place codes read stopped send bad much zeros done within part nothing disk = record {
   codes = plot_codes code codes;
+  own = codes;
+  away = λ over. absurd over;
+  untaken = λ none. absurd none;
+  bars = λ is. absurd (never of_plot code 7 codes refl is);
+  reads = tt;
+  unsent = λ is. absurd (never of_plot code 14 codes refl is);
   read = read;
   stopped = stopped;
   send = send;
@@ -319,16 +370,24 @@ plot_ends w h old new left left' before now faults code place codes read stopped
   part = part;
   nothing = λ some unsent quiet. nothing some unsent;
   pictures = λ is command. cc;
-  crash = all_told left before _ tt;
-  disk = disk;
+  holds = λ other. told_all left _ (alone_holds old new disk);
+  crash = all_told left before _ (alone_leaves old new disk);
+  disk = disk.kept;
   made = λ is. tt;
   complete = plot_complete left code place codes bad much;
+  drawn = λ command. cc;
   ready = λ command. cc;
 }
 
-pub draw_ends : (old new : View) (left left' before now : Option (List ℕ)) (faults : Faults) (code place : ℕ) → Contains of_draw code → (code ≡ 4 → HasRisen faults.reads faults.reads_now) → (code ≡ 5 → HasRisen faults.sends faults.sends_now) → (Contains (0 ∷ 3 ∷ 4 ∷ 5 ∷ []) code → place ≡ 0) → (code ≡ 0 → IfSome left (λ input. DrawsAll input before now)) → (code ≡ 0 → IfSome left (λ input. length input ≤ 2 ^ 32)) → (code ≡ 0 → IfSome left (λ input. DrawsReplies input before now)) → (code ≡ 5 → IfSome left (λ input. StopsAtFrame input before now draw_end.SendFault)) → (code ≡ 4 → IfSome left (λ input. IfSome left' (λ bytes. DrawsTaken input bytes before now))) → (code ≡ 3 → IfSome left (λ input. StopsAtFrame input before now draw_end.NoMemory)) → (code ≡ 9 → place ≡ 2 ^ 32) → (code ≡ 9 → IfSome left (λ input. DrawsWithin input before now)) → (code ≡ 8 → IfSome left (λ input. IsBadInput Draw old new input place before now)) → (code ≡ 10 → IfSome left (λ input. Lacks Draw old input place before now)) → (code ≡ 11 → IfSome left (λ input. Misfits Draw old input place before now)) → (code ≡ 15 → IfSome left (λ input. NamesUnopened Draw old input place before now)) → (IfSome left (λ input. IsFrames input → Contains (0 ∷ 3 ∷ 4 ∷ 5 ∷ []) code)) → DiskKept old new → CommandEnds Draw old new left left' before now faults code place
-draw_ends old new left left' before now faults code place codes read send zeros done within pictures part stopped memory much past bad missing misfit unopened good disk = record {
+pub draw_ends : (old new : View) (left left' before now : Option (List ℕ)) (faults : Faults) (code place : ℕ) → Contains of_draw code → (code ≡ 4 → HasRisen faults.reads faults.reads_now) → (code ≡ 5 → HasRisen faults.sends faults.sends_now) → (Contains (0 ∷ 3 ∷ 4 ∷ 5 ∷ []) code → place ≡ 0) → (code ≡ 0 → IfSome left (λ input. DrawsAll input before now)) → (code ≡ 0 → IfSome left (λ input. length input ≤ 2 ^ 32)) → (code ≡ 0 → IfSome left (λ input. DrawsReplies input before now)) → (code ≡ 5 → IfSome left (λ input. StopsAtFrame input before now draw_end.SendFault)) → (code ≡ 4 → IfSome left (λ input. IfSome left' (λ bytes. DrawsTaken input bytes before now))) → (code ≡ 3 → IfSome left (λ input. StopsAtFrame input before now draw_end.NoMemory)) → (code ≡ 9 → place ≡ 2 ^ 32) → (code ≡ 9 → IfSome left (λ input. DrawsWithin input before now)) → (code ≡ 8 → IfSome left (λ input. IsBadInput Draw old new input place before now)) → (code ≡ 10 → IfSome left (λ input. Lacks Draw old input place before now)) → (code ≡ 11 → IfSome left (λ input. Misfits Draw old input place before now)) → (code ≡ 15 → IfSome left (λ input. NamesUnopened Draw old input place before now)) → (IfSome left (λ input. IsFrames input → Contains (0 ∷ 3 ∷ 4 ∷ 5 ∷ []) code)) → (IfSome left (λ input. IsOfReplies input → Contains (0 ∷ 3 ∷ 4 ∷ 5 ∷ []) code)) → StaysAlone old new → CommandEnds Draw old new left left' before now faults code place
+draw_ends old new left left' before now faults code place codes read send zeros done within pictures part stopped memory much past bad missing misfit unopened good replied disk = record {
   codes = draw_codes code codes;
+  own = codes;
+  away = λ over. absurd over;
+  untaken = λ none. absurd none;
+  bars = λ is. absurd (never of_draw code 7 codes refl is);
+  reads = tt;
+  unsent = λ is. absurd (never of_draw code 14 codes refl is);
   read = read;
   stopped = stopped;
   send = send;
@@ -352,16 +411,24 @@ draw_ends old new left left' before now faults code place codes read send zeros 
   part = part;
   nothing = λ some unsent quiet. absurd (quiet tt);
   pictures = λ is command. pictures is;
-  crash = all_told left before _ tt;
-  disk = disk;
+  holds = λ other. told_all left _ (alone_holds old new disk);
+  crash = all_told left before _ (alone_leaves old new disk);
+  disk = disk.kept;
   made = λ is. tt;
   complete = good;
+  drawn = λ command. replied;
   ready = λ command. cc;
 }
 
-pub init_ends : (old new : View) (left left' before now : Option (List ℕ)) (faults : Faults) (code place : ℕ) → Contains of_init code → (code ≡ 6 → HasRisen old.faults new.faults) → (code ≡ 12 → IsTooSmall Init old place) → (code ≡ 13 → IsThere Init old place) → (Contains (0 ∷ 3 ∷ 6 ∷ []) code → place ≡ 0) → now ≡ before → LeavesDisk Init old new → (code ≡ 0 → IsMade Init old new) → (IsFree old → (HasRisen old.faults new.faults → ⊥) → (code ≡ 0) ⊎ (code ≡ 3)) → CommandEnds Init old new left left' before now faults code place
-init_ends old new left left' before now faults code place codes fault small there zeros sent disk made ready = record {
+pub init_ends : (old new : View) (left left' before now : Option (List ℕ)) (faults : Faults) (code place : ℕ) → Contains of_init code → (old.size < 128 → IsTurnedAway left left' before now code) → left' ≡ left → (code ≡ 6 → HasRisen old.faults new.faults) → (code ≡ 12 → IsTooSmall Init old place) → (code ≡ 13 → IsThere Init old place) → (Contains (0 ∷ 3 ∷ 6 ∷ []) code → place ≡ 0) → now ≡ before → LeavesDisk Init old new → (code ≡ 0 → IsMade Init old new) → (IsFree old → (HasRisen old.faults new.faults → ⊥) → (code ≡ 0) ⊎ (code ≡ 3)) → CommandEnds Init old new left left' before now faults code place
+init_ends old new left left' before now faults code place codes away untaken fault small there zeros sent disk made ready = record {
   codes = init_codes code codes;
+  own = codes;
+  away = λ over. away;
+  untaken = λ none. untaken;
+  bars = λ is. absurd (never of_init code 7 codes refl is);
+  reads = tt;
+  unsent = λ is. absurd (never of_init code 14 codes refl is);
   read = λ is. absurd (never of_init code 4 codes refl is);
   stopped = λ is. absurd (never of_init code 4 codes refl is);
   send = λ is. absurd (never of_init code 5 codes refl is);
@@ -385,9 +452,11 @@ init_ends old new left left' before now faults code place codes fault small ther
   part = λ is. absurd (never of_init code 5 codes refl is);
   nothing = λ some unsent quiet. sent;
   pictures = λ is command. cc;
+  holds = λ other. told_all left _ tt;
   crash = all_told left before _ tt;
   disk = disk;
   made = made;
   complete = never_input left _;
+  drawn = λ command. cc;
   ready = λ command. ready;
 }

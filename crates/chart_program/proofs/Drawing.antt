@@ -4,6 +4,7 @@ use Rattle.std.specs.Prelude.{flat_map}
 use Rattle.std.proofs.lemmas.List.Elements.{All-nil, All-cons, All-append}
 use Rattle.std.proofs.lemmas.List.{take-take, take-append-drop, length-drop, append-nil}
 use Rattle.std.proofs.lemmas.Grind.{flat_map-append}
+use Rattle.std.proofs.Math.Seq.{take-append-add}
 use Rattle.line_raster.specs.Canvas.{Canvas}
 use Rattle.block_disk.specs.Streams.{sent_after, Given, left_after}
 use Rattle.chart_frames.specs.declared.frame.Frame.{Frame}
@@ -173,7 +174,8 @@ pub no_memory_first : (o left before : Option (List ℕ)) (end : DrawEnd) → en
 no_memory_first None left before end is = tt
 no_memory_first (Some input) left before end is =
     let P : DrawEnd → Type 0 = λ x. EndsDraw input left before before x in
-    subst P (sym is) (record { rest = held 0 input; client = []; sent_first = before; first = drawn_none (held 0 input) [] before; stops = refl })
+    let front = take (2 ^ 32) input in
+    subst P (sym is) (record { rest = held 0 front; client = []; sent_first = before; first = drawn_none (held 0 front) [] before; stops = refl })
 
 -- ---- pieces
 
@@ -224,8 +226,8 @@ read_all (Some input) left count buffer at h taken most before now given none em
     read_all_at input drawn.0 at h taken most before now (none_left count drawn.0 buffer left given drawn.1 none) empty counted few drawn.2
 
 cut_at : (input bytes : List ℕ) (at : Pending) (h : List Holding) (taken : ℕ) (before now : Option (List ℕ)) → bytes ≡ [] → 0 < length at.rest
-    → IsPartial at → taken ≡ at.given + length at.rest → DrawsFirst input (held at.given (at.rest ++ bytes)) h before now → IsCut input taken before now
-cut_at input bytes at h taken before now none some partial counted first =
+    → IsPartial at → taken ≡ at.given + length at.rest → taken ≤ 2 ^ 32 → DrawsFirst input (held at.given (at.rest ++ bytes)) h before now → IsCut input taken before now
+cut_at input bytes at h taken before now none some partial counted few first =
     let rest_is : at.rest ++ bytes ≡ at.rest = ap (λ l. at.rest ++ l) none ∙ append-nil at.rest in
     record {
       rest = held at.given (at.rest ++ bytes);
@@ -234,15 +236,16 @@ cut_at input bytes at h taken before now none some partial counted first =
       some = omega (arith, some, ap length rest_is);
       unended = subst IsFront (sym rest_is) (front_of at partial);
       end = omega (arith, counted, first.given, ap length first.split, ap length rest_is, length-append (flat_map spelling first.frames) (at.rest ++ bytes));
+      few = few;
     }
 
 pub cut_so : (o left left' : Option (List ℕ)) (count : ℕ) (buffer : List ℕ) (at : Pending) (h : List Holding) (taken : ℕ) (before now : Option (List ℕ)) (end : DrawEnd)
-    → IfSome left (λ told. Given count told buffer) → count ≡ 0 → end ≡ BadFrame taken → 0 < length at.rest → IsPartial at → taken ≡ at.given + length at.rest
+    → IfSome left (λ told. Given count told buffer) → count ≡ 0 → end ≡ BadFrame taken → 0 < length at.rest → IsPartial at → taken ≡ at.given + length at.rest → taken ≤ 2 ^ 32
     → DrawnOf o left at h before now → IfSome o (λ input. EndsDraw input left' before now end)
-cut_so None left left' count buffer at h taken before now end given none is some partial counted drawn = tt
-cut_so (Some input) left left' count buffer at h taken before now end given none is some partial counted drawn =
+cut_so None left left' count buffer at h taken before now end given none is some partial counted few drawn = tt
+cut_so (Some input) left left' count buffer at h taken before now end given none is some partial counted few drawn =
     let P : DrawEnd → Type 0 = λ e. EndsDraw input left' before now e in
-    subst P (sym is) (inl (cut_at input drawn.0 at h taken before now (none_left count drawn.0 buffer left given drawn.1 none) some partial counted drawn.2))
+    subst P (sym is) (inl (cut_at input drawn.0 at h taken before now (none_left count drawn.0 buffer left given drawn.1 none) some partial counted few drawn.2))
 
 -- at a take that failed
 pub taken_so : (o left left' : Option (List ℕ)) (at : Pending) (h : List Holding) (before now now' : Option (List ℕ)) (end : DrawEnd) → end ≡ ReadFault → left' ≡ left → now' ≡ now
@@ -354,15 +357,47 @@ stops_wide stay at more h before now (Missing key) s = next_wide at more h befor
 stops_wide stay at more h before now (BadCoefficient key) s = next_wide at more h before now (BadCoefficient key) s
 stops_wide stay at more h before now (UnknownSession n) s = next_wide at more h before now (UnknownSession n) s
 
-stopped_at : Stay → (input bytes piece : List ℕ) (fits : ℕ) (at : Pending) (h : List Holding) (before now now' : Option (List ℕ)) (end : DrawEnd) → piece ≡ take fits bytes
+-- the first bytes of a list, where it begins with fewer
+narrow : (input front rest : List ℕ) (most : ℕ) → input ≡ front ++ rest → length front ≤ most → take most input ≡ front ++ take (most - length front) rest
+narrow input front rest most is few =
+    let sum : most ≡ length front + (most - length front) = omega (arith, few) in
+    ap (take most) is ∙ ap (λ n. take n (front ++ rest)) sum ∙ take-append-add front rest (most - length front)
+
+-- what stands behind a piece, of the first 2^32 bytes
+abbrev behind : List Frame → Pending → List ℕ → List ℕ → ℕ → List ℕ
+behind frames at piece bytes fits = take (2 ^ 32 - length (flat_map spelling frames ++ (at.rest ++ piece))) (drop fits bytes)
+
+-- the frames before are those of the first 2^32 bytes
+drawn_narrow : (input bytes piece : List ℕ) (fits : ℕ) (at : Pending) (h : List Holding) (before now : Option (List ℕ)) → piece ≡ take fits bytes → at.given + length at.rest + length piece ≤ 2 ^ 32
+    → (first : DrawsFirst input (held at.given (at.rest ++ bytes)) h before now) → DrawsFirst (take (2 ^ 32) input) (held at.given ((at.rest ++ piece) ++ behind first.frames at piece bytes fits)) h before now
+drawn_narrow input bytes piece fits at h before now is room first =
+    let spelled = flat_map spelling first.frames in
+    let fed_bytes = at.rest ++ piece in
+    let split : input ≡ (spelled ++ fed_bytes) ++ drop fits bytes =
+    first.split ∙ ap (λ l. spelled ++ l) (parted fits bytes piece at.rest is) ∙ sym (append_assoc spelled fed_bytes (drop fits bytes)) in
+    let few : length (spelled ++ fed_bytes) ≤ 2 ^ 32 = omega (arith, room, first.given, length-append spelled fed_bytes, length-append at.rest piece) in
+    record {
+      frames = first.frames;
+      fit = first.fit;
+      split = narrow input (spelled ++ fed_bytes) (drop fits bytes) (2 ^ 32) split few ∙ append_assoc spelled fed_bytes (behind first.frames at piece bytes fits);
+      given = first.given;
+      drawings = first.drawings;
+      accepted = first.accepted;
+      sent = first.sent;
+    }
+
+stopped_at : Stay → (input bytes piece : List ℕ) (fits : ℕ) (at : Pending) (h : List Holding) (before now now' : Option (List ℕ)) (end : DrawEnd) → piece ≡ take fits bytes → at.given + length at.rest + length piece ≤ 2 ^ 32
     → DrawsFirst input (held at.given (at.rest ++ bytes)) h before now → PieceStops piece at h now now' end → StopsAtFrame input before now' end
-stopped_at stay input bytes piece fits at h before now now' end is first s = record {
-  rest = held s.rest.given (s.rest.rest ++ drop fits bytes);
-  client = s.client;
-  sent_first = s.sent_first;
-  first = drawn_piece_at input bytes piece fits at s.rest h s.client before now s.sent_first is first s.first;
-  stops = stops_wide stay s.rest (drop fits bytes) s.client s.sent_first now' end s.stops;
-}
+stopped_at stay input bytes piece fits at h before now now' end is room first s =
+    let more = behind first.frames at piece bytes fits in
+    record {
+      rest = held s.rest.given (s.rest.rest ++ more);
+      client = s.client;
+      sent_first = s.sent_first;
+      first = drawn_then (held 0 (take (2 ^ 32) input)) (held at.given ((at.rest ++ piece) ++ more)) (held s.rest.given (s.rest.rest ++ more)) [] h s.client before now s.sent_first
+          (drawn_narrow input bytes piece fits at h before now is room first) (drawn_wide (fed piece at) s.rest more h s.client now s.sent_first s.first);
+      stops = stops_wide stay s.rest more s.client s.sent_first now' end s.stops;
+    }
 
 ends_at : (input : List ℕ) (left before now : Option (List ℕ)) (end : DrawEnd) → StopsAtFrame input before now end → EndsDraw input left before now end
 ends_at input left before now NoMemory s = s
@@ -375,14 +410,14 @@ ends_at input left before now (BadCoefficient key) s = s
 ends_at input left before now (UnknownSession n) s = s
 
 pub stopped_so : Stay → (o left left' : Option (List ℕ)) (fits count : ℕ) (buffer piece : List ℕ) (at : Pending) (h : List Holding) (before now now' : Option (List ℕ)) (end : DrawEnd)
-    → IfSome left (λ told. Given count told buffer) → fits ≤ count → piece ≡ take fits buffer → PieceStops piece at h now now' end → DrawnOf o left at h before now
+    → IfSome left (λ told. Given count told buffer) → fits ≤ count → piece ≡ take fits buffer → at.given + length at.rest + length piece ≤ 2 ^ 32 → PieceStops piece at h now now' end → DrawnOf o left at h before now
     → IfSome o (λ input. EndsDraw input left' before now' end)
-stopped_so stay None left left' fits count buffer piece at h before now now' end given less is s drawn = tt
-stopped_so stay (Some input) left left' fits count buffer piece at h before now now' end given less is s drawn =
+stopped_so stay None left left' fits count buffer piece at h before now now' end given less is room s drawn = tt
+stopped_so stay (Some input) left left' fits count buffer piece at h before now now' end given less is room s drawn =
     let G : Option (List ℕ) → Type 0 = λ l. IfSome l (λ told. Given count told buffer) in
     let here : Given count drawn.0 buffer = subst G drawn.1 given in
     let front = piece_is fits count drawn.0 buffer piece here less is in
-    ends_at input left' before now' end (stopped_at stay input drawn.0 piece fits at h before now now' end front drawn.2 s)
+    ends_at input left' before now' end (stopped_at stay input drawn.0 piece fits at h before now now' end front room drawn.2 s)
 
 -- a take leaves what was drawn
 pub drawn_sent : (o left : Option (List ℕ)) (at : Pending) (h : List Holding) (before now now' : Option (List ℕ)) → now' ≡ now → DrawnOf o left at h before now → DrawnOf o left at h before now'

@@ -1,5 +1,5 @@
 -- How a serving command ends, by its status.
-use Rattle.std.proofs.Common.{◌≡◌, ℕ, ◌^◌, ◌≤◌, List, [], ◌∷◌, Option, Some, None, Result, Ok, Err, IfSome, refl, sym, subst, inl, inr, arith}
+use Rattle.std.proofs.Common.{◌≡◌, ℕ, ◌^◌, List, Option, Some, None, Result, Ok, Err, IfSome, refl, sym, subst, inl, inr, arith}
 use Rattle.std.specs.Prelude.{IfErr}
 use Rattle.block_disk.specs.View.{View}
 use Rattle.chart_client.specs.declared.errors.ClientError.TheVariants as client
@@ -47,6 +47,7 @@ ends_by IsText CanShow old new left left' before now faults (Ok u) s = record {
   small = λ is. apart is refl;
   opened = λ is. apart is refl;
   zero_place = λ is. refl;
+  holds = λ other. s.holds (λ e. cc);
   crash = s.crash;
   goes_on = s.goes_on;
 }
@@ -69,6 +70,7 @@ ends_by IsText CanShow old new left left' before now faults (Err (lines_end.Open
   small = λ is. (s.cause.0, omega (arith, s.cause.0, s.cause.1));
   opened = λ is. apart is refl;
   zero_place = λ is. absurd (omega (arith, low_code 12 is));
+  holds = λ other. s.holds (λ e. cc);
   crash = s.crash;
   goes_on = s.goes_on;
 }
@@ -83,7 +85,7 @@ ends_by IsText CanShow old new left left' before now faults (Err (lines_end.Open
   part = λ is. apart is refl;
   fault = λ is. apart is refl;
   faulted = λ is. apart is refl;
-  damaged = λ is. (s.cause.1.0, inl s.cause.1.1);
+  damaged = λ is. inl s.cause.1;
   undamaged = λ is. told_first left _ _ s.ends;
   much = λ is. apart is refl;
   missing = λ is. apart is refl;
@@ -91,6 +93,7 @@ ends_by IsText CanShow old new left left' before now faults (Err (lines_end.Open
   small = λ is. apart is refl;
   opened = λ is. apart is refl;
   zero_place = λ is. absurd (omega (arith, low_code 7 is));
+  holds = λ other. s.holds (λ e. cc);
   crash = s.crash;
   goes_on = s.goes_on;
 }
@@ -113,6 +116,7 @@ ends_by IsText CanShow old new left left' before now faults (Err (lines_end.Open
   small = λ is. apart is refl;
   opened = λ is. apart is refl;
   zero_place = λ is. refl;
+  holds = λ other. absurd (other refl);
   crash = s.crash;
   goes_on = s.goes_on;
 }
@@ -135,6 +139,7 @@ ends_by IsText CanShow old new left left' before now faults (Err (lines_end.Open
   small = λ is. apart is refl;
   opened = λ is. apart is refl;
   zero_place = λ is. refl;
+  holds = λ other. s.holds (λ e. cc);
   crash = s.crash;
   goes_on = s.goes_on;
 }
@@ -157,6 +162,7 @@ ends_by IsText CanShow old new left left' before now faults (Err (lines_end.Answ
   small = λ is. apart is refl;
   opened = λ is. apart is refl;
   zero_place = λ is. refl;
+  holds = λ other. s.holds (λ e. cc);
   crash = s.crash;
   goes_on = s.goes_on;
 }
@@ -179,6 +185,7 @@ ends_by IsText CanShow old new left left' before now faults (Err (lines_end.Answ
   small = λ is. apart is refl;
   opened = λ is. apart is refl;
   zero_place = λ is. refl;
+  holds = λ other. s.holds (λ e. cc);
   crash = s.crash;
   goes_on = s.goes_on;
 }
@@ -201,6 +208,7 @@ ends_by IsText CanShow old new left left' before now faults (Err (lines_end.Answ
   small = λ is. apart is refl;
   opened = λ is. apart is refl;
   zero_place = λ is. refl;
+  holds = λ other. absurd (other refl);
   crash = s.crash;
   goes_on = s.goes_on;
 }
@@ -215,7 +223,7 @@ ends_by IsText CanShow old new left left' before now faults (Err (lines_end.Answ
   part = λ is. apart is refl;
   fault = λ is. apart is refl;
   faulted = λ is. apart is refl;
-  damaged = λ is. (inr (omega arith), inr s.cause);
+  damaged = λ is. inr s.cause;
   undamaged = λ is. s.ends;
   much = λ is. apart is refl;
   missing = λ is. apart is refl;
@@ -223,6 +231,7 @@ ends_by IsText CanShow old new left left' before now faults (Err (lines_end.Answ
   small = λ is. apart is refl;
   opened = λ is. apart is refl;
   zero_place = λ is. absurd (omega (arith, low_code 7 is));
+  holds = λ other. s.holds (λ e. cc);
   crash = s.crash;
   goes_on = s.goes_on;
 }
@@ -245,6 +254,7 @@ ends_by IsText CanShow old new left left' before now faults (Err (lines_end.Answ
   small = λ is. apart is refl;
   opened = λ is. apart is refl;
   zero_place = λ is. absurd (omega (arith, low_code 9 is));
+  holds = λ other. s.holds (λ e. cc);
   crash = s.crash;
   goes_on = s.goes_on;
 }
@@ -267,6 +277,7 @@ ends_by IsText CanShow old new left left' before now faults (Err (lines_end.Answ
   small = λ is. apart is refl;
   opened = λ is. apart is refl;
   zero_place = λ is. refl;
+  holds = λ other. s.holds (λ e. cc);
   crash = s.crash;
   goes_on = s.goes_on;
 }
@@ -289,6 +300,7 @@ ends_by IsText CanShow old new left left' before now faults (Err (lines_end.Answ
   small = λ is. apart is refl;
   opened = λ is. apart is refl;
   zero_place = λ is. absurd (omega (arith, low_code 10 is));
+  holds = λ other. s.holds (λ e. cc);
   crash = s.crash;
   goes_on = s.goes_on;
 }
@@ -311,6 +323,7 @@ ends_by IsText CanShow old new left left' before now faults (Err (lines_end.Answ
   small = λ is. apart is refl;
   opened = λ is. apart is refl;
   zero_place = λ is. absurd (omega (arith, low_code 11 is));
+  holds = λ other. s.holds (λ e. cc);
   crash = s.crash;
   goes_on = s.goes_on;
 }
@@ -334,6 +347,7 @@ ends_by IsText CanShow old new left left' before now faults (Err (lines_end.Answ
   small = λ is. apart is refl;
   opened = λ is. apart is refl;
   zero_place = λ is. refl;
+  holds = λ other. s.holds (λ e. cc);
   crash = s.crash;
   goes_on = s.goes_on;
 }

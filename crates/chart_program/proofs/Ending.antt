@@ -1,7 +1,7 @@
 -- How the reading of slots begins, and how it ends.
 use Rattle.std.proofs.Common.{◌≡◌, ℕ, ℤ, ◌+◌, ◌-◌, ◌^◌, ◌<◌, ◌≤◌, List, [], ◌∷◌, ◌++◌, length, take, drop, Option, Some, None, IfSome, refl, ap, subst, inl, inr, sym, ◌∙◌, arith, length-append, pos, negsuc}
 use Rattle.std.specs.Prelude.{All, true, if◌then◌else◌}
-use Rattle.std.specs.List.{filter}
+use Rattle.std.specs.List.{filter, after_first}
 use Rattle.std.specs.Fmt.{decimal}
 use Rattle.std.proofs.lemmas.Fmt.{decimal_nonempty}
 use Rattle.std.proofs.lemmas.List.{take-append-drop, append-nil}
@@ -9,10 +9,11 @@ use Rattle.std.proofs.lemmas.List.Elements.{All-nil, All-cons, All-append}
 use Rattle.block_disk.specs.Streams.{left_after}
 use Rattle.chart_world.specs.declared.line_answer.LineFault.{LineFault}
 use Rattle.chart_world.specs.declared.line_answer.LineFault.TheVariants as fault
-use Rattle.chart_world.specs.Lines.{lines}
+use Rattle.chart_world.specs.Lines.{is_line_feed, lines}
 use Rattle.chart_world.specs.Reading.{Reading, unread_input, unread, told_lines, with_first, behind_first, input_length, NoLineIn}
-use Rattle.chart_world.specs.LineLaws.{lines_none, told_so, no_rest}
-use Rattle.chart_world.specs.Fronts.{says}
+use Rattle.chart_world.specs.LineLaws.{lines_none, pieces, told_so, no_rest}
+use Rattle.chart_world.specs.Fronts.{says, first_piece}
+use Rattle.chart_world.specs.FrontLaws.{passed, behind_told}
 use Rattle.plain_chart.specs.Samples.{IsSlot}
 use Rattle.chart_program.specs.declared.input.InputEnd.{InputEnd}
 use Rattle.chart_program.specs.declared.input.InputEnd.TheVariants.{NoMemory, ReadFault, InputTooLong, BadLine, TooManySlots}
@@ -75,16 +76,26 @@ first_line input bytes bytes' given slots line first p =
     let told = first_told p.rest line (told_lines bytes') (subst P p.told first) in
     record { later = told.0; first = told.2 }
 
-bad_at : (input : List ℕ) (bytes bytes' : Option (List ℕ)) (given : ℕ) (slots : List (Option ℤ)) (line : Option (List ℕ)) → told_lines bytes ≡ with_first line (told_lines bytes') → IsBad line → Progress input bytes given slots → FirstBad input given
-bad_at input bytes bytes' given slots line first bad p =
+-- a line that is given ends among the first 2^32 bytes
+pub early_so : (old new : Reading) (left left' : Option (List ℕ)) → unread new left' ≡ behind_first (unread old left) → old.taken ≡ old.given + length old.pending → new.taken ≡ new.given + length new.pending → input_length new.taken left' ≡ input_length old.taken left → new.given ≤ 2 ^ 32
+    → IfSome (unread old left) (λ all. old.given + length (first_piece all) ≤ 2 ^ 32)
+early_so old new None left' rest counted counted' total few = tt
+early_so old new (Some l) left' rest counted counted' total few =
+    let all = old.pending ++ l in
+    let told' = behind_told all (unread old (Some l)) (unread new left') refl rest in
+    let sum = passed old new (Some l) left' all (after_first is_line_feed all) refl told' counted counted' total in
+    omega (arith, few, sum, ap length (pieces all), length-append (first_piece all) (after_first is_line_feed all))
+
+bad_at : (input : List ℕ) (bytes bytes' : Option (List ℕ)) (given : ℕ) (slots : List (Option ℤ)) (line : Option (List ℕ)) → told_lines bytes ≡ with_first line (told_lines bytes') → IsBad line → IfSome bytes (λ all. given + length (first_piece all) ≤ 2 ^ 32) → Progress input bytes given slots → FirstBad input given
+bad_at input bytes bytes' given slots line first bad early p =
     let f = first_line input bytes bytes' given slots line first p in
-    record { rest = p.rest; slots = slots; behind = p.behind; line = line; later = f.later; first = f.first; bad = bad }
+    record { rest = p.rest; slots = slots; behind = p.behind; line = line; later = f.later; first = f.first; bad = bad; early = let P : Option (List ℕ) → Type 0 = λ b. IfSome b (λ all. given + length (first_piece all) ≤ 2 ^ 32) in subst P p.told early }
 
 -- at a bad line
-pub bad_so : (o bytes bytes' : Option (List ℕ)) (given place : ℕ) (slots : List (Option ℤ)) (line : Option (List ℕ)) → told_lines bytes ≡ with_first line (told_lines bytes') → IsBad line → place ≡ given → IfSome o (λ input. Progress input bytes given slots) → IfSome o (λ input. FirstBad input place)
-bad_so o bytes bytes' given place slots line first bad at =
+pub bad_so : (o bytes bytes' : Option (List ℕ)) (given place : ℕ) (slots : List (Option ℤ)) (line : Option (List ℕ)) → told_lines bytes ≡ with_first line (told_lines bytes') → IsBad line → place ≡ given → IfSome bytes (λ all. given + length (first_piece all) ≤ 2 ^ 32) → IfSome o (λ input. Progress input bytes given slots) → IfSome o (λ input. FirstBad input place)
+bad_so o bytes bytes' given place slots line first bad at early =
     let P : ℕ → Type 0 = λ n. IfSome o (λ input. Progress input bytes given slots) → IfSome o (λ input. FirstBad input n) in
-    subst P (sym at) (told_so (λ input. Progress input bytes given slots) (λ input. FirstBad input given) o (λ input. bad_at input bytes bytes' given slots line first bad))
+    subst P (sym at) (told_so (λ input. Progress input bytes given slots) (λ input. FirstBad input given) o (λ input. bad_at input bytes bytes' given slots line first bad early))
 
 -- a line that is too long is no slot's
 pub too_long_bad : IsBad None
@@ -96,12 +107,12 @@ many_at input bytes bytes' given slots text first over p =
     record { rest = p.rest; slots = slots; place = given; behind = p.behind; full = over.full; line = Some text; later = f.later; first = f.first; slot = over.slot; good = over.spells }
 
 -- at a line that isn't added
-pub not_added_so : (o bytes bytes' left : Option (List ℕ)) (given at : ℕ) (slots : List (Option ℤ)) (text : List ℕ) (end : InputEnd) → told_lines bytes ≡ with_first (Some text) (told_lines bytes') → at ≡ given → IsNotAdded text at slots end → IfSome o (λ input. Progress input bytes given slots) → IfSome o (λ input. Stops input left end)
-not_added_so o bytes bytes' left given at slots text NoMemory first place why = told_so (λ input. Progress input bytes given slots) (λ input. Stops input left NoMemory) o (λ input p. tt)
-not_added_so o bytes bytes' left given at slots text ReadFault first place why = absurd why
-not_added_so o bytes bytes' left given at slots text InputTooLong first place why = absurd why
-not_added_so o bytes bytes' left given at slots text (BadLine n) first place why = bad_so o bytes bytes' given n slots (Some text) first why.1 (why.0 ∙ place)
-not_added_so o bytes bytes' left given at slots text TooManySlots first place why =
+pub not_added_so : (o bytes bytes' left : Option (List ℕ)) (given at : ℕ) (slots : List (Option ℤ)) (text : List ℕ) (end : InputEnd) → told_lines bytes ≡ with_first (Some text) (told_lines bytes') → at ≡ given → IfSome bytes (λ all. given + length (first_piece all) ≤ 2 ^ 32) → IsNotAdded text at slots end → IfSome o (λ input. Progress input bytes given slots) → IfSome o (λ input. Stops input left end)
+not_added_so o bytes bytes' left given at slots text NoMemory first place early why = told_so (λ input. Progress input bytes given slots) (λ input. Stops input left NoMemory) o (λ input p. tt)
+not_added_so o bytes bytes' left given at slots text ReadFault first place early why = absurd why
+not_added_so o bytes bytes' left given at slots text InputTooLong first place early why = absurd why
+not_added_so o bytes bytes' left given at slots text (BadLine n) first place early why = bad_so o bytes bytes' given n slots (Some text) first why.1 (why.0 ∙ place) early
+not_added_so o bytes bytes' left given at slots text TooManySlots first place early why =
     told_so (λ input. Progress input bytes given slots) (λ input. HasTooMany input) o (λ input. many_at input bytes bytes' given slots text first why)
 
 stopped_at : (input : List ℕ) (bytes left : Option (List ℕ)) (given n : ℕ) (slots : List (Option ℤ)) → NoLineIn n bytes → left ≡ left_after n bytes → Progress input bytes given slots → IfSome left (StoppedBefore input)

@@ -9,12 +9,14 @@ pub mod Running
 pub mod Telling
 pub mod Parsing
 pub mod Ended
+pub mod FirstOpened
 pub mod World
 pub mod Lowering
 pub mod LinesServed
 pub mod Words
 pub mod CommandCodes
 pub mod CommandsEnd
+pub mod StoreShown
 pub mod LivesLemmas
 pub mod Knowing
 pub mod Statuses

@@ -11,7 +11,6 @@ use Rattle.gate_pages.specs.Journal.{pages_of}
 use Rattle.gate_pages.specs.Pages.{GoesOn}
 use Rattle.gate_pages.specs.GateLaws.{goes_none}
 use Rattle.series_book.specs.declared.one_series.Series.{Series}
-use Rattle.series_catalog.specs.declared.stored_series.StoredSeries.{StoredSeries}
 use Rattle.disk_store.specs.Held.{HoldsBook}
 use Rattle.stored_book.specs.Standing.{StandsForBook}
 use Rattle.zoom_session.specs.declared.session.Session.{Session}
@@ -26,10 +25,13 @@ use Rattle.chart_service.specs.MomentLaws.{since_none}
 use Rattle.chart_program.specs.declared.run_end.RunEnd.{RunEnd}
 use Rattle.chart_program.specs.declared.run_end.RunEnd.TheVariants as run_end
 use Rattle.chart_program.specs.Runs.{AreShown, AreShownFrom, EndsRun, EndsAtBad, IsShown}
-use Rattle.chart_program.specs.Served.{Says, Spelled, AreTexts, Faults, AnswersAll, EndsServing, EndsLines, LeavesBooks, IsAheadOn, IsBadPlace, IsLinesCause, ServesLines, served}
-use Rattle.store_commands.specs.Books.{OfBook}
+use Rattle.stored_book.specs.Damage.{IsBadForRequest}
+use Rattle.store_commands.specs.Damaged.{IsDamagedLater}
+use Rattle.chart_program.specs.Served.{Says, Spelled, AreTexts, Faults, AnswersAll, EndsServing, EndsLines, LeavesBooks, IsAheadOn, IsLinesCause, ServesLines, served}
+use Rattle.store_commands.specs.Books.{OfBook, HoldsAgain}
+use Rattle.store_commands.proofs.HoldsAgain.{again_from}
 use Rattle.store_commands.specs.Books.{begun}
-use Rattle.chart_program.proofs.Lowering.{crash_for, serve_ends, text_ends, leaves_lowered}
+use Rattle.chart_program.proofs.Lowering.{crash_for, serve_ends, serve_again, text_ends, run_again, leaves_lowered}
 use Rattle.store_commands.proofs.Held.{stands_held, from_book}
 use Rattle.chart_service.proofs.Sending.{stands_on}
 use Rattle.chart_program.specs.Known.{EndsKnown}
@@ -55,29 +57,29 @@ for_told (Some input) P all = all input refl
 of_told : (o : Option (List ℕ)) (input : List ℕ) (P : List ℕ → Type 0) → o ≡ Some input → IfSome o P → P input
 of_told o input P is all = let Q : Option (List ℕ) → Type 0 = λ x. IfSome x P in subst Q is all
 
--- a page that was found bad is a bad place
-pub bad_place : (count count' : ℕ) (new : View) (catalog : List StoredSeries) (total page : ℕ) → count' ≡ count → serving.EndsAtBad (Honest new) catalog (pages_of count' new.image) total (serve_end.Damaged page) → IsBadPlace count new (66 + page)
-bad_place count count' new catalog total page same bad =
-    let P : ℕ → Type 0 = λ c. serving.EndsAtBad (Honest new) catalog (pages_of c new.image) total (serve_end.Damaged page) in
-    record { page = page; place_is = refl; catalog = catalog; total = total; bad = subst P same bad }
+-- a page that was found bad is so of the disk
+pub bad_later : (count count' : ℕ) (new : View) (page : ℕ) → count' ≡ count → serving.EndsAtBad (Honest new) count' (pages_of count' new.image) (serve_end.Damaged page) → IsDamagedLater IsBadForRequest count new (66 + page)
+bad_later count count' new page same bad =
+    let P : ℕ → Type 0 = λ n. IsBadForRequest n (pages_of n new.image) page in
+    record { page = page; place_is = refl; within = omega (arith, bad.0, same); bad = λ honest. subst P same (bad.1 honest) }
 
 -- the causes of a serving
-pub serve_cause : (count count' : ℕ) (old new : View) (faults : Faults) (catalog : List StoredSeries) (total : ℕ) (CanShow : Type 0) (end : ServeEnd) → count' ≡ count
+pub serve_cause : (count count' : ℕ) (old new : View) (faults : Faults) (CanShow : Type 0) (end : ServeEnd) → count' ≡ count
     → (end ≡ serve_end.ReadFault → IsLinesCause CanShow count old new faults (run_end.Serve serve_end.ReadFault)) → (end ≡ serve_end.SendFault → IsLinesCause CanShow count old new faults (run_end.Serve serve_end.SendFault)) → (end ≡ serve_end.DiskFault → IsLinesCause CanShow count old new faults (run_end.Serve serve_end.DiskFault))
-    → serving.EndsAtBad (Honest new) catalog (pages_of count' new.image) total end → IsLinesCause CanShow count old new faults (run_end.Serve end)
-serve_cause count count' old new faults catalog total CanShow serve_end.ReadFault same read send disk bad = read refl
-serve_cause count count' old new faults catalog total CanShow serve_end.SendFault same read send disk bad = send refl
-serve_cause count count' old new faults catalog total CanShow serve_end.DiskFault same read send disk bad = disk refl
-serve_cause count count' old new faults catalog total CanShow (serve_end.Damaged page) same read send disk bad = bad_place count count' new catalog total page same bad
-serve_cause count count' old new faults catalog total CanShow serve_end.InputTooLong same read send disk bad = tt
-serve_cause count count' old new faults catalog total CanShow serve_end.NoMemory same read send disk bad = tt
+    → serving.EndsAtBad (Honest new) count' (pages_of count' new.image) end → IsLinesCause CanShow count old new faults (run_end.Serve end)
+serve_cause count count' old new faults CanShow serve_end.ReadFault same read send disk bad = read refl
+serve_cause count count' old new faults CanShow serve_end.SendFault same read send disk bad = send refl
+serve_cause count count' old new faults CanShow serve_end.DiskFault same read send disk bad = disk refl
+serve_cause count count' old new faults CanShow (serve_end.Damaged page) same read send disk bad = bad_later count count' new page same bad
+serve_cause count count' old new faults CanShow serve_end.InputTooLong same read send disk bad = tt
+serve_cause count count' old new faults CanShow serve_end.NoMemory same read send disk bad = tt
 
-pub serve_causes : {T : Type 0} (count count' : ℕ) (old new : View) (faults : Faults) (catalog : List StoredSeries) (total : ℕ) (CanShow : Type 0) (answer : Result T ServeEnd) → count' ≡ count
+pub serve_causes : {T : Type 0} (count count' : ℕ) (old new : View) (faults : Faults) (CanShow : Type 0) (answer : Result T ServeEnd) → count' ≡ count
     → (answer ≡ Err serve_end.ReadFault → IsLinesCause CanShow count old new faults (run_end.Serve serve_end.ReadFault)) → (answer ≡ Err serve_end.SendFault → IsLinesCause CanShow count old new faults (run_end.Serve serve_end.SendFault)) → (answer ≡ Err serve_end.DiskFault → IsLinesCause CanShow count old new faults (run_end.Serve serve_end.DiskFault))
-    → IfErr answer (serving.EndsAtBad (Honest new) catalog (pages_of count' new.image) total) → IfErr answer (λ end. IsLinesCause CanShow count old new faults (run_end.Serve end))
-serve_causes count count' old new faults catalog total CanShow (Ok v) same read send disk bad = tt
-serve_causes count count' old new faults catalog total CanShow (Err end) same read send disk bad =
-    serve_cause count count' old new faults catalog total CanShow end same (λ is. read (ap Err is)) (λ is. send (ap Err is)) (λ is. disk (ap Err is)) bad
+    → IfErr answer (serving.EndsAtBad (Honest new) count' (pages_of count' new.image)) → IfErr answer (λ end. IsLinesCause CanShow count old new faults (run_end.Serve end))
+serve_causes count count' old new faults CanShow (Ok v) same read send disk bad = tt
+serve_causes count count' old new faults CanShow (Err end) same read send disk bad =
+    serve_cause count count' old new faults CanShow end same (λ is. read (ap Err is)) (λ is. send (ap Err is)) (λ is. disk (ap Err is)) bad
 
 -- what is known of a service over the pages of a disk
 module _ (count count' : ℕ) (sound sound' : Bool) (old new : View) (left left' before now : Option (List ℕ)) (faults : Faults) (sessions : List Session)
@@ -115,6 +117,9 @@ module _ (count count' : ℕ) (sound sound' : Bool) (old new : View) (left left'
         ends = tt;
         crash = serve_crash lasts;
         cause = tt;
+        holds = λ other. told_so (λ input. OfBook count old (λ total book. X total book input)) (λ input. HoldsAgain count old new) left
+            (λ input all. again_from count old new (λ start state. SendsText AreSpelled input start state before now) (from_book count count' old new same told sessions (λ start state. SendsText AreSpelled input start state before now) (closed (λ e. cc)) all))
+            (told_for left (λ total book. HoldsBook count total book old) X (λ total book holds. done total book holds.honest (stands_held count total book old holds)));
         goes_on = goes;
         risen = risen;
       }
@@ -128,6 +133,9 @@ module _ (count count' : ℕ) (sound sound' : Bool) (old new : View) (left left'
             (told_for left (λ total book. HoldsBook count total book old) X (λ total book holds. ends total book holds.honest (stands_held count total book old holds)));
         crash = serve_crash lasts;
         cause = cause;
+        holds = λ other. told_so (λ input. OfBook count old (λ total book. X total book input)) (λ input. HoldsAgain count old new) left
+            (λ input all. serve_again count count' old new same told sessions input left' before now end (λ more. closed (λ e. more (cc))) (λ e. other (ap (λ f. Err (run_end.Serve f)) e)) all)
+            (told_for left (λ total book. HoldsBook count total book old) X (λ total book holds. ends total book holds.honest (stands_held count total book old holds)));
         goes_on = goes;
         risen = risen;
       }
@@ -186,6 +194,10 @@ module _ (count count' : ℕ) (sound sound' : Bool) (old new : View) (left left'
       ends = tt;
       crash = run_crash starts lasts;
       cause = tt;
+      holds = λ other. for_told left (λ input. HoldsAgain count old new) (λ input is.
+          again_from count old new (λ start state. Unit {0}) (from_book count count' old new same told sessions (λ start state. Unit {0}) (closed (λ e. cc)) (λ total book holds.
+          stands_on total (pages_of count' new.image) (pages_of count' new.image) sessions sessions (λ state. IfSome left (λ given. SendsText (AreShown ScreenGives [] h) given (begun total book) state before now)) (λ state. Unit {0}) refl refl
+          (λ state sends. tt) (done total book holds.honest (stands_held count total book old holds)))));
       goes_on = goes;
       risen = risen;
     }
@@ -198,6 +210,9 @@ module _ (count count' : ℕ) (sound sound' : Bool) (old new : View) (left left'
           subst O is (ends total book holds.honest (stands_held count total book old holds))));
       crash = run_crash starts lasts;
       cause = cause;
+      holds = λ other. for_told left (λ input. HoldsAgain count old new) (λ input is.
+          run_again count count' old new same told h sessions left left' before now end (λ more. closed (λ e. more (cc))) (λ e. other (ap Err e)) (λ total book holds.
+          ends total book holds.honest (stands_held count total book old holds)));
       goes_on = goes;
       risen = risen;
     }
@@ -215,24 +230,24 @@ module _ (count count' : ℕ) (sound sound' : Bool) (old new : View) (left left'
         run_alone answer h (subst S alone starts) (subst D alone (subst DV none done)) within (subst E alone (subst EV none ends)) (subst L alone (subst LV none lasts)) closed cause
 
 -- the causes of a run over a screen
-pub run_cause : OneFrame → Numbered → (count count' : ℕ) (old new : View) (faults : Faults) (catalog : List StoredSeries) (total : ℕ) (end : RunEnd) → count' ≡ count
+pub run_cause : OneFrame → Numbered → (count count' : ℕ) (old new : View) (faults : Faults) (end : RunEnd) → count' ≡ count
     → (end ≡ run_end.Serve serve_end.ReadFault → IsLinesCause (Unit {0}) count old new faults (run_end.Serve serve_end.ReadFault)) → (end ≡ run_end.Serve serve_end.SendFault → IsLinesCause (Unit {0}) count old new faults (run_end.Serve serve_end.SendFault)) → (end ≡ run_end.Serve serve_end.DiskFault → IsLinesCause (Unit {0}) count old new faults (run_end.Serve serve_end.DiskFault))
-    → EndsAtBad (Honest new) catalog (pages_of count' new.image) total end → IsShown ScreenGives end → EndsKnown ScreenGives holds_of end → IsLinesCause (Unit {0}) count old new faults end
-run_cause one law count count' old new faults catalog total (run_end.Serve end) same read send disk bad shown known =
-    serve_cause count count' old new faults catalog total (Unit {0}) end same (λ e. read (ap run_end.Serve e)) (λ e. send (ap run_end.Serve e)) (λ e. disk (ap run_end.Serve e)) bad
-run_cause one law count count' old new faults catalog total (run_end.Show (client.Missing key)) same read send disk bad shown known =
+    → EndsAtBad (Honest new) count' (pages_of count' new.image) end → IsShown ScreenGives end → EndsKnown ScreenGives holds_of end → IsLinesCause (Unit {0}) count old new faults end
+run_cause one law count count' old new faults (run_end.Serve end) same read send disk bad shown known =
+    serve_cause count count' old new faults (Unit {0}) end same (λ e. read (ap run_end.Serve e)) (λ e. send (ap run_end.Serve e)) (λ e. disk (ap run_end.Serve e)) bad
+run_cause one law count count' old new faults (run_end.Show (client.Missing key)) same read send disk bad shown known =
     (tt, law shown.3.0.frame shown.0 (client.Missing key) shown.3.0.rejects, record { frame = shown.3.0.frame; held = shown.0; rejects = shown.3.0.rejects })
-run_cause one law count count' old new faults catalog total (run_end.Show (client.BadCoefficient key)) same read send disk bad shown known =
+run_cause one law count count' old new faults (run_end.Show (client.BadCoefficient key)) same read send disk bad shown known =
     (tt, law shown.3.0.frame shown.0 (client.BadCoefficient key) shown.3.0.rejects, record { frame = shown.3.0.frame; held = shown.0; rejects = shown.3.0.rejects })
-run_cause one law count count' old new faults catalog total (run_end.Show (client.UnknownSession number)) same read send disk bad shown known = never_unknown one number known
-run_cause one law count count' old new faults catalog total (run_end.Show client.NoMemory) same read send disk bad shown known = tt
+run_cause one law count count' old new faults (run_end.Show (client.UnknownSession number)) same read send disk bad shown known = never_unknown one number known
+run_cause one law count count' old new faults (run_end.Show client.NoMemory) same read send disk bad shown known = tt
 
-pub run_causes : {T : Type 0} → OneFrame → Numbered → (count count' : ℕ) (old new : View) (faults : Faults) (catalog : List StoredSeries) (total : ℕ) (answer : Result T RunEnd) → count' ≡ count
+pub run_causes : {T : Type 0} → OneFrame → Numbered → (count count' : ℕ) (old new : View) (faults : Faults) (answer : Result T RunEnd) → count' ≡ count
     → (answer ≡ Err (run_end.Serve serve_end.ReadFault) → IsLinesCause (Unit {0}) count old new faults (run_end.Serve serve_end.ReadFault)) → (answer ≡ Err (run_end.Serve serve_end.SendFault) → IsLinesCause (Unit {0}) count old new faults (run_end.Serve serve_end.SendFault)) → (answer ≡ Err (run_end.Serve serve_end.DiskFault) → IsLinesCause (Unit {0}) count old new faults (run_end.Serve serve_end.DiskFault))
-    → IfErr answer (EndsAtBad (Honest new) catalog (pages_of count' new.image) total) → IfErr answer (IsShown ScreenGives) → IfErr answer (EndsKnown ScreenGives holds_of) → IfErr answer (IsLinesCause (Unit {0}) count old new faults)
-run_causes one law count count' old new faults catalog total (Ok v) same read send disk bad shown known = tt
-run_causes one law count count' old new faults catalog total (Err end) same read send disk bad shown known =
-    run_cause one law count count' old new faults catalog total end same (λ is. read (ap Err is)) (λ is. send (ap Err is)) (λ is. disk (ap Err is)) bad shown known
+    → IfErr answer (EndsAtBad (Honest new) count' (pages_of count' new.image)) → IfErr answer (IsShown ScreenGives) → IfErr answer (EndsKnown ScreenGives holds_of) → IfErr answer (IsLinesCause (Unit {0}) count old new faults)
+run_causes one law count count' old new faults (Ok v) same read send disk bad shown known = tt
+run_causes one law count count' old new faults (Err end) same read send disk bad shown known =
+    run_cause one law count count' old new faults end same (λ is. read (ap Err is)) (λ is. send (ap Err is)) (λ is. disk (ap Err is)) bad shown known
 
 -- want of memory for a service or a screen
 pub made_none : {T : Type 0} (IsText : Says) (CanShow : Type 0) (count : ℕ) (at : View) (left before : Option (List ℕ)) (faults : Faults) → SaysNothing IsText → ServesLines {T = T} IsText CanShow count at at left left before before faults (Err (run_end.Serve serve_end.NoMemory))
@@ -245,6 +260,7 @@ made_none {T} IsText CanShow count at left before faults none = record {
       since_none at (IsAheadOn (IsText (begun total book)) input count total (begun total book) (sent_now at)) (λ image left_by.
       ahead_none IsText input count total book (sent_now at) image (sent_now at) none (holds.images image left_by) refl)));
   cause = tt;
+  holds = λ other. for_told left (λ input. HoldsAgain count at at) (λ input is total book holds. (book, holds));
   goes_on = goes_none at;
   risen = omega arith;
 }

@@ -1,16 +1,71 @@
 -- Books outlive their runs.
-use Rattle.std.proofs.Common.{ℕ, List, [], ◌∷◌, refl, sym, subst, inl, inr}
-use Rattle.block_disk.specs.View.{Image}
+use Rattle.std.proofs.Common.{◌≡◌, ℕ, List, [], ◌∷◌, Option, None, Some, IfSome, refl, sym, subst, inl, inr}
+use Rattle.block_disk.specs.View.{Image, View}
+use Rattle.gate_pages.specs.Journal.{page_count, pages_of}
 use Rattle.series_book.specs.declared.one_series.Series.{Series}
-use Rattle.stored_book.specs.Standing.{RecoversTo}
-use Rattle.chart_program.specs.Lives.{Life, AreLives, IsLeft, AreBooks, said_by}
-use Rattle.chart_program.specs.Served.{IsAheadOn}
+use Rattle.series_book.specs.Edits.{id_of}
+use Rattle.disk_store.specs.Held.{HoldsBook}
+use Rattle.stored_book.specs.Standing.{StandsForBook, RecoversTo}
+use Rattle.series_load.specs.Sets.{IsNamed, Loads}
+use Rattle.program_words.specs.declared.words.Command.{Command}
+use Rattle.program_words.specs.declared.words.Command.TheVariants.{Plot, Load, Demo, Run, Serve, Draw, Init, Check, ListSeries, Export}
 use Rattle.store_commands.specs.Books.{begun}
+use Rattle.store_commands.proofs.HoldsAgain.{series_there}
+use Rattle.store_commands.specs.Loaded.{IsAheadLoad}
+use Rattle.store_commands.specs.Demonstrated.{IsAheadDemo}
+use Rattle.demo_workload.specs.Workload.{workload}
+use Rattle.chart_program.specs.Lives.{Life, AreLives, IsLife, IsLived, BeginsOn, IsLeftAt, LeavesFrom, MakesNone, IsAfterLines, IsAfterSets, IsAfterRequests, Outlives, AreBooks, life_of}
+use Rattle.chart_program.specs.Ran.{Leaves, LeavesTold}
+use Rattle.chart_program.specs.Served.{Says, Spelled, AreTexts, IsAheadOn}
 
--- what one life leaves
-left_by : (count total : ℕ) (book : List Series) (life : Life) → IsAheadOn (said_by life.shows (begun total book)) life.input count total (begun total book) life.from life.left life.sent
-    → (next : List Series) × IsLeft life total book next × RecoversTo count life.left total next
-left_by count total book life is =
+-- ---- a run is a life
+
+begun_holds : (count total : ℕ) (book : List Series) (begins : Image) (old : View) → BeginsOn begins old → RecoversTo count begins total book → HoldsBook count total book old
+begun_holds count total book begins old b recovers =
+    let P : Image → Type 0 = λ i. RecoversTo count i total book in
+    record { honest = b.honest; images = λ image left. subst P (sym (b.only image left)) recovers }
+
+run_lives : (command : Command) (input : List ℕ) (old new : View) (begins left : Image) (at : ℕ) → MakesNone command → BeginsOn begins old → Leaves command input old new → IsLeftAt old new at left → IsLife (page_count old.size) (life_of command input begins old new at left)
+run_lives (Plot w h) input old new begins left at opens b leaves is = λ total book recovers.
+    (leaves total book (begun_holds (page_count old.size) total book begins old b recovers)).here at left is.0 is.1.0 is.1.1
+run_lives Draw input old new begins left at opens b leaves is = λ total book recovers.
+    (leaves total book (begun_holds (page_count old.size) total book begins old b recovers)).here at left is.0 is.1.0 is.1.1
+run_lives Init input old new begins left at opens b leaves is = absurd opens
+run_lives Run input old new begins left at opens b leaves is = λ total book recovers.
+    (leaves total book (begun_holds (page_count old.size) total book begins old b recovers)).here at left is.0 is.1.0 is.1.1
+run_lives Serve input old new begins left at opens b leaves is = λ total book recovers.
+    (leaves total book (begun_holds (page_count old.size) total book begins old b recovers)).here at left is.0 is.1.0 is.1.1
+run_lives (Load name) input old new begins left at opens b leaves is = λ total book recovers.
+    let holds = begun_holds (page_count old.size) total book begins old b recovers in (
+      (λ series named. (leaves.0 total book holds series named).here at left is.0 is.1.0 is.1.1),
+      (λ none. (leaves.1 total book holds none).here at left is.0 is.1.0 is.1.1),
+    )
+run_lives (Demo seed rounds) input old new begins left at opens b leaves is = λ total book recovers.
+    (leaves total book (begun_holds (page_count old.size) total book begins old b recovers)).here at left is.0 is.1.0 is.1.1
+run_lives Check input old new begins left at opens b leaves is = λ total book recovers.
+    (leaves total book (begun_holds (page_count old.size) total book begins old b recovers)).here at left is.0 is.1.0 is.1.1
+run_lives ListSeries input old new begins left at opens b leaves is = λ total book recovers.
+    (leaves total book (begun_holds (page_count old.size) total book begins old b recovers)).here at left is.0 is.1.0 is.1.1
+run_lives (Export name window) input old new begins left at opens b leaves is = λ total book recovers.
+    (leaves total book (begun_holds (page_count old.size) total book begins old b recovers)).here at left is.0 is.1.0 is.1.1
+
+-- where the input and what was sent are told
+pub lives_told : (command : Command) (old new : View) (left before now : Option (List ℕ)) → IfSome left (λ input. LeavesTold command old new input before now) → IfSome left (λ input. IsLived command old new input before now)
+lives_told command old new None before now leaves = tt
+lives_told command old new (Some input) None now leaves = tt
+lives_told command old new (Some input) (Some bytes) now leaves = λ begins crashed at opens b is. run_lives command input old new begins crashed at opens b leaves is
+
+-- ---- what one life leaves
+
+abbrev pub OneBook : Type 0
+OneBook = (image : Image) (total total' : ℕ) (book book' : List Series) → StandsForBook image total book → StandsForBook image total' book' → book' ≡ book
+
+abbrev Left : Command → List ℕ → ℕ → ℕ → List Series → ℕ → Image → ℕ → Type 0
+Left command input count total book from left sent = (next : List Series) × Outlives command input total book next from sent × RecoversTo count left total next
+
+left_lines : (IsText : Says) (input : List ℕ) (count total : ℕ) (book : List Series) (from : ℕ) (left : Image) (sent : ℕ) → IsAheadOn (IsText (begun total book)) input count total (begun total book) from left sent
+    → (next : List Series) × IsAfterLines (IsText (begun total book)) input total book next from sent × RecoversTo count left total next
+left_lines IsText input count total book from left sent is =
     let a = is.ahead in
     elim a.state [
       | inl here ↦ (
@@ -27,16 +82,77 @@ left_by count total book life is =
           between = a.between;
           text = a.text;
           answers = a.answers;
-          state = inr (next.after, next.next, refl, next.said, next.sent);
+          state = inr (next.after, next.next, refl, next.sent);
         },
         record { readable = is.readable; within = is.within; stands = next.stands },
       )
     ]
 
-pub lives_left : (count total : ℕ) (book : List Series) (image : Image) (lives : List Life) → AreLives count image lives → RecoversTo count image total book → AreBooks count total book lives
-lives_left count total book image [] are recovers = tt
-lives_left count total book image (life ∷ lives) are recovers =
+left_sets : OneBook → (name input : List ℕ) (count total : ℕ) (book : List Series) (series : Series) (from : ℕ) (left : Image) (sent : ℕ) → IsNamed book name series → IsAheadLoad count total name book series input from left sent
+    → (next : List Series) × IsAfterSets total name input book next from sent × RecoversTo count left total next
+left_sets one name input count total book series from left sent named is =
+    let after = is.some.after in (
+      after.new,
+      record {
+        series = series;
+        named = named;
+        runs = is.some.runs;
+        first = is.some.first;
+        loads = after.loads;
+        all = λ more.
+            let whole = (is.all more).1 in
+            let same = one (pages_of count left) total total after.new whole.after.new after.stands whole.after.stands in
+            let P : List Series → Type 0 = λ b. Loads total name book whole.runs b in
+            record { rows = whole.rows; reads = whole.reads; runs = whole.runs; all = whole.all; loads = subst P same whole.after.loads };
+      },
+      record { readable = is.readable; within = is.within; stands = after.stands },
+    )
+
+left_requests : OneBook → (seed rounds count total : ℕ) (book : List Series) (from : ℕ) (left : Image) (sent : ℕ) → IsAheadDemo (workload seed rounds) count total (begun total book) from left sent
+    → (next : List Series) × IsAfterRequests seed rounds total book next from sent × RecoversTo count left total next
+left_requests one seed rounds count total book from left sent is =
+    let p = is.some in (
+      p.new.book,
+      record {
+        state = p.new;
+        some = record { first = p.first; rest = p.rest; split = p.split; frames = p.frames; answered = p.answered };
+        new_is = refl;
+        all = λ more.
+            let whole = is.all more in
+            (whole.0, whole.1, whole.2, one (pages_of count left) total total whole.1.book p.new.book whole.3 p.stands);
+      },
+      record { readable = is.readable; within = is.within; stands = p.stands },
+    )
+
+left_load : OneBook → (name input : List ℕ) (count total : ℕ) (book : List Series) (from : ℕ) (left : Image) (sent : ℕ) → LeavesFrom (Load name) input count total book from left sent → Left (Load name) input count total book from left sent
+left_load one name input count total book from left sent leaves =
+    (elim (id_of name book) as (λ o. id_of name book ≡ o → Left (Load name) input count total book from left sent) [
+      | None ↦ λ none. (book, inr (none, refl), leaves.1 none)
+      | Some id ↦ λ is.
+          let there = series_there book name id is in
+          let named : IsNamed book name there.0 = record { id = id; id_is = is; there = there.1 } in
+          let after = left_sets one name input count total book there.0 from left sent named (leaves.0 there.0 named) in
+          (after.0, inl after.1, after.2)
+    ]) refl
+
+left_by : OneBook → (command : Command) (input : List ℕ) (count total : ℕ) (book : List Series) (from : ℕ) (left : Image) (sent : ℕ) → MakesNone command → LeavesFrom command input count total book from left sent → Left command input count total book from left sent
+left_by one (Plot w h) input count total book from left sent opens leaves = (book, refl, leaves)
+left_by one Draw input count total book from left sent opens leaves = (book, refl, leaves)
+left_by one Init input count total book from left sent opens leaves = absurd opens
+left_by one Run input count total book from left sent opens leaves = left_lines AreTexts input count total book from left sent leaves
+left_by one Serve input count total book from left sent opens leaves = left_lines Spelled input count total book from left sent leaves
+left_by one (Load name) input count total book from left sent opens leaves = left_load one name input count total book from left sent leaves
+left_by one (Demo seed rounds) input count total book from left sent opens leaves = left_requests one seed rounds count total book from left sent leaves
+left_by one Check input count total book from left sent opens leaves = (book, refl, leaves)
+left_by one ListSeries input count total book from left sent opens leaves = (book, refl, leaves)
+left_by one (Export name window) input count total book from left sent opens leaves = (book, refl, leaves)
+
+-- ---- lives in a row
+
+pub lives_left : OneBook → (count total : ℕ) (book : List Series) (image : Image) (lives : List Life) → AreLives count image lives → RecoversTo count image total book → AreBooks count total book lives
+lives_left one count total book image [] are recovers = tt
+lives_left one count total book image (life ∷ lives) are recovers =
     let P : Image → Type 0 = λ i. RecoversTo count i total book in
     let start = subst P (sym are.0) recovers in
-    let left = left_by count total book life (are.1 total book start) in
-    (start, (left.0, left.1, left.2, lives_left count total left.0 life.left lives are.2 left.2))
+    let left = left_by one life.command life.input count total book life.from life.left life.sent are.1 (are.2 total book start) in
+    (start, (left.0, left.1, left.2, lives_left one count total left.0 life.left lives are.3 left.2))

@@ -10,7 +10,7 @@ use Rattle.gate_pages.specs.Journal.{pages_of}
 use Rattle.gate_pages.specs.Pages.{GoesOn}
 use Rattle.series_book.specs.declared.one_series.Series.{Series}
 use Rattle.disk_store.specs.Held.{HoldsBook}
-use Rattle.disk_store.proofs.Lowered.{lowered_readable, lowered_is, holds_closed}
+use Rattle.disk_store.proofs.Lowered.{lowered_readable, lowered_is}
 use Rattle.stored_book.specs.Standing.{StandsForBook}
 use Rattle.zoom_session.specs.declared.session.Session.{Session}
 use Rattle.chart_service.specs.State.{State, IsSound}
@@ -23,8 +23,8 @@ use Rattle.chart_program.specs.declared.run_end.RunEnd.{RunEnd}
 use Rattle.chart_program.specs.declared.run_end.RunEnd.TheVariants as run_end
 use Rattle.chart_program.specs.Runs.{EndsRunAt, EndsRun}
 use Rattle.chart_program.specs.Served.{Says, Spelled, AreTexts, EndsServing, EndsLines, IsAheadOn, LeavesBooks}
-use Rattle.store_commands.specs.Books.{begun, OfBook, FromBook, Never}
-use Rattle.store_commands.proofs.Held.{within_held, from_book}
+use Rattle.store_commands.specs.Books.{begun, OfBook, FromBook, HoldsAgain, Never}
+use Rattle.store_commands.proofs.Held.{within_held, held_after, from_book}
 use Rattle.chart_service.specs.Answering.{Telling}
 use Rattle.chart_service.proofs.Sending.{stands_on}
 use Rattle.chart_program.proofs.Telling.{OneFrame, AllDraw, OneLacks, EndsTexts, texts_end, texts_lines}
@@ -54,6 +54,31 @@ module _ (count count' : ℕ) (old new : View) (same : count' ≡ count) (told :
   serve_ends sessions input left before now (serve_end.Damaged page) closed ends = ends
   serve_ends sessions input left before now serve_end.InputTooLong closed ends = from_book count count' old new same told sessions (λ start state. SendsWithin AreSpelled input start state before now) (closed (λ e. cc)) ends
   serve_ends sessions input left before now serve_end.NoMemory closed ends = from_book count count' old new same told sessions (λ start state. SendsSome AreSpelled input start state before now) (closed (λ e. cc)) ends
+
+  -- unless a call of the disk failed, the disk holds a book again
+  again_after : (sessions : List Session) (P : ℕ → List Series → State → Type 0) → IsClosed new → OfBook count old (λ total book. StandsAfter total (pages_of count' new.image) sessions (P total book)) → HoldsAgain count old new
+  again_after sessions P closed all = λ total book holds.
+      let there = held_after count count' old new same told total sessions (P total book) closed (told holds.honest) (within_held count total book old holds) (all total book holds) in
+      (there.0.book, there.2)
+
+  pub serve_again : (sessions : List Session) (input : List ℕ) (left before now : Option (List ℕ)) (end : ServeEnd) → ((end ≡ serve_end.DiskFault → ⊥) → IsClosed new) → (end ≡ serve_end.DiskFault → ⊥)
+      → OfBook count old (λ total book. EndsServe input (begun total book) (pages_of count' new.image) sessions left before now end) → HoldsAgain count old new
+  serve_again sessions input left before now serve_end.ReadFault closed other ends = again_after sessions _ (closed other) ends
+  serve_again sessions input left before now serve_end.SendFault closed other ends = again_after sessions _ (closed other) ends
+  serve_again sessions input left before now serve_end.DiskFault closed other ends = absurd (other refl)
+  serve_again sessions input left before now (serve_end.Damaged page) closed other ends = λ total book holds. absurd (ends total book holds)
+  serve_again sessions input left before now serve_end.InputTooLong closed other ends = again_after sessions _ (closed other) ends
+  serve_again sessions input left before now serve_end.NoMemory closed other ends = again_after sessions _ (closed other) ends
+
+  pub run_again : (h : List Holding) (sessions : List Session) (o left before now : Option (List ℕ)) (end : RunEnd) → ((end ≡ run_end.Serve serve_end.DiskFault → ⊥) → IsClosed new) → (end ≡ run_end.Serve serve_end.DiskFault → ⊥)
+      → OfBook count old (λ total book. EndsRun ScreenGives [] h o (begun total book) (pages_of count' new.image) sessions left before now end) → HoldsAgain count old new
+  run_again h sessions o left before now (run_end.Serve serve_end.ReadFault) closed other ends = again_after sessions _ (closed other) ends
+  run_again h sessions o left before now (run_end.Serve serve_end.SendFault) closed other ends = again_after sessions _ (closed other) ends
+  run_again h sessions o left before now (run_end.Serve serve_end.DiskFault) closed other ends = absurd (other refl)
+  run_again h sessions o left before now (run_end.Serve (serve_end.Damaged page)) closed other ends = λ total book holds. absurd (ends total book holds)
+  run_again h sessions o left before now (run_end.Serve serve_end.InputTooLong) closed other ends = again_after sessions _ (closed other) ends
+  run_again h sessions o left before now (run_end.Serve serve_end.NoMemory) closed other ends = again_after sessions _ (closed other) ends
+  run_again h sessions o left before now (run_end.Show e) closed other ends = again_after sessions _ (closed other) ends
 
   -- the ends of a run over a screen, in the words of its texts
   module _ (one : OneFrame) (draws : AllDraw) (lacks : OneLacks) (sound : (total : ℕ) (book : List Series) → HoldsBook count total book old → IsSound (begun total book)) (h : List Holding) (sessions : List Session) where

@@ -1,7 +1,8 @@
 -- Bytes are the spellings of one list of frames.
-use Rattle.std.proofs.Common.{◌≡◌, ℕ, ◌+◌, ◌<◌, ◌⊎◌, inl, inr, List, [], ◌∷◌, ◌++◌, length, Option, None, Some, IfSome, refl, ap, sym, subst, ◌∙◌, arith, append_assoc, length-append}
+use Rattle.std.proofs.Common.{◌≡◌, ℕ, ◌+◌, ◌<◌, ◌^◌, ◌⊎◌, inl, inr, List, [], ◌∷◌, ◌++◌, length, Option, None, Some, IfSome, refl, ap, sym, subst, ◌∙◌, arith, append_assoc, length-append}
 use Rattle.std.specs.Prelude.{flat_map, All, map}
 use Rattle.std.specs.List.{filter}
+use Rattle.std.proofs.lemmas.List.{take_all}
 use Rattle.std.proofs.lemmas.List.Elements.{All-nil, All-cons, All-head, All-tail, All-filter}
 use Rattle.chart_frames.specs.declared.frame.Frame.{Frame}
 use Rattle.chart_frames.specs.Format.{Breaks, number_in}
@@ -20,9 +21,10 @@ use Rattle.chart_client.specs.declared.errors.ClientError.TheVariants as client
 use Rattle.chart_client.specs.Accepting.{Rejects}
 use Rattle.drawn_replies.specs.Mirrors.{mirrored, Mirrors}
 use Rattle.drawn_replies.specs.Pictures.{AcceptsAll, ArePictured, AreOwnPictured, NoneRejected, names}
+use Rattle.chart_program.specs.declared.draw_end.DrawEnd.{DrawEnd}
 use Rattle.chart_program.specs.declared.draw_end.DrawEnd.TheVariants as draw_end
-use Rattle.chart_program.specs.Draws.{DrawsMore, DrawsAll, StopsAtFrame, IsCut, DrawsWithin, IsFront, EndsDraw}
-use Rattle.chart_program.specs.Ran.{IsFrames, DrawsReplies}
+use Rattle.chart_program.specs.Draws.{DrawsMore, DrawsAll, FramesStop, StopsAtFrame, IsCut, DrawsWithin, IsFront, EndsDraw}
+use Rattle.chart_program.specs.Ran.{IsFrames, IsOfReplies, DrawsReplies}
 use Rattle.chart_program.proofs.Drawing.{Good, Stay}
 
 abbrev pub OneFrame : Type 0
@@ -95,34 +97,44 @@ next_rejected k all more frames drawings holdings rest f behind e none split fit
 left_of : Known → (input : List ℕ) (good : IsFrames input) (rest : Pending) (holdings : List Holding) (before now : Option (List ℕ)) → (d : DrawsMore (held 0 input) rest [] holdings before now) → Begins d.frames good.frames rest.rest
 left_of k input good rest holdings before now d = begins k d.frames good.frames rest.rest d.fit good.fit (sym good.spelled ∙ d.split)
 
+-- good input isn't cut off at 2^32 bytes
+whole_stop : (input : List ℕ) (before now : Option (List ℕ)) (end : DrawEnd) → IsFrames input → StopsAtFrame input before now end → FramesStop (held 0 input) [] before now end
+whole_stop input before now end good stop =
+    let P : List ℕ → Type 0 = λ l. FramesStop (held 0 l) [] before now end in
+    subst P (take_all (2 ^ 32) input good.short) stop
+
 -- good input has no bad field
 pub no_bad_frame : Known → ((at : ℕ) → Breaks frame_fields [] at → ⊥) → (input : List ℕ) (at : ℕ) (before now : Option (List ℕ)) → IsFrames input
     → IsCut input at before now ⊎ StopsAtFrame input before now (draw_end.BadFrame at) → ⊥
 no_bad_frame k none input at before now good (inl cut) =
     let b = left_of k input good cut.rest cut.holdings before now cut.first in
     no_front k b.more b.fit (omega (arith, cut.some, ap length b.behind)) (subst IsFront b.behind cut.unended)
-no_bad_frame k none input at before now good (inr stop) =
+no_bad_frame k none input at before now good (inr some) =
+    let stop = whole_stop input before now (draw_end.BadFrame at) good some in
     let b = left_of k input good stop.rest stop.client before stop.sent_first stop.first in
     let P : List ℕ → Type 0 = λ l. Breaks frame_fields l stop.stops.1.0 in
     no_break k b.more stop.stops.1.0 b.fit (subst P b.behind stop.stops.1.2) (none stop.stops.1.0)
 
 -- and no frame that a client rejects
 pub no_missing : Known → (input : List ℕ) (key : Key) (before now : Option (List ℕ)) → IsFrames input → StopsAtFrame input before now (draw_end.Missing key) → ⊥
-no_missing k input key before now good stop =
+no_missing k input key before now good some =
+    let stop = whole_stop input before now (draw_end.Missing key) good some in
     let b = left_of k input good stop.rest stop.client before stop.sent_first stop.first in
     let s = stop.stops in
     let never : client.Missing key ≡ client.NoMemory = next_rejected k good.frames b.more stop.first.frames stop.first.drawings stop.client stop.rest.rest s.frame s.behind (client.Missing key) good.accepted b.split b.fit b.behind stop.first.accepted s.fits s.next s.stops.0 in
     cc
 
 pub no_misfit : Known → (input : List ℕ) (key : Key) (before now : Option (List ℕ)) → IsFrames input → StopsAtFrame input before now (draw_end.BadCoefficient key) → ⊥
-no_misfit k input key before now good stop =
+no_misfit k input key before now good some =
+    let stop = whole_stop input before now (draw_end.BadCoefficient key) good some in
     let b = left_of k input good stop.rest stop.client before stop.sent_first stop.first in
     let s = stop.stops in
     let never : client.BadCoefficient key ≡ client.NoMemory = next_rejected k good.frames b.more stop.first.frames stop.first.drawings stop.client stop.rest.rest s.frame s.behind (client.BadCoefficient key) good.accepted b.split b.fit b.behind stop.first.accepted s.fits s.next s.stops.0 in
     cc
 
 pub no_unopened : Known → (input : List ℕ) (n : ℕ) (before now : Option (List ℕ)) → IsFrames input → StopsAtFrame input before now (draw_end.UnknownSession n) → ⊥
-no_unopened k input n before now good stop =
+no_unopened k input n before now good some =
+    let stop = whole_stop input before now (draw_end.UnknownSession n) good some in
     let b = left_of k input good stop.rest stop.client before stop.sent_first stop.first in
     let s = stop.stops in
     let never : client.UnknownSession n ≡ client.NoMemory = next_rejected k good.frames b.more stop.first.frames stop.first.drawings stop.client stop.rest.rest s.frame s.behind (client.UnknownSession n) good.accepted b.split b.fit b.behind stop.first.accepted s.fits s.next s.stops.0 in
@@ -220,3 +232,34 @@ replies_drawn k draws own (Some input) before now all = replies_at k draws own i
 pub good_so : (o : Option (List ℕ)) (P : Type 0) → P → IfSome o (λ input. IsFrames input → P)
 good_so None P holds = tt
 good_so (Some input) P holds = λ good. holds
+
+-- ---- the frames that answer lines are good input
+
+abbrev pub AllAccepted : Type 0
+AllAccepted = (lines : List (Option (List ℕ))) (frames : List Frame) (old new : State) → IsSound old → old.sessions ≡ [] → RepliesToAll old lines frames new → NoneRejected frames
+
+abbrev pub OwnAccepted : Type 0
+OwnAccepted = (n : ℕ) (lines : List (Option (List ℕ))) (frames : List Frame) (old new : State) → IsSound old → old.sessions ≡ [] → RepliesToAll old lines frames new → NoneRejected (filter (names n) frames)
+
+replies_good : AllAccepted → OwnAccepted → (input : List ℕ) → IsOfReplies input → IsFrames input
+replies_good all own input r =
+    let fit = replies_fit r.lines r.frames r.old r.new r.replied.replied in
+    elim r.spelled [
+      | inl whole ↦ record { frames = r.frames; fit = fit; spelled = whole; accepted = all r.lines r.frames r.old r.new r.replied.sound r.replied.alone r.replied.replied; short = r.short }
+      | inr one ↦ record {
+        frames = filter (names one.0) r.frames;
+        fit = All-filter (names one.0) Fits r.frames fit;
+        spelled = one.1;
+        accepted = own one.0 r.lines r.frames r.old r.new r.replied.sound r.replied.alone r.replied.replied;
+        short = r.short;
+      }
+    ]
+
+pub replies_end : AllAccepted → OwnAccepted → (o : Option (List ℕ)) (P : Type 0) → IfSome o (λ input. IsFrames input → P) → IfSome o (λ input. IsOfReplies input → P)
+replies_end all own None P good = tt
+replies_end all own (Some input) P good = λ r. good (replies_good all own input r)
+
+-- what holds at all holds where the input is those frames
+pub told_good : (o : Option (List ℕ)) (P : Type 0) → P → IfSome o (λ input. IsOfReplies input → P)
+told_good None P holds = tt
+told_good (Some input) P holds = λ r. holds

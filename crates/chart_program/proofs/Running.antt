@@ -6,7 +6,6 @@ use Rattle.chart_world.specs.LineLaws.{told_so}
 use Rattle.chart_frames.specs.declared.frame.Frame.{Frame}
 use Rattle.chart_frames.specs.Frames.{spelling}
 use Rattle.chart_client.specs.declared.errors.ClientError.{ClientError}
-use Rattle.series_catalog.specs.declared.stored_series.StoredSeries.{StoredSeries}
 use Rattle.zoom_session.specs.declared.session.Session.{Session}
 use Rattle.chart_service.specs.Answering.{EndsAnswers}
 use Rattle.chart_service.specs.Answering as answering
@@ -95,6 +94,9 @@ module _ {V : Type 0} (gives : Gives V) where
       screen = fails.last;
       first = first_told (AreMade (MakesText gives) v fails.last) (AreShown gives v fails.last) input fails.rest old fails.between before now (tells v fails.last old) fails.first;
       next = fails.next;
+      frame = fails.frame;
+      later = fails.later;
+      is_first = fails.is_first;
       fails = fails.fails;
     }
 
@@ -143,16 +145,16 @@ module _ {V : Type 0} (gives : Gives V) where
   run_fault (Err (answers.Reply (Serve NoMemory))) f other unmade is = absurd (other (cc))
   run_fault (Err (answers.Reply (Show e))) f other unmade is = absurd (cc (is))
 
-  pub run_bad : {T : Type 0} (told : Type 0) (catalog : List StoredSeries) (image : Image) (total : ℕ) (r : Result T (AnswerEnd RunEnd)) → IfErr r Unmade → IfErr r (answering.EndsAtBad told catalog image total) → IfErr (run_answer r) (EndsAtBad told catalog image total)
-  run_bad told catalog image total (Ok x) unmade bad = tt
-  run_bad told catalog image total (Err (answers.Serve e)) unmade bad = bad
-  run_bad told catalog image total (Err (answers.Reply (Serve ReadFault))) unmade bad = tt
-  run_bad told catalog image total (Err (answers.Reply (Serve SendFault))) unmade bad = tt
-  run_bad told catalog image total (Err (answers.Reply (Serve DiskFault))) unmade bad = tt
-  run_bad told catalog image total (Err (answers.Reply (Serve (Damaged page)))) unmade bad = absurd unmade.5
-  run_bad told catalog image total (Err (answers.Reply (Serve InputTooLong))) unmade bad = tt
-  run_bad told catalog image total (Err (answers.Reply (Serve NoMemory))) unmade bad = tt
-  run_bad told catalog image total (Err (answers.Reply (Show e))) unmade bad = tt
+  pub run_bad : {T : Type 0} (told : Type 0) (count : ℕ) (image : Image) (r : Result T (AnswerEnd RunEnd)) → IfErr r Unmade → IfErr r (answering.EndsAtBad told count image) → IfErr (run_answer r) (EndsAtBad told count image)
+  run_bad told count image (Ok x) unmade bad = tt
+  run_bad told count image (Err (answers.Serve e)) unmade bad = bad
+  run_bad told count image (Err (answers.Reply (Serve ReadFault))) unmade bad = tt
+  run_bad told count image (Err (answers.Reply (Serve SendFault))) unmade bad = tt
+  run_bad told count image (Err (answers.Reply (Serve DiskFault))) unmade bad = tt
+  run_bad told count image (Err (answers.Reply (Serve (Damaged page)))) unmade bad = absurd unmade.5
+  run_bad told count image (Err (answers.Reply (Serve InputTooLong))) unmade bad = tt
+  run_bad told count image (Err (answers.Reply (Serve NoMemory))) unmade bad = tt
+  run_bad told count image (Err (answers.Reply (Show e))) unmade bad = tt
 
   pub run_shown : {T : Type 0} (r : Result T (AnswerEnd RunEnd)) → IfErr r Unmade → IfErr (run_answer r) (IsShown gives)
   run_shown (Ok x) unmade = tt

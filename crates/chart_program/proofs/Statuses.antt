@@ -2,7 +2,8 @@
 use Rattle.std.proofs.Common.{◌≡◌, ◌≢◌, ◌≤◌, ◌^◌, ◌⊎◌, inl, inr, ℕ, List, [], ◌∷◌, length, Option, Result, Ok, Err, IfSome, IfErr, OnOk, refl, arith}
 use Rattle.std.specs.Prelude.{Contains}
 use Rattle.block_disk.specs.Counts.{HasRisen}
-use Rattle.block_disk.specs.View.{View, DiskKept}
+use Rattle.block_disk.specs.View.{View}
+use Rattle.chart_program.specs.Alone.{StaysAlone}
 use Rattle.chart_world.specs.LineLaws.{told_so}
 use Rattle.om3_coeff.specs.declared.key.Key.{Key}
 use Rattle.chart_frames.specs.Frames.{key_number}
@@ -22,7 +23,7 @@ use Rattle.chart_program.proofs.Apart.{apart}
 use Rattle.chart_program.proofs.CommandCodes.{never, of_plot, of_draw}
 use Rattle.chart_program.proofs.CommandsEnd.{plot_ends, draw_ends}
 use Rattle.chart_program.proofs.Drawing.{Stay}
-use Rattle.chart_program.proofs.Parsing.{Known, AllDraw, OwnDraw, bad_never, much_never, missing_never, misfit_never, unopened_never, replies_drawn, good_so}
+use Rattle.chart_program.proofs.Parsing.{Known, AllDraw, OwnDraw, bad_never, much_never, missing_never, misfit_never, unopened_never, replies_drawn, good_so, AllAccepted, OwnAccepted, replies_end}
 
 -- ---- a plot
 
@@ -120,7 +121,7 @@ plot_nothing (Err (Input input.TooManySlots)) S so some unsent = so (λ e. cc)
 
 -- what a plot did, by its status
 pub plotted : {T : Type 0} (w h : ℕ) (old new : View) (left left' before now : Option (List ℕ)) (faults : Faults) (r : Result T PlotEnd) → OnOk r (IfSome left (λ input. SendsPlot w h input before now)) → OnOk r (IfSome left (λ input. length input ≤ 2 ^ 32))
-    → IfErr r (λ end. IfSome left (λ input. EndsPlot w h input left' before now end)) → IfErr r (λ end. end ≢ SendFault → now ≡ before) → (r ≡ Err (Input input.ReadFault) → HasRisen faults.reads faults.reads_now) → (r ≡ Err SendFault → HasRisen faults.sends faults.sends_now) → DiskKept old new
+    → IfErr r (λ end. IfSome left (λ input. EndsPlot w h input left' before now end)) → IfErr r (λ end. end ≢ SendFault → now ≡ before) → (r ≡ Err (Input input.ReadFault) → HasRisen faults.reads faults.reads_now) → (r ≡ Err SendFault → HasRisen faults.sends faults.sends_now) → StaysAlone old new
     → CommandEnds (Plot w h) old new left left' before now faults (plotting_status r).code (plotting_status r).place
 plotted w h old new left left' before now faults r done within ends unsent read send disk =
     plot_ends w h old new left left' before now faults (plotting_status r).code (plotting_status r).place (plot_code r)
@@ -298,10 +299,11 @@ module _ {T : Type 0} (o left before now : Option (List ℕ)) where
   draw_good known stay (Err (UnknownSession n)) ends = unopened_never known _ o left before now n ends
 
 -- what a drawing did, by its status
-pub drawn : {T : Type 0} → Known → Stay → AllDraw → OwnDraw → (old new : View) (left left' before now : Option (List ℕ)) (faults : Faults) (r : Result T DrawEnd) → OnOk r (IfSome left (λ input. DrawsAll input before now)) → OnOk r (IfSome left (λ input. length input ≤ 2 ^ 32))
-    → IfErr r (λ end. IfSome left (λ input. EndsDraw input left' before now end)) → (r ≡ Err ReadFault → HasRisen faults.reads faults.reads_now) → (r ≡ Err draw_end.SendFault → HasRisen faults.sends faults.sends_now) → DiskKept old new
+pub drawn : {T : Type 0} → Known → Stay → AllDraw → OwnDraw → AllAccepted → OwnAccepted → (old new : View) (left left' before now : Option (List ℕ)) (faults : Faults) (r : Result T DrawEnd) → OnOk r (IfSome left (λ input. DrawsAll input before now)) → OnOk r (IfSome left (λ input. length input ≤ 2 ^ 32))
+    → IfErr r (λ end. IfSome left (λ input. EndsDraw input left' before now end)) → (r ≡ Err ReadFault → HasRisen faults.reads faults.reads_now) → (r ≡ Err draw_end.SendFault → HasRisen faults.sends faults.sends_now) → StaysAlone old new
     → CommandEnds Draw old new left left' before now faults (drawing_status r).code (drawing_status r).place
-drawn known stay draws own old new left left' before now faults r done within ends read send disk =
+drawn known stay draws own accepts own_accepts old new left left' before now faults r done within ends read send disk =
     draw_ends old new left left' before now faults (drawing_status r).code (drawing_status r).place (draw_code r) (draw_read r _ read) (draw_send r _ send) (draw_place r) (draw_done r _ done) (draw_done r _ within)
     (λ is. replies_drawn known draws own left before now (draw_done r _ done is)) (draw_part left left' before now r ends) (draw_stopped left left' before now r ends) (draw_memory left left' before now r ends) (draw_much r) (draw_past left left' before now r ends)
-    (draw_bad left left' before now r ends) (draw_missing left left' before now r ends) (draw_misfit left left' before now r ends) (draw_unopened left left' before now r ends) (draw_good left left' before now known stay r ends) disk
+    (draw_bad left left' before now r ends) (draw_missing left left' before now r ends) (draw_misfit left left' before now r ends) (draw_unopened left left' before now r ends) (draw_good left left' before now known stay r ends)
+    (replies_end accepts own_accepts left _ (draw_good left left' before now known stay r ends)) disk

@@ -16,7 +16,7 @@ use Rattle.chart_client.specs.Showing.{Spells, RejectsBytes, ScreenGives}
 use Rattle.chart_service.specs.State.{State, IsSound}
 use Rattle.chart_service.specs.Replies.{RepliesToLine, Replied}
 use Rattle.chart_service.specs.declared.failure.ServeEnd.TheVariants as serve_end
-use Rattle.chart_service.specs.Telling.{Tells, text_told, first_told, front_told, taken_told, within_told, some_told}
+use Rattle.chart_service.specs.Telling.{Tells, first_replied, text_told, first_told, front_told, taken_told, within_told, some_told}
 use Rattle.chart_service.specs.Serving.{told, RepliesToAll, Answers, SendsText, SendsFirst, SendsFrontOf, SendsTaken, SendsWithin, SendsSome, SendsLines}
 use Rattle.drawn_replies.specs.Mirrors.{Mirrors, OnlyLacksMemory}
 use Rattle.drawn_replies.specs.Pictures.{AcceptsAll, ArePictured}
@@ -79,14 +79,15 @@ sound_after (l ∷ ls) (f ∷ fs) old new sound replied = sound_after ls fs repl
 
 -- nothing but want of memory keeps a screen from showing the next frame
 fails_at : OneFrame → AllDraw → OneLacks → (start : State) → start.sessions ≡ [] → IsSound start → (input : List ℕ) (new : State) (h : List Holding) (before now : Option (List ℕ)) (e : ClientError)
-    → (f : ShowFails ScreenGives [] h input start new before now e) → RejectsBytes (spelling f.next.frame) e f.screen → e ≡ client.NoMemory
+    → (f : ShowFails ScreenGives [] h input start new before now e) → RejectsBytes (spelling f.frame) e f.screen → e ≡ client.NoMemory
 fails_at one draws lacks start alone sound input new h before now e f rejects =
     let a = f.first.answers in
     let drawn = screen_draws one (told f.first.front) (told f.first.front) a.frames f.first.text start f.between [] f.screen a.replied a.texts in
     let mirrors = (draws (told f.first.front) a.frames drawn.0 start f.between [] f.screen sound a.replied (mirrors_none start alone) drawn.1).1 in
-    let same : f.next.frame ≡ rejects.frame = shown_frame one f.next.frame rejects.frame f.next.replied.1 rejects.spelled in
+    let next = first_replied f.between new (told f.next.front) f.next.frames f.frame f.later f.is_first f.next.replied in
+    let same : f.frame ≡ rejects.frame = shown_frame one f.frame rejects.frame next.replied.1 rejects.spelled in
     let R : Frame → Type 0 = λ g. Rejects g e f.screen in
-    lacks f.next.line f.next.frame f.between new f.screen (sound_after (told f.first.front) a.frames start f.between sound a.replied) f.next.replied.0 mirrors e
+    lacks next.line f.frame f.between next.between f.screen (sound_after (told f.first.front) a.frames start f.between sound a.replied) next.replied.0 mirrors e
     (subst R (sym same) rejects.rejects)
 
 -- what ends a run over a screen that isn't a fault of the disk, in the words of its texts

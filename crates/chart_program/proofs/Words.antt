@@ -3,12 +3,12 @@ use Rattle.std.proofs.Common.{◌≡◌, ℕ, zero, suc, Bool, true, false, ◌�
 use Rattle.std.specs.Prelude.{Contains, String, map, string_bytes}
 use Rattle.block_disk.specs.View.{View}
 use Rattle.program_words.specs.declared.words.Command.{Command}
-use Rattle.program_words.specs.declared.words.Command.TheVariants.{Plot, Load, Demo, Run, Serve, Draw, Init, Check}
+use Rattle.program_words.specs.declared.words.Command.TheVariants.{Plot, Load, Demo, Run, Serve, Draw, Init, Check, ListSeries, Export}
 use Rattle.program_words.specs.CommandLine.{plain_words, has_flag}
 use Rattle.program_words.specs.Words.{OfCommand, Spells, IsWrong, EndsWords}
 use Rattle.program_words.specs.declared.words.WordsEnd.{WordsEnd}
 use Rattle.program_words.specs.declared.words.WordsEnd.TheVariants.{Wrong}
-use Rattle.chart_program.specs.Ran.{HasGoodInput, HasOperands, IsStreaming, IsInput, stream_words}
+use Rattle.chart_program.specs.Ran.{HasGoodInput, HasOperands, IsStreaming, IsInput, BeginStream}
 
 -- the words are those of this command
 pub of_command : (words : List (List ℕ)) (command told : Command) (P : Command → Type 0) → told ≡ command → Spells told words → P command → OfCommand words P
@@ -25,17 +25,25 @@ with_operands Serve words is = tt
 with_operands Draw words is = tt
 with_operands Init words is = tt
 with_operands Check words is = tt
+with_operands ListSeries words is = tt
+with_operands (Export name window) words is = tt
 
--- the words of a command that isn't done over streams alone
-pub streams : (command : Command) (words : List (List ℕ)) → Spells command words → (Contains stream_words words → ⊥) → IsStreaming command → ⊥
+-- the first word
+abbrev first : List (List ℕ) → List ℕ
+first words = get_or words 0 []
+
+-- the words of a command that sends when it ends
+pub streams : (command : Command) (words : List (List ℕ)) → Spells command words → (BeginStream words → ⊥) → IsStreaming command → ⊥
 streams (Plot w h) words is none streaming = streaming
 streams (Load name) words is none streaming = streaming
 streams (Demo seed rounds) words is none streaming = streaming
-streams Run words is none streaming = none (0, omega arith, sym is)
-streams Serve words is none streaming = none (1, omega arith, sym is)
-streams Draw words is none streaming = none (2, omega arith, sym is)
+streams Run words is none streaming = none (0, omega arith, sym (ap first is))
+streams Serve words is none streaming = none (1, omega arith, sym (ap first is))
+streams Draw words is none streaming = none (2, omega arith, sym (ap first is))
 streams Init words is none streaming = streaming
 streams Check words is none streaming = streaming
+streams ListSeries words is none streaming = streaming
+streams (Export name window) words is none streaming = none (3, omega arith, sym (ap first is.0))
 
 -- the second byte of the first word, which tells `draw` and `init` from all others
 abbrev second : List (List ℕ) → ℕ
@@ -50,6 +58,8 @@ one_draw Serve words is other = let both : 101 ≡ 114 = ap second (sym is ∙ o
 one_draw Draw words is other = refl
 one_draw Init words is other = let both : 110 ≡ 114 = ap second (sym is ∙ other) in absurd (omega (arith, both))
 one_draw Check words is other = let both : 104 ≡ 114 = ap second (sym is ∙ other) in absurd (omega (arith, both))
+one_draw ListSeries words is other = let both : 105 ≡ 114 = ap second (sym is ∙ other) in absurd (omega (arith, both))
+one_draw (Export name window) words is other = let both : 120 ≡ 114 = ap second (sym is.0 ∙ other) in absurd (omega (arith, both))
 
 pub one_init : (command : Command) (words : List (List ℕ)) → Spells command words → Spells Init words → command ≡ Init
 one_init (Plot w h) words is other = let both : 108 ≡ 110 = ap second (sym is.0 ∙ other) in absurd (omega (arith, both))
@@ -60,6 +70,8 @@ one_init Serve words is other = let both : 101 ≡ 110 = ap second (sym is ∙ o
 one_init Draw words is other = let both : 114 ≡ 110 = ap second (sym is ∙ other) in absurd (omega (arith, both))
 one_init Init words is other = refl
 one_init Check words is other = let both : 104 ≡ 110 = ap second (sym is ∙ other) in absurd (omega (arith, both))
+one_init ListSeries words is other = let both : 105 ≡ 110 = ap second (sym is ∙ other) in absurd (omega (arith, both))
+one_init (Export name window) words is other = let both : 120 ≡ 110 = ap second (sym is.0 ∙ other) in absurd (omega (arith, both))
 
 pub chart_codes : (code : ℕ) → Contains (0 ∷ 3 ∷ 4 ∷ 5 ∷ 6 ∷ 7 ∷ 8 ∷ 9 ∷ 10 ∷ 11 ∷ 12 ∷ 13 ∷ 14 ∷ 15 ∷ []) code → Contains (0 ∷ 2 ∷ 3 ∷ 4 ∷ 5 ∷ 6 ∷ 7 ∷ 8 ∷ 9 ∷ 10 ∷ 11 ∷ 12 ∷ 13 ∷ 14 ∷ 15 ∷ []) code
 chart_codes code (zero, inside, is) = (0, omega arith, is)

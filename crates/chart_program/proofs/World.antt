@@ -27,7 +27,8 @@ use Rattle.chart_program.specs.declared.lines_end.LinesEnd.TheVariants as lines_
 use Rattle.chart_program.specs.declared.run_end.RunEnd.{RunEnd}
 use Rattle.chart_program.specs.declared.run_end.RunEnd.TheVariants as run_end
 use Rattle.chart_program.specs.Served.{Says, Faults, faults_of, AnswersAll, AnswersTaken, AnswersSome, AnswersLines, EndsLines, IsAheadOn, LeavesBooks, IsLinesCause, ServesLines, EndsOpening, ServesWorld, in_world}
-use Rattle.store_commands.specs.Books.{begun}
+use Rattle.store_commands.specs.Books.{begun, HoldsAgain}
+use Rattle.store_commands.proofs.HoldsAgain.{again_opened}
 use Rattle.store_commands.proofs.Held.{held, risen_since}
 use Rattle.store_commands.proofs.Moments.{sent_so}
 
@@ -139,25 +140,31 @@ crash_on IsText None before old mid new none opens leaves = tt
 crash_on IsText (Some input) None old mid new none opens leaves = tt
 crash_on IsText (Some input) (Some bytes) old mid new none opens leaves = leaves_on IsText input old mid new none opens leaves
 
+again_on : (left : Option (List ℕ)) (old mid new : View) → Opens (page_count old.size) old mid → IfSome left (λ input. HoldsAgain (page_count old.size) mid new) → IfSome left (λ input. HoldsAgain (page_count old.size) old new)
+again_on left old mid new opens = told_so (λ input. HoldsAgain (page_count old.size) mid new) (λ input. HoldsAgain (page_count old.size) old new) left
+    (λ input again total book holds. again total book (held old mid opens total book holds))
+
 -- lines were served over the store that was opened
 serves_on : {T : Type 0} (IsText : Says) (CanShow : Type 0) (old mid new : View) (left left' before now : Option (List ℕ)) (faults : Faults) (answer : Result T RunEnd) → SaysNothing IsText → Opens (page_count old.size) old mid
     → ServesLines IsText CanShow (page_count old.size) mid new left left' before now faults answer → ServesWorld IsText CanShow old new left left' before now faults (in_world answer)
-serves_on IsText CanShow old mid new left left' before now faults (Ok done) none opens s = record {
+serves_on {T} IsText CanShow old mid new left left' before now faults (Ok done) none opens s = record {
   done = told_so (λ input. AnswersAll IsText (page_count old.size) mid new input before now) (λ input. AnswersAll IsText (page_count old.size) old new input before now) left
       (λ input all total book holds. all total book (held old mid opens total book holds)) s.done;
   within = s.within;
   ends = tt;
   crash = crash_on IsText left before old mid new none opens s.crash;
   cause = tt;
+  holds = λ other. again_on left old mid new opens (s.holds (λ e. cc));
   goes_on = goes_then old mid new (goes_by old mid (StandsAsBefore (page_count old.size) old) (Quiet old) opens.time) s.goes_on;
 }
-serves_on IsText CanShow old mid new left left' before now faults (Err end) none opens s = record {
+serves_on {T} IsText CanShow old mid new left left' before now faults (Err end) none opens s = record {
   done = tt;
   within = tt;
   ends = told_so (λ input. EndsLines IsText (page_count old.size) mid new input left' before now end) (λ input. EndsLines IsText (page_count old.size) old new input left' before now end) left
       (λ input ends. ends_on IsText old mid new input left' before now end opens ends) s.ends;
   crash = crash_on IsText left before old mid new none opens s.crash;
   cause = cause_on CanShow (page_count old.size) old mid new faults end opens.faults s.cause;
+  holds = λ other. again_on left old mid new opens (s.holds (λ e. other (ap (λ (r : Result T RunEnd). in_world r) e)));
   goes_on = goes_then old mid new (goes_by old mid (StandsAsBefore (page_count old.size) old) (Quiet old) opens.time) s.goes_on;
 }
 
@@ -200,6 +207,10 @@ opening_at IsText CanShow old new left left' before faults cause none opens prev
     | Some input ↦ elim before as (λ b. IfSome b (λ bytes. LeavesBooks IsText (page_count old.size) input old new)) [ None ↦ tt | Some bytes ↦ opened_leaves IsText input old new none opens ]
   ];
   cause = prevents;
+  holds = λ other. elim left as (λ o. IfSome o (λ input. HoldsAgain (page_count old.size) old new)) [
+    | None ↦ tt
+    | Some input ↦ again_opened old new opens
+  ];
   goes_on = goes_by old new (StandsAsBefore (page_count old.size) old) (Quiet old) opens.time;
 }
 

@@ -1,5 +1,5 @@
 -- What `draw` sends: the picture of each View and Rows frame of its input.
-use Rattle.std.specs.Prelude.{◌≡◌, ℕ, ◌-◌, ◌+◌, ◌^◌, ◌<◌, ◌⊎◌, List, [], ◌++◌, length, take, All, flat_map, Option, Some, IfSome, Result, Ok, Err, ⊤}
+use Rattle.std.specs.Prelude.{◌≡◌, ℕ, ◌-◌, ◌+◌, ◌^◌, ◌<◌, ◌≤◌, ◌⊎◌, List, [], ◌++◌, length, take, All, flat_map, Option, Some, IfSome, Result, Ok, Err, ⊤}
 use Rattle.line_raster.specs.Canvas.{Canvas}
 use Rattle.pbm_writer.specs.Picture.{picture}
 use Rattle.block_disk.specs.Streams.{sent_after, PartSent}
@@ -143,10 +143,11 @@ pub record IsCut (input : List ℕ) (at : ℕ) (before now : Option (List ℕ)) 
   pub some : 0 < length rest.rest
   pub unended : IsFront rest.rest
   pub end : at ≡ length input
+  pub few : at ≤ 2 ^ 32
 
--- the next frame of the input wasn't drawn, or a field of it breaks its rule
+-- the next frame among the first 2^32 bytes of the input wasn't drawn, or a field of it breaks its rule
 abbrev pub StopsAtFrame : List ℕ → Option (List ℕ) → Option (List ℕ) → DrawEnd → Type 0
-StopsAtFrame input before now end = FramesStop (held 0 input) [] before now end
+StopsAtFrame input before now end = FramesStop (held 0 (take (2 ^ 32) input)) [] before now end
 
 -- why not all frames of the input were drawn, and what was sent
 abbrev pub EndsDraw : List ℕ → Option (List ℕ) → Option (List ℕ) → Option (List ℕ) → DrawEnd → Type 0

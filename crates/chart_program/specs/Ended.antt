@@ -1,5 +1,5 @@
 -- How a serving command ends, by its status.
-use Rattle.std.specs.Prelude.{◌≡◌, ℕ, ◌+◌, ◌<◌, ◌≤◌, ◌⊎◌, ◌^◌, List, [], ◌∷◌, length, Contains, Option, IfSome, Result, Ok, Err, ⊤}
+use Rattle.std.specs.Prelude.{◌≡◌, ◌≢◌, ℕ, ◌+◌, ◌<◌, ◌≤◌, ◌⊎◌, ◌^◌, List, [], ◌∷◌, length, Contains, Option, IfSome, Result, Ok, Err, ⊤}
 use Rattle.block_disk.specs.Counts.{HasRisen}
 use Rattle.block_disk.specs.View.{View, Honest}
 use Rattle.chart_client.specs.Accepting.{HasNumber}
@@ -9,7 +9,6 @@ use Rattle.chart_frames.specs.Frames.{key_number}
 use Rattle.gate_pages.specs.Journal.{page_count}
 use Rattle.gate_pages.specs.Pages.{GoesOn}
 use Rattle.om3_coeff.specs.declared.key.Key.{Key}
-use Rattle.disk_store.specs.Openings.{IsDamagedBlock}
 use Rattle.chart_service.specs.declared.failure.ServeEnd.{ServeEnd}
 use Rattle.chart_service.specs.declared.failure.ServeEnd.TheVariants as serve_end
 use Rattle.chart_program.specs.declared.lines_end.LinesEnd.{LinesEnd}
@@ -17,8 +16,10 @@ use Rattle.chart_program.specs.declared.lines_end.LinesEnd.TheVariants as lines_
 use Rattle.chart_program.specs.declared.run_end.RunEnd.TheVariants as run_end
 use Rattle.store_commands.specs.declared.status.Status.{Status}
 use Rattle.store_commands.specs.Status.{status, opening_status}
-use Rattle.chart_program.specs.Served.{Says, Faults, AnswersAll, AnswersFront, AnswersTaken, AnswersWithin, AnswersSome, AnswersLines, LeavesBooks, IsBadPlace, IsRejected}
-use Rattle.store_commands.specs.Books.{Never}
+use Rattle.chart_program.specs.Served.{Says, Faults, AnswersAll, AnswersFront, AnswersTaken, AnswersWithin, AnswersSome, AnswersLines, LeavesBooks, IsRejected}
+use Rattle.stored_book.specs.Damage.{IsBadForRequest}
+use Rattle.store_commands.specs.Damaged.{IsDamagedPlace}
+use Rattle.store_commands.specs.Books.{HoldsAgain, Never}
 
 -- the status of why a serving ended
 abbrev pub serve_end_status : ServeEnd → Status
@@ -49,12 +50,6 @@ HasNumberedKey (lines_end.Opening cause) = ⊤
 HasNumberedKey (lines_end.Answering (run_end.Serve end)) = ⊤
 HasNumberedKey (lines_end.Answering (run_end.Show e)) = HasNumber e
 
--- This block was found damaged: it breaks its layout at the start, once the journal is replayed, or block 66 has no store;
--- or it is a page that was found so later.
-abbrev pub IsDamagedAt : View → View → ℕ → Type 0
-IsDamagedAt old new place =
-    ((place ≡ 1) ⊎ (66 ≤ place)) × ((Honest old → IsDamagedBlock (page_count old.size) old.image place) ⊎ IsBadPlace (page_count old.size) new place)
-
 -- What a serving command sent and left, and why it ended, by the status.
 pub record EndsBy (IsText : Says) (CanShow : Type 0) (old new : View) (left left' before now : Option (List ℕ)) (faults : Faults) (code place : ℕ) : Type 0 where
   pub codes : Contains (0 ∷ 3 ∷ 4 ∷ 5 ∷ 6 ∷ 7 ∷ 9 ∷ 10 ∷ 11 ∷ 12 ∷ 15 ∷ []) code
@@ -67,7 +62,7 @@ pub record EndsBy (IsText : Says) (CanShow : Type 0) (old new : View) (left left
   pub part : code ≡ 5 → IfSome left (λ input. AnswersFront IsText (page_count old.size) old new input before now)
   pub fault : code ≡ 6 → HasRisen old.faults new.faults
   pub faulted : code ≡ 6 → IfSome left (λ input. AnswersLines IsText (page_count old.size) old input before now)
-  pub damaged : code ≡ 7 → IsDamagedAt old new place
+  pub damaged : code ≡ 7 → IsDamagedPlace IsBadForRequest old new place
   pub undamaged : code ≡ 7 → IfSome left (λ input. Never (page_count old.size) old)
   pub much : code ≡ 9 → IfSome left (λ input. (place ≡ 2 ^ 32) × AnswersWithin IsText (page_count old.size) old new input before now)
   pub missing : code ≡ 10 → CanShow × IfSome left (λ input. Never (page_count old.size) old × ((key : Key) × (place ≡ key_number key) × IsRejected (client.Missing key)))
@@ -75,5 +70,6 @@ pub record EndsBy (IsText : Says) (CanShow : Type 0) (old new : View) (left left
   pub small : code ≡ 12 → (place ≡ old.size) × (old.size < 128)
   pub opened : code ≡ 15 → ⊥
   pub zero_place : Contains (0 ∷ 3 ∷ 4 ∷ 5 ∷ 6 ∷ []) code → place ≡ 0
+  pub holds : code ≢ 6 → IfSome left (λ input. HoldsAgain (page_count old.size) old new)
   pub crash : IfSome left (λ input. IfSome before (λ bytes. LeavesBooks IsText (page_count old.size) input old new))
   pub goes_on : GoesOn old new

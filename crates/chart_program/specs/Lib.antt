@@ -8,5 +8,7 @@ pub mod Served
 pub mod Traffic
 pub mod Lives
 pub mod Ended
+pub mod CommandStatuses
 pub mod Draws
 pub mod Ran
+pub mod Alone

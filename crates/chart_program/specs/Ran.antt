@@ -1,5 +1,5 @@
 -- What a run of a command does.
-use Rattle.std.specs.Prelude.{◌≡◌, ◌≢◌, ℕ, ℤ, ◌<◌, ◌≤◌, ◌^◌, ◌⊎◌, List, [], ◌∷◌, length, All, Contains, flat_map, Option, Some, IfSome, codes, String, map, string_bytes, ⊤}
+use Rattle.std.specs.Prelude.{◌≡◌, ◌≢◌, ℕ, ℤ, ◌<◌, ◌≤◌, ◌^◌, ◌⊎◌, List, [], ◌∷◌, length, All, Contains, get_or, flat_map, Option, Some, IfSome, codes, String, map, string_bytes, ⊤}
 use Rattle.std.specs.List.{filter}
 use Rattle.block_disk.specs.Streams.{sent_after}
 use Rattle.block_disk.specs.View.{Image, View, DiskKept, Honest, Now, Only}
@@ -18,27 +18,31 @@ use Rattle.series_book.specs.declared.one_series.Series.{Series}
 use Rattle.disk_store.specs.Held.{HoldsBook}
 use Rattle.drawn_replies.specs.Pictures.{ArePictured, AreOwnPictured, NoneRejected, names}
 use Rattle.program_words.specs.declared.words.Command.{Command}
-use Rattle.program_words.specs.declared.words.Command.TheVariants.{Plot, Load, Demo, Run, Serve, Draw, Init, Check}
+use Rattle.program_words.specs.declared.words.Command.TheVariants.{Plot, Load, Demo, Run, Serve, Draw, Init, Check, ListSeries, Export}
 use Rattle.chart_program.specs.declared.draw_end.DrawEnd.TheVariants as draw_end
 use Rattle.program_words.specs.CommandLine.{plain_words}
 use Rattle.program_words.specs.Words.{AreCommand, ByCommand, Spells}
 use Rattle.store_commands.specs.declared.status.Status.{Status}
 use Rattle.store_commands.specs.Traffic.{Traffic}
+use Rattle.store_commands.specs.Away.{IsTurnedAway}
 use Rattle.chart_grid.specs.Limits.{IsSide}
 use Rattle.chart_program.specs.Slots.{SpellsAll, FirstBad, HasTooMany, IsTooLong, StoppedBefore, most_slots}
 use Rattle.chart_program.specs.Plotted.{SendsPlot, SendsFront}
 use Rattle.chart_program.specs.Served.{Faults, faults_of, AreTexts, Spelled, AnswersAll, AnswersFront, AnswersTaken, AnswersWithin, AnswersSome, AnswersLines, LeavesBooks, IsRejected}
-use Rattle.store_commands.specs.Books.{FromBook, Never, LeavesSame}
+use Rattle.store_commands.specs.Books.{FromBook, HoldsAgain, Never, LeavesSame}
 use Rattle.store_commands.specs.Loaded.{Unnamed, LoadsAll, LoadsAndSendsPart, LoadsSome, LoadsToBad, LoadsTaken, LoadsWithin, RefusesSet, LeavesLoads, LeavesUnnamed}
-use Rattle.store_commands.specs.Checked.{SendsCounts, SendsCountsPart, IsBadPart}
+use Rattle.store_commands.specs.Checked.{SendsCounts, SendsCountsPart, IsBadForCheck}
+use Rattle.store_commands.specs.Listed.{SendsList, SendsListPart, ReadsOpening}
+use Rattle.store_commands.specs.Exported.{ExportsAll, ExportsPart, HasNone, IsBadInTree, ReadsSeries}
 use Rattle.store_commands.specs.Demonstrated.{SendsSummary, SendsSummaryPart, AnswersFirst, LeavesDemo}
 use Rattle.demo_workload.specs.Ending.{MeetsError}
 use Rattle.demo_workload.specs.Workload.{workload}
 use Rattle.series_load.specs.Ends.{IsAtBad, IsAtRefusal}
 use Rattle.series_load.specs.Sets.{IsNamed}
 use Rattle.series_book.specs.declared.refusals.Refusal.{Refusal}
-use Rattle.disk_store.specs.Openings.{IsDamagedBlock}
-use Rattle.chart_program.specs.Ended.{IsDamagedAt}
+use Rattle.stored_book.specs.Damage.{IsBadForEdit, IsBadForRequest}
+use Rattle.store_commands.specs.Damaged.{IsDamagedAtFirst, IsDamagedPlace}
+use Rattle.chart_program.specs.CommandStatuses.{codes_of, IsOverStore, TakesNone, Bars}
 use Rattle.chart_program.specs.Texts.{picture_bytes}
 use Rattle.chart_program.specs.Draws.{DrawsAll, DrawsTaken, DrawsWithin, IsCut, StopsAtFrame}
 
@@ -48,9 +52,26 @@ abbrev pub ForCommand : {Z W : Type 0} → List (String Z) → (W → View) → 
     → (Command → View → View → List ℕ → Option (List ℕ) → Option (List ℕ) → Type 0) → Type 0
 ForCommand words view left sent old new IsSo = ByCommand words (λ command. IfSome (left old) (λ input. IsSo command (view old) (view new) input (sent old) (sent new)))
 
--- the words of the commands that send before their input has ended
-abbrev pub stream_words : List (List (List ℕ))
-stream_words = (codes "run" ∷ []) ∷ (codes "serve" ∷ []) ∷ (codes "draw" ∷ []) ∷ []
+-- the words were no command's, since there was no memory to read them, and the world is as it was
+abbrev pub IsUnread : {W : Type 0} → Status → W → W → Type 0
+IsUnread end old new = (end.code ≡ 3) × (new ≡ old)
+
+-- over a disk that is too small for a store each command over one is turned away
+abbrev pub IsAwayFor : View → Status → Command → Option (List ℕ) → Option (List ℕ) → Option (List ℕ) → Option (List ℕ) → Type 0
+IsAwayFor old end command left left' before now = IsOverStore command → old.size < 128 → IsTurnedAway left left' before now end.code
+
+-- this is so of the command whose words they are, and of the bytes left and sent before and now
+abbrev pub ForStreams : {Z W : Type 0} → List (String Z) → (W → Option (List ℕ)) → (W → Option (List ℕ)) → W → W
+    → (Command → Option (List ℕ) → Option (List ℕ) → Option (List ℕ) → Option (List ℕ) → Type 0) → Type 0
+ForStreams words left sent old new IsSo = ByCommand words (λ command. IsSo command (left old) (left new) (sent old) (sent new))
+
+-- the first words of the commands that send before they end
+abbrev pub stream_words : List (List ℕ)
+stream_words = codes "run" ∷ codes "serve" ∷ codes "draw" ∷ codes "export" ∷ []
+
+-- the words begin with one of these
+abbrev pub BeginStream : List (List ℕ) → Type 0
+BeginStream words = Contains stream_words (get_or words 0 [])
 
 -- The command's output for this input was sent, the whole of it; `init` sends nothing. The clauses on the serving commands
 -- speak of the book that the disk holds, and of the one that it holds then.
@@ -63,6 +84,8 @@ SendsAll Init old new input before now = now ≡ before
 SendsAll (Load name) old new input before now = LoadsAll name (page_count old.size) old new input before now
 SendsAll (Demo seed rounds) old new input before now = FromBook (page_count old.size) old new (λ start state. SendsSummary (workload seed rounds) start state before now)
 SendsAll Check old new input before now = SendsCounts (page_count old.size) old before now
+SendsAll ListSeries old new input before now = SendsList (page_count old.size) old before now
+SendsAll (Export name window) old new input before now = ExportsAll name window (page_count old.size) old before now
 
 -- the first bytes of the command's output for this input were sent
 abbrev pub SendsPart : Command → View → View → List ℕ → Option (List ℕ) → Option (List ℕ) → Type 0
@@ -74,6 +97,8 @@ SendsPart Init old new input before now = ⊥
 SendsPart (Load name) old new input before now = LoadsAndSendsPart name (page_count old.size) old new input before now
 SendsPart (Demo seed rounds) old new input before now = FromBook (page_count old.size) old new (λ start state. SendsSummaryPart (workload seed rounds) start state before now)
 SendsPart Check old new input before now = SendsCountsPart (page_count old.size) old before now
+SendsPart ListSeries old new input before now = SendsListPart (page_count old.size) old before now
+SendsPart (Export name window) old new input before now = ExportsPart name window (page_count old.size) old before now
 
 -- A take failed, where these bytes were left. A plot has sent nothing, a serving command what answers the
 -- lines taken, and `draw` the pictures of the frames taken.
@@ -86,13 +111,15 @@ StopsBefore Init old new input before now bytes = ⊥
 StopsBefore (Load name) old new input before now bytes = LoadsTaken name (page_count old.size) old new input bytes
 StopsBefore (Demo seed rounds) old new input before now bytes = ⊥
 StopsBefore Check old new input before now bytes = ⊥
+StopsBefore ListSeries old new input before now bytes = ⊥
+StopsBefore (Export name window) old new input before now bytes = ⊥
 
 -- the same, where the bytes left are told
 abbrev pub StopsWith : Option (List ℕ) → Command → View → View → List ℕ → Option (List ℕ) → Option (List ℕ) → Type 0
 StopsWith left command old new input before now = IfSome left (StopsBefore command old new input before now)
 
--- There was no memory. A plot has sent nothing, a serving command what answers some first lines, and `draw` the
--- pictures of some first frames.
+-- There was no memory. A plot has sent nothing, a serving command what answers some first lines, `draw` the pictures of
+-- some first frames, and an export a front of its text.
 abbrev pub IsCutShort : Command → View → View → List ℕ → Option (List ℕ) → Option (List ℕ) → Type 0
 IsCutShort (Plot w h) old new input before now = now ≡ before
 IsCutShort Run old new input before now = AnswersSome AreTexts (page_count old.size) old new input before now
@@ -102,8 +129,11 @@ IsCutShort Init old new input before now = now ≡ before
 IsCutShort (Load name) old new input before now = LoadsSome name (page_count old.size) old new input
 IsCutShort (Demo seed rounds) old new input before now = FromBook (page_count old.size) old new (AnswersFirst (workload seed rounds))
 IsCutShort Check old new input before now = now ≡ before
+IsCutShort ListSeries old new input before now = now ≡ before
+IsCutShort (Export name window) old new input before now = ExportsPart name window (page_count old.size) old before now
 
--- A call of the disk failed. `init` has sent nothing, a serving command what answers some first lines.
+-- A call of the disk failed. `init` has sent nothing, a serving command what answers some first lines, and an export a
+-- front of its text.
 abbrev pub StopsAtDisk : Command → View → List ℕ → Option (List ℕ) → Option (List ℕ) → Type 0
 StopsAtDisk (Plot w h) old input before now = ⊥
 StopsAtDisk Run old input before now = AnswersLines AreTexts (page_count old.size) old input before now
@@ -113,6 +143,8 @@ StopsAtDisk Init old input before now = now ≡ before
 StopsAtDisk (Load name) old input before now = now ≡ before
 StopsAtDisk (Demo seed rounds) old input before now = now ≡ before
 StopsAtDisk Check old input before now = now ≡ before
+StopsAtDisk ListSeries old input before now = now ≡ before
+StopsAtDisk (Export name window) old input before now = ExportsPart name window (page_count old.size) old before now
 
 -- The line or the field at this place is the first that isn't in the command's grammar, or the input ends there
 -- within a frame; a serving command answers each line. `draw` has sent the pictures of the frames before.
@@ -125,6 +157,8 @@ IsBadInput Init old new input place before now = ⊥
 IsBadInput (Load name) old new input place before now = LoadsToBad name (page_count old.size) old new input place
 IsBadInput (Demo seed rounds) old new input place before now = ⊥
 IsBadInput Check old new input place before now = ⊥
+IsBadInput ListSeries old new input place before now = ⊥
+IsBadInput (Export name window) old new input place before now = ⊥
 
 -- A frame's first wanted key that can't be used has no coefficient. That never comes for a `run` whose disk holds a book.
 abbrev pub Lacks : Command → View → List ℕ → ℕ → Option (List ℕ) → Option (List ℕ) → Type 0
@@ -156,28 +190,44 @@ LeavesDisk Init old new = (new.beside ≡ old.beside) × (Honest old → LeavesN
 LeavesDisk (Load name) old new = GoesOn old new
 LeavesDisk (Demo seed rounds) old new = GoesOn old new
 LeavesDisk Check old new = GoesOn old new
+LeavesDisk ListSeries old new = GoesOn old new
+LeavesDisk (Export name window) old new = GoesOn old new
 
 -- What a crash leaves at each moment of a serving command: a book with each edit whose answer was sent whole by then, and
--- with at most one edit more.
+-- with at most one edit more. `check`, `plot` and `draw` leave the book as it is.
 abbrev pub Leaves : Command → List ℕ → View → View → Type 0
 Leaves Run input old new = LeavesBooks AreTexts (page_count old.size) input old new
 Leaves Serve input old new = LeavesBooks Spelled (page_count old.size) input old new
 Leaves (Load name) input old new = LeavesLoads name (page_count old.size) input old new × LeavesUnnamed name (page_count old.size) old new
 Leaves (Demo seed rounds) input old new = LeavesDemo (workload seed rounds) (page_count old.size) old new
 Leaves Check input old new = LeavesSame (page_count old.size) old new
-Leaves command input old new = ⊤
+Leaves ListSeries input old new = LeavesSame (page_count old.size) old new
+Leaves (Export name window) input old new = LeavesSame (page_count old.size) old new
+Leaves (Plot w h) input old new = LeavesSame (page_count old.size) old new
+Leaves Draw input old new = LeavesSame (page_count old.size) old new
+Leaves Init input old new = ⊤
 
 -- the same where the bytes sent before are told, of which the moments speak
 abbrev pub LeavesTold : Command → View → View → List ℕ → Option (List ℕ) → Option (List ℕ) → Type 0
 LeavesTold command old new input before now = IfSome before (λ bytes. Leaves command input old new)
 
--- a block was found damaged
+-- where the disk of a command other than `init` held a book, it holds one again
+abbrev pub HoldsFor : Command → View → View → Type 0
+HoldsFor Init old new = ⊤
+HoldsFor command old new = HoldsAgain (page_count old.size) old new
+
+abbrev pub HoldsNow : Command → View → View → List ℕ → Option (List ℕ) → Option (List ℕ) → Type 0
+HoldsNow command old new input before now = HoldsFor command old new
+
+-- a block was found damaged: at the opening, or a page by a request, by a set of a load or by a check
 abbrev pub IsDamaged : Command → View → View → ℕ → Type 0
-IsDamaged Run old new place = IsDamagedAt old new place
-IsDamaged Serve old new place = IsDamagedAt old new place
-IsDamaged (Load name) old new place = (place ≡ 1) ⊎ (66 ≤ place)
-IsDamaged (Demo seed rounds) old new place = (place ≡ 1) ⊎ (66 ≤ place)
-IsDamaged Check old new place = ((place ≡ 1) ⊎ (66 ≤ place)) × ((Honest old → IsDamagedBlock (page_count old.size) old.image place) ⊎ IsBadPart (page_count old.size) old place)
+IsDamaged Run old new place = IsDamagedPlace IsBadForRequest old new place
+IsDamaged Serve old new place = IsDamagedPlace IsBadForRequest old new place
+IsDamaged (Load name) old new place = IsDamagedPlace IsBadForEdit old new place
+IsDamaged (Demo seed rounds) old new place = IsDamagedPlace IsBadForRequest old new place
+IsDamaged Check old new place = IsDamagedPlace IsBadForCheck old old place
+IsDamaged ListSeries old new place = IsDamagedAtFirst old place
+IsDamaged (Export name window) old new place = IsDamagedAtFirst old place ⊎ IsBadInTree (page_count old.size) old place
 IsDamaged command old new place = ⊥
 
 -- which never comes where the disk of a serving command holds a book
@@ -187,6 +237,8 @@ IsUndamaged Serve old = Never (page_count old.size) old
 IsUndamaged (Load name) old = Never (page_count old.size) old
 IsUndamaged (Demo seed rounds) old = Never (page_count old.size) old
 IsUndamaged Check old = Never (page_count old.size) old
+IsUndamaged ListSeries old = Never (page_count old.size) old
+IsUndamaged (Export name window) old = Never (page_count old.size) old
 IsUndamaged command old = ⊥
 
 -- an empty store was made where none was, and a crash now leaves it
@@ -209,6 +261,8 @@ IsTooSmall Init old place = (place ≡ old.size) × (old.size < 128)
 IsTooSmall (Load name) old place = (place ≡ old.size) × (old.size < 128)
 IsTooSmall (Demo seed rounds) old place = (place ≡ old.size) × (old.size < 128)
 IsTooSmall Check old place = (place ≡ old.size) × (old.size < 128)
+IsTooSmall ListSeries old place = (place ≡ old.size) × (old.size < 128)
+IsTooSmall (Export name window) old place = (place ≡ old.size) × (old.size < 128)
 IsTooSmall command old place = ⊥
 
 -- there is a store already, in whose page 0 this block is
@@ -230,22 +284,32 @@ IsTooMuch Init old new input place before now = ⊥
 IsTooMuch (Load name) old new input place before now = (place ≡ 2 ^ 32) × LoadsWithin name (page_count old.size) old new input
 IsTooMuch (Demo seed rounds) old new input place before now = ⊥
 IsTooMuch Check old new input place before now = ⊥
+IsTooMuch ListSeries old new input place before now = ⊥
+IsTooMuch (Export name window) old new input place before now = ⊥
 
 -- a set is refused, or there is no series of the name: then no input was taken and the book stays
 abbrev pub IsRefused : Command → View → View → List ℕ → Option (List ℕ) → ℕ → Type 0
 IsRefused (Load name) old new input left place =
     RefusesSet name (page_count old.size) old new input place
     × Unnamed (page_count old.size) old name (λ total book. (place ≡ 8) × (left ≡ Some input) × HoldsBook (page_count old.size) total book new)
+IsRefused (Export name window) old new input left place = (place ≡ 8) × HasNone (page_count old.size) old name
 IsRefused command old new input left place = ⊥
 
--- the same, by the bytes left and the place
+-- the same, by the bytes left and the place; nothing was sent
 abbrev pub IsRefusedWith : Option (List ℕ) → ℕ → Command → View → View → List ℕ → Option (List ℕ) → Option (List ℕ) → Type 0
-IsRefusedWith left place command old new input before now = IsRefused command old new input left place
+IsRefusedWith left place command old new input before now = (now ≡ before) × IsRefused command old new input left place
 
 -- a series of no such name has its code, unless a call of the disk fails or there is no memory
 abbrev pub TellsUnnamed : Command → View → ℕ → Type 0
 TellsUnnamed (Load name) old code = Unnamed (page_count old.size) old name (λ total book. Contains (3 ∷ 6 ∷ 14 ∷ []) code)
+TellsUnnamed (Export name window) old code = Unnamed (page_count old.size) old name (λ total book. Contains (3 ∷ 6 ∷ 14 ∷ []) code)
 TellsUnnamed command old code = ⊤
+
+-- A list reads at most the blocks that an opening reads, and an export beside these each page of its series' tree once.
+abbrev pub ReadsFew : Command → View → View → Type 0
+ReadsFew ListSeries old new = ReadsOpening old new
+ReadsFew (Export name window) old new = ReadsSeries name (page_count old.size) old new
+ReadsFew command old new = ⊤
 
 -- the input is slots, and no more than a plot takes
 pub record IsSlots (input : List ℕ) : Type 0 where
@@ -262,7 +326,7 @@ pub record IsFrames (input : List ℕ) : Type 0 where
   pub accepted : NoneRejected frames
   pub short : length input ≤ 2 ^ 32
 
--- the input is no more than the command takes; `init`, `demo` and `check` take none
+-- the input is no more than the command takes; `init`, `demo`, `check`, `list` and `export` take none
 abbrev pub IsWithin : Command → List ℕ → Type 0
 IsWithin (Plot w h) input = length input ≤ 2 ^ 32
 IsWithin Run input = length input ≤ 2 ^ 32
@@ -272,6 +336,8 @@ IsWithin Init input = ⊤
 IsWithin (Load name) input = length input ≤ 2 ^ 32
 IsWithin (Demo seed rounds) input = ⊤
 IsWithin Check input = ⊤
+IsWithin ListSeries input = ⊤
+IsWithin (Export name window) input = ⊤
 
 -- the lines are no more than a serving command takes, its disk holds a book, and no call of the disk failed
 pub record AreLines (old new : View) (input : List ℕ) : Type 0 where
@@ -301,6 +367,15 @@ pub record StandsOn (old new : View) : Type 0 where
   pub holds : HoldsBook (page_count old.size) total book old
   pub whole : HasRisen old.faults new.faults → ⊥
 
+-- the disk holds a book with a series of this name, and no call of it failed
+pub record HoldsNamed (name : List ℕ) (old new : View) : Type 0 where
+  pub total : ℕ
+  pub book : List Series
+  pub holds : HoldsBook (page_count old.size) total book old
+  pub series : Series
+  pub named : IsNamed book name series
+  pub whole : HasRisen old.faults new.faults → ⊥
+
 -- the input is in the grammar of a command that takes one, and no more than it takes
 abbrev pub IsInput : Command → View → View → List ℕ → Type 0
 IsInput (Plot w h) old new input = IsSlots input
@@ -311,6 +386,8 @@ IsInput Init old new input = ⊥
 IsInput (Load name) old new input = AreReadings name old new input
 IsInput (Demo seed rounds) old new input = StandsOn old new
 IsInput Check old new input = StandsOn old new
+IsInput ListSeries old new input = StandsOn old new
+IsInput (Export name window) old new input = HoldsNamed name old new
 
 -- The words are those of a command, the input is told, and it is good for each command whose words they are.
 pub record HasGoodInput {Z : Type 0} (words : List (String Z)) (left : Option (List ℕ)) (IsGood : Command → List ℕ → Type 0) : Type 0 where
@@ -332,6 +409,16 @@ pub record AreReplies (old : State) (lines : List (Option (List ℕ))) (frames :
   pub sound : IsSound old
   pub alone : old.sessions ≡ []
   pub replied : RepliesToAll old lines frames new
+
+-- The input is the frames that answer lines, all of them or those that name one session, and no more than `draw` takes.
+pub record IsOfReplies (input : List ℕ) : Type 0 where
+  pub old : State
+  pub new : State
+  pub lines : List (Option (List ℕ))
+  pub frames : List Frame
+  pub replied : AreReplies old lines frames new
+  pub spelled : (input ≡ flat_map spelling frames) ⊎ ((n : ℕ) × (input ≡ flat_map spelling (filter (names n) frames)))
+  pub short : length input ≤ 2 ^ 32
 
 -- the pictures of the answered views were sent, each of the book as it was at that line
 pub record SendsPictures (old : State) (lines : List (Option (List ℕ))) (frames : List Frame) (new : State) (before now : Option (List ℕ)) : Type 0 where
@@ -355,11 +442,12 @@ pub record DrawsReplies (input : List ℕ) (before now : Option (List ℕ)) : Ty
 
 -- ---- the end of a command
 
--- a command that sends before its input has ended
+-- a command that sends before it ends
 abbrev pub IsStreaming : Command → Type 0
 IsStreaming Run = ⊤
 IsStreaming Serve = ⊤
 IsStreaming Draw = ⊤
+IsStreaming (Export name window) = ⊤
 IsStreaming command = ⊥
 
 -- the operands of a command are in their ranges
@@ -371,6 +459,12 @@ HasOperands command = ⊤
 -- What a command did, sent and left, and why it ended, by the status: the clauses of the program's call, of one command.
 pub record CommandEnds (command : Command) (old new : View) (left left' before now : Option (List ℕ)) (faults : Faults) (code place : ℕ) : Type 0 where
   pub codes : Contains (0 ∷ 3 ∷ 4 ∷ 5 ∷ 6 ∷ 7 ∷ 8 ∷ 9 ∷ 10 ∷ 11 ∷ 12 ∷ 13 ∷ 14 ∷ 15 ∷ []) code
+  pub own : Contains (codes_of command) code
+  pub away : IsOverStore command → old.size < 128 → IsTurnedAway left left' before now code
+  pub untaken : TakesNone command → left' ≡ left
+  pub bars : code ≡ 7 → Bars command old new left left' before now place
+  pub reads : ReadsFew command old new
+  pub unsent : code ≡ 14 → now ≡ before
   pub read : code ≡ 4 → HasRisen faults.reads faults.reads_now
   pub stopped : code ≡ 4 → IfSome left (λ input. IfSome left' (StopsBefore command old new input before now))
   pub send : code ≡ 5 → HasRisen faults.sends faults.sends_now
@@ -394,10 +488,12 @@ pub record CommandEnds (command : Command) (old new : View) (left left' before n
   pub part : code ≡ 5 → IfSome left (λ input. SendsPart command old new input before now)
   pub nothing : code ≢ 0 → code ≢ 5 → (IsStreaming command → ⊥) → now ≡ before
   pub pictures : code ≡ 0 → command ≡ Draw → IfSome left (λ input. DrawsReplies input before now)
+  pub holds : code ≢ 6 → IfSome left (λ input. HoldsFor command old new)
   pub crash : IfSome left (λ input. LeavesTold command old new input before now)
   pub disk : LeavesDisk command old new
   pub made : code ≡ 0 → IsMade command old new
   pub complete : IfSome left (λ input. IsInput command old new input → Contains of_done code)
+  pub drawn : command ≡ Draw → IfSome left (λ input. IsOfReplies input → Contains of_done code)
   pub ready : command ≡ Init → IsFree old → (HasRisen old.faults new.faults → ⊥) → (code ≡ 0) ⊎ (code ≡ 3)
 
 -- the same by the status, and by what passed through the streams

@@ -16,7 +16,6 @@ use Rattle.gate_pages.specs.declared.pages.Pages.{Ghosts}
 use Rattle.series_book.specs.declared.one_series.Series.{Series}
 use Rattle.chart_service.specs.Stepping.{StandsAfter}
 use Rattle.chart_service.specs.declared.failure.ServeEnd.TheVariants.{ReadFault, SendFault, DiskFault, Damaged, InputTooLong, NoMemory}
-use Rattle.series_catalog.specs.declared.stored_series.StoredSeries.{StoredSeries}
 use Rattle.zoom_session.specs.declared.session.Session.{Session}
 use Rattle.chart_program.specs.declared.run_end.RunEnd.{RunEnd}
 use Rattle.chart_program.specs.declared.run_end.RunEnd.TheVariants.{Serve, Show}
@@ -64,14 +63,17 @@ run_answer (Ok done) = Ok done
 run_answer (Err (answers.Serve end)) = Err (Serve end)
 run_answer (Err (answers.Reply end)) = Err end
 
--- The text for some first lines was sent, the next line was answered, and showing its frame gave this error.
+-- The text for some first lines was sent, lines behind them were done ahead, and showing their first frame gave this error.
 pub record ShowFails {V : Type 0} (gives : Gives V) (shown shown' : V) (input : List ℕ) (old new : State) (before now : Option (List ℕ)) (e : ClientError) : Type 0 where
   pub rest : List ℕ
   pub between : State
   pub screen : V
   pub first : SendsFirst (AreShown gives shown screen) input rest old between before now
   pub next : AnswersNext rest between new
-  pub fails : gives screen (spelling next.frame) (Err e) shown'
+  pub frame : Frame
+  pub later : List Frame
+  pub is_first : next.frames ≡ frame ∷ later
+  pub fails : gives screen (spelling frame) (Err e) shown'
 
 -- why not all lines of the input were answered, and what was sent, where the pages stand for a book then
 abbrev pub EndsRunAt : {V : Type 0} → Gives V → V → V → List ℕ → State → State → Option (List ℕ) → Option (List ℕ) → Option (List ℕ) → RunEnd → Type 0
@@ -95,9 +97,9 @@ EndsRun gives shown shown' o old image sessions left before now end =
     StandsAfter old.total image sessions (λ new. IfSome o (λ input. EndsRunAt gives shown shown' input old new left before now end))
 
 -- a page that the end names is one of the store's, or damaged where reads give what the pages are
-abbrev pub EndsAtBad : Type 0 → List StoredSeries → Image → ℕ → RunEnd → Type 0
-EndsAtBad told catalog image total (Serve end) = serving.EndsAtBad told catalog image total end
-EndsAtBad told catalog image total (Show e) = ⊤
+abbrev pub EndsAtBad : Type 0 → ℕ → Image → RunEnd → Type 0
+EndsAtBad told count image (Serve end) = serving.EndsAtBad told count image end
+EndsAtBad told count image (Show e) = ⊤
 
 -- an error of showing is one that `show` answered
 abbrev pub IsShown : {V : Type 0} → Gives V → RunEnd → Type 0

@@ -1,5 +1,5 @@
 -- What a serving command says to the lines of its input, over the book that its disk holds, and what it leaves.
-use Rattle.std.specs.Prelude.{◌≡◌, ℕ, ◌+◌, ◌^◌, ◌<◌, ◌≤◌, List, length, Option, IfSome, Result, Ok, Err, OnOk, IfErr, ⊤}
+use Rattle.std.specs.Prelude.{◌≡◌, ◌≢◌, ℕ, ◌+◌, ◌^◌, ◌<◌, ◌≤◌, List, length, Option, IfSome, Result, Ok, Err, OnOk, IfErr, ⊤}
 use Rattle.block_disk.specs.Counts.{HasRisen}
 use Rattle.block_disk.specs.View.{Image, View, Honest, sent_now}
 use Rattle.chart_client.specs.Accepting.{Rejects}
@@ -11,16 +11,12 @@ use Rattle.gate_pages.specs.GatePages.{IsReadable}
 use Rattle.gate_pages.specs.Journal.{page_count, pages_of}
 use Rattle.gate_pages.specs.Pages.{GoesOn}
 use Rattle.line_raster.specs.Canvas.{Canvas}
-use Rattle.series_book.specs.declared.one_series.Series.{Series}
-use Rattle.series_catalog.specs.declared.stored_series.StoredSeries.{StoredSeries}
-use Rattle.disk_store.specs.Held.{HoldsBook}
 use Rattle.disk_store.specs.Openings.{Prevents}
 use Rattle.disk_store.specs.declared.causes.OpeningCause.{OpeningCause}
 use Rattle.disk_store.specs.declared.causes.OpeningCause.TheVariants as opening
 use Rattle.chart_service.specs.State.{State}
 use Rattle.chart_service.specs.Moments.{Since, IsAhead}
 use Rattle.chart_service.specs.Serving.{AreSpelled, SendsText, SendsFrontOf, SendsTaken, SendsWithin, SendsSome, SendsLines}
-use Rattle.chart_service.specs.Stepping.{IsBadPage}
 use Rattle.chart_service.specs.declared.failure.ServeEnd.{ServeEnd}
 use Rattle.chart_service.specs.declared.failure.ServeEnd.TheVariants as serve_end
 use Rattle.drawn_replies.specs.Pictures.{ArePictured}
@@ -28,7 +24,9 @@ use Rattle.chart_program.specs.declared.lines_end.LinesEnd.{LinesEnd}
 use Rattle.chart_program.specs.declared.lines_end.LinesEnd.TheVariants as lines_end
 use Rattle.chart_program.specs.declared.run_end.RunEnd.{RunEnd}
 use Rattle.chart_program.specs.declared.run_end.RunEnd.TheVariants as run_end
-use Rattle.store_commands.specs.Books.{begun, OfBook, FromBook, Never}
+use Rattle.stored_book.specs.Damage.{IsBadForRequest}
+use Rattle.store_commands.specs.Damaged.{IsDamagedLater}
+use Rattle.store_commands.specs.Books.{begun, OfBook, FromBook, HoldsAgain, Never}
 use Rattle.chart_program.specs.Texts.{texts_of}
 
 -- what is said to lines by the frames that answer them from a state on
@@ -99,15 +97,7 @@ abbrev pub LeavesBooks : Says → ℕ → List ℕ → View → View → Type 0
 LeavesBooks IsText count input old new =
     OfBook count old (λ total book. Since old new (IsAheadOn (IsText (begun total book)) input count total (begun total book) (sent_now old)))
 
--- ---- pages and frames that can't be used
-
--- this block was found damaged while lines were answered: it is a page of the store, or breaks its layout as it is now
-pub record IsBadPlace (count : ℕ) (new : View) (place : ℕ) : Type 0 where
-  pub page : ℕ
-  pub place_is : place ≡ 66 + page
-  pub catalog : List StoredSeries
-  pub total : ℕ
-  pub bad : IsBadPage (Honest new) catalog (pages_of count new.image) total page
+-- ---- frames that can't be used
 
 -- a frame was given to a client that rejects it so
 pub record IsRejected (e : ClientError) : Type 0 where
@@ -132,7 +122,7 @@ abbrev pub IsLinesCause : Type 0 → ℕ → View → View → Faults → RunEnd
 IsLinesCause CanShow count old new faults (run_end.Serve serve_end.ReadFault) = HasRisen faults.reads faults.reads_now
 IsLinesCause CanShow count old new faults (run_end.Serve serve_end.SendFault) = HasRisen faults.sends faults.sends_now
 IsLinesCause CanShow count old new faults (run_end.Serve serve_end.DiskFault) = HasRisen old.faults new.faults
-IsLinesCause CanShow count old new faults (run_end.Serve (serve_end.Damaged page)) = IsBadPlace count new (66 + page)
+IsLinesCause CanShow count old new faults (run_end.Serve (serve_end.Damaged page)) = IsDamagedLater IsBadForRequest count new (66 + page)
 IsLinesCause CanShow count old new faults (run_end.Serve serve_end.InputTooLong) = ⊤
 IsLinesCause CanShow count old new faults (run_end.Serve serve_end.NoMemory) = ⊤
 IsLinesCause CanShow count old new faults (run_end.Show (client.Missing key)) = CanShow × (key.index < 2 ^ 40) × IsRejected (client.Missing key)
@@ -148,6 +138,7 @@ pub record ServesLines {T : Type 0} (IsText : Says) (CanShow : Type 0) (count : 
   pub ends : IfErr answer (λ end. IfSome left (λ input. EndsLines IsText count old new input left' before now end))
   pub crash : IfSome left (λ input. IfSome before (λ bytes. LeavesBooks IsText count input old new))
   pub cause : IfErr answer (λ end. IsLinesCause CanShow count old new faults end)
+  pub holds : answer ≢ Err (run_end.Serve serve_end.DiskFault) → IfSome left (λ input. HoldsAgain count old new)
   pub goes_on : GoesOn old new
   pub risen : old.faults ≤ new.faults
 
@@ -178,6 +169,7 @@ pub record ServesWorld {T : Type 0} (IsText : Says) (CanShow : Type 0) (old new 
   pub ends : IfErr answer (λ end. IfSome left (λ input. EndsWorld IsText old new input left' before now end))
   pub crash : IfSome left (λ input. IfSome before (λ bytes. LeavesBooks IsText (page_count old.size) input old new))
   pub cause : IfErr answer (λ end. IsWorldCause CanShow old new faults end)
+  pub holds : answer ≢ Err (lines_end.Answering (run_end.Serve serve_end.DiskFault)) → IfSome left (λ input. HoldsAgain (page_count old.size) old new)
   pub goes_on : GoesOn old new
 
 abbrev pub in_world : {T : Type 0} → Result T RunEnd → Result T LinesEnd

@@ -1,8 +1,8 @@
 -- The input of `plot`: a slot on each line that isn't empty.
-use Rattle.std.specs.Prelude.{◌≡◌, ℕ, ℤ, ◌-◌, ◌^◌, ◌<◌, ◌≤◌, ◌⊎◌, true, List, [], ◌∷◌, ◌++◌, length, take, map, All, Option, None, Some}
+use Rattle.std.specs.Prelude.{◌≡◌, ℕ, ℤ, ◌+◌, ◌-◌, ◌^◌, ◌<◌, ◌≤◌, ◌⊎◌, true, List, [], ◌∷◌, ◌++◌, length, take, map, All, Option, None, Some}
 use Rattle.std.specs.Fmt.{signed_decimal}
 use Rattle.std.specs.List.{filter}
-use Rattle.chart_world.specs.Fronts.{says, IsWhole}
+use Rattle.chart_world.specs.Fronts.{says, first_piece, IsWhole}
 use Rattle.chart_world.specs.Lines.{lines, NoLineFeed}
 use Rattle.plain_chart.specs.Samples.{IsSlot}
 use Rattle.chart_program.specs.declared.slot.Entry.{Entry}
@@ -48,7 +48,7 @@ pub record Behind (input rest : List ℕ) (slots : List (Option ℤ)) (place : �
   pub few : length slots ≤ most_slots
   pub counted : place ≡ length front
 
--- the line at this place is the first that is bad
+-- the line at this place is the first that is bad, and it ends among the first 2^32 bytes
 pub record FirstBad (input : List ℕ) (place : ℕ) : Type 0 where
   pub rest : List ℕ
   pub slots : List (Option ℤ)
@@ -57,6 +57,7 @@ pub record FirstBad (input : List ℕ) (place : ℕ) : Type 0 where
   pub later : List (Option (List ℕ))
   pub first : lines rest ≡ line ∷ later
   pub bad : IsBad line
+  pub early : place + length (first_piece rest) ≤ 2 ^ 32
 
 -- behind as many slots as a plot has there is a line with one more
 pub record HasTooMany (input : List ℕ) : Type 0 where

@@ -6,6 +6,7 @@ ghost use Rattle.chart_grid.specs.Limits.{IsSide};
 ghost use Rattle.program_words.specs.declared.words.Command.TheVariants.{Plot, Draw, Init};
 ghost use Rattle.chart_program.specs.Plotted.{plotting_status};
 ghost use Rattle.chart_program.specs.Draws.{IsNumbered, drawing_status};
+ghost use Rattle.store_commands.specs.Away.{TurnsAway};
 ghost use Rattle.store_commands.specs.Traffic.{traffic};
 ghost use Rattle.chart_program.specs.Ran.{EndsCommand, HasOperands, LeavesDisk, IsFree, IsMade, IsTooSmall, IsThere};
 
@@ -18,7 +19,10 @@ use block_disk::{Back, World};
 use chart_frames::laws::{
     length_is_told, more_bytes_mend_nothing, one_frame_a_spelling, spellings_are_good,
 };
-use drawn_replies::laws::{one_session_draws_the_book, replies_draw_the_book};
+use drawn_replies::laws::{
+    one_session_draws_the_book, own_replies_are_accepted, replies_are_accepted,
+    replies_draw_the_book,
+};
 use empty_store::{InitCause, make_store};
 use program_words::Command;
 use std::alloc::Global;
@@ -26,7 +30,9 @@ use store_commands::status::{
     BAD_COEFFICIENT, BAD_INPUT, DISK_FAULT, DONE, FIRST_PAGE, IS_STORE, MISSING, MOST_BYTES,
     NO_MEMORY, READ_FAULT, SEND_FAULT, TOO_MUCH, TOO_SMALL, UNKNOWN_SESSION,
 };
-use store_commands::{Status, check_store, ended, load_series, run_demo};
+use store_commands::{
+    Status, check_store, ended, export_values, list_series, load_series, run_demo,
+};
 
 /// Does a command with the world's input, output and disk, and says how that ended.
 pub(crate) fn status_of_command<W: World>(
@@ -52,12 +58,16 @@ pub(crate) fn status_of_command<W: World>(
         }
         Command::Init => init_status(alloc, world),
         Command::Check => check_store(alloc, world),
+        Command::ListSeries => list_series(alloc, world),
+        Command::Export { name, window } => export_values(alloc, &name, window, world),
     }
 }
 
 /// Makes the disk an empty store, and says how that ended.
 fn init_status<W: World>(alloc: Global, world: W) -> (Status, W)
     ensures codes { Contains (DONE ∷ NO_MEMORY ∷ DISK_FAULT ∷ TOO_SMALL ∷ IS_STORE ∷ []) result.0.code }
+    ensures away { TurnsAway (W.view world) (traffic W.left W.sent W.read_faults W.send_faults world result.1) result.0 }
+    ensures untaken { W.left result.1 ≡ W.left world }
     ensures fault { result.0.code ≡ DISK_FAULT → HasRisen (W.view world).faults (W.view result.1).faults }
     ensures small { result.0.code ≡ TOO_SMALL → IsTooSmall Init (W.view world) result.0.place }
     ensures there { result.0.code ≡ IS_STORE → IsThere Init (W.view world) result.0.place }
@@ -116,6 +126,8 @@ fn draw_status<W: World>(alloc: Global, world: &mut W) -> Status
     more_bytes_mend_nothing();
     replies_draw_the_book();
     one_session_draws_the_book();
+    replies_are_accepted();
+    own_replies_are_accepted();
     let answer = draw(alloc, world);
     drawing_status(answer)
 }

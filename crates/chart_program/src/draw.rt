@@ -1,11 +1,12 @@
 ghost use Rattle.std.specs.Prelude.{◌≡◌, ◌≤◌, ◌<◌, ◌^◌, [], length, IfErr, IfOk, IfSome, OnErr, OnOk};
 ghost use Rattle.block_disk.specs.Counts.{HasRisen};
 ghost use Rattle.block_disk.specs.Streams.{Given, left_after};
-ghost use Rattle.block_disk.specs.View.{View, DiskKept};
+ghost use Rattle.block_disk.specs.View.{View};
 ghost use Rattle.chart_frames.specs.Frames.{Fits};
 ghost use Rattle.chart_frames.specs.Pending.{held};
 ghost use Rattle.chart_frames.specs.Stream.{IsPartial};
 ghost use Rattle.chart_program.specs.declared.draw_end.DrawEnd.TheVariants as draw_end;
+ghost use Rattle.chart_program.specs.Alone.{StaysAlone};
 ghost use Rattle.chart_program.specs.Draws.{DrawsMore, DrawsAll, EndsDraw, DrawsFrame, FrameStops, FramesStop, PieceStops, PieceDone, IsNumbered};
 
 use crate::draw_end::DrawEnd;
@@ -22,6 +23,7 @@ use store_commands::status::MOST_BYTES;
 const PIECE: usize = 16_384;
 
 /// Draws the frames of the input, as they come, and sends the picture of each View and Rows frame.
+#[tactic(auto, using(crate::proofs::DiskKept::stays_none))]
 pub fn draw<S: World>(alloc: Global, streams: &mut S) -> Result<(), DrawEnd>
     ensures done { OnOk result (IfSome (S.left streams.old) (λ input. DrawsAll input (S.sent streams.old) (S.sent streams.new))) }
     ensures within { OnOk result (IfSome (S.left streams.old) (λ input. length input ≤ 2 ^ 32)) }
@@ -29,7 +31,7 @@ pub fn draw<S: World>(alloc: Global, streams: &mut S) -> Result<(), DrawEnd>
     ensures read { result ≡ Err DrawEnd.ReadFault → HasRisen (S.read_faults streams.old) (S.read_faults streams.new) }
     ensures numbered { IfErr result IsNumbered }
     ensures send { result ≡ Err DrawEnd.SendFault → HasRisen (S.send_faults streams.old) (S.send_faults streams.new) }
-    ensures disk { DiskKept (S.view streams.old) (S.view streams.new) }
+    ensures disk { StaysAlone (S.view streams.old) (S.view streams.new) }
 {
     let mut client = Client::new(alloc)?;
     let mut buffer = vec![in alloc; 0; PIECE]?;
@@ -44,6 +46,7 @@ pub fn draw<S: World>(alloc: Global, streams: &mut S) -> Result<(), DrawEnd>
 }
 
 /// Takes the input in pieces, and draws the frames that end within each.
+#[tactic(auto, using(crate::proofs::DiskKept::stays_by, crate::proofs::DiskKept::stays_then))]
 fn draw_pieces<S: World>(
     alloc: Global,
     decoder: &mut Decoder,
@@ -60,7 +63,7 @@ fn draw_pieces<S: World>(
     ensures read { result ≡ Err DrawEnd.ReadFault → HasRisen (S.read_faults streams.old) (S.read_faults streams.new) }
     ensures numbered { IfErr result IsNumbered }
     ensures send { result ≡ Err DrawEnd.SendFault → HasRisen (S.send_faults streams.old) (S.send_faults streams.new) }
-    ensures disk { DiskKept (S.view streams.old) (S.view streams.new) }
+    ensures disk { StaysAlone (S.view streams.old) (S.view streams.new) }
 {
     more_bytes_mend_nothing();
     spellings_are_good();
@@ -113,6 +116,7 @@ fn ended(decoder: &Decoder, taken: u64) -> Result<(), DrawEnd>
 }
 
 /// Draws the frames that end within a piece of the input.
+#[tactic(auto, using(crate::proofs::DiskKept::stays_none))]
 fn draw_piece<S: World>(
     alloc: Global,
     decoder: &mut Decoder,
@@ -127,13 +131,14 @@ fn draw_piece<S: World>(
     ensures send_faults { S.send_faults streams.old ≤ S.send_faults streams.new }
     ensures left { S.left streams.new ≡ S.left streams.old }
     ensures read_faults { S.read_faults streams.new ≡ S.read_faults streams.old }
-    ensures disk { DiskKept (S.view streams.old) (S.view streams.new) }
+    ensures disk { StaysAlone (S.view streams.old) (S.view streams.new) }
 {
     decoder.feed(piece)?;
     draw_frames(alloc, decoder, client, streams)
 }
 
 /// Draws the frames that stand whole in what the decoder holds.
+#[tactic(auto, using(crate::proofs::DiskKept::stays_then))]
 fn draw_frames<S: World>(
     alloc: Global,
     decoder: &mut Decoder,
@@ -148,7 +153,7 @@ fn draw_frames<S: World>(
     ensures send_faults { S.send_faults streams.old ≤ S.send_faults streams.new }
     ensures left { S.left streams.new ≡ S.left streams.old }
     ensures read_faults { S.read_faults streams.new ≡ S.read_faults streams.old }
-    ensures disk { DiskKept (S.view streams.old) (S.view streams.new) }
+    ensures disk { StaysAlone (S.view streams.old) (S.view streams.new) }
 {
     length_is_told();
     'frames: loop {
@@ -160,6 +165,7 @@ fn draw_frames<S: World>(
 }
 
 /// Draws a frame, and sends its picture where it has one.
+#[tactic(auto, using(crate::proofs::DiskKept::stays_none, crate::proofs::DiskKept::stays_by))]
 fn draw_frame<S: World>(
     alloc: Global,
     client: &mut Client,
@@ -174,7 +180,7 @@ fn draw_frame<S: World>(
     ensures send_faults { S.send_faults streams.old ≤ S.send_faults streams.new }
     ensures left { S.left streams.new ≡ S.left streams.old }
     ensures read_faults { S.read_faults streams.new ≡ S.read_faults streams.old }
-    ensures disk { DiskKept (S.view streams.old) (S.view streams.new) }
+    ensures disk { StaysAlone (S.view streams.old) (S.view streams.new) }
 {
     frames_have_one_answer();
     let Some(drawing) = client.accept(frame)? else {

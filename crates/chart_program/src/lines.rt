@@ -3,6 +3,7 @@ ghost use Rattle.block_disk.specs.View.{View};
 ghost use Rattle.series_store.specs.Shown as stored;
 ghost use Rattle.chart_service.specs.Shown as shown;
 ghost use Rattle.store_commands.specs.Traffic.{traffic};
+ghost use Rattle.chart_program.specs.CommandStatuses.{OpensFirst};
 ghost use Rattle.chart_program.specs.Served.{AreTexts, Spelled, served, in_world};
 ghost use Rattle.chart_program.specs.Traffic.{PagesServed, WorldServed};
 
@@ -23,7 +24,8 @@ use std::alloc::Global;
 /// Opens the store of a world, sends the frames that answer the lines of the input, and gives the world
 /// back.
 pub fn serve_world<W: World>(alloc: Global, world: W) -> (Result<(), LinesEnd>, W)
-    ensures { WorldServed Spelled ⊥ (W.view world) (W.view result.1) (traffic W.left W.sent W.read_faults W.send_faults world result.1) result.0 }
+    ensures serves { WorldServed Spelled ⊥ (W.view world) (W.view result.1) (traffic W.left W.sent W.read_faults W.send_faults world result.1) result.0 }
+    ensures first { OpensFirst (W.view world) (traffic W.left W.sent W.read_faults W.send_faults world result.1) result.0 }
 {
     match open_store(alloc, world) {
         Ok(store) => {
@@ -37,7 +39,8 @@ pub fn serve_world<W: World>(alloc: Global, world: W) -> (Result<(), LinesEnd>, 
 /// Opens the store of a world, sends the texts that answer the lines of the input, each with the picture
 /// of what it shows, and gives the world back.
 pub fn run_world<W: World>(alloc: Global, world: W) -> (Result<(), LinesEnd>, W)
-    ensures { WorldServed AreTexts (Unit {0}) (W.view world) (W.view result.1) (traffic W.left W.sent W.read_faults W.send_faults world result.1) result.0 }
+    ensures serves { WorldServed AreTexts (Unit {0}) (W.view world) (W.view result.1) (traffic W.left W.sent W.read_faults W.send_faults world result.1) result.0 }
+    ensures first { OpensFirst (W.view world) (traffic W.left W.sent W.read_faults W.send_faults world result.1) result.0 }
 {
     match open_store(alloc, world) {
         Ok(store) => {

@@ -1,9 +1,10 @@
 ghost use Rattle.std.specs.Prelude.{◌≡◌, ◌≤◌, ◌≢◌, ◌^◌, pos, max, length, All, IfOk, IfErr, IfSome, OnOk};
 ghost use Rattle.block_disk.specs.Counts.{HasRisen};
-ghost use Rattle.block_disk.specs.View.{View, DiskKept};
+ghost use Rattle.block_disk.specs.View.{View};
 ghost use Rattle.chart_grid.specs.Limits.{IsSide};
 ghost use Rattle.chart_grid.specs.Projection.{ShowsWindow, HasCanvas};
 ghost use Rattle.plain_chart.specs.Samples.{IsSlot};
+ghost use Rattle.chart_program.specs.Alone.{StaysAlone};
 ghost use Rattle.chart_program.specs.Plotted.{IsPlot, SendsPlot, EndsPlot};
 ghost use Rattle.chart_program.specs.declared.plot.PlotEnd.TheVariants.{Input};
 
@@ -35,6 +36,7 @@ impl From<InputEnd> for PlotEnd {
 }
 
 /// Reads the slots of the input and sends their chart, `w` columns wide and `h` rows high.
+#[tactic(auto, using(crate::proofs::DiskKept::stays_by, crate::proofs::DiskKept::stays_then))]
 pub fn plot<S: World>(alloc: Global, w: u16, h: u16, streams: &mut S) -> Result<(), PlotEnd>
     requires wide { IsSide w }
     requires high { IsSide h }
@@ -44,7 +46,7 @@ pub fn plot<S: World>(alloc: Global, w: u16, h: u16, streams: &mut S) -> Result<
     ensures unsent { IfErr result (λ end. end ≢ PlotEnd.SendFault → S.sent streams.new ≡ S.sent streams.old) }
     ensures read { result ≡ Err (PlotEnd.Input InputEnd.ReadFault) → HasRisen (S.read_faults streams.old) (S.read_faults streams.new) }
     ensures send { result ≡ Err PlotEnd.SendFault → HasRisen (S.send_faults streams.old) (S.send_faults streams.new) }
-    ensures disk { DiskKept (S.view streams.old) (S.view streams.new) }
+    ensures disk { StaysAlone (S.view streams.old) (S.view streams.new) }
 {
     let slots = read_slots(alloc, streams)?;
     let bytes = picture_of(alloc, w, h, slots.as_slice())?;

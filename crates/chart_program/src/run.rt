@@ -2,7 +2,7 @@ ghost use Rattle.std.specs.Prelude.{◌≡◌, ◌≢◌, ◌≤◌, ◌^◌, �
 ghost use Rattle.block_disk.specs.Counts.{HasRisen};
 ghost use Rattle.chart_frames.specs.Frames.{Fits};
 ghost use Rattle.gate_pages.specs.Pages.{GoesOn};
-ghost use Rattle.chart_service.specs.Answering.{SendsAll, LastsBy};
+ghost use Rattle.chart_service.specs.Answering.{SendsAll, LastsBy, ReadsByLines};
 ghost use Rattle.chart_service.specs.Knowing.{KnowsOpen};
 ghost use Rattle.chart_service.specs.Serving.{Serves};
 ghost use Rattle.chart_service.specs.Shown as shown;
@@ -45,6 +45,8 @@ pub fn run_on<P: PageWorld, V: Show>(
     ensures ends { shown.ForBook service.old (λ total book. IfErr result (RunEndsBy P.left P.sent V.gives show.old show.new total book service.old service.new)) }
     // at each moment a crash leaves a book with each edit whose text was sent by then, and at most one edit more
     ensures crash { shown.ForBook service.old (λ total book. LastsBy P.left P.sent (AreShownFrom V.gives show.old) total book service.old service.new) }
+    // blocks are read for lines alone, for each as few as its request may read
+    ensures reads { shown.ForBook service.old (λ total book. ReadsByLines P.left total book service.old service.new) }
     // whatever the pages are
     ensures read { result ≡ Err (RunEnd.Serve ServeEnd.ReadFault) → HasRisen (P.read_faults (shown.pages service.old)) (P.read_faults (shown.pages service.new)) }
     ensures send { result ≡ Err (RunEnd.Serve ServeEnd.SendFault) → HasRisen (P.send_faults (shown.pages service.old)) (P.send_faults (shown.pages service.new)) }
@@ -52,7 +54,7 @@ pub fn run_on<P: PageWorld, V: Show>(
     ensures shown { IfErr result (IsShown V.gives) }
     // where `show` knows the open sessions, each frame that it wasn't able to show names known ones
     ensures known { (knows : V → ℕ → Bool) → Follows V.gives knows → KnowsOpen knows show.old service.old.sessions → IfErr result (EndsKnown V.gives knows) }
-    ensures bad { IfErr result (EndsAtBad (shown.IsTold service.new) (shown.catalog service.new) (shown.image service.new) (shown.total service.new)) }
+    ensures bad { IfErr result (EndsAtBad (shown.IsTold service.new) (shown.view service.new).size (shown.image service.new)) }
     ensures serves { Serves (shown.IsTold service.old) (shown.IsTold service.new) (shown.view service.old) (shown.view service.new) }
     ensures goes_on { GoesOn (shown.under service.old) (shown.under service.new) }
     ensures sound { result ≢ Err (RunEnd.Serve ServeEnd.DiskFault) → (shown.view service.new).fit }

@@ -1,8 +1,11 @@
-ghost use Rattle.std.specs.Prelude.{◌≡◌, IfErr};
+ghost use Rattle.std.specs.Prelude.{◌≡◌, Contains, IfErr};
 ghost use Rattle.block_disk.specs.View.{View};
 ghost use Rattle.chart_client.specs.Accepting.{HasNumber};
+ghost use Rattle.program_words.specs.declared.words.Command.TheVariants.{Run, Serve};
+ghost use Rattle.store_commands.specs.Away.{TurnsAway};
 ghost use Rattle.store_commands.specs.Status.{status};
 ghost use Rattle.store_commands.specs.Traffic.{traffic};
+ghost use Rattle.chart_program.specs.CommandStatuses.{codes_of, IsBarredBy};
 ghost use Rattle.chart_program.specs.Ended.{HasNumberedKey, client_status, serve_end_status, status_by};
 ghost use Rattle.chart_program.specs.Served.{AreTexts, Spelled};
 ghost use Rattle.chart_program.specs.Traffic.{EndsInStatus};
@@ -23,7 +26,10 @@ use store_commands::{Status, ended, opening_status};
 /// Sends the frames that answer the lines of the input, over the store of the world's disk, and says how
 /// that ended.
 pub(crate) fn serve_status<W: World>(alloc: Global, world: W) -> (Status, W)
-    ensures { EndsInStatus Spelled ⊥ (W.view world) (W.view result.1) (traffic W.left W.sent W.read_faults W.send_faults world result.1) result.0 }
+    ensures ends { EndsInStatus Spelled ⊥ (W.view world) (W.view result.1) (traffic W.left W.sent W.read_faults W.send_faults world result.1) result.0 }
+    ensures own { Contains (codes_of Serve) result.0.code }
+    ensures away { TurnsAway (W.view world) (traffic W.left W.sent W.read_faults W.send_faults world result.1) result.0 }
+    ensures bars { IsBarredBy (W.view world) (W.view result.1) (traffic W.left W.sent W.read_faults W.send_faults world result.1) result.0 }
 {
     let (answer, world) = serve_world(alloc, world);
     (status_of(answer), world)
@@ -32,7 +38,10 @@ pub(crate) fn serve_status<W: World>(alloc: Global, world: W) -> (Status, W)
 /// Sends the texts that answer the lines of the input, each with the picture of what it shows, over the
 /// store of the world's disk, and says how that ended.
 pub(crate) fn run_status<W: World>(alloc: Global, world: W) -> (Status, W)
-    ensures { EndsInStatus AreTexts (Unit {0}) (W.view world) (W.view result.1) (traffic W.left W.sent W.read_faults W.send_faults world result.1) result.0 }
+    ensures ends { EndsInStatus AreTexts (Unit {0}) (W.view world) (W.view result.1) (traffic W.left W.sent W.read_faults W.send_faults world result.1) result.0 }
+    ensures own { Contains (codes_of Run) result.0.code }
+    ensures away { TurnsAway (W.view world) (traffic W.left W.sent W.read_faults W.send_faults world result.1) result.0 }
+    ensures bars { IsBarredBy (W.view world) (W.view result.1) (traffic W.left W.sent W.read_faults W.send_faults world result.1) result.0 }
 {
     let (answer, world) = run_world(alloc, world);
     (status_of(answer), world)

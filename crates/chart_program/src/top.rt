@@ -5,7 +5,9 @@ ghost use Rattle.program_words.specs.CommandLine.{plain_words};
 ghost use Rattle.program_words.specs.declared.words.Command.TheVariants.{Draw, Init};
 ghost use Rattle.program_words.specs.Words.{AreCommand, AreWordsOf, ByCommand, Spells, IsWrong};
 ghost use Rattle.store_commands.specs.Status.{status_codes};
-ghost use Rattle.chart_program.specs.Ran.{ForCommand, SendsAll, SendsPart, StopsWith, StopsAtDisk, IsBadInput, IsTooMuch, IsCutShort, IsInput, HasGoodInput, IsFree, IsWithin, LeavesDisk, LeavesTold, IsDamaged, IsUndamaged, IsMade, IsTooSmall, IsThere, IsRefusedWith, TellsUnnamed, Lacks, Misfits, NamesUnopened, DrawsReplies, stream_words};
+ghost use Rattle.chart_program.specs.CommandStatuses.{codes_of, TakesNone, BarsBy};
+ghost use Rattle.chart_program.specs.Lives.{IsLived};
+ghost use Rattle.chart_program.specs.Ran.{ForCommand, ForStreams, IsUnread, IsAwayFor, SendsAll, SendsPart, StopsWith, StopsAtDisk, IsBadInput, IsTooMuch, IsCutShort, IsInput, HasGoodInput, IsFree, IsWithin, LeavesDisk, LeavesTold, HoldsNow, IsDamaged, IsUndamaged, IsMade, IsTooSmall, IsThere, IsRefusedWith, TellsUnnamed, ReadsFew, Lacks, Misfits, NamesUnopened, DrawsReplies, IsOfReplies, BeginStream};
 
 use crate::commands::status_of_command;
 use block_disk::World;
@@ -23,6 +25,7 @@ use store_commands::{Status, ended};
 pub fn chart<W: World>(alloc: Global, words: &[String], world: W) -> (Status, W)
     // each status comes exactly for its cause
     ensures codes { Contains status_codes result.0.code }
+    ensures statuses { result.0.code ≢ WRONG_WORDS → result.0.code ≢ NO_MEMORY → ByCommand words.now (λ command. Contains (codes_of command) result.0.code) }
     ensures wrong { result.0.code ≡ WRONG_WORDS → IsWrong result.0.place (map string_bytes words.now) }
     ensures command { result.0.code ≢ WRONG_WORDS → result.0.code ≢ NO_MEMORY → AreCommand words.now }
     ensures read { result.0.code ≡ READ_FAULT → HasRisen (W.read_faults world) (W.read_faults result.1) }
@@ -40,15 +43,20 @@ pub fn chart<W: World>(alloc: Global, words: &[String], world: W) -> (Status, W)
     ensures damaged { result.0.code ≡ DAMAGED → ByCommand words.now (λ command. IsDamaged command (W.view world) (W.view result.1) result.0.place) }
     ensures undamaged { result.0.code ≡ DAMAGED → ByCommand words.now (λ command. IfSome (W.left world) (λ input. IsUndamaged command (W.view world))) }
     ensures small { result.0.code ≡ TOO_SMALL → ByCommand words.now (λ command. IsTooSmall command (W.view world) result.0.place) }
+    ensures away { result.0.code ≢ WRONG_WORDS → IsUnread result.0 world result.1 ⊎ ForStreams words.now W.left W.sent world result.1 (IsAwayFor (W.view world) result.0) }
+    ensures bars { result.0.code ≡ DAMAGED → ForStreams words.now W.left W.sent world result.1 (BarsBy (W.view world) (W.view result.1) result.0) }
     ensures there { result.0.code ≡ IS_STORE → ByCommand words.now (λ command. IsThere command (W.view world) result.0.place) }
     ensures refused { result.0.code ≡ REFUSED → ForCommand words.now W.view W.left W.sent world result.1 (IsRefusedWith (W.left result.1) result.0.place) }
-    ensures unnamed { result.0.code ≢ WRONG_WORDS → (result.1 ≡ world) ⊎ ByCommand words.now (λ command. TellsUnnamed command (W.view world) result.0.code) }
+    ensures unnamed { result.0.code ≢ WRONG_WORDS → IsUnread result.0 world result.1 ⊎ ByCommand words.now (λ command. TellsUnnamed command (W.view world) result.0.code) }
     ensures place { Contains (DONE ∷ NO_MEMORY ∷ READ_FAULT ∷ SEND_FAULT ∷ DISK_FAULT ∷ []) result.0.code → result.0.place ≡ 0 }
 
     // what was sent
     ensures done { result.0.code ≡ DONE → ForCommand words.now W.view W.left W.sent world result.1 SendsAll }
     ensures part { result.0.code ≡ SEND_FAULT → ForCommand words.now W.view W.left W.sent world result.1 SendsPart }
-    ensures nothing { result.0.code ≢ DONE → result.0.code ≢ SEND_FAULT → (Contains stream_words (plain_words (map string_bytes words.now)) → ⊥) → W.sent result.1 ≡ W.sent world }
+    ensures nothing { result.0.code ≢ DONE → result.0.code ≢ SEND_FAULT → (BeginStream (plain_words (map string_bytes words.now)) → ⊥) → W.sent result.1 ≡ W.sent world }
+
+    // how much `list` and `export` read
+    ensures reads { result.0.code ≢ WRONG_WORDS → (result.1 ≡ world) ⊎ ByCommand words.now (λ command. ReadsFew command (W.view world) (W.view result.1)) }
 
     // of the frames that answer lines `draw` sends the pictures of the book
     ensures pictures { result.0.code ≡ DONE → Spells Draw (plain_words (map string_bytes words.now)) → IfSome (W.left world) (λ input. DrawsReplies input (W.sent world) (W.sent result.1)) }
@@ -57,13 +65,22 @@ pub fn chart<W: World>(alloc: Global, words: &[String], world: W) -> (Status, W)
     // served, and with some first edits of a load and of a workload
     ensures crash { result.0.code ≢ WRONG_WORDS → (result.1 ≡ world) ⊎ ForCommand words.now W.view W.left W.sent world result.1 LeavesTold }
 
+    // so each run is a life, as the law on lists of lives has it
+    ensures life { result.0.code ≢ WRONG_WORDS → IsUnread result.0 world result.1 ⊎ ForCommand words.now W.view W.left W.sent world result.1 IsLived }
+
+    // with any status but 6 the disk holds a book again, where it held one
+    ensures holds { result.0.code ≢ WRONG_WORDS → result.0.code ≢ DISK_FAULT → (result.1 ≡ world) ⊎ ForCommand words.now W.view W.left W.sent world result.1 HoldsNow }
+
     // at each moment of `init` a crash leaves the pages from before, or an empty store
+    ensures untaken { result.0.code ≢ WRONG_WORDS → IsUnread result.0 world result.1 ⊎ ByCommand words.now (λ command. TakesNone command → W.left result.1 ≡ W.left world) }
     ensures untouched { result.0.code ≡ WRONG_WORDS → result.1 ≡ world }
     ensures disk { result.0.code ≢ WRONG_WORDS → (result.1 ≡ world) ⊎ ByCommand words.now (λ command. LeavesDisk command (W.view world) (W.view result.1)) }
     ensures made { result.0.code ≡ DONE → ByCommand words.now (λ command. IsMade command (W.view world) (W.view result.1)) }
 
     // with good words and good input the command is done, a stream fails, or there is no memory
     ensures complete { HasGoodInput words.now (W.left world) (λ command. IsInput command (W.view world) (W.view result.1)) → Contains (DONE ∷ NO_MEMORY ∷ READ_FAULT ∷ SEND_FAULT ∷ []) result.0.code }
+    // so with the frames that answer lines `draw` is done, all of them or those of one session
+    ensures drawn { AreWordsOf Draw words.now → IfSome (W.left world) (λ input. IsOfReplies input → Contains (DONE ∷ NO_MEMORY ∷ READ_FAULT ∷ SEND_FAULT ∷ []) result.0.code) }
     ensures ready { AreWordsOf Init words.now → IsFree (W.view world) → (HasRisen (W.view world).faults (W.view result.1).faults → ⊥) → (result.0.code ≡ DONE) ⊎ (result.0.code ≡ NO_MEMORY) }
 {
     match command_of(alloc, words) {

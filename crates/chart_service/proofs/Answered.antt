@@ -15,7 +15,7 @@ use Rattle.value_filter.specs.declared.steps.Step.{Step}
 use Rattle.request_lines.specs.declared.ranges.RangeWord.{RangeWord}
 use Rattle.series_book.specs.declared.one_series.Series.{Series}
 use Rattle.series_book.specs.declared.refusals.Refusal.{Refusal}
-use Rattle.series_book.specs.declared.refusals.Refusal.TheVariants.{BadWindow, BadCanvas, BadRange, ViewTooLarge, UnknownSession, NoView}
+use Rattle.series_book.specs.declared.refusals.Refusal.TheVariants.{BadWindow, BadCanvas, BadRange, ViewTooLarge}
 use Rattle.series_book.specs.Edits.{id_of}
 use Rattle.zoom_session.specs.declared.session.Session.{Session}
 use Rattle.zoom_session.specs.declared.view_spec.ViewSpec.{ViewSpec}
@@ -65,10 +65,6 @@ planned_over series spec session axis old new r at mine never needed plans bound
     let T : Axis → Type 0 = λ a. IfOk r (λ p. TellsOf series.slots a spec p.told) in
     let C : Axis → Type 0 = λ a. IfErr r (CountsOver series.slots a spec) in
     planned_so series spec session old new r never (subst N at (needed series.slots mine)) plans bounds (subst T at (tells series.slots mine)) frame refuses (subst C at (counts series.slots mine))
-
--- a series that is there
-pub some_and : {X : Type 0} (o : Option X) (x : X) (P : X → Type 0) → o ≡ Some x → P x → IsSomeAnd o P
-some_and {X} o x P is holds = let Q : Option X → Type 0 = λ s. IsSomeAnd s P in subst Q (sym is) holds
 
 -- a view with too many keys is refused
 too_many : (series : Series) (spec : ViewSpec) (number needed cache : ℕ) (old : State) (o : Option Session) → session_of number old.sessions ≡ o → StopsIn series spec o (TooLarge needed cache) → NeedsTooMany series spec number (refused (ViewTooLarge needed cache)) old old
@@ -214,15 +210,6 @@ moves_refused last number t0 t1 error frame old bad below is = elim (slice_get_c
   | inl found ↦ record { series = found.0; there = found.2; reply = inl (bad, record { reply = is; state = refl }) }
   | inr none ↦ absurd (omega (arith, below, none.0))
 ]
-
-last_refused : (o : Option ViewSpec) (number : ℕ) (window : ViewSpec → ℤ × ℤ) (refusal : Refusal) (frame : Frame) (old : State) → IsLast o (Err refusal) → frame ≡ refused refusal → MovesLast o number window frame old old
-last_refused None number window refusal frame old why is = refuses_frame refusal NoView frame old why is
-last_refused (Some last) number window refusal frame old why is = absurd why
-
--- there is no last view
-pub move_refused : (o : Option Session) (number : ℕ) (window : ViewSpec → ℤ × ℤ) (refusal : Refusal) (frame : Frame) (old : State) → IsLastOf o (Err refusal) → frame ≡ refused refusal → MovesIn o number window frame old old
-move_refused None number window refusal frame old why is = refuses_frame refusal UnknownSession frame old why is
-move_refused (Some session) number window refusal frame old why is = last_refused session.last number window refusal frame old why is
 
 last_answered : (o : Option ViewSpec) (last : ViewSpec) (number : ℕ) (window : ViewSpec → ℤ × ℤ) (frame : Frame) (old new : State) → IsLast o (Ok last) → Moves last number (window last).0 (window last).1 frame old new → MovesLast o number window frame old new
 last_answered None last number window frame old new is moves = absurd is

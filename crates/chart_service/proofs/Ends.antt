@@ -6,7 +6,6 @@ use Rattle.std.proofs.lemmas.Bool.{eqb-false}
 use Rattle.block_disk.specs.View.{Image, View}
 use Rattle.chart_world.specs.declared.line_answer.LineFault.{LineFault}
 use Rattle.chart_world.specs.declared.line_answer.LineFault.TheVariants as fault
-use Rattle.series_catalog.specs.declared.stored_series.StoredSeries.{StoredSeries}
 use Rattle.chart_service.specs.Answering.{EndsAtBad}
 use Rattle.chart_service.specs.Making.{IsReplyEnd}
 use Rattle.chart_service.specs.Serving.{end_of, end_of_step}
@@ -60,9 +59,9 @@ pub fault_disk : {T F A : Type 0} (f : LineFault) → ◌≡◌ {A = Result T (A
 fault_disk fault.ReadFault is = differ is refl
 fault_disk fault.InputTooLong is = differ is refl
 
-pub fault_bad : (told : Type 0) (catalog : List StoredSeries) (image : Image) (total : ℕ) (f : LineFault) → serving.EndsAtBad told catalog image total (end_of f)
-fault_bad told catalog image total fault.ReadFault = tt
-fault_bad told catalog image total fault.InputTooLong = tt
+pub fault_bad : (told : Type 0) (count : ℕ) (image : Image) (f : LineFault) → serving.EndsAtBad told count image (end_of f)
+fault_bad told count image fault.ReadFault = tt
+fault_bad told count image fault.InputTooLong = tt
 
 -- ---- the ends of a step
 
@@ -81,10 +80,10 @@ step_fault step.DiskFault is = refl
 step_fault (step.Damaged page) is = differ is refl
 step_fault step.NoMemory is = differ is refl
 
-pub step_bad : (told : Type 0) (catalog : List StoredSeries) (image : Image) (total : ℕ) (e : ServiceError) → NamesBad told catalog image total e → serving.EndsAtBad told catalog image total (end_of_step e)
-step_bad told catalog image total step.DiskFault is = tt
-step_bad told catalog image total (step.Damaged page) is = is
-step_bad told catalog image total step.NoMemory is = tt
+pub step_bad : (told : Type 0) (count : ℕ) (image : Image) (e : ServiceError) → NamesBad told count image e → serving.EndsAtBad told count image (end_of_step e)
+step_bad told count image step.DiskFault is = tt
+step_bad told count image (step.Damaged page) is = is
+step_bad told count image step.NoMemory is = tt
 
 -- unless a call of the disk failed, the pages may be called
 pub step_sound : (told : Type 0) (old new : View) (e : ServiceError) → old.fit → IsUnchangedFor e told old new → (e ≡ step.DiskFault → ⊥) → new.fit
@@ -94,14 +93,14 @@ step_sound told old new step.NoMemory fit is other = is.fit fit
 
 -- ---- the ends of a reply: no fault of the disk or of the input, and no page
 
-pub reply_bad : {F : Type 0} (told : Type 0) (catalog : List StoredSeries) (image : Image) (total : ℕ) (end : AnswerEnd F) → IsReplyEnd end → EndsAtBad told catalog image total end
-reply_bad told catalog image total (Serve ReadFault) is = tt
-reply_bad told catalog image total (Serve SendFault) is = tt
-reply_bad told catalog image total (Serve DiskFault) is = tt
-reply_bad told catalog image total (Serve (Damaged page)) is = absurd is
-reply_bad told catalog image total (Serve InputTooLong) is = tt
-reply_bad told catalog image total (Serve NoMemory) is = tt
-reply_bad told catalog image total (Reply e) is = tt
+pub reply_bad : {F : Type 0} (told : Type 0) (count : ℕ) (image : Image) (end : AnswerEnd F) → IsReplyEnd end → EndsAtBad told count image end
+reply_bad told count image (Serve ReadFault) is = tt
+reply_bad told count image (Serve SendFault) is = tt
+reply_bad told count image (Serve DiskFault) is = tt
+reply_bad told count image (Serve (Damaged page)) is = absurd is
+reply_bad told count image (Serve InputTooLong) is = tt
+reply_bad told count image (Serve NoMemory) is = tt
+reply_bad told count image (Reply e) is = tt
 
 pub not_of_disk : {T F : Type 0} (r : Result T (AnswerEnd F)) → IfErr r IsReplyEnd → r ≡ Err (Serve DiskFault) → ⊥
 not_of_disk {T} {F} r ends is = let P : Result T (AnswerEnd F) → Type 0 = λ x. IfErr x IsReplyEnd in subst P is ends

@@ -1,5 +1,5 @@
 -- Views by their filters: which answer is whose, and what a filtered view is answered.
-use Rattle.std.proofs.Common.{◌≡◌, ℕ, ℤ, suc, ◌+◌, ◌^◌, ◌<◌, ◌≤◌, false, true, List, [], ◌∷◌, length, Option, None, Some, Result, Ok, Err, IfOk, IfErr, refl, sym, subst, inl, inr, arith}
+use Rattle.std.proofs.Common.{◌≡◌, ℕ, ℤ, suc, ◌+◌, ◌^◌, ◌<◌, ◌≤◌, false, true, List, [], ◌∷◌, length, Option, None, Some, Result, Ok, Err, IfOk, IfErr, refl, sym, subst, inr, arith}
 use Rattle.std.specs.Prelude.{All, IsSomeAnd, is_none}
 use Rattle.std.proofs.lemmas.List.Elements.{All-head, All-tail}
 use Rattle.chart_grid.specs.declared.axis.Axis.{Axis}
@@ -8,7 +8,6 @@ use Rattle.om3_coeff.specs.declared.errors.NodeError.{NodeError}
 use Rattle.om3_coeff.specs.declared.errors.NodeError.TheVariants.{DiskFault}
 use Rattle.om3_coeff.specs.View.{NodesView, Agrees, HasCause}
 use Rattle.value_filter.specs.declared.steps.Step.{Step}
-use Rattle.value_filter.specs.declared.faults.FilterFault.TheVariants as filter_fault
 use Rattle.m4_groups.specs.declared.row.Row.{Row}
 use Rattle.m4_groups.specs.Rows.{AreRising}
 use Rattle.m4_groups.specs.Heights.{IsDrawable}
@@ -17,7 +16,6 @@ use Rattle.filter_scan.specs.Answers.{IsCauseOf}
 use Rattle.filter_scan.specs.declared.scan_error.ScanError.{ScanError}
 use Rattle.filter_scan.specs.declared.scan_error.ScanError.TheVariants as scan
 use Rattle.series_book.specs.declared.one_series.Series.{Series}
-use Rattle.series_book.specs.declared.refusals.Refusal.TheVariants.{BadFilter}
 use Rattle.zoom_session.specs.declared.view_spec.ViewSpec.{ViewSpec}
 use Rattle.zoom_session.specs.Sessions.{is_open, viewed}
 use Rattle.chart_frames.specs.declared.frame.Frame.{Frame}
@@ -26,7 +24,7 @@ use Rattle.chart_frames.specs.declared.frame.RowsFrame.{RowsFrame}
 use Rattle.chart_frames.specs.Frames.{FitsRow, FitsRows}
 use Rattle.chart_service.specs.State.{State}
 use Rattle.chart_service.specs.Viewing.{AnswersRows, axis_of, rows_frame}
-use Rattle.chart_service.specs.Replies.{refused, AnswersBy, AnswersView, RepliesByText}
+use Rattle.chart_service.specs.Replies.{AnswersBy, AnswersView, RepliesByText}
 use Rattle.chart_service.specs.Planning.{IsFilterOf, ShowsOf, FitInFrame, ShowsIn, ShowsOrStops}
 use Rattle.chart_service.specs.declared.shown_rows.ShownRows.{ShownRows}
 use Rattle.chart_service.proofs.Lasts.{somebody}
@@ -63,11 +61,6 @@ spelled_view (Some text) None Reply frame old new is reply = absurd is
 spelled_view (Some text) (Some steps) Reply frame old new is reply =
     let P : List Step → Type 0 = λ s. Reply (Some s) in
     inr (is.0, is.1, subst P is.2 reply)
-
--- a text that spells none
-pub misspelled_view : (text : Option (List ℕ)) (at : ℕ) (Reply : Option (List Step) → Type 0) (frame : Frame) (old : State) → IsFilterOf text (Err (filter_fault.At at)) → frame ≡ refused (BadFilter at) → RepliesByText text Reply frame old old
-misspelled_view None at Reply frame old is refuses = absurd is
-misspelled_view (Some text) at Reply frame old is refuses = inl (at, is, record { reply = refuses; state = refl })
 
 -- ---- the rows of a frame
 
@@ -136,11 +129,6 @@ answered_rows None spec number shown rows old new there is frame state = is
 answered_rows (Some series) spec number shown rows old new there is frame state =
     let P : RowsFrame → Type 0 = λ r. AnswersRows series spec number (Rows r) old new in
     subst P (sym frame) (rows_in series spec number shown old new there is state)
-
--- what holds of the rows of a series that is there
-pub fit_of : (book : Option Series) (spec : ViewSpec) (shown : ShownRows) → IsSomeAnd book (λ series. ShowsIn series spec shown) → FitInFrame spec.grid.w shown
-fit_of None spec shown is = absurd is
-fit_of (Some series) spec shown is = is.fit
 
 stops_by : (old new : NodesView) (e : ScanError) (series : Series) (spec : ViewSpec) → ((n : NodeError) → HasCause old new n → n ≡ DiskFault) → IsCauseOf old new e → ShowsOrStops series spec (Err e)
 stops_by old new (scan.Node n) series spec never cause = never n cause

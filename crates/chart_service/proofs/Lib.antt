@@ -14,6 +14,7 @@ pub mod Ends
 pub mod Sending
 pub mod Made
 pub mod Stands
+pub mod TurnLemmas
 pub mod Known
 pub mod Served
 pub mod Answered
@@ -25,6 +26,4 @@ pub mod Lasts
 pub mod Showing
 pub mod Openings
 pub mod Standing
-pub mod OneList
-pub mod OneGrid
 pub mod OneReply

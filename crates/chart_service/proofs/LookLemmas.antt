@@ -1,5 +1,5 @@
 -- Calls that leave the pages as they are.
-use Rattle.std.proofs.Common.{◌≡◌, ℕ, ◌≤◌, List, Option, None, Some, Result, Ok, Err, IfOk, refl, sym, subst, inl, inr, arith}
+use Rattle.std.proofs.Common.{◌≡◌, ℕ, ◌≤◌, List, Option, Some, Result, Ok, Err, IfOk, refl, sym, subst, inl, arith}
 use Rattle.std.specs.Prelude.{MatchResult, slice_get}
 use Rattle.block_disk.specs.View.{Image, View, Now, Only, Passes}
 use Rattle.block_disk.proofs.Passing.{passes_none, passes_weaker}
@@ -20,13 +20,13 @@ use Rattle.stored_book.specs.Standing.{StandsForBook}
 use Rattle.tree_walk.specs.declared.tree.Tree.{Tree}
 use Rattle.tree_walk.specs.declared.trail.Trail.{Trail}
 use Rattle.tree_walk.specs.Paths.{IsDamaged}
-use Rattle.tree_walk.specs.PagedNodes.{Keeps, ground, paged_view}
+use Rattle.tree_walk.specs.PagedNodes.{ground, paged_view}
 use Rattle.zoom_session.specs.declared.session.Session.{Session}
-use Rattle.chart_service.specs.Opening.{OpensBy, LosesAtMost}
+use Rattle.chart_service.specs.Opening.{OpensBy}
 use Rattle.chart_service.specs.State.{State}
 use Rattle.chart_service.specs.Replies.{refused}
 use Rattle.chart_service.specs.Stepping.{state_of, IsBeforeOrAfter, IsUnchangedBy, IsUnchangedFor, Steps}
-use Rattle.chart_service.specs.Looking.{Looks, Looked, Replying, IsNodeCause, IsOfPages, IsViewCause, error_of}
+use Rattle.chart_service.specs.Looking.{Looks, Looked, Replying, IsNodeCause, IsOfPages}
 use Rattle.chart_service.specs.declared.failure.ServiceError.{ServiceError}
 use Rattle.chart_service.specs.declared.failure.ServiceError.TheVariants.{DiskFault, Damaged, NoMemory}
 
@@ -46,35 +46,6 @@ looks_none told at under s catalog = record {
   writes = refl;
   superblock = refl;
   catalog_is = refl;
-}
-
--- the moments of the first pages, as many as the numbers tell, are those of all
-all_pages : (told told' : Type 0) (old new under under' : View) (s s' : Superblock) (tree tree' : Tree) → Keeps (ground told old under s tree) (ground told' new under' s' tree') → Passes old new (Now old) (Quiet old)
-all_pages told told' old new under under' s s' tree tree' kept = record {
-  later = kept.time.later;
-  past = kept.time.past;
-  kept = kept.time.kept;
-  here = kept.time.here;
-  sent_past = kept.time.sent_past;
-  sent_here = kept.time.sent_here;
-}
-
--- asks
-pub looks_by : (told told' : Type 0) (old new under under' : View) (s s' : Superblock) (tree tree' : Tree) (catalog catalog' : List StoredSeries) → Keeps (ground told old under s tree) (ground told' new under' s' tree') → catalog' ≡ catalog → old.faults ≤ new.faults → Looks told told' old new under under' s s' catalog catalog'
-looks_by told told' old new under under' s s' tree tree' catalog catalog' kept same faults = record {
-  time = all_pages told told' old new under under' s s' tree tree' kept;
-  goes_on = kept.goes_on;
-  told = kept.told;
-  was_told = kept.was_told;
-  image = kept.image;
-  size = kept.count;
-  beside = kept.beside;
-  fit = kept.fit;
-  faults = faults;
-  syncs = kept.syncs;
-  writes = kept.writes;
-  superblock = kept.superblock;
-  catalog_is = same;
 }
 
 -- ---- what is said of a step
@@ -131,24 +102,6 @@ looked_refused number frame refusal sessions told at under s catalog is fits = r
 pub replying_refused : (Reply : Frame → State → State → Type 0) (Reads : ℕ → ℕ → Type 0) (frame : Frame) (total : ℕ) (book : List Series) (sessions : List Session) (at : View) → Reply frame (state_of book total sessions) (state_of book total sessions) → Reads at.reads at.reads → Replying Reply Reads (Ok frame) total book sessions sessions at at
 replying_refused Reply Reads frame total book sessions at reply reads = record { reply = reply; standing = tt; reads = reads }
 
--- no session is lost
-lost_none : (number : Option ℕ) (sessions : List Session) → LosesAtMost number sessions sessions
-lost_none None sessions = refl
-lost_none (Some number) sessions = inl refl
-
--- there was no memory at once
-pub looked_no_memory : (number : Option ℕ) (sessions : List Session) (told : Type 0) (at under : View) (s : Superblock) (catalog : List StoredSeries) → Looked number (Err NoMemory) sessions sessions told told at at under under s s catalog catalog
-looked_no_memory number sessions told at under s catalog = record {
-  fits = tt;
-  opens = tt;
-  lost = lost_none number sessions;
-  looks = looks_none told at under s catalog;
-  cause = tt;
-}
-
-pub replying_no_memory : (Reply : Frame → State → State → Type 0) (Reads : ℕ → ℕ → Type 0) (total : ℕ) (book : List Series) (sessions : List Session) (at : View) → Reads at.reads at.reads → Replying Reply Reads (Err NoMemory) total book sessions sessions at at
-replying_no_memory Reply Reads total book sessions at reads = record { reply = tt; standing = inr refl; reads = reads }
-
 if_ok : {T E : Type 0} (r : Result T E) (P Q : T → Type 0) → ((t : T) → P t → Q t) → IfOk r P → IfOk r Q
 if_ok (Ok t) P Q more is = more t is
 if_ok (Err e) P Q more is = tt
@@ -168,7 +121,7 @@ pub node_cause : (told : Type 0) (old new under : View) (told' : Type 0) (under'
 node_cause told old new under told' under' s s' tree tree' trail trail' catalog id series node.DiskFault there is cause = cause
 node_cause told old new under told' under' s s' tree tree' trail trail' catalog id series (node.Damaged page) there is cause =
     let P : Tree → Type 0 = λ t. IsDamaged old.image s.total t page in
-    λ t. record { id = id; series = series; there = there; damaged = subst P is (cause t) }
+    (cause.0, λ t. record { id = id; series = series; there = there; damaged = subst P is (cause.1 t) })
 node_cause told old new under told' under' s s' tree tree' trail trail' catalog id series (node.Missing key) there is cause = cause
 node_cause told old new under told' under' s s' tree tree' trail trail' catalog id series (node.BadCoefficient key) there is cause = cause
 
@@ -178,15 +131,9 @@ of_pages (node.Damaged page) told catalog total old new cause = tt
 of_pages (node.Missing key) told catalog total old new cause = cause
 of_pages (node.BadCoefficient key) told catalog total old new cause = cause
 
-pub view_cause : (error : NodeError) (told : Type 0) (catalog : List StoredSeries) (total : ℕ) (old new : View) → IsNodeCause error told catalog total old new → IsViewCause (error_of error) told catalog total old new
-view_cause node.DiskFault told catalog total old new cause = cause
-view_cause (node.Damaged page) told catalog total old new cause = cause
-view_cause (node.Missing key) told catalog total old new cause = absurd cause
-view_cause (node.BadCoefficient key) told catalog total old new cause = absurd cause
-
 -- where no page is damaged, the disk failed
 pub disk_alone : (told : Type 0) (old new under : View) (told' : Type 0) (under' : View) (s s' : Superblock) (tree tree' : Tree) (trail trail' : Trail) (error : NodeError) → told → ((page : ℕ) → IsDamaged old.image s.total tree page → ⊥) → HasCause (paged_view (ground told old under s tree) trail) (paged_view (ground told' new under' s' tree') trail') error → error ≡ node.DiskFault
 disk_alone told old new under told' under' s s' tree tree' trail trail' node.DiskFault t whole cause = refl
-disk_alone told old new under told' under' s s' tree tree' trail trail' (node.Damaged page) t whole cause = absurd (whole page (cause t))
+disk_alone told old new under told' under' s s' tree tree' trail trail' (node.Damaged page) t whole cause = absurd (whole page (cause.1 t))
 disk_alone told old new under told' under' s s' tree tree' trail trail' (node.Missing key) t whole cause = absurd cause
 disk_alone told old new under told' under' s s' tree tree' trail trail' (node.BadCoefficient key) t whole cause = absurd cause

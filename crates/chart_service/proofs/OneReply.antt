@@ -40,8 +40,8 @@ use Rattle.chart_service.specs.Replies.{refused, Refuses, Edits, Opens, Closes, 
 use Rattle.chart_service.specs.Serving.{RepliesToAll}
 use Rattle.chart_service.specs.Alone.{alone, own_lines, own_frames, NeverCrowded}
 use Rattle.chart_service.proofs.Standing.{stands_alone}
-use Rattle.chart_service.proofs.OneList.{one_list}
-use Rattle.chart_service.proofs.OneGrid.{grid_same}
+use Rattle.view_keys.proofs.Orders.{one_list}
+use Rattle.view_keys.proofs.Grids.{grid_same}
 
 -- what is known of the layers below: points have one list of rows, and a text is read in one way
 pub record Laws : Type 0 where

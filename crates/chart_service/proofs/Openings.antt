@@ -7,13 +7,10 @@ use Rattle.om3_coeff.specs.declared.coef.Coef.{Coef}
 use Rattle.zoom_session.specs.declared.session.Session.{Session}
 use Rattle.zoom_session.specs.declared.view_spec.ViewSpec.{ViewSpec}
 use Rattle.zoom_session.specs.Sessions.{is_open, without, viewed, after_view, AreSessions}
-use Rattle.chart_frames.specs.declared.frame.Frame.TheVariants.{Done, Closed, View, Rows}
+use Rattle.chart_frames.specs.declared.frame.Frame.TheVariants.{Closed, View, Rows}
 use Rattle.chart_frames.specs.declared.frame.ViewFrame.{ViewFrame}
 use Rattle.chart_frames.specs.declared.frame.RowsFrame.{RowsFrame}
 use Rattle.chart_service.specs.Opening.{OpensBy}
-
-pub opens_done : (slots : ℕ) (ss : List Session) → OpensBy (Done slots) ss ss
-opens_done slots ss = record { named = tt; after = λ n. refl }
 
 -- an answered view
 same_open : (number n : ℕ) (spec : ViewSpec) (needed : Option (List (Key × Coef))) (ss : List Session) → is_open n (viewed number spec needed ss) ≡ is_open n ss

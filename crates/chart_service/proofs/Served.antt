@@ -4,7 +4,6 @@ use Rattle.block_disk.specs.View.{Image, View}
 use Rattle.chart_world.specs.LineLaws.{told_so}
 use Rattle.chart_frames.specs.declared.frame.Frame.{Frame}
 use Rattle.chart_frames.specs.Frames.{spelling}
-use Rattle.series_catalog.specs.declared.stored_series.StoredSeries.{StoredSeries}
 use Rattle.zoom_session.specs.declared.session.Session.{Session}
 use Rattle.chart_service.specs.Answering.{ReplyFails, EndsAnswers}
 use Rattle.chart_service.specs.Answering as answering
@@ -108,7 +107,7 @@ served_fault (Ok x) f other is = absurd (cc (is))
 served_fault (Err (Serve e)) f other is = cc
 served_fault (Err (Reply e)) f other is = absurd (other (cc))
 
-pub served_bad : {T : Type 0} (told : Type 0) (catalog : List StoredSeries) (image : Image) (total : ℕ) (r : Result T (AnswerEnd Lack)) → IfErr r (answering.EndsAtBad told catalog image total) → IfErr (serve_end r) (EndsAtBad told catalog image total)
-served_bad told catalog image total (Ok x) is = tt
-served_bad told catalog image total (Err (Serve e)) is = is
-served_bad told catalog image total (Err (Reply e)) is = tt
+pub served_bad : {T : Type 0} (told : Type 0) (count : ℕ) (image : Image) (r : Result T (AnswerEnd Lack)) → IfErr r (answering.EndsAtBad told count image) → IfErr (serve_end r) (EndsAtBad told count image)
+served_bad told count image (Ok x) is = tt
+served_bad told count image (Err (Serve e)) is = is
+served_bad told count image (Err (Reply e)) is = tt

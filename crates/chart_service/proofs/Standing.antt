@@ -23,7 +23,6 @@ use Rattle.zoom_session.specs.declared.view_spec.ViewSpec.{ViewSpec}
 use Rattle.zoom_session.specs.declared.view_spec.RangeSpec.{RangeSpec}
 use Rattle.zoom_session.specs.Sessions.{is_open, session_of, open_refusal, fresh_session, without, viewed, after_view, most_sessions}
 use Rattle.chart_frames.specs.declared.frame.Frame.{Frame}
-use Rattle.chart_grid.specs.declared.grid.Grid.{Grid}
 use Rattle.chart_service.specs.State.{State, IsSound, HasViewOf}
 use Rattle.chart_service.specs.Viewing.{Answers, AnswersRows, range_spec}
 use Rattle.chart_service.specs.Replies.{refused, Refuses, Edits, Opens, Closes, NeedsTooMany, AnswersBy, AnswersView, Views, ViewsSeries, ViewsId, RepliesToView, RepliesByText, Moves, MovesLast, MovesIn, Replies, RepliesTo, RepliesToLine, cache_of}
@@ -113,9 +112,6 @@ other_viewed n m spec needed (s ∷ ss) other =
     ]) refl
 
 -- ---- a line of another session
-
-same_refused : (n : ℕ) (refusal : Refusal) (frame : Frame) (old new : State) → Refuses refusal frame old new → alone n new ≡ alone n old
-same_refused n refusal frame old new refuses = ap (alone n) refuses.state
 
 same_by : (n m : ℕ) (o : Option (List Step)) (series : Series) (spec : ViewSpec) (frame : Frame) (old new : State) → (m == n) ≡ false → AnswersBy o series spec m frame old new → alone n new ≡ alone n old
 same_by n m None series spec frame old new other (inl many) = ap (alone n) many.refuses.state

@@ -11,9 +11,9 @@ use Rattle.series_book.specs.declared.one_series.Series.{Series}
 use Rattle.stored_book.specs.Standing.{StandsForBook}
 use Rattle.zoom_session.specs.declared.session.Session.{Session}
 use Rattle.chart_service.specs.Answering.{EndsAt, EndsAnswers}
-use Rattle.chart_service.specs.Making.{Makes, AreMade, AreMadeFrom, LineDone, LineStopsAt, LineStops, LineMoments}
+use Rattle.chart_service.specs.Making.{Makes, AreMade, AreMadeFrom, LinesDone, LinesStopAt, LinesStop, LinesMoments}
 use Rattle.chart_service.specs.Moments.{IsAhead, Since, Through}
-use Rattle.chart_service.specs.Serving.{SendsText, SendsLines, end_of}
+use Rattle.chart_service.specs.Serving.{SendsText, SendsLines, unless_empty, end_of}
 use Rattle.chart_service.specs.State.{State}
 use Rattle.chart_service.specs.Stepping.{StandsAfter, state_of}
 use Rattle.chart_service.specs.MomentLaws.{since_none, since_then, through_by, through_so}
@@ -22,7 +22,7 @@ use Rattle.chart_service.specs.declared.failure.AnswerEnd.TheVariants.{Serve, Re
 use Rattle.chart_service.specs.declared.failure.ServeEnd.TheVariants.{ReadFault, SendFault, DiskFault, Damaged, InputTooLong, NoMemory}
 use Rattle.chart_service.proofs.Made.{line_done, lines_fault, line_stops, no_memory}
 use Rattle.chart_service.proofs.Moments.{sent_is, at_rest, at_line}
-use Rattle.chart_service.proofs.Progress.{Progress, starts, done, first_at}
+use Rattle.chart_service.proofs.Progress.{Progress, starts, end_at, first_at}
 use Rattle.chart_service.proofs.Sending.{stands_on}
 
 -- from the book at its start, of an input that may be told
@@ -50,10 +50,10 @@ module _ {S F : Type 0} (makes : Makes S F) (v : S) (o : Option (List ℕ)) (tot
 
   -- behind an answered line; later calls may not have taken more
   pub far_line : (w w' : S) (r r' : Reading) (left left' left'' now later : Option (List ℕ)) (line : Option (List ℕ)) (image image' : Image) (sessions sessions' : List Session) → Gives r r' left left' line → left'' ≡ left'
-      → (far : IsFar w r left now image sessions) → StandsAfter total image' sessions' (λ new. LineDone makes line w w' (state_of far.book total sessions) new now later) → IsFar w' r' left'' later image' sessions'
+      → (far : IsFar w r left now image sessions) → StandsAfter total image' sessions' (λ new. LinesDone makes (unless_empty line) w w' (state_of far.book total sessions) new now later) → IsFar w' r' left'' later image' sessions'
   far_line w w' r r' left left' left'' now later line image image' sessions sessions' given same far after =
       let L : Option (List ℕ) → Type 0 = λ l. IsFar w' r' l later image' sessions' in
-      subst L (sym same) (stands_on total image' image' sessions' sessions' (λ new. LineDone makes line w w' (state_of far.book total sessions) new now later) (Far w' r' left' later) refl refl
+      subst L (sym same) (stands_on total image' image' sessions' sessions' (λ new. LinesDone makes (unless_empty line) w w' (state_of far.book total sessions) new now later) (Far w' r' left' later) refl refl
       (λ new is. line_done makes o r r' left left' first (state_of far.book total sessions) new v w w' before now later line given is far.so) after)
 
   -- ---- how the answering ends
@@ -62,7 +62,8 @@ module _ {S F : Type 0} (makes : Makes S F) (v : S) (o : Option (List ℕ)) (tot
       → StandsAfter total image sessions (λ new. IfSome o (λ input. SendsText (AreMade makes v w) input first new before now))
   all_done w r left now image sessions none far =
       stands_on total image image sessions sessions (Far w r left now) (λ new. IfSome o (λ input. SendsText (AreMade makes v w) input first new before now)) refl refl
-      (λ new is. done (AreMade makes v w) o (unread r left) r.given first new before now none is) far
+      (λ new is. told_so (λ input. Progress (AreMade makes v w) input (unread r left) r.given first new before now) (λ input. SendsText (AreMade makes v w) input first new before now) o
+      (λ input. end_at (AreMade makes v w) input first new before now (unread r left) r.given none) is) far
 
   -- the same, where equals stand for equals
   pub ends_same : (w : S) (image : Image) (sessions : List Session) (left left' now now' : Option (List ℕ)) (end end' : AnswerEnd F) → left' ≡ left → now' ≡ now → end' ≡ end → EndsAnswers makes v w o first image sessions left before now end → EndsAnswers makes v w o first image sessions left' before now' end'
@@ -103,15 +104,15 @@ module _ {S F : Type 0} (makes : Makes S F) (v : S) (o : Option (List ℕ)) (tot
     lines_sent same =
         let N : Option (List ℕ) → Type 0 = λ n. IfSome o (λ input. SendsLines (AreMade makes v w) input first before n) in
         subst N (sym same) (told_so (λ input. Progress (AreMade makes v w) input (unread r left) r.given first here before now) (λ input. SendsLines (AreMade makes v w) input first before now) o
-        (λ input p. record { rest = p.rest; between = here; first = first_at (AreMade makes v w) input (unread r left) r.given first here before now p }) far.so)
+        (λ input p. record { rest = p.rest; between = here; first = first_at (AreMade makes v w) input first here before now (unread r left) r.given p }) far.so)
 
-    stops_at : (line : Option (List ℕ)) (end : AnswerEnd F) → Gives r r' left left' line → StandsAfter total image' sessions' (λ new. LineStopsAt makes line w w' here new now later end)
+    stops_at : (line : Option (List ℕ)) (end : AnswerEnd F) → Gives r r' left left' line → StandsAfter total image' sessions' (λ new. LinesStopAt makes (unless_empty line) w w' here new now later end)
         → StandsAfter total image' sessions' (λ new. IfSome o (λ input. EndsAt makes v w' input first new left' before later end))
     stops_at line end given why =
-        stands_on total image' image' sessions' sessions' (λ new. LineStopsAt makes line w w' here new now later end) (λ new. IfSome o (λ input. EndsAt makes v w' input first new left' before later end)) refl refl
-        (λ new is. line_stops makes o r r' left left' first here new v w w' before now later line end given is far.so) why
+        stands_on total image' image' sessions' sessions' (λ new. LinesStopAt makes (unless_empty line) w w' here new now later end) (λ new. IfSome o (λ input. EndsAt makes v w' input first new left' before later end)) refl refl
+        (λ new is. line_stops makes o r r' left left' first here new v w w' before now later line given end is far.so) why
 
-    pub ends_line : (line : Option (List ℕ)) (end : AnswerEnd F) → Gives r r' left left' line → LineStops makes line w w' here image' sessions' now later end → EndsAnswers makes v w' o first image' sessions' left' before later end
+    pub ends_line : (line : Option (List ℕ)) (end : AnswerEnd F) → Gives r r' left left' line → LinesStop makes (unless_empty line) w w' here image' sessions' now later end → EndsAnswers makes v w' o first image' sessions' left' before later end
     ends_line line (Serve ReadFault) given why = stops_at line (Serve ReadFault) given why
     ends_line line (Serve SendFault) given why = stops_at line (Serve SendFault) given why
     ends_line line (Serve DiskFault) given why = (w, lines_sent why)
@@ -155,7 +156,7 @@ lasts_take makes v w (Some input) (Some bytes) now total book own sessions old m
 -- behind a line
 pub lasts_line : {S F : Type 0} (makes : Makes S F) (v w : S) (o before now : Option (List ℕ)) (total : ℕ) (book : List Series) (own sessions : List Session) (old mid new : View) (r r' : Reading) (left left' line : Option (List ℕ)) → (far : IsFar makes v o total book own before w r left now mid.image sessions)
     → IfSome before (λ bytes. sent_now old ≡ length bytes) → IfSome now (λ bytes. sent_now mid ≡ length bytes) → Gives r r' left left' line
-    → Through mid new (LineMoments makes w line (state_of far.book total sessions) (sent_now mid)) → Lasts makes v o total book own before old mid → Lasts makes v o total book own before old new
+    → Through mid new (LinesMoments makes w (unless_empty line) (state_of far.book total sessions) (sent_now mid)) → Lasts makes v o total book own before old mid → Lasts makes v o total book own before old new
 lasts_line makes v w None before now total book own sessions old mid new r r' left left' line far counts counts_now given through lasts = tt
 lasts_line makes v w (Some input) None now total book own sessions old mid new r r' left left' line far counts counts_now given through lasts = tt
 lasts_line makes v w (Some input) (Some bytes) now total book own sessions old mid new r r' left left' line far counts counts_now given through lasts =
@@ -163,5 +164,5 @@ lasts_line makes v w (Some input) (Some bytes) now total book own sessions old m
     let IsSo : Image → ℕ → Type 0 = IsAhead (AreMadeFrom makes v) input total (state_of book total own) (sent_now old) in
     let sent = sent_is bytes p.text now (sent_now old) (sent_now mid) counts p.sent counts_now in
     since_then old mid new IsSo lasts
-    (through_so mid new (LineMoments makes w line (state_of far.book total sessions) (sent_now mid)) IsSo
+    (through_so mid new (LinesMoments makes w (unless_empty line) (state_of far.book total sessions) (sent_now mid)) IsSo
     (λ image count is. at_line makes v w input r r' left left' total (sent_now old) (state_of book total own) (state_of far.book total sessions) (Some bytes) now p refl line given image count (sent_now mid) sent is) through)

@@ -1,6 +1,6 @@
 -- A step, and a line.
-use Rattle.std.proofs.Common.{◌≡◌, ℕ, ◌≤◌, true, false, if◌then◌else◌, List, length, Option, None, Some, Result, Ok, Err, IfOk, IfErr, refl, sym, ap, subst, inl, inr, arith}
-use Rattle.std.specs.Prelude.{OnOk, nat_lt}
+use Rattle.std.proofs.Common.{◌≡◌, ℕ, ◌<◌, ◌≤◌, true, false, if◌then◌else◌, List, length, Option, None, Some, Result, Ok, Err, IfOk, IfErr, refl, sym, ap, subst, inl, inr, arith}
+use Rattle.std.specs.Prelude.{OnOk, MatchResult, nat_lt}
 use Rattle.std.proofs.lemmas.Bool.{ltb-true, false_from_ne_true}
 use Rattle.block_disk.specs.View.{Image, View, Passes}
 use Rattle.chart_frames.specs.declared.frame.Frame.{Frame}
@@ -8,34 +8,33 @@ use Rattle.chart_frames.specs.Frames.{Fits}
 use Rattle.gate_pages.specs.Pages.{Quiet}
 use Rattle.page_space.specs.declared.superblock.Superblock.{Superblock}
 use Rattle.request_lines.specs.declared.requests.Request.{Request}
-use Rattle.request_lines.specs.declared.requests.Request.TheVariants.{Edit as EditRequest, Open, View as ViewRequest, Zoom, Pan, Close}
+use Rattle.request_lines.specs.declared.requests.Request.TheVariants.{Edit as EditRequest, Open, View as ViewRequest, Zoom, Pan}
 use Rattle.request_lines.specs.Requests.{read_line}
 use Rattle.series_book.specs.declared.edits.Edit.{Edit}
 use Rattle.series_book.specs.declared.one_series.Series.{Series}
 use Rattle.series_book.specs.declared.refusals.Refusal.TheVariants.{BadLine}
 use Rattle.series_book.specs.Edits.{id_of}
 use Rattle.series_catalog.specs.declared.stored_series.StoredSeries.{StoredSeries}
+use Rattle.std.proofs.lemmas.Option.{slice_get_within}
+use Rattle.catalog_page.specs.Entries.{Entry}
+use Rattle.page_space.specs.Layout.{Keeps}
+use Rattle.series_catalog.specs.Catalogs.{AreAsTold}
+use Rattle.stored_book.specs.Damage.{IsDamagedOnWay, IsDamagedOnce, IsBadForRequest}
+use Rattle.stored_book.specs.Records.{tree_of}
 use Rattle.stored_book.specs.Standing.{StandsForBook}
+use Rattle.tree_walk.specs.Paths.{IsDamaged}
 use Rattle.request_lines.specs.declared.ranges.RangeWord.{RangeWord}
 use Rattle.std.proofs.Common.{ℤ}
 use Rattle.zoom_session.specs.declared.session.Session.{Session}
 use Rattle.chart_service.specs.State.{State, IsSound}
 use Rattle.chart_service.specs.Replies.{refused, Replies, RepliesTo, RepliesToLine, Replied, line_text}
-use Rattle.chart_service.specs.Stepping.{StandsAfter, state_of, RepliedTo, IsBeforeOrAfter, IsDamagedIn, IsStepCause, NamesBad, IsOutside, series_at, ReadsFew}
+use Rattle.chart_service.specs.Stepping.{StandsAfter, state_of, RepliedTo, IsBeforeOrAfter, IsDamagedIn, IsDamagedToView, IsStepCause, IsBadPage, NamesBad, IsOutside, IsUnchangedBy, IsUnchangedFor, Steps, series_at, ReadsFew}
 use Rattle.chart_service.specs.Looking.{Looks, Replying, IsNoEdit, IsViewCause, ReadsByText}
 use Rattle.chart_service.specs.declared.failure.ServiceError.{ServiceError}
 use Rattle.chart_service.specs.declared.failure.ServiceError.TheVariants.{DiskFault, Damaged, NoMemory}
 use Rattle.block_disk.proofs.Passing.{passes_weaker}
 
 -- ---- requests that are no edits
-
-pub not_edit : (request : Request) → ((edit : Edit) → request ≡ EditRequest edit → ⊥) → IsNoEdit request
-not_edit (EditRequest edit) not = not edit refl
-not_edit (Open number cache) not = tt
-not_edit (ViewRequest number name w h t0 t1 word text) not = tt
-not_edit (Zoom number t0 t1) not = tt
-not_edit (Pan number by) not = tt
-not_edit (Close number) not = tt
 
 pub few_by_text : (number : ℕ) (name : List ℕ) (w h : ℕ) (t0 t1 : ℤ) (word : RangeWord) (text : Option (List ℕ)) (book : List Series) (ss : List Session) (old new : ℕ) → ReadsByText text w (series_at book (id_of name book)) old new → ReadsFew (ViewRequest number name w h t0 t1 word text) book ss old new
 few_by_text number name w h t0 t1 word None book ss old new reads = reads
@@ -46,38 +45,38 @@ pub open_outside : (r : Result Frame ServiceError) → IfErr r (λ error. error 
 open_outside (Ok frame) is = tt
 open_outside (Err error) is = inr is
 
-pub open_cause : (r : Result Frame ServiceError) (number : ℕ) (cache : Option ℕ) (told : Type 0) (catalog : List StoredSeries) (total : ℕ) (old new : View) → IfErr r (λ error. error ≡ NoMemory) → IfErr r (λ error. IsStepCause (Open number cache) error told catalog total old new)
-open_cause (Ok frame) number cache told catalog total old new is = tt
-open_cause (Err error) number cache told catalog total old new is =
-    let P : ServiceError → Type 0 = λ e. IsStepCause (Open number cache) e told catalog total old new in
+pub open_cause : (r : Result Frame ServiceError) (number : ℕ) (cache : Option ℕ) (told : Type 0) (catalog : List StoredSeries) (s : Superblock) (old new : View) → IfErr r (λ error. error ≡ NoMemory) → IfErr r (λ error. IsStepCause (Open number cache) error told catalog s old new)
+open_cause (Ok frame) number cache told catalog s old new is = tt
+open_cause (Err error) number cache told catalog s old new is =
+    let P : ServiceError → Type 0 = λ e. IsStepCause (Open number cache) e told catalog s old new in
     subst P (sym is) tt
 
-view_error : (error : ServiceError) (number : ℕ) (name : List ℕ) (w h : ℕ) (t0 t1 : ℤ) (word : RangeWord) (text : Option (List ℕ)) (told : Type 0) (catalog : List StoredSeries) (total : ℕ) (old new : View) → IsViewCause error told catalog total old new → IsStepCause (ViewRequest number name w h t0 t1 word text) error told catalog total old new
-view_error DiskFault number name w h t0 t1 word text told catalog total old new cause = cause
-view_error (Damaged page) number name w h t0 t1 word text told catalog total old new cause = cause
-view_error NoMemory number name w h t0 t1 word text told catalog total old new cause = cause
+view_error : (error : ServiceError) (number : ℕ) (name : List ℕ) (w h : ℕ) (t0 t1 : ℤ) (word : RangeWord) (text : Option (List ℕ)) (told : Type 0) (catalog : List StoredSeries) (s : Superblock) (old new : View) → IsViewCause error told catalog s.total old new → IsStepCause (ViewRequest number name w h t0 t1 word text) error told catalog s old new
+view_error DiskFault number name w h t0 t1 word text told catalog s old new cause = cause
+view_error (Damaged page) number name w h t0 t1 word text told catalog s old new cause = cause
+view_error NoMemory number name w h t0 t1 word text told catalog s old new cause = cause
 
-pub view_why : (r : Result Frame ServiceError) (number : ℕ) (name : List ℕ) (w h : ℕ) (t0 t1 : ℤ) (word : RangeWord) (text : Option (List ℕ)) (told : Type 0) (catalog : List StoredSeries) (total : ℕ) (old new : View) → IfErr r (λ error. IsViewCause error told catalog total old new) → IfErr r (λ error. IsStepCause (ViewRequest number name w h t0 t1 word text) error told catalog total old new)
-view_why (Ok frame) number name w h t0 t1 word text told catalog total old new cause = tt
-view_why (Err error) number name w h t0 t1 word text told catalog total old new cause = view_error error number name w h t0 t1 word text told catalog total old new cause
+pub view_why : (r : Result Frame ServiceError) (number : ℕ) (name : List ℕ) (w h : ℕ) (t0 t1 : ℤ) (word : RangeWord) (text : Option (List ℕ)) (told : Type 0) (catalog : List StoredSeries) (s : Superblock) (old new : View) → IfErr r (λ error. IsViewCause error told catalog s.total old new) → IfErr r (λ error. IsStepCause (ViewRequest number name w h t0 t1 word text) error told catalog s old new)
+view_why (Ok frame) number name w h t0 t1 word text told catalog s old new cause = tt
+view_why (Err error) number name w h t0 t1 word text told catalog s old new cause = view_error error number name w h t0 t1 word text told catalog s old new cause
 
-zoom_error : (error : ServiceError) (number : ℕ) (t0 t1 : ℤ) (told : Type 0) (catalog : List StoredSeries) (total : ℕ) (old new : View) → IsViewCause error told catalog total old new → IsStepCause (Zoom number t0 t1) error told catalog total old new
-zoom_error DiskFault number t0 t1 told catalog total old new cause = cause
-zoom_error (Damaged page) number t0 t1 told catalog total old new cause = cause
-zoom_error NoMemory number t0 t1 told catalog total old new cause = cause
+zoom_error : (error : ServiceError) (number : ℕ) (t0 t1 : ℤ) (told : Type 0) (catalog : List StoredSeries) (s : Superblock) (old new : View) → IsViewCause error told catalog s.total old new → IsStepCause (Zoom number t0 t1) error told catalog s old new
+zoom_error DiskFault number t0 t1 told catalog s old new cause = cause
+zoom_error (Damaged page) number t0 t1 told catalog s old new cause = cause
+zoom_error NoMemory number t0 t1 told catalog s old new cause = cause
 
-pub zoom_why : (r : Result Frame ServiceError) (number : ℕ) (t0 t1 : ℤ) (told : Type 0) (catalog : List StoredSeries) (total : ℕ) (old new : View) → IfErr r (λ error. IsViewCause error told catalog total old new) → IfErr r (λ error. IsStepCause (Zoom number t0 t1) error told catalog total old new)
-zoom_why (Ok frame) number t0 t1 told catalog total old new cause = tt
-zoom_why (Err error) number t0 t1 told catalog total old new cause = zoom_error error number t0 t1 told catalog total old new cause
+pub zoom_why : (r : Result Frame ServiceError) (number : ℕ) (t0 t1 : ℤ) (told : Type 0) (catalog : List StoredSeries) (s : Superblock) (old new : View) → IfErr r (λ error. IsViewCause error told catalog s.total old new) → IfErr r (λ error. IsStepCause (Zoom number t0 t1) error told catalog s old new)
+zoom_why (Ok frame) number t0 t1 told catalog s old new cause = tt
+zoom_why (Err error) number t0 t1 told catalog s old new cause = zoom_error error number t0 t1 told catalog s old new cause
 
-pan_error : (error : ServiceError) (number : ℕ) (by : ℤ) (told : Type 0) (catalog : List StoredSeries) (total : ℕ) (old new : View) → IsViewCause error told catalog total old new → IsStepCause (Pan number by) error told catalog total old new
-pan_error DiskFault number by told catalog total old new cause = cause
-pan_error (Damaged page) number by told catalog total old new cause = cause
-pan_error NoMemory number by told catalog total old new cause = cause
+pan_error : (error : ServiceError) (number : ℕ) (by : ℤ) (told : Type 0) (catalog : List StoredSeries) (s : Superblock) (old new : View) → IsViewCause error told catalog s.total old new → IsStepCause (Pan number by) error told catalog s old new
+pan_error DiskFault number by told catalog s old new cause = cause
+pan_error (Damaged page) number by told catalog s old new cause = cause
+pan_error NoMemory number by told catalog s old new cause = cause
 
-pub pan_why : (r : Result Frame ServiceError) (number : ℕ) (by : ℤ) (told : Type 0) (catalog : List StoredSeries) (total : ℕ) (old new : View) → IfErr r (λ error. IsViewCause error told catalog total old new) → IfErr r (λ error. IsStepCause (Pan number by) error told catalog total old new)
-pan_why (Ok frame) number by told catalog total old new cause = tt
-pan_why (Err error) number by told catalog total old new cause = pan_error error number by told catalog total old new cause
+pub pan_why : (r : Result Frame ServiceError) (number : ℕ) (by : ℤ) (told : Type 0) (catalog : List StoredSeries) (s : Superblock) (old new : View) → IfErr r (λ error. IsViewCause error told catalog s.total old new) → IfErr r (λ error. IsStepCause (Pan number by) error told catalog s old new)
+pan_why (Ok frame) number by told catalog s old new cause = tt
+pan_why (Err error) number by told catalog s old new cause = pan_error error number by told catalog s old new cause
 
 -- ---- what comes of them is what comes of a step
 
@@ -89,28 +88,55 @@ pub on_ok : {T E : Type 0} (r : Result T E) (P : Type 0) → P → OnOk r P
 on_ok (Ok t) P is = is
 on_ok (Err e) P is = tt
 
-bad_error : (error : ServiceError) (told told' : Type 0) (old new under under' : View) (s s' : Superblock) (catalog catalog' : List StoredSeries) → Looks told told' old new under under' s s' catalog catalog' → IsViewCause error told catalog s.total old new → NamesBad told' catalog' new.image s'.total error
-bad_error DiskFault told told' old new under under' s s' catalog catalog' looks cause = tt
-bad_error (Damaged page) told told' old new under under' s s' catalog catalog' looks cause = inr (λ t.
-    let I : Image → Type 0 = λ i. IsDamagedIn catalog i s.total page in
-    let C : List StoredSeries → Type 0 = λ l. IsDamagedIn l new.image s.total page in
-    let S : Superblock → Type 0 = λ b. IsDamagedIn catalog' new.image b.total page in
-    let t' = looks.was_told t in
-    subst S (sym looks.superblock) (subst C (sym looks.catalog_is) (subst I (sym (looks.image t')) (cause t'))))
-bad_error NoMemory told told' old new under under' s s' catalog catalog' looks cause = tt
+-- the numbers are those of page 0, and the catalog is the one that the pages tell
+pub record AreOwn (told : Type 0) (view : View) (s : Superblock) (catalog : List StoredSeries) : Type 0 where
+  pub within : s.total ≤ view.size
+  pub keeps : told → Keeps view.size s (view.image 0)
+  pub count : length catalog ≡ s.series
+  pub says : told → AreAsTold view.image catalog
 
-pub look_bad : (r : Result Frame ServiceError) (told told' : Type 0) (old new under under' : View) (s s' : Superblock) (catalog catalog' : List StoredSeries) → Looks told told' old new under under' s s' catalog catalog' → IfErr r (λ error. IsViewCause error told catalog s.total old new) → IfErr r (NamesBad told' catalog' new.image s'.total)
-look_bad (Ok frame) told told' old new under under' s s' catalog catalog' looks cause = tt
-look_bad (Err error) told told' old new under under' s s' catalog catalog' looks cause = bad_error error told told' old new under under' s s' catalog catalog' looks cause
+-- a page that a view calls damaged is on the way to a key of a tree that a record names
+on_way : (told : Type 0) (view : View) (s : Superblock) (catalog : List StoredSeries) (page : ℕ) → AreOwn told view s catalog → told → IsDamagedIn catalog view.image s.total page → IsDamagedOnWay view.image s page
+on_way told view s catalog page own t bad =
+    let E : Entry → Type 0 = λ e. IsDamaged view.image s.total (tree_of e) page in
+    record {
+      id = bad.id;
+      there = omega (arith, slice_get_within catalog bad.id bad.series bad.there, own.count);
+      damaged = subst E (sym (own.says t bad.id bad.series bad.there)) bad.damaged;
+    }
 
-edit_bad_error : (error : ServiceError) (edit : Edit) (told told' : Type 0) (catalog catalog' : List StoredSeries) (total total' : ℕ) (old new : View) → total' ≡ total → IsStepCause (EditRequest edit) error told catalog total old new → NamesBad told' catalog' new.image total' error
-edit_bad_error DiskFault edit told told' catalog catalog' total total' old new same cause = tt
-edit_bad_error (Damaged page) edit told told' catalog catalog' total total' old new same cause = inl (omega (arith, cause, same))
-edit_bad_error NoMemory edit told told' catalog catalog' total total' old new same cause = tt
+view_bad : (told : Type 0) (view : View) (s : Superblock) (catalog : List StoredSeries) (page : ℕ) → AreOwn told view s catalog → IsDamagedToView told catalog view.image s.total page → IsBadPage told view.size view.image page
+view_bad told view s catalog page own bad =
+    (omega (arith, bad.0, own.within), λ t. record { numbers = s; keeps = own.keeps t; so = (bad.0, inl (on_way told view s catalog page own t (bad.1 t))) })
 
-pub edit_bad : (r : Result Frame ServiceError) (edit : Edit) (told told' : Type 0) (catalog catalog' : List StoredSeries) (total total' : ℕ) (old new : View) → total' ≡ total → IfErr r (λ error. IsStepCause (EditRequest edit) error told catalog total old new) → IfErr r (NamesBad told' catalog' new.image total')
-edit_bad (Ok frame) edit told told' catalog catalog' total total' old new same cause = tt
-edit_bad (Err error) edit told told' catalog catalog' total total' old new same cause = edit_bad_error error edit told told' catalog catalog' total total' old new same cause
+once_bad : (told : Type 0) (view : View) (s : Superblock) (catalog : List StoredSeries) (page : ℕ) → AreOwn told view s catalog → page < s.total → (told → IsDamagedOnce view.image s page) → IsBadPage told view.size view.image page
+once_bad told view s catalog page own low bad = (omega (arith, low, own.within), λ t. record { numbers = s; keeps = own.keeps t; so = (low, inr (bad t)) })
+
+-- it stays so while the pages stay
+bad_on : (told told' : Type 0) (old new : View) (page : ℕ) → (told' → told) → (told → new.image ≡ old.image) → new.size ≡ old.size → IsBadPage told old.size old.image page → IsBadPage told' new.size new.image page
+bad_on told told' old new page was same size bad =
+    let I : Image → Type 0 = λ i. IsBadForRequest old.size i page in
+    let C : ℕ → Type 0 = λ n. IsBadForRequest n new.image page in
+    (omega (arith, bad.0, size), λ t. subst C (sym size) (subst I (sym (same (was t))) (bad.1 (was t))))
+
+bad_error : (error : ServiceError) (told told' : Type 0) (old new under under' : View) (s s' : Superblock) (catalog catalog' : List StoredSeries) → AreOwn told old s catalog → Looks told told' old new under under' s s' catalog catalog' → IsViewCause error told catalog s.total old new → NamesBad told' new.size new.image error
+bad_error DiskFault told told' old new under under' s s' catalog catalog' own looks cause = tt
+bad_error (Damaged page) told told' old new under under' s s' catalog catalog' own looks cause = bad_on told told' old new page looks.was_told looks.image looks.size (view_bad told old s catalog page own cause)
+bad_error NoMemory told told' old new under under' s s' catalog catalog' own looks cause = tt
+
+pub look_bad : (r : Result Frame ServiceError) (told told' : Type 0) (old new under under' : View) (s s' : Superblock) (catalog catalog' : List StoredSeries) → AreOwn told old s catalog → Looks told told' old new under under' s s' catalog catalog' → IfErr r (λ error. IsViewCause error told catalog s.total old new) → IfErr r (NamesBad told' new.size new.image)
+look_bad (Ok frame) told told' old new under under' s s' catalog catalog' own looks cause = tt
+look_bad (Err error) told told' old new under under' s s' catalog catalog' own looks cause = bad_error error told told' old new under under' s s' catalog catalog' own looks cause
+
+edit_bad_error : (error : ServiceError) (edit : Edit) (told told' : Type 0) (catalog : List StoredSeries) (s : Superblock) (old new : View) → AreOwn told old s catalog → Steps told told' old new → IsUnchangedFor error told old new → IsStepCause (EditRequest edit) error told catalog s old new → NamesBad told' new.size new.image error
+edit_bad_error DiskFault edit told told' catalog s old new own steps kept cause = tt
+edit_bad_error (Damaged page) edit told told' catalog s old new own steps kept cause = bad_on told told' old new page steps.was_told kept.image steps.size (once_bad told old s catalog page own cause.0 cause.1)
+edit_bad_error NoMemory edit told told' catalog s old new own steps kept cause = tt
+
+pub edit_bad : (r : Result Frame ServiceError) (edit : Edit) (told told' : Type 0) (catalog : List StoredSeries) (s : Superblock) (old new : View) → AreOwn told old s catalog → Steps told told' old new → MatchResult r (λ frame. IsUnchangedBy frame told old new) (λ error. IsUnchangedFor error told old new)
+    → IfErr r (λ error. IsStepCause (EditRequest edit) error told catalog s old new) → IfErr r (NamesBad told' new.size new.image)
+edit_bad (Ok frame) edit told told' catalog s old new own steps kept cause = tt
+edit_bad (Err error) edit told told' catalog s old new own steps kept cause = edit_bad_error error edit told told' catalog s old new own steps kept cause
 
 -- ---- lines
 

@@ -1,13 +1,13 @@
 -- How the lines of an input are answered, by a service over a store.
-use Rattle.std.specs.Prelude.{ℕ, List, Option, Err, IfSome}
+use Rattle.std.specs.Prelude.{◌≡◌, ℕ, List, ◌∷◌, Option, Err, IfSome}
 use Rattle.block_disk.specs.View.{Image, sent_now}
 use Rattle.gate_pages.specs.declared.pages.Pages.{Ghosts}
 use Rattle.chart_frames.specs.declared.frame.Frame.{Frame}
 use Rattle.series_book.specs.declared.one_series.Series.{Series}
-use Rattle.series_catalog.specs.declared.stored_series.StoredSeries.{StoredSeries}
 use Rattle.zoom_session.specs.declared.session.Session.{Session}
-use Rattle.chart_service.specs.Making.{Makes, AreMade, LineDone, LineStops, LineMoments}
+use Rattle.chart_service.specs.Making.{Makes, AreMade, LinesDone, LinesStop, LinesMoments}
 use Rattle.chart_service.specs.Moments.{IsAhead, Since, Through}
+use Rattle.chart_service.specs.ReadingBlocks.{ReadsLines}
 use Rattle.chart_service.specs.Serving.{AnswersNext, SendsText, SendsFirst, SendsFrontOf, SendsTaken, SendsWithin, SendsSome, SendsLines, EndsServe}
 use Rattle.chart_service.specs.Serving as serving
 use Rattle.chart_service.specs.Shown as shown
@@ -23,14 +23,18 @@ use Rattle.chart_service.specs.declared.service.Service.{Service}
 abbrev pub Telling : Type 1
 Telling = List (Option (List ℕ)) → List Frame → List ℕ → Type 0
 
--- The bytes for some first lines were sent, the next line was answered, and making the bytes of its frame gave this error.
+-- The bytes for some first lines were sent, lines behind them were done ahead, and making the bytes of their first frame
+-- gave this error.
 pub record ReplyFails {S F : Type 0} (makes : Makes S F) (kept kept' : S) (input : List ℕ) (old new : State) (before now : Option (List ℕ)) (e : F) : Type 0 where
   pub rest : List ℕ
   pub between : State
   pub last : S
   pub first : SendsFirst (AreMade makes kept last) input rest old between before now
   pub next : AnswersNext rest between new
-  pub fails : makes last next.frame (Err e) kept'
+  pub frame : Frame
+  pub later : List Frame
+  pub is_first : next.frames ≡ frame ∷ later
+  pub fails : makes last frame (Err e) kept'
 
 -- why not all lines of the input were answered, and what was sent, where the pages stand for a book then
 abbrev pub EndsAt : {S F : Type 0} → Makes S F → S → S → List ℕ → State → State → Option (List ℕ) → Option (List ℕ) → Option (List ℕ) → AnswerEnd F → Type 0
@@ -53,9 +57,9 @@ EndsAnswers makes kept kept' o old image sessions left before now end =
     StandsAfter old.total image sessions (λ new. IfSome o (λ input. EndsAt makes kept kept' input old new left before now end))
 
 -- a page that the end names is one of the store's, or damaged where reads give what the pages are
-abbrev pub EndsAtBad : {F : Type 0} → Type 0 → List StoredSeries → Image → ℕ → AnswerEnd F → Type 0
-EndsAtBad told catalog image total (Serve end) = serving.EndsAtBad told catalog image total end
-EndsAtBad told catalog image total (Reply e) = Unit {0}
+abbrev pub EndsAtBad : {F : Type 0} → Type 0 → ℕ → Image → AnswerEnd F → Type 0
+EndsAtBad told count image (Serve end) = serving.EndsAtBad told count image end
+EndsAtBad told count image (Reply e) = Unit {0}
 
 -- ---- the same of a service, whose streams tell what is left of the input and what was sent
 
@@ -86,23 +90,28 @@ module _ {P : Type 0} {g : Ghosts P} (left sent : P → Option (List ℕ)) where
   ServeEndsBy total book old new end =
       IfSome (left_in old) (λ input. EndsServe input (shown.state old total book) (shown.image new) new.sessions (left_in new) (sent_in old) (sent_in new) end)
 
-  -- at each moment a crash leaves a book with each edit whose reply was sent by then, and at most one edit more
+  -- at each moment a crash leaves a book with each edit whose reply was sent by then, and at most `most_ahead` edits more
   abbrev pub LastsBy : Telling → ℕ → List Series → Service P g → Service P g → Type 0
   LastsBy IsText total book old new =
       IfSome (left_in old) (λ input. IfSome (sent_in old) (λ before. Since (shown.view old) (shown.view new) (IsAhead IsText input total (shown.state old total book) (sent_now (shown.view old)))))
 
 module _ {P : Type 0} {g : Ghosts P} {S F : Type 0} (sent : P → Option (List ℕ)) (makes : Makes S F) where
-  -- a line is answered, and the pages stand for the book that it leaves
-  abbrev pub AnswersOn : Option (List ℕ) → S → S → ℕ → List Series → Service P g → Service P g → Type 0
-  AnswersOn line kept kept' total book old new =
-      shown.StandsSo total new (λ after. LineDone makes line kept kept' (shown.state old total book) after (sent (shown.pages old)) (sent (shown.pages new)))
+  -- lines are answered, and the pages stand for the book that they leave
+  abbrev pub AnswersOn : List (Option (List ℕ)) → S → S → ℕ → List Series → Service P g → Service P g → Type 0
+  AnswersOn lines kept kept' total book old new =
+      shown.StandsSo total new (λ after. LinesDone makes lines kept kept' (shown.state old total book) after (sent (shown.pages old)) (sent (shown.pages new)))
 
-  -- why it wasn't
-  abbrev pub StopsOn : Option (List ℕ) → S → S → ℕ → List Series → Service P g → Service P g → AnswerEnd F → Type 0
-  StopsOn line kept kept' total book old new =
-      LineStops makes line kept kept' (shown.state old total book) (shown.image new) new.sessions (sent (shown.pages old)) (sent (shown.pages new))
+  -- why they weren't
+  abbrev pub StopsOn : List (Option (List ℕ)) → S → S → ℕ → List Series → Service P g → Service P g → AnswerEnd F → Type 0
+  StopsOn lines kept kept' total book old new =
+      LinesStop makes lines kept kept' (shown.state old total book) (shown.image new) new.sessions (sent (shown.pages old)) (sent (shown.pages new))
 
--- while a line is answered a crash leaves the book from before, or the one after it
-abbrev pub LeavesBy : {P : Type 0} {g : Ghosts P} {S F : Type 0} → Makes S F → S → Option (List ℕ) → ℕ → List Series → Service P g → Service P g → Type 0
-LeavesBy makes kept line total book old new =
-    Through (shown.view old) (shown.view new) (LineMoments makes kept line (shown.state old total book) (sent_now (shown.view old)))
+-- the lines of the input read no more blocks than they may, and no other block was read
+abbrev pub ReadsByLines : {P : Type 0} {g : Ghosts P} → (P → Option (List ℕ)) → ℕ → List Series → Service P g → Service P g → Type 0
+ReadsByLines left total book old new =
+    IfSome (left (shown.pages old)) (λ input. ReadsLines input (shown.state old total book) (shown.view old).reads (shown.view new).reads)
+
+-- while lines are answered a crash leaves the book from before, or the one after them
+abbrev pub LeavesBy : {P : Type 0} {g : Ghosts P} {S F : Type 0} → Makes S F → S → List (Option (List ℕ)) → ℕ → List Series → Service P g → Service P g → Type 0
+LeavesBy makes kept lines total book old new =
+    Through (shown.view old) (shown.view new) (LinesMoments makes kept lines (shown.state old total book) (sent_now (shown.view old)))

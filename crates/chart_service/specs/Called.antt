@@ -10,6 +10,7 @@ use Rattle.value_filter.specs.declared.steps.Step.{Step}
 use Rattle.zoom_session.specs.Sessions.{session_of, last_of, is_open, open_refusal}
 use Rattle.zoom_session.specs.declared.session.Session.{Session}
 use Rattle.zoom_session.specs.declared.view_spec.ViewSpec.{ViewSpec}
+use Rattle.chart_service.specs.ReadingBlocks.{ReadsLine}
 use Rattle.chart_service.specs.Looking.{Looks, Looked, Replying, ReadsBy, ReadsByText}
 use Rattle.chart_service.specs.Replies.{AnswersBy, AnswersView, RepliesToView, RepliesByText, MovesIn, Opens}
 use Rattle.chart_service.specs.Shown as shown
@@ -30,12 +31,16 @@ module _ {P : Type 0} {g : Ghosts P} where
   CommitsOnly result old new =
       MatchResult result (λ frame. IsUnchangedBy frame (shown.IsTold old) (shown.view old) (shown.view new)) (λ error. IsUnchangedFor error (shown.IsTold old) (shown.view old) (shown.view new))
 
+  -- a line reads no more blocks than the request that it spells may
+  abbrev pub ReadsFewFor : Option (List ℕ) → ℕ → List Series → Service P g → Service P g → Type 0
+  ReadsFewFor line total book old new = ReadsLine line (shown.state old total book) (shown.view old).reads (shown.view new).reads
+
   -- why a request wasn't answered, and a line
   abbrev pub IsCause : Request → Service P g → Service P g → ServiceError → Type 0
-  IsCause request old new error = IsStepCause request error (shown.IsTold old) (shown.catalog old) (shown.total old) (shown.view old) (shown.view new)
+  IsCause request old new error = IsStepCause request error (shown.IsTold old) (shown.catalog old) (shown.numbers old) (shown.view old) (shown.view new)
 
   abbrev pub IsCauseOfLine : Option (List ℕ) → Service P g → Service P g → ServiceError → Type 0
-  IsCauseOfLine line old new error = IsLineCause line error (shown.IsTold old) (shown.catalog old) (shown.total old) (shown.view old) (shown.view new)
+  IsCauseOfLine line old new error = IsLineCause line error (shown.IsTold old) (shown.catalog old) (shown.numbers old) (shown.view old) (shown.view new)
 
   -- the pages, the numbers of page 0 and the catalog stay
   abbrev pub LooksOnly : Service P g → Service P g → Type 0

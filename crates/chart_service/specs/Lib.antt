@@ -10,6 +10,7 @@ pub mod Serving
 pub mod Moments
 pub mod MomentLaws
 pub mod SentLaws
+pub mod ReadingBlocks
 pub mod Making
 pub mod Spelled
 pub mod Knowing

@@ -24,7 +24,7 @@ use Rattle.chart_service.specs.Opening.{OpensBy, LosesAtMost}
 use Rattle.chart_service.specs.Planning.{AreInFrame}
 use Rattle.chart_service.specs.State.{State}
 use Rattle.chart_service.specs.Viewing.{has_of, least_of, greatest_of}
-use Rattle.chart_service.specs.Stepping.{state_of, IsDamagedIn, IsOutside, ReadsFor}
+use Rattle.chart_service.specs.Stepping.{state_of, IsDamagedToView, IsOutside, ReadsFor}
 use Rattle.chart_service.specs.declared.failure.ServiceError.{ServiceError}
 use Rattle.chart_service.specs.declared.failure.ServiceError.TheVariants.{DiskFault, Damaged, NoMemory}
 use Rattle.chart_service.specs.declared.shown.Planned.{Planned}
@@ -57,7 +57,7 @@ pub record Looks (told_old told_new : Type 0) (old new under under' : View) (s s
 -- why nodes over pages gave no coefficient
 abbrev pub IsNodeCause : NodeError → Type 0 → List StoredSeries → ℕ → View → View → Type 0
 IsNodeCause node.DiskFault told catalog total old new = HasRisen old.faults new.faults
-IsNodeCause (node.Damaged page) told catalog total old new = told → IsDamagedIn catalog old.image total page
+IsNodeCause (node.Damaged page) told catalog total old new = IsDamagedToView told catalog old.image total page
 IsNodeCause (node.Missing key) told catalog total old new = ⊥
 IsNodeCause (node.BadCoefficient key) told catalog total old new = ⊥
 
@@ -88,7 +88,7 @@ IsScanCause scan.NoMemory told catalog total old new = ⊤
 -- why a view wasn't answered
 abbrev pub IsViewCause : ServiceError → Type 0 → List StoredSeries → ℕ → View → View → Type 0
 IsViewCause DiskFault told catalog total old new = HasRisen old.faults new.faults
-IsViewCause (Damaged page) told catalog total old new = told → IsDamagedIn catalog old.image total page
+IsViewCause (Damaged page) told catalog total old new = IsDamagedToView told catalog old.image total page
 IsViewCause NoMemory told catalog total old new = ⊤
 
 -- what comes of a request that is no edit, whatever the pages are

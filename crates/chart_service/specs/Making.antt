@@ -1,14 +1,12 @@
 -- The bytes of replies, and how they are sent for the frames that answer lines.
-use Rattle.std.specs.Prelude.{◌≡◌, ℕ, ◌+◌, ◌≤◌, ◌⊎◌, true, List, [], ◌∷◌, ◌++◌, length, Option, Some, Result, Ok, Err}
+use Rattle.std.specs.Prelude.{◌≡◌, ℕ, ◌+◌, ◌≤◌, ◌⊎◌, List, [], ◌∷◌, ◌++◌, length, Option, Result, Ok, Err}
 use Rattle.block_disk.specs.Streams.{sent_after, PartSent}
 use Rattle.block_disk.specs.View.{Image, View, Now, sent_now}
-use Rattle.chart_world.specs.Fronts.{says}
 use Rattle.chart_frames.specs.declared.frame.Frame.{Frame}
 use Rattle.stored_book.specs.Standing.{StandsForBook}
 use Rattle.zoom_session.specs.declared.session.Session.{Session}
 use Rattle.chart_service.specs.State.{State}
-use Rattle.chart_service.specs.Replies.{Replied}
-use Rattle.chart_service.specs.Serving.{KeepsBook}
+use Rattle.chart_service.specs.Serving.{RepliesToAll, KeepsBook}
 use Rattle.chart_service.specs.Stepping.{StandsAfter}
 use Rattle.chart_service.specs.Moments.{Through}
 use Rattle.chart_service.specs.declared.failure.AnswerEnd.{AnswerEnd}
@@ -47,30 +45,46 @@ FrameStops makes frame old new before now (Serve InputTooLong) = ⊥
 FrameStops makes frame old new before now (Serve NoMemory) = ⊥
 FrameStops makes frame old new before now (Reply e) = (now ≡ before) × makes old frame (Err e) new
 
--- a line is answered, and the bytes of its frame are sent
-pub record AnswersLine {S F : Type 0} (makes : Makes S F) (line : Option (List ℕ)) (kept kept' : S) (old new : State) (before now : Option (List ℕ)) : Type 0 where
-  pub said : says line ≡ true
+-- lines are answered, and the bytes of their frames are sent
+pub record LinesDone {S F : Type 0} (makes : Makes S F) (lines : List (Option (List ℕ))) (kept kept' : S) (old new : State) (before now : Option (List ℕ)) : Type 0 where
+  pub frames : List Frame
+  pub replied : RepliesToAll old lines frames new
+  pub text : List ℕ
+  pub made : AreMade makes kept kept' lines frames text
+  pub sent : now ≡ sent_after text before
+
+-- lines are answered, and a first part of these bytes is sent
+pub record LinesPart {S F : Type 0} (makes : Makes S F) (lines : List (Option (List ℕ))) (kept kept' : S) (old new : State) (before now : Option (List ℕ)) : Type 0 where
+  pub frames : List Frame
+  pub replied : RepliesToAll old lines frames new
+  pub text : List ℕ
+  pub made : AreMade makes kept kept' lines frames text
+  pub sent : PartSent text before now
+
+-- lines are answered, and the bytes of their first frame weren't made
+pub record LinesFail {S F : Type 0} (makes : Makes S F) (lines : List (Option (List ℕ))) (kept kept' : S) (old new : State) (before now : Option (List ℕ)) (e : F) : Type 0 where
   pub frame : Frame
-  pub replied : Replied line frame old new
-  pub sent : FrameSent makes frame kept kept' before now
+  pub later : List Frame
+  pub replied : RepliesToAll old lines (frame ∷ later) new
+  pub unsent : now ≡ before
+  pub fails : makes kept frame (Err e) kept'
 
--- an empty line is passed over, and every other is answered
-abbrev pub LineDone : {S F : Type 0} → Makes S F → Option (List ℕ) → S → S → State → State → Option (List ℕ) → Option (List ℕ) → Type 0
-LineDone makes line kept kept' old new before now =
-    ((line ≡ Some []) × (kept' ≡ kept) × (new ≡ old) × (now ≡ before)) ⊎ AnswersLine makes line kept kept' old new before now
-
--- why a line wasn't answered, or the bytes of its frame not sent, where the pages stand for a book then
-abbrev pub LineStopsAt : {S F : Type 0} → Makes S F → Option (List ℕ) → S → S → State → State → Option (List ℕ) → Option (List ℕ) → AnswerEnd F → Type 0
-LineStopsAt makes line kept kept' old new before now (Serve NoMemory) = (now ≡ before) × KeepsBook old new
-LineStopsAt makes line kept kept' old new before now end =
-    (says line ≡ true) × (frame : Frame) × Replied line frame old new × FrameStops makes frame kept kept' before now end
+-- why lines weren't answered, or the bytes of their frames not sent, where the pages stand for a book then
+abbrev pub LinesStopAt : {S F : Type 0} → Makes S F → List (Option (List ℕ)) → S → S → State → State → Option (List ℕ) → Option (List ℕ) → AnswerEnd F → Type 0
+LinesStopAt makes lines kept kept' old new before now (Serve ReadFault) = ⊥
+LinesStopAt makes lines kept kept' old new before now (Serve SendFault) = LinesPart makes lines kept kept' old new before now
+LinesStopAt makes lines kept kept' old new before now (Serve DiskFault) = ⊥
+LinesStopAt makes lines kept kept' old new before now (Serve (Damaged page)) = ⊥
+LinesStopAt makes lines kept kept' old new before now (Serve InputTooLong) = ⊥
+LinesStopAt makes lines kept kept' old new before now (Serve NoMemory) = (now ≡ before) × KeepsBook old new
+LinesStopAt makes lines kept kept' old new before now (Reply e) = LinesFail makes lines kept kept' old new before now e
 
 -- the same; where it is no fault of the disk, the pages stand for a book then
-abbrev pub LineStops : {S F : Type 0} → Makes S F → Option (List ℕ) → S → S → State → Image → List Session → Option (List ℕ) → Option (List ℕ) → AnswerEnd F → Type 0
-LineStops makes line kept kept' old image sessions before now (Serve DiskFault) = now ≡ before
-LineStops makes line kept kept' old image sessions before now (Serve (Damaged page)) = ⊥
-LineStops makes line kept kept' old image sessions before now end =
-    StandsAfter old.total image sessions (λ new. LineStopsAt makes line kept kept' old new before now end)
+abbrev pub LinesStop : {S F : Type 0} → Makes S F → List (Option (List ℕ)) → S → S → State → Image → List Session → Option (List ℕ) → Option (List ℕ) → AnswerEnd F → Type 0
+LinesStop makes lines kept kept' old image sessions before now (Serve DiskFault) = now ≡ before
+LinesStop makes lines kept kept' old image sessions before now (Serve (Damaged page)) = ⊥
+LinesStop makes lines kept kept' old image sessions before now end =
+    StandsAfter old.total image sessions (λ new. LinesStopAt makes lines kept kept' old new before now end)
 
 -- the end of a reply alone: no fault of the disk or of the input, and no damage
 abbrev pub IsReplyEnd : {F : Type 0} → AnswerEnd F → Type 0
@@ -93,15 +107,19 @@ ReplySent {S} makes kept frame from count =
 abbrev pub FrameMoments : {S F : Type 0} → Makes S F → S → Frame → View → View → Type 0
 FrameMoments makes kept frame old new = Through old new (λ image count. Now old image × ReplySent makes kept frame (sent_now old) count)
 
--- the line is answered, the image stands for the book then, and at most the bytes of its frame are sent
-pub record LineNext {S F : Type 0} (makes : Makes S F) (kept : S) (line : Option (List ℕ)) (old : State) (from : ℕ) (image : Image) (count : ℕ) : Type 0 where
-  pub said : says line ≡ true
-  pub frame : Frame
-  pub after : State
-  pub replied : Replied line frame old after
-  pub stands : StandsForBook image old.total after.book
-  pub sent : ReplySent makes kept frame from count
+-- after so many bytes none of the bytes that are made for frames is sent, or some, or all of them
+abbrev pub RepliesSent : {S F : Type 0} → Makes S F → S → List (Option (List ℕ)) → List Frame → ℕ → ℕ → Type 0
+RepliesSent {S} makes kept lines frames from count =
+    (count ≡ from) ⊎ ((text : List ℕ) × (new : S) × AreMade makes kept new lines frames text × (from ≤ count) × (count ≤ from + length text))
 
--- while a line is answered the image stands for the book from before, or for the one after it
-abbrev pub LineMoments : {S F : Type 0} → Makes S F → S → Option (List ℕ) → State → ℕ → Image → ℕ → Type 0
-LineMoments makes kept line old from image count = (StandsForBook image old.total old.book × (count ≡ from)) ⊎ LineNext makes kept line old from image count
+-- the lines are answered, the image stands for the book then, and at most the bytes of their frames are sent
+pub record LinesNext {S F : Type 0} (makes : Makes S F) (kept : S) (lines : List (Option (List ℕ))) (old : State) (from : ℕ) (image : Image) (count : ℕ) : Type 0 where
+  pub frames : List Frame
+  pub after : State
+  pub replied : RepliesToAll old lines frames after
+  pub stands : StandsForBook image old.total after.book
+  pub sent : RepliesSent makes kept lines frames from count
+
+-- while lines are answered the image stands for the book from before, or for the one after them
+abbrev pub LinesMoments : {S F : Type 0} → Makes S F → S → List (Option (List ℕ)) → State → ℕ → Image → ℕ → Type 0
+LinesMoments makes kept lines old from image count = (StandsForBook image old.total old.book × (count ≡ from)) ⊎ LinesNext makes kept lines old from image count

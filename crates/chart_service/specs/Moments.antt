@@ -1,7 +1,7 @@
 -- What a crash leaves at each moment of a serving, and how many bytes were sent by then.
-use Rattle.std.specs.Prelude.{ℕ, ◌≡◌, ◌+◌, ◌<◌, ◌≤◌, ◌⊎◌, true, List, [], ◌∷◌, ◌++◌, length, Option}
+use Rattle.std.specs.Prelude.{ℕ, ◌≡◌, ◌+◌, ◌<◌, ◌≤◌, ◌⊎◌, List, ◌++◌, length, Option}
 use Rattle.block_disk.specs.View.{Image, View}
-use Rattle.chart_world.specs.Fronts.{BeginsWith, says}
+use Rattle.chart_world.specs.Fronts.{BeginsWith}
 use Rattle.gate_pages.specs.Pages.{GoesOn}
 use Rattle.chart_frames.specs.declared.frame.Frame.{Frame}
 use Rattle.stored_book.specs.Standing.{StandsForBook}
@@ -20,25 +20,24 @@ pub record Through (old new : View) (IsSo : Image → ℕ → Type 0) : Type 0 w
   pub goes : GoesOn old new
   pub here : (at : ℕ) (image : Image) → old.clock < at → at ≤ new.clock → new.crash at image → IsSo image (new.sent_by at)
 
--- no more bytes were sent than the text of the lines and the reply of the next line, whose frame is this
-pub record SendsReply (IsText : List (Option (List ℕ)) → List Frame → List ℕ → Type 0) (lines : List (Option (List ℕ))) (frames : List Frame) (text : List ℕ) (line : Option (List ℕ)) (frame : Frame) (from count : ℕ) : Type 0 where
+-- no more bytes were sent than the text of the lines and the replies to the next ones, whose frames are these
+pub record SendsReply (IsText : List (Option (List ℕ)) → List Frame → List ℕ → Type 0) (lines : List (Option (List ℕ))) (frames : List Frame) (text : List ℕ) (ahead : List (Option (List ℕ))) (answers : List Frame) (from count : ℕ) : Type 0 where
   pub reply : List ℕ
-  pub texts : IsText (lines ++ line ∷ []) (frames ++ frame ∷ []) (text ++ reply)
+  pub texts : IsText (lines ++ ahead) (frames ++ answers) (text ++ reply)
   pub low : from + length text ≤ count
   pub high : count ≤ from + length text + length reply
 
--- The line behind the first lines, whose text was sent, is answered, and the image stands for the book after it. Of its
--- reply nothing was sent, or a part, or all of it.
+-- The lines behind the first ones, whose text was sent, are done ahead, and the image stands for the book after them. Of
+-- their replies nothing was sent, or a part, or all of it.
 pub record DoesNext (IsText : List (Option (List ℕ)) → List Frame → List ℕ → Type 0) (lines : List (Option (List ℕ))) (frames : List Frame) (text rest : List ℕ) (total : ℕ) (between : State) (from : ℕ) (image : Image) (count : ℕ) : Type 0 where
   pub after : State
   pub next : AnswersNext rest between after
-  pub said : says next.line ≡ true
   pub stands : StandsForBook image total after.book
-  pub sent : (count ≡ from + length text) ⊎ SendsReply IsText lines frames text next.line next.frame from count
+  pub sent : (count ≡ from + length text) ⊎ SendsReply IsText lines frames text (told next.front) next.frames from count
 
 -- The text for some first lines was sent, after so many bytes. The image stands for the book that they leave, and no
--- byte more was sent; or the line behind them is answered, the image stands for the book after that, and at most its
--- reply was sent besides. So each edit whose reply was sent whole is in the book, and at most one other is.
+-- byte more was sent; or lines behind them are done ahead, the image stands for the book after those, and at most their
+-- replies were sent besides. So each edit whose reply was sent whole is in the book, and at most `most_ahead` others are.
 pub record IsAhead (IsText : List (Option (List ℕ)) → List Frame → List ℕ → Type 0) (input : List ℕ) (total : ℕ) (old : State) (from : ℕ) (image : Image) (count : ℕ) : Type 0 where
   pub front : List ℕ
   pub rest : List ℕ

@@ -10,7 +10,6 @@ use Rattle.chart_world.specs.Lines.{lines, NoLineFeed}
 use Rattle.gate_pages.specs.Pages.{GoesOn}
 use Rattle.chart_frames.specs.declared.frame.Frame.{Frame}
 use Rattle.chart_frames.specs.Frames.{spelling}
-use Rattle.series_catalog.specs.declared.stored_series.StoredSeries.{StoredSeries}
 use Rattle.zoom_session.specs.declared.session.Session.{Session}
 use Rattle.chart_service.specs.State.{State}
 use Rattle.chart_service.specs.Replies.{Replied}
@@ -20,11 +19,20 @@ use Rattle.chart_service.specs.declared.failure.ServiceError.TheVariants as step
 use Rattle.chart_service.specs.declared.failure.ServeEnd.{ServeEnd}
 use Rattle.chart_service.specs.declared.failure.ServeEnd.TheVariants.{ReadFault, SendFault, DiskFault, Damaged, InputTooLong, NoMemory}
 
+-- a line, unless it is empty
+abbrev pub unless_empty : Option (List ℕ) → List (Option (List ℕ))
+unless_empty line = filter says (line ∷ [])
+
 -- the lines that are answered: those that aren't empty
 abbrev pub told : List ℕ → List (Option (List ℕ))
 told input = filter says (lines input)
 
--- Each line is answered in the state that the lines before it left.
+-- how many lines at most may be done before the first of them is answered
+abbrev pub most_ahead : ℕ
+most_ahead = 1
+
+-- What lines do, one after the other: by which frames they are answered, and to which state. Of this the loop that
+-- answers lines knows that no lines do nothing, and that lines behind others do what both do.
 abbrev pub RepliesToAll : State → List (Option (List ℕ)) → List Frame → State → Type 0
 RepliesToAll old [] [] new = new ≡ old
 RepliesToAll old [] (frame ∷ frames) new = ⊥
@@ -83,16 +91,18 @@ pub record SendsWithin (IsText : List (Option (List ℕ)) → List Frame → Lis
 abbrev pub KeepsBook : State → State → Type 0
 KeepsBook old new = (new.book ≡ old.book) × (new.total ≡ old.total)
 
--- the first of the lines of these bytes is answered
+-- some first lines of these bytes are answered: one that isn't empty at least, and no more than may be done ahead
 pub record AnswersNext (bytes : List ℕ) (old new : State) : Type 0 where
-  pub line : Option (List ℕ)
-  pub later : List (Option (List ℕ))
-  pub first : lines bytes ≡ line ∷ later
-  pub frame : Frame
-  pub replied : Replied line frame old new
+  pub front : List ℕ
+  pub rest : List ℕ
+  pub begins : BeginsWith bytes front rest
+  pub some : 1 ≤ length (told front)
+  pub few : length (told front) ≤ most_ahead
+  pub frames : List Frame
+  pub replied : RepliesToAll old (told front) frames new
 
--- The text for some first lines was sent. The book is as they left it, or as the line behind them did,
--- whose answer wasn't sent.
+-- The text for some first lines was sent. The book is as they left it, or as the lines behind them did
+-- that were done ahead, whose answers weren't sent.
 pub record SendsSome (IsText : List (Option (List ℕ)) → List Frame → List ℕ → Type 0) (input : List ℕ) (old new : State) (before now : Option (List ℕ)) : Type 0 where
   pub rest : List ℕ
   pub between : State
@@ -123,14 +133,14 @@ EndsServe input old image sessions left before now InputTooLong =
 EndsServe input old image sessions left before now NoMemory =
     StandsAfter old.total image sessions (λ new. SendsSome AreSpelled input old new before now)
 
--- a page that the end names is one of the store's, or damaged where reads give what the pages are
-abbrev pub EndsAtBad : Type 0 → List StoredSeries → Image → ℕ → ServeEnd → Type 0
-EndsAtBad told catalog image total ReadFault = ⊤
-EndsAtBad told catalog image total SendFault = ⊤
-EndsAtBad told catalog image total DiskFault = ⊤
-EndsAtBad told catalog image total (Damaged page) = IsBadPage told catalog image total page
-EndsAtBad told catalog image total InputTooLong = ⊤
-EndsAtBad told catalog image total NoMemory = ⊤
+-- a page that the end names is one of so many, and damaged where reads give what the pages are
+abbrev pub EndsAtBad : Type 0 → ℕ → Image → ServeEnd → Type 0
+EndsAtBad told count image ReadFault = ⊤
+EndsAtBad told count image SendFault = ⊤
+EndsAtBad told count image DiskFault = ⊤
+EndsAtBad told count image (Damaged page) = IsBadPage told count image page
+EndsAtBad told count image InputTooLong = ⊤
+EndsAtBad told count image NoMemory = ⊤
 
 -- what a serving moves, whatever the pages are
 pub record Serves (told_old told_new : Type 0) (old new : View) : Type 0 where

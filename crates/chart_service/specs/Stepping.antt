@@ -12,6 +12,8 @@ use Rattle.series_book.specs.declared.one_series.Series.{Series}
 use Rattle.series_book.specs.Edits.{id_of}
 use Rattle.series_store.specs.Results.{IsUnchanged}
 use Rattle.series_catalog.specs.declared.stored_series.StoredSeries.{StoredSeries}
+use Rattle.page_space.specs.declared.superblock.Superblock.{Superblock}
+use Rattle.stored_book.specs.Damage.{IsDamagedOnce, IsBadForRequest}
 use Rattle.stored_book.specs.Standing.{StandsForBook}
 use Rattle.tree_walk.specs.Paths.{IsDamaged}
 use Rattle.zoom_session.specs.declared.session.Session.{Session}
@@ -54,42 +56,46 @@ pub record IsDamagedIn (catalog : List StoredSeries) (image : Image) (total page
   pub there : slice_get catalog id ≡ Some series
   pub damaged : IsDamaged image total series.tree page
 
--- what a page is that a request finds damaged: for an edit it is one of the store's; for a view it is damaged, where
--- reads give what the pages are; the others read no page
-abbrev pub IsDamagedFor : Request → Type 0 → List StoredSeries → Image → ℕ → ℕ → Type 0
-IsDamagedFor (EditRequest edit) told catalog image total page = page < total
-IsDamagedFor (Open number cache) told catalog image total page = ⊥
-IsDamagedFor (ViewRequest number name w h t0 t1 word text) told catalog image total page = told → IsDamagedIn catalog image total page
-IsDamagedFor (Zoom number t0 t1) told catalog image total page = told → IsDamagedIn catalog image total page
-IsDamagedFor (Pan number by) told catalog image total page = told → IsDamagedIn catalog image total page
-IsDamagedFor (Close number) told catalog image total page = ⊥
+-- a page that a view finds damaged is one of the store's, and is so where reads give what the pages are
+abbrev pub IsDamagedToView : Type 0 → List StoredSeries → Image → ℕ → ℕ → Type 0
+IsDamagedToView told catalog image total page = (page < total) × (told → IsDamagedIn catalog image total page)
+
+-- what a page is that a request finds damaged: the same for a view, for an edit where no page is used twice; the others read
+-- no page
+abbrev pub IsDamagedFor : Request → Type 0 → List StoredSeries → Image → Superblock → ℕ → Type 0
+IsDamagedFor (EditRequest edit) told catalog image s page = (page < s.total) × (told → IsDamagedOnce image s page)
+IsDamagedFor (Open number cache) told catalog image s page = ⊥
+IsDamagedFor (ViewRequest number name w h t0 t1 word text) told catalog image s page = IsDamagedToView told catalog image s.total page
+IsDamagedFor (Zoom number t0 t1) told catalog image s page = IsDamagedToView told catalog image s.total page
+IsDamagedFor (Pan number by) told catalog image s page = IsDamagedToView told catalog image s.total page
+IsDamagedFor (Close number) told catalog image s page = ⊥
 
 -- why a request wasn't answered; want of memory is free
-abbrev pub IsStepCause : Request → ServiceError → Type 0 → List StoredSeries → ℕ → View → View → Type 0
-IsStepCause request DiskFault told catalog total old new = HasRisen old.faults new.faults
-IsStepCause request (Damaged page) told catalog total old new = IsDamagedFor request told catalog old.image total page
-IsStepCause request NoMemory told catalog total old new = ⊤
+abbrev pub IsStepCause : Request → ServiceError → Type 0 → List StoredSeries → Superblock → View → View → Type 0
+IsStepCause request DiskFault told catalog s old new = HasRisen old.faults new.faults
+IsStepCause request (Damaged page) told catalog s old new = IsDamagedFor request told catalog old.image s page
+IsStepCause request NoMemory told catalog s old new = ⊤
 
 -- the same of what a line is read as, and of a line; nothing but want of memory keeps from a refusal
-abbrev pub IsReadCause : Result Request ℕ → ServiceError → Type 0 → List StoredSeries → ℕ → View → View → Type 0
-IsReadCause (Err at) DiskFault told catalog total old new = ⊥
-IsReadCause (Err at) (Damaged page) told catalog total old new = ⊥
-IsReadCause (Err at) NoMemory told catalog total old new = ⊤
-IsReadCause (Ok request) error told catalog total old new = IsStepCause request error told catalog total old new
+abbrev pub IsReadCause : Result Request ℕ → ServiceError → Type 0 → List StoredSeries → Superblock → View → View → Type 0
+IsReadCause (Err at) DiskFault told catalog s old new = ⊥
+IsReadCause (Err at) (Damaged page) told catalog s old new = ⊥
+IsReadCause (Err at) NoMemory told catalog s old new = ⊤
+IsReadCause (Ok request) error told catalog s old new = IsStepCause request error told catalog s old new
 
-abbrev pub IsLineCause : Option (List ℕ) → ServiceError → Type 0 → List StoredSeries → ℕ → View → View → Type 0
-IsLineCause None error told catalog total old new = ⊥
-IsLineCause (Some text) error told catalog total old new = IsReadCause (read_line text) error told catalog total old new
+abbrev pub IsLineCause : Option (List ℕ) → ServiceError → Type 0 → List StoredSeries → Superblock → View → View → Type 0
+IsLineCause None error told catalog s old new = ⊥
+IsLineCause (Some text) error told catalog s old new = IsReadCause (read_line text) error told catalog s old new
 
--- a page that is called damaged is one of the store's, or damaged where reads give what the pages are
-abbrev pub IsBadPage : Type 0 → List StoredSeries → Image → ℕ → ℕ → Type 0
-IsBadPage told catalog image total page = (page < total) ⊎ (told → IsDamagedIn catalog image total page)
+-- a page that is called damaged is one of so many, and is so where reads give what the pages are
+abbrev pub IsBadPage : Type 0 → ℕ → Image → ℕ → Type 0
+IsBadPage told count image page = (page < count) × (told → IsBadForRequest count image page)
 
 -- the page of an error that names one is bad
-abbrev pub NamesBad : Type 0 → List StoredSeries → Image → ℕ → ServiceError → Type 0
-NamesBad told catalog image total DiskFault = ⊤
-NamesBad told catalog image total (Damaged page) = IsBadPage told catalog image total page
-NamesBad told catalog image total NoMemory = ⊤
+abbrev pub NamesBad : Type 0 → ℕ → Image → ServiceError → Type 0
+NamesBad told count image DiskFault = ⊤
+NamesBad told count image (Damaged page) = IsBadPage told count image page
+NamesBad told count image NoMemory = ⊤
 
 -- where pages stand for a book, a fault of the disk or want of memory alone keeps from an answer
 abbrev pub IsOutside : ServiceError → Type 0

@@ -1,5 +1,5 @@
 -- The same answers, told otherwise.
-use Rattle.std.proofs.Common.{ℕ, List, [], ◌∷◌, ◌++◌, Option, refl, subst, sym, inl, inr}
+use Rattle.std.proofs.Common.{◌≡◌, ℕ, List, [], ◌∷◌, ◌++◌, Option, refl, subst, sym, inl, inr}
 use Rattle.std.specs.List.{filter}
 use Rattle.block_disk.specs.View.{Image}
 use Rattle.chart_world.specs.Fronts.{says}
@@ -11,12 +11,31 @@ use Rattle.chart_service.specs.Replies.{Replied}
 use Rattle.chart_service.specs.Serving.{told, RepliesToAll, Answers, SendsText, SendsFirst, SendsFrontOf, SendsTaken, SendsWithin, SendsSome, SendsLines}
 use Rattle.chart_service.specs.State.{State}
 
--- a line more is answered
-pub replies_more : (old between new : State) (lines : List (Option (List ℕ))) (frames : List Frame) (line : Option (List ℕ)) (frame : Frame) → RepliesToAll old lines frames between → Replied line frame between new → RepliesToAll old (lines ++ line ∷ []) (frames ++ frame ∷ []) new
-replies_more old between new [] [] line frame all next = let P : State → Type 0 = λ s. Replied line frame s new in (new, subst P all next, refl)
-replies_more old between new [] (r ∷ rs) line frame all next = absurd all
-replies_more old between new (l ∷ ls) [] line frame all next = absurd all
-replies_more old between new (l ∷ ls) (r ∷ rs) line frame all next = (all.0, all.1, replies_more all.0 between new ls rs line frame all.2 next)
+-- lines behind others do what both do
+pub replies_joined : (old between new : State) (lines more : List (Option (List ℕ))) (frames answers : List Frame) → RepliesToAll old lines frames between → RepliesToAll between more answers new → RepliesToAll old (lines ++ more) (frames ++ answers) new
+replies_joined old between new [] more [] answers all next = let P : State → Type 0 = λ s. RepliesToAll s more answers new in subst P all next
+replies_joined old between new [] more (r ∷ rs) answers all next = absurd all
+replies_joined old between new (l ∷ ls) more [] answers all next = absurd all
+replies_joined old between new (l ∷ ls) more (r ∷ rs) answers all next = (all.0, all.1, replies_joined all.0 between new ls more rs answers all.2 next)
+
+-- one line does what its reply says
+pub replied_one : (old new : State) (line : Option (List ℕ)) (frame : Frame) → Replied line frame old new → RepliesToAll old (line ∷ []) (frame ∷ []) new
+replied_one old new line frame replied = (new, replied, refl)
+
+-- the first frame is the reply to the first line
+pub record RepliesFirst (old : State) (frame : Frame) : Type 0 where
+  pub line : Option (List ℕ)
+  pub between : State
+  pub replied : Replied line frame old between
+
+pub first_replied : (old new : State) (lines : List (Option (List ℕ))) (frames : List Frame) (frame : Frame) (later : List Frame) → frames ≡ frame ∷ later → RepliesToAll old lines frames new → RepliesFirst old frame
+first_replied old new [] [] frame later is all = absurd (cc (is))
+first_replied old new [] (f ∷ fs) frame later is all = absurd all
+first_replied old new (line ∷ lines) [] frame later is all = absurd all
+first_replied old new (line ∷ lines) (f ∷ fs) frame later is all =
+    let same : f ≡ frame = cc in
+    let P : Frame → Type 0 = λ g. Replied line g old all.0 in
+    record { line = line; between = all.0; replied = subst P same all.1 }
 
 -- no line is answered yet
 pub told_none : (old : State) → RepliesToAll old (told []) [] old
@@ -79,14 +98,13 @@ ahead_told T U input total start from image count tells a = record {
     | inr next ↦ inr (record {
       after = next.after;
       next = next.next;
-      said = next.said;
       stands = next.stands;
       sent = elim next.sent [
         | inl none ↦ inl none
         | inr some ↦ inr (record {
           reply = some.reply;
-          texts = tells (told a.front ++ next.next.line ∷ []) (a.answers.frames ++ next.next.frame ∷ []) (a.text ++ some.reply) next.after
-              (replies_more start a.between next.after (told a.front) a.answers.frames next.next.line next.next.frame a.answers.replied next.next.replied) some.texts;
+          texts = tells (told a.front ++ told next.next.front) (a.answers.frames ++ next.next.frames) (a.text ++ some.reply) next.after
+              (replies_joined start a.between next.after (told a.front) (told next.next.front) a.answers.frames next.next.frames a.answers.replied next.next.replied) some.texts;
           low = some.low;
           high = some.high;
         })

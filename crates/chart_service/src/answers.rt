@@ -4,10 +4,11 @@ ghost use Rattle.block_disk.specs.Counts.{HasRisen};
 ghost use Rattle.block_disk.specs.View.{Now, Only};
 ghost use Rattle.chart_frames.specs.Frames.{Fits};
 ghost use Rattle.gate_pages.specs.Pages.{GoesOn};
-ghost use Rattle.chart_service.specs.Answering.{SendsAll, EndsBy, LastsBy, EndsAtBad, AnswersOn, StopsOn, LeavesBy};
+ghost use Rattle.chart_service.specs.Answering.{SendsAll, EndsBy, LastsBy, ReadsByLines, EndsAtBad, AnswersOn, StopsOn, LeavesBy};
 ghost use Rattle.chart_service.specs.Knowing.{Follows, KnowsOpen, EndsKnown};
 ghost use Rattle.chart_service.specs.Making.{AreMade, AreMadeFrom, FrameSent, FrameStops, IsReplyEnd, FrameMoments};
-ghost use Rattle.chart_service.specs.Serving.{KeepsPages, Serves};
+ghost use Rattle.chart_service.specs.ReadingBlocks.{ReadsFirst};
+ghost use Rattle.chart_service.specs.Serving.{KeepsPages, Serves, unless_empty};
 ghost use Rattle.chart_service.specs.Shown as shown;
 
 use crate::failure::{AnswerEnd, ServeEnd};
@@ -34,13 +35,15 @@ pub fn answer_lines<P: PageWorld, S, F, R: Reply<S, F>>(
     ensures ends { shown.ForBook service.old (λ total book. IfErr result (EndsBy P.left P.sent R.makes kept.old kept.new total book service.old service.new)) }
     // at each moment a crash leaves a book with each edit whose bytes were sent by then, and at most one edit more
     ensures crash { shown.ForBook service.old (λ total book. LastsBy P.left P.sent (AreMadeFrom R.makes kept.old) total book service.old service.new) }
+    // blocks are read for lines alone, for each as few as its request may read
+    ensures reads { shown.ForBook service.old (λ total book. ReadsByLines P.left total book service.old service.new) }
     // whatever the pages are
     ensures read { result ≡ Err (AnswerEnd.Serve ServeEnd.ReadFault) → HasRisen (P.read_faults (shown.pages service.old)) (P.read_faults (shown.pages service.new)) }
     ensures send { result ≡ Err (AnswerEnd.Serve ServeEnd.SendFault) → HasRisen (P.send_faults (shown.pages service.old)) (P.send_faults (shown.pages service.new)) }
     ensures disk { result ≡ Err (AnswerEnd.Serve ServeEnd.DiskFault) → HasRisen (shown.view service.old).faults (shown.view service.new).faults }
     // where the open sessions are known, a frame whose bytes weren't made names known ones
     ensures known { (knows : S → ℕ → Bool) → Follows R.makes knows → KnowsOpen knows kept.old service.old.sessions → IfErr result (EndsKnown R.makes knows) }
-    ensures bad { IfErr result (EndsAtBad (shown.IsTold service.new) (shown.catalog service.new) (shown.image service.new) (shown.total service.new)) }
+    ensures bad { IfErr result (EndsAtBad (shown.IsTold service.new) (shown.view service.new).size (shown.image service.new)) }
     ensures serves { Serves (shown.IsTold service.old) (shown.IsTold service.new) (shown.view service.old) (shown.view service.new) }
     ensures goes_on { GoesOn (shown.under service.old) (shown.under service.new) }
     ensures sound { result ≢ Err (AnswerEnd.Serve ServeEnd.DiskFault) → (shown.view service.new).fit }
@@ -66,15 +69,16 @@ fn answer_line<P: PageWorld, S, F, R: Reply<S, F>>(
 ) -> Result<(), AnswerEnd<F>>
     requires sound { (shown.view service.old).fit }
     requires short { length line.now ≤ 8192 }
-    ensures done { shown.ForBook service.old (λ total book. OnOk result (AnswersOn P.sent R.makes (Some line.now) kept.old kept.new total book service.old service.new)) }
-    ensures stops { shown.ForBook service.old (λ total book. IfErr result (StopsOn P.sent R.makes (Some line.now) kept.old kept.new total book service.old service.new)) }
-    ensures moments { shown.ForBook service.old (λ total book. LeavesBy R.makes kept.old (Some line.now) total book service.old service.new) }
+    ensures done { shown.ForBook service.old (λ total book. OnOk result (AnswersOn P.sent R.makes (unless_empty (Some line.now)) kept.old kept.new total book service.old service.new)) }
+    ensures stops { shown.ForBook service.old (λ total book. IfErr result (StopsOn P.sent R.makes (unless_empty (Some line.now)) kept.old kept.new total book service.old service.new)) }
+    ensures moments { shown.ForBook service.old (λ total book. LeavesBy R.makes kept.old (unless_empty (Some line.now)) total book service.old service.new) }
+    ensures reads { shown.ForBook service.old (λ total book. ReadsFirst (unless_empty (Some line.now)) (shown.state service.old total book) (shown.view service.old).reads (shown.view service.new).reads) }
     ensures known { (knows : S → ℕ → Bool) → Follows R.makes knows → KnowsOpen knows kept.old service.old.sessions → OnOk result (KnowsOpen knows kept.new service.new.sessions) }
     ensures named { (knows : S → ℕ → Bool) → Follows R.makes knows → KnowsOpen knows kept.old service.old.sessions → IfErr result (EndsKnown R.makes knows) }
     ensures send { result ≡ Err (AnswerEnd.Serve ServeEnd.SendFault) → HasRisen (P.send_faults (shown.pages service.old)) (P.send_faults (shown.pages service.new)) }
     ensures disk { result ≡ Err (AnswerEnd.Serve ServeEnd.DiskFault) → HasRisen (shown.view service.old).faults (shown.view service.new).faults }
     ensures read { result ≢ Err (AnswerEnd.Serve ServeEnd.ReadFault) }
-    ensures bad { IfErr result (EndsAtBad (shown.IsTold service.new) (shown.catalog service.new) (shown.image service.new) (shown.total service.new)) }
+    ensures bad { IfErr result (EndsAtBad (shown.IsTold service.new) (shown.view service.new).size (shown.image service.new)) }
     ensures serves { Serves (shown.IsTold service.old) (shown.IsTold service.new) (shown.view service.old) (shown.view service.new) }
     ensures goes_on { GoesOn (shown.under service.old) (shown.under service.new) }
     ensures sound { result ≢ Err (AnswerEnd.Serve ServeEnd.DiskFault) → (shown.view service.new).fit }
@@ -97,9 +101,9 @@ fn answer_long_line<P: PageWorld, S, F, R: Reply<S, F>>(
     kept: &mut S,
 ) -> Result<(), AnswerEnd<F>>
     requires { (shown.view service.old).fit }
-    ensures done { shown.ForBook service.old (λ total book. OnOk result (AnswersOn P.sent R.makes None kept.old kept.new total book service.old service.new)) }
-    ensures stops { shown.ForBook service.old (λ total book. IfErr result (StopsOn P.sent R.makes None kept.old kept.new total book service.old service.new)) }
-    ensures moments { shown.ForBook service.old (λ total book. LeavesBy R.makes kept.old None total book service.old service.new) }
+    ensures done { shown.ForBook service.old (λ total book. OnOk result (AnswersOn P.sent R.makes (unless_empty None) kept.old kept.new total book service.old service.new)) }
+    ensures stops { shown.ForBook service.old (λ total book. IfErr result (StopsOn P.sent R.makes (unless_empty None) kept.old kept.new total book service.old service.new)) }
+    ensures moments { shown.ForBook service.old (λ total book. LeavesBy R.makes kept.old (unless_empty None) total book service.old service.new) }
     ensures known { (knows : S → ℕ → Bool) → Follows R.makes knows → KnowsOpen knows kept.old service.old.sessions → OnOk result (KnowsOpen knows kept.new service.new.sessions) }
     ensures named { (knows : S → ℕ → Bool) → Follows R.makes knows → KnowsOpen knows kept.old service.old.sessions → IfErr result (EndsKnown R.makes knows) }
     ensures ends { IfErr result IsReplyEnd }

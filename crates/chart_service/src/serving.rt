@@ -4,7 +4,7 @@ ghost use Rattle.block_disk.specs.Counts.{HasRisen};
 ghost use Rattle.block_disk.specs.View.{Now, Only};
 ghost use Rattle.chart_frames.specs.Frames.{spelling};
 ghost use Rattle.gate_pages.specs.Pages.{GoesOn};
-ghost use Rattle.chart_service.specs.Answering.{SendsWhole, ServeEndsBy, LastsBy};
+ghost use Rattle.chart_service.specs.Answering.{SendsWhole, ServeEndsBy, LastsBy, ReadsByLines};
 ghost use Rattle.chart_service.specs.Serving.{AreSpelled, EndsAtBad, Serves};
 ghost use Rattle.chart_service.specs.Shown as shown;
 ghost use Rattle.chart_service.specs.Spelled.{serve_end};
@@ -43,11 +43,13 @@ pub fn serve<P: PageWorld>(service: &mut Service<P>) -> Result<(), ServeEnd>
     ensures ends { shown.ForBook service.old (λ total book. IfErr result (ServeEndsBy P.left P.sent total book service.old service.new)) }
     // at each moment a crash leaves a book with each edit whose reply was sent by then, and at most one edit more
     ensures crash { shown.ForBook service.old (λ total book. LastsBy P.left P.sent AreSpelled total book service.old service.new) }
+    // blocks are read for lines alone, for each as few as its request may read
+    ensures reads { shown.ForBook service.old (λ total book. ReadsByLines P.left total book service.old service.new) }
     // whatever the pages are
     ensures read { result ≡ Err ServeEnd.ReadFault → HasRisen (P.read_faults (shown.pages service.old)) (P.read_faults (shown.pages service.new)) }
     ensures send { result ≡ Err ServeEnd.SendFault → HasRisen (P.send_faults (shown.pages service.old)) (P.send_faults (shown.pages service.new)) }
     ensures disk { result ≡ Err ServeEnd.DiskFault → HasRisen (shown.view service.old).faults (shown.view service.new).faults }
-    ensures bad { IfErr result (EndsAtBad (shown.IsTold service.new) (shown.catalog service.new) (shown.image service.new) (shown.total service.new)) }
+    ensures bad { IfErr result (EndsAtBad (shown.IsTold service.new) (shown.view service.new).size (shown.image service.new)) }
     ensures serves { Serves (shown.IsTold service.old) (shown.IsTold service.new) (shown.view service.old) (shown.view service.new) }
     ensures goes_on { GoesOn (shown.under service.old) (shown.under service.new) }
     ensures sound { result ≢ Err ServeEnd.DiskFault → (shown.view service.new).fit }

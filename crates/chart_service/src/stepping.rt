@@ -11,7 +11,7 @@ ghost use Rattle.chart_service.specs.Alone.{session_in, session_named};
 ghost use Rattle.chart_service.specs.Opening.{OpensBy, LosesAtMost};
 ghost use Rattle.chart_service.specs.Replies.{Replied, line_text};
 ghost use Rattle.chart_service.specs.Stepping.{RepliedTo, NamesBad, IsOutside, Steps, ReadsFew};
-ghost use Rattle.chart_service.specs.Called.{AnswersSo, CommitsOnly, IsCause, IsCauseOfLine};
+ghost use Rattle.chart_service.specs.Called.{AnswersSo, CommitsOnly, IsCause, IsCauseOfLine, ReadsFewFor};
 ghost use Rattle.chart_service.specs.Shown as shown;
 
 use crate::failure::ServiceError;
@@ -46,7 +46,7 @@ impl<P: Pages> Service<P> {
         ensures sessions { OnErr result (LosesAtMost (session_in request.now) self.old.sessions self.new.sessions) }
         ensures unchanged { CommitsOnly result self.old self.new }
         ensures cause { IfErr result (IsCause request.now self.old self.new) }
-        ensures bad { IfErr result (NamesBad (shown.IsTold self.new) (shown.catalog self.new) (shown.image self.new) (shown.total self.new)) }
+        ensures bad { IfErr result (NamesBad (shown.IsTold self.new) (shown.view self.new).size (shown.image self.new)) }
         ensures steps { Steps (shown.IsTold self.old) (shown.IsTold self.new) (shown.view self.old) (shown.view self.new) }
         ensures goes_on { GoesOn (shown.under self.old) (shown.under self.new) }
         ensures sound { OnOk result (shown.view self.new).fit }
@@ -70,6 +70,7 @@ impl<P: Pages> Service<P> {
         ensures standing { shown.ForBook self.old (λ total book. IfErr result IsOutside) }
         // a crash at any moment leaves the book from before, or the one that the reply leaves
         ensures moments { shown.ForBook self.old (λ total book. shown.PassesBy (Replied (line_text line.now)) total book self.old self.new) }
+        ensures reads { shown.ForBook self.old (λ total book. ReadsFewFor (line_text line.now) total book self.old self.new) }
         // whatever the pages are
         ensures fits { IfOk result Fits }
         ensures opens { IfOk result (λ frame. OpensBy frame self.old.sessions self.new.sessions) }
@@ -77,7 +78,7 @@ impl<P: Pages> Service<P> {
         ensures unchanged { CommitsOnly result self.old self.new }
         ensures cause { IfErr result (IsCauseOfLine (line_text line.now) self.old self.new) }
         ensures disk { result ≡ Err ServiceError.DiskFault → HasRisen (shown.view self.old).faults (shown.view self.new).faults }
-        ensures bad { IfErr result (NamesBad (shown.IsTold self.new) (shown.catalog self.new) (shown.image self.new) (shown.total self.new)) }
+        ensures bad { IfErr result (NamesBad (shown.IsTold self.new) (shown.view self.new).size (shown.image self.new)) }
         ensures steps { Steps (shown.IsTold self.old) (shown.IsTold self.new) (shown.view self.old) (shown.view self.new) }
         ensures goes_on { GoesOn (shown.under self.old) (shown.under self.new) }
         ensures sound { OnOk result (shown.view self.new).fit }

@@ -1,26 +1,22 @@
 //! Commands over a world of which a call fails: each ends by that fault, and by no other code.
 
 use block_disk::{FuseDisk, MemDisk};
-use chart_service::{ServeEnd, Service, serve};
 use chart_world::MemWorld;
 use disk_store::{disk_of, open_store};
 use empty_store::make_store;
 use series_book::{Edit, Name};
 use std::alloc::Global;
 use std::test::Fail;
-use store_commands::{check_store, load_series, opening_status, run_demo};
-
-type World = MemWorld<FuseDisk<MemDisk>>;
+use store_commands::{check_store, load_series, run_demo};
 
 #[derive(Clone, Copy, Debug, PartialEq, Eq)]
 enum Command {
     Load,
     Check,
     Demo,
-    Serve,
 }
 
-use Command::{Check, Demo, Load, Serve};
+use Command::{Check, Demo, Load};
 
 /// The input of each command, and what it sends where no call fails.
 const LOAD: (Command, &[u8], &[u8]) = (Load, b"time,value\n0,1.5\n1,2\n", b"loaded 2\n");
@@ -31,12 +27,6 @@ const DEMO: (Command, &[u8], &[u8]) = (
     Demo,
     b"",
     b"requests 3 done 2 refused 0 views 0 sent 0 black 0\n",
-);
-
-const SERVE: (Command, &[u8], &[u8]) = (
-    Serve,
-    b"create b 0 1 0\nopen 7\n",
-    b"\0\0\0\x09\x01\0\0\0\0\0\0\0\0\0\0\0\x09\x03\0\0\0\x07\0\x01\0\0",
 );
 
 /// A store on a disk of 128 blocks, with an empty series `a` of two decimals.
@@ -59,28 +49,6 @@ fn made(alloc: Global) -> Result<MemDisk, Fail> {
     Ok(disk_of(store))
 }
 
-/// The code with which `serve` ends over a world, and the world.
-fn served(alloc: Global, world: World) -> Result<(u8, World), Fail> {
-    let store = match open_store(alloc, world) {
-        Ok(store) => store,
-        Err(back) => return Ok((opening_status(back.cause).code, back.value)),
-    };
-    let Ok(mut service) = Service::new(alloc, store) else {
-        return Err(Fail::new("no service"));
-    };
-    if !service.is_sound() {
-        return Err(Fail::new("the pages aren't sound"));
-    }
-    let code = match serve(&mut service) {
-        Ok(()) => 0,
-        Err(ServeEnd::ReadFault) => 4,
-        Err(ServeEnd::SendFault) => 5,
-        Err(ServeEnd::DiskFault) => 6,
-        Err(_) => 3,
-    };
-    Ok((code, disk_of(service.into_store())))
-}
-
 /// The code of a command over a disk that passes so many calls, where the takes and sends of these numbers fail, and
 /// what it sends.
 fn ran(
@@ -101,10 +69,6 @@ fn ran(
         Load => load_series(alloc, &Name::new(alloc, b"a")?, world),
         Check => check_store(alloc, world),
         Demo => run_demo(alloc, 7, 1, world),
-        Serve => {
-            let (code, world) = served(alloc, world)?;
-            return Ok((code, Vec::from_slice(alloc, world.sent())?));
-        }
     };
     Ok((status.code, Vec::from_slice(alloc, world.sent())?))
 }
@@ -114,12 +78,7 @@ fn ran(
 fn a_disk_that_fails_is_told(rt: HostRuntime) -> Result<(), Fail> {
     let alloc = rt.alloc();
     // the first call that fails, and how many the command makes
-    for ((command, input, whole), from, calls) in [
-        (LOAD, 20, 34),
-        (CHECK, 0, 20),
-        (DEMO, 20, 50),
-        (SERVE, 20, 32),
-    ] {
+    for ((command, input, whole), from, calls) in [(LOAD, 20, 33), (CHECK, 0, 20), (DEMO, 20, 48)] {
         for passes in from..calls {
             let (code, sent) = ran(alloc, (command, input), passes, &[], &[])?;
             assert_eq!(rt; code, 6, "{command:?}, call {passes}");
@@ -134,12 +93,10 @@ fn a_disk_that_fails_is_told(rt: HostRuntime) -> Result<(), Fail> {
 #[test]
 fn streams_that_fail_in_the_middle_are_told(rt: HostRuntime) -> Result<(), Fail> {
     // the takes and the sends that fail, the code, and how many bytes are sent
-    let rows: [((Command, &[u8], &[u8]), &[u64], &[u64], u8, usize); 5] = [
+    let rows: [((Command, &[u8], &[u8]), &[u64], &[u64], u8, usize); 3] = [
         (LOAD, &[1], &[], 4, 0),
         (CHECK, &[], &[0], 5, 16),
         (DEMO, &[], &[0], 5, 25),
-        (SERVE, &[1], &[], 4, 26),
-        (SERVE, &[], &[1], 5, 19),
     ];
     for ((command, input, whole), take_fails, send_fails, code, count) in rows {
         let (found, sent) = ran(rt.alloc(), (command, input), 1_000, take_fails, send_fails)?;

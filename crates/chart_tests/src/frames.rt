@@ -5,16 +5,16 @@ use chart_frames::{Decoder, Frame, FrameFault, encode};
 use std::alloc::Global;
 use std::test::Fail;
 
-const DONE: &str = "0 0 0 9  1  0 0 0 0 0 0 0 4";
+pub const DONE: &str = "0 0 0 9  1  0 0 0 0 0 0 0 4";
 
 const REFUSED: &str = "0 0 0 18  2  20  0 0 0 0 0 0 0 41  0 0 0 0 0 0 0 40";
 
-const OPENED: &str = "0 0 0 9  3  0 0 0 1  0 1 0 0";
+pub const OPENED: &str = "0 0 0 9  3  0 0 0 1  0 1 0 0";
 
 const CLOSED: &str = "0 0 0 5  4  0 0 0 7";
 
 /// A view of four slots on four columns, with eight coefficients.
-const VIEW: &str =
+pub const VIEW: &str =
     "0 0 1 28  5  0 0 0 1  0 0  0 4  0 4  0 0 0 0 0 0 0 0  0 0 0 0 0 0 0 4  0 0 0 0 0 0 0 2  0 0 0 0 0 0 0 7
     0 0 0 0 0 0 0 0  0 0 0 1  0 0 0 0 0 0 0 4  1  0 0 0 0 0 0 0 2  0 0 0 0 0 0 0 7  0 0 0 8  0 0 7 0 0 0 0 0  1
     0 0 0 0 0 0 0 0  0 0 0 0 0 0 0 0  0 0 6 0 0 0 0 0  1  0 0 0 0 0 0 0 0  0 0 0 0 0 0 0 0  0 0 5 0 0 0 0 0  1
@@ -58,7 +58,7 @@ fn numbers_of(alloc: Global, text: &str) -> Result<Vec<u16>, Fail> {
 }
 
 /// Appends the bytes whose numbers a text has.
-fn append(bytes: &mut Vec<u8>, text: &str) -> Result<(), Fail> {
+pub fn append(bytes: &mut Vec<u8>, text: &str) -> Result<(), Fail> {
     for word in text.split_whitespace() {
         bytes.push(word.parse()?)?;
     }

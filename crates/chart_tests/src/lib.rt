@@ -9,6 +9,10 @@ mod frames;
 #[cfg(test)]
 mod plans;
 #[cfg(test)]
+mod reads;
+#[cfg(test)]
+mod serving;
+#[cfg(test)]
 mod spellings;
 #[cfg(test)]
 mod walks;

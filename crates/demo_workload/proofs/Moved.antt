@@ -9,7 +9,6 @@ use Rattle.gate_pages.proofs.Moving.{time_then}
 use Rattle.request_lines.specs.declared.requests.Request.{Request}
 use Rattle.zoom_session.specs.declared.session.Session.{Session}
 use Rattle.chart_client.specs.declared.holding.Holding.{Holding}
-use Rattle.series_catalog.specs.declared.stored_series.StoredSeries.{StoredSeries}
 use Rattle.chart_service.specs.State.{State}
 use Rattle.chart_service.specs.Stepping.{RepliedTo, IsBeforeOrAfter, Steps}
 use Rattle.demo_workload.specs.declared.summaries.Summary.{Summary}
@@ -46,11 +45,11 @@ risen_on old mid new low (inl risen) = inl (omega (arith, low, risen))
 risen_on old mid new low (inr top) = inr top
 
 -- why the requests end
-pub cause_on : (end : DemoEnd) (holdings : List Holding) (told : Type 0) (catalog : List StoredSeries) (total : ℕ) (old mid new : View) → HasAccepted holdings
-    → old.faults ≤ mid.faults → IsOneCause end holdings told catalog total mid new → IsCause end told catalog total old new
-cause_on DiskFault holdings told catalog total old mid new accepted faults cause = risen_on old.faults mid.faults new.faults faults cause
-cause_on (Damaged page) holdings told catalog total old mid new accepted faults cause = cause
-cause_on (Missing key) holdings told catalog total old mid new accepted faults cause = record {
+pub cause_on : (end : DemoEnd) (holdings : List Holding) (told : Type 0) (old mid new : View) → HasAccepted holdings
+    → old.faults ≤ mid.faults → IsOneCause end holdings told mid new → IsCause end told old new
+cause_on DiskFault holdings told old mid new accepted faults cause = risen_on old.faults mid.faults new.faults faults cause
+cause_on (Damaged page) holdings told old mid new accepted faults cause = cause
+cause_on (Missing key) holdings told old mid new accepted faults cause = record {
   frames = accepted.frames;
   drawings = accepted.drawings;
   holdings = holdings;
@@ -58,7 +57,7 @@ cause_on (Missing key) holdings told catalog total old mid new accepted faults c
   frame = cause.0;
   rejected = cause.1;
 }
-cause_on (BadCoefficient key) holdings told catalog total old mid new accepted faults cause = record {
+cause_on (BadCoefficient key) holdings told old mid new accepted faults cause = record {
   frames = accepted.frames;
   drawings = accepted.drawings;
   holdings = holdings;
@@ -66,7 +65,7 @@ cause_on (BadCoefficient key) holdings told catalog total old mid new accepted f
   frame = cause.0;
   rejected = cause.1;
 }
-cause_on NoMemory holdings told catalog total old mid new accepted faults cause = tt
+cause_on NoMemory holdings told old mid new accepted faults cause = tt
 
 -- ---- what a call answered
 

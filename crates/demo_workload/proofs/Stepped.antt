@@ -4,6 +4,7 @@ use Rattle.block_disk.specs.View.{Image, View}
 use Rattle.line_raster.specs.Canvas.{Canvas}
 use Rattle.series_book.specs.declared.one_series.Series.{Series}
 use Rattle.stored_book.specs.Standing.{StandsForBook}
+use Rattle.page_space.specs.declared.superblock.Superblock.{Superblock}
 use Rattle.series_catalog.specs.declared.stored_series.StoredSeries.{StoredSeries}
 use Rattle.request_lines.specs.declared.requests.Request.{Request}
 use Rattle.chart_frames.specs.declared.frame.Frame.{Frame}
@@ -93,17 +94,17 @@ pub left_behind : (request : Request) (frame : Frame) (total : ℕ) (book : List
 left_behind request frame total book sessions sessions' image reply = inr (record { frame = frame; left = sessions'; after = reply })
 
 -- why
-pub cause_of_step : (request : Request) (error : ServiceError) (holdings : List Holding) (told told' : Type 0) (catalog catalog' : List StoredSeries) (total total' : ℕ) (old new : View)
-    → IsStepCause request error told catalog total old new → NamesBad told' catalog' new.image total' error
-    → IsOneCause (end_of_step error) holdings told' catalog' total' old new
-cause_of_step request step.DiskFault holdings told told' catalog catalog' total total' old new cause bad = cause
-cause_of_step request (step.Damaged page) holdings told told' catalog catalog' total total' old new cause bad = bad
-cause_of_step request step.NoMemory holdings told told' catalog catalog' total total' old new cause bad = tt
+pub cause_of_step : (request : Request) (error : ServiceError) (holdings : List Holding) (told told' : Type 0) (catalog : List StoredSeries) (s : Superblock) (old new : View)
+    → IsStepCause request error told catalog s old new → NamesBad told' new.size new.image error
+    → IsOneCause (end_of_step error) holdings told' old new
+cause_of_step request step.DiskFault holdings told told' catalog s old new cause bad = cause
+cause_of_step request (step.Damaged page) holdings told told' catalog s old new cause bad = bad
+cause_of_step request step.NoMemory holdings told told' catalog s old new cause bad = tt
 
-pub cause_of_frame : (frame : Frame) (end : DemoEnd) (holdings : List Holding) (told : Type 0) (catalog : List StoredSeries) (total : ℕ) (old new : View)
-    → RejectsAs frame holdings end → IsOneCause end holdings told catalog total old new
-cause_of_frame frame DiskFault holdings told catalog total old new rejected = absurd rejected
-cause_of_frame frame (Damaged page) holdings told catalog total old new rejected = absurd rejected
-cause_of_frame frame (Missing key) holdings told catalog total old new rejected = (frame, rejected)
-cause_of_frame frame (BadCoefficient key) holdings told catalog total old new rejected = (frame, rejected)
-cause_of_frame frame NoMemory holdings told catalog total old new rejected = tt
+pub cause_of_frame : (frame : Frame) (end : DemoEnd) (holdings : List Holding) (told : Type 0) (old new : View)
+    → RejectsAs frame holdings end → IsOneCause end holdings told old new
+cause_of_frame frame DiskFault holdings told old new rejected = absurd rejected
+cause_of_frame frame (Damaged page) holdings told old new rejected = absurd rejected
+cause_of_frame frame (Missing key) holdings told old new rejected = (frame, rejected)
+cause_of_frame frame (BadCoefficient key) holdings told old new rejected = (frame, rejected)
+cause_of_frame frame NoMemory holdings told old new rejected = tt

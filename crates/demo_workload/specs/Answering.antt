@@ -7,7 +7,6 @@ use Rattle.line_raster.specs.Canvas.{Canvas}
 use Rattle.request_lines.specs.declared.requests.Request.{Request}
 use Rattle.series_book.specs.declared.one_series.Series.{Series}
 use Rattle.stored_book.specs.Standing.{StandsForBook}
-use Rattle.series_catalog.specs.declared.stored_series.StoredSeries.{StoredSeries}
 use Rattle.chart_frames.specs.declared.frame.Frame.{Frame}
 use Rattle.zoom_session.specs.declared.session.Session.{Session}
 use Rattle.zoom_session.specs.Sessions.{is_open}
@@ -62,12 +61,12 @@ RejectsAs frame old (BadCoefficient key) = Rejects frame (client.BadCoefficient 
 RejectsAs frame old NoMemory = ⊤
 
 -- why a request has no reply that the client accepts
-abbrev pub IsOneCause : DemoEnd → List Holding → Type 0 → List StoredSeries → ℕ → View → View → Type 0
-IsOneCause DiskFault holdings told catalog total old new = HasRisen old.faults new.faults
-IsOneCause (Damaged page) holdings told catalog total old new = IsBadPage told catalog new.image total page
-IsOneCause (Missing key) holdings told catalog total old new = (frame : Frame) × Rejects frame (client.Missing key) holdings
-IsOneCause (BadCoefficient key) holdings told catalog total old new = (frame : Frame) × Rejects frame (client.BadCoefficient key) holdings
-IsOneCause NoMemory holdings told catalog total old new = ⊤
+abbrev pub IsOneCause : DemoEnd → List Holding → Type 0 → View → View → Type 0
+IsOneCause DiskFault holdings told old new = HasRisen old.faults new.faults
+IsOneCause (Damaged page) holdings told old new = IsBadPage told new.size new.image page
+IsOneCause (Missing key) holdings told old new = (frame : Frame) × Rejects frame (client.Missing key) holdings
+IsOneCause (BadCoefficient key) holdings told old new = (frame : Frame) × Rejects frame (client.BadCoefficient key) holdings
+IsOneCause NoMemory holdings told old new = ⊤
 
 -- the client accepted frames one after the other since it had nothing
 pub record HasAccepted (holdings : List Holding) : Type 0 where

@@ -3,7 +3,6 @@ use Rattle.std.specs.Prelude.{ℕ, ◌≡◌, ◌≢◌, ◌≤◌, ◌⊎◌, L
 use Rattle.block_disk.specs.Counts.{HasRisen}
 use Rattle.block_disk.specs.View.{View}
 use Rattle.line_raster.specs.Canvas.{Canvas}
-use Rattle.series_catalog.specs.declared.stored_series.StoredSeries.{StoredSeries}
 use Rattle.chart_frames.specs.declared.frame.Frame.{Frame}
 use Rattle.chart_client.specs.declared.holding.Holding.{Holding}
 use Rattle.chart_client.specs.declared.errors.ClientError.{ClientError}
@@ -40,12 +39,12 @@ pub record MeetsError (error : ClientError) : Type 0 where
   pub rejected : Rejects frame error holdings
 
 -- why a workload ends before its summary; want of memory is free
-abbrev pub IsCause : DemoEnd → Type 0 → List StoredSeries → ℕ → View → View → Type 0
-IsCause DiskFault told catalog total old new = HasRisen old.faults new.faults
-IsCause (Damaged page) told catalog total old new = IsBadPage told catalog new.image total page
-IsCause (Missing key) told catalog total old new = MeetsError (client.Missing key)
-IsCause (BadCoefficient key) told catalog total old new = MeetsError (client.BadCoefficient key)
-IsCause NoMemory told catalog total old new = ⊤
+abbrev pub IsCause : DemoEnd → Type 0 → View → View → Type 0
+IsCause DiskFault told old new = HasRisen old.faults new.faults
+IsCause (Damaged page) told old new = IsBadPage told new.size new.image page
+IsCause (Missing key) told old new = MeetsError (client.Missing key)
+IsCause (BadCoefficient key) told old new = MeetsError (client.BadCoefficient key)
+IsCause NoMemory told old new = ⊤
 
 -- what a workload moves, whatever the pages are
 pub record Runs (told_old told_new : Type 0) (old new : View) : Type 0 where

@@ -46,7 +46,7 @@ pub(crate) fn answer<P: Pages>(
     // whatever the pages are
     ensures known { OnOk result (KnowsOpen service.new.sessions client.new) }
     ensures accepts { OnOk result (AcceptsOne client.old client.new) }
-    ensures cause { IfErr result (λ end. IsOneCause end client.old (shown.IsTold service.new) (shown.catalog service.new) (shown.total service.new) (shown.view service.old) (shown.view service.new)) }
+    ensures cause { IfErr result (λ end. IsOneCause end client.old (shown.IsTold service.new) (shown.view service.old) (shown.view service.new)) }
     ensures steps { Steps (shown.IsTold service.old) (shown.IsTold service.new) (shown.view service.old) (shown.view service.new) }
     ensures goes_on { GoesOn (shown.under service.old) (shown.under service.new) }
     ensures fit { result ≢ Err DemoEnd.DiskFault → (shown.view service.new).fit }

@@ -40,7 +40,7 @@ pub fn run_workload<P: Pages>(
     ensures moments { shown.ForBook service.old (λ total book. PassesPartWay (workload seed count) total book (shown.view service.old) (shown.view service.new)) }
     ensures left { shown.ForBook service.old (λ total book. IfStopped result (IsPartWay (workload seed count) total (state_of book total []) (shown.image service.new))) }
     // whatever the pages are
-    ensures cause { IfErr result (λ end. IsCause end (shown.IsTold service.new) (shown.catalog service.new) (shown.total service.new) (shown.view service.old) (shown.view service.new)) }
+    ensures cause { IfErr result (λ end. IsCause end (shown.IsTold service.new) (shown.view service.old) (shown.view service.new)) }
     ensures runs { Runs (shown.IsTold service.old) (shown.IsTold service.new) (shown.view service.old) (shown.view service.new) }
     ensures goes_on { GoesOn (shown.under service.old) (shown.under service.new) }
     ensures fit { result ≢ Err DemoEnd.DiskFault → (shown.view service.new).fit }

@@ -31,7 +31,7 @@ use Rattle.chart_service.specs.Viewing.{axis_of, has_of, least_of, greatest_of, 
 use Rattle.chart_client.specs.Holdings.{told_by, root_of, seen_by}
 use Rattle.chart_client.specs.Agreeing.{Agrees}
 use Rattle.chart_client.specs.Failing.{Fails}
-use Rattle.drawn_replies.proofs.Orders.{told-among, kinds-one}
+use Rattle.view_keys.proofs.Orders.{told_among, kinds_one}
 
 -- what is known of the layers below
 pub record Laws : Type 0 where
@@ -95,7 +95,7 @@ few v = omega (arith, v.good.slots_in_range)
 -- each needed key is told rightly
 right : (v : View) (k : Key) → Need v k → told_by (frame_of v) v.cache k ≡ Some (coef v.series.slots k)
 right v k need =
-    told-among (λ j. Some (coef v.series.slots j)) v.needed k (λ j o. told_by (frame_of v) v.cache j ≡ o)
+    told_among (λ j. Some (coef v.series.slots j)) v.needed k (λ j o. told_by (frame_of v) v.cache j ≡ o)
     v.are_needed.coefs
     (v.laws.gives v.cache.pairs v.spec.series v.needed v.distinct)
     (v.are_needed.all k need)
@@ -143,7 +143,7 @@ none-fails v k want (inr misfit) =
 -- the keys that the client wants are those that the service found needed
 pub wanted-same : (v : View) (wanted : List (Key × Coef)) → IsListOf (Want v) (told_by (frame_of v) v.cache) wanted → wanted ≡ v.needed
 wanted-same v wanted is =
-    kinds-one (Want v) (Need v) (told_by (frame_of v) v.cache) (λ k. Some (coef v.series.slots k)) wanted v.needed
+    kinds_one (Want v) (Need v) (told_by (frame_of v) v.cache) (λ k. Some (coef v.series.slots k)) wanted v.needed
     (λ k. (want-need v k).0) (λ k. (want-need v k).1)
     (λ k want. sym (right v k ((want-need v k).0 want)))
     is v.are_needed

@@ -1,6 +1,4 @@
-mod Grids
 mod Holders
-mod Orders
 mod Kept
 mod Agreement
 mod Steps

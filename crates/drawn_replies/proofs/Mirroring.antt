@@ -35,7 +35,7 @@ use Rattle.chart_client.specs.Agreeing.{IsGridOf}
 use Rattle.chart_client.specs.Failing.{IsFirstFailing}
 use Rattle.chart_client.specs.Accepting.{AcceptsView, AcceptsRows, DrawsView, viewed as client_viewed, FailsView, session_in}
 use Rattle.drawn_replies.specs.Mirrors.{mirrored, Mirrors, ShowsAnswered, IsPictureOf, DrawsTheBook, OnlyLacksMemory}
-use Rattle.drawn_replies.proofs.Grids.{grid-same}
+use Rattle.view_keys.proofs.Grids.{grid_same}
 use Rattle.drawn_replies.proofs.Holders.{mirror, held, closed, there, opened-same, viewed-same, unviewed-same, last-viewed}
 use Rattle.drawn_replies.proofs.Agreement.{Laws, View, frame_of, agrees, none-fails, wanted-same}
 use Rattle.drawn_replies.proofs.Steps.{IsQuiet, OpenStep, CloseStep, ViewStep, RowsStep, Step, step-of}
@@ -163,7 +163,7 @@ view-of laws frame old new good s = record {
 }
 
 grid-is : (v : View) (grid : Grid) → IsGridOf (frame_of v) grid → grid ≡ v.spec.grid
-grid-is v grid is = grid-same grid v.spec.grid is.window.from is.window.to is.canvas.columns is.canvas.rows
+grid-is v grid is = grid_same grid v.spec.grid is.window.from is.window.to is.canvas.columns is.canvas.rows
 
 view-accepted : (v : View) (session : Session) (old new : State) (h now : List Holding) (drawing : Canvas)
     → session_of v.number old.sessions ≡ Some session → session.cache ≡ v.cache → slice_get old.book v.spec.series ≡ Some v.series

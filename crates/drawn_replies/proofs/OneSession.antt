@@ -1,5 +1,5 @@
 -- A client that is sent the frames of one session alone.
-use Rattle.std.proofs.Common.{ℕ, ◌≡◌, inl, inr, Bool, true, false, if◌then◌else◌, List, [], ◌∷◌, ◌++◌, Option, None, Some, refl, sym, ap, ◌∙◌, subst}
+use Rattle.std.proofs.Common.{ℕ, ◌≡◌, inl, inr, Bool, true, false, if◌then◌else◌, List, [], ◌∷◌, ◌++◌, map, Option, None, Some, refl, sym, ap, ◌∙◌, subst}
 use Rattle.std.specs.List.{filter}
 use Rattle.line_raster.specs.Canvas.{Canvas}
 use Rattle.zoom_session.specs.declared.session.Session.{Session}
@@ -12,9 +12,11 @@ use Rattle.chart_service.specs.Viewing.{Answers, AnswersRows}
 use Rattle.chart_service.specs.Serving.{RepliesToAll}
 use Rattle.chart_service.specs.Alone.{only, alone}
 use Rattle.chart_service.proofs.Standing.{only_open, only_without, only_more, other_more, other_without, other_viewed, only_session, own_answers, own_rows, alone_sound}
-use Rattle.chart_client.specs.Accepting.{Accepts}
-use Rattle.drawn_replies.specs.Mirrors.{Mirrors, IsPictureOf}
-use Rattle.drawn_replies.specs.Pictures.{AcceptsAll, names, IsOwnPicture, AreOwnPictured}
+use Rattle.chart_client.specs.declared.errors.ClientError.{ClientError}
+use Rattle.chart_client.specs.declared.errors.ClientError.TheVariants.{NoMemory}
+use Rattle.chart_client.specs.Accepting.{Accepts, Rejects}
+use Rattle.drawn_replies.specs.Mirrors.{mirrored, Mirrors, IsPictureOf}
+use Rattle.drawn_replies.specs.Pictures.{AcceptsAll, names, IsOwnPicture, AreOwnPictured, NoneRejected}
 use Rattle.drawn_replies.proofs.Agreement.{Laws}
 use Rattle.drawn_replies.proofs.Holders.{same-number}
 use Rattle.drawn_replies.proofs.Steps.{IsQuiet, OpenStep, CloseStep, ViewStep, RowsStep, Step, step-of}
@@ -164,3 +166,53 @@ follows_own laws n (l ∷ ls) (f ∷ fs) (d ∷ ds) old new holdings now sound a
           let later = follows_own laws n ls fs (d ∷ ds) all.0 new holdings now all.1.2 all.2 (other-mirrors n f old all.0 holdings other step m) a' in
           ((all.0, all.1.0, [], d ∷ ds, refl, none-own n f old all.0 other, later.0), later.1)
     ]) refl a
+
+-- ---- no frame of the session is rejected
+
+none_there : (front behind : List Frame) (frame : Frame) → [] ≡ front ++ frame ∷ behind → ⊥
+none_there [] behind frame is = cc
+none_there (g ∷ gs) behind frame is = cc
+
+abbrev Own : ℕ → Bool → Frame → List Frame → List Frame
+Own n b f fs = if b then f ∷ filter (names n) fs else filter (names n) fs
+
+-- the next frame of the session
+own_lacks : Laws → (n : ℕ) (f : Frame) (old between : State) (h : List Holding) (e : ClientError) → IsSound old → names n f ≡ true → Step f old between → Mirrors (only n old.sessions) h → Rejects f e h → e ≡ NoMemory
+own_lacks laws n f old between h e sound named step m r =
+    (follows-step laws f (alone n old) (alone n between) h (alone_sound n old sound) (own-step n f old between named step) m).1 e r
+
+own_rejected : Laws → (n : ℕ) (lines : List (Option (List ℕ))) (frames front behind : List Frame) (frame : Frame) (drawings : List (Option Canvas)) (old new : State)
+    (h now : List Holding) (e : ClientError) → IsSound old → RepliesToAll old lines frames new → Mirrors (only n old.sessions) h
+    → filter (names n) frames ≡ front ++ frame ∷ behind → AcceptsAll h front drawings now → Rejects frame e now → e ≡ NoMemory
+own_rejected laws n [] [] front behind frame drawings old new h now e sound all m is a r = absurd (none_there front behind frame is)
+own_rejected laws n [] (f ∷ fs) front behind frame drawings old new h now e sound all m is a r = absurd all
+own_rejected laws n (l ∷ ls) [] front behind frame drawings old new h now e sound all m is a r = absurd all
+own_rejected laws n (l ∷ ls) (f ∷ fs) [] behind frame (d ∷ ds) old new h now e sound all m is a r = absurd a
+own_rejected laws n (l ∷ ls) (f ∷ fs) (g ∷ gs) behind frame [] old new h now e sound all m is a r = absurd a
+own_rejected laws n (l ∷ ls) (f ∷ fs) [] behind frame [] old new h now e sound all m is a r =
+    let step = step-of l f old all.0 all.1.0 in
+    (elim (names n f) as (λ b. names n f ≡ b → Own n b f fs ≡ frame ∷ behind → e ≡ NoMemory) [
+      | true ↦ λ named is'.
+          let same : f ≡ frame = cc in
+          let F : Frame → Type 0 = λ x. Rejects x e now in
+          let H : List Holding → Type 0 = λ x. Rejects f e x in
+          own_lacks laws n f old all.0 h e sound named step m (subst H a (subst F (sym same) r))
+      | false ↦ λ other is'. own_rejected laws n ls fs [] behind frame [] all.0 new h now e all.1.2 all.2 (other-mirrors n f old all.0 h other step m) is' a r
+    ]) refl is
+own_rejected laws n (l ∷ ls) (f ∷ fs) (g ∷ gs) behind frame (d ∷ ds) old new h now e sound all m is a r =
+    let step = step-of l f old all.0 all.1.0 in
+    (elim (names n f) as (λ b. names n f ≡ b → Own n b f fs ≡ g ∷ (gs ++ frame ∷ behind) → e ≡ NoMemory) [
+      | true ↦ λ named is'.
+          let same : f ≡ g = cc in
+          let rest : filter (names n) fs ≡ gs ++ frame ∷ behind = cc in
+          let A : Frame → Type 0 = λ x. Accepts x d h a.0 in
+          let here = own-mirrors laws n f d old all.0 h a.0 sound named step m (subst A (sym same) a.1) in
+          own_rejected laws n ls fs gs behind frame ds all.0 new a.0 now e all.1.2 all.2 here.0 rest a.2 r
+      | false ↦ λ other is'. own_rejected laws n ls fs (g ∷ gs) behind frame (d ∷ ds) all.0 new h now e all.1.2 all.2 (other-mirrors n f old all.0 h other step m) is' a r
+    ]) refl is
+
+-- a client accepts all frames of the session, from the first one on
+pub own_accepted : Laws → (n : ℕ) (lines : List (Option (List ℕ))) (frames : List Frame) (old new : State) → IsSound old → old.sessions ≡ []
+    → RepliesToAll old lines frames new → NoneRejected (filter (names n) frames)
+own_accepted laws n lines frames old new sound none all = λ front behind frame drawings holdings e is a r.
+    own_rejected laws n lines frames front behind frame drawings old new [] holdings e sound all (ap (λ ss. map mirrored (only n ss)) (sym none)) is a r

@@ -81,3 +81,16 @@ pub fn replies_are_accepted()
 {
     clients_draw_the_book();
 }
+
+/// The same of a client that is sent the frames of one session alone, whatever other sessions' lines and
+/// edits stand between.
+pub fn own_replies_are_accepted()
+    ensures { (n : ℕ) (lines : List (Option (List ℕ))) (frames : List Frame) (old new : State) →
+        IsSound old → old.sessions ≡ [] → RepliesToAll old lines frames new → NoneRejected (filter (names n) frames) }
+{
+    wanted_keys_are_needed();
+    sent_and_held_give_the_needed();
+    spans_add_up();
+    points_are_the_samples();
+    split_and_join_undo_each_other();
+}

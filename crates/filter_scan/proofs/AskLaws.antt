@@ -6,7 +6,7 @@ use Rattle.std.proofs.Math.Nat.{pow-succ'}
 use Rattle.om3_coeff.proofs.EndLemmas.{no_cuts}
 use Rattle.om3_coeff.specs.declared.key.Key.{Key}
 use Rattle.om3_coeff.specs.Keys.{first_slot, end_slot, left_of, right_of, height, top_key}
-use Rattle.om3_coeff.specs.Walks.{cut_keys, most_cut}
+use Rattle.om3_coeff.specs.Walks.{most_cut}
 use Rattle.om3_coeff.proofs.KeyLemmas.{left_first, right_end, left_some, right_some}
 use Rattle.om3_coeff.proofs.WalkLemmas.{cut_counts, top_reads}
 use Rattle.filter_scan.specs.declared.scans.Scan.{Scan}

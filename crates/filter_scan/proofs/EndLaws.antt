@@ -10,13 +10,13 @@ use Rattle.om3_coeff.specs.declared.key.Key.{Key}
 use Rattle.om3_coeff.specs.declared.span.Span.{Span}
 use Rattle.om3_coeff.specs.declared.errors.NodeError.{NodeError}
 use Rattle.om3_coeff.specs.declared.errors.NodeError.TheVariants.{DiskFault, Damaged, Missing, BadCoefficient}
-use Rattle.om3_coeff.specs.Keys.{first_slot, end_slot, left_of, right_of, height, parent_of, IsAtOrAbove, IsOver}
+use Rattle.om3_coeff.specs.Keys.{first_slot, end_slot, left_of, right_of, height, parent_of, IsOver}
 use Rattle.om3_coeff.specs.Spans.{Holds, IsClear, hull}
 use Rattle.om3_coeff.specs.View.{NodesView, Agrees, StaysSame, MayAsk, HasCause, HasRisen}
 use Rattle.om3_coeff.specs.Walks.{IsReached, StaysBelow}
 use Rattle.om3_coeff.proofs.ExtremeLemmas.{none-clear}
 use Rattle.om3_coeff.proofs.KnownLemmas.{reached_span}
-use Rattle.om3_coeff.proofs.KeyLemmas.{left_first, right_end, left_some, right_some, parent_above, above_on}
+use Rattle.om3_coeff.proofs.KeyLemmas.{left_first, right_end, left_some, right_some, parent_above}
 use Rattle.om3_coeff.proofs.WalkLemmas.{still_reached, ask_left, ask_right, ask_at, after_left, after_right, over_weaker}
 use Rattle.om3_coeff.proofs.EndLemmas.{holds_here}
 use Rattle.m4_groups.specs.declared.row.Row.{Row}
@@ -203,9 +203,6 @@ ask_again_after view k before over (inr below) = inr (over_weaker (parent_of k) 
 pub ask_again : (old new : NodesView) (k : Key) → StaysSame old new → MayAsk old k → StaysBelow k old.asked new.asked → MayAsk new k
 ask_again old new k same (inl top) below = inl (top ∙ ap height (sym same.slots))
 ask_again old new k same (inr over) below = ask_again_after new k old.asked over below
-
-pub reached_again : (old new : NodesView) (k : Key) (o : Option Span) → StaysSame old new → IsReached old k o → IsReached new k o
-reached_again = still_reached
 
 -- both walks stay below
 pub both_below : (k : Key) (first second third : Option Key) → StaysBelow k first second → StaysBelow k second third → StaysBelow k first third

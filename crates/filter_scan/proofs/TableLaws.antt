@@ -2,7 +2,7 @@
 use Rattle.std.proofs.Common.{ℕ, ℤ, zero, suc, ◌≡◌, ◌+◌, ◌<◌, ◌≤◌, ◌≤ℤ◌, inl, inr, arith, List, [], ◌∷◌, ◌++◌, take, length, get_or, refl, sym, ◌∙◌, ap, subst, get_or-set_same, get_or-set_other}
 use Rattle.std.proofs.lemmas.Int.{ints}
 use Rattle.std.proofs.lemmas.Bool.{cases_lt}
-use Rattle.std.proofs.lemmas.List.{take_more, take_all, get_or_past}
+use Rattle.std.proofs.lemmas.List.{take_more, get_or_past}
 use Rattle.std.proofs.lemmas.List.Elements.{All-nil, All-cons}
 use Rattle.std.proofs.lemmas.List.Kept.{AllPairs-cons}
 use Rattle.std.proofs.lemmas.Option.{same_Some}
@@ -27,9 +27,6 @@ pub entries_more : (table : List (Option Row)) (i : ℕ) (d : Option Row) (rows 
     → later ≡ rows ++ entries (get_or table i d ∷ []) → later ≡ entries (take (i + 1) table)
 entries_more table i d rows later short before e =
     e ∙ ap (λ rs. rs ++ entries (get_or table i d ∷ [])) before ∙ sym (entries-push (take i table) (get_or table i d)) ∙ ap entries (sym (take_more table i d short))
-
-pub entries_all : (table : List (Option Row)) (i : ℕ) (rows : List Row) → length table ≤ i → rows ≡ entries (take i table) → rows ≡ entries table
-entries_all table i rows past e = e ∙ ap entries (take_all i table past)
 
 -- what holds of each row
 pub entries_each : (P : Row → Type 0) (table : List (Option Row)) → ((c : ℕ) (r : Row) → entry table c ≡ Some r → P r) → All P (entries table)

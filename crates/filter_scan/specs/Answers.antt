@@ -1,11 +1,10 @@
 -- What the calls of this crate answer.
-use Rattle.std.specs.Prelude.{ℤ, List, map, filter, All, Option, ⊤}
+use Rattle.std.specs.Prelude.{ℤ, List, filter, All, Option, ⊤}
 use Rattle.plain_chart.specs.Samples.{sample_points}
 use Rattle.om3_coeff.specs.View.{NodesView, Agrees, HasCause}
 use Rattle.m4_groups.specs.declared.row.Row.{Row}
 use Rattle.m4_groups.specs.Rows.{AreRising, AreRowsOf}
 use Rattle.needed_nodes.specs.Answers.{IsShownRow}
-use Rattle.plain_chart.specs.declared.sample.Sample.{Sample}
 use Rattle.value_filter.specs.declared.steps.Step.{Step}
 use Rattle.query_rewriter.specs.Kept.{passes, stored_in}
 use Rattle.filter_scan.specs.declared.scans.Scan.{Scan}

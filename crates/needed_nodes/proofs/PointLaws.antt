@@ -8,8 +8,7 @@ use Rattle.std.specs.Prelude.{Option, Some, None, All, AllPairs, Contains, filte
 use Rattle.std.specs.List.{enumerate_from, filter_map, cons_option}
 use Rattle.std.proofs.lemmas.Bool.{and_parts, and_from}
 use Rattle.chart_grid.specs.Projection.{InWindow, column, height as height_of}
-use Rattle.chart_grid.specs.Slots.{slot_time, IsInColumn, AreSlotsBefore, border, slot_time as time_at}
-use Rattle.chart_grid.proofs.Slots.{AreSlotsBefore-rising}
+use Rattle.chart_grid.specs.Slots.{slot_time, IsInColumn, AreSlotsBefore, slot_time as time_at}
 use Rattle.chart_grid.specs.declared.axis.Axis.{Axis}
 use Rattle.chart_grid.specs.declared.grid.Grid.{Grid}
 use Rattle.line_raster.specs.declared.position.Point.{Point}

@@ -5,7 +5,7 @@ use Rattle.std.specs.Option.{option_map}
 use Rattle.om3_coeff.specs.declared.key.Key.{Key}
 use Rattle.om3_coeff.specs.declared.span.Span.{Span}
 use Rattle.om3_coeff.specs.declared.coef.Coef.{Coef}
-use Rattle.om3_coeff.specs.Keys.{first_slot, end_slot, left_of, right_of, parent_of, height, IsKey, IsNode, IsAtOrAbove, IsOver, MayFollow}
+use Rattle.om3_coeff.specs.Keys.{first_slot, end_slot, left_of, right_of, height, IsKey, IsNode, IsOver}
 use Rattle.om3_coeff.specs.Spans.{AreSlots, span}
 use Rattle.om3_coeff.specs.Coefs.{parts}
 use Rattle.om3_coeff.specs.Known.{half, known_below, known}
@@ -240,17 +240,6 @@ unclear_at S w (suc level) k levels key some =
 pub unclear_slot : (S : Seen) (w : Window) (k : Key) (s : Span) → IsKey (height w.axis.slots) k → shown_by S w k ≡ Some (Some s) → HasSlot S w k
 unclear_slot S w k s key seen = unclear_at S w k.level k refl key (λ clear. cc)
 
--- tree order: the halves may be asked after the key, the second one after keys below the first
-pub follows_left : (top : ℕ) (k : Key) (asked : Option Key) → 1 ≤ k.level → asked ≡ Some k → MayFollow top asked (left_of k)
-follows_left top k asked low is =
-    let P : Option Key → Type 0 = λ a. IsOver (parent_of (left_of k)) a in
-    let Q : Key → Type 0 = λ p. IsAtOrAbove p k in
-    inr (subst P (sym is) (subst Q (sym (left_parent k low)) (above_itself k)))
-
-over_parent : (top : ℕ) (k : Key) (asked : Option Key) → 1 ≤ k.level → IsOver k asked → MayFollow top asked (right_of k)
-over_parent top k asked low over =
-    let P : Key → Type 0 = λ p. IsOver p asked in inr (subst P (sym (right_parent k low)) over)
-
 over_own : (k : Key) (asked : Option Key) → asked ≡ Some k → IsOver k asked
 over_own k asked is =
     let P : Option Key → Type 0 = λ a. IsOver k a in subst P (sym is) (above_itself k)
@@ -260,9 +249,6 @@ over_after k asked now low is stays = elim stays [
   | inl same ↦ over_own k now (same ∙ is)
   | inr over ↦ over_half k now low over
 ]
-
-pub follows_right : (top : ℕ) (k : Key) (asked now : Option Key) → 1 ≤ k.level → asked ≡ Some k → StaysBelow (left_of k) asked now → MayFollow top now (right_of k)
-follows_right top k asked now low is stays = over_parent top k now low (over_after k asked now low is stays)
 
 pub stays_below : (k : Key) (old asked between now : Option Key) → 1 ≤ k.level → asked ≡ Some k → StaysBelow (left_of k) asked between → StaysBelow (right_of k) between now → StaysBelow k old now
 stays_below k old asked between now low is left right = elim right [

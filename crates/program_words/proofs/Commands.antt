@@ -13,25 +13,25 @@ use Rattle.series_book.specs.declared.errors.NameError.TheVariants.{NotAName, No
 use Rattle.whole_number.specs.Spelling.{SpellsNatural}
 use Rattle.whole_number.proofs.Digits.{one_natural}
 use Rattle.program_words.specs.declared.words.Command.{Command}
-use Rattle.program_words.specs.declared.words.Command.TheVariants.{Plot, Load, Demo, Run, Serve, Draw, Init, Check}
+use Rattle.program_words.specs.declared.words.Command.TheVariants.{Plot, Load, Demo, Run, Serve, Draw, Init, Check, ListSeries, Export}
 use Rattle.program_words.specs.declared.words.WordsEnd.{WordsEnd}
 use Rattle.program_words.specs.declared.words.WordsEnd.TheVariants.{Wrong, NoMemory as AtMemory}
-use Rattle.program_words.specs.Words.{Spells, Begins, IsWrongAt, IsWrongBy, IsSingle, HasNoSeed, word_of}
+use Rattle.program_words.specs.Words.{Spells, Begins, IsWrongAt, IsWrongBy, IsSingle, HasNoName, HasNoSeed, word_of}
 
 one : IsSide 1
 one = record { some = omega arith; most = omega arith }
 
 -- a list's first elements, from its elements
-first_one : {X : Type 0} (ws : List X) (a : X) → slice_get ws 0 ≡ Some a → take 1 ws ≡ a ∷ []
+pub first_one : {X : Type 0} (ws : List X) (a : X) → slice_get ws 0 ≡ Some a → take 1 ws ≡ a ∷ []
 first_one [] a is = cc
 first_one (x ∷ ws) a is = cc
 
-first_two : {X : Type 0} (ws : List X) (a b : X) → slice_get ws 0 ≡ Some a → slice_get ws 1 ≡ Some b → take 2 ws ≡ a ∷ b ∷ []
+pub first_two : {X : Type 0} (ws : List X) (a b : X) → slice_get ws 0 ≡ Some a → slice_get ws 1 ≡ Some b → take 2 ws ≡ a ∷ b ∷ []
 first_two [] a b is next = cc
 first_two (x ∷ []) a b is next = cc
 first_two (x ∷ (y ∷ ws)) a b is next = cc
 
-first_three : {X : Type 0} (ws : List X) (a b c : X) → slice_get ws 0 ≡ Some a → slice_get ws 1 ≡ Some b → slice_get ws 2 ≡ Some c → take 3 ws ≡ a ∷ b ∷ c ∷ []
+pub first_three : {X : Type 0} (ws : List X) (a b c : X) → slice_get ws 0 ≡ Some a → slice_get ws 1 ≡ Some b → slice_get ws 2 ≡ Some c → take 3 ws ≡ a ∷ b ∷ c ∷ []
 first_three [] a b c is next third = cc
 first_three (x ∷ []) a b c is next third = cc
 first_three (x ∷ (y ∷ [])) a b c is next third = cc
@@ -88,7 +88,7 @@ same_second n xs ys some same = sym (got_second n xs some) ∙ ap (λ l. slice_g
 same_third : {X : Type 0} (n : ℕ) (xs ys : List X) → 2 < n → take n xs ≡ take n ys → slice_get xs 2 ≡ slice_get ys 2
 same_third n xs ys some same = sym (got_third n xs some) ∙ ap (λ l. slice_get l 2) same ∙ got_third n ys some
 
-inside : {X : Type 0} (o : Option X) (a b : X) → o ≡ Some a → o ≡ Some b → a ≡ b
+pub inside : {X : Type 0} (o : Option X) (a b : X) → o ≡ Some a → o ≡ Some b → a ≡ b
 inside o a b first second = let both : Some a ≡ Some b = sym first ∙ second in cc
 
 true_false : (b : Bool) → b ≡ false → IsTrue b → ⊥
@@ -104,25 +104,29 @@ pub no_word : {X : Type 0} (o : Option X) (a : X) → o ≡ None → o ≡ Some 
 no_word o a none some = cc
 
 -- the number of a command, by its first word
-abbrev number_of : Command → ℕ
+abbrev pub number_of : Command → ℕ
 number_of (Plot w h) = 0
 number_of (Load name) = 1
 number_of (Demo seed count) = 2
-number_of Run = 3
-number_of Serve = 4
-number_of Draw = 5
-number_of Init = 6
-number_of Check = 7
+number_of (Export name window) = 3
+number_of Run = 4
+number_of Serve = 5
+number_of Draw = 6
+number_of Init = 7
+number_of Check = 8
+number_of ListSeries = 9
 
 unfoldable number_by : List ℕ → ℕ
 number_by word =
     if bytes_eq word (codes "plot") then 0 else
     if bytes_eq word (codes "load") then 1 else
     if bytes_eq word (codes "demo") then 2 else
-    if bytes_eq word (codes "run") then 3 else
-    if bytes_eq word (codes "serve") then 4 else
-    if bytes_eq word (codes "draw") then 5 else
-    if bytes_eq word (codes "init") then 6 else 7
+    if bytes_eq word (codes "export") then 3 else
+    if bytes_eq word (codes "run") then 4 else
+    if bytes_eq word (codes "serve") then 5 else
+    if bytes_eq word (codes "draw") then 6 else
+    if bytes_eq word (codes "init") then 7 else
+    if bytes_eq word (codes "check") then 8 else 9
 
 number_so : (command : Command) → number_by (word_of command) ≡ number_of command
 unfolding number_by
@@ -134,6 +138,8 @@ number_so Serve = refl
 number_so Draw = refl
 number_so Init = refl
 number_so Check = refl
+number_so ListSeries = refl
+number_so (Export name window) = refl
 
 -- a command's first word
 first_of_spelling : (spelling : List (List ℕ)) (command : Command) → Spells command spelling → slice_get spelling 0 ≡ Some (word_of command)
@@ -145,9 +151,11 @@ first_of_spelling spelling Serve spells = ap (λ l. slice_get l 0) spells
 first_of_spelling spelling Draw spells = ap (λ l. slice_get l 0) spells
 first_of_spelling spelling Init spells = ap (λ l. slice_get l 0) spells
 first_of_spelling spelling Check spells = ap (λ l. slice_get l 0) spells
+first_of_spelling spelling ListSeries spells = ap (λ l. slice_get l 0) spells
+first_of_spelling spelling (Export name window) spells = ap (λ l. slice_get l 0) spells.0
 
 -- two commands whose spellings begin with one word have one number
-one_number : (spelling : List (List ℕ)) (command other : Command) → Spells other spelling → slice_get spelling 0 ≡ Some (word_of command) → number_of other ≡ number_of command
+pub one_number : (spelling : List (List ℕ)) (command other : Command) → Spells other spelling → slice_get spelling 0 ≡ Some (word_of command) → number_of other ≡ number_of command
 one_number spelling command other spells first =
     sym (number_so other) ∙ ap number_by (inside (slice_get spelling 0) (word_of other) (word_of command) (first_of_spelling spelling other spells) first) ∙ number_so command
 
@@ -166,11 +174,11 @@ record HasOne (word : List ℕ) (First : List ℕ → Type 0) : Type 0 where
       → (a : List ℕ) × First a × (spelling ≡ word ∷ a ∷ [])
   some_first : (a : List ℕ) × First a
 
-begins : (count : ℕ) (words spelling : List (List ℕ)) (made : (command : Command) × Spells command spelling) → take count words ≡ take count spelling → Begins count words
+pub begins : (count : ℕ) (words spelling : List (List ℕ)) (made : (command : Command) × Spells command spelling) → take count words ≡ take count spelling → Begins count words
 begins count words spelling made same = record { command = made.0; spelling = spelling; spells = made.1; same = same }
 
 -- the first words are those of a command with this first word
-first_there : (count : ℕ) (word : List ℕ) (words : List (List ℕ)) (b : Begins count words) → 0 < count → slice_get words 0 ≡ Some word → slice_get b.spelling 0 ≡ Some word
+pub first_there : (count : ℕ) (word : List ℕ) (words : List (List ℕ)) (b : Begins count words) → 0 < count → slice_get words 0 ≡ Some word → slice_get b.spelling 0 ≡ Some word
 first_there count word words b some first = sym (same_first count words b.spelling some b.same) ∙ first
 
 -- ---- two operands
@@ -244,6 +252,8 @@ only_plot Serve spelling spells number = absurd (omega (arith, number))
 only_plot Draw spelling spells number = absurd (omega (arith, number))
 only_plot Init spelling spells number = absurd (omega (arith, number))
 only_plot Check spelling spells number = absurd (omega (arith, number))
+only_plot ListSeries spelling spells number = absurd (omega (arith, number))
+only_plot (Export name window) spelling spells number = absurd (omega (arith, number))
 
 plots : HasTwo (codes "plot") IsSideWord IsSideWord
 plots = record {
@@ -287,6 +297,8 @@ only_demo Serve spelling spells number = absurd (omega (arith, number))
 only_demo Draw spelling spells number = absurd (omega (arith, number))
 only_demo Init spelling spells number = absurd (omega (arith, number))
 only_demo Check spelling spells number = absurd (omega (arith, number))
+only_demo ListSeries spelling spells number = absurd (omega (arith, number))
+only_demo (Export name window) spelling spells number = absurd (omega (arith, number))
 
 demos : HasTwo (codes "demo") IsSeedWord IsSideWord
 demos = record {
@@ -324,8 +336,10 @@ only_load Serve spelling spells number = absurd (omega (arith, number))
 only_load Draw spelling spells number = absurd (omega (arith, number))
 only_load Init spelling spells number = absurd (omega (arith, number))
 only_load Check spelling spells number = absurd (omega (arith, number))
+only_load ListSeries spelling spells number = absurd (omega (arith, number))
+only_load (Export name window) spelling spells number = absurd (omega (arith, number))
 
-a_name : IsTrue (is_name (codes "a"))
+pub a_name : IsTrue (is_name (codes "a"))
 unfolding is_name is_name_byte
 a_name = refl
 
@@ -361,8 +375,10 @@ spells_single Serve is = refl
 spells_single Draw is = refl
 spells_single Init is = refl
 spells_single Check is = refl
+spells_single ListSeries is = refl
+spells_single (Export name window) none = absurd none
 
-single_number : (command : Command) → IsSingle command → 2 < number_of command
+single_number : (command : Command) → IsSingle command → 3 < number_of command
 single_number (Plot w h) none = absurd none
 single_number (Load name) none = absurd none
 single_number (Demo seed count) none = absurd none
@@ -371,9 +387,11 @@ single_number Serve is = omega arith
 single_number Draw is = omega arith
 single_number Init is = omega arith
 single_number Check is = omega arith
+single_number ListSeries is = omega arith
+single_number (Export name window) none = absurd none
 
 -- a command of such a number has one word
-short_spelling : (command : Command) (spelling : List (List ℕ)) → Spells command spelling → 2 < number_of command → length spelling ≤ 1
+short_spelling : (command : Command) (spelling : List (List ℕ)) → Spells command spelling → 3 < number_of command → length spelling ≤ 1
 short_spelling (Plot w h) spelling spells number = absurd (omega (arith, number))
 short_spelling (Load name) spelling spells number = absurd (omega (arith, number))
 short_spelling (Demo seed count) spelling spells number = absurd (omega (arith, number))
@@ -382,6 +400,8 @@ short_spelling Serve spelling spells number = omega (arith, ap length spells)
 short_spelling Draw spelling spells number = omega (arith, ap length spells)
 short_spelling Init spelling spells number = omega (arith, ap length spells)
 short_spelling Check spelling spells number = omega (arith, ap length spells)
+short_spelling ListSeries spelling spells number = omega (arith, ap length spells)
+short_spelling (Export name window) spelling spells number = absurd (omega (arith, number))
 
 -- no command begins with the first word
 pub wrong_first : (words : List (List ℕ)) → ((command : Command) → slice_get words 0 ≡ Some (word_of command) → ⊥) → IsWrongAt 0 words
@@ -391,23 +411,25 @@ wrong_first words none = record {
 }
 
 -- so it is where it begins none of these
-pub no_command : (first : Option (List ℕ)) → (first ≡ Some (codes "plot") → ⊥) → (first ≡ Some (codes "load") → ⊥) → (first ≡ Some (codes "demo") → ⊥) → ((command : Command) → IsSingle command → first ≡ Some (word_of command) → ⊥)
+pub no_command : (first : Option (List ℕ)) → (first ≡ Some (codes "plot") → ⊥) → (first ≡ Some (codes "load") → ⊥) → (first ≡ Some (codes "demo") → ⊥) → (first ≡ Some (codes "export") → ⊥) → ((command : Command) → IsSingle command → first ≡ Some (word_of command) → ⊥)
     → (command : Command) → first ≡ Some (word_of command) → ⊥
-no_command first plot load demo single (Plot w h) is = plot is
-no_command first plot load demo single (Load name) is = load is
-no_command first plot load demo single (Demo seed count) is = demo is
-no_command first plot load demo single Run is = single Run tt is
-no_command first plot load demo single Serve is = single Serve tt is
-no_command first plot load demo single Draw is = single Draw tt is
-no_command first plot load demo single Init is = single Init tt is
-no_command first plot load demo single Check is = single Check tt is
+no_command first plot load demo export single (Plot w h) is = plot is
+no_command first plot load demo export single (Load name) is = load is
+no_command first plot load demo export single (Demo seed count) is = demo is
+no_command first plot load demo export single Run is = single Run tt is
+no_command first plot load demo export single Serve is = single Serve tt is
+no_command first plot load demo export single Draw is = single Draw tt is
+no_command first plot load demo export single Init is = single Init tt is
+no_command first plot load demo export single Check is = single Check tt is
+no_command first plot load demo export single ListSeries is = single ListSeries tt is
+no_command first plot load demo export single (Export name window) is = export is
 
 pub wrong_behind : (words : List (List ℕ)) (command : Command) → IsSingle command → slice_get words 0 ≡ Some (word_of command) → 1 < length words → IsWrongAt 1 words
 wrong_behind words command is first many = record {
   before = begins 1 words (single command) (command, spells_single command is) (first_one words (word_of command) first);
   here = λ b.
       let number = one_number b.spelling command b.command b.spells (first_there 2 (word_of command) words b (omega arith) first) in
-      let some : 2 < number_of b.command = omega (arith, number, single_number command is) in
+      let some : 3 < number_of b.command = omega (arith, number, single_number command is) in
       let short : length b.spelling ≤ 1 = short_spelling b.command b.spelling b.spells some in
       let few : min 2 (length words) ≤ 1 = omega (arith, ap length b.same, length-take 2 words, length-take 2 b.spelling, short) in
       omega (arith, few, many);
@@ -437,10 +459,10 @@ refuses : (bytes : List ℕ) (e : NameError) → RefusesName bytes e → e ≡ N
 refuses bytes NotAName refused is = refused
 refuses bytes NoMemory refused is = cc
 
-pub no_name : (words : List (List ℕ)) (word : List ℕ) → slice_get words 1 ≡ Some word → (bytes : List ℕ) → bytes ≡ word → (e : NameError) → RefusesName bytes e → e ≡ NotAName → (name : List ℕ) → IsTrue (is_name name) → slice_get words 1 ≡ Some name → ⊥
-no_name words word here bytes read e refused is_e name good there =
+pub no_name : (words : List (List ℕ)) (place : ℕ) (word : List ℕ) → slice_get words place ≡ Some word → (bytes : List ℕ) → bytes ≡ word → (e : NameError) → RefusesName bytes e → e ≡ NotAName → (name : List ℕ) → IsTrue (is_name name) → slice_get words place ≡ Some name → ⊥
+no_name words place word here bytes read e refused is_e name good there =
     let bad : is_name word ≡ false = sym (ap is_name read) ∙ refuses bytes e refused is_e in
-    let same : word ≡ name = inside (slice_get words 1) word name here there in
+    let same : word ≡ name = inside (slice_get words place) word name here there in
     let is : IsTrue (is_name word) = let N : List ℕ → Type 0 = λ n. IsTrue (is_name n) in subst N (sym same) good in
     true_false (is_name word) bad is
 
@@ -456,6 +478,11 @@ other_seed words place n word r here parses is off seed small there =
     let same : word ≡ decimal seed = inside (slice_get words place) word (decimal seed) here there in
     let read : r ≡ Ok seed = parse-decimal 64 seed word r small small same parses in
     off (same ∙ ap decimal (ok_ok r seed n read is))
+
+-- why a name isn't read is why the words are no load's
+pub name_end : (words : List (List ℕ)) (end : WordsEnd) → slice_get words 0 ≡ Some (codes "load") → HasNoName 1 words end → IsWrongBy end words
+name_end words (Wrong at) first none = let W : ℕ → Type 0 = λ n. IsWrongAt n words in subst W (sym none.0) (wrong_name words first none.1)
+name_end words AtMemory first none = tt
 
 -- why a seed isn't read is why the words are no workload's
 pub seed_end : (words : List (List ℕ)) (end : WordsEnd) → slice_get words 0 ≡ Some (codes "demo") → HasNoSeed 1 words end → IsWrongBy end words

@@ -4,3 +4,4 @@ pub mod TurnLemmas
 pub mod ReadLemmas
 pub mod FoundLemmas
 pub mod Commands
+pub mod ExportWords

@@ -1,11 +1,12 @@
 -- The words of the command line.
-use Rattle.std.specs.Prelude.{◌≡◌, ◌⊎◌, ℕ, ◌+◌, ◌<◌, ◌^◌, true, false, List, [], ◌∷◌, take, map, codes, slice_get, Some, Result, Ok, Err, String, string_bytes, IsTrue, ⊤}
-use Rattle.std.specs.Fmt.{decimal}
-use Rattle.chart_grid.specs.Limits.{IsSide}
+use Rattle.std.specs.Prelude.{◌≡◌, ◌⊎◌, ℕ, ◌+◌, ◌<◌, ◌^◌, true, false, List, [], ◌∷◌, take, map, codes, slice_get, Option, None, Some, Result, Ok, Err, String, string_bytes, IsTrue, ⊤}
+use Rattle.std.specs.Fmt.{decimal, signed_decimal}
+use Rattle.chart_grid.specs.Limits.{IsSide, IsWindow}
 use Rattle.series_book.specs.Names.{is_name}
+use Rattle.series_export.specs.declared.window.Window.{Window}
 use Rattle.program_words.specs.CommandLine.{plain_words, has_flag}
 use Rattle.program_words.specs.declared.words.Command.{Command}
-use Rattle.program_words.specs.declared.words.Command.TheVariants.{Plot, Load, Demo, Run, Serve, Draw, Init, Check}
+use Rattle.program_words.specs.declared.words.Command.TheVariants.{Plot, Load, Demo, Run, Serve, Draw, Init, Check, ListSeries, Export}
 use Rattle.program_words.specs.declared.words.WordsEnd.{WordsEnd}
 use Rattle.program_words.specs.declared.words.WordsEnd.TheVariants.{Wrong, NoMemory}
 
@@ -19,6 +20,8 @@ word_of Serve = codes "serve"
 word_of Draw = codes "draw"
 word_of Init = codes "init"
 word_of Check = codes "check"
+word_of ListSeries = codes "list"
+word_of (Export name window) = codes "export"
 
 -- a command of one word
 abbrev pub IsSingle : Command → Type 0
@@ -30,9 +33,22 @@ IsSingle Serve = ⊤
 IsSingle Draw = ⊤
 IsSingle Init = ⊤
 IsSingle Check = ⊤
+IsSingle ListSeries = ⊤
+IsSingle (Export name window) = ⊥
+
+-- the words behind the name of an export: the ends of its window, if there is one
+abbrev pub window_words : Option Window → List (List ℕ)
+window_words None = []
+window_words (Some window) = signed_decimal window.from ∷ signed_decimal window.to ∷ []
+
+-- the window, if there is one, runs from a time to a later one, each at most 2 * 10^18 in size
+abbrev pub IsWindowIfAny : Option Window → Type 0
+IsWindowIfAny None = ⊤
+IsWindowIfAny (Some window) = IsWindow window.from window.to
 
 -- the words spell the command: `plot W H`, two numbers from 1 to 4,096; `load NAME`; `demo SEED N`, a number below 2^64 and
--- one from 1 to 4,096; or `run`, `serve`, `draw`, `init` or `check`
+-- one from 1 to 4,096; `export NAME` or `export NAME T0 T1`, two whole numbers; or `run`, `serve`, `draw`, `init`, `check`
+-- or `list`
 abbrev pub Spells : Command → List (List ℕ) → Type 0
 Spells (Plot w h) words = (words ≡ codes "plot" ∷ decimal w ∷ decimal h ∷ []) × IsSide w × IsSide h
 Spells (Load name) words = (words ≡ codes "load" ∷ name ∷ []) × IsTrue (is_name name)
@@ -42,6 +58,8 @@ Spells Serve words = words ≡ codes "serve" ∷ []
 Spells Draw words = words ≡ codes "draw" ∷ []
 Spells Init words = words ≡ codes "init" ∷ []
 Spells Check words = words ≡ codes "check" ∷ []
+Spells ListSeries words = words ≡ codes "list" ∷ []
+Spells (Export name window) words = (words ≡ codes "export" ∷ name ∷ window_words window) × IsTrue (is_name name) × IsWindowIfAny window
 
 -- the first words, so many of them, are those that some command begins with
 pub record Begins (count : ℕ) (words : List (List ℕ)) : Type 0 where
@@ -60,6 +78,11 @@ pub record IsWrongAt (place : ℕ) (words : List (List ℕ)) : Type 0 where
 abbrev pub IsWrongBy : WordsEnd → List (List ℕ) → Type 0
 IsWrongBy (Wrong place) words = IsWrongAt place words
 IsWrongBy NoMemory words = ⊤
+
+-- why the word at a place isn't read as a name
+abbrev pub HasNoName : ℕ → List (List ℕ) → WordsEnd → Type 0
+HasNoName place words (Wrong at) = (at ≡ place) × ((name : List ℕ) → IsTrue (is_name name) → slice_get words place ≡ Some name → ⊥)
+HasNoName place words NoMemory = ⊤
 
 -- why the word at a place isn't read as a number below 2^64
 abbrev pub HasNoSeed : ℕ → List (List ℕ) → WordsEnd → Type 0

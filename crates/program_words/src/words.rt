@@ -1,15 +1,19 @@
-ghost use Rattle.std.specs.Prelude.{◌≡◌, ◌≢◌, ◌↔◌, ◌<◌, ◌^◌, false, ℕ, IsTrue, map, None, Some, MatchOption, string_bytes, slice_get, IfOk, IfErr, IfSome, IfNone, codes};
-ghost use Rattle.std.specs.Fmt.{decimal};
-ghost use Rattle.chart_grid.specs.Limits.{IsSide};
+ghost use Rattle.std.specs.Prelude.{◌≡◌, ◌≢◌, ◌↔◌, ◌<◌, ◌≤◌, ◌^◌, false, ℕ, ℤ, List, IsTrue, map, length, None, Some, MatchOption, string_bytes, slice_get, IfOk, IfErr, IfSome, IfNone, codes};
+ghost use Rattle.std.specs.Fmt.{decimal, signed_decimal};
+ghost use Rattle.chart_grid.specs.Limits.{IsSide, IsWindow};
+ghost use Rattle.series_book.specs.Names.{is_name};
+ghost use Rattle.whole_number.specs.Range.{IsTime};
 ghost use Rattle.program_words.specs.CommandLine.{plain_words, has_flag};
-ghost use Rattle.program_words.specs.Words.{Spells, IsWrongAt, IsWrongBy, IsSingle, EndsWords, HasNoSeed, word_of, placed};
+ghost use Rattle.program_words.specs.Words.{Spells, IsWrongAt, IsWrongBy, IsSingle, EndsWords, HasNoName, HasNoSeed, word_of, placed};
 ghost use Rattle.program_words.specs.declared.words.Command.{Command};
 
 use crate::errors::WordsError;
 use crate::reading::read_words;
 use series_book::{Name, NameError};
+use series_export::Window;
 use std::alloc::Global;
-use whole_number::natural;
+use whole_number::limits::GREATEST_TIME;
+use whole_number::{integer, natural};
 
 /// What the words of the command line ask for.
 #[derive(Debug, Drop)]
@@ -30,6 +34,10 @@ pub enum Command {
     Init,
     /// What the store holds, counted.
     Check,
+    /// A line for each series of the store.
+    ListSeries,
+    /// The stored values of the series of this name, or those in a window of times, as lines that a load reads.
+    Export { name: Name, window: Option<Window> },
 }
 
 /// Why the words aren't taken for a command.
@@ -72,6 +80,9 @@ fn spelled_by(alloc: Global, words: &[&str]) -> Result<Command, WordsEnd>
     if is_word(words, 0, "demo") {
         return demo_of(alloc, words);
     }
+    if is_word(words, 0, "export") {
+        return export_of(alloc, words);
+    }
     placed(alone(words))
 }
 
@@ -90,6 +101,7 @@ fn alone(words: &[&str]) -> Result<Command, u64>
     requires plot { slice_get (map (λ word. word.now) words.now) 0 ≢ Some (codes "plot") }
     requires load { slice_get (map (λ word. word.now) words.now) 0 ≢ Some (codes "load") }
     requires demo { slice_get (map (λ word. word.now) words.now) 0 ≢ Some (codes "demo") }
+    requires export { slice_get (map (λ word. word.now) words.now) 0 ≢ Some (codes "export") }
     ensures command { IfOk result (λ command. Spells command (map (λ word. word.now) words.now)) }
     ensures wrong { IfErr result (λ place. IsWrongAt place (map (λ word. word.now) words.now)) }
 {
@@ -115,6 +127,8 @@ fn single_word(words: &[&str]) -> Result<Command, u64>
         Ok(Command::Init)
     } else if is_word(words, 0, "check") {
         Ok(Command::Check)
+    } else if is_word(words, 0, "list") {
+        Ok(Command::ListSeries)
     } else {
         Err(0)
     }
@@ -126,15 +140,95 @@ fn load_of(alloc: Global, words: &[&str]) -> Result<Command, WordsEnd>
     ensures command { IfOk result (λ command. Spells command (map (λ word. word.now) words.now)) }
     ensures wrong { IfErr result (λ end. IsWrongBy end (map (λ word. word.now) words.now)) }
 {
-    let Some(word) = word_at(words, 1) else {
-        return Err(WordsEnd::Wrong { place: 1 });
+    let name = name_at(alloc, words, 1)?;
+    if words.len() > 2 {
+        return Err(WordsEnd::Wrong { place: 2 });
+    }
+    Ok(Command::Load { name })
+}
+
+/// The name of a series that the word at a place is.
+fn name_at(alloc: Global, words: &[&str], place: usize) -> Result<Name, WordsEnd>
+    ensures found { IfOk result (λ name. IsTrue (is_name name) × (slice_get (map (λ word. word.now) words.now) place ≡ Some name)) }
+    ensures none { IfErr result (λ end. HasNoName place (map (λ word. word.now) words.now) end) }
+{
+    let wrong = WordsEnd::Wrong {
+        place: place as u64,
+    };
+    let Some(word) = word_at(words, place) else {
+        return Err(wrong);
     };
     match Name::new(alloc, word.as_bytes()) {
-        Ok(_) if words.len() > 2 => Err(WordsEnd::Wrong { place: 2 }),
-        Ok(name) => Ok(Command::Load { name }),
-        Err(NameError::NotAName) => Err(WordsEnd::Wrong { place: 1 }),
+        Ok(name) => Ok(name),
+        Err(NameError::NotAName) => Err(wrong),
         Err(NameError::NoMemory) => Err(WordsEnd::NoMemory),
     }
+}
+
+/// The export that the words spell, or the place of the first wrong word.
+fn export_of(alloc: Global, words: &[&str]) -> Result<Command, WordsEnd>
+    requires { slice_get (map (λ word. word.now) words.now) 0 ≡ Some (codes "export") }
+    ensures command { IfOk result (λ command. Spells command (map (λ word. word.now) words.now)) }
+    ensures wrong { IfErr result (λ end. IsWrongBy end (map (λ word. word.now) words.now)) }
+{
+    let name = name_at(alloc, words, 1)?;
+    if words.len() <= 2 {
+        return Ok(Command::Export { name, window: None });
+    }
+    match window_of(words) {
+        Ok(window) => Ok(Command::Export {
+            name,
+            window: Some(window),
+        }),
+        Err(place) => Err(WordsEnd::Wrong { place }),
+    }
+}
+
+/// The window that the words behind the name of an export spell, or the place of the first wrong word.
+fn window_of(words: &[&str]) -> Result<Window, u64>
+    requires some { 2 < length words.now }
+    ensures window { IfOk result (λ window. IsWindow window.from window.to) }
+    ensures from { IfOk result (λ window. slice_get (map (λ word. word.now) words.now) 2 ≡ Some (signed_decimal window.from)) }
+    ensures to { IfOk result (λ window. slice_get (map (λ word. word.now) words.now) 3 ≡ Some (signed_decimal window.to)) }
+    ensures all { IfOk result (λ window. length words.now ≤ 4) }
+    ensures wrong { IfErr result (λ place. (name : List ℕ) → IsTrue (is_name name) → slice_get (map (λ word. word.now) words.now) 0 ≡ Some (codes "export") → slice_get (map (λ word. word.now) words.now) 1 ≡ Some name → IsWrongAt place (map (λ word. word.now) words.now)) }
+{
+    let Some(from) = time_at(words, 2) else {
+        return Err(2);
+    };
+    if from >= i128::from(GREATEST_TIME) {
+        return Err(2);
+    }
+    let Some(to) = time_at(words, 3) else {
+        return Err(3);
+    };
+    if to <= from {
+        return Err(3);
+    }
+    if words.len() > 4 {
+        return Err(4);
+    }
+    Ok(Window {
+        from: from as i64,
+        to: to as i64,
+    })
+}
+
+/// The time that the word at a place spells, at most 2 * 10^18 in size.
+fn time_at(words: &[&str], place: usize) -> Option<i128>
+    ensures found { IfSome result (λ time. IsTime time × (slice_get (map (λ word. word.now) words.now) place ≡ Some (signed_decimal time))) }
+    ensures none { IfNone result ((time : ℤ) → IsTime time → slice_get (map (λ word. word.now) words.now) place ≡ Some (signed_decimal time) → ⊥) }
+{
+    let word = word_at(words, place)?;
+    let time = integer(word.as_bytes())?;
+    if is_time(time) { Some(time) } else { None }
+}
+
+/// Whether a number is at most 2 * 10^18 in size.
+fn is_time(number: i128) -> bool
+    ensures { IsTrue result ↔ IsTime number }
+{
+    number.unsigned_abs() <= u128::from(GREATEST_TIME)
 }
 
 /// The workload that the words spell, or the place of the first wrong word.

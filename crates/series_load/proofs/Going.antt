@@ -219,26 +219,26 @@ unstarted total name book series o e result at is none some =
 risen_more : (old mid new : ℕ) → old ≤ mid → HasRisen mid new → HasRisen old new
 risen_more old mid new before risen = elim risen [ inl some ↦ inl (omega (arith, before, some)) | inr last ↦ inr last ]
 
-cause_at : (e : LoadEnd) (total total' : ℕ) (old mid new : View) (reads reads' : ℕ) → old.faults ≤ mid.faults → total' ≡ total → IsSetCause e total' mid new → IsLoadCause e total old new reads reads'
-cause_at UnknownSeries total total' old mid new reads reads' before same cause = tt
-cause_at (BadLine at) total total' old mid new reads reads' before same cause = tt
-cause_at (Refused at refusal) total total' old mid new reads reads' before same cause = tt
-cause_at ReadFault total total' old mid new reads reads' before same cause = absurd cause
-cause_at InputTooLong total total' old mid new reads reads' before same cause = tt
-cause_at DiskFault total total' old mid new reads reads' before same cause = risen_more old.faults mid.faults new.faults before cause
-cause_at (Damaged page) total total' old mid new reads reads' before same cause = omega (arith, cause, same)
-cause_at NoMemory total total' old mid new reads reads' before same cause = tt
+cause_at : (told : Type 0) (e : LoadEnd) (total total' : ℕ) (old mid new : View) (reads reads' : ℕ) → old.faults ≤ mid.faults → total' ≡ total → IsSetCause e told total' mid new → IsLoadCause e told total old new reads reads'
+cause_at told UnknownSeries total total' old mid new reads reads' before same cause = tt
+cause_at told (BadLine at) total total' old mid new reads reads' before same cause = tt
+cause_at told (Refused at refusal) total total' old mid new reads reads' before same cause = tt
+cause_at told ReadFault total total' old mid new reads reads' before same cause = absurd cause
+cause_at told InputTooLong total total' old mid new reads reads' before same cause = tt
+cause_at told DiskFault total total' old mid new reads reads' before same cause = risen_more old.faults mid.faults new.faults before cause
+cause_at told (Damaged page) total total' old mid new reads reads' before same cause = (omega (arith, cause.0, same), cause.1)
+cause_at told NoMemory total total' old mid new reads reads' before same cause = tt
 
 -- why a call failed is why the load did
-pub cause_so : {T : Type 0} (result : Result T LoadEnd) (total total' : ℕ) (old mid new : View) (reads reads' : ℕ) → old.faults ≤ mid.faults → total' ≡ total → IfErr result (λ e. IsSetCause e total' mid new) → IfErr result (λ e. IsLoadCause e total old new reads reads')
-cause_so (Ok v) total total' old mid new reads reads' before same cause = tt
-cause_so (Err e) total total' old mid new reads reads' before same cause = cause_at e total total' old mid new reads reads' before same cause
+pub cause_so : {T : Type 0} (told : Type 0) (result : Result T LoadEnd) (total total' : ℕ) (old mid new : View) (reads reads' : ℕ) → old.faults ≤ mid.faults → total' ≡ total → IfErr result (λ e. IsSetCause e told total' mid new) → IfErr result (λ e. IsLoadCause e told total old new reads reads')
+cause_so told (Ok v) total total' old mid new reads reads' before same cause = tt
+cause_so told (Err e) total total' old mid new reads reads' before same cause = cause_at told e total total' old mid new reads reads' before same cause
 
-pub cause_on : {T : Type 0} (result : Result T LoadEnd) (e : LoadEnd) (total total' : ℕ) (old mid new : View) (reads reads' : ℕ) → IsErrAnd result (λ x. x ≡ e) → old.faults ≤ mid.faults → total' ≡ total → IsSetCause e total' mid new → IfErr result (λ x. IsLoadCause x total old new reads reads')
-cause_on (Ok v) e total total' old mid new reads reads' is before same cause = tt
-cause_on (Err x) e total total' old mid new reads reads' is before same cause =
-    let P : LoadEnd → Type 0 = λ y. IsLoadCause y total old new reads reads' in
-    subst P (sym is) (cause_at e total total' old mid new reads reads' before same cause)
+pub cause_on : {T : Type 0} (told : Type 0) (result : Result T LoadEnd) (e : LoadEnd) (total total' : ℕ) (old mid new : View) (reads reads' : ℕ) → IsErrAnd result (λ x. x ≡ e) → old.faults ≤ mid.faults → total' ≡ total → IsSetCause e told total' mid new → IfErr result (λ x. IsLoadCause x told total old new reads reads')
+cause_on told (Ok v) e total total' old mid new reads reads' is before same cause = tt
+cause_on {T} told (Err x) e total total' old mid new reads reads' is before same cause =
+    let P : LoadEnd → Type 0 = λ y. IsLoadCause y told total old new reads reads' in
+    subst P (sym is) (cause_at told e total total' old mid new reads reads' before same cause)
 
 pub sound_on : {T : Type 0} (result : Result T LoadEnd) (e : LoadEnd) (new : View) → IsErrAnd result (λ x. x ≡ e) → IsSoundFor e new → IfErr result (λ x. IsSoundFor x new)
 sound_on (Ok v) e new is sound = tt
@@ -249,13 +249,13 @@ no_value (Ok v) e P is = absurd is
 no_value (Err x) e P is = tt
 
 -- a fault of the lines
-pub fault_cause : {T : Type 0} (result : Result T LoadEnd) (f : LineFault) (total : ℕ) (old new : View) (reads mid reads' : ℕ) → IsErrAnd result (λ x. x ≡ end_of f) → reads ≤ mid → (f ≡ fault.ReadFault → HasRisen mid reads') → IfErr result (λ x. IsLoadCause x total old new reads reads')
-fault_cause (Ok v) f total old new reads mid reads' is before risen = tt
-fault_cause (Err x) fault.ReadFault total old new reads mid reads' is before risen =
-    let P : LoadEnd → Type 0 = λ y. IsLoadCause y total old new reads reads' in
+pub fault_cause : {T : Type 0} (told : Type 0) (result : Result T LoadEnd) (f : LineFault) (total : ℕ) (old new : View) (reads mid reads' : ℕ) → IsErrAnd result (λ x. x ≡ end_of f) → reads ≤ mid → (f ≡ fault.ReadFault → HasRisen mid reads') → IfErr result (λ x. IsLoadCause x told total old new reads reads')
+fault_cause told (Ok v) f total old new reads mid reads' is before risen = tt
+fault_cause {T} told (Err x) fault.ReadFault total old new reads mid reads' is before risen =
+    let P : LoadEnd → Type 0 = λ y. IsLoadCause y told total old new reads reads' in
     subst P (sym is) (risen_more reads mid reads' before (risen refl))
-fault_cause (Err x) fault.InputTooLong total old new reads mid reads' is before risen =
-    let P : LoadEnd → Type 0 = λ y. IsLoadCause y total old new reads reads' in
+fault_cause {T} told (Err x) fault.InputTooLong total old new reads mid reads' is before risen =
+    let P : LoadEnd → Type 0 = λ y. IsLoadCause y told total old new reads reads' in
     subst P (sym is) tt
 
 pub fault_sound : (f : LineFault) (new : View) → new.fit → IsSoundFor (end_of f) new
@@ -263,22 +263,22 @@ fault_sound fault.ReadFault new fit = fit
 fault_sound fault.InputTooLong new fit = fit
 
 -- the name was found
-pub known_so : {T : Type 0} (result : Result T LoadEnd) (total : ℕ) (old new : View) → IfErr result (λ e. IsSetCause e total old new) → result ≢ Err UnknownSeries
-known_so (Ok v) total old new cause is = cc
-known_so (Err UnknownSeries) total old new cause is = absurd cause
-known_so (Err (BadLine at)) total old new cause is = cc
-known_so (Err (Refused at refusal)) total old new cause is = cc
-known_so (Err ReadFault) total old new cause is = absurd cause
-known_so (Err InputTooLong) total old new cause is = absurd cause
-known_so (Err DiskFault) total old new cause is = cc
-known_so (Err (Damaged page)) total old new cause is = cc
-known_so (Err NoMemory) total old new cause is = cc
+pub known_so : {T : Type 0} (told : Type 0) (result : Result T LoadEnd) (total : ℕ) (old new : View) → IfErr result (λ e. IsSetCause e told total old new) → result ≢ Err UnknownSeries
+known_so told (Ok v) total old new cause is = cc
+known_so told (Err UnknownSeries) total old new cause is = absurd cause
+known_so told (Err (BadLine at)) total old new cause is = cc
+known_so told (Err (Refused at refusal)) total old new cause is = cc
+known_so told (Err ReadFault) total old new cause is = absurd cause
+known_so told (Err InputTooLong) total old new cause is = absurd cause
+known_so told (Err DiskFault) total old new cause is = cc
+known_so told (Err (Damaged page)) total old new cause is = cc
+known_so told (Err NoMemory) total old new cause is = cc
 
-pub known_on : {T : Type 0} (result : Result T LoadEnd) (e : LoadEnd) (total : ℕ) (old new : View) → IsErrAnd result (λ x. x ≡ e) → IsSetCause e total old new → result ≢ Err UnknownSeries
-known_on (Ok v) e total old new is cause same = absurd is
-known_on {T} (Err x) e total old new is cause same =
-    let P : LoadEnd → Type 0 = λ y. IsSetCause y total old new in
-    known_so {T = T} (Err x) total old new (subst P (sym is) cause) same
+pub known_on : {T : Type 0} (told : Type 0) (result : Result T LoadEnd) (e : LoadEnd) (total : ℕ) (old new : View) → IsErrAnd result (λ x. x ≡ e) → IsSetCause e told total old new → result ≢ Err UnknownSeries
+known_on told (Ok v) e total old new is cause same = absurd is
+known_on {T} told (Err x) e total old new is cause same =
+    let P : LoadEnd → Type 0 = λ y. IsSetCause y told total old new in
+    known_so {T = T} told (Err x) total old new (subst P (sym is) cause) same
 
 pub known_fault : {T : Type 0} (result : Result T LoadEnd) (f : LineFault) → IsErrAnd result (λ x. x ≡ end_of f) → result ≢ Err UnknownSeries
 known_fault (Ok v) f is same = absurd is
@@ -286,10 +286,10 @@ known_fault (Err x) fault.ReadFault is same = let other : x ≡ ReadFault = is i
 known_fault (Err x) fault.InputTooLong is same = let other : x ≡ InputTooLong = is in cc
 
 -- want of memory
-pub no_memory_cause : {T : Type 0} (result : Result T LoadEnd) (e : LoadEnd) (total : ℕ) (old new : View) (reads reads' : ℕ) → IsErrAnd result (λ x. x ≡ e) → e ≡ NoMemory → IfErr result (λ x. IsLoadCause x total old new reads reads')
-no_memory_cause (Ok v) e total old new reads reads' is none = tt
-no_memory_cause (Err x) e total old new reads reads' is none =
-    let P : LoadEnd → Type 0 = λ y. IsLoadCause y total old new reads reads' in
+pub no_memory_cause : {T : Type 0} (told : Type 0) (result : Result T LoadEnd) (e : LoadEnd) (total : ℕ) (old new : View) (reads reads' : ℕ) → IsErrAnd result (λ x. x ≡ e) → e ≡ NoMemory → IfErr result (λ x. IsLoadCause x told total old new reads reads')
+no_memory_cause told (Ok v) e total old new reads reads' is none = tt
+no_memory_cause {T} told (Err x) e total old new reads reads' is none =
+    let P : LoadEnd → Type 0 = λ y. IsLoadCause y told total old new reads reads' in
     subst P (sym (is ∙ none)) tt
 
 pub no_memory_sound : {T : Type 0} (result : Result T LoadEnd) (e : LoadEnd) (new : View) → IsErrAnd result (λ x. x ≡ e) → e ≡ NoMemory → new.fit → IfErr result (λ x. IsSoundFor x new)

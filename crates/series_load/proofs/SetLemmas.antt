@@ -10,6 +10,9 @@ use Rattle.series_book.specs.declared.edits.Edit.{Edit}
 use Rattle.series_book.specs.declared.edits.Edit.TheVariants.{Set}
 use Rattle.series_book.specs.declared.outcomes.Outcome.{Outcome}
 use Rattle.series_book.specs.Edits.{IsEdit}
+use Rattle.page_space.specs.declared.superblock.Superblock.{Superblock}
+use Rattle.page_space.specs.Layout.{Keeps as KeepsPage}
+use Rattle.stored_book.specs.Damage.{IsBadForEdit}
 use Rattle.stored_book.specs.Standing.{StandsForBook}
 use Rattle.series_store.specs.Results.{IsDone, IsRefusedWith, IsBeforeOrAfter, IsUnchangedFor, IsEditCause}
 use Rattle.series_store.specs.declared.errors.StoreError.{StoreError}
@@ -119,12 +122,17 @@ no_room G H B total name book kept end at is stands =
     let Q : LoadEnd → Type 0 = λ e. StopsSo H B total name book at.image e in
     record { done = tt; stops = subst Q (sym is) (inl stands); moments = passes_none at (IsEither H total name book) (Quiet at) }
 
-pub cause_of : (at : ℕ) (e : StoreError) (total : ℕ) (old new : View) → IsEditCause e total old new → IsSetCause (end_at at e) total old new
-cause_of at (store.Refused refusal) total old new cause = tt
-cause_of at store.NotAStore total old new cause = absurd cause
-cause_of at store.DiskFault total old new cause = cause
-cause_of at (store.Damaged page) total old new cause = cause
-cause_of at store.NoMemory total old new cause = tt
+-- why an edit wasn't done is why a set wasn't; the pages are as they were
+pub cause_of : (at : ℕ) (e : StoreError) (told told' : Type 0) (s : Superblock) (old new : View) → (told' → told) → new.size ≡ old.size → (told → KeepsPage old.size s (old.image 0)) → IsUnchangedFor e told old new → IsEditCause e told s old new
+    → IsSetCause (end_at at e) told' s.total old new
+cause_of at (store.Refused refusal) told told' s old new was size keeps same cause = tt
+cause_of at store.NotAStore told told' s old new was size keeps same cause = absurd cause
+cause_of at store.DiskFault told told' s old new was size keeps same cause = cause
+cause_of at (store.Damaged page) told told' s old new was size keeps same cause =
+    let I : Image → Type 0 = λ i. IsBadForEdit old.size i page in
+    let C : ℕ → Type 0 = λ n. IsBadForEdit n new.image page in
+    (cause.0, λ t. subst C (sym size) (subst I (sym (same.image (was t))) (record { numbers = s; keeps = keeps (was t); so = (cause.0, cause.1 (was t)) })))
+cause_of at store.NoMemory told told' s old new was size keeps same cause = tt
 
 pub sound_of : (at : ℕ) (e : StoreError) (told : Type 0) (old new : View) → IsUnchangedFor e told old new → old.fit → IsSoundFor (end_at at e) new
 sound_of at (store.Refused refusal) told old new same fit = same.fit fit

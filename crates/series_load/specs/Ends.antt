@@ -7,6 +7,7 @@ use Rattle.chart_world.specs.Lines.{NoLineFeed}
 use Rattle.series_book.specs.declared.one_series.Series.{Series}
 use Rattle.series_book.specs.declared.refusals.Refusal.{Refusal}
 use Rattle.series_book.specs.Edits.{apply}
+use Rattle.stored_book.specs.Damage.{IsBadForEdit}
 use Rattle.stored_book.specs.Standing.{StandsForBook}
 use Rattle.series_load.specs.Rows.{Reading, ReadsRows, BadFirst}
 use Rattle.series_load.specs.Fronts.{told}
@@ -93,16 +94,17 @@ KeepsSome total name book series input image DiskFault = Unit {0}
 KeepsSome total name book series input image (Damaged page) = ⊥
 KeepsSome total name book series input image NoMemory = IsAfterSome total name book series input image
 
--- why a load ended, whatever the pages are: their total, the pages and the counts of read faults before and after
-abbrev pub IsLoadCause : LoadEnd → ℕ → View → View → ℕ → ℕ → Type 0
-IsLoadCause UnknownSeries total old new reads reads' = Unit {0}
-IsLoadCause (BadLine at) total old new reads reads' = Unit {0}
-IsLoadCause (Refused at refusal) total old new reads reads' = Unit {0}
-IsLoadCause ReadFault total old new reads reads' = HasRisen reads reads'
-IsLoadCause InputTooLong total old new reads reads' = Unit {0}
-IsLoadCause DiskFault total old new reads reads' = HasRisen old.faults new.faults
-IsLoadCause (Damaged page) total old new reads reads' = page < total
-IsLoadCause NoMemory total old new reads reads' = Unit {0}
+-- why a load ended, whatever the pages are: by whether reads give what they are, their total, the pages and the counts of
+-- read faults before and after. A page that is called damaged is one of the store's, and is so where reads give it.
+abbrev pub IsLoadCause : LoadEnd → Type 0 → ℕ → View → View → ℕ → ℕ → Type 0
+IsLoadCause UnknownSeries told total old new reads reads' = Unit {0}
+IsLoadCause (BadLine at) told total old new reads reads' = Unit {0}
+IsLoadCause (Refused at refusal) told total old new reads reads' = Unit {0}
+IsLoadCause ReadFault told total old new reads reads' = HasRisen reads reads'
+IsLoadCause InputTooLong told total old new reads reads' = Unit {0}
+IsLoadCause DiskFault told total old new reads reads' = HasRisen old.faults new.faults
+IsLoadCause (Damaged page) told total old new reads reads' = (page < total) × (told → IsBadForEdit new.size new.image page)
+IsLoadCause NoMemory told total old new reads reads' = Unit {0}
 
 -- all of the input was loaded: what was done, whether or not the streams tell their bytes, and what a crash at a
 -- moment on the way leaves; no byte is sent

@@ -29,11 +29,11 @@ module _ {P : Type 0} {g : Ghosts P} where
 
   -- why a set wasn't done, whatever the pages are
   abbrev pub FailsFor : LoadEnd → Store P g → Store P g → Type 0
-  FailsFor e old new = IsSetCause e (shown.total old) (shown.view old) (shown.view new)
+  FailsFor e old new = IsSetCause e (shown.IsTold new) (shown.total old) (shown.view old) (shown.view new)
 
   -- why a load ended, whatever the pages are
   abbrev pub EndsFor : streams.Ghosts P → LoadEnd → Store P g → Store P g → Type 0
-  EndsFor beside e old new = IsLoadCause e (shown.total old) (shown.view old) (shown.view new) (beside.read_faults (shown.pages old)) (beside.read_faults (shown.pages new))
+  EndsFor beside e old new = IsLoadCause e (shown.IsTold new) (shown.total old) (shown.view old) (shown.view new) (beside.read_faults (shown.pages old)) (beside.read_faults (shown.pages new))
 
   -- so of each book that the pages stand for, and the run that stands open
   abbrev pub ForRun : Store P g → OpenRun → (ℕ → List Series → Option Run → Type 0) → Type 0

@@ -10,6 +10,7 @@ use Rattle.csv_load.specs.declared.row.RowCause.{RowCause}
 use Rattle.series_book.specs.declared.one_series.Series.{Series}
 use Rattle.series_book.specs.declared.refusals.Refusal.{Refusal}
 use Rattle.series_book.specs.Edits.{apply}
+use Rattle.stored_book.specs.Damage.{IsBadForEdit}
 use Rattle.stored_book.specs.Standing.{StandsForBook}
 use Rattle.series_store.specs.declared.errors.StoreError.{StoreError}
 use Rattle.series_store.specs.declared.errors.StoreError.TheVariants as store
@@ -139,15 +140,15 @@ pub record Does {T : Type 0} (G H : List Run → Option Run → Type 0) (B : ℕ
   pub moments : Passes old new (IsEither H total name book) (Quiet old)
 
 -- why a set wasn't done, whatever the pages are
-abbrev pub IsSetCause : LoadEnd → ℕ → View → View → Type 0
-IsSetCause UnknownSeries total old new = ⊥
-IsSetCause (BadLine at) total old new = Unit {0}
-IsSetCause (Refused at refusal) total old new = Unit {0}
-IsSetCause ReadFault total old new = ⊥
-IsSetCause InputTooLong total old new = ⊥
-IsSetCause DiskFault total old new = HasRisen old.faults new.faults
-IsSetCause (Damaged page) total old new = page < total
-IsSetCause NoMemory total old new = Unit {0}
+abbrev pub IsSetCause : LoadEnd → Type 0 → ℕ → View → View → Type 0
+IsSetCause UnknownSeries told total old new = ⊥
+IsSetCause (BadLine at) told total old new = Unit {0}
+IsSetCause (Refused at refusal) told total old new = Unit {0}
+IsSetCause ReadFault told total old new = ⊥
+IsSetCause InputTooLong told total old new = ⊥
+IsSetCause DiskFault told total old new = HasRisen old.faults new.faults
+IsSetCause (Damaged page) told total old new = (page < total) × (told → IsBadForEdit new.size new.image page)
+IsSetCause NoMemory told total old new = Unit {0}
 
 -- unless a call of the disk failed, the pages are sound
 abbrev pub IsSoundFor : LoadEnd → View → Type 0

@@ -24,7 +24,8 @@ use Rattle.stored_book.proofs.PagesInUse.{in_use_is}
 use Rattle.tree_walk.specs.declared.tree.Tree.{Tree}
 use Rattle.tree_walk.specs.Holding.{KeptWalking}
 use Rattle.tree_walk.specs.Trees.{top_of_page, IsTree, StandsFor}
-use Rattle.series_store.specs.Counting.{values_in, values_of, values_below, pages_of_series, pages_of_root, Looks, HasBadPage, HasBadLink, HasBadTree, HasBadTreeOf, IsSoundTree, IsSoundChain, AreSound, AreSoundTrees, IsTreesCause, IsChainCause, IsCheckCause}
+use Rattle.path_repair.specs.Damage.{HasBadLink}
+use Rattle.series_store.specs.Counting.{values_in, values_of, values_below, pages_of_series, pages_of_root, Looks, HasBadPage, HasBadTree, HasBadTreeOf, IsSoundTree, IsSoundChain, AreSound, AreSoundTrees, IsTreesCause, IsChainCause, IsCheckCause}
 use Rattle.series_store.specs.declared.errors.StoreError.{StoreError}
 use Rattle.series_store.specs.declared.errors.StoreError.TheVariants.{Refused, NotAStore, DiskFault, Damaged, NoMemory}
 use Rattle.series_store.proofs.AskLemmas.{kept_as}

@@ -9,7 +9,8 @@ use Rattle.page_space.specs.Causes.{FromChain, Takes, Refuses}
 use Rattle.page_space.specs.Layout.{IsSuperblock, Links, freed_page, without_head}
 use Rattle.page_space.specs.Spaces.{Stands}
 use Rattle.page_space.specs.Transactions.{left_by, OnlyFirst}
-use Rattle.series_store.specs.Counting.{Looks, HasBadLink, IsSoundChain, IsChainCause}
+use Rattle.path_repair.specs.Damage.{HasBadLink}
+use Rattle.series_store.specs.Counting.{Looks, IsSoundChain, NamesWithin, IsChainCause}
 use Rattle.series_store.specs.Opening.{IsOutside, space_error_of}
 use Rattle.series_store.proofs.LookLemmas.{looks_then}
 
@@ -146,3 +147,13 @@ pub pass_stood : (told told' : Type 0) (old mid under under' : View) (s s' : Sup
 pass_stood told told' old mid under under' s s' txn left way count taken freed t standing =
     let S : Image → Type 0 = λ image. HaveStood count (left_by txn image) txn.superblock in
     subst S (sym (way.looks.kept.image t)) (way.stands count taken freed t standing)
+
+-- the page that wasn't taken is below the total
+pub pass_within : (e : SpaceError) (told : Type 0) (image : Image) (s : Superblock) (total old new : ℕ) → IsSuperblock s.total s → s.total ≡ total → Refuses e told image s old new → NamesWithin total (space_error_of e)
+pass_within NoStore told image s total old new rules same bad = tt
+pass_within (Full needed have) told image s total old new rules same bad = tt
+pass_within AtDisk told image s total old new rules same bad = tt
+pass_within (AtPage page) told image s total old new rules same bad =
+    let head = rules.head_is (λ none. bad.0 (rules.none.1 none)) in
+    omega (arith, bad.1.0, head.1, rules.fresh_high, same)
+pass_within AtMemory told image s total old new rules same bad = tt

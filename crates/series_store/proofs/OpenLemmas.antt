@@ -1,5 +1,5 @@
 -- A store is opened and made.
-use Rattle.std.proofs.Common.{cond, zero, suc, ◌≡◌, ◌≢◌, ℕ, ◌+◌, ◌^◌, ◌<◌, ◌≤◌, ◌⊎◌, List, [], length, map, get_or, AllPairs, Some, refl, sym, ap, subst, arith, inl, inr, ◌∙◌, ◌∷◌}
+use Rattle.std.proofs.Common.{◌≡◌, ◌≢◌, ℕ, ◌+◌, ◌^◌, ◌<◌, ◌≤◌, ◌⊎◌, List, [], length, map, get_or, AllPairs, Some, refl, sym, ap, subst, arith, inl, inr, ◌∙◌, ◌∷◌}
 use Rattle.std.specs.Prelude.{Result, Ok, Err, IfErr}
 use Rattle.std.proofs.Math.Path.{fun_ext}
 use Rattle.std.specs.List.{slice_get}
@@ -28,14 +28,11 @@ use Rattle.series_catalog.specs.Reading.{IsBadCatalog, IsCatalogCause, IsCatalog
 use Rattle.series_catalog.specs.declared.errors.CatalogError.{CatalogError}
 use Rattle.series_catalog.specs.declared.errors.CatalogError.TheVariants.{DiskFault as DiskCatalog, Damaged as BadPage, NoMemory as NoRoom}
 use Rattle.stored_book.proofs.EmptyLemmas.{first_book, first_over, empty_store}
-use Rattle.series_catalog.proofs.ReadLemmas.{reads_more, risen_on, nothing, none_told}
-use Rattle.empty_store.specs.Stores.{IsEmptyStore}
+use Rattle.series_catalog.proofs.ReadLemmas.{risen_on, nothing}
 use Rattle.stored_book.specs.Standing.{AreCatalog}
-use Rattle.page_space.specs.Layout.{empty_of, superblock_page, catalog_page}
-use Rattle.series_catalog.specs.Catalogs.{AreFit, AreAsTold}
+use Rattle.page_space.specs.Layout.{empty_of}
+use Rattle.series_catalog.specs.Catalogs.{AreFit}
 use Rattle.series_catalog.specs.declared.stored_series.StoredSeries.{StoredSeries}
-use Rattle.std.proofs.lemmas.Bool.{lt-ltb, ne_eqb}
-use Rattle.page_space.specs.Firsts.{first_page}
 use Rattle.stored_book.specs.Records.{entry}
 use Rattle.stored_book.specs.Standing.{IsStore, StandsForBook}
 

@@ -23,7 +23,7 @@ use Rattle.path_repair.proofs.SumLemmas.{below_next, sum_suc, sum_none, sum_upto
 use Rattle.stored_book.proofs.OneBook.{slot_key_span}
 use Rattle.tree_walk.specs.Holding.{KeptWalking}
 use Rattle.tree_walk.specs.Trees.{top_of_page, HoldsNodes, IsTree}
-use Rattle.series_store.specs.Counting.{values_below, Looks, IsBadFor, IsSlot, AreParts, HasNoSlot, HasBadPage, IsSoundPage, IsSoundTree, IsPageCause, IsTreeCause}
+use Rattle.series_store.specs.Counting.{values_below, Looks, IsBadFor, IsSlot, AreParts, HasNoSlot, HasBadPage, IsSoundPage, IsSoundTree, NamesWithin, IsPageCause, IsTreeCause}
 use Rattle.series_store.specs.declared.errors.StoreError.{StoreError}
 use Rattle.series_store.specs.declared.errors.StoreError.TheVariants.{Refused, NotAStore, DiskFault, Damaged, NoMemory}
 use Rattle.series_store.proofs.LookLemmas.{looks_then}
@@ -334,3 +334,8 @@ pub sound_total : {E : Type 0} → (r : Result (Unit {0}) E) (total total' level
 sound_total r total total' level bytes same sound =
     let P : ℕ → Type 0 = λ n. OnOk r (IsSoundPage n level bytes) in
     subst P same sound
+
+-- the page that a call names is the one that it was given
+pub within_here : {T : Type 0} (r : Result T StoreError) (total page : ℕ) → page < total → IfErr r (λ e. e ≡ Damaged page) → IfErr r (NamesWithin total)
+within_here (Ok v) total page low is = tt
+within_here (Err e) total page low is = subst (NamesWithin total) (sym is) low

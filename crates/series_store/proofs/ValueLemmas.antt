@@ -6,13 +6,13 @@ use Rattle.std.proofs.lemmas.Option.{slice_get_past}
 use Rattle.std.proofs.Math.Nat.{mul-le-mul_right, pow-le-pow_right}
 use Rattle.om3_coeff.specs.declared.span.Span.{Span}
 use Rattle.om3_coeff.specs.Keys.{first_slot, end_slot}
-use Rattle.om3_coeff.specs.Spans.{span_of_slot, span}
+use Rattle.om3_coeff.specs.Spans.{span}
 use Rattle.path_repair.specs.Changes.{value_of, slot_at}
 use Rattle.path_repair.specs.Sums.{sum_below}
 use Rattle.path_repair.proofs.ListLemmas.{part_none, child_first, child_end}
 use Rattle.path_repair.proofs.SumLemmas.{sum_suc, sum_none, sum_same}
 use Rattle.stored_book.proofs.OneBook.{slot_key_span}
-use Rattle.stored_book.proofs.PageCounts.{sum_zero, sum_add, sum_parts, some_slot}
+use Rattle.stored_book.proofs.PageCounts.{sum_zero, sum_parts, some_slot}
 use Rattle.tree_walk.specs.Trees.{top_of_page}
 use Rattle.series_store.specs.Counting.{values_in, values_below}
 

@@ -72,7 +72,7 @@ pub record IsAnswered (answer : Result Edited Refusal) (total : ℕ) (book : Lis
 pub record IsCarriedOut (told told' : Type 0) (old new under under' : View) (s s' : Superblock) (result : Result Outcome StoreError) : Type 0 where
   pub moves : Moves told told' old new
   pub goes_on : GoesOn under under'
-  pub cause : IfErr result (λ e. IsEditCause e s.total old new)
+  pub cause : IfErr result (λ e. IsEditCause e told s old new)
   pub unchanged : IfErr result (λ e. IsUnchangedFor e told old new)
   pub sound : OnOk result new.fit
   pub total : s'.total ≡ s.total

@@ -9,7 +9,7 @@ use Rattle.node_page.specs.Layout.{KeepsLayout}
 use Rattle.page_space.specs.declared.superblock.Superblock.{Superblock}
 use Rattle.page_space.specs.Layout.{Links, in_use, without_head}
 use Rattle.path_repair.specs.Changes.{slot_at}
-use Rattle.path_repair.specs.Damage.{IsUnfit, HasBadNode, AreBelow}
+use Rattle.path_repair.specs.Damage.{IsUnfit, HasBadNode, AreBelow, HasBadLink}
 use Rattle.path_repair.specs.Sums.{sum_below}
 use Rattle.path_repair.specs.TreePages.{tree_pages}
 use Rattle.series_book.specs.declared.one_series.Series.{Series}
@@ -107,14 +107,7 @@ IsSoundTree image total slots (suc level) index page top =
     ⊎ ((page ≢ 0) × IsSoundPage total (suc level) (image page) × (spans : ℕ → Option Span) × AreBelow top (image page) spans
     × ((child : ℕ) → child < 128 → IsSoundTree image total slots level (128 * index + child) (child_at (image page) child) (spans (127 + child))))
 
--- of the next so many pages of the chain with these numbers, this one breaks its layout
-abbrev pub HasBadLink : Image → Superblock → ℕ → ℕ → Type 0
-HasBadLink image s zero at = ⊥
-HasBadLink image s (suc left) at =
-    ((at ≡ s.head) × ((next : ℕ) → Links s next (image s.head) → ⊥))
-    ⊎ ((next : ℕ) × Links s next (image s.head) × HasBadLink image (without_head s next) left at)
-
--- each of them keeps its layout
+-- each of the next so many pages of the chain with these numbers keeps its layout
 abbrev pub IsSoundChain : Image → Superblock → ℕ → Type 0
 IsSoundChain image s zero = Unit {0}
 IsSoundChain image s (suc left) = (next : ℕ) × Links s next (image s.head) × IsSoundChain image (without_head s next) left
@@ -156,6 +149,14 @@ pub record HasBadTree (image : Image) (s : Superblock) (at : ℕ) : Type 0 where
 pub record AreSound (image : Image) (s : Superblock) : Type 0 where
   pub trees : (id : ℕ) → id < s.series → IsSoundTree image s.total (entry image id).slots (page_levels (entry image id).slots) 0 (entry image id).root (entry image id).span
   pub chain : IsSoundChain image s s.chain
+
+-- a page that an error names is below the total
+abbrev pub NamesWithin : ℕ → StoreError → Type 0
+NamesWithin total (Refused refusal) = Unit {0}
+NamesWithin total NotAStore = Unit {0}
+NamesWithin total DiskFault = Unit {0}
+NamesWithin total (Damaged page) = page < total
+NamesWithin total NoMemory = Unit {0}
 
 -- why a store wasn't counted
 abbrev pub IsCheckCause : StoreError → Type 0 → Superblock → View → View → Type 0

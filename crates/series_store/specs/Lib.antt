@@ -1,6 +1,7 @@
 pub mod Opening
 pub mod Results
 pub mod Asking
+pub mod Naming
 pub mod Changing
 pub mod Errors
 pub mod Beside

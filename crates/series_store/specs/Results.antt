@@ -7,6 +7,8 @@ use Rattle.series_book.specs.declared.edits.Edit.{Edit}
 use Rattle.series_book.specs.declared.edits.Edit.TheVariants.{Create, Append, Set, Clear}
 use Rattle.series_book.specs.declared.outcomes.Outcome.{Outcome}
 use Rattle.series_book.specs.Edits.{Edited, apply, id_of, place_of}
+use Rattle.page_space.specs.declared.superblock.Superblock.{Superblock}
+use Rattle.stored_book.specs.Damage.{IsDamagedOnce}
 use Rattle.stored_book.specs.Standing.{StandsForBook}
 use Rattle.series_store.specs.declared.errors.StoreError.{StoreError}
 use Rattle.series_store.specs.declared.errors.StoreError.TheVariants.{Refused, NotAStore, DiskFault, Damaged, NoMemory}
@@ -36,13 +38,14 @@ pub record IsAfter (total : ℕ) (book : List Series) (edit : Edit) (image : Ima
 abbrev pub IsBeforeOrAfter : ℕ → List Series → Edit → Image → Type 0
 IsBeforeOrAfter total book edit image = StandsForBook image total book ⊎ IsAfter total book edit image
 
--- why an edit wasn't done, beside what the pages are
-abbrev pub IsEditCause : StoreError → ℕ → View → View → Type 0
-IsEditCause (Refused refusal) total old new = Unit {0}
-IsEditCause NotAStore total old new = ⊥
-IsEditCause DiskFault total old new = HasRisen old.faults new.faults
-IsEditCause (Damaged page) total old new = page < total
-IsEditCause NoMemory total old new = Unit {0}
+-- why an edit wasn't done, beside what the book is: a page that is called damaged is one of the store's, and is so where
+-- reads give what the pages are
+abbrev pub IsEditCause : StoreError → Type 0 → Superblock → View → View → Type 0
+IsEditCause (Refused refusal) told s old new = Unit {0}
+IsEditCause NotAStore told s old new = ⊥
+IsEditCause DiskFault told s old new = HasRisen old.faults new.faults
+IsEditCause (Damaged page) told s old new = (page < s.total) × (told → IsDamagedOnce old.image s page)
+IsEditCause NoMemory told s old new = Unit {0}
 
 -- nothing was committed
 pub record IsUnchanged (told : Type 0) (old new : View) : Type 0 where

@@ -1,5 +1,5 @@
 -- What is sent of the values of a series.
-use Rattle.std.specs.Prelude.{ℕ, zero, suc, ℤ, ◌≡◌, ◌≢◌, ◌+◌, ◌<◌, ◌≤◌, ◌⊎◌, List, [], ◌++◌, length, slice_get, Option, None, Some, Result, Ok, Err, IfErr, ⊤}
+use Rattle.std.specs.Prelude.{ℕ, zero, suc, ℤ, ◌≡◌, ◌≢◌, ◌+◌, ◌<◌, ◌≤◌, ◌⊎◌, List, [], ◌++◌, length, Option, None, Some, Result, Ok, Err, IfErr, ⊤}
 use Rattle.block_disk.specs.Counts.{HasRisen}
 use Rattle.block_disk.specs.Streams.{sent_after}
 use Rattle.block_disk.specs.View.{Image, View, Now, sent_now, Passes}
@@ -12,7 +12,6 @@ use Rattle.node_page.specs.Fields.{child_at}
 use Rattle.path_repair.specs.Changes.{slot_at}
 use Rattle.path_repair.specs.Damage.{AreBelow}
 use Rattle.path_repair.specs.Sums.{join_below}
-use Rattle.series_book.specs.declared.one_series.Series.{Series}
 use Rattle.stored_book.specs.Records.{entry}
 use Rattle.series_store.specs.Counting.{IsBadFor}
 use Rattle.series_store.specs.Shown as shown

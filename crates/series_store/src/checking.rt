@@ -3,7 +3,7 @@ ghost use Rattle.std.specs.Prelude.{◌≡◌, ◌≤◌, ◌<◌, ◌+◌, ◌*
 ghost use Rattle.block_disk.specs.View.{View};
 ghost use Rattle.page_space.specs.Spaces.{Stands};
 ghost use Rattle.series_book.specs.declared.one_series.Series.{Series};
-ghost use Rattle.series_store.specs.Counting.{values_of, ReadsTrees, ReadsOnce, AreCounts, AreNumbers, AreSound, AreSoundTrees, IsSoundChain, IsCheckCause, IsTreesCause, IsChainCause};
+ghost use Rattle.series_store.specs.Counting.{values_of, ReadsTrees, ReadsOnce, AreCounts, AreNumbers, AreSound, AreSoundTrees, IsSoundChain, NamesWithin, IsCheckCause, IsTreesCause, IsChainCause};
 ghost use Rattle.series_store.specs.Opening.{IsOutside};
 ghost use Rattle.series_catalog.specs.Catalogs.{AreFit, AreAsTold};
 ghost use Rattle.stored_book.specs.Standing.{IsStore, StandsForBook};
@@ -28,6 +28,7 @@ fn count_trees<P: Pages>(space: &mut Space<P>, catalog: &Catalog) -> Result<u64,
     requires sound { spaces.IsSound space.old }
     requires fits { AreFit (spaces.numbers space.old).fresh (series_in catalog.now) }
     ensures looks { looks.OnlyLooks space.old space.new }
+    ensures within { IfErr result (NamesWithin (spaces.total space.old)) }
     ensures cause { IfErr result (λ e. IsTreesCause e (spaces.IsTold space.old) (spaces.view space.old) (spaces.view space.new) (spaces.total space.old) (series_in catalog.now)) }
     ensures counts { looks.ForCatalog space.old catalog.now (λ book. IfOk result (λ values. values ≡ values_of book)) }
     ensures stands { looks.ForCatalog space.old catalog.now (λ book. IfErr result (λ e. e ≡ StoreError.DiskFault)) }
@@ -48,6 +49,7 @@ fn count_trees<P: Pages>(space: &mut Space<P>, catalog: &Catalog) -> Result<u64,
 fn pass_chain<P: Pages>(alloc: Global, space: &mut Space<P>) -> Result<(), StoreError>
     requires sound { spaces.IsSound space.old }
     ensures looks { looks.OnlyLooks space.old space.new }
+    ensures within { IfErr result (NamesWithin (spaces.total space.old)) }
     ensures cause { IfErr result (λ e. IsChainCause e (spaces.IsTold space.old) (spaces.numbers space.old) (spaces.view space.old) (spaces.view space.new)) }
     ensures stands { (count : ℕ) (taken freed : List ℕ) → spaces.IsTold space.old → Stands count (spaces.image space.old) (spaces.numbers space.old) taken freed → IfErr result IsOutside }
     ensures reads { (spaces.view space.new).reads ≤ (spaces.view space.old).reads + (spaces.numbers space.old).chain }
@@ -78,6 +80,7 @@ impl<P: Pages> Store<P> {
         ensures reads { shown.ForBook self.old (λ total book. ReadsOnce (shown.numbers self.old) (shown.view self.old) (shown.view self.new)) }
         ensures numbers { IfOk result (λ counts. AreNumbers (shown.numbers self.old) counts) }
         ensures whole { shown.IsTold self.old → OnOk result (AreSound (shown.image self.old) (shown.numbers self.old)) }
+        ensures within { IfErr result (NamesWithin (shown.total self.old)) }
         ensures cause { IfErr result (λ e. IsCheckCause e (shown.IsTold self.old) (shown.numbers self.old) (shown.view self.old) (shown.view self.new)) }
         ensures looks { shown.OnlyLooks self.old self.new }
         ensures catalog { self.new.catalog ≡ self.old.catalog }

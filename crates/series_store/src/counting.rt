@@ -11,7 +11,7 @@ ghost use Rattle.path_repair.specs.Keeping.{IsMatched};
 ghost use Rattle.path_repair.specs.TreePages.{tree_pages};
 ghost use Rattle.tree_walk.specs.Paths.{NamesBeyond};
 ghost use Rattle.tree_walk.specs.Trees.{top_of_page, HoldsNodes, IsTree};
-ghost use Rattle.series_store.specs.Counting.{values_below, NamesBelow, IsSlot, AreParts, HasNoSlot, IsBadFor, IsSoundPage, IsSoundTree, IsPageCause, IsTreeCause};
+ghost use Rattle.series_store.specs.Counting.{values_below, NamesBelow, IsSlot, AreParts, HasNoSlot, IsBadFor, IsSoundPage, IsSoundTree, NamesWithin, IsPageCause, IsTreeCause};
 ghost use Rattle.page_space.specs.Shown as spaces;
 ghost use Rattle.series_store.specs.Looking as looks;
 
@@ -83,6 +83,7 @@ pub(crate) fn read_page<P: Pages>(
     requires whole { length bytes.old ≡ 4096 }
     ensures looks { looks.OnlyLooks space.old space.new }
     ensures one_read { (spaces.view space.new).reads ≤ (spaces.view space.old).reads + 1 }
+    ensures within { IfErr result (NamesWithin (spaces.total space.old)) }
     ensures cause { IfErr result (λ e. IsPageCause e (spaces.IsTold space.old) (spaces.view space.old) (spaces.view space.new) (spaces.total space.old) level page (Some top)) }
     ensures reads { Rises 1 (spaces.view space.old).reads (spaces.view space.new).reads }
     ensures bytes { spaces.IsTold space.old → OnOk result (bytes.new ≡ spaces.image space.old page) }
@@ -154,6 +155,7 @@ pub(crate) fn count_values<P: Pages>(
     requires slot { level ≡ 0 → IsSlot slots index top }
     ensures looks { looks.OnlyLooks space.old space.new }
     ensures few { IfOk result (λ values. values ≤ 128 ^ level) }
+    ensures within { IfErr result (NamesWithin (spaces.total space.old)) }
     ensures cause { IfErr result (λ e. IsTreeCause e (spaces.IsTold space.old) (spaces.view space.old) (spaces.view space.new) (spaces.total space.old) slots level index page top) }
     ensures counts { looks.ForTree space.old slots level index page top (λ list. IfOk result (λ values. values ≡ values_below list level index)) }
     ensures stands { looks.ForTree space.old slots level index page top (λ list. IfErr result (λ e. e ≡ StoreError.DiskFault)) }

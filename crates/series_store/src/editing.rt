@@ -31,7 +31,7 @@ impl<P: Pages> Store<P> {
         ensures moments { shown.ForBook self.old (λ total book. Passes (shown.view self.old) (shown.view self.new) (IsBeforeOrAfter total book edit.now) (Quiet (shown.view self.old))) }
         ensures moves { shown.MovesSo self.old self.new }
         ensures goes_on { shown.TimeGoesOn self.old self.new }
-        ensures cause { IfErr result (λ e. IsEditCause e (shown.total self.old) (shown.view self.old) (shown.view self.new)) }
+        ensures cause { IfErr result (λ e. IsEditCause e (shown.IsTold self.old) (shown.numbers self.old) (shown.view self.old) (shown.view self.new)) }
         ensures unchanged { IfErr result (λ e. IsUnchangedFor e (shown.IsTold self.old) (shown.view self.old) (shown.view self.new)) }
         // an edit that changes no slot writes and syncs nothing
         ensures idle { shown.ForBook self.old (λ total book. ClearsNone book edit.now → CommitsNone (shown.view self.old) (shown.view self.new)) }

@@ -18,6 +18,7 @@ mod edit_errors;
 mod editing;
 mod errors;
 pub mod laws;
+mod named_series;
 mod nodes;
 mod opening;
 mod saving;
@@ -32,6 +33,7 @@ mod value_sending;
 
 pub use counts::Counts;
 pub use errors::StoreError;
+pub use named_series::NamedSeries;
 pub use send_errors::SendError;
 pub use series_info::SeriesInfo;
 pub use store::Store;

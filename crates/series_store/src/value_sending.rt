@@ -43,8 +43,15 @@ fn send_tree<P: PageWorld, T: Texts>(
     ensures cause { IfErr result (λ e. IsSendCause e (P.told space.old.pages) (P.view space.old.pages) (P.view space.new.pages) space.old.superblock.total (page_levels tree.slots) tree.root tree.span) }
 {
     let levels = page_levels(tree.slots);
-    send_below(space, levels, 0, tree.root, tree.span, texts, out)?;
-    send_waiting(space, out)
+    match send_below(space, levels, 0, tree.root, tree.span, texts, out) {
+        Ok(()) => send_waiting(space, out),
+        Err(SendError::Damaged { page }) => {
+            // What is said of the values in front of the damage goes out, where it can.
+            let _ = send_waiting(space, out);
+            Err(SendError::Damaged { page })
+        }
+        Err(error) => Err(error),
+    }
 }
 
 impl<P: PageWorld> Store<P> {
@@ -54,7 +61,7 @@ impl<P: PageWorld> Store<P> {
     /// may be said of its slots.
     ///
     /// After an error a front of the bytes was sent. Each page that is read is checked; the first that is bad
-    /// for its place is `Damaged`. Where the pages stand for a book none is. Nothing is written, and the
+    /// for its place is `Damaged`, and what is said of the values in front of it was sent, unless a send failed. Where the pages stand for a book none is. Nothing is written, and the
     /// selected series stays.
     pub fn send_values<T: Texts>(
         &mut self,

@@ -1,16 +1,15 @@
 -- How a check ends, by its status.
-use Rattle.std.proofs.Common.{◌≡◌, ℕ, zero, suc, ◌+◌, ◌<◌, ◌≤◌, ◌⊎◌, List, [], ◌∷◌, Option, refl, sym, subst, arith, inl, inr}
-use Rattle.std.specs.Prelude.{Contains}
+use Rattle.std.proofs.Common.{◌≡◌, ℕ, ◌+◌, ◌<◌, List, Option, refl, sym, subst, arith, inl, inr}
 use Rattle.block_disk.specs.Counts.{HasRisen}
 use Rattle.block_disk.specs.View.{Image, View, Honest}
-use Rattle.gate_pages.specs.GateLaws.{goes_by, goes_then}
-use Rattle.gate_pages.specs.GatePages.{StandsAsBefore}
+use Rattle.gate_pages.specs.GateLaws.{goes_then}
 use Rattle.gate_pages.specs.Journal.{page_count, pages_of}
-use Rattle.gate_pages.specs.Pages.{Quiet, GoesOn}
+use Rattle.gate_pages.specs.Pages.{GoesOn}
 use Rattle.series_book.specs.declared.one_series.Series.{Series}
-use Rattle.series_store.specs.Counting.{AreSound, HasBadTree, HasBadLink}
+use Rattle.series_store.specs.Counting.{AreSound}
 use Rattle.disk_store.specs.Held.{HoldsBook}
-use Rattle.disk_store.specs.Openings.{Opens, Prevents, IsDamagedBlock, IsOutside}
+use Rattle.store_commands.specs.Damaged.{IsDamagedLater, IsDamagedPlace}
+use Rattle.disk_store.specs.Openings.{Opens, Prevents, IsOutside}
 use Rattle.disk_store.specs.declared.causes.OpeningCause.{OpeningCause}
 use Rattle.disk_store.specs.declared.causes.OpeningCause.TheVariants as opening
 use Rattle.series_store.specs.declared.counts.Counts.{Counts}
@@ -22,7 +21,7 @@ use Rattle.store_commands.specs.Codes.{low_of_four, unopened}
 use Rattle.store_commands.specs.declared.status.Status.{Status}
 use Rattle.store_commands.proofs.Held.{held, risen_since}
 use Rattle.store_commands.proofs.Moments.{opened_since, opened_goes, since_on}
-use Rattle.store_commands.specs.Checked.{AreWhole, SendsCounts, SendsCountsPart, IsBadPart, CheckEnds}
+use Rattle.store_commands.specs.Checked.{AreWhole, SendsCounts, SendsCountsPart, IsBadForCheck, CheckEnds}
 use Rattle.store_commands.specs.Checking.{EndsCheck, ChecksStore}
 
 -- Each end, over a disk that holds its book on.
@@ -95,14 +94,14 @@ module _ (old new : View) (before now : Option (List ℕ)) (sends sends_now : �
     goes_on = goes;
   }
 
-  found_bad : (place : ℕ) → (place ≡ 1) ⊎ (66 ≤ place) → (Honest old → IsDamagedBlock (page_count old.size) old.image place) ⊎ IsBadPart (page_count old.size) old place → Never (page_count old.size) old → now ≡ before → CheckEnds old new before now sends sends_now 7 place
-  found_bad place there bad none same = record {
+  found_bad : (place : ℕ) → IsDamagedPlace IsBadForCheck old old place → Never (page_count old.size) old → now ≡ before → CheckEnds old new before now sends sends_now 7 place
+  found_bad place bad none same = record {
     codes = (4, omega arith, refl);
     done = λ is. absurd (omega (arith, is));
     send = λ is. absurd (omega (arith, is));
     part = λ is. absurd (omega (arith, is));
     fault = λ is. absurd (omega (arith, is));
-    damaged = λ is. (there, bad);
+    damaged = λ is. bad;
     undamaged = λ is. none;
     small = λ is. absurd (omega (arith, is));
     nothing = λ some other. same;
@@ -133,7 +132,7 @@ module _ (old new : View) (before now : Option (List ℕ)) (sends sends_now : �
       → CheckEnds old new before now sends sends_now (opening_status cause).code (opening_status cause).place
   no_store (opening.TooSmall size) prevents outside same = too_small size prevents.0 (omega (arith, prevents.0, prevents.1)) same
   no_store (opening.Damaged block) prevents outside same =
-      found_bad block prevents.1.0 (inl prevents.1.1) (λ total book holds. unopened block (outside total book holds)) same
+      found_bad block (inl prevents.1) (λ total book holds. unopened block (outside total book holds)) same
   no_store opening.DiskFault prevents outside same = faulted prevents same
   no_store opening.NoMemory prevents outside same = no_memory same
 
@@ -148,7 +147,7 @@ ends_unopened old new before now sends sends_now cause end opens prevents outsid
 
 -- The store was opened and checked.
 module _ (old mid new : View) (before now : Option (List ℕ)) (sends sends_now : ℕ) (opens : Opens (page_count old.size) old mid) (pages : Honest old → pages_of (page_count old.size) mid.image ≡ pages_of (page_count old.size) old.image) where
-  since_both : LeavesSame (page_count old.size) mid new → GoesOn mid new → LeavesSame (page_count old.size) old new
+  pub since_both : LeavesSame (page_count old.size) mid new → GoesOn mid new → LeavesSame (page_count old.size) old new
   since_both crash goes = λ total book holds.
       let IsSo : Image → ℕ → Type 0 = λ image sent. RecoversTo (page_count old.size) image total book in
       let later = crash total book (held old mid opens total book holds) in
@@ -158,6 +157,7 @@ module _ (old mid new : View) (before now : Option (List ℕ)) (sends sends_now 
   whole_before counts whole = record {
     superblock = whole.superblock;
     numbers = whole.numbers;
+    rules = whole.rules;
     spelled = λ honest.
         let P : Image → Type 0 = λ image. image 0 ≡ superblock_page whole.superblock in
         subst P (pages honest) (whole.spelled (opens.honest honest));
@@ -169,16 +169,13 @@ module _ (old mid new : View) (before now : Option (List ℕ)) (sends sends_now 
         subst P (pages honest) (whole.sound (opens.honest honest));
   }
 
-  bad_before : (place : ℕ) → IsBadPart (page_count old.size) mid place → IsBadPart (page_count old.size) old place
+  bad_before : (place : ℕ) → IsDamagedLater IsBadForCheck (page_count old.size) mid place → IsDamagedLater IsBadForCheck (page_count old.size) old place
   bad_before place bad = record {
     page = bad.page;
     place_is = bad.place_is;
-    superblock = bad.superblock;
-    spelled = λ honest.
-        let P : Image → Type 0 = λ image. image 0 ≡ superblock_page bad.superblock in
-        subst P (pages honest) (bad.spelled (opens.honest honest));
+    within = bad.within;
     bad = λ honest.
-        let P : Image → Type 0 = λ image. HasBadTree image bad.superblock bad.page ⊎ HasBadLink image bad.superblock bad.superblock.chain bad.page in
+        let P : Image → Type 0 = λ image. IsBadForCheck (page_count old.size) image bad.page in
         subst P (pages honest) (bad.bad (opens.honest honest));
   }
 
@@ -199,7 +196,7 @@ module _ (old mid new : View) (before now : Option (List ℕ)) (sends sends_now 
         | inr (inr (inr (inl fault))) ↦ subst P (sym fault.0) (faulted old new before now sends sends_now crash holds goes (risen_since old.faults mid.faults new.faults opens.faults fault.1.0) fault.1.1)
         | inr (inr (inr (inr bad))) ↦
             subst P (sym bad.end_is)
-            (found_bad old new before now sends sends_now crash holds goes (66 + bad.page) (inr (omega arith)) (inr (bad_before (66 + bad.page) bad.bad)) (λ total book is. bad.none total book (held old mid opens total book is)) bad.unsent)
+            (found_bad old new before now sends sends_now crash holds goes (66 + bad.page) (inr (bad_before (66 + bad.page) bad.bad)) (λ total book is. bad.none total book (held old mid opens total book is)) bad.unsent)
       ]
 
 -- the same, where equals stand for equals

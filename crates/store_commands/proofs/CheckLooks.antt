@@ -1,5 +1,5 @@
 -- A store is read, and what a check found is sent: the disk holds its book on.
-use Rattle.std.proofs.Common.{◌≡◌, ℕ, ◌≤◌, Bool, List, Option, refl, sym, subst, arith, inl, inr}
+use Rattle.std.proofs.Common.{arith, ◌≡◌, ℕ, ◌≤◌, Bool, List, Option, refl, sym, subst, inl, inr}
 use Rattle.block_disk.specs.View.{Image, View, Now, Honest, Passes, sent_now}
 use Rattle.block_disk.proofs.Passing.{passes_weaker}
 use Rattle.gate_pages.specs.GateLaws.{goes_by, goes_then}
@@ -7,22 +7,21 @@ use Rattle.gate_pages.specs.GatePages.{PagesOf, IsClosed, pages_view}
 use Rattle.gate_pages.specs.Journal.{pages_of}
 use Rattle.gate_pages.specs.Pages.{Quiet, GoesOn}
 use Rattle.gate_pages.proofs.Moving.{sent_same}
-use Rattle.page_space.specs.Layout.{superblock_page}
+use Rattle.page_space.specs.Layout.{Keeps}
 use Rattle.page_space.specs.declared.superblock.Superblock.{Superblock}
 use Rattle.series_book.specs.declared.one_series.Series.{Series}
-use Rattle.series_store.specs.Counting.{AreCounts, IsCheckCause}
+use Rattle.series_store.specs.Counting.{AreCounts, IsCheckCause, NamesWithin}
 use Rattle.series_store.specs.Opening.{IsOutside}
 use Rattle.series_store.specs.declared.counts.Counts.{Counts}
 use Rattle.series_store.specs.declared.errors.StoreError.{StoreError}
 use Rattle.series_store.specs.declared.errors.StoreError.TheVariants as of_store
 use Rattle.disk_store.specs.Held.{HoldsBook}
-use Rattle.disk_store.proofs.Lowered.{holds_closed}
 use Rattle.stored_book.specs.Standing.{StandsForBook, RecoversTo}
 use Rattle.tree_walk.specs.Holding.{KeptWalking}
 use Rattle.chart_service.specs.MomentLaws.{since_none}
 use Rattle.store_commands.specs.Books.{OfBook, LeavesSame}
 use Rattle.store_commands.specs.declared.status.Status.{Status}
-use Rattle.store_commands.proofs.Held.{stands_held, within_held, holds_sent}
+use Rattle.store_commands.proofs.Held.{within_held, holds_same, holds_sent}
 use Rattle.store_commands.proofs.Moments.{since_worked, since_sent}
 use Rattle.store_commands.specs.Checked.{counts_text, AreWhole}
 use Rattle.store_commands.specs.Checking.{check_status, EndsCheck, ChecksStore}
@@ -30,7 +29,7 @@ use Rattle.store_commands.specs.Sending.{SendsText}
 use Rattle.store_commands.specs.Codes.{status_is}
 
 -- what may be left of the pages stands for the book
-left_stands : (count total : ℕ) (book : List Series) (disk : View) → HoldsBook count total book disk → (pages : Image) → PagesOf count (Now disk) pages → StandsForBook pages total book
+pub left_stands : (count total : ℕ) (book : List Series) (disk : View) → HoldsBook count total book disk → (pages : Image) → PagesOf count (Now disk) pages → StandsForBook pages total book
 left_stands count total book disk holds pages left =
     let was = holds.images left.from left.was in
     let P : Image → Type 0 = λ i. StandsForBook i total book in
@@ -49,11 +48,7 @@ module _ (count count' : ℕ) (sound sound' : Bool) (old mid : View) (kept : Kep
       (λ image on. record { readable = on.readable; within = on.within; stands = on.so }) (since_none old IsSo holds.images)
 
   pub looked_holds : IsClosed mid → OfBook count old (λ total book. HoldsBook count total book mid)
-  looked_holds closed = λ total book holds.
-      let P : Image → Type 0 = λ pages. StandsForBook pages total book in
-      let C : ℕ → Type 0 = λ c. StandsForBook (pages_of c mid.image) total book in
-      holds_closed count total book mid closed (kept.told holds.honest) (within_held count total book old holds)
-      (subst C kept.size (subst P (sym (kept.image holds.honest)) (stands_held count total book old holds)))
+  looked_holds closed = λ total book holds. holds_same count count' total book old mid kept.size kept.told kept.image closed holds
 
   pub looked_quiet : sent_now mid ≡ sent_now old
   looked_quiet = sent_same (pages_view count sound old) (pages_view count' sound' mid) (PagesOf count (Now old)) kept.time
@@ -68,28 +63,28 @@ counts_sent count old mid new counts before now sends sends_now end of_book whol
 ]
 
 -- how a store that isn't counted does
-not_counted : (count count' : ℕ) (sound sound' : Bool) (old new : View) (s : Superblock) (before now : Option (List ℕ)) (sends sends_now : ℕ) (error : StoreError) → now ≡ before → (Honest old → pages_of count old.image 0 ≡ superblock_page s)
+not_counted : (count count' : ℕ) (sound sound' : Bool) (old new : View) (s : Superblock) (before now : Option (List ℕ)) (sends sends_now : ℕ) (error : StoreError) → now ≡ before → (Honest old → Keeps count s (pages_of count old.image 0)) → s.total ≤ count → NamesWithin s.total error
     → IsCheckCause error (Honest old) s (pages_view count sound old) (pages_view count' sound' new) → OfBook count old (λ total book. IsOutside error) → EndsCheck count old new before now sends sends_now (check_status error)
-not_counted count count' sound sound' old new s before now sends sends_now (of_store.Refused refusal) same spelled is outside = absurd is
-not_counted count count' sound sound' old new s before now sends sends_now of_store.NotAStore same spelled is outside = absurd is
-not_counted count count' sound sound' old new s before now sends sends_now of_store.DiskFault same spelled is outside = inr (inr (inr (inl (refl, (is, same)))))
-not_counted count count' sound sound' old new s before now sends sends_now (of_store.Damaged page) same spelled is outside = inr (inr (inr (inr (record {
+not_counted count count' sound sound' old new s before now sends sends_now (of_store.Refused refusal) same keeps few low is outside = absurd is
+not_counted count count' sound sound' old new s before now sends sends_now of_store.NotAStore same keeps few low is outside = absurd is
+not_counted count count' sound sound' old new s before now sends sends_now of_store.DiskFault same keeps few low is outside = inr (inr (inr (inl (refl, (is, same)))))
+not_counted count count' sound sound' old new s before now sends sends_now (of_store.Damaged page) same keeps few low is outside = inr (inr (inr (inr (record {
   page = page;
   end_is = refl;
-  bad = record { page = page; place_is = refl; superblock = s; spelled = spelled; bad = is };
+  bad = record { page = page; place_is = refl; within = omega (arith, low, few); bad = λ honest. record { numbers = s; keeps = keeps honest; so = (low, is honest) } };
   none = λ total book holds. elim (outside total book holds) [ inl fault ↦ cc | inr memory ↦ cc ];
   unsent = same;
 }))))
-not_counted count count' sound sound' old new s before now sends sends_now of_store.NoMemory same spelled is outside = inr (inr (inl (refl, same)))
+not_counted count count' sound sound' old new s before now sends sends_now of_store.NoMemory same keeps few low is outside = inr (inr (inl (refl, same)))
 
 -- A store was read, and then its disk is at rest.
 module _ (count count' : ℕ) (sound sound' : Bool) (old mid : View) (kept : KeptWalking (Honest old) (Honest mid) (pages_view count sound old) (pages_view count' sound' mid)) (goes : GoesOn old mid) (closed : IsClosed mid) where
-  pub checks_not : (s : Superblock) (before now : Option (List ℕ)) (sends sends_now : ℕ) (error : StoreError) (end : Status) → end ≡ check_status error → now ≡ before → (Honest old → pages_of count old.image 0 ≡ superblock_page s)
+  pub checks_not : (s : Superblock) (before now : Option (List ℕ)) (sends sends_now : ℕ) (error : StoreError) (end : Status) → end ≡ check_status error → now ≡ before → (Honest old → Keeps count s (pages_of count old.image 0)) → s.total ≤ count → NamesWithin s.total error
       → IsCheckCause error (Honest old) s (pages_view count sound old) (pages_view count' sound' mid) → OfBook count old (λ total book. IsOutside error) → ChecksStore count old mid before now sends sends_now end
-  checks_not s before now sends sends_now error end end_is same spelled cause outside = record {
+  checks_not s before now sends sends_now error end end_is same keeps few low cause outside = record {
     ends =
         let P : Status → Type 0 = λ e. EndsCheck count old mid before now sends sends_now e in
-        subst P (sym end_is) (not_counted count count' sound sound' old mid s before now sends sends_now error same spelled cause outside);
+        subst P (sym end_is) (not_counted count count' sound sound' old mid s before now sends sends_now error same keeps few low cause outside);
     crash = looked_since count count' sound sound' old mid kept goes;
     holds = looked_holds count count' sound sound' old mid kept goes closed;
     goes_on = goes;

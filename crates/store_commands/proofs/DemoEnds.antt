@@ -1,11 +1,7 @@
 -- How a demo ends, by its status.
-use Rattle.std.proofs.Common.{◌≡◌, ◌≢◌, ℕ, zero, suc, ◌≤◌, List, [], ◌∷◌, Option, Err, refl, sym, subst, inl, inr, arith}
-use Rattle.std.specs.Prelude.{Contains}
+use Rattle.std.proofs.Common.{◌≡◌, ◌≢◌, ℕ, List, Option, Err, refl, sym, subst, inl, inr, arith}
 use Rattle.block_disk.specs.View.{View, Honest, sent_now}
-use Rattle.gate_pages.specs.GateLaws.{goes_by}
-use Rattle.gate_pages.specs.GatePages.{StandsAsBefore}
 use Rattle.gate_pages.specs.Journal.{page_count}
-use Rattle.gate_pages.specs.Pages.{Quiet}
 use Rattle.request_lines.specs.declared.requests.Request.{Request}
 use Rattle.series_book.specs.declared.one_series.Series.{Series}
 use Rattle.disk_store.specs.Openings.{Opens, Prevents}
@@ -61,7 +57,7 @@ opening_ends seed rounds old new before now sends sends_now (opening.Damaged blo
   send = λ is. absurd (omega (arith, is));
   part = λ is. absurd (omega (arith, is));
   fault = λ is. absurd (omega (arith, is));
-  damaged = λ is. prevents.1.0;
+  damaged = λ is. inl prevents.1;
   undamaged = λ is total book holds. unopened block (a_store total book holds.honest (holds.images old.image holds.honest));
   missing = λ is. absurd (omega (arith, is));
   misfit = λ is. absurd (omega (arith, is));
@@ -149,7 +145,7 @@ stopped_ends seed rounds old new before now sends sends_now (Damaged page) a sam
   send = λ is. absurd (omega (arith, is));
   part = λ is. absurd (omega (arith, is));
   fault = λ is. absurd (omega (arith, is));
-  damaged = λ is. inr (omega arith);
+  damaged = λ is. inr a.cause;
   undamaged = λ is total book holds. never_page page (a.outside total book holds);
   missing = λ is. absurd (omega (arith, is));
   misfit = λ is. absurd (omega (arith, is));

@@ -16,6 +16,7 @@ use Rattle.series_book.specs.declared.one_series.Series.{Series}
 use Rattle.disk_store.specs.Held.{HoldsBook}
 use Rattle.disk_store.specs.Openings.{Opens}
 use Rattle.disk_store.proofs.Lowered.{holds_closed}
+use Rattle.stored_book.specs.Damage.{IsBadForRequest}
 use Rattle.stored_book.specs.Standing.{StandsForBook, RecoversTo}
 use Rattle.zoom_session.specs.declared.session.Session.{Session}
 use Rattle.chart_service.specs.MomentLaws.{since_none, since_both}
@@ -27,7 +28,6 @@ use Rattle.demo_workload.specs.declared.demo_end.DemoEnd.TheVariants.{DiskFault,
 use Rattle.demo_workload.specs.declared.summaries.Summary.{Summary}
 use Rattle.demo_workload.specs.Ending.{IsOutside, IsCause}
 use Rattle.demo_workload.specs.Replying.{Summarizes, IsPartWay}
-use Rattle.series_catalog.specs.declared.stored_series.StoredSeries.{StoredSeries}
 use Rattle.store_commands.specs.Books.{OfBook, FromBook, begun}
 use Rattle.store_commands.proofs.Held.{held, stands_held, within_held, from_book, risen_since}
 use Rattle.store_commands.proofs.Moments.{since_opened, since_worked, opened_quiet, opened_goes, sent_so}
@@ -73,27 +73,29 @@ answered_none requests count at = record {
 abbrev pub Numbered : Type 0
 Numbered = (frame : Frame) (old : List Holding) (e : ClientError) → Rejects frame e old → HasNumber e
 
-cause_of : (end : DemoEnd) (told : Type 0) (catalog : List StoredSeries) (total count count' : ℕ) (sound sound' : Bool) (old new : View) → IsCause end told catalog total (pages_view count sound old) (pages_view count' sound' new) → IsEndCause end old new
-cause_of DiskFault told catalog total count count' sound sound' old new is = is
-cause_of (Damaged page) told catalog total count count' sound sound' old new is = tt
-cause_of (Missing key) told catalog total count count' sound sound' old new is = is
-cause_of (BadCoefficient key) told catalog total count count' sound sound' old new is = is
-cause_of NoMemory told catalog total count count' sound sound' old new is = tt
+cause_of : (end : DemoEnd) (count count' : ℕ) (sound sound' : Bool) (old new : View) → count' ≡ count → IsCause end (Honest new) (pages_view count sound old) (pages_view count' sound' new) → IsEndCause end count old new
+cause_of DiskFault count count' sound sound' old new same is = is
+cause_of (Damaged page) count count' sound sound' old new same is =
+    let C : ℕ → Type 0 = λ n. IsBadForRequest n (pages_of n new.image) page in
+    record { page = page; place_is = refl; within = omega (arith, is.0, same); bad = λ honest. subst C same (is.1 honest) }
+cause_of (Missing key) count count' sound sound' old new same is = is
+cause_of (BadCoefficient key) count count' sound sound' old new same is = is
+cause_of NoMemory count count' sound sound' old new same is = tt
 
-number_of : Numbered → (end : DemoEnd) (old new : View) → IsEndCause end old new → HasNumberedKey end
-number_of law DiskFault old new is = tt
-number_of law (Damaged page) old new is = tt
-number_of law (Missing key) old new is = law is.frame is.holdings (client.Missing key) is.rejected
-number_of law (BadCoefficient key) old new is = law is.frame is.holdings (client.BadCoefficient key) is.rejected
-number_of law NoMemory old new is = tt
+number_of : Numbered → (end : DemoEnd) (count : ℕ) (old new : View) → IsEndCause end count old new → HasNumberedKey end
+number_of law DiskFault count old new is = tt
+number_of law (Damaged page) count old new is = tt
+number_of law (Missing key) count old new is = law is.frame is.holdings (client.Missing key) is.rejected
+number_of law (BadCoefficient key) count old new is = law is.frame is.holdings (client.BadCoefficient key) is.rejected
+number_of law NoMemory count old new is = tt
 
-cause_in : (answer : Result Summary DemoEnd) (told : Type 0) (catalog : List StoredSeries) (total count count' : ℕ) (sound sound' : Bool) (old new : View) → IfErr answer (λ end. IsCause end told catalog total (pages_view count sound old) (pages_view count' sound' new)) → IfErr answer (λ end. IsEndCause end old new)
-cause_in (Ok summary) told catalog total count count' sound sound' old new is = tt
-cause_in (Err end) told catalog total count count' sound sound' old new is = cause_of end told catalog total count count' sound sound' old new is
+cause_in : (answer : Result Summary DemoEnd) (count count' : ℕ) (sound sound' : Bool) (old new : View) → count' ≡ count → IfErr answer (λ end. IsCause end (Honest new) (pages_view count sound old) (pages_view count' sound' new)) → IfErr answer (λ end. IsEndCause end count old new)
+cause_in (Ok summary) count count' sound sound' old new same is = tt
+cause_in (Err end) count count' sound sound' old new same is = cause_of end count count' sound sound' old new same is
 
-number_in : Numbered → (answer : Result Summary DemoEnd) (old new : View) → IfErr answer (λ end. IsEndCause end old new) → IfErr answer HasNumberedKey
-number_in law (Ok summary) old new is = tt
-number_in law (Err end) old new is = number_of law end old new is
+number_in : Numbered → (answer : Result Summary DemoEnd) (count : ℕ) (old new : View) → IfErr answer (λ end. IsEndCause end count old new) → IfErr answer HasNumberedKey
+number_in law (Ok summary) count old new is = tt
+number_in law (Err end) count old new is = number_of law end count old new is
 
 module _ (requests : List Request) (count count' : ℕ) (sound sound' : Bool) (old new : View) (sessions : List Session)
     (same : count' ≡ count) (told : Honest old → Honest new) (faults : old.faults ≤ new.faults) (beside : new.beside ≡ old.beside) (goes : GoesOn old new) where
@@ -136,7 +138,7 @@ module _ (requests : List Request) (count count' : ℕ) (sound sound' : Bool) (o
       sent_so (pages_view count sound old) (pages_view count' sound' new) (IsPartWay requests total (begun total book)) (of_pages Passed passes total book holds) new.clock goes.later (omega arith)
 
   answered_alone : (answer : Result Summary DemoEnd) → OfPages (λ total book. IfOk answer (Done total book)) → OfPages (λ total book. IfErr answer IsOutside) → OfPages Passed → OfPages (λ total book. IfErr answer (Left total book))
-      → IfErr answer (λ end. IsEndCause end old new) → IfErr answer HasNumberedKey → (answer ≢ Err DiskFault → IsClosed new) → Answered requests count old new answer
+      → IfErr answer (λ end. IsEndCause end count old new) → IfErr answer HasNumberedKey → (answer ≢ Err DiskFault → IsClosed new) → Answered requests count old new answer
   answered_alone (Ok summary) done standing passes left cause numbered closed = record {
     done = from_book count count' old new same told sessions (λ start state. Summarizes requests start state summary) (closed (λ e. cc)) (of_pages (λ total book. Done total book summary) done);
     stopped = tt;
@@ -162,11 +164,11 @@ module _ (requests : List Request) (count count' : ℕ) (sound sound' : Bool) (o
     goes_on = goes;
   }
 
-  pub answered_by : Numbered → (catalog : List StoredSeries) (all : ℕ) (answer : Result Summary DemoEnd) → OfPages (λ total book. IfOk answer (Done total book)) → OfPages (λ total book. IfErr answer IsOutside) → OfPages Passed → OfPages (λ total book. IfErr answer (Left total book))
-      → IfErr answer (λ end. IsCause end (Honest new) catalog all (pages_view count sound old) (pages_view count' sound' new)) → (answer ≢ Err DiskFault → IsClosed new) → Answered requests count old new answer
-  answered_by law catalog all answer done standing passes left cause closed =
-      let is = cause_in answer (Honest new) catalog all count count' sound sound' old new cause in
-      answered_alone answer done standing passes left is (number_in law answer old new is) closed
+  pub answered_by : Numbered → (answer : Result Summary DemoEnd) → OfPages (λ total book. IfOk answer (Done total book)) → OfPages (λ total book. IfErr answer IsOutside) → OfPages Passed → OfPages (λ total book. IfErr answer (Left total book))
+      → IfErr answer (λ end. IsCause end (Honest new) (pages_view count sound old) (pages_view count' sound' new)) → (answer ≢ Err DiskFault → IsClosed new) → Answered requests count old new answer
+  answered_by law answer done standing passes left cause closed =
+      let is = cause_in answer count count' sound sound' old new same cause in
+      answered_alone answer done standing passes left is (number_in law answer count old new is) closed
 
 -- ---- and the store was opened before
 
@@ -178,12 +180,12 @@ leaves_on requests old mid new opens leaves = λ total book holds.
     since_both old mid new IsSo (since_opened IsSo old mid total book opens holds (λ image is. ahead_none requests count total book (sent_now old) image is))
     (subst P (opened_quiet old mid opens) (leaves total book (held old mid opens total book holds)))
 
-cause_on : (end : DemoEnd) (old mid new : View) → old.faults ≤ mid.faults → IsEndCause end mid new → IsEndCause end old new
-cause_on DiskFault old mid new low is = risen_since old.faults mid.faults new.faults low is
-cause_on (Damaged page) old mid new low is = tt
-cause_on (Missing key) old mid new low is = is
-cause_on (BadCoefficient key) old mid new low is = is
-cause_on NoMemory old mid new low is = tt
+cause_on : (end : DemoEnd) (count : ℕ) (old mid new : View) → old.faults ≤ mid.faults → IsEndCause end count mid new → IsEndCause end count old new
+cause_on DiskFault count old mid new low is = risen_since old.faults mid.faults new.faults low is
+cause_on (Damaged page) count old mid new low is = is
+cause_on (Missing key) count old mid new low is = is
+cause_on (BadCoefficient key) count old mid new low is = is
+cause_on NoMemory count old mid new low is = tt
 
 answered_on : (requests : List Request) (old mid new : View) (answer : Result Summary DemoEnd) → Opens (page_count old.size) old mid → Answered requests (page_count old.size) mid new answer → Answered requests (page_count old.size) old new answer
 answered_on requests old mid new (Ok summary) opens a = record {
@@ -202,7 +204,7 @@ answered_on requests old mid new (Err end) opens a = record {
   done = tt;
   stopped = λ other total book holds. a.stopped other total book (held old mid opens total book holds);
   outside = λ total book holds. a.outside total book (held old mid opens total book holds);
-  cause = cause_on end old mid new opens.faults a.cause;
+  cause = cause_on end (page_count old.size) old mid new opens.faults a.cause;
   numbered = a.numbered;
   crash = leaves_on requests old mid new opens a.crash;
   quiet = λ total book holds. a.quiet total book (held old mid opens total book holds) ∙ opened_quiet old mid opens;

@@ -6,8 +6,6 @@ use Rattle.block_disk.specs.View.{View, Now, DiskKept, Passes, sent_now}
 use Rattle.gate_pages.specs.GateLaws.{goes_by, goes_then}
 use Rattle.gate_pages.specs.Journal.{page_count}
 use Rattle.request_lines.specs.declared.requests.Request.{Request}
-use Rattle.series_book.specs.declared.one_series.Series.{Series}
-use Rattle.disk_store.specs.Held.{HoldsBook}
 use Rattle.chart_service.specs.State.{State}
 use Rattle.demo_workload.specs.declared.summaries.Summary.{Summary}
 use Rattle.demo_workload.specs.Replying.{Summarizes}

@@ -1,5 +1,5 @@
 -- What is done over the pages of a disk, in the words of the disk.
-use Rattle.std.proofs.Common.{◌≡◌, ℕ, ◌≤◌, List, refl, sym, ap, subst, arith, inl, inr}
+use Rattle.std.proofs.Common.{◌≡◌, ℕ, ◌≤◌, List, refl, sym, subst, arith, inl, inr}
 use Rattle.block_disk.specs.Counts.{HasRisen}
 use Rattle.block_disk.specs.View.{Image, View, Now, Honest, DiskKept, Passes}
 use Rattle.block_disk.proofs.Passing.{now_back}
@@ -15,7 +15,7 @@ use Rattle.stored_book.specs.Standing.{StandsForBook}
 use Rattle.zoom_session.specs.declared.session.Session.{Session}
 use Rattle.chart_service.specs.State.{State}
 use Rattle.chart_service.specs.Stepping.{StandsAfter, state_of}
-use Rattle.store_commands.specs.Books.{begun, OfBook, FromBook, IsOn, HoldsPages}
+use Rattle.store_commands.specs.Books.{begun, OfBook, FromBook, HoldsPages}
 
 -- the book that the disk holds is the one that the pages stand for
 pub stands_held : (count total : ℕ) (book : List Series) (disk : View) → HoldsBook count total book disk → StandsForBook (pages_of count disk.image) total book
@@ -42,6 +42,14 @@ holds_pages count total IsSo disk closed honest within so = record {
       let P : Image → Type 0 = λ i. IsReadable count i × (pages_of count i ≡ pages_of count disk.image) in
       subst P (sym (closed.only image left)) (closed_readable count disk.image (closed.gate honest), refl);
 }
+
+-- a disk at rest holds the book that it held where its pages are the same
+pub holds_same : (count count' total : ℕ) (book : List Series) (old new : View) → count' ≡ count → (Honest old → Honest new) → (Honest old → pages_of count' new.image ≡ pages_of count old.image) → IsClosed new → HoldsBook count total book old → HoldsBook count total book new
+holds_same count count' total book old new counted told same closed holds =
+    let P : Image → Type 0 = λ pages. StandsForBook pages total book in
+    let C : ℕ → Type 0 = λ c. StandsForBook (pages_of c new.image) total book in
+    holds_closed count total book new closed (told holds.honest) (within_held count total book old holds)
+    (subst C counted (subst P (sym (same holds.honest)) (stands_held count total book old holds)))
 
 -- what a disk holds it holds on while a text is sent
 pub holds_sent : (count total : ℕ) (book : List Series) (old new : View) (sent : ℕ → Type 0) → DiskKept old new → Passes old new (Now old) sent → HoldsBook count total book old → HoldsBook count total book new

@@ -5,6 +5,12 @@ pub mod LoadStored
 pub mod LoadEnds
 pub mod CheckLooks
 pub mod CheckEnds
+pub mod Unopened
+pub mod ListEnds
+pub mod ExportEnds
+pub mod CopyLemmas
 pub mod DemoRequests
 pub mod DemoSent
 pub mod DemoEnds
+pub mod TurnedAway
+pub mod HoldsAgain

@@ -66,7 +66,7 @@ module _ (name : List ℕ) (old mid new : View) (opens : Opens (page_count old.s
   cause_on ReadFault reads reads_now is = is
   cause_on InputTooLong reads reads_now is = tt
   cause_on DiskFault reads reads_now is = risen_since old.faults mid.faults new.faults opens.faults is
-  cause_on (Damaged page) reads reads_now is = λ total book holds. is total book (held old mid opens total book holds)
+  cause_on (Damaged page) reads reads_now is = (λ total book holds. is.0 total book (held old mid opens total book holds), is.1)
   cause_on NoMemory reads reads_now is = tt
 
   abbrev Stays : View → ℕ → List Series → Type 0
@@ -234,7 +234,7 @@ opening_ends name old new left left' before now reads reads_now sends sends_now 
   send = λ is. absurd (omega (arith, is));
   part = λ is. absurd (omega (arith, is));
   fault = λ is. absurd (omega (arith, is));
-  damaged = λ is. prevents.1.0;
+  damaged = λ is. inl prevents.1;
   undamaged = λ is total book holds. unopened block (a_store total book holds.honest (holds.images old.image holds.honest));
   bad = λ is. absurd (omega (arith, is));
   much = λ is. absurd (omega (arith, is));
@@ -459,8 +459,8 @@ stopped_ends name old new left left' before now reads reads_now sends sends_now 
   send = λ is. absurd (omega (arith, is));
   part = λ is. absurd (omega (arith, is));
   fault = λ is. absurd (omega (arith, is));
-  damaged = λ is. inr (omega arith);
-  undamaged = λ is. s.cause;
+  damaged = λ is. inr s.cause.1;
+  undamaged = λ is. s.cause.0;
   bad = λ is. absurd (omega (arith, is));
   much = λ is. absurd (omega (arith, is));
   past = λ is. absurd (omega (arith, is));

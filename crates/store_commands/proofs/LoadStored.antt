@@ -1,5 +1,5 @@
 -- What a load does over a store on a disk, in the words of the disk.
-use Rattle.std.proofs.Common.{◌≡◌, ◌≢◌, ◌↔◌, ℕ, zero, suc, ◌≤◌, ◌<◌, ◌⊎◌, ◌^◌, pos, Bool, List, [], ◌∷◌, length, Option, Some, None, Result, Ok, Err, IfSome, refl, sym, ap, subst, inl, inr, arith, ◌∙◌}
+use Rattle.std.proofs.Common.{◌≡◌, ◌≢◌, ◌↔◌, ℕ, zero, suc, ◌+◌, ◌≤◌, ◌<◌, ◌⊎◌, ◌^◌, pos, Bool, List, [], ◌∷◌, length, Option, Some, None, Result, Ok, Err, IfSome, refl, sym, ap, subst, inl, inr, arith, ◌∙◌}
 use Rattle.std.specs.Prelude.{IfErr, OnOk, slice_get, bytes_eq}
 use Rattle.std.proofs.lemmas.List.Quantifiers.{position-Some}
 use Rattle.block_disk.specs.View.{Image, View, Honest, Passes, sent_now}
@@ -9,6 +9,7 @@ use Rattle.gate_pages.specs.Pages.{GoesOn, Quiet}
 use Rattle.series_book.specs.declared.one_series.Series.{Series}
 use Rattle.series_book.specs.Edits.{id_of}
 use Rattle.disk_store.specs.Held.{HoldsBook}
+use Rattle.stored_book.specs.Damage.{IsBadForEdit}
 use Rattle.stored_book.specs.Standing.{StandsForBook, RecoversTo}
 use Rattle.chart_service.specs.MomentLaws.{since_none}
 use Rattle.chart_service.specs.Moments.{Since}
@@ -18,6 +19,7 @@ use Rattle.series_load.specs.declared.load_end.LoadEnd.{LoadEnd}
 use Rattle.series_load.specs.declared.load_end.LoadEnd.TheVariants.{UnknownSeries, BadLine, Refused, ReadFault, InputTooLong, DiskFault, Damaged, NoMemory}
 use Rattle.series_load.specs.Steps.{IsSoundFor}
 use Rattle.series_load.proofs.Knowing.{some_at_first}
+use Rattle.store_commands.specs.Damaged.{IsDamagedLater}
 use Rattle.store_commands.specs.Books.{OfBook, Never, IsOn, HoldsPages}
 use Rattle.store_commands.proofs.Held.{stands_held, within_held, holds_pages}
 use Rattle.store_commands.proofs.Moments.{since_worked, sent_so}
@@ -153,15 +155,20 @@ module _ (name : List ℕ) (count count' : ℕ) (sound sound' : Bool) (old new :
     | inr named ↦ (comes total book named.0 holds.honest (stands_held count total book old holds) named.1).some
   ]
 
-  cause_by : (e : LoadEnd) (total reads reads_now : ℕ) → IsLoadCause e total (pages_view count sound old) (pages_view count' sound' new) reads reads_now → Comes (Err e) → Finds (Err e) → IsEndCause e count old new reads reads_now
-  cause_by UnknownSeries total reads reads_now is comes finds = tt
-  cause_by (BadLine at) total reads reads_now is comes finds = tt
-  cause_by (Refused at refusal) total reads reads_now is comes finds = tt
-  cause_by ReadFault total reads reads_now is comes finds = is
-  cause_by InputTooLong total reads reads_now is comes finds = tt
-  cause_by DiskFault total reads reads_now is comes finds = is
-  cause_by (Damaged page) total reads reads_now is comes finds = damaged_by page comes finds
-  cause_by NoMemory total reads reads_now is comes finds = tt
+  bad_by : (page total : ℕ) → total ≤ count' → (page < total) × (Honest new → IsBadForEdit count' (pages_of count' new.image) page) → IsDamagedLater IsBadForEdit count new (66 + page)
+  bad_by page total few is =
+      let C : ℕ → Type 0 = λ n. IsBadForEdit n (pages_of n new.image) page in
+      record { page = page; place_is = refl; within = omega (arith, is.0, few, same); bad = λ honest. subst C same (is.1 honest) }
+
+  cause_by : (e : LoadEnd) (total reads reads_now : ℕ) → total ≤ count' → IsLoadCause e (Honest new) total (pages_view count sound old) (pages_view count' sound' new) reads reads_now → Comes (Err e) → Finds (Err e) → IsEndCause e count old new reads reads_now
+  cause_by UnknownSeries total reads reads_now few is comes finds = tt
+  cause_by (BadLine at) total reads reads_now few is comes finds = tt
+  cause_by (Refused at refusal) total reads reads_now few is comes finds = tt
+  cause_by ReadFault total reads reads_now few is comes finds = is
+  cause_by InputTooLong total reads reads_now few is comes finds = tt
+  cause_by DiskFault total reads reads_now few is comes finds = is
+  cause_by (Damaged page) total reads reads_now few is comes finds = (damaged_by page comes finds, bad_by page total few is)
+  cause_by NoMemory total reads reads_now few is comes finds = tt
 
   named_by_load : (answer : Result ℕ LoadEnd) → Finds answer → OfSeries count old name (λ total book series. answer ≢ Err UnknownSeries)
   named_by_load answer finds = λ total book holds series named is.
@@ -184,10 +191,10 @@ module _ (name : List ℕ) (count count' : ℕ) (sound sound' : Bool) (old new :
         so.1,
       )
 
-  pub stores_by : (answer : Result ℕ LoadEnd) (before now : Option (List ℕ)) (total_now reads reads_now sends sends_now : ℕ) → Comes answer → Finds answer → OnOk answer (IfSome left (λ input. length input ≤ 2 ^ 32)) → IfErr answer (λ e. IsLoadCause e total_now (pages_view count sound old) (pages_view count' sound' new) reads reads_now)
+  pub stores_by : (answer : Result ℕ LoadEnd) (before now : Option (List ℕ)) (total_now reads reads_now sends sends_now : ℕ) → Comes answer → Finds answer → OnOk answer (IfSome left (λ input. length input ≤ 2 ^ 32)) → total_now ≤ count' → IfErr answer (λ e. IsLoadCause e (Honest new) total_now (pages_view count sound old) (pages_view count' sound' new) reads reads_now)
       → (answer ≢ Err DiskFault → IsClosed new) → (answer ≡ Err UnknownSeries → (new ≡ old) × (left' ≡ left)) → now ≡ before → sends_now ≡ sends → reads ≤ reads_now → old.faults ≤ new.faults
       → Stores name count old new left left' before now reads reads_now sends sends_now answer
-  stores_by (Ok readings) before now total_now reads reads_now sends sends_now comes finds within cause closed stays sent_is sends_is reads_rise faults = record {
+  stores_by (Ok readings) before now total_now reads reads_now sends sends_now comes finds within few cause closed stays sent_is sends_is reads_rise faults = record {
     done = done_by left readings (λ total book series honest stands named. (comes total book series honest stands named).done) (closed (λ is. cc));
     within = within;
     some = λ other. some_by (Ok readings) comes other (closed other);
@@ -204,12 +211,12 @@ module _ (name : List ℕ) (count count' : ℕ) (sound sound' : Bool) (old new :
     faults = faults;
     goes_on = goes;
   }
-  stores_by (Err e) before now total_now reads reads_now sends sends_now comes finds within cause closed stays sent_is sends_is reads_rise faults = record {
+  stores_by (Err e) before now total_now reads reads_now sends sends_now comes finds within few cause closed stays sent_is sends_is reads_rise faults = record {
     done = tt;
     within = tt;
     some = λ other. some_by (Err e) comes other (closed other);
     stops = stops_by left e (λ total book series honest stands named. (comes total book series honest stands named).ends) (λ other. closed (λ is. other (err_same e DiskFault is)));
-    cause = cause_by e total_now reads reads_now cause comes finds;
+    cause = cause_by e total_now reads reads_now few cause comes finds;
     named = named_by_load (Err e) finds;
     unnamed = unnamed_by_load (Err e) finds;
     untouched = untouched_by (Err e) stays;

@@ -53,11 +53,11 @@ pub since_on : (IsSo : Image → ℕ → Type 0) (old mid new : View) → Since 
     → ((at : ℕ) (image : Image) → mid.clock < at → at ≤ new.clock → new.crash at image → IsSo image (new.sent_by at)) → Since old new IsSo
 since_on IsSo old mid new first goes later = since_then old mid new IsSo first (record { goes = goes; here = later })
 
--- At each moment of quiet calls over the pages of a disk, each image that a crash may leave can be read, and its pages
--- are so: they stand for some book.
+-- At each moment of calls over the pages of a disk, each image that a crash may leave can be read, and its pages are so:
+-- they stand for some book.
 module _ (count count' total : ℕ) (sound sound' : Bool) (mid new : View) (same : count' ≡ count) (within : total ≤ count)
-    (Q : Image → Type 0) (book_of : (pages : Image) → Q pages → List Series) (stand : (pages : Image) (is : Q pages) → StandsForBook pages total (book_of pages is))
-    (passes : Passes (pages_view count sound mid) (pages_view count' sound' new) Q (Quiet (pages_view count sound mid))) where
+    (Q : Image → Type 0) (S : ℕ → Type 0) (book_of : (pages : Image) → Q pages → List Series) (stand : (pages : Image) (is : Q pages) → StandsForBook pages total (book_of pages is))
+    (passes : Passes (pages_view count sound mid) (pages_view count' sound' new) Q S) where
   pub on_at : (at : ℕ) (image : Image) → mid.clock < at → at ≤ new.clock → new.crash at image → IsOn count total Q image
   on_at at image low high left =
       let P : ℕ → Type 0 = λ c. (pages : Image) → PagesOf c (new.crash at) pages → Q pages in
@@ -70,9 +70,6 @@ module _ (count count' total : ℕ) (sound sound' : Bool) (mid new : View) (same
         so = lowered_is count (new.crash at) Q total_of book_of stand all image left;
       }
 
-  pub quiet_at : (at : ℕ) → mid.clock < at → at ≤ new.clock → new.sent_by at ≡ sent_now mid
-  quiet_at at low high = passes.sent_here at low high
-
 -- so they are at the moments of work on the pages of an opened store
 pub since_worked : (IsSo : Image → ℕ → Type 0) (count count' total : ℕ) (sound sound' : Bool) (old mid new : View) (Q : Image → Type 0) (book_of : (pages : Image) → Q pages → List Series) → count' ≡ count → total ≤ count
     → ((pages : Image) (is : Q pages) → StandsForBook pages total (book_of pages is)) → Passes (pages_view count sound mid) (pages_view count' sound' new) Q (Quiet (pages_view count sound mid)) → GoesOn mid new → sent_now mid ≡ sent_now old
@@ -80,8 +77,8 @@ pub since_worked : (IsSo : Image → ℕ → Type 0) (count count' total : ℕ) 
 since_worked IsSo count count' total sound sound' old mid new Q book_of same within stand passes goes quiet so first =
     since_on IsSo old mid new first goes (λ at image low high left.
     let P : ℕ → Type 0 = λ sent. IsSo image sent in
-    subst P (sym (quiet_at count count' total sound sound' mid new same within Q book_of stand passes at low high ∙ quiet))
-    (so image (on_at count count' total sound sound' mid new same within Q book_of stand passes at image low high left)))
+    subst P (sym (passes.sent_here at low high ∙ quiet))
+    (so image (on_at count count' total sound sound' mid new same within Q (Quiet (pages_view count sound mid)) book_of stand passes at image low high left)))
 
 -- and while an answer is sent, where the images stay as they were before
 pub since_sent : (IsSo : Image → ℕ → Type 0) (old mid new : View) → Passes mid new (Now mid) (λ count. (sent_now mid ≤ count) × (count ≤ sent_now new)) → sent_now mid ≡ sent_now old

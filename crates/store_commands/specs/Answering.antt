@@ -12,6 +12,8 @@ use Rattle.demo_workload.specs.declared.summaries.Summary.{Summary}
 use Rattle.demo_workload.specs.Ending.{IsOutside, MeetsError}
 use Rattle.demo_workload.specs.Replying.{Summarizes}
 use Rattle.store_commands.specs.declared.status.Status.{Status}
+use Rattle.stored_book.specs.Damage.{IsBadForRequest}
+use Rattle.store_commands.specs.Damaged.{IsDamagedLater}
 use Rattle.store_commands.specs.Books.{OfBook, FromBook}
 use Rattle.store_commands.specs.Status.{status}
 use Rattle.store_commands.specs.Demonstrated.{AnswersFirst, LeavesDemo}
@@ -33,19 +35,19 @@ HasNumberedKey (BadCoefficient key) = key.index < 2 ^ 40
 HasNumberedKey NoMemory = ⊤
 
 -- why it wasn't; want of memory is free
-abbrev pub IsEndCause : DemoEnd → View → View → Type 0
-IsEndCause DiskFault old new = HasRisen old.faults new.faults
-IsEndCause (Damaged page) old new = ⊤
-IsEndCause (Missing key) old new = MeetsError (client.Missing key)
-IsEndCause (BadCoefficient key) old new = MeetsError (client.BadCoefficient key)
-IsEndCause NoMemory old new = ⊤
+abbrev pub IsEndCause : DemoEnd → ℕ → View → View → Type 0
+IsEndCause DiskFault count old new = HasRisen old.faults new.faults
+IsEndCause (Damaged page) count old new = IsDamagedLater IsBadForRequest count new (66 + page)
+IsEndCause (Missing key) count old new = MeetsError (client.Missing key)
+IsEndCause (BadCoefficient key) count old new = MeetsError (client.BadCoefficient key)
+IsEndCause NoMemory count old new = ⊤
 
 -- Requests were answered over the book that a disk holds, all of them or some first ones. Nothing was sent.
 pub record Answered (requests : List Request) (count : ℕ) (old new : View) (answer : Result Summary DemoEnd) : Type 0 where
   pub done : IfOk answer (λ summary. FromBook count old new (λ start state. Summarizes requests start state summary))
   pub stopped : IfErr answer (λ end. end ≢ DiskFault → FromBook count old new (AnswersFirst requests))
   pub outside : IfErr answer (λ end. OfBook count old (λ total book. IsOutside end))
-  pub cause : IfErr answer (λ end. IsEndCause end old new)
+  pub cause : IfErr answer (λ end. IsEndCause end count old new)
   pub numbered : IfErr answer HasNumberedKey
   pub crash : LeavesDemo requests count old new
   pub quiet : OfBook count old (λ total book. sent_now new ≡ sent_now old)

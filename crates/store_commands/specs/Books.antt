@@ -23,6 +23,10 @@ abbrev pub FromBook : ℕ → View → View → (State → State → Type 0) →
 FromBook count old new Done =
     OfBook count old (λ total book. (state : State) × Done (begun total book) state × HoldsBook count total state.book new)
 
+-- where the disk held a book, it holds one again
+abbrev pub HoldsAgain : ℕ → View → View → Type 0
+HoldsAgain count old new = OfBook count old (λ total book. (next : List Series) × HoldsBook count total next new)
+
 -- this doesn't come where the disk holds a book
 abbrev pub Never : ℕ → View → Type 0
 Never count disk = OfBook count disk (λ total book. ⊥)

@@ -1,18 +1,20 @@
 -- How a check of the disk's store ends, by its status.
-use Rattle.std.specs.Prelude.{◌≡◌, ◌≢◌, ℕ, ◌+◌, ◌<◌, ◌≤◌, ◌⊎◌, List, [], ◌∷◌, ◌++◌, Contains, Option, codes}
+use Rattle.std.specs.Prelude.{◌≡◌, ◌≢◌, ℕ, ◌<◌, ◌⊎◌, List, [], ◌∷◌, ◌++◌, Contains, Option, codes}
 use Rattle.std.specs.Fmt.{decimal}
 use Rattle.block_disk.specs.Counts.{HasRisen}
 use Rattle.block_disk.specs.Streams.{sent_after}
-use Rattle.block_disk.specs.View.{View, Honest}
+use Rattle.block_disk.specs.View.{Image, View, Honest}
 use Rattle.gate_pages.specs.Journal.{page_count, pages_of}
 use Rattle.gate_pages.specs.Pages.{GoesOn}
 use Rattle.page_space.specs.declared.superblock.Superblock.{Superblock}
-use Rattle.page_space.specs.Layout.{superblock_page}
-use Rattle.series_store.specs.Counting.{AreCounts, AreNumbers, AreSound, HasBadTree, HasBadLink}
+use Rattle.page_space.specs.Layout.{superblock_page, IsSuperblock}
+use Rattle.path_repair.specs.Damage.{HasBadLink}
+use Rattle.series_store.specs.Counting.{AreCounts, AreNumbers, AreSound, HasBadTree}
 use Rattle.series_store.specs.declared.counts.Counts.{Counts}
 use Rattle.disk_store.specs.Held.{HoldsBook}
-use Rattle.disk_store.specs.Openings.{IsDamagedBlock}
+use Rattle.stored_book.specs.Damage.{SaysNumbers}
 use Rattle.stored_book.specs.Standing.{AreCatalog}
+use Rattle.store_commands.specs.Damaged.{IsDamagedPlace}
 use Rattle.store_commands.specs.Books.{OfBook, Never, LeavesSame, SendsPartOf}
 
 -- the three lines of a check
@@ -20,11 +22,12 @@ unfoldable pub counts_text : Counts → List ℕ
 counts_text counts =
     codes "series " ++ (decimal counts.series ++ (codes "\nvalues " ++ (decimal counts.values ++ (codes "\npages " ++ (decimal counts.used ++ (codes " of " ++ (decimal counts.total ++ codes "\n")))))))
 
--- The pages for which the disk stands are sound, all of them: page 0 has these numbers, which are those that were counted,
+-- The pages for which the disk stands are sound, all of them: page 0 has these numbers, in range, which are those that were counted,
 -- the pages of the catalog keep their layout, and those of the trees and of the chain are right for their places.
 pub record AreWhole (count : ℕ) (disk : View) (counts : Counts) : Type 0 where
   pub superblock : Superblock
   pub numbers : AreNumbers superblock counts
+  pub rules : IsSuperblock count superblock
   pub spelled : Honest disk → pages_of count disk.image 0 ≡ superblock_page superblock
   pub catalog : Honest disk → AreCatalog (pages_of count disk.image) superblock.fresh superblock.series
   pub sound : Honest disk → AreSound (pages_of count disk.image) superblock
@@ -43,13 +46,9 @@ pub record SendsCountsPart (count : ℕ) (disk : View) (before now : Option (Lis
   pub whole : AreWhole count disk counts
   pub sent : SendsPartOf (counts_text counts) before now
 
--- this block is a page of the trees or of the chain, by the numbers of page 0, that is bad for its place
-pub record IsBadPart (count : ℕ) (disk : View) (place : ℕ) : Type 0 where
-  pub page : ℕ
-  pub place_is : place ≡ 66 + page
-  pub superblock : Superblock
-  pub spelled : Honest disk → pages_of count disk.image 0 ≡ superblock_page superblock
-  pub bad : Honest disk → HasBadTree (pages_of count disk.image) superblock page ⊎ HasBadLink (pages_of count disk.image) superblock superblock.chain page
+-- the page is below the total that page 0 says, and is one of the trees or of the chain that is bad for its place
+abbrev pub IsBadForCheck : ℕ → Image → ℕ → Type 0
+IsBadForCheck count image page = SaysNumbers count image (λ s. (page < s.total) × (HasBadTree image s page ⊎ HasBadLink image s s.chain page))
 
 -- What a check sent and left, and why it ended, by the status.
 pub record CheckEnds (old new : View) (before now : Option (List ℕ)) (sends sends_now code place : ℕ) : Type 0 where
@@ -58,7 +57,7 @@ pub record CheckEnds (old new : View) (before now : Option (List ℕ)) (sends se
   pub send : code ≡ 5 → HasRisen sends sends_now
   pub part : code ≡ 5 → SendsCountsPart (page_count old.size) old before now
   pub fault : code ≡ 6 → HasRisen old.faults new.faults
-  pub damaged : code ≡ 7 → ((place ≡ 1) ⊎ (66 ≤ place)) × ((Honest old → IsDamagedBlock (page_count old.size) old.image place) ⊎ IsBadPart (page_count old.size) old place)
+  pub damaged : code ≡ 7 → IsDamagedPlace IsBadForCheck old old place
   pub undamaged : code ≡ 7 → Never (page_count old.size) old
   pub small : code ≡ 12 → (place ≡ old.size) × (old.size < 128)
   pub nothing : code ≢ 0 → code ≢ 5 → now ≡ before

@@ -6,11 +6,12 @@ use Rattle.gate_pages.specs.Pages.{GoesOn}
 use Rattle.series_store.specs.declared.errors.StoreError.{StoreError}
 use Rattle.series_store.specs.declared.errors.StoreError.TheVariants as of_store
 use Rattle.disk_store.specs.Held.{HoldsBook}
+use Rattle.store_commands.specs.Damaged.{IsDamagedLater}
 use Rattle.store_commands.specs.Books.{OfBook, Never, LeavesSame}
 use Rattle.store_commands.specs.Status.{status}
 use Rattle.store_commands.specs.Traffic.{Traffic}
 use Rattle.store_commands.specs.declared.status.Status.{Status}
-use Rattle.store_commands.specs.Checked.{SendsCounts, SendsCountsPart, IsBadPart}
+use Rattle.store_commands.specs.Checked.{SendsCounts, SendsCountsPart, IsBadForCheck}
 
 -- the status of why a store wasn't counted
 abbrev pub check_status : StoreError → Status
@@ -24,7 +25,7 @@ check_status of_store.NoMemory = status 3 0
 pub record FindsBad (count : ℕ) (disk : View) (before now : Option (List ℕ)) (end : Status) : Type 0 where
   pub page : ℕ
   pub end_is : end ≡ status 7 (66 + page)
-  pub bad : IsBadPart count disk (66 + page)
+  pub bad : IsDamagedLater IsBadForCheck count disk (66 + page)
   pub none : Never count disk
   pub unsent : now ≡ before
 

@@ -1,5 +1,5 @@
 -- How the workload of a seed ends over the disk's store, by its status.
-use Rattle.std.specs.Prelude.{◌≡◌, ◌≢◌, ℕ, ◌<◌, ◌≤◌, ◌⊎◌, List, [], ◌∷◌, ◌++◌, Contains, Option}
+use Rattle.std.specs.Prelude.{◌≡◌, ◌≢◌, ℕ, ◌<◌, ◌≤◌, List, [], ◌∷◌, ◌++◌, Contains, Option}
 use Rattle.block_disk.specs.Counts.{HasRisen}
 use Rattle.block_disk.specs.Streams.{sent_after}
 use Rattle.block_disk.specs.View.{Image, View, sent_now}
@@ -11,6 +11,7 @@ use Rattle.gate_pages.specs.Journal.{page_count, pages_of}
 use Rattle.gate_pages.specs.Pages.{GoesOn}
 use Rattle.om3_coeff.specs.declared.key.Key.{Key}
 use Rattle.request_lines.specs.declared.requests.Request.{Request}
+use Rattle.stored_book.specs.Damage.{IsBadForRequest}
 use Rattle.stored_book.specs.Standing.{StandsForBook}
 use Rattle.chart_service.specs.Moments.{Since}
 use Rattle.chart_service.specs.State.{State}
@@ -19,6 +20,7 @@ use Rattle.demo_workload.specs.Ending.{MeetsError}
 use Rattle.demo_workload.specs.Replying.{AnswersEach, Summarizes, IsPartWay}
 use Rattle.demo_workload.specs.Summaries.{summary_line}
 use Rattle.demo_workload.specs.Workload.{workload}
+use Rattle.store_commands.specs.Damaged.{IsDamagedPlace}
 use Rattle.store_commands.specs.Books.{OfBook, FromBook, Never, SendsPartOf, begun}
 
 -- all requests were answered, and their summary was sent
@@ -60,7 +62,7 @@ pub record DemoEnds (seed rounds : ℕ) (old new : View) (before now : Option (L
   pub send : code ≡ 5 → HasRisen sends sends_now
   pub part : code ≡ 5 → FromBook (page_count old.size) old new (λ start state. SendsSummaryPart (workload seed rounds) start state before now)
   pub fault : code ≡ 6 → HasRisen old.faults new.faults
-  pub damaged : code ≡ 7 → (place ≡ 1) ⊎ (66 ≤ place)
+  pub damaged : code ≡ 7 → IsDamagedPlace IsBadForRequest old new place
   pub undamaged : code ≡ 7 → Never (page_count old.size) old
   pub missing : code ≡ 10 → Never (page_count old.size) old × ((key : Key) × (place ≡ key_number key) × MeetsError (client.Missing key))
   pub misfit : code ≡ 11 → Never (page_count old.size) old × ((key : Key) × (place ≡ key_number key) × MeetsError (client.BadCoefficient key))

@@ -1,11 +1,17 @@
 pub mod Status
 pub mod Books
 pub mod Traffic
+pub mod Away
 pub mod Sending
 pub mod Codes
+pub mod Damaged
 pub mod Loaded
 pub mod Storing
 pub mod Checked
 pub mod Checking
+pub mod Listed
+pub mod Exported
+pub mod Exporting
+pub mod Copied
 pub mod Demonstrated
 pub mod Answering

@@ -1,5 +1,5 @@
 -- How a load of the input into a series of the disk's store ends, by its status.
-use Rattle.std.specs.Prelude.{◌≡◌, ◌≢◌, ℕ, ◌+◌, ◌*◌, ◌<◌, ◌≤◌, ◌⊎◌, ◌^◌, List, [], ◌∷◌, ◌++◌, length, Contains, Option, Some, None, IfSome, codes}
+use Rattle.std.specs.Prelude.{◌≡◌, ◌≢◌, ℕ, ◌+◌, ◌*◌, ◌<◌, ◌≤◌, ◌^◌, List, [], ◌∷◌, ◌++◌, length, Contains, Option, Some, None, IfSome, codes}
 use Rattle.std.specs.Fmt.{decimal}
 use Rattle.block_disk.specs.Counts.{HasRisen}
 use Rattle.block_disk.specs.Streams.{sent_after}
@@ -12,6 +12,7 @@ use Rattle.series_book.specs.declared.refusals.Refusal.{Refusal}
 use Rattle.series_book.specs.Edits.{id_of}
 use Rattle.series_book.specs.Refusals.{number_of}
 use Rattle.disk_store.specs.Held.{HoldsBook}
+use Rattle.stored_book.specs.Damage.{IsBadForEdit}
 use Rattle.stored_book.specs.Standing.{RecoversTo}
 use Rattle.chart_service.specs.Moments.{Since}
 use Rattle.series_load.specs.Runs.{Run, AreFirst}
@@ -19,6 +20,7 @@ use Rattle.series_load.specs.Sets.{IsNamed, IsAfterSome, Loads}
 use Rattle.series_load.specs.Ends.{IsLoaded, IsAtBad, IsAtRefusal, IsTaken, IsPast}
 use Rattle.store_commands.specs.declared.status.Status.{Status}
 use Rattle.store_commands.specs.Traffic.{Traffic}
+use Rattle.store_commands.specs.Damaged.{IsDamagedPlace}
 use Rattle.store_commands.specs.Books.{OfBook, Never, SendsPartOf, HoldsPages}
 
 -- what is said of a load of so many readings
@@ -105,7 +107,7 @@ pub record LoadEnds (name : List ℕ) (old new : View) (left left' before now : 
   pub send : code ≡ 5 → HasRisen sends sends_now
   pub part : code ≡ 5 → IfSome left (λ input. LoadsAndSendsPart name (page_count old.size) old new input before now)
   pub fault : code ≡ 6 → HasRisen old.faults new.faults
-  pub damaged : code ≡ 7 → (place ≡ 1) ⊎ (66 ≤ place)
+  pub damaged : code ≡ 7 → IsDamagedPlace IsBadForEdit old new place
   pub undamaged : code ≡ 7 → Never (page_count old.size) old
   pub bad : code ≡ 8 → IfSome left (λ input. LoadsToBad name (page_count old.size) old new input place)
   pub much : code ≡ 9 → place ≡ 2 ^ 32

@@ -1,10 +1,10 @@
 -- What a load stores. Private contracts are stated by these words.
-use Rattle.std.specs.Prelude.{◌≡◌, ◌≢◌, ℕ, ◌+◌, ◌*◌, ◌≤◌, ◌^◌, List, length, Option, Some, Result, Err, IfOk, IfErr, IfSome, ⊤}
+use Rattle.std.specs.Prelude.{◌≡◌, ◌≢◌, ℕ, ◌+◌, ◌*◌, ◌≤◌, ◌^◌, List, length, Option, Result, Err, IfOk, IfErr, IfSome, ⊤}
 use Rattle.block_disk.specs.Counts.{HasRisen}
 use Rattle.block_disk.specs.View.{View, sent_now}
 use Rattle.gate_pages.specs.Pages.{GoesOn}
-use Rattle.series_book.specs.declared.one_series.Series.{Series}
 use Rattle.series_book.specs.Refusals.{number_of}
+use Rattle.stored_book.specs.Damage.{IsBadForEdit}
 use Rattle.stored_book.specs.Standing.{RecoversTo}
 use Rattle.disk_store.specs.Held.{HoldsBook}
 use Rattle.chart_service.specs.Moments.{Since}
@@ -14,6 +14,7 @@ use Rattle.series_load.specs.declared.load_end.LoadEnd.{LoadEnd}
 use Rattle.series_load.specs.declared.load_end.LoadEnd.TheVariants.{UnknownSeries, BadLine, Refused, ReadFault, InputTooLong, DiskFault, Damaged, NoMemory}
 use Rattle.store_commands.specs.declared.status.Status.{Status}
 use Rattle.store_commands.specs.Traffic.{Traffic}
+use Rattle.store_commands.specs.Damaged.{IsDamagedLater}
 use Rattle.store_commands.specs.Books.{OfBook, Never, IsOn, HoldsPages}
 use Rattle.store_commands.specs.Status.{status}
 use Rattle.store_commands.specs.Loaded.{OfSeries, Unnamed}
@@ -48,7 +49,7 @@ IsEndCause (Refused at refusal) count old new reads reads_now = ⊤
 IsEndCause ReadFault count old new reads reads_now = HasRisen reads reads_now
 IsEndCause InputTooLong count old new reads reads_now = ⊤
 IsEndCause DiskFault count old new reads reads_now = HasRisen old.faults new.faults
-IsEndCause (Damaged page) count old new reads reads_now = Never count old
+IsEndCause (Damaged page) count old new reads reads_now = Never count old × IsDamagedLater IsBadForEdit count new (66 + page)
 IsEndCause NoMemory count old new reads reads_now = ⊤
 
 -- The input was loaded over a disk, all of it or some first sets. Nothing was sent.

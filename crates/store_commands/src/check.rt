@@ -4,6 +4,7 @@ ghost use Rattle.block_disk.specs.View.{View};
 ghost use Rattle.series_store.specs.Shown as shown;
 ghost use Rattle.store_commands.specs.Checked.{CheckEnds, counts_text};
 ghost use Rattle.store_commands.specs.Checking.{ChecksOn, check_status};
+ghost use Rattle.store_commands.specs.Away.{TurnsAway};
 ghost use Rattle.store_commands.specs.Traffic.{traffic};
 
 use crate::sending::send_text;
@@ -17,7 +18,9 @@ use std::alloc::{AllocError, Global};
 /// Reads every page of the store of the world's disk, and sends three lines: `series N`, `values N` and
 /// `pages USED of TOTAL`.
 pub fn check_store<W: World>(alloc: Global, world: W) -> (Status, W)
-    ensures { CheckEnds (W.view world) (W.view result.1) (W.sent world) (W.sent result.1) (W.send_faults world) (W.send_faults result.1) result.0.code result.0.place }
+    ensures ends { CheckEnds (W.view world) (W.view result.1) (W.sent world) (W.sent result.1) (W.send_faults world) (W.send_faults result.1) result.0.code result.0.place }
+    ensures away { TurnsAway (W.view world) (traffic W.left W.sent W.read_faults W.send_faults world result.1) result.0 }
+    ensures untaken { W.left result.1 ≡ W.left world }
 {
     match open_store(alloc, world) {
         Ok(store) => check_opened(alloc, store),
@@ -28,7 +31,8 @@ pub fn check_store<W: World>(alloc: Global, world: W) -> (Status, W)
 /// The same over a store that is open.
 fn check_opened<W: World>(alloc: Global, mut store: Store<GatePages<W>>) -> (Status, W)
     requires { IsTrue (shown.pages store).sound }
-    ensures { let pages = shown.pages store in ChecksOn pages.count (W.view pages.disk) (W.view result.1) (traffic W.left W.sent W.read_faults W.send_faults pages.disk result.1) result.0 }
+    ensures checks { let pages = shown.pages store in ChecksOn pages.count (W.view pages.disk) (W.view result.1) (traffic W.left W.sent W.read_faults W.send_faults pages.disk result.1) result.0 }
+    ensures untaken { W.left result.1 ≡ W.left (shown.pages store).disk }
 {
     let counted = store.check();
     let world = disk_of(store);

@@ -1,11 +1,15 @@
 //! The command `demo`: the workload that a number makes is answered, and the summary of its replies is sent.
-ghost use Rattle.std.specs.Prelude.{◌≡◌, ◌≤◌, [], IsTrue};
+ghost use Rattle.std.specs.Prelude.{◌≡◌, ◌≢◌, ◌≤◌, [], IsTrue};
 ghost use Rattle.block_disk.specs.View.{View};
+ghost use Rattle.gate_pages.specs.Journal.{page_count};
 ghost use Rattle.series_store.specs.Shown as shown;
 ghost use Rattle.chart_service.specs.Shown as service_shown;
 ghost use Rattle.demo_workload.specs.Workload.{workload};
 ghost use Rattle.store_commands.specs.Answering.{Answered, HasNumberedKey, end_status};
+ghost use Rattle.store_commands.specs.Away.{TurnsAway};
+ghost use Rattle.store_commands.specs.Books.{HoldsAgain};
 ghost use Rattle.store_commands.specs.Demonstrated.{DemoEnds};
+ghost use Rattle.store_commands.specs.Traffic.{traffic};
 
 use crate::sending::send_text;
 use crate::status::{
@@ -25,7 +29,10 @@ use std::alloc::Global;
 /// for it, and sends one line: `requests R done D refused F views V sent S black P`.
 pub fn run_demo<W: World>(alloc: Global, seed: u64, rounds: u16, world: W) -> (Status, W)
     requires { rounds ≤ 4096 }
-    ensures { DemoEnds seed rounds (W.view world) (W.view result.1) (W.sent world) (W.sent result.1) (W.send_faults world) (W.send_faults result.1) result.0.code result.0.place }
+    ensures ends { DemoEnds seed rounds (W.view world) (W.view result.1) (W.sent world) (W.sent result.1) (W.send_faults world) (W.send_faults result.1) result.0.code result.0.place }
+    ensures holds { result.0.code ≢ DISK_FAULT → HoldsAgain (page_count (W.view world).size) (W.view world) (W.view result.1) }
+    ensures away { TurnsAway (W.view world) (traffic W.left W.sent W.read_faults W.send_faults world result.1) result.0 }
+    ensures untaken { W.left result.1 ≡ W.left world }
 {
     match open_store(alloc, world) {
         Ok(store) => {

@@ -1,9 +1,12 @@
 //! The command `load`: the readings of the input are stored in a series, and their number is sent.
-ghost use Rattle.std.specs.Prelude.{◌≡◌, IfOk, IsTrue};
+ghost use Rattle.std.specs.Prelude.{◌≡◌, ◌≢◌, IfOk, IsTrue};
 ghost use Rattle.block_disk.specs.View.{View};
+ghost use Rattle.gate_pages.specs.Journal.{page_count};
 ghost use Rattle.series_store.specs.Shown as shown;
 ghost use Rattle.store_commands.specs.Loaded.{EndsLoad, loaded_text};
 ghost use Rattle.store_commands.specs.Storing.{StoresOn, end_status};
+ghost use Rattle.store_commands.specs.Away.{TurnsAway};
+ghost use Rattle.store_commands.specs.Books.{HoldsAgain};
 ghost use Rattle.store_commands.specs.Traffic.{traffic};
 
 use crate::sending::send_text;
@@ -22,7 +25,9 @@ use std::alloc::{AllocError, Global};
 /// Stores the readings of the input, CSV lines, in the series of this name in the store of the world's disk,
 /// and sends how many there were: `loaded N` and a line feed.
 pub fn load_series<W: World>(alloc: Global, name: &Name, world: W) -> (Status, W)
-    ensures { EndsLoad name.now (W.view world) (W.view result.1) (traffic W.left W.sent W.read_faults W.send_faults world result.1) result.0 }
+    ensures ends { EndsLoad name.now (W.view world) (W.view result.1) (traffic W.left W.sent W.read_faults W.send_faults world result.1) result.0 }
+    ensures holds { result.0.code ≢ DISK_FAULT → HoldsAgain (page_count (W.view world).size) (W.view world) (W.view result.1) }
+    ensures away { TurnsAway (W.view world) (traffic W.left W.sent W.read_faults W.send_faults world result.1) result.0 }
 {
     match open_store(alloc, world) {
         Ok(store) => {

@@ -8,7 +8,8 @@ use block_disk::World;
 
 /// Sends a text, where there was memory to make it, and says how that ended.
 pub(crate) fn send_text<W: World, E: Drop>(made: Result<Vec<u8>, E>, mut world: W) -> (Status, W)
-    ensures { SendsMade made (W.view world) (W.view result.1) (W.sent world) (W.sent result.1) (W.send_faults world) (W.send_faults result.1) result.0 }
+    ensures sends { SendsMade made (W.view world) (W.view result.1) (W.sent world) (W.sent result.1) (W.send_faults world) (W.send_faults result.1) result.0 }
+    ensures left { W.left result.1 ≡ W.left world }
 {
     let Ok(text) = made else {
         return (ended(NO_MEMORY, 0), world);

@@ -57,9 +57,12 @@ pub const TOO_SMALL: u8 = 12;
 /// There is a store already. The place is the block of its page 0.
 pub const IS_STORE: u8 = 13;
 
-/// A load has no series of the name, and the place is 8; or a set of the input's readings is refused, and the
+/// A load or an export has no series of the name, and the place is 8; or a set of the input's readings is refused, and the
 /// place is 256 times the offset of the line of its first reading, and the number of the refusal.
 pub const REFUSED: u8 = 14;
+
+/// The place of `REFUSED` where the store has no series of the name.
+pub const UNKNOWN_SERIES: u64 = 8;
 
 /// A frame names a session that isn't open. The place is the session's number.
 pub const UNKNOWN_SESSION: u8 = 15;

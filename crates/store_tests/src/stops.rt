@@ -72,19 +72,48 @@ const FILLED: [Deed; 3] = [Deed::Make, Deed::Create, Deed::Append(200, 5)];
 /// A change of six pages: three of slots, the root, that of its record and page 0.
 const CHANGE: Deed = Deed::Set(100, 200, -50);
 
+/// A series whose 128 slots fill its one page.
+const PAGE: [Deed; 3] = [Deed::Make, Deed::Create, Deed::Append(128, 5)];
+
+/// One slot more: its page, a root above both, that of its record and page 0.
+const GROWTH: Deed = Deed::Append(1, 9);
+
+/// That slot is emptied: its page, which is freed, the root, that of its record and page 0.
+const FREEING: Deed = Deed::Clear(128, 1);
+
+/// Each way to tear what is pending, and how many pending opened gates it keeps. Other bytes close a gate or open it.
+const TEARS: [(Tear, u64); 5] = [
+    (Tear::Old, 0),
+    (Tear::New, 1),
+    (Tear::Half, 1),
+    (Tear::Junk(7), 0),
+    (Tear::Junk(1), 1),
+];
+
+/// The bytes of a disk on which a deed was stopped after so many calls, torn so.
+fn left_by(
+    alloc: Global,
+    image: &[u8],
+    deed: Deed,
+    calls: u64,
+    tear: Tear,
+) -> Result<Vec<u8>, Fail> {
+    let (_, disk) = run(alloc, image, deed, calls, &[])?;
+    bytes_of(alloc, disk.after_crash(tear)?, 0)
+}
+
 /// The bytes of a disk whose gate is open before the journal of the change: it was stopped at the last sync
 /// of pages, and the pages were lost.
 fn half_done(alloc: Global) -> Result<Vec<u8>, Fail> {
     let image = after(alloc, &FILLED)?;
     let ends = ends_of(alloc, image.as_slice(), CHANGE)?;
-    let (_, disk) = run(
+    left_by(
         alloc,
         image.as_slice(),
         CHANGE,
         ends.calls.saturating_sub(3),
-        &[],
-    )?;
-    bytes_of(alloc, disk.after_crash(Tear::Junk(7))?, 0)
+        Tear::Junk(7),
+    )
 }
 
 /// Behind the write that opens the gate come its sync, each page, a sync, the gate and a sync. A tear that
@@ -92,16 +121,18 @@ fn half_done(alloc: Global) -> Result<Vec<u8>, Fail> {
 #[test]
 fn a_stop_leaves_the_pages_before_or_after(rt: HostRuntime) -> Result<(), Fail> {
     let alloc = rt.alloc();
-    let empty = after(alloc, &[])?;
-    let filled = after(alloc, &FILLED)?;
-    for (tear, kept) in [
-        (Tear::Old, 0),
-        (Tear::New, 1),
-        (Tear::Half, 1),
-        (Tear::Junk(7), 0),
-        (Tear::Junk(1), 1),
+    for (image, deed, pages) in [
+        (after(alloc, &[])?, Deed::Make, 17u64),
+        (after(alloc, &[Deed::Make])?, Deed::Create, 2),
+        (after(alloc, &PAGE)?, GROWTH, 4),
+        (
+            after(alloc, &[PAGE[0], PAGE[1], PAGE[2], GROWTH])?,
+            FREEING,
+            4,
+        ),
+        (after(alloc, &FILLED)?, CHANGE, 6),
     ] {
-        for (image, deed, pages) in [(&empty, Deed::Make, 17u64), (&filled, CHANGE, 6)] {
+        for (tear, kept) in TEARS {
             let behind = calls_behind(alloc, image.as_slice(), deed, tear)?;
             assert_eq!(rt; behind, pages.saturating_add(3 + kept), "{deed:?} {tear:?}");
         }
@@ -109,7 +140,15 @@ fn a_stop_leaves_the_pages_before_or_after(rt: HostRuntime) -> Result<(), Fail> 
     Ok(())
 }
 
-/// An opening that replays a journal is stopped, and what it leaves is opened again.
+/// Whether an opening of these bytes leaves the same pages, wherever it is stopped.
+fn opens_alike(alloc: Global, image: &[u8], tear: Tear) -> Result<bool, Fail> {
+    let ends = ends_of(alloc, image, Deed::Open)?;
+    let behind = calls_behind(alloc, image, Deed::Open, tear)?;
+    Ok(behind == ends.calls)
+}
+
+/// An opening that replays a journal is stopped, what it leaves is opened, that is stopped too, and what is
+/// left then is opened.
 #[test]
 fn a_stopped_opening_leaves_the_pages(rt: HostRuntime) -> Result<(), Fail> {
     let alloc = rt.alloc();
@@ -117,15 +156,15 @@ fn a_stopped_opening_leaves_the_pages(rt: HostRuntime) -> Result<(), Fail> {
     let ends = ends_of(alloc, image.as_slice(), Deed::Open)?;
     let changed = after(alloc, &[FILLED[0], FILLED[1], FILLED[2], CHANGE])?;
     assert!(rt; changed.as_slice().ends_with(ends.before.as_slice()));
-    for tear in [
-        Tear::Old,
-        Tear::New,
-        Tear::Half,
-        Tear::Junk(7),
-        Tear::Junk(1),
-    ] {
-        let behind = calls_behind(alloc, image.as_slice(), Deed::Open, tear)?;
-        assert_eq!(rt; behind, ends.calls, "{tear:?}");
+    for (tear, _) in TEARS {
+        assert!(rt; opens_alike(alloc, image.as_slice(), tear)?, "{tear:?}");
+        for calls in 0..ends.calls {
+            let left = left_by(alloc, image.as_slice(), Deed::Open, calls, tear)?;
+            assert!(rt;
+                opens_alike(alloc, left.as_slice(), tear)?,
+                "{tear:?} {calls}"
+            );
+        }
     }
     Ok(())
 }
@@ -148,6 +187,9 @@ fn a_fault_of_each_call_is_told(rt: HostRuntime) -> Result<(), Fail> {
     let alloc = rt.alloc();
     for (image, deed) in [
         (after(alloc, &[])?, Deed::Make),
+        (after(alloc, &[Deed::Make])?, Deed::Create),
+        (after(alloc, &PAGE)?, GROWTH),
+        (after(alloc, &[PAGE[0], PAGE[1], PAGE[2], GROWTH])?, FREEING),
         (after(alloc, &FILLED)?, CHANGE),
         (half_done(alloc)?, Deed::Open),
     ] {

@@ -9,3 +9,5 @@ mod Depth
 mod Distinct
 mod Marks
 mod Counting
+pub mod Orders
+pub mod Grids

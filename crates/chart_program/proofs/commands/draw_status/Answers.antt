@@ -18,4 +18,4 @@ returns g c =
     let P : Status → Type 0 = λ s. CommandEnds Draw (view old) (view new) (left old) (left new) (sent old) (sent new) faults s.code s.place in
     subst P (sym c.drawing_status.ensures)
     (drawn (record { one = c.one_frame_a_spelling.ensures; told = c.length_is_told.ensures; good = c.spellings_are_good.ensures }) c.more_bytes_mend_nothing.ensures.stays
-    c.replies_draw_the_book.ensures c.one_session_draws_the_book.ensures (view old) (view new) (left old) (left new) (sent old) (sent new) faults c.draw-answer.result e.done e.within e.ends e.read e.send e.disk)
+    c.replies_draw_the_book.ensures c.one_session_draws_the_book.ensures c.replies_are_accepted.ensures c.own_replies_are_accepted.ensures (view old) (view new) (left old) (left new) (sent old) (sent new) faults c.draw-answer.result e.done e.within e.ends e.read e.send e.disk)

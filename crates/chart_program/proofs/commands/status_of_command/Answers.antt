@@ -3,6 +3,7 @@ use Rattle.program_words.specs.declared.words.Command.{Command}
 use Rattle.chart_program.specs.Served.{faults_of}
 use Rattle.chart_program.specs.Ran.{CommandEnds}
 use Rattle.chart_program.proofs.CommandsEnd.{load_ends, demo_ends, run_ends, serve_ends, init_ends, check_ends}
+use Rattle.chart_program.proofs.StoreShown.{list_ends, export_ends}
 use Rattle.chart_program.proofs.commands.status_of_command.Goals as goal
 
 pub returns-in-Plot : goal.returns-in-Plot
@@ -32,7 +33,7 @@ returns-in-Load g c =
     let e = c.load_series.ensures in
     let faults = faults_of (reads old) (reads new) (sends old) (sends new) in
     let P : Command → Type 0 = λ command. CommandEnds command (view old) (view new) (left old) (left new) (sent old) (sent new) faults status.code status.place in
-    subst P (sym c.in-Load.is) (load_ends c.in-Load.name (view old) (view new) (left old) (left new) (sent old) (sent new) faults status.code status.place e)
+    subst P (sym c.in-Load.is) (load_ends c.in-Load.name (view old) (view new) (left old) (left new) (sent old) (sent new) faults status.code status.place e.ends e.away e.holds)
 
 pub returns-in-Demo : goal.returns-in-Demo
 returns-in-Demo g c =
@@ -47,7 +48,7 @@ returns-in-Demo g c =
     let e = c.run_demo.ensures in
     let faults = faults_of (reads old) (reads new) (sends old) (sends new) in
     let P : Command → Type 0 = λ command. CommandEnds command (view old) (view new) (left old) (left new) (sent old) (sent new) faults status.code status.place in
-    subst P (sym c.in-Demo.is) (demo_ends c.in-Demo.seed c.in-Demo.count (view old) (view new) (left old) (left new) (sent old) (sent new) faults status.code status.place e)
+    subst P (sym c.in-Demo.is) (demo_ends c.in-Demo.seed c.in-Demo.count (view old) (view new) (left old) (left new) (sent old) (sent new) faults status.code status.place e.ends e.away e.untaken e.holds)
 
 pub returns-in-Run : goal.returns-in-Run
 returns-in-Run g c =
@@ -62,7 +63,7 @@ returns-in-Run g c =
     let e = c.run_status.ensures in
     let faults = faults_of (reads old) (reads new) (sends old) (sends new) in
     let P : Command → Type 0 = λ command. CommandEnds command (view old) (view new) (left old) (left new) (sent old) (sent new) faults status.code status.place in
-    subst P (sym c.in-Run.is) (run_ends (view old) (view new) (left old) (left new) (sent old) (sent new) faults status.code status.place e)
+    subst P (sym c.in-Run.is) (run_ends (view old) (view new) (left old) (left new) (sent old) (sent new) faults status.code status.place e.ends e.own e.away e.bars)
 
 pub returns-in-Serve : goal.returns-in-Serve
 returns-in-Serve g c =
@@ -77,7 +78,7 @@ returns-in-Serve g c =
     let e = c.serve_status.ensures in
     let faults = faults_of (reads old) (reads new) (sends old) (sends new) in
     let P : Command → Type 0 = λ command. CommandEnds command (view old) (view new) (left old) (left new) (sent old) (sent new) faults status.code status.place in
-    subst P (sym c.in-Serve.is) (serve_ends (view old) (view new) (left old) (left new) (sent old) (sent new) faults status.code status.place e)
+    subst P (sym c.in-Serve.is) (serve_ends (view old) (view new) (left old) (left new) (sent old) (sent new) faults status.code status.place e.ends e.own e.away e.bars)
 
 pub returns-in-Draw : goal.returns-in-Draw
 returns-in-Draw g c =
@@ -106,7 +107,7 @@ returns-in-Init g c =
     let e = c.init_status.ensures in
     let faults = faults_of (reads old) (reads new) (sends old) (sends new) in
     let P : Command → Type 0 = λ command. CommandEnds command (view old) (view new) (left old) (left new) (sent old) (sent new) faults status.code status.place in
-    subst P (sym c.in-Init.is) (init_ends (view old) (view new) (left old) (left new) (sent old) (sent new) faults status.code status.place e.codes e.fault e.small e.there e.place e.sent e.disk e.made e.ready)
+    subst P (sym c.in-Init.is) (init_ends (view old) (view new) (left old) (left new) (sent old) (sent new) faults status.code status.place e.codes e.away e.untaken e.fault e.small e.there e.place e.sent e.disk e.made e.ready)
 
 pub returns-in-Check : goal.returns-in-Check
 returns-in-Check g c =
@@ -121,4 +122,32 @@ returns-in-Check g c =
     let e = c.check_store.ensures in
     let faults = faults_of (reads old) (reads new) (sends old) (sends new) in
     let P : Command → Type 0 = λ command. CommandEnds command (view old) (view new) (left old) (left new) (sent old) (sent new) faults status.code status.place in
-    subst P (sym c.in-Check.is) (check_ends (view old) (view new) (left old) (left new) (sent old) (sent new) faults status.code status.place e)
+    subst P (sym c.in-Check.is) (check_ends (view old) (view new) (left old) (left new) (sent old) (sent new) faults status.code status.place e.ends e.away e.untaken)
+
+pub returns-in-ListSeries : goal.returns-in-ListSeries
+returns-in-ListSeries g c =
+    let view = g.W.Disk.view in
+    let left = g.W.Streams.left in
+    let sent = g.W.Streams.sent in
+    let reads = g.W.Streams.read_faults in
+    let sends = g.W.Streams.send_faults in
+    let old = c.args.world in
+    let new = c.list_series.result.1 in
+    let status = c.list_series.result.0 in
+    let faults = faults_of (reads old) (reads new) (sends old) (sends new) in
+    let P : Command → Type 0 = λ command. CommandEnds command (view old) (view new) (left old) (left new) (sent old) (sent new) faults status.code status.place in
+    subst P (sym c.in-ListSeries.is) (list_ends (view old) (view new) (left old) (left new) (sent old) (sent new) faults status.code status.place c.list_series.ensures.ends c.list_series.ensures.away c.list_series.ensures.untaken)
+
+pub returns-in-Export : goal.returns-in-Export
+returns-in-Export g c =
+    let view = g.W.Disk.view in
+    let left = g.W.Streams.left in
+    let sent = g.W.Streams.sent in
+    let reads = g.W.Streams.read_faults in
+    let sends = g.W.Streams.send_faults in
+    let old = c.args.world in
+    let new = c.export_values.result.1 in
+    let status = c.export_values.result.0 in
+    let faults = faults_of (reads old) (reads new) (sends old) (sends new) in
+    let P : Command → Type 0 = λ command. CommandEnds command (view old) (view new) (left old) (left new) (sent old) (sent new) faults status.code status.place in
+    subst P (sym c.in-Export.is) (export_ends c.in-Export.name c.in-Export.window (view old) (view new) (left old) (left new) (sent old) (sent new) faults status.code status.place c.export_values.ensures.ends c.export_values.ensures.away c.export_values.ensures.untaken)

@@ -1,6 +1,5 @@
 use Rattle.std.proofs.Common.{refl, ◌∙◌, arith}
-use Rattle.chart_service.proofs.DiskKept.{kept_none}
-use Rattle.chart_program.proofs.DiskKept.{kept_then}
+use Rattle.chart_program.proofs.DiskKept.{stays_none, stays_then}
 use Rattle.chart_program.proofs.Drawing.{drawn_none, drawn_frame, takes_so, shorter}
 use Rattle.chart_program.proofs.draw.draw_frames.Goals as goal
 
@@ -10,7 +9,7 @@ frames-init g c = record {
   send_faults = omega arith;
   left = refl;
   read_faults = refl;
-  disk = kept_none (g.S.Disk.view c.args.streams.now);
+  disk = stays_none (g.S.Disk.view c.args.streams.now);
 }
 
 pub frames-smaller-in_ok-draw_frame-in-Some : goal.frames-smaller-in_ok-draw_frame-in-Some
@@ -31,7 +30,7 @@ frames-preserved-in_ok-draw_frame-in-Some g c =
       send_faults = omega (arith, inv.send_faults, made.send_faults);
       left = made.left ∙ inv.left;
       read_faults = made.read_faults ∙ inv.read_faults;
-      disk = kept_then (view c.args.streams.now) (view c.frames.streams) (view c.draw_frame.new.streams) inv.disk made.disk;
+      disk = stays_then (view c.args.streams.now) (view c.frames.streams) (view c.draw_frame.new.streams) inv.disk made.disk;
     }
 
 pub frames-smaller-in_ok-draw_frame-in-Some-2 : goal.frames-smaller-in_ok-draw_frame-in-Some-2
@@ -52,7 +51,7 @@ frames-preserved-in_ok-draw_frame-in-Some-2 g c =
       send_faults = omega (arith, inv.send_faults, made.send_faults);
       left = made.left ∙ inv.left;
       read_faults = made.read_faults ∙ inv.read_faults;
-      disk = kept_then (view c.args.streams.now) (view c.frames.streams) (view c.draw_frame.new.streams) inv.disk made.disk;
+      disk = stays_then (view c.args.streams.now) (view c.frames.streams) (view c.draw_frame.new.streams) inv.disk made.disk;
     }
 
 pub frames-smaller : goal.frames-smaller
@@ -73,5 +72,5 @@ frames-preserved g c =
       send_faults = omega (arith, inv.send_faults, made.send_faults);
       left = made.left ∙ inv.left;
       read_faults = made.read_faults ∙ inv.read_faults;
-      disk = kept_then (view c.args.streams.now) (view c.frames.streams) (view c.draw_frame.new.streams) inv.disk made.disk;
+      disk = stays_then (view c.args.streams.now) (view c.frames.streams) (view c.draw_frame.new.streams) inv.disk made.disk;
     }

@@ -1,5 +1,5 @@
 use Rattle.std.proofs.Common.{◌≡◌, ◌≤◌, length}
-use Rattle.block_disk.specs.View.{DiskKept}
+use Rattle.chart_program.specs.Alone.{StaysAlone}
 use Rattle.chart_program.specs.Draws.{DrawsMore}
 use Rattle.chart_program.proofs.draw.draw_frames.Given as goal
 
@@ -10,7 +10,7 @@ invariant-frames g l = record {
   send_faults : g.S.Streams.send_faults l.initial.streams ≤ g.S.Streams.send_faults l.streams;
   left : g.S.Streams.left l.streams ≡ g.S.Streams.left l.initial.streams;
   read_faults : g.S.Streams.read_faults l.streams ≡ g.S.Streams.read_faults l.initial.streams;
-  disk : DiskKept (g.S.Disk.view l.initial.streams) (g.S.Disk.view l.streams);
+  disk : StaysAlone (g.S.Disk.view l.initial.streams) (g.S.Disk.view l.streams);
 }
 
 abbrev pub decreases-frames : goal.decreases-frames

@@ -1,9 +1,9 @@
 use Rattle.std.proofs.Common.{◌≡◌, ◌^◌, IfSome, take, length, refl, sym, subst, ◌∙◌, arith}
 use Rattle.std.proofs.lemmas.List.{length-take}
-use Rattle.chart_service.proofs.DiskKept.{kept_none}
+use Rattle.block_disk.specs.View.{sent_now}
 use Rattle.chart_program.specs.declared.draw_end.DrawEnd.{DrawEnd}
 use Rattle.chart_program.specs.Draws.{EndsDraw}
-use Rattle.chart_program.proofs.DiskKept.{kept_then}
+use Rattle.chart_program.proofs.DiskKept.{stays_none, stays_by, stays_then}
 use Rattle.program_words.specs.Errors.{error_so}
 use Rattle.chart_program.proofs.Drawing.{drawn_start, start_partial, start_counted, if_err, on_ok, read_all, cut_so, stopped_so, within_so, drawn_piece, drawn_sent, counted_more}
 use Rattle.chart_program.proofs.draw.draw_pieces.Goals as goal
@@ -17,7 +17,7 @@ pieces-init g c = record {
   drawn = drawn_start (g.S.Streams.left c.args.streams.now) c.args.decoder.now c.args.client.now (g.S.Streams.sent c.args.streams.now) c.requires.start c.requires.client;
   read_faults = omega arith;
   send_faults = omega arith;
-  disk = kept_none (g.S.Disk.view c.args.streams.now);
+  disk = stays_none (g.S.Disk.view c.args.streams.now);
 }
 
 pub returns-then-count-eq0-clause-within : goal.returns-then-count-eq0-clause-within
@@ -37,7 +37,7 @@ returns-then-count-eq0-clause-ends g c =
     let taken = c.in_ok-count.ensures in
     if_err _ _ c.ended.result c.ended.ensures.cut
     (λ e is. cut_so (left c.args.streams.now) (left c.pieces.streams) _ c.in_ok-count.count c.take_piece.new.buffer c.pieces.decoder c.pieces.client c.pieces.taken
-    (sent c.args.streams.now) (sent c.take_piece.new.streams) e taken.given c.if-count-eq0.true is.0 is.1 inv.unended inv.counted
+    (sent c.args.streams.now) (sent c.take_piece.new.streams) e taken.given c.if-count-eq0.true is.0 is.1 inv.unended inv.counted inv.within
     (drawn_sent (left c.args.streams.now) (left c.pieces.streams) c.pieces.decoder c.pieces.client (sent c.args.streams.now) (sent c.pieces.streams) (sent c.take_piece.new.streams) taken.sent inv.drawn))
 
 pub returns-in_err-draw_piece-clause-ends : goal.returns-in_err-draw_piece-clause-ends
@@ -49,10 +49,11 @@ returns-in_err-draw_piece-clause-ends g c =
     let inv = c.pieces.invariant in
     let taken = c.in_ok-count.ensures in
     let f = c.in_err-draw_piece.field-0.0 in
+    let sized : length (take c.min-fits.result c.take_piece.new.buffer) ≡ c.min-fits.result = omega (arith, length-take c.min-fits.result c.take_piece.new.buffer, taken.sized, taken.fits, c.min-fits.ensures) in
     let drawn = drawn_sent o (left c.pieces.streams) c.pieces.decoder c.pieces.client before (sent c.pieces.streams) (sent c.take_piece.new.streams) taken.sent inv.drawn in
     let stops = stopped_so c.more_bytes_mend_nothing.ensures.stays o (left c.pieces.streams) (left c.draw_piece.new.streams) c.min-fits.result c.in_ok-count.count
     c.take_piece.new.buffer (take c.min-fits.result c.take_piece.new.buffer) c.pieces.decoder c.pieces.client before (sent c.take_piece.new.streams) (sent c.draw_piece.new.streams) f
-    taken.given (omega (arith, c.min-fits.ensures)) refl c.in_err-draw_piece.ensures.stops drawn in
+    taken.given (omega (arith, c.min-fits.ensures)) refl (omega (arith, sized, inv.counted, inv.within, c.min-fits.ensures)) c.in_err-draw_piece.ensures.stops drawn in
     let E : DrawEnd → Type 0 = λ x. IfSome o (λ input. EndsDraw input (left c.draw_piece.new.streams) before (sent c.draw_piece.new.streams) x) in
     error_so _ E c.from_residual-in_err-draw_piece.result c.from_residual-in_err-draw_piece.ensures.1 (λ x is. subst E (sym is) stops)
 
@@ -98,6 +99,7 @@ pieces-preserved g c =
           before (sent c.take_piece.new.streams) (sent c.draw_piece.new.streams) taken.given (made.left ∙ taken.left) all refl made.done.0 drawn;
       read_faults = omega (arith, inv.read_faults, taken.read_faults, made.read_faults);
       send_faults = omega (arith, inv.send_faults, taken.send_faults, made.send_faults);
-      disk = kept_then (view c.args.streams.now) (view c.take_piece.new.streams) (view c.draw_piece.new.streams)
-          (kept_then (view c.args.streams.now) (view c.pieces.streams) (view c.take_piece.new.streams) inv.disk (g.met.S.World.take_keeps c.pieces.streams c.take_piece.new.streams taken.beside)) made.disk;
+      disk = stays_then (view c.args.streams.now) (view c.take_piece.new.streams) (view c.draw_piece.new.streams)
+          (stays_then (view c.args.streams.now) (view c.pieces.streams) (view c.take_piece.new.streams) inv.disk
+          (stays_by (view c.pieces.streams) (view c.take_piece.new.streams) (λ count. count ≡ sent_now (view c.pieces.streams)) (g.met.S.World.take_keeps c.pieces.streams c.take_piece.new.streams taken.beside) (g.met.S.World.take_passes c.pieces.streams c.take_piece.new.streams taken.beside))) made.disk;
     }

@@ -1,5 +1,5 @@
 use Rattle.std.proofs.Common.{◌≡◌, ◌+◌, ◌-◌, ◌^◌, ◌≤◌, length}
-use Rattle.block_disk.specs.View.{DiskKept}
+use Rattle.chart_program.specs.Alone.{StaysAlone}
 use Rattle.chart_frames.specs.Stream.{IsPartial}
 use Rattle.chart_program.proofs.Drawing.{DrawnOf}
 use Rattle.chart_program.proofs.draw.draw_pieces.Given as goal
@@ -14,7 +14,7 @@ invariant-pieces g l = record {
   drawn : DrawnOf (g.S.Streams.left l.initial.streams) (g.S.Streams.left l.streams) l.decoder l.client (g.S.Streams.sent l.initial.streams) (g.S.Streams.sent l.streams);
   read_faults : g.S.Streams.read_faults l.initial.streams ≤ g.S.Streams.read_faults l.streams;
   send_faults : g.S.Streams.send_faults l.initial.streams ≤ g.S.Streams.send_faults l.streams;
-  disk : DiskKept (g.S.Disk.view l.initial.streams) (g.S.Disk.view l.streams);
+  disk : StaysAlone (g.S.Disk.view l.initial.streams) (g.S.Disk.view l.streams);
 }
 
 abbrev pub decreases-pieces : goal.decreases-pieces

@@ -6,7 +6,7 @@ use Rattle.plain_chart.specs.Samples.{IsSlot}
 use Rattle.chart_program.specs.declared.input.InputEnd.{InputEnd}
 use Rattle.chart_program.specs.Reads.{Stops}
 use Rattle.program_words.specs.Errors.{error_so}
-use Rattle.chart_program.proofs.Ending.{start_so, end_so, read_all, bad_so, too_long_bad, not_added_so, fault_so, line_so, values_so, few_so}
+use Rattle.chart_program.proofs.Ending.{start_so, end_so, read_all, bad_so, too_long_bad, not_added_so, early_so, fault_so, line_so, values_so, few_so}
 use Rattle.chart_program.proofs.input.read_slots.Goals as goal
 
 pub lines-init : goal.lines-init
@@ -41,7 +41,8 @@ returns-in-End-clause-within g c =
 pub returns-in-TooLong-clause-ends : goal.returns-in-TooLong-clause-ends
 returns-in-TooLong-clause-ends g c =
     bad_so (g.S.Streams.left c.args.from.now) (unread c.lines.lines (g.S.Streams.left c.lines.from)) (unread c.next.new.self (g.S.Streams.left c.next.new.from)) c.lines.lines.given c.offset.result c.lines.slots.items _
-    (c.in_ok-next.ensures.too_long (ap Ok c.in-TooLong.is)) too_long_bad (c.offset.ensures ∙ c.in_ok-next.ensures.offset_too_long (ap Ok c.in-TooLong.is)) c.lines.invariant.progress
+    (c.in_ok-next.ensures.too_long (ap Ok c.in-TooLong.is)) too_long_bad (c.offset.ensures ∙ c.in_ok-next.ensures.offset_too_long (ap Ok c.in-TooLong.is))
+    (early_so c.lines.lines c.next.new.self (g.S.Streams.left c.lines.from) (g.S.Streams.left c.next.new.from) c.in_ok-next.ensures.rest c.lines.invariant.counted c.in_ok-next.ensures.given c.in_ok-next.ensures.total c.in_ok-next.ensures.within) c.lines.invariant.progress
 
 pub returns-in_err-next-clause-ends : goal.returns-in_err-next-clause-ends
 returns-in_err-next-clause-ends g c =
@@ -60,7 +61,8 @@ returns-in_err-add_line-in-Line-clause-ends g c =
     let told = same_line bytes bytes' c.line.result.now c.next.new.self.line c.line.ensures.line (c.in_ok-next.ensures.line (ap Ok c.in-Line.is)) in
     let at = c.offset-in-Line.ensures ∙ c.in_ok-next.ensures.offset (ap Ok c.in-Line.is) in
     let stops = not_added_so (g.S.Streams.left c.args.from.now) bytes bytes' (g.S.Streams.left c.next.new.from) c.lines.lines.given c.offset-in-Line.result c.lines.slots.items c.line.result.now e
-    told at c.in_err-add_line-in-Line.ensures.ends c.lines.invariant.progress in
+    told at (early_so c.lines.lines c.next.new.self (g.S.Streams.left c.lines.from) (g.S.Streams.left c.next.new.from) c.in_ok-next.ensures.rest c.lines.invariant.counted c.in_ok-next.ensures.given c.in_ok-next.ensures.total c.in_ok-next.ensures.within)
+    c.in_err-add_line-in-Line.ensures.ends c.lines.invariant.progress in
     let S : InputEnd → Type 0 = λ x. IfSome (g.S.Streams.left c.args.from.now) (λ input. Stops input (g.S.Streams.left c.next.new.from) x) in
     error_so _ _ c.from_residual-in_err-add_line-in-Line.result c.from_residual-in_err-add_line-in-Line.ensures.1 (λ x is. subst S (sym is) stops)
 

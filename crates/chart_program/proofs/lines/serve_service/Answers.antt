@@ -31,6 +31,6 @@ returns g c =
     subst P same_disk (c.disk_of.ensures.rests (subst IsTrue (sym (store_sound store after.store c.into_store.ensures)) (made.sound other))) in
     let all = serve_made pages.count end_pages.count pages.sound end_pages.sound (view disk) (view new) (left disk) (left new) (sent disk) (sent new) faults after.sessions made.serves.size made.serves.told made.goes_on made.serves.faults
     c.serve-answer.result own c.requires.alone made.done made.within made.ends made.crash closed
-    (serve_causes pages.count end_pages.count (view disk) (view new) faults (shown.catalog after) (shown.total after) ⊥ c.serve-answer.result made.serves.size made.read made.send made.disk made.bad) in
+    (serve_causes pages.count end_pages.count (view disk) (view new) faults ⊥ c.serve-answer.result made.serves.size made.read made.send made.disk made.bad) in
     let D : g.row.W.Denot → Type 0 = λ d. ServesLines Spelled ⊥ pages.count (view disk) (view d) (left disk) (left d) (sent disk) (sent d) (faults_of (reads disk) (reads d) (sends disk) (sends d)) (served c.serve-answer.result) in
     same_answer Spelled ⊥ pages.count (view disk) (view c.disk_of.result) (left disk) (left c.disk_of.result) (sent disk) (sent c.disk_of.result) (faults_of (reads disk) (reads c.disk_of.result) (sends disk) (sends c.disk_of.result)) (served c.serve-answer.result) c.of_serving.result c.of_serving.ensures (subst D (sym same_disk) all)

@@ -3,10 +3,12 @@ use Rattle.block_disk.specs.View.{Beside}
 use Rattle.series_store.specs.Shown as stored
 use Rattle.chart_program.specs.Served.{Spelled, faults_of}
 use Rattle.chart_program.proofs.World.{serves_opened, serves_not, same_faults}
+use Rattle.store_commands.specs.Traffic.{traffic}
+use Rattle.chart_program.proofs.FirstOpened.{first_so}
 use Rattle.chart_program.proofs.lines.serve_world.Goals as goal
 
-pub returns-in-Ok : goal.returns-in-Ok
-returns-in-Ok g c =
+pub returns-in-Ok-clause-serves : goal.returns-in-Ok-clause-serves
+returns-in-Ok-clause-serves g c =
     let view = g.W.Disk.view in
     let left = g.W.Streams.left in
     let sent = g.W.Streams.sent in
@@ -26,8 +28,8 @@ returns-in-Ok g c =
     (sym (w.beside_send_faults mid) ∙ ap (λ (b : Beside). b.send_faults) beside ∙ w.beside_send_faults old))
     c.of_answering.ensures c.serve_lines-answer.ensures
 
-pub returns-in-Err : goal.returns-in-Err
-returns-in-Err g c =
+pub returns-in-Err-clause-serves : goal.returns-in-Err-clause-serves
+returns-in-Err-clause-serves g c =
     let view = g.W.Disk.view in
     let left = g.W.Streams.left in
     let sent = g.W.Streams.sent in
@@ -39,3 +41,21 @@ returns-in-Err g c =
     let w = g.met.W.World in
     serves_not Spelled ⊥ (view old) (view new) (left old) (left new) (sent old) (sent new) (faults_of (reads old) (reads new) (sends old) (sends new)) c.in-Err.field-0.cause (λ start. refl) c.in-Err.ensures.opens c.in-Err.ensures.cause c.in-Err.ensures.a_store
     (sym (w.beside_sent new) ∙ ap (λ (b : Beside). b.sent) beside ∙ w.beside_sent old)
+
+pub returns-in-Ok-clause-first : goal.returns-in-Ok-clause-first
+returns-in-Ok-clause-first g c =
+    let old = c.args.world in
+    let new = c.serve_lines-answer.result.1 in
+    first_so (g.W.Disk.view old) (traffic g.W.Streams.left g.W.Streams.sent g.W.Streams.read_faults g.W.Streams.send_faults old new) c.serve_lines-answer.result.0 c.of_answering.result c.of_answering.ensures c.in-Ok.ensures.large
+
+pub returns-in-Err-clause-first : goal.returns-in-Err-clause-first
+returns-in-Err-clause-first g c =
+    let old = c.args.world in
+    let new = c.in-Err.field-0.value in
+    let beside = c.in-Err.ensures.opens.beside_is in
+    let w = g.met.W.World in
+    record {
+      place = c.in-Err.ensures.place;
+      left_is = sym (w.beside_left new) ∙ ap (λ (b : Beside). b.left) beside ∙ w.beside_left old;
+      sent_is = sym (w.beside_sent new) ∙ ap (λ (b : Beside). b.sent) beside ∙ w.beside_sent old;
+    }

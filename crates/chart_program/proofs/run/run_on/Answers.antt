@@ -73,8 +73,8 @@ pub returns-clause-bad : goal.returns-clause-bad
 returns-clause-bad g c =
     let it = c.answer_lines-answer.new.service in
     let unmade = c.answer_lines-answer.ensures.known _ (all_follow g.V.Show.gives) (all_known c.args.show.now c.args.service.now.sessions) in
-    subst (λ r. IfErr r (EndsAtBad (shown.IsTold it) (shown.catalog it) (shown.image it) (shown.total it))) (sym c.of_answers.ensures)
-    (run_bad g.V.Show.gives (shown.IsTold it) (shown.catalog it) (shown.image it) (shown.total it) c.answer_lines-answer.result unmade c.answer_lines-answer.ensures.bad)
+    subst (λ r. IfErr r (EndsAtBad (shown.IsTold it) (shown.view it).size (shown.image it))) (sym c.of_answers.ensures)
+    (run_bad g.V.Show.gives (shown.IsTold it) (shown.view it).size (shown.image it) c.answer_lines-answer.result unmade c.answer_lines-answer.ensures.bad)
 
 pub returns-clause-sound : goal.returns-clause-sound
 returns-clause-sound g c = λ other. c.answer_lines-answer.ensures.sound (λ is. other (c.of_answers.ensures ∙ ap run_answer is))

@@ -1,5 +1,8 @@
 use Rattle.chart_program.specs.Served.{AreTexts, faults_of}
 use Rattle.chart_program.proofs.Ended.{numbered_by, ends_so}
+use Rattle.store_commands.specs.Traffic.{traffic}
+use Rattle.chart_program.proofs.CommandCodes.{run_codes}
+use Rattle.chart_program.proofs.FirstOpened.{away_served, barred_served}
 use Rattle.chart_program.proofs.serving.run_status.Goals as goal
 
 pub status_of-requires : goal.status_of-requires
@@ -7,11 +10,41 @@ status_of-requires g c =
     let old = c.args.world in
     let new = c.run_world-answer.result.1 in
     let faults = faults_of (g.W.Streams.read_faults old) (g.W.Streams.read_faults new) (g.W.Streams.send_faults old) (g.W.Streams.send_faults new) in
-    numbered_by (Unit {0}) (g.W.Disk.view old) (g.W.Disk.view new) faults c.run_world-answer.result.0 c.run_world-answer.ensures.cause
+    numbered_by (Unit {0}) (g.W.Disk.view old) (g.W.Disk.view new) faults c.run_world-answer.result.0 c.run_world-answer.ensures.serves.cause
 
-pub returns : goal.returns
-returns g c =
+pub returns-clause-ends : goal.returns-clause-ends
+returns-clause-ends g c =
     let old = c.args.world in
     let new = c.run_world-answer.result.1 in
     let faults = faults_of (g.W.Streams.read_faults old) (g.W.Streams.read_faults new) (g.W.Streams.send_faults old) (g.W.Streams.send_faults new) in
-    ends_so AreTexts (Unit {0}) (g.W.Disk.view old) (g.W.Disk.view new) (g.W.Streams.left old) (g.W.Streams.left new) (g.W.Streams.sent old) (g.W.Streams.sent new) faults c.run_world-answer.result.0 c.status_of.result c.status_of.ensures c.run_world-answer.ensures
+    ends_so AreTexts (Unit {0}) (g.W.Disk.view old) (g.W.Disk.view new) (g.W.Streams.left old) (g.W.Streams.left new) (g.W.Streams.sent old) (g.W.Streams.sent new) faults c.run_world-answer.result.0 c.status_of.result c.status_of.ensures c.run_world-answer.ensures.serves
+
+pub returns-clause-away : goal.returns-clause-away
+returns-clause-away g c =
+    let old = c.args.world in
+    let new = c.run_world-answer.result.1 in
+    let reads = g.W.Streams.read_faults in
+    let sends = g.W.Streams.send_faults in
+    let faults = faults_of (reads old) (reads new) (sends old) (sends new) in
+    let t = traffic g.W.Streams.left g.W.Streams.sent reads sends old new in
+    let e = c.run_world-answer.ensures in
+    away_served (Unit {0}) (g.W.Disk.view old) (g.W.Disk.view new) t faults c.run_world-answer.result.0 c.status_of.result c.status_of.ensures e.first e.serves.cause
+
+pub returns-clause-bars : goal.returns-clause-bars
+returns-clause-bars g c =
+    let old = c.args.world in
+    let new = c.run_world-answer.result.1 in
+    let reads = g.W.Streams.read_faults in
+    let sends = g.W.Streams.send_faults in
+    let faults = faults_of (reads old) (reads new) (sends old) (sends new) in
+    let t = traffic g.W.Streams.left g.W.Streams.sent reads sends old new in
+    let e = c.run_world-answer.ensures in
+    barred_served (Unit {0}) (g.W.Disk.view old) (g.W.Disk.view new) t faults c.run_world-answer.result.0 c.status_of.result c.status_of.ensures e.first e.serves.cause
+
+pub returns-clause-own : goal.returns-clause-own
+returns-clause-own g c =
+    let old = c.args.world in
+    let new = c.run_world-answer.result.1 in
+    let faults = faults_of (g.W.Streams.read_faults old) (g.W.Streams.read_faults new) (g.W.Streams.send_faults old) (g.W.Streams.send_faults new) in
+    let e = ends_so AreTexts (Unit {0}) (g.W.Disk.view old) (g.W.Disk.view new) (g.W.Streams.left old) (g.W.Streams.left new) (g.W.Streams.sent old) (g.W.Streams.sent new) faults c.run_world-answer.result.0 c.status_of.result c.status_of.ensures c.run_world-answer.ensures.serves in
+    run_codes c.status_of.result.code e.codes e.opened

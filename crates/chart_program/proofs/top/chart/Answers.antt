@@ -1,8 +1,11 @@
 use Rattle.std.proofs.Common.{arith, inl, inr, sym, refl, ◌∙◌, [], ◌∷◌}
 use Rattle.chart_program.proofs.Apart.{apart}
 use Rattle.chart_program.proofs.CommandCodes.{never}
+use Rattle.chart_program.proofs.LivesLemmas.{lives_told}
+use Rattle.chart_program.proofs.Parsing.{told_good}
+use Rattle.chart_program.proofs.Codes.{told_both}
 use Rattle.chart_program.proofs.Words.{of_command, with_operands, chart_codes, streams, one_init, one_draw, completes, wrong_never, wrong_end}
-use Rattle.program_words.specs.declared.words.Command.TheVariants.{Init}
+use Rattle.program_words.specs.declared.words.Command.TheVariants.{Draw, Init}
 use Rattle.chart_program.proofs.top.chart.Goals as goal
 
 pub returns-in-Err-NoMemory-clause-codes : goal.returns-in-Err-NoMemory-clause-codes
@@ -102,7 +105,7 @@ returns-in-Ok-clause-there g c =
 pub returns-in-Ok-clause-refused : goal.returns-in-Ok-clause-refused
 returns-in-Ok-clause-refused g c =
     let e = c.status_of_command.ensures in
-    λ is. of_command _ c.in-Ok.command c.in-Ok.command _ refl c.in-Ok.ensures.command (e.refused is)
+    λ is. of_command _ c.in-Ok.command c.in-Ok.command _ refl c.in-Ok.ensures.command (told_both _ _ _ (e.unsent is) (e.refused is))
 
 pub returns-in-Ok-clause-done : goal.returns-in-Ok-clause-done
 returns-in-Ok-clause-done g c =
@@ -128,6 +131,11 @@ pub returns-in-Ok-clause-unnamed : goal.returns-in-Ok-clause-unnamed
 returns-in-Ok-clause-unnamed g c =
     let e = c.status_of_command.ensures in
     λ other. inr (of_command _ c.in-Ok.command c.in-Ok.command _ refl c.in-Ok.ensures.command e.unnamed)
+
+pub returns-in-Ok-clause-reads : goal.returns-in-Ok-clause-reads
+returns-in-Ok-clause-reads g c =
+    let e = c.status_of_command.ensures in
+    λ other. inr (of_command _ c.in-Ok.command c.in-Ok.command _ refl c.in-Ok.ensures.command e.reads)
 
 pub returns-in-Ok-clause-crash : goal.returns-in-Ok-clause-crash
 returns-in-Ok-clause-crash g c =
@@ -228,6 +236,9 @@ returns-in-Err-Wrong-clause-memory g c = λ is. apart (sym c.ended.ensures.code 
 pub returns-in-Err-Wrong-clause-unnamed : goal.returns-in-Err-Wrong-clause-unnamed
 returns-in-Err-Wrong-clause-unnamed g c = λ other. absurd (other c.ended.ensures.code)
 
+pub returns-in-Err-Wrong-clause-reads : goal.returns-in-Err-Wrong-clause-reads
+returns-in-Err-Wrong-clause-reads g c = λ other. absurd (other c.ended.ensures.code)
+
 pub returns-in-Err-Wrong-clause-crash : goal.returns-in-Err-Wrong-clause-crash
 returns-in-Err-Wrong-clause-crash g c = λ other. absurd (other c.ended.ensures.code)
 
@@ -313,7 +324,7 @@ pub returns-in-Err-NoMemory-clause-memory : goal.returns-in-Err-NoMemory-clause-
 returns-in-Err-NoMemory-clause-memory g c = λ is. inl refl
 
 pub returns-in-Err-NoMemory-clause-unnamed : goal.returns-in-Err-NoMemory-clause-unnamed
-returns-in-Err-NoMemory-clause-unnamed g c = λ other. inl refl
+returns-in-Err-NoMemory-clause-unnamed g c = λ other. inl (c.ended-in-Err-NoMemory.ensures.code, refl)
 
 pub returns-in-Err-NoMemory-clause-crash : goal.returns-in-Err-NoMemory-clause-crash
 returns-in-Err-NoMemory-clause-crash g c = λ other. inl refl
@@ -342,3 +353,85 @@ returns-in-Err-Wrong-clause-complete g c = λ given.
 
 pub returns-in-Err-NoMemory-clause-complete : goal.returns-in-Err-NoMemory-clause-complete
 returns-in-Err-NoMemory-clause-complete g c = λ given. (1, omega arith, sym c.ended-in-Err-NoMemory.ensures.code)
+
+pub returns-in-Ok-clause-statuses : goal.returns-in-Ok-clause-statuses
+returns-in-Ok-clause-statuses g c =
+    let e = c.status_of_command.ensures in
+    λ other more. of_command _ c.in-Ok.command c.in-Ok.command _ refl c.in-Ok.ensures.command e.own
+
+pub returns-in-Ok-clause-away : goal.returns-in-Ok-clause-away
+returns-in-Ok-clause-away g c =
+    let e = c.status_of_command.ensures in
+    λ other. inr (of_command _ c.in-Ok.command c.in-Ok.command _ refl c.in-Ok.ensures.command e.away)
+
+pub returns-in-Ok-clause-untaken : goal.returns-in-Ok-clause-untaken
+returns-in-Ok-clause-untaken g c =
+    let e = c.status_of_command.ensures in
+    λ other. inr (of_command _ c.in-Ok.command c.in-Ok.command _ refl c.in-Ok.ensures.command e.untaken)
+
+pub returns-in-Ok-clause-bars : goal.returns-in-Ok-clause-bars
+returns-in-Ok-clause-bars g c =
+    let e = c.status_of_command.ensures in
+    λ is. of_command _ c.in-Ok.command c.in-Ok.command _ refl c.in-Ok.ensures.command (e.bars is)
+
+pub returns-in-Err-Wrong-clause-statuses : goal.returns-in-Err-Wrong-clause-statuses
+returns-in-Err-Wrong-clause-statuses g c = λ other more. absurd (other c.ended.ensures.code)
+
+pub returns-in-Err-Wrong-clause-away : goal.returns-in-Err-Wrong-clause-away
+returns-in-Err-Wrong-clause-away g c = λ other. absurd (other c.ended.ensures.code)
+
+pub returns-in-Err-Wrong-clause-untaken : goal.returns-in-Err-Wrong-clause-untaken
+returns-in-Err-Wrong-clause-untaken g c = λ other. absurd (other c.ended.ensures.code)
+
+pub returns-in-Err-Wrong-clause-bars : goal.returns-in-Err-Wrong-clause-bars
+returns-in-Err-Wrong-clause-bars g c = λ is. apart (sym c.ended.ensures.code ∙ is) refl
+
+pub returns-in-Err-NoMemory-clause-statuses : goal.returns-in-Err-NoMemory-clause-statuses
+returns-in-Err-NoMemory-clause-statuses g c = λ other more. absurd (more c.ended-in-Err-NoMemory.ensures.code)
+
+pub returns-in-Err-NoMemory-clause-away : goal.returns-in-Err-NoMemory-clause-away
+returns-in-Err-NoMemory-clause-away g c = λ other. inl (c.ended-in-Err-NoMemory.ensures.code, refl)
+
+pub returns-in-Err-NoMemory-clause-untaken : goal.returns-in-Err-NoMemory-clause-untaken
+returns-in-Err-NoMemory-clause-untaken g c = λ other. inl (c.ended-in-Err-NoMemory.ensures.code, refl)
+
+pub returns-in-Err-NoMemory-clause-bars : goal.returns-in-Err-NoMemory-clause-bars
+returns-in-Err-NoMemory-clause-bars g c = λ is. apart (sym c.ended-in-Err-NoMemory.ensures.code ∙ is) refl
+
+pub returns-in-Ok-clause-drawn : goal.returns-in-Ok-clause-drawn
+returns-in-Ok-clause-drawn g c =
+    let e = c.status_of_command.ensures in
+    λ own. e.drawn (one_draw c.in-Ok.command _ c.in-Ok.ensures.command own.1)
+
+pub returns-in-Err-Wrong-clause-drawn : goal.returns-in-Err-Wrong-clause-drawn
+returns-in-Err-Wrong-clause-drawn g c = λ own. absurd (wrong_never c.in-Err-Wrong.place _ Draw own.0 own.1 (wrong_end c.in-Err-Wrong.field-0 c.in-Err-Wrong.place _ c.in-Err-Wrong.field-0-is c.in-Err-Wrong.ensures.wrong))
+
+pub returns-in-Err-NoMemory-clause-drawn : goal.returns-in-Err-NoMemory-clause-drawn
+returns-in-Err-NoMemory-clause-drawn g c = λ own. told_good _ _ (1, omega arith, sym c.ended-in-Err-NoMemory.ensures.code)
+
+pub returns-in-Ok-clause-holds : goal.returns-in-Ok-clause-holds
+returns-in-Ok-clause-holds g c =
+    let e = c.status_of_command.ensures in
+    λ other more. inr (of_command _ c.in-Ok.command c.in-Ok.command _ refl c.in-Ok.ensures.command (e.holds more))
+
+pub returns-in-Err-Wrong-clause-holds : goal.returns-in-Err-Wrong-clause-holds
+returns-in-Err-Wrong-clause-holds g c = λ other. absurd (other c.ended.ensures.code)
+
+pub returns-in-Err-NoMemory-clause-holds : goal.returns-in-Err-NoMemory-clause-holds
+returns-in-Err-NoMemory-clause-holds g c = λ other more. inl refl
+
+pub returns-in-Ok-clause-life : goal.returns-in-Ok-clause-life
+returns-in-Ok-clause-life g c =
+    let view = g.W.Disk.view in
+    let left = g.W.Streams.left in
+    let sent = g.W.Streams.sent in
+    let old = c.args.world in
+    let new = c.status_of_command.result.1 in
+    let e = c.status_of_command.ensures in
+    λ other. inr (of_command _ c.in-Ok.command c.in-Ok.command _ refl c.in-Ok.ensures.command (lives_told c.in-Ok.command (view old) (view new) (left old) (sent old) (sent new) e.crash))
+
+pub returns-in-Err-Wrong-clause-life : goal.returns-in-Err-Wrong-clause-life
+returns-in-Err-Wrong-clause-life g c = λ other. absurd (other c.ended.ensures.code)
+
+pub returns-in-Err-NoMemory-clause-life : goal.returns-in-Err-NoMemory-clause-life
+returns-in-Err-NoMemory-clause-life g c = λ other. inl (c.ended-in-Err-NoMemory.ensures.code, refl)

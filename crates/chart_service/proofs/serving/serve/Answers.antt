@@ -53,8 +53,8 @@ returns-clause-disk g c = λ fault. c.answer_lines-answer.ensures.disk (served_f
 pub returns-clause-bad : goal.returns-clause-bad
 returns-clause-bad g c =
     let it = c.answer_lines-answer.new.service in
-    subst (λ r. IfErr r (EndsAtBad (shown.IsTold it) (shown.catalog it) (shown.image it) (shown.total it))) (sym c.served.ensures)
-    (served_bad (shown.IsTold it) (shown.catalog it) (shown.image it) (shown.total it) c.answer_lines-answer.result c.answer_lines-answer.ensures.bad)
+    subst (λ r. IfErr r (EndsAtBad (shown.IsTold it) (shown.view it).size (shown.image it))) (sym c.served.ensures)
+    (served_bad (shown.IsTold it) (shown.view it).size (shown.image it) c.answer_lines-answer.result c.answer_lines-answer.ensures.bad)
 
 pub returns-clause-sound : goal.returns-clause-sound
 returns-clause-sound g c = λ other. c.answer_lines-answer.ensures.sound (λ is. other (c.served.ensures ∙ ap serve_end is))

@@ -1,6 +1,6 @@
-use Rattle.std.proofs.Common.{◌≡◌, ℤ, ◌≤ℤ◌, ◌∙◌, FitsSigned, to_z, of_z, w64, sym, subst, rules}
+use Rattle.std.proofs.Common.{◌≡◌, ℤ, ◌≤ℤ◌, ◌∙◌, w64, sym, subst, rules}
 use Rattle.std.proofs.lemmas.Int.{to_z-of_z}
-use Rattle.om3_coeff.specs.View.{NodesView, StaysSame, Agrees}
+use Rattle.om3_coeff.specs.View.{NodesView, StaysSame}
 use Rattle.om3_coeff.proofs.WalkLemmas.{still_agrees}
 use Rattle.tree_walk.proofs.StepLemmas.{error_so}
 use Rattle.zoom_session.specs.Plans.{AreNeeded, CountsNeeded}

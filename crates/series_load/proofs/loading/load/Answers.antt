@@ -41,7 +41,7 @@ pub returns-in_err-loader-clause-goes : goal.returns-in_err-loader-clause-goes
 returns-in_err-loader-clause-goes g c = goes_nowhere (side_of g.P.Streams c.args.store.now)
 
 pub returns-in_err-loader-clause-cause : goal.returns-in_err-loader-clause-cause
-returns-in_err-loader-clause-cause g c = no_memory_cause c.from_residual.result c.in_err-loader.field-0.0 _ _ _ _ _ c.from_residual.ensures.1 c.in_err-loader.ensures.err
+returns-in_err-loader-clause-cause g c = no_memory_cause (shown.IsTold c.args.store.now) c.from_residual.result c.in_err-loader.field-0.0 _ _ _ _ _ c.from_residual.ensures.1 c.in_err-loader.ensures.err
 
 pub returns-in_err-loader-clause-sound : goal.returns-in_err-loader-clause-sound
 returns-in_err-loader-clause-sound g c = no_value c.from_residual.result c.in_err-loader.field-0.0 _ c.from_residual.ensures.1
@@ -66,7 +66,7 @@ pub returns-in_err-lines-clause-goes : goal.returns-in_err-lines-clause-goes
 returns-in_err-lines-clause-goes g c = goes_nowhere (side_of g.P.Streams c.args.store.now)
 
 pub returns-in_err-lines-clause-cause : goal.returns-in_err-lines-clause-cause
-returns-in_err-lines-clause-cause g c = no_memory_cause c.from_residual-in_err-lines.result c.in_err-lines.field-0.0 _ _ _ _ _ c.from_residual-in_err-lines.ensures.1 c.in_err-lines.ensures.err
+returns-in_err-lines-clause-cause g c = no_memory_cause (shown.IsTold c.args.store.now) c.from_residual-in_err-lines.result c.in_err-lines.field-0.0 _ _ _ _ _ c.from_residual-in_err-lines.ensures.1 c.in_err-lines.ensures.err
 
 pub returns-in_err-lines-clause-sound : goal.returns-in_err-lines-clause-sound
 returns-in_err-lines-clause-sound g c = no_value c.from_residual-in_err-lines.result c.in_err-lines.field-0.0 _ c.from_residual-in_err-lines.ensures.1

@@ -5,7 +5,8 @@ use Rattle.tree_walk.proofs.StepLemmas.{error_so}
 use Rattle.series_store.proofs.AskLemmas.{tree_fits}
 use Rattle.series_store.proofs.BookCountLemmas.{some_at, tree_stands, stands_then, few_values, near_root, trees_read, trees_on, trees_whole}
 use Rattle.path_repair.specs.Sums.{sum_below}
-use Rattle.series_store.specs.Counting.{pages_of_root}
+use Rattle.series_store.specs.Counting.{pages_of_root, NamesWithin}
+use Rattle.series_store.specs.declared.errors.StoreError.{StoreError}
 use Rattle.series_store.proofs.checking.count_trees.Goals as goal
 
 pub page_levels-levels-requires : goal.page_levels-levels-requires
@@ -67,3 +68,10 @@ pub returns-clause-whole : goal.returns-clause-whole
 returns-clause-whole g c = λ told.
     let end : c.loop-id.id ≡ length c.args.catalog.now.series.items = omega (arith, c.loop-id-test.false, c.loop-id.auto.id-end, c.len-id-end.ensures.count) in
     trees_whole (g.P.Pages.view c.args.space.now.pages).image c.args.space.now.superblock.total c.loop-id.id c.args.catalog.now.series.items end (c.loop-id.invariant.whole told)
+
+pub returns-in_err-more-clause-within : goal.returns-in_err-more-clause-within
+returns-in_err-more-clause-within g c =
+    let W : StoreError → Type 0 = λ e. NamesWithin c.args.space.now.superblock.total e in
+    let N : ℕ → Type 0 = λ n. NamesWithin n c.in_err-more.field-0.0 in
+    error_so _ W c.from_residual.result c.from_residual.ensures.1
+    (λ e same. subst W (sym same) (subst N (ap (λ (s : Superblock). s.total) c.loop-id.invariant.looks.over.superblock) c.in_err-more.ensures.within))

@@ -1,11 +1,11 @@
 use Rattle.std.proofs.Common.{◌≡◌, ◌+◌, ◌-◌, suc, refl, sym, ap, subst, arith}
 use Rattle.page_space.specs.declared.superblock.Superblock.{Superblock}
 use Rattle.page_space.specs.Transactions.{left_by}
-use Rattle.series_store.specs.Counting.{IsChainCause}
+use Rattle.series_store.specs.Counting.{NamesWithin, IsChainCause}
 use Rattle.series_store.specs.Opening.{IsOutside}
 use Rattle.series_store.specs.declared.errors.StoreError.{StoreError}
 use Rattle.series_store.proofs.LookLemmas.{looks_none, looks_read}
-use Rattle.series_store.proofs.ChainLemmas.{pass_start, pass_on, pass_cause, pass_stood, pass_outside}
+use Rattle.series_store.proofs.ChainLemmas.{pass_start, pass_on, pass_cause, pass_stood, pass_outside, pass_within}
 use Rattle.series_store.proofs.checking.pass_chain.Goals as goal
 
 pub loop-init : goal.loop-init
@@ -44,3 +44,9 @@ returns-in-Err-clause-reads g c = omega (arith, c.loop.invariant.reads, c.alloc.
 
 pub returns-clause-reads : goal.returns-clause-reads
 returns-clause-reads g c = omega (arith, c.loop.invariant.reads)
+
+pub returns-in-Err-clause-within : goal.returns-in-Err-clause-within
+returns-in-Err-clause-within g c =
+    let W : StoreError → Type 0 = λ e. NamesWithin c.args.space.now.superblock.total e in
+    subst W (sym c.space_error.ensures) (pass_within c.in-Err.error (g.P.Pages.told c.loop.space.pages) (left_by c.loop.txn (g.P.Pages.view c.loop.space.pages).image) c.loop.txn.superblock c.args.space.now.superblock.total (g.P.Pages.view c.loop.space.pages).faults (g.P.Pages.view c.alloc.new.self.pages).faults
+    c.loop.txn.rules c.loop.invariant.total c.in-Err.ensures.cause)

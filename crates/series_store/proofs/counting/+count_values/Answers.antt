@@ -1,4 +1,4 @@
-use Rattle.std.proofs.Common.{rules, refl, ℕ, ◌≡◌, ◌+◌, ◌-◌, ◌*◌, ◌<◌, ◌≤◌, suc, is_some, Option, Some, sym, ap, subst, arith, ◌∙◌}
+use Rattle.std.proofs.Common.{rules, refl, ℕ, ◌≡◌, ◌-◌, ◌<◌, ◌≤◌, suc, is_some, Option, Some, sym, ap, subst, arith, ◌∙◌}
 use Rattle.om3_coeff.specs.declared.span.Span.{Span}
 use Rattle.node_page.specs.Layout.{has_child}
 use Rattle.page_space.specs.declared.superblock.Superblock.{Superblock}
@@ -7,7 +7,7 @@ use Rattle.path_repair.specs.Damage.{AreBelow}
 use Rattle.om3_coeff.specs.Spans.{span}
 use Rattle.tree_walk.specs.Trees.{top_of_page, IsTree}
 use Rattle.tree_walk.proofs.StepLemmas.{error_so}
-use Rattle.series_store.specs.Counting.{IsTreeCause}
+use Rattle.series_store.specs.Counting.{NamesWithin, IsTreeCause}
 use Rattle.series_store.specs.declared.errors.StoreError.{StoreError}
 use Rattle.series_store.proofs.LookLemmas.{looks_then}
 use Rattle.series_store.proofs.ValueLemmas.{no_values, one_value, all_parts, values_fit}
@@ -193,3 +193,15 @@ returns-clause-whole g t c = λ told.
     let A : Option Span → Type 0 = λ s. AreBelow s c.read_page.new.bytes (span_at c.read_page.new.spans) in
     let split : A c.args.top = subst A (sym c.in-Some.is) c.in_ok-read_page.ensures.below in
     sound_end (g.P.Pages.view c.args.space.now.pages).image c.args.space.now.superblock.total c.args.slots c.args.level (c.args.level - 1) c.args.index c.args.page c.loop-child.child c.args.top c.read_page.new.bytes (span_at c.read_page.new.spans) is some c.loop-child-test.false (c.in_ok-read_page.ensures.bytes told) c.in_ok-read_page.ensures.sound split (c.loop-child.invariant.whole told)
+
+pub returns-in_err-read_page-clause-within : goal.returns-in_err-read_page-clause-within
+returns-in_err-read_page-clause-within g t c =
+    let W : StoreError → Type 0 = λ e. NamesWithin c.args.space.now.superblock.total e in
+    error_so _ W c.from_residual.result c.from_residual.ensures.1 (λ e same. subst W (sym same) c.in_err-read_page.ensures.within)
+
+pub returns-in_err-more-clause-within : goal.returns-in_err-more-clause-within
+returns-in_err-more-clause-within g t c =
+    let W : StoreError → Type 0 = λ e. NamesWithin c.args.space.now.superblock.total e in
+    let N : ℕ → Type 0 = λ n. NamesWithin n c.in_err-more.field-0.0 in
+    error_so _ W c.from_residual-in_err-more.result c.from_residual-in_err-more.ensures.1
+    (λ e same. subst W (sym same) (subst N (ap (λ (s : Superblock). s.total) c.loop-child.invariant.looks.over.superblock) c.in_err-more.ensures.within))

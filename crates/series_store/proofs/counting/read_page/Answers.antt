@@ -5,7 +5,7 @@ use Rattle.tree_walk.specs.Trees.{HoldsNodes}
 use Rattle.path_repair.proofs.FormLemmas.{ok_no_err}
 use Rattle.series_store.specs.declared.errors.StoreError.TheVariants.{DiskFault}
 use Rattle.series_store.proofs.LookLemmas.{looks_read}
-use Rattle.series_store.proofs.TreeCountLemmas.{read_cause, sound_total}
+use Rattle.series_store.proofs.TreeCountLemmas.{read_cause, sound_total, within_here}
 use Rattle.series_store.proofs.counting.read_page.Goals as goal
 
 pub returns-clause-looks : goal.returns-clause-looks
@@ -36,3 +36,6 @@ returns-clause-stands g c = λ list under index told is slots holds top children
     let C : List ℕ → Type 0 = λ page. (child : ℕ) → child < 128 → child_at page child < c.args.space.now.superblock.total in
     let within = subst C (sym read) children in
     ok_no_err c.spread.result (λ e. e ≡ DiskFault) (c.spread.ensures.stands list under index is slots (subst H (sym read) holds) top (λ child low. omega (arith, within child low, c.total.ensures.total, ap (λ (one : Superblock). one.total) c.get.ensures.superblock)))
+
+pub returns-clause-within : goal.returns-clause-within
+returns-clause-within g c = within_here c.spread.result c.args.space.now.superblock.total c.args.page c.requires.page c.spread.ensures.damaged

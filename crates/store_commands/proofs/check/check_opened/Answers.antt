@@ -8,8 +8,8 @@ use Rattle.store_commands.proofs.Held.{stands_held}
 use Rattle.store_commands.proofs.CheckLooks.{checks_sent, checks_not}
 use Rattle.store_commands.proofs.check.check_opened.Goals as goal
 
-pub returns-in-Ok : goal.returns-in-Ok
-returns-in-Ok g c =
+pub returns-in-Ok-clause-checks : goal.returns-in-Ok-clause-checks
+returns-in-Ok-clause-checks g c =
     let view = g.W.Disk.view in
     let sent = g.W.Streams.sent in
     let sends = g.W.Streams.send_faults in
@@ -32,14 +32,15 @@ returns-in-Ok g c =
     (record {
       superblock = (shown.numbers c.args.store);
       numbers = c.in-Ok.ensures.numbers;
+      rules = c.args.store.space.rules;
       spelled = c.args.store.space.spelled c.requires;
       catalog = c.args.store.whole c.requires;
       sound = c.in-Ok.ensures.whole;
     })
-    (subst P c.disk_of-world.ensures.disk (c.send_text.ensures (counts_text counts) c.counts_text.ensures))
+    (subst P c.disk_of-world.ensures.disk (c.send_text.ensures.sends (counts_text counts) c.counts_text.ensures))
 
-pub returns-in-Err : goal.returns-in-Err
-returns-in-Err g c =
+pub returns-in-Err-clause-checks : goal.returns-in-Err-clause-checks
+returns-in-Err-clause-checks g c =
     let view = g.W.Disk.view in
     let sent = g.W.Streams.sent in
     let sends = g.W.Streams.send_faults in
@@ -56,6 +57,22 @@ returns-in-Err g c =
     subst P (sym c.disk_of-world.ensures.disk)
     (checks_not pages.count read.count pages.sound read.sound (view old) (view mid) e.looks.kept e.looks.over.goes_on closed (shown.numbers c.args.store) (sent old) (sent mid) (sends old) (sends mid) c.in-Err.error c.check_status.result c.check_status.ensures
     (sym (w.beside_sent mid) ∙ ap (λ (b : Beside). b.sent) beside ∙ w.beside_sent old)
-    (c.args.store.space.spelled c.requires)
+    (λ honest. record { spelled = c.args.store.space.spelled c.requires honest; rules = c.args.store.space.rules }) c.args.store.space.rules.total_high c.in-Err.ensures.within
     c.in-Err.ensures.cause
     (λ total book holds. c.in-Err.ensures.a_store total book holds.honest (stands_held pages.count total book (view old) holds)))
+
+pub returns-in-Ok-clause-untaken : goal.returns-in-Ok-clause-untaken
+returns-in-Ok-clause-untaken g c =
+    let left = g.W.Streams.left in
+    let old = (shown.pages c.args.store).disk in
+    let mid = (shown.pages c.check-counted.new.self).disk in
+    let w = g.met.W.World in
+    c.send_text.ensures.left ∙ ap left c.disk_of-world.ensures.disk ∙ sym (w.beside_left mid) ∙ ap (λ (b : Beside). b.left) c.check-counted.ensures.looks.kept.beside ∙ w.beside_left old
+
+pub returns-in-Err-clause-untaken : goal.returns-in-Err-clause-untaken
+returns-in-Err-clause-untaken g c =
+    let left = g.W.Streams.left in
+    let old = (shown.pages c.args.store).disk in
+    let mid = (shown.pages c.check-counted.new.self).disk in
+    let w = g.met.W.World in
+    ap left c.disk_of-world.ensures.disk ∙ sym (w.beside_left mid) ∙ ap (λ (b : Beside). b.left) c.check-counted.ensures.looks.kept.beside ∙ w.beside_left old

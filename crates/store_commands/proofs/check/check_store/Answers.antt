@@ -2,10 +2,11 @@ use Rattle.std.proofs.Common.{sym, ap, ◌∙◌}
 use Rattle.block_disk.specs.View.{Beside}
 use Rattle.series_store.specs.Shown as shown
 use Rattle.store_commands.proofs.CheckEnds.{ends_opened, ends_unopened}
+use Rattle.store_commands.proofs.TurnedAway.{away_so, away_never}
 use Rattle.store_commands.proofs.check.check_store.Goals as goal
 
-pub returns-in-Ok : goal.returns-in-Ok
-returns-in-Ok g c =
+pub returns-in-Ok-clause-ends : goal.returns-in-Ok-clause-ends
+returns-in-Ok-clause-ends g c =
     let view = g.W.Disk.view in
     let sent = g.W.Streams.sent in
     let sends = g.W.Streams.send_faults in
@@ -20,10 +21,10 @@ returns-in-Ok g c =
     ends_opened pages.count (view old) (view mid) (view new) (sent old) (sent mid) (sent new) (sends old) (sends mid) (sends new) c.check_opened.result.0 e.opens e.count e.pages
     (sym (w.beside_sent mid) ∙ ap (λ (b : Beside). b.sent) beside ∙ w.beside_sent old)
     (sym (w.beside_send_faults mid) ∙ ap (λ (b : Beside). b.send_faults) beside ∙ w.beside_send_faults old)
-    c.check_opened.ensures
+    c.check_opened.ensures.checks
 
-pub returns-in-Err : goal.returns-in-Err
-returns-in-Err g c =
+pub returns-in-Err-clause-ends : goal.returns-in-Err-clause-ends
+returns-in-Err-clause-ends g c =
     let view = g.W.Disk.view in
     let sent = g.W.Streams.sent in
     let sends = g.W.Streams.send_faults in
@@ -34,3 +35,33 @@ returns-in-Err g c =
     let w = g.met.W.World in
     ends_unopened (view old) (view new) (sent old) (sent new) (sends old) (sends new) c.in-Err.field-0.cause c.opening_status.result e.opens e.cause e.a_store c.opening_status.ensures
     (sym (w.beside_sent new) ∙ ap (λ (b : Beside). b.sent) beside ∙ w.beside_sent old)
+
+pub returns-in-Ok-clause-away : goal.returns-in-Ok-clause-away
+returns-in-Ok-clause-away g c = away_never _ _ c.in-Ok.ensures.large
+
+pub returns-in-Err-clause-away : goal.returns-in-Err-clause-away
+returns-in-Err-clause-away g c =
+    let view = g.W.Disk.view in
+    let left = g.W.Streams.left in
+    let sent = g.W.Streams.sent in
+    let old = c.args.world in
+    let new = c.in-Err.field-0.value in
+    let beside = c.in-Err.ensures.opens.beside_is in
+    let w = g.met.W.World in
+    away_so (view old) (view new) (left old) (left new) (sent old) (sent new) c.in-Err.field-0.cause c.opening_status.result c.opening_status.ensures c.in-Err.ensures.cause
+    (sym (w.beside_left new) ∙ ap (λ (b : Beside). b.left) beside ∙ w.beside_left old)
+    (sym (w.beside_sent new) ∙ ap (λ (b : Beside). b.sent) beside ∙ w.beside_sent old)
+
+pub returns-in-Err-clause-untaken : goal.returns-in-Err-clause-untaken
+returns-in-Err-clause-untaken g c =
+    let old = c.args.world in
+    let new = c.in-Err.field-0.value in
+    let w = g.met.W.World in
+    sym (w.beside_left new) ∙ ap (λ (b : Beside). b.left) c.in-Err.ensures.opens.beside_is ∙ w.beside_left old
+
+pub returns-in-Ok-clause-untaken : goal.returns-in-Ok-clause-untaken
+returns-in-Ok-clause-untaken g c =
+    let old = c.args.world in
+    let mid = (shown.pages c.in-Ok.store).disk in
+    let w = g.met.W.World in
+    c.check_opened.ensures.untaken ∙ sym (w.beside_left mid) ∙ ap (λ (b : Beside). b.left) c.in-Ok.ensures.opens.beside_is ∙ w.beside_left old

@@ -1,4 +1,4 @@
-use Rattle.std.proofs.Common.{Ok, Err, sym, ap, ◌∙◌}
+use Rattle.std.proofs.Common.{◌≡◌, Ok, Err, sym, ap, ◌∙◌}
 use Rattle.block_disk.specs.View.{Beside}
 use Rattle.series_store.specs.Shown as shown
 use Rattle.demo_workload.specs.Summaries.{summary_line}
@@ -6,10 +6,19 @@ use Rattle.demo_workload.specs.Workload.{workload}
 use Rattle.store_commands.proofs.DemoRequests.{answered_opened}
 use Rattle.store_commands.proofs.DemoSent.{sent_ends}
 use Rattle.store_commands.proofs.DemoEnds.{opening_ends_so, stopped_ends_so}
+use Rattle.std.specs.Prelude.{◌≤◌}
+use Rattle.block_disk.specs.View.{sent_now}
+use Rattle.gate_pages.specs.Journal.{page_count}
+use Rattle.demo_workload.specs.declared.demo_end.DemoEnd.{DemoEnd}
+use Rattle.demo_workload.specs.declared.demo_end.DemoEnd.TheVariants as demo_end
+use Rattle.store_commands.specs.declared.status.Status.{Status}
+use Rattle.store_commands.specs.Answering.{end_status}
+use Rattle.store_commands.proofs.HoldsAgain.{again_opened, again_sent, again_answered}
+use Rattle.store_commands.proofs.TurnedAway.{away_so, away_never}
 use Rattle.store_commands.proofs.demo.run_demo.Goals as goal
 
-pub returns-in-Ok-answer : goal.returns-in-Ok-answer
-returns-in-Ok-answer g c =
+pub returns-in-Ok-answer-clause-ends : goal.returns-in-Ok-answer-clause-ends
+returns-in-Ok-answer-clause-ends g c =
     let view = g.W.Disk.view in
     let sent = g.W.Streams.sent in
     let sends = g.W.Streams.send_faults in
@@ -23,10 +32,10 @@ returns-in-Ok-answer g c =
     sent_ends c.args.seed c.args.rounds (view old) (view mid) (view new) (sent old) (sent mid) (sent new) (sends old) (sends mid) (sends new) c.send_text.result.0 summary a
     (sym (w.beside_sent mid) ∙ ap (λ (b : Beside). b.sent) a.beside ∙ w.beside_sent old)
     (sym (w.beside_send_faults mid) ∙ ap (λ (b : Beside). b.send_faults) a.beside ∙ w.beside_send_faults old)
-    (c.send_text.ensures (summary_line summary) c.line.ensures)
+    (c.send_text.ensures.sends (summary_line summary) c.line.ensures)
 
-pub returns-in-Err-answer : goal.returns-in-Err-answer
-returns-in-Err-answer g c =
+pub returns-in-Err-answer-clause-ends : goal.returns-in-Err-answer-clause-ends
+returns-in-Err-answer-clause-ends g c =
     let view = g.W.Disk.view in
     let sent = g.W.Streams.sent in
     let sends = g.W.Streams.send_faults in
@@ -39,8 +48,8 @@ returns-in-Err-answer g c =
     stopped_ends_so c.args.seed c.args.rounds (view old) (view new) (sent old) (sent new) (sends old) (sends new) end c.end_status.result c.end_status.ensures a
     (sym (w.beside_sent new) ∙ ap (λ (b : Beside). b.sent) a.beside ∙ w.beside_sent old)
 
-pub returns-in-Err : goal.returns-in-Err
-returns-in-Err g c =
+pub returns-in-Err-clause-ends : goal.returns-in-Err-clause-ends
+returns-in-Err-clause-ends g c =
     let view = g.W.Disk.view in
     let sent = g.W.Streams.sent in
     let sends = g.W.Streams.send_faults in
@@ -49,3 +58,71 @@ returns-in-Err g c =
     let w = g.met.W.World in
     opening_ends_so c.args.seed c.args.rounds (view old) (view new) (sent old) (sent new) (sends old) (sends new) c.in-Err.field-0.cause c.opening_status.result c.opening_status.ensures c.in-Err.ensures.opens c.in-Err.ensures.cause c.in-Err.ensures.a_store
     (sym (w.beside_sent new) ∙ ap (λ (b : Beside). b.sent) c.in-Err.ensures.opens.beside_is ∙ w.beside_sent old)
+
+pub returns-in-Ok-answer-clause-away : goal.returns-in-Ok-answer-clause-away
+returns-in-Ok-answer-clause-away g c = away_never _ _ c.in-Ok.ensures.large
+
+pub returns-in-Err-answer-clause-away : goal.returns-in-Err-answer-clause-away
+returns-in-Err-answer-clause-away g c = away_never _ _ c.in-Ok.ensures.large
+
+pub returns-in-Err-clause-away : goal.returns-in-Err-clause-away
+returns-in-Err-clause-away g c =
+    let view = g.W.Disk.view in
+    let left = g.W.Streams.left in
+    let sent = g.W.Streams.sent in
+    let old = c.args.world in
+    let new = c.in-Err.field-0.value in
+    let beside = c.in-Err.ensures.opens.beside_is in
+    let w = g.met.W.World in
+    away_so (view old) (view new) (left old) (left new) (sent old) (sent new) c.in-Err.field-0.cause c.opening_status.result c.opening_status.ensures c.in-Err.ensures.cause
+    (sym (w.beside_left new) ∙ ap (λ (b : Beside). b.left) beside ∙ w.beside_left old)
+    (sym (w.beside_sent new) ∙ ap (λ (b : Beside). b.sent) beside ∙ w.beside_sent old)
+
+pub returns-in-Err-clause-untaken : goal.returns-in-Err-clause-untaken
+returns-in-Err-clause-untaken g c =
+    let old = c.args.world in
+    let new = c.in-Err.field-0.value in
+    let w = g.met.W.World in
+    sym (w.beside_left new) ∙ ap (λ (b : Beside). b.left) c.in-Err.ensures.opens.beside_is ∙ w.beside_left old
+
+pub returns-in-Ok-answer-clause-untaken : goal.returns-in-Ok-answer-clause-untaken
+returns-in-Ok-answer-clause-untaken g c =
+    let old = c.args.world in
+    let mid = c.answer_store-answer.result.1 in
+    let w = g.met.W.World in
+    c.send_text.ensures.left ∙ sym (w.beside_left mid) ∙ ap (λ (b : Beside). b.left) (c.answer_store-answer.ensures.beside ∙ c.in-Ok.ensures.opens.beside_is) ∙ w.beside_left old
+
+pub returns-in-Err-answer-clause-untaken : goal.returns-in-Err-answer-clause-untaken
+returns-in-Err-answer-clause-untaken g c =
+    let old = c.args.world in
+    let new = c.answer_store-answer.result.1 in
+    let w = g.met.W.World in
+    sym (w.beside_left new) ∙ ap (λ (b : Beside). b.left) (c.answer_store-answer.ensures.beside ∙ c.in-Ok.ensures.opens.beside_is) ∙ w.beside_left old
+
+pub returns-in-Ok-answer-clause-holds : goal.returns-in-Ok-answer-clause-holds
+returns-in-Ok-answer-clause-holds g c = λ other.
+    let view = g.W.Disk.view in
+    let old = c.args.world in
+    let opened = shown.pages c.in-Ok.store in
+    let mid = c.answer_store-answer.result.1 in
+    let requests = workload c.args.seed c.args.rounds in
+    let a = answered_opened requests opened.count (view old) (view opened.disk) (view mid) c.answer_store-answer.result.0 (Ok c.in-Ok-answer.summary) c.in-Ok.ensures.count c.in-Ok-answer.is c.in-Ok.ensures.opens c.answer_store-answer.ensures in
+    let new = c.send_text.result.1 in
+    let text = c.send_text.ensures.sends (summary_line c.in-Ok-answer.summary) c.line.ensures in
+    again_sent (page_count (view old).size) (view old) (view mid) (view new) (λ count. (sent_now (view mid) ≤ count) × (count ≤ sent_now (view new))) text.kept text.time
+    (again_answered requests (page_count (view old).size) (view old) (view mid) (Ok c.in-Ok-answer.summary) (λ is. cc) a)
+
+pub returns-in-Err-answer-clause-holds : goal.returns-in-Err-answer-clause-holds
+returns-in-Err-answer-clause-holds g c = λ other.
+    let view = g.W.Disk.view in
+    let old = c.args.world in
+    let opened = shown.pages c.in-Ok.store in
+    let mid = c.answer_store-answer.result.1 in
+    let requests = workload c.args.seed c.args.rounds in
+    let a = answered_opened requests opened.count (view old) (view opened.disk) (view mid) c.answer_store-answer.result.0 (Err c.in-Err-answer.end) c.in-Ok.ensures.count c.in-Err-answer.is c.in-Ok.ensures.opens c.answer_store-answer.ensures in
+    let end = c.in-Err-answer.end in
+    again_answered requests (page_count (view old).size) (view old) (view mid) (Err end)
+    (λ is. let same : end ≡ demo_end.DiskFault = cc in other (ap (λ (s : Status). s.code) c.end_status.ensures ∙ ap (λ (e : DemoEnd). (end_status e).code) same)) a
+
+pub returns-in-Err-clause-holds : goal.returns-in-Err-clause-holds
+returns-in-Err-clause-holds g c = λ other. again_opened (g.W.Disk.view c.args.world) (g.W.Disk.view c.in-Err.field-0.value) c.in-Err.ensures.opens

@@ -1,4 +1,4 @@
-use Rattle.std.proofs.Common.{◌≢◌, Err, sym, ap, subst}
+use Rattle.std.proofs.Common.{◌≢◌, Err, sym, ap, subst, arith}
 use Rattle.gate_pages.specs.GatePages.{IsClosed, pages_view}
 use Rattle.series_load.specs.declared.load_end.LoadEnd.TheVariants.{DiskFault}
 use Rattle.series_store.specs.Shown as shown
@@ -28,6 +28,6 @@ returns g c =
     let P : g.row.W.Denot → Type 0 = λ d. IsClosed (view d) in
     subst P c.disk_of.ensures.disk (c.disk_of.ensures.rests (sound_after answer (pages_view end_pages.count end_pages.sound (view new)) made.sound made.sound_for other)) in
     let all = stores_by name pages.count end_pages.count pages.sound end_pages.sound (view disk) (view new) (left disk) (left new) made.goes.size made.goes.is_told made.goes.goes_on answer (sent disk) (sent new) (shown.total before) (reads disk) (reads new) (sends disk) (sends new)
-    made.outcome made.unknown made.within made.cause closed (λ is. let same = store_disk after before (made.untouched is) in (ap view same, ap left same)) made.goes.sent_is made.goes.sends made.goes.reads made.goes.faults in
+    made.outcome made.unknown made.within (omega (arith, before.space.rules.total_high, made.goes.size)) made.cause closed (λ is. let same = store_disk after before (made.untouched is) in (ap view same, ap left same)) made.goes.sent_is made.goes.sends made.goes.reads made.goes.faults in
     let D : g.row.W.Denot → Type 0 = λ d. Stores name pages.count (view disk) (view d) (left disk) (left d) (sent disk) (sent d) (reads disk) (reads d) (sends disk) (sends d) answer in
     subst D (sym c.disk_of.ensures.disk) all

@@ -4,6 +4,7 @@ use Rattle.chart_service.specs.Looking.{ReadsBy}
 use Rattle.chart_service.specs.Replies.{AnswersBy, AnswersView}
 use Rattle.chart_service.specs.Stepping.{state_of, ReadsFor}
 use Rattle.chart_service.specs.Viewing.{AnswersRows}
+use Rattle.chart_service.specs.Shown as shown
 use Rattle.chart_service.proofs.Filtered.{unfiltered, unfiltered_view, filtered_view}
 use Rattle.chart_service.proofs.LookLemmas.{replying_so}
 use Rattle.chart_service.proofs.PlanLemmas.{reads_unfiltered, reads_filtered}
@@ -17,7 +18,7 @@ returns-then-is_none-clause-replying g c = λ total book told stands.
     let at = slice_get book spec.series in
     replying_so (λ frame old new. IsSomeAnd (slice_get old.book spec.series) (λ series. AnswersBy None series spec number frame old new)) (λ frame old new. IsSomeAnd (slice_get old.book spec.series) (λ series. AnswersView series spec number frame old new))
     (ReadsFor spec.grid.w at) (ReadsBy spec.filter spec.grid.w at) c.answer_coefs.result total book c.args.self.now.sessions c.answer_coefs.new.self.sessions
-    (g.P.Pages.view c.args.self.now.store.space.pages) (g.P.Pages.view c.answer_coefs.new.self.store.space.pages)
+    (g.P.Pages.view (shown.pages c.args.self.now)) (g.P.Pages.view (shown.pages c.answer_coefs.new.self))
     (λ frame. unfiltered_view at spec number frame (state_of book total c.args.self.now.sessions) (state_of book total c.answer_coefs.new.self.sessions) (unfiltered spec.filter none))
     (reads_unfiltered spec.filter spec.grid.w at _ _ (unfiltered spec.filter none))
     (c.answer_coefs.ensures.replying total book told stands)
@@ -30,7 +31,7 @@ returns-else-is_none-clause-replying g c = λ total book told stands.
     let at = slice_get book spec.series in
     replying_so (λ frame old new. IsSomeAnd (slice_get old.book spec.series) (λ series. AnswersRows series spec number frame old new)) (λ frame old new. IsSomeAnd (slice_get old.book spec.series) (λ series. AnswersView series spec number frame old new))
     (λ old new. Unit {0}) (ReadsBy spec.filter spec.grid.w at) c.answer_rows.result total book c.args.self.now.sessions c.answer_rows.new.self.sessions
-    (g.P.Pages.view c.args.self.now.store.space.pages) (g.P.Pages.view c.answer_rows.new.self.store.space.pages)
+    (g.P.Pages.view (shown.pages c.args.self.now)) (g.P.Pages.view (shown.pages c.answer_rows.new.self))
     (λ frame. filtered_view at spec number frame (state_of book total c.args.self.now.sessions) (state_of book total c.answer_rows.new.self.sessions) some)
     (λ reads. reads_filtered spec.filter spec.grid.w at _ _ some)
     (c.answer_rows.ensures.replying total book told stands)

@@ -7,6 +7,8 @@ use Rattle.zoom_session.specs.Sessions.{is_open, open_refusal}
 use Rattle.chart_service.specs.Looking.{Replying, ReadsByText}
 use Rattle.chart_service.specs.Replies.{Opens, Replies, RepliesToView, RepliesByText}
 use Rattle.chart_service.specs.Stepping.{state_of, series_at, IsStepCause, ReadsFew}
+use Rattle.chart_service.specs.Shown as shown
+use Rattle.series_store.specs.Shown as stored
 use Rattle.chart_service.proofs.LookLemmas.{replying_so}
 use Rattle.chart_service.proofs.StepLemmas.{few_by_text, open_outside, open_cause, view_why, zoom_why, pan_why}
 use Rattle.chart_service.proofs.service.Service.look.Goals as goal
@@ -15,7 +17,7 @@ pub returns-in-Open-clause-replying : goal.returns-in-Open-clause-replying
 returns-in-Open-clause-replying g c = rw c.open.ensures.store (λ total book told stands.
     let ss = c.args.self.now.sessions in
     let ss' = c.open.new.self.sessions in
-    let view = g.P.Pages.view c.args.self.now.store.space.pages in
+    let view = g.P.Pages.view (shown.pages c.args.self.now) in
     let E : Request → Type 0 = λ r. Replying (Replies r) (ReadsFew r book ss) c.open.result total book ss ss' view view in
     let K : ℕ → Type 0 = λ cache. IfOk c.open.result (λ frame. Opens (open_refusal ss c.in-Open.session cache) c.in-Open.session cache frame (state_of book total ss) (state_of book total ss')) in
     subst E (sym c.in-Open.is) (record { reply = subst K c.cache_of.ensures (c.open.ensures.reply total book); standing = open_outside c.open.result c.open.ensures.error; reads = refl }))
@@ -24,15 +26,15 @@ pub returns-in-Open-clause-cause : goal.returns-in-Open-clause-cause
 returns-in-Open-clause-cause g c =
     let store = c.args.self.now.store in
     let new = c.open.new.self.store in
-    let E : Request → Type 0 = λ r. IfErr c.open.result (λ error. IsStepCause r error (g.P.Pages.told store.space.pages) store.catalog.series.items store.space.superblock.total (g.P.Pages.view store.space.pages) (g.P.Pages.view new.space.pages)) in
-    subst E (sym c.in-Open.is) (open_cause c.open.result c.in-Open.session c.in-Open.cache (g.P.Pages.told store.space.pages) store.catalog.series.items store.space.superblock.total (g.P.Pages.view store.space.pages) (g.P.Pages.view new.space.pages) c.open.ensures.error)
+    let E : Request → Type 0 = λ r. IfErr c.open.result (λ error. IsStepCause r error (g.P.Pages.told (stored.pages store)) (stored.catalog store) (stored.numbers store) (g.P.Pages.view (stored.pages store)) (g.P.Pages.view (stored.pages new))) in
+    subst E (sym c.in-Open.is) (open_cause c.open.result c.in-Open.session c.in-Open.cache (g.P.Pages.told (stored.pages store)) (stored.catalog store) (stored.numbers store) (g.P.Pages.view (stored.pages store)) (g.P.Pages.view (stored.pages new)) c.open.ensures.error)
 
 pub returns-in-View-clause-replying : goal.returns-in-View-clause-replying
 returns-in-View-clause-replying g c = λ total book told stands.
     let ss = c.args.self.now.sessions in
     let ss' = c.view_by_text.new.self.sessions in
-    let old = g.P.Pages.view c.args.self.now.store.space.pages in
-    let new = g.P.Pages.view c.view_by_text.new.self.store.space.pages in
+    let old = g.P.Pages.view (shown.pages c.args.self.now) in
+    let new = g.P.Pages.view (shown.pages c.view_by_text.new.self) in
     let number = c.in-View.session in
     let name = c.in-View.name in
     let w = c.in-View.w in
@@ -54,15 +56,15 @@ pub returns-in-View-clause-cause : goal.returns-in-View-clause-cause
 returns-in-View-clause-cause g c =
     let store = c.args.self.now.store in
     let new = c.view_by_text.new.self.store in
-    let E : Request → Type 0 = λ r. IfErr c.view_by_text.result (λ error. IsStepCause r error (g.P.Pages.told store.space.pages) store.catalog.series.items store.space.superblock.total (g.P.Pages.view store.space.pages) (g.P.Pages.view new.space.pages)) in
-    subst E (sym c.in-View.is) (view_why c.view_by_text.result c.in-View.session c.in-View.name c.in-View.w c.in-View.h c.in-View.t0 c.in-View.t1 c.in-View.range c.in-View.filter (g.P.Pages.told store.space.pages) store.catalog.series.items store.space.superblock.total (g.P.Pages.view store.space.pages) (g.P.Pages.view new.space.pages) c.view_by_text.ensures.looked.cause)
+    let E : Request → Type 0 = λ r. IfErr c.view_by_text.result (λ error. IsStepCause r error (g.P.Pages.told (stored.pages store)) (stored.catalog store) (stored.numbers store) (g.P.Pages.view (stored.pages store)) (g.P.Pages.view (stored.pages new))) in
+    subst E (sym c.in-View.is) (view_why c.view_by_text.result c.in-View.session c.in-View.name c.in-View.w c.in-View.h c.in-View.t0 c.in-View.t1 c.in-View.range c.in-View.filter (g.P.Pages.told (stored.pages store)) (stored.catalog store) (stored.numbers store) (g.P.Pages.view (stored.pages store)) (g.P.Pages.view (stored.pages new)) c.view_by_text.ensures.looked.cause)
 
 pub returns-in-Zoom-clause-replying : goal.returns-in-Zoom-clause-replying
 returns-in-Zoom-clause-replying g c = λ total book told stands.
     let ss = c.args.self.now.sessions in
     let ss' = c.zoom.new.self.sessions in
-    let old = g.P.Pages.view c.args.self.now.store.space.pages in
-    let new = g.P.Pages.view c.zoom.new.self.store.space.pages in
+    let old = g.P.Pages.view (shown.pages c.args.self.now) in
+    let new = g.P.Pages.view (shown.pages c.zoom.new.self) in
     let number = c.in-Zoom.session in
     let t0 = to_z w128 (of_z w128 c.in-Zoom.t0) in
     let t1 = to_z w128 (of_z w128 c.in-Zoom.t1) in
@@ -76,15 +78,15 @@ pub returns-in-Zoom-clause-cause : goal.returns-in-Zoom-clause-cause
 returns-in-Zoom-clause-cause g c =
     let store = c.args.self.now.store in
     let new = c.zoom.new.self.store in
-    let E : Request → Type 0 = λ r. IfErr c.zoom.result (λ error. IsStepCause r error (g.P.Pages.told store.space.pages) store.catalog.series.items store.space.superblock.total (g.P.Pages.view store.space.pages) (g.P.Pages.view new.space.pages)) in
-    subst E (sym c.in-Zoom.is) (zoom_why c.zoom.result c.in-Zoom.session c.in-Zoom.t0 c.in-Zoom.t1 (g.P.Pages.told store.space.pages) store.catalog.series.items store.space.superblock.total (g.P.Pages.view store.space.pages) (g.P.Pages.view new.space.pages) c.zoom.ensures.looked.cause)
+    let E : Request → Type 0 = λ r. IfErr c.zoom.result (λ error. IsStepCause r error (g.P.Pages.told (stored.pages store)) (stored.catalog store) (stored.numbers store) (g.P.Pages.view (stored.pages store)) (g.P.Pages.view (stored.pages new))) in
+    subst E (sym c.in-Zoom.is) (zoom_why c.zoom.result c.in-Zoom.session c.in-Zoom.t0 c.in-Zoom.t1 (g.P.Pages.told (stored.pages store)) (stored.catalog store) (stored.numbers store) (g.P.Pages.view (stored.pages store)) (g.P.Pages.view (stored.pages new)) c.zoom.ensures.looked.cause)
 
 pub returns-in-Pan-clause-replying : goal.returns-in-Pan-clause-replying
 returns-in-Pan-clause-replying g c = λ total book told stands.
     let ss = c.args.self.now.sessions in
     let ss' = c.pan.new.self.sessions in
-    let old = g.P.Pages.view c.args.self.now.store.space.pages in
-    let new = g.P.Pages.view c.pan.new.self.store.space.pages in
+    let old = g.P.Pages.view (shown.pages c.args.self.now) in
+    let new = g.P.Pages.view (shown.pages c.pan.new.self) in
     let number = c.in-Pan.session in
     let by = to_z w128 (of_z w128 c.in-Pan.by) in
     let same : by ≡ c.in-Pan.by = search rules in
@@ -96,5 +98,5 @@ pub returns-in-Pan-clause-cause : goal.returns-in-Pan-clause-cause
 returns-in-Pan-clause-cause g c =
     let store = c.args.self.now.store in
     let new = c.pan.new.self.store in
-    let E : Request → Type 0 = λ r. IfErr c.pan.result (λ error. IsStepCause r error (g.P.Pages.told store.space.pages) store.catalog.series.items store.space.superblock.total (g.P.Pages.view store.space.pages) (g.P.Pages.view new.space.pages)) in
-    subst E (sym c.in-Pan.is) (pan_why c.pan.result c.in-Pan.session c.in-Pan.by (g.P.Pages.told store.space.pages) store.catalog.series.items store.space.superblock.total (g.P.Pages.view store.space.pages) (g.P.Pages.view new.space.pages) c.pan.ensures.looked.cause)
+    let E : Request → Type 0 = λ r. IfErr c.pan.result (λ error. IsStepCause r error (g.P.Pages.told (stored.pages store)) (stored.catalog store) (stored.numbers store) (g.P.Pages.view (stored.pages store)) (g.P.Pages.view (stored.pages new))) in
+    subst E (sym c.in-Pan.is) (pan_why c.pan.result c.in-Pan.session c.in-Pan.by (g.P.Pages.told (stored.pages store)) (stored.catalog store) (stored.numbers store) (g.P.Pages.view (stored.pages store)) (g.P.Pages.view (stored.pages new)) c.pan.ensures.looked.cause)

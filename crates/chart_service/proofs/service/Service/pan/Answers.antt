@@ -6,6 +6,7 @@ use Rattle.zoom_session.specs.Sessions.{session_of, last_of}
 use Rattle.chart_service.specs.Planning.{IsMoved, IsLastOf}
 use Rattle.chart_service.specs.Replies.{Moves, MovesIn}
 use Rattle.chart_service.specs.Stepping.{state_of, ReadsLast}
+use Rattle.chart_service.specs.Shown as shown
 use Rattle.chart_service.proofs.Answered.{move_answered}
 use Rattle.chart_service.proofs.LookLemmas.{replying_so}
 use Rattle.chart_service.proofs.ViewLemmas.{reads_of_last}
@@ -25,7 +26,7 @@ returns-clause-replying g c = λ total book told stands.
     let moved : IsMoved last.grid (last.grid.t0 +ℤ c.args.by) (last.grid.t1 +ℤ c.args.by) c.panned-grid.result = subst B (to_z-of_z w128 c.args.by by) c.panned-grid.ensures in
     replying_so (λ frame old new. Moves last number (last.grid.t0 +ℤ c.args.by) (last.grid.t1 +ℤ c.args.by) frame old new) (λ frame old new. MovesIn (session_of number old.sessions) number window frame old new)
     (ReadsLast book (Some last)) (ReadsLast book (last_of session)) c.answer_over.result total book ss c.answer_over.new.self.sessions
-    (g.P.Pages.view c.args.self.now.store.space.pages) (g.P.Pages.view c.answer_over.new.self.store.space.pages)
+    (g.P.Pages.view (shown.pages c.args.self.now)) (g.P.Pages.view (shown.pages c.answer_over.new.self))
     (λ frame. move_answered session last number window frame (state_of book total ss) (state_of book total c.answer_over.new.self.sessions) is)
     (reads_of_last book session last _ _ is)
     (c.answer_over.ensures.replying total book (last.grid.t0 +ℤ c.args.by) (last.grid.t1 +ℤ c.args.by) told stands moved)

@@ -1,7 +1,6 @@
 use Rattle.std.proofs.Common.{ap}
 use Rattle.chart_grid.specs.declared.axis.Axis.{Axis}
 use Rattle.om3_coeff.specs.View.{NodesView}
-use Rattle.tree_walk.specs.PagedNodes.{ground, paged_view}
 use Rattle.zoom_session.specs.Sessions.{session_of}
 use Rattle.series_store.specs.Shown as store
 use Rattle.chart_service.specs.Shown as shown
@@ -19,8 +18,8 @@ returns-clause-planned g c = λ total book told stands.
     let session = session_of c.args.number c.args.self.now.sessions in
     let before = c.selected-axis.new.store in
     let after = c.plan.new.nodes in
-    let nodes : NodesView = paged_view (ground (g.P.Pages.told (store.pages before)) (g.P.Pages.view (store.pages before)) (g.P.Pages.under (store.pages before)) (store.numbers before) before.tree) before.trail in
-    let nodes' : NodesView = paged_view (ground (g.P.Pages.told (store.pages after)) (g.P.Pages.view (store.pages after)) (g.P.Pages.under (store.pages after)) (store.numbers after) after.tree) after.trail in
+    let nodes : NodesView = store.nodes before in
+    let nodes' : NodesView = store.nodes after in
     let fit = c.requires.sound in
     some_there book spec.series (λ series. PlansOrStops series spec session c.plan.result) (c.selected-axis.ensures.there total book fit told stands) (λ series at.
     planned_over series spec session c.selected-axis.result nodes nodes' c.plan.result
@@ -36,8 +35,8 @@ returns-clause-cause g c = rw (shown.IsTold, shown.view, shown.catalog, shown.to
     let catalog = shown.catalog c.args.self.now in
     let before = c.selected-axis.new.store in
     let after = c.plan.new.nodes in
-    let nodes : NodesView = paged_view (ground (g.P.Pages.told (store.pages before)) (g.P.Pages.view (store.pages before)) (g.P.Pages.under (store.pages before)) (store.numbers before) before.tree) before.trail in
-    let nodes' : NodesView = paged_view (ground (g.P.Pages.told (store.pages after)) (g.P.Pages.view (store.pages after)) (g.P.Pages.under (store.pages after)) (store.numbers after) after.tree) after.trail in
+    let nodes : NodesView = store.nodes before in
+    let nodes' : NodesView = store.nodes after in
     let one = there catalog spec.series c.requires.view.there in
     if_err c.plan.result (RefusesView session nodes nodes') (λ error. IsPlanCause error (g.P.Pages.told (store.pages before)) catalog (store.total before) (g.P.Pages.view (store.pages before)) (g.P.Pages.view (store.pages after)))
     (λ error. plan_cause session nodes nodes' (g.P.Pages.told (store.pages before)) catalog (store.total before) (g.P.Pages.view (store.pages before)) (g.P.Pages.view (store.pages after)) error
@@ -47,7 +46,6 @@ returns-clause-cause g c = rw (shown.IsTold, shown.view, shown.catalog, shown.to
 pub returns-clause-reads : goal.returns-clause-reads
 returns-clause-reads g c = λ total book told stands.
     let spec = c.args.spec.now in
-    let before = c.selected-axis.new.store in
     let after = c.plan.new.nodes in
     let few = rw (store.view, store.pages, c.selected-axis.ensures.space) at c.plan.ensures.reads in
     let fit = c.requires.sound in

@@ -1,6 +1,5 @@
 use Rattle.filter_scan.specs.Answers.{IsCauseOf}
 use Rattle.om3_coeff.specs.View.{NodesView}
-use Rattle.tree_walk.specs.PagedNodes.{ground, paged_view}
 use Rattle.series_store.specs.Shown as store
 use Rattle.chart_service.specs.Shown as shown
 use Rattle.chart_service.specs.Planning.{ShowsOrStops}
@@ -16,8 +15,8 @@ returns-clause-shown g c = λ total book told stands.
     let spec = c.args.spec.now in
     let before = c.selected-axis.new.store in
     let after = c.shown_rows.new.nodes in
-    let nodes : NodesView = paged_view (ground (g.P.Pages.told (store.pages before)) (g.P.Pages.view (store.pages before)) (g.P.Pages.under (store.pages before)) (store.numbers before) before.tree) before.trail in
-    let nodes' : NodesView = paged_view (ground (g.P.Pages.told (store.pages after)) (g.P.Pages.view (store.pages after)) (g.P.Pages.under (store.pages after)) (store.numbers after) after.tree) after.trail in
+    let nodes : NodesView = store.nodes before in
+    let nodes' : NodesView = store.nodes after in
     let fit = c.requires.sound in
     some_there book spec.series (λ series. ShowsOrStops series spec c.shown_rows.result) (c.selected-axis.ensures.there total book fit told stands) (λ series at.
     shows_over series spec c.selected-axis.result nodes nodes' c.shown_rows.result
@@ -32,8 +31,8 @@ returns-clause-cause g c = rw (shown.IsTold, shown.view, shown.catalog, shown.to
     let catalog = shown.catalog c.args.self.now in
     let before = c.selected-axis.new.store in
     let after = c.shown_rows.new.nodes in
-    let nodes : NodesView = paged_view (ground (g.P.Pages.told (store.pages before)) (g.P.Pages.view (store.pages before)) (g.P.Pages.under (store.pages before)) (store.numbers before) before.tree) before.trail in
-    let nodes' : NodesView = paged_view (ground (g.P.Pages.told (store.pages after)) (g.P.Pages.view (store.pages after)) (g.P.Pages.under (store.pages after)) (store.numbers after) after.tree) after.trail in
+    let nodes : NodesView = store.nodes before in
+    let nodes' : NodesView = store.nodes after in
     let one = there catalog spec.series c.requires.view.there in
     if_err c.shown_rows.result (IsCauseOf nodes nodes') (λ error. IsScanCause error (g.P.Pages.told (store.pages before)) catalog (store.total before) (g.P.Pages.view (store.pages before)) (g.P.Pages.view (store.pages after)))
     (λ error. scan_cause nodes nodes' (g.P.Pages.told (store.pages before)) catalog (store.total before) (g.P.Pages.view (store.pages before)) (g.P.Pages.view (store.pages after)) error

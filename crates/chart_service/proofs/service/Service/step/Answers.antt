@@ -8,7 +8,7 @@ use Rattle.chart_service.specs.Stepping.{StandsAfter, state_of, RepliedTo, IsBef
 use Rattle.chart_service.specs.Shown as shown
 use Rattle.series_store.specs.Shown as stored
 use Rattle.chart_service.proofs.LookLemmas.{unchanged, unchanged_so, steps_so, moments_so}
-use Rattle.chart_service.proofs.StepLemmas.{look_reply, look_bad, edit_bad, on_ok}
+use Rattle.chart_service.proofs.StepLemmas.{AreOwn, look_reply, look_bad, edit_bad, on_ok}
 use Rattle.chart_service.proofs.service.Service.step.Goals as goal
 
 pub returns-in-Edit-clause-reply : goal.returns-in-Edit-clause-reply
@@ -28,7 +28,13 @@ pub returns-in-Edit-clause-bad : goal.returns-in-Edit-clause-bad
 returns-in-Edit-clause-bad g c =
     let store = c.args.self.now.store in
     let new = c.edit.new.self.store in
-    edit_bad c.edit.result c.in-Edit.edit (g.P.Pages.told (stored.pages store)) (g.P.Pages.told (stored.pages new)) (stored.catalog store) (stored.catalog new) (stored.total store) (stored.total new) (g.P.Pages.view (stored.pages store)) (g.P.Pages.view (stored.pages new)) c.edit.ensures.total c.edit.ensures.cause
+    let own : AreOwn (g.P.Pages.told (stored.pages store)) (g.P.Pages.view (stored.pages store)) (stored.numbers store) (stored.catalog store) = record {
+      within = store.space.rules.total_high;
+      keeps = λ t. record { spelled = store.space.spelled c.requires.sound t; rules = store.space.rules };
+      count = store.count;
+      says = λ t. store.told c.requires.sound t;
+    } in
+    edit_bad c.edit.result c.in-Edit.edit (g.P.Pages.told (stored.pages store)) (g.P.Pages.told (stored.pages new)) (stored.catalog store) (stored.numbers store) (g.P.Pages.view (stored.pages store)) (g.P.Pages.view (stored.pages new)) own c.edit.ensures.steps c.edit.ensures.unchanged c.edit.ensures.cause
 
 pub returns-in_default : goal.returns-in_default
 returns-in_default g c =
@@ -41,6 +47,12 @@ returns-in_default g c =
     let looked = c.look-reply.ensures.looked in
     let looks = looked.looks in
     let fit = looks.fit c.requires.sound in
+    let own : AreOwn (g.P.Pages.told (stored.pages store)) (g.P.Pages.view (stored.pages store)) (stored.numbers store) (stored.catalog store) = record {
+      within = store.space.rules.total_high;
+      keeps = λ t. record { spelled = store.space.spelled c.requires.sound t; rules = store.space.rules };
+      count = store.count;
+      says = λ t. store.told c.requires.sound t;
+    } in
     record {
       reply = λ total book told stands.
           let S : Image → Type 0 = λ i. StandsForBook i total book in
@@ -55,7 +67,7 @@ returns-in_default g c =
       sessions = looked.lost;
       unchanged = unchanged_so r (g.P.Pages.told (stored.pages store)) (g.P.Pages.view (stored.pages store)) (g.P.Pages.view (stored.pages new)) (unchanged _ _ _ _ _ _ _ _ _ _ looks);
       cause = c.look-reply.ensures.cause;
-      bad = look_bad r _ _ _ _ _ _ _ _ _ _ looks looked.cause;
+      bad = look_bad r _ _ _ _ _ _ _ _ _ _ own looks looked.cause;
       steps = steps_so _ _ _ _ _ _ _ _ _ _ looks;
       goes_on = looks.goes_on;
       sound = on_ok r (g.P.Pages.view (stored.pages new)).fit fit;

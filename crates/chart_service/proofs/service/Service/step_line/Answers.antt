@@ -2,6 +2,8 @@ use Rattle.std.proofs.Common.{◌≡◌, ◌≤◌, length, Ok, Err, subst, arit
 use Rattle.request_lines.specs.declared.line_errors.LineError.{LineError}
 use Rattle.request_lines.specs.Requests.{read_line, ReadsAs}
 use Rattle.chart_service.specs.Shown as shown
+use Rattle.chart_service.specs.Replies.{line_text}
+use Rattle.chart_service.proofs.TurnLemmas.{line_none, line_reads}
 use Rattle.chart_service.proofs.LineLemmas.{long_line}
 use Rattle.chart_service.proofs.StepLemmas.{line_reply, line_moments, bad_line}
 use Rattle.chart_service.proofs.service.Service.step_line.Goals as goal
@@ -33,3 +35,18 @@ returns-in-Err-BadLine-clause-reply g c = λ total book told stands.
     let R : LineError → Type 0 = λ e. ReadsAs (read_line c.args.line.now) (Err e) in
     let is : read_line c.args.line.now ≡ Err c.in-Err-BadLine.at = subst R c.in-Err-BadLine.field-0-is c.in-Err-BadLine.ensures.reading in
     bad_line c.args.line.now c.in-Err-BadLine.at c.refused-in-Err-BadLine.result total book c.args.self.now.sessions (g.P.Pages.view (shown.pages c.args.self.now)).image short is c.refused-in-Err-BadLine.ensures.frame c.refused-in-Err-BadLine.ensures.fits sound stands
+
+pub returns-then-line-gt-LONGEST_LINE-clause-reads : goal.returns-then-line-gt-LONGEST_LINE-clause-reads
+returns-then-line-gt-LONGEST_LINE-clause-reads g c = λ total book told stands. line_none (line_text c.args.line.now) (shown.state c.args.self.now total book) _
+
+pub returns-in-Ok-clause-reads : goal.returns-in-Ok-clause-reads
+returns-in-Ok-clause-reads g c = λ total book told stands.
+    let short : length c.args.line.now ≤ 8192 = omega arith in
+    let is : read_line c.args.line.now ≡ Ok c.in-Ok.request = c.in-Ok.ensures.reading in
+    line_reads c.args.line.now c.in-Ok.request (shown.state c.args.self.now total book) _ _ short is (c.step.ensures.reads total book told stands)
+
+pub returns-in-Err-BadLine-clause-reads : goal.returns-in-Err-BadLine-clause-reads
+returns-in-Err-BadLine-clause-reads g c = λ total book told stands. line_none (line_text c.args.line.now) (shown.state c.args.self.now total book) _
+
+pub returns-in-Err-NoMemory-clause-reads : goal.returns-in-Err-NoMemory-clause-reads
+returns-in-Err-NoMemory-clause-reads g c = λ total book told stands. line_none (line_text c.args.line.now) (shown.state c.args.self.now total book) _

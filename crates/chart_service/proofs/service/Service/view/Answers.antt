@@ -6,6 +6,8 @@ use Rattle.chart_service.specs.Looking.{ReadsBy}
 use Rattle.chart_service.specs.Planning.{IsSpecFor}
 use Rattle.chart_service.specs.Replies.{AnswersView, RepliesToView}
 use Rattle.chart_service.specs.Stepping.{state_of, series_at}
+use Rattle.chart_service.specs.Shown as shown
+use Rattle.series_store.specs.Shown as stored
 use Rattle.chart_service.proofs.Answered.{replies_to_view, views_id, refuses_id}
 use Rattle.chart_service.proofs.LookLemmas.{replying_so, replying_refused, looked_refused}
 use Rattle.chart_service.proofs.PlanLemmas.{reads_by}
@@ -19,7 +21,7 @@ returns-in_default-clause-replying g c = λ total book told stands.
     let name = c.args.name.now in
     let v = c.args.viewport in
     let filter = c.args.filter in
-    let view = g.P.Pages.view c.args.self.now.store.space.pages in
+    let view = g.P.Pages.view (shown.pages c.args.self.now) in
     let there : is_open number ss ≡ true = search rules in
     let none : id_of name book ≡ None = c.in_default.ensures.info total book c.requires.sound told stands in
     replying_refused (λ frame old new. RepliesToView (is_open number old.sessions) number name v.w v.h v.t0 v.t1 c.args.word filter frame old new) (ReadsBy filter v.w (series_at book (id_of name book))) c.refused-in_default.result total book ss view
@@ -43,7 +45,7 @@ returns-in-Ok-clause-replying g c = λ total book told stands.
     let new = state_of book total ss' in
     replying_so (λ frame old new. IsSomeAnd (slice_get old.book spec.series) (λ series. AnswersView series spec number frame old new)) (λ frame old new. RepliesToView (is_open number old.sessions) number name v.w v.h v.t0 v.t1 c.args.word filter frame old new)
     (ReadsBy spec.filter spec.grid.w (slice_get book spec.series)) (ReadsBy filter v.w (series_at book (id_of name book))) c.answer.result total book ss ss'
-    (g.P.Pages.view c.args.self.now.store.space.pages) (g.P.Pages.view c.answer.new.self.store.space.pages)
+    (g.P.Pages.view (shown.pages c.args.self.now)) (g.P.Pages.view (shown.pages c.answer.new.self))
     (λ frame answers. replies_to_view number name v c.args.word filter id frame old new there named (views_id id number v c.args.word filter spec frame old new is answers))
     (reads_named book name id v c.args.word filter spec _ _ named is)
     (c.answer.ensures.replying total book told stands)
@@ -56,7 +58,7 @@ returns-in-Err-clause-replying g c = λ total book told stands.
     let v = c.args.viewport in
     let filter = c.args.filter in
     let id = c.in-Some.info.id in
-    let view = g.P.Pages.view c.args.self.now.store.space.pages in
+    let view = g.P.Pages.view (shown.pages c.args.self.now) in
     let old = state_of book total ss in
     let there : is_open number ss ≡ true = search rules in
     let named : id_of name book ≡ Some id = (c.in-Some.ensures.info total book c.requires.sound told stands).0 in
@@ -69,4 +71,4 @@ returns-in-Err-clause-replying g c = λ total book told stands.
 pub returns-in-Err-clause-looked : goal.returns-in-Err-clause-looked
 returns-in-Err-clause-looked g c =
     let store = c.args.self.now.store in
-    looked_refused (Some c.args.number) c.refused-in-Err.result c.in-Err.refusal c.args.self.now.sessions (g.P.Pages.told store.space.pages) (g.P.Pages.view store.space.pages) (g.P.Pages.under store.space.pages) store.space.superblock store.catalog.series.items c.refused-in-Err.ensures.frame c.refused-in-Err.ensures.fits
+    looked_refused (Some c.args.number) c.refused-in-Err.result c.in-Err.refusal c.args.self.now.sessions (g.P.Pages.told (stored.pages store)) (g.P.Pages.view (stored.pages store)) (g.P.Pages.under (stored.pages store)) (stored.numbers store) (stored.catalog store) c.refused-in-Err.ensures.frame c.refused-in-Err.ensures.fits

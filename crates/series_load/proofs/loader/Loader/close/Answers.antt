@@ -1,4 +1,7 @@
-use Rattle.series_load.proofs.SetLemmas.{some_items, set_is_edit, set_does, set_fails}
+use Rattle.std.proofs.Common.{sym, subst}
+use Rattle.series_load.proofs.SetLemmas.{some_items, set_is_edit, set_does, set_fails, cause_of}
+use Rattle.series_load.specs.Steps.{IsSetCause}
+use Rattle.series_load.specs.declared.load_end.LoadEnd.{LoadEnd}
 use Rattle.series_store.specs.Shown as shown
 use Rattle.series_load.proofs.loader.Loader.close.Goals as goal
 
@@ -21,3 +24,11 @@ returns-clause-does g c = λ total book old told stands keeps.
     set_fails total c.args.self.now.name book old c.args.self.now.run c.args.self.now.run c.in_ok-set.set c.in-Err.error c.end_at.result (shown.IsTold c.args.store.now) (shown.view c.args.store.now) (shown.view c.edit.new.self)
     (some_items values.len values.items c.is_empty.result values.ok.0 c.is_empty.ensures c.if-is_empty.false) keeps c.in_ok-set.ensures.set c.end_at.ensures told stands
     (c.in-Err.ensures.refused total book told stands) c.in-Err.ensures.unchanged (c.in-Err.ensures.moments total book told stands)
+
+pub returns-clause-cause : goal.returns-clause-cause
+returns-clause-cause g c =
+    let store = c.args.store.now in
+    let new = c.edit.new.self in
+    let P : LoadEnd → Type 0 = λ e. IsSetCause e (shown.IsTold new) (shown.total store) (shown.view store) (shown.view new) in
+    subst P (sym c.end_at.ensures) (cause_of c.args.self.now.run.at c.in-Err.error (shown.IsTold store) (shown.IsTold new) (shown.numbers store) (shown.view store) (shown.view new) c.edit.ensures.moves.was_told c.edit.ensures.moves.size
+    (λ t. record { spelled = store.space.spelled c.requires.sound t; rules = store.space.rules }) c.in-Err.ensures.unchanged c.in-Err.ensures.cause)

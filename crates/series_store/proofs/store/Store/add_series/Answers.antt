@@ -130,7 +130,7 @@ returns-in-Err-clause-as_before g c = c.take_last.ensures c.args.self.now.catalo
 pub returns-in_err-txn-clause-carried : goal.returns-in_err-txn-clause-carried
 returns-in_err-txn-clause-carried g c =
     carried_read c.from_residual.result c.in_err-txn.field-0.0 (omega arith) c.from_residual.ensures.1 c.new_record.ensures.reads c.new_record.ensures.goes_on c.new_record.ensures.space
-    (add_cause _ c.in_err-txn.field-0.0 _ _ c.in_err-txn.ensures.cause)
+    (add_cause _ _ c.in_err-txn.field-0.0 _ _ c.in_err-txn.ensures.cause)
 
 pub returns-in_err-add-clause-carried : goal.returns-in_err-add-clause-carried
 returns-in_err-add-clause-carried g c =

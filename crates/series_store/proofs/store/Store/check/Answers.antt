@@ -1,10 +1,10 @@
-use Rattle.std.proofs.Common.{◌≡◌, ◌<◌, ◌^◌, sym, ap, subst, inl, arith, ◌∙◌}
+use Rattle.std.proofs.Common.{◌≡◌, ◌<◌, ◌^◌, sym, ap, subst, inl, arith, ◌∙◌, ℕ}
 use Rattle.page_space.specs.declared.superblock.Superblock.{Superblock}
 use Rattle.page_space.specs.Layout.{in_use}
 use Rattle.series_catalog.specs.Catalogs.{AreFit}
 use Rattle.stored_book.proofs.PagesInUse.{in_use_of}
 use Rattle.tree_walk.proofs.StepLemmas.{error_so}
-use Rattle.series_store.specs.Counting.{IsCheckCause}
+use Rattle.series_store.specs.Counting.{NamesWithin, IsCheckCause}
 use Rattle.series_store.specs.Opening.{IsOutside}
 use Rattle.series_store.specs.declared.errors.StoreError.{StoreError}
 use Rattle.series_store.proofs.AskLemmas.{own_store, as_many}
@@ -134,3 +134,15 @@ returns-clause-reads g c = λ total book told stands.
     let long = as_many (g.P.Pages.view c.args.self.now.space.pages).image c.args.self.now.space.superblock book c.args.self.now.catalog.series.items store.0 c.args.self.now.count in
     once_read (g.P.Pages.view c.args.self.now.space.pages).image c.args.self.now.space.superblock book c.args.self.now.catalog.series.items (g.P.Pages.view c.args.self.now.space.pages).reads (g.P.Pages.view c.count_trees.new.space.pages).reads (g.P.Pages.view c.pass_chain.new.space.pages).reads store.0 (c.args.self.now.told c.requires.sound told) long (c.count_trees.ensures.reads told)
     (omega (arith, c.pass_chain.ensures.reads, ap (λ (s : Superblock). s.chain) c.count_trees.ensures.looks.over.superblock))
+
+pub returns-in_err-values-clause-within : goal.returns-in_err-values-clause-within
+returns-in_err-values-clause-within g c =
+    let W : StoreError → Type 0 = λ e. NamesWithin c.args.self.now.space.superblock.total e in
+    error_so _ W c.from_residual.result c.from_residual.ensures.1 (λ e same. subst W (sym same) c.in_err-values.ensures.within)
+
+pub returns-in_err-pass_chain-clause-within : goal.returns-in_err-pass_chain-clause-within
+returns-in_err-pass_chain-clause-within g c =
+    let W : StoreError → Type 0 = λ e. NamesWithin c.args.self.now.space.superblock.total e in
+    let N : ℕ → Type 0 = λ n. NamesWithin n c.in_err-pass_chain.field-0.0 in
+    error_so _ W c.from_residual-in_err-pass_chain.result c.from_residual-in_err-pass_chain.ensures.1
+    (λ e same. subst W (sym same) (subst N (ap (λ (s : Superblock). s.total) c.count_trees.ensures.looks.over.superblock) c.in_err-pass_chain.ensures.within))

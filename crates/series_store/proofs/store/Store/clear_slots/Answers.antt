@@ -2,6 +2,7 @@ use Rattle.series_store.specs.declared.errors.StoreError.TheVariants.{NoMemory}
 use Rattle.series_store.specs.declared.errors.StoreError.{StoreError}
 use Rattle.std.specs.Result.{IsErrAnd}
 use Rattle.std.proofs.Common.{◌≡◌, ℕ, ℤ, ◌+◌, ◌≤◌, ◌^◌, List, length, slice_get, Option, Some, Ok, subst, sym, ap, refl, arith, ◌∙◌}
+use Rattle.std.proofs.lemmas.Option.{slice_get_within}
 use Rattle.block_disk.specs.View.{Image}
 use Rattle.page_space.specs.declared.superblock.Superblock.{Superblock}
 use Rattle.page_space.specs.Transactions.{left_by}
@@ -20,7 +21,7 @@ use Rattle.series_store.specs.Shown as shown
 use Rattle.series_store.specs.Changing.{IsRefusedBy, IsAnswered}
 use Rattle.series_store.specs.Errors.{error_of}
 use Rattle.series_store.proofs.AnswerLemmas.{answered_after, answered_none}
-use Rattle.series_store.proofs.CarryLemmas.{carried_error, carried_after, carried_starved}
+use Rattle.series_store.proofs.CarryLemmas.{names_below, carried_error, carried_after, carried_starved}
 use Rattle.series_store.proofs.ChangeLemmas.{root_below, levels_four, held_tree, clear_edited, tree_changed}
 use Rattle.series_store.proofs.RecordLemmas.{stands_with, known_some}
 use Rattle.series_store.proofs.SaveLemmas.{failed_reading}
@@ -96,9 +97,14 @@ returns-in_err-tree-clause-carried g c = rw (shown.IsTold, shown.image, shown.vi
     let base = c.begin.new.self in
     let tree = c.series.result.now.tree in
     let puts = clear_puts c.args.slot c.args.count tree.slots c.requires.few in
+    let sound : (g.P.Pages.view base.space.pages).fit = rw c.begin.ensures.space c.requires.sound in
+    let there : slice_get base.catalog.series.items c.args.id ≡ Some c.series.result.now = rw c.begin.ensures.catalog c.series.ensures in
     carried_error _ (g.P.Pages.told base.space.pages) (g.P.Pages.told c.clear_run.new.space.pages) (g.P.Pages.view base.space.pages) (g.P.Pages.view c.clear_run.new.space.pages) (g.P.Pages.under base.space.pages) (g.P.Pages.under c.clear_run.new.space.pages)
     base.space.superblock c.clear_run.new.space.superblock c.from_residual-in_err-tree.result c.in_err-tree.field-0.0
-    (omega (arith, puts, levels_few tree.slots)) c.from_residual-in_err-tree.ensures.1 c.clear_run.ensures.moved.reads c.clear_run.ensures.moved.over.goes_on c.clear_run.ensures.moved.over.superblock c.in_err-tree.ensures.cause)
+    (omega (arith, puts, levels_few tree.slots)) c.from_residual-in_err-tree.ensures.1 c.clear_run.ensures.moved.reads c.clear_run.ensures.moved.over.goes_on c.clear_run.ensures.moved.over.superblock c.in_err-tree.ensures.cause
+    (names_below (g.P.Pages.told base.space.pages) (g.P.Pages.view base.space.pages).image base.space.superblock c.args.id c.series.result.now c.in_ok-txn.txn c.in_err-tree.field-0.0
+    (omega (arith, slice_get_within base.catalog.series.items c.args.id c.series.result.now there, base.count)) base.small c.in_ok-txn.ensures.superblock (λ told. base.told sound told c.args.id c.series.result.now there) c.in_ok-txn.ensures.left
+    (λ told. c.in_err-tree.ensures.stored (g.P.Pages.view base.space.pages).image (record { are_told = told; are = refl }))))
 
 pub save-requires-clause-few : goal.save-requires-clause-few
 save-requires-clause-few g c =

@@ -98,7 +98,7 @@ pub returns-in-Create-clause-goes_on : goal.returns-in-Create-clause-goes_on
 returns-in-Create-clause-goes_on g c = rw (shown.TimeGoesOn, shown.under, shown.pages, ← c.select_none.ensures.space) c.create.ensures.carried.goes_on
 
 pub returns-in-Create-clause-cause : goal.returns-in-Create-clause-cause
-returns-in-Create-clause-cause g c = rw (shown.total, shown.view, shown.pages, ← c.select_none.ensures.space) c.create.ensures.carried.cause
+returns-in-Create-clause-cause g c = rw (shown.IsTold, shown.numbers, shown.view, shown.pages, ← c.select_none.ensures.space) c.create.ensures.carried.cause
 
 pub returns-in-Create-clause-unchanged : goal.returns-in-Create-clause-unchanged
 returns-in-Create-clause-unchanged g c = rw (shown.IsTold, shown.view, shown.pages, ← c.select_none.ensures.space) c.create.ensures.carried.unchanged
@@ -110,7 +110,7 @@ pub returns-in-Append-clause-goes_on : goal.returns-in-Append-clause-goes_on
 returns-in-Append-clause-goes_on g c = rw (shown.TimeGoesOn, shown.under, shown.pages, ← c.select_none.ensures.space) c.append.ensures.carried.goes_on
 
 pub returns-in-Append-clause-cause : goal.returns-in-Append-clause-cause
-returns-in-Append-clause-cause g c = rw (shown.total, shown.view, shown.pages, ← c.select_none.ensures.space) c.append.ensures.carried.cause
+returns-in-Append-clause-cause g c = rw (shown.IsTold, shown.numbers, shown.view, shown.pages, ← c.select_none.ensures.space) c.append.ensures.carried.cause
 
 pub returns-in-Append-clause-unchanged : goal.returns-in-Append-clause-unchanged
 returns-in-Append-clause-unchanged g c = rw (shown.IsTold, shown.view, shown.pages, ← c.select_none.ensures.space) c.append.ensures.carried.unchanged
@@ -122,7 +122,7 @@ pub returns-in-Set-clause-goes_on : goal.returns-in-Set-clause-goes_on
 returns-in-Set-clause-goes_on g c = rw (shown.TimeGoesOn, shown.under, shown.pages, ← c.select_none.ensures.space) c.set.ensures.carried.goes_on
 
 pub returns-in-Set-clause-cause : goal.returns-in-Set-clause-cause
-returns-in-Set-clause-cause g c = rw (shown.total, shown.view, shown.pages, ← c.select_none.ensures.space) c.set.ensures.carried.cause
+returns-in-Set-clause-cause g c = rw (shown.IsTold, shown.numbers, shown.view, shown.pages, ← c.select_none.ensures.space) c.set.ensures.carried.cause
 
 pub returns-in-Set-clause-unchanged : goal.returns-in-Set-clause-unchanged
 returns-in-Set-clause-unchanged g c = rw (shown.IsTold, shown.view, shown.pages, ← c.select_none.ensures.space) c.set.ensures.carried.unchanged
@@ -134,7 +134,7 @@ pub returns-in-Clear-clause-goes_on : goal.returns-in-Clear-clause-goes_on
 returns-in-Clear-clause-goes_on g c = rw (shown.TimeGoesOn, shown.under, shown.pages, ← c.select_none.ensures.space) c.clear.ensures.carried.goes_on
 
 pub returns-in-Clear-clause-cause : goal.returns-in-Clear-clause-cause
-returns-in-Clear-clause-cause g c = rw (shown.total, shown.view, shown.pages, ← c.select_none.ensures.space) c.clear.ensures.carried.cause
+returns-in-Clear-clause-cause g c = rw (shown.IsTold, shown.numbers, shown.view, shown.pages, ← c.select_none.ensures.space) c.clear.ensures.carried.cause
 
 pub returns-in-Clear-clause-unchanged : goal.returns-in-Clear-clause-unchanged
 returns-in-Clear-clause-unchanged g c = rw (shown.IsTold, shown.view, shown.pages, ← c.select_none.ensures.space) c.clear.ensures.carried.unchanged

@@ -1,5 +1,4 @@
-use Rattle.std.proofs.Common.{◌≤◌, ◌^◌, ℤ, refl, sym, subst, arith}
-use Rattle.std.specs.Prelude.{unsigned_abs}
+use Rattle.std.proofs.Common.{ℤ, refl, sym, subst, arith}
 use Rattle.whole_number.specs.Range.{IsValue}
 use Rattle.series_store.proofs.AskLemmas.{own_store, info_is, start_same}
 use Rattle.series_store.proofs.store.Store.info.Goals as goal

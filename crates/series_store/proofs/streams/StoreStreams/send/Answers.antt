@@ -6,11 +6,11 @@ use Rattle.series_store.proofs.streams.StoreStreams.send.Goals as goal
 
 pub invariant_of-self : goal.invariant_of-self
 invariant_of-self g c =
-    let same : c.send.new.self.superblock ≡ c.args.self.now.space.superblock = c.send.ensures.beside.1 in
+    let same : c.send.new.self.superblock ≡ c.args.self.now.space.superblock = c.send.ensures.beside.superblock in
     let stay : Stay (g.P.Pages.told c.args.self.now.space.pages) (g.P.Pages.told c.send.new.self.pages) (g.P.Pages.view c.args.self.now.space.pages) (g.P.Pages.view c.send.new.self.pages) = record {
-      was_fit = g.met.P.PageWorld.send_was_fit (length c.args.piece.now) c.args.self.now.space.pages c.send.new.self.pages c.send.ensures.beside.0;
-      was_told = g.met.P.PageWorld.send_was_told (length c.args.piece.now) c.args.self.now.space.pages c.send.new.self.pages c.send.ensures.beside.0;
-      image = λ told. (g.met.P.PageWorld.send_keeps (length c.args.piece.now) c.args.self.now.space.pages c.send.new.self.pages c.send.ensures.beside.0).image;
+      was_fit = g.met.P.PageWorld.send_was_fit (length c.args.piece.now) c.args.self.now.space.pages c.send.new.self.pages c.send.ensures.beside.pages_are;
+      was_told = g.met.P.PageWorld.send_was_told (length c.args.piece.now) c.args.self.now.space.pages c.send.new.self.pages c.send.ensures.beside.pages_are;
+      image = λ told. (g.met.P.PageWorld.send_keeps (length c.args.piece.now) c.args.self.now.space.pages c.send.new.self.pages c.send.ensures.beside.pages_are).image;
     } in
     let P : Superblock → Type 0 = λ s. s.total < 2 ^ 32 in
     let F : Superblock → Type 0 = λ s. AreFit s.fresh c.args.self.now.catalog.series.items in

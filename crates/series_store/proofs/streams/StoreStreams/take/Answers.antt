@@ -6,11 +6,11 @@ use Rattle.series_store.proofs.streams.StoreStreams.take.Goals as goal
 
 pub invariant_of-self : goal.invariant_of-self
 invariant_of-self g c =
-    let same : c.take.new.self.superblock ≡ c.args.self.now.space.superblock = c.take.ensures.beside.1 in
+    let same : c.take.new.self.superblock ≡ c.args.self.now.space.superblock = c.take.ensures.beside.superblock in
     let stay : Stay (g.P.Pages.told c.args.self.now.space.pages) (g.P.Pages.told c.take.new.self.pages) (g.P.Pages.view c.args.self.now.space.pages) (g.P.Pages.view c.take.new.self.pages) = record {
-      was_fit = g.met.P.PageWorld.take_was_fit c.args.self.now.space.pages c.take.new.self.pages c.take.ensures.beside.0;
-      was_told = g.met.P.PageWorld.take_was_told c.args.self.now.space.pages c.take.new.self.pages c.take.ensures.beside.0;
-      image = λ told. (g.met.P.PageWorld.take_keeps c.args.self.now.space.pages c.take.new.self.pages c.take.ensures.beside.0).image;
+      was_fit = g.met.P.PageWorld.take_was_fit c.args.self.now.space.pages c.take.new.self.pages c.take.ensures.beside.pages_are;
+      was_told = g.met.P.PageWorld.take_was_told c.args.self.now.space.pages c.take.new.self.pages c.take.ensures.beside.pages_are;
+      image = λ told. (g.met.P.PageWorld.take_keeps c.args.self.now.space.pages c.take.new.self.pages c.take.ensures.beside.pages_are).image;
     } in
     let P : Superblock → Type 0 = λ s. s.total < 2 ^ 32 in
     let F : Superblock → Type 0 = λ s. AreFit s.fresh c.args.self.now.catalog.series.items in

@@ -1,4 +1,4 @@
--- Ordered lists of the same keys and coefficients are one.
+-- The order of keys, and that ordered lists of the same keys and coefficients are one.
 use Rattle.std.proofs.Common.{zero, suc, ◌≡◌, ◌⊎◌, inl, inr, List, [], ◌∷◌, All, Contains, Option, Some, refl, sym, ap, ◌∙◌, subst, arith}
 use Rattle.std.proofs.lemmas.List.Elements.{All-head, All-tail}
 use Rattle.om3_coeff.specs.declared.key.Key.{Key}
@@ -6,15 +6,21 @@ use Rattle.om3_coeff.specs.declared.coef.Coef.{Coef}
 use Rattle.view_keys.specs.Listed.{ComesBefore, AreInOrder, keys_of, IsListOf}
 
 -- no key comes before itself, and no two come before one another
-never : (k : Key) → ComesBefore k k → ⊥
-never k (inl h) = absurd (omega (arith, h))
-never k (inr h) = absurd (omega (arith, h.1))
+pub not_itself : (k : Key) → ComesBefore k k → ⊥
+not_itself k (inl h) = absurd (omega (arith, h))
+not_itself k (inr h) = absurd (omega (arith, h.1))
 
 neither : (a b : Key) → ComesBefore a b → ComesBefore b a → ⊥
 neither a b (inl h) (inl g) = absurd (omega (arith, h, g))
 neither a b (inl h) (inr g) = absurd (omega (arith, h, g.0))
 neither a b (inr h) (inl g) = absurd (omega (arith, h.0, g))
 neither a b (inr h) (inr g) = absurd (omega (arith, h.1, g.1))
+
+pub before_on : (a b c : Key) → ComesBefore a b → ComesBefore b c → ComesBefore a c
+before_on a b c (inl x) (inl y) = inl (omega (arith, x, y))
+before_on a b c (inl x) (inr y) = inl (omega (arith, x, y.0))
+before_on a b c (inr x) (inl y) = inl (omega (arith, x.0, y))
+before_on a b c (inr x) (inr y) = inr (omega (arith, x.0, y.0), omega (arith, x.1, y.1))
 
 -- an element of a list is its head or among its tail
 head_or_tail : (x k : Key) (xs : List Key) → Contains (x ∷ xs) k → (x ≡ k) ⊎ Contains xs k
@@ -59,7 +65,7 @@ tail_keys : (x y : Key × Coef) (xs ys : List (Key × Coef)) → AreInOrder (x �
 tail_keys x y xs ys ox is same k among =
     elim (head_or_tail y.0 k (keys_of ys) (same k (in_tail x.0 k (keys_of xs) among))) [
       | inr later ↦ later
-      | inl head ↦ absurd (never x.0 (subst (λ (j : Key). ComesBefore x.0 j) (sym (is ∙ head)) (behind x xs k ox among)))
+      | inl head ↦ absurd (not_itself x.0 (subst (λ (j : Key). ComesBefore x.0 j) (sym (is ∙ head)) (behind x xs k ox among)))
     ]
 
 pair_same : (x y : Key × Coef) → x.0 ≡ y.0 → x.1 ≡ y.1 → x ≡ y
@@ -98,3 +104,23 @@ one_list Kind f a b la lb =
     same_lists f a b la.order lb.order
     (λ k. (λ among. lb.all k (of_kind Kind a k la.each among), λ among. la.all k (of_kind Kind b k lb.each among)))
     la.coefs lb.coefs
+
+-- what is told of the keys of a list
+pub told_among : (f : Key → Option Coef) (es : List (Key × Coef)) (k : Key) (P : Key → Option Coef → Type 0)
+    → All (λ e. f e.0 ≡ Some e.1) es → All (λ e. P e.0 (Some e.1)) es → Contains (keys_of es) k → P k (f k)
+told_among f [] k P told all among = absurd (omega (arith, among.1))
+told_among f (e ∷ es) k P told all among =
+    elim (head_or_tail e.0 k (keys_of es) among) [
+      | inl is ↦ subst (λ (j : Key). P j (f j)) is
+          (subst (λ (o : Option Coef). P e.0 o) (sym (All-head (λ e. f e.0 ≡ Some e.1) e es told)) (All-head (λ e. P e.0 (Some e.1)) e es all))
+      | inr later ↦ told_among f es k P (All-tail (λ e. f e.0 ≡ Some e.1) e es told) (All-tail (λ e. P e.0 (Some e.1)) e es all) later
+    ]
+
+-- the lists of two kinds that are one, with coefficients that are told alike, are one
+pub kinds_one : (A B : Key → Type 0) (f g : Key → Option Coef) (a b : List (Key × Coef)) → ((k : Key) → A k → B k) → ((k : Key) → B k → A k)
+    → ((k : Key) → A k → g k ≡ f k) → IsListOf A f a → IsListOf B g b → a ≡ b
+kinds_one A B f g a b to from alike la lb =
+    same_lists f a b la.order lb.order
+    (λ k. (λ among. lb.all k (to k (of_kind A a k la.each among)), λ among. la.all k (from k (of_kind B b k lb.each among))))
+    la.coefs
+    (λ i d low. sym (alike _ (from _ (lb.each i d low))) ∙ lb.coefs i d low)

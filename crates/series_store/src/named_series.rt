@@ -1,0 +1,42 @@
+//! What is told of a series by its id.
+ghost use Rattle.std.specs.Prelude.{◌≡◌, ◌≤◌, ◌<◌, ◌↔◌, None, length, slice_get, IsTrue, is_some, MatchOption};
+ghost use Rattle.block_disk.specs.View.{View};
+ghost use Rattle.stored_book.specs.Standing.{StandsForBook};
+ghost use Rattle.series_store.specs.Naming.{IsNamedSeries};
+ghost use Rattle.series_store.specs.Shown as shown;
+
+use crate::store::Store;
+use gate_pages::Pages;
+use series_book::{Axis, Name};
+
+/// A series by its name, with the axis of its slots and its scale.
+#[derive(Debug, Drop)]
+pub struct NamedSeries<'a> {
+    pub name: &'a Name,
+    pub axis: Axis,
+    /// How many decimals a value has, 0 to 9.
+    pub scale: u8,
+}
+
+impl<P: Pages> Store<P> {
+    /// The series of this id; none exactly where there is none. Nothing is read, and no memory is taken.
+    pub fn series_at(&self, id: u16) -> Option<NamedSeries<'_>>
+        ensures there { IsTrue (is_some result) ↔ (id < length (shown.catalog self.now)) }
+        ensures books { shown.ForSoundBook self.now (λ total book. MatchOption result (slice_get book id ≡ None) (IsNamedSeries book id)) }
+    {
+        if u32::from(id) >= self.len() {
+            return None;
+        }
+        let info = self.info(id);
+        let axis = Axis {
+            start: info.start,
+            step: info.step,
+            slots: info.slots,
+        };
+        Some(NamedSeries {
+            name: &self.catalog.series(id).name,
+            axis,
+            scale: info.scale,
+        })
+    }
+}

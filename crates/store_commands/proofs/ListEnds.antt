@@ -1,0 +1,129 @@
+-- How a list ends, by its status.
+use Rattle.std.proofs.Common.{◌≡◌, ℕ, ℤ, zero, suc, ◌+◌, ◌<◌, ◌≤◌, ◌⊎◌, List, [], ◌∷◌, ◌++◌, Option, Some, None, Result, Ok, Err, Vec, IfOk, length, refl, sym, ap, subst, arith, inl, inr, ◌∙◌}
+use Rattle.std.specs.Prelude.{Contains, take, slice_get}
+use Rattle.std.proofs.lemmas.List.{append_assoc, append-nil, take_all}
+use Rattle.block_disk.specs.View.{View, Now, sent_now}
+use Rattle.gate_pages.specs.GateLaws.{goes_by, goes_then}
+use Rattle.gate_pages.specs.Journal.{page_count}
+use Rattle.reading_lines.specs.Lines.{series_line}
+use Rattle.series_book.specs.Axes.{IsAxisOf}
+use Rattle.series_book.specs.declared.axis.Axis.{Axis}
+use Rattle.series_book.specs.declared.one_series.Series.{Series}
+use Rattle.disk_store.specs.Openings.{Opens}
+use Rattle.stored_book.specs.Standing.{RecoversTo}
+use Rattle.store_commands.specs.Books.{OfBook}
+use Rattle.store_commands.specs.Codes.{sent_code, unsent}
+use Rattle.store_commands.specs.Listed.{ListEnds, axis_of, line_of, list_text}
+use Rattle.store_commands.specs.Sending.{SendsText}
+use Rattle.store_commands.specs.declared.status.Status.{Status}
+use Rattle.store_commands.proofs.Held.{held, holds_sent}
+use Rattle.store_commands.proofs.Moments.{opened_since, opened_goes, opened_quiet, since_sent}
+use Rattle.store_commands.proofs.Unopened.{EndsUnopened, opening_code, of_opening}
+
+codes_of : (code : ℕ) → Contains of_opening code → Contains (0 ∷ 3 ∷ 5 ∷ 6 ∷ 7 ∷ 12 ∷ []) code
+codes_of code (zero, inside, is) = (1, omega arith, is)
+codes_of code (suc zero, inside, is) = (3, omega arith, is)
+codes_of code (suc (suc zero), inside, is) = (4, omega arith, is)
+codes_of code (suc (suc (suc zero)), inside, is) = (5, omega arith, is)
+codes_of code (suc (suc (suc (suc k))), inside, is) = absurd (omega (arith, inside))
+
+-- no store was opened
+pub unlisted : (old new : View) (before now : Option (List ℕ)) (sends sends_now code place : ℕ) → EndsUnopened old new before now code place → ListEnds old new before now sends sends_now code place
+unlisted old new before now sends sends_now code place e = record {
+  codes = codes_of code e.codes;
+  done = λ is. absurd ((opening_code code e.codes).0 is);
+  send = λ is. absurd ((opening_code code e.codes).1 is);
+  part = λ is. absurd ((opening_code code e.codes).1 is);
+  fault = e.fault;
+  damaged = e.damaged;
+  undamaged = e.undamaged;
+  small = e.small;
+  nothing = λ some other. e.nothing;
+  zero_place = e.zero_place;
+  crash = e.crash;
+  holds = e.holds;
+  reads = e.reads;
+  goes_on = e.goes_on;
+}
+
+sending_codes : (code : ℕ) → (code ≡ 0) ⊎ ((code ≡ 3) ⊎ (code ≡ 5)) → Contains (0 ∷ 3 ∷ 5 ∷ 6 ∷ 7 ∷ 12 ∷ []) code
+sending_codes code (inl is) = (0, omega arith, sym is)
+sending_codes code (inr (inl is)) = (1, omega arith, sym is)
+sending_codes code (inr (inr is)) = (2, omega arith, sym is)
+
+-- the text that was made, if there was memory
+abbrev pub text_in : {E Z : Type 0} → Result (Vec ℕ Z) E → List ℕ
+text_in (Ok text) = text.items
+text_in (Err e) = []
+
+pub made_is : {E Z : Type 0} (made : Result (Vec ℕ Z) E) → IfOk made (λ text. text.items ≡ text_in made)
+made_is (Ok text) = refl
+made_is (Err e) = tt
+
+-- a store was opened, and its lines were sent
+pub listed : (old mid new : View) (before mid_before now : Option (List ℕ)) (sends mid_sends sends_now : ℕ) (end : Status) (text : List ℕ) → Opens (page_count old.size) old mid → mid_before ≡ before → mid_sends ≡ sends
+    → SendsText text mid new mid_before now mid_sends sends_now end → OfBook (page_count old.size) old (λ total book. SendsText (list_text book) mid new mid_before now mid_sends sends_now end) → ListEnds old new before now sends sends_now end.code end.place
+listed old mid new before mid_before now sends mid_sends sends_now end text opens same same_sends sent book_sent =
+    let B : Option (List ℕ) → Type 0 = λ b. ListEnds old new b now mid_sends sends_now end.code end.place in
+    let S : ℕ → Type 0 = λ n. ListEnds old new before now n sends_now end.code end.place in
+    let low = (sent_code end.code sent.codes).0 in
+    let all : ListEnds old new mid_before now mid_sends sends_now end.code end.place = record {
+      codes = sending_codes end.code sent.codes;
+      done = λ is total book holds. (book_sent total book holds).whole is;
+      send = sent.send;
+      part = λ is total book holds. (book_sent total book holds).part is;
+      fault = λ is. absurd (omega (arith, is, low));
+      damaged = λ is. absurd (omega (arith, is, low));
+      undamaged = λ is. absurd (omega (arith, is, low));
+      small = λ is. absurd (omega (arith, is, low));
+      nothing = λ some other. unsent end.code mid_before now sent.codes sent.none some other;
+      zero_place = λ is. sent.place;
+      crash = λ total book holds.
+          since_sent (λ image count. RecoversTo (page_count old.size) image total book) old mid new sent.time (opened_quiet old mid opens)
+          (λ image count left low. (held old mid opens total book holds).images image left)
+          (opened_since old mid opens total book holds);
+      holds = λ total book holds.
+          holds_sent (page_count old.size) total book mid new (λ count. (sent_now mid ≤ count) × (count ≤ sent_now new)) sent.kept sent.time (held old mid opens total book holds);
+      reads = omega (arith, opens.reads.high, sent.kept.reads);
+      goes_on = goes_then old mid new (opened_goes old mid opens) (goes_by mid new (Now mid) (λ count. (sent_now mid ≤ count) × (count ≤ sent_now new)) sent.time);
+    } in
+    subst S same_sends (subst B same all)
+
+-- ---- the lines of the first series of a book
+
+pub list_more : (book : List Series) (id : ℕ) (series : Series) → slice_get book id ≡ Some series → list_text (take (suc id) book) ≡ list_text (take id book) ++ line_of series
+list_more [] id series there = cc
+list_more (one ∷ book) zero series there =
+    let same : one ≡ series = cc in
+    append-nil (line_of one) ∙ ap line_of same
+list_more (one ∷ book) (suc id) series there =
+    ap (λ l. line_of one ++ l) (list_more book id series there) ∙ sym (append_assoc (line_of one) (list_text (take id book)) (line_of series))
+
+axis_is : (series : Series) (axis : Axis) → IsAxisOf series axis → axis ≡ axis_of series
+axis_is series axis is =
+    let A : ℤ → Type 0 = λ x. axis ≡ record { start = x; step = axis.step; slots = axis.slots } in
+    let B : ℕ → Type 0 = λ x. axis ≡ record { start = series.start; step = x; slots = axis.slots } in
+    let C : ℕ → Type 0 = λ x. axis ≡ record { start = series.start; step = series.step; slots = x } in
+    subst C is.slots (subst B is.step (subst A is.start refl))
+
+-- the line of what is told of a series is that of the series
+told_line : (series : Series) (name : List ℕ) (axis : Axis) (scale : ℕ) → name ≡ series.name → IsAxisOf series axis → scale ≡ series.scale → series_line name axis scale ≡ line_of series
+told_line series name axis scale named is scaled =
+    ap (λ (n : List ℕ). series_line n axis scale) named ∙ ap (λ (a : Axis). series_line series.name a scale) (axis_is series axis is) ∙ ap (λ (p : ℕ). series_line series.name (axis_of series) p) scaled
+
+pub list_step : (book : List Series) (id : ℕ) (text next name : List ℕ) (axis : Axis) (scale : ℕ) (series : Series) → slice_get book id ≡ Some series → name ≡ series.name → IsAxisOf series axis → scale ≡ series.scale
+    → text ≡ list_text (take id book) → next ≡ text ++ series_line name axis scale → next ≡ list_text (take (id + 1) book)
+list_step book id text next name axis scale series there named is scaled before more =
+    let P : ℕ → Type 0 = λ n. next ≡ list_text (take n book) in
+    let one : suc id ≡ id + 1 = omega arith in
+    subst P one
+    (more ∙ ap (λ (l : List ℕ). l ++ series_line name axis scale) before ∙ ap (λ (l : List ℕ). list_text (take id book) ++ l) (told_line series name axis scale named is scaled) ∙ sym (list_more book id series there))
+
+pub list_whole : (book : List Series) (id : ℕ) (text : List ℕ) → length book ≤ id → text ≡ list_text (take id book) → text ≡ list_text book
+list_whole book id text long are = are ∙ ap list_text (take_all id book long)
+
+-- there is a series of each id below their number
+pub no_none : (book : List Series) (id : ℕ) → id < length book → slice_get book id ≡ None → ⊥
+no_none [] id low none = omega (arith, low)
+no_none (one ∷ book) zero low none = cc
+no_none (one ∷ book) (suc id) low none = no_none book id (omega (arith, low)) none

@@ -1,0 +1,65 @@
+use Rattle.std.proofs.Common.{sym, subst, ap, ◌∙◌, arith}
+use Rattle.gate_pages.specs.GatePages.{IsClosed}
+use Rattle.series_store.specs.Shown as shown
+use Rattle.store_commands.specs.Exporting.{ExportsStore}
+use Rattle.store_commands.specs.declared.status.Status.{Status}
+use Rattle.store_commands.proofs.ExportEnds.{series_sent, none_found}
+use Rattle.store_commands.proofs.export.export_opened.Goals as goal
+
+pub returns-in_default-clause-exports : goal.returns-in_default-clause-exports
+returns-in_default-clause-exports g c =
+    let view = g.W.Disk.view in
+    let sent = g.W.Streams.sent in
+    let sends = g.W.Streams.send_faults in
+    let name = c.args.name.now in
+    let window = c.args.window in
+    let pages = shown.pages c.args.store in
+    let disk = pages.disk in
+    let D : g.row.W.Denot → Type 0 = λ d. ExportsStore name window pages.count (view disk) (view d) (sent disk) (sent d) (sends disk) (sends d) c.ended.result in
+    let E : Status → Type 0 = λ s. ExportsStore name window pages.count (view disk) (view disk) (sent disk) (sent disk) (sends disk) (sends disk) s in
+    subst D (sym c.disk_of.ensures.disk)
+    (subst E (sym c.ended.ensures.status)
+    (none_found name window pages.count (view disk) (sent disk) (sends disk) (λ total book honest stands. c.in_default.ensures.info total book c.requires honest stands)))
+
+pub returns-clause-exports : goal.returns-clause-exports
+returns-clause-exports g c =
+    let view = g.W.Disk.view in
+    let sent = g.W.Streams.sent in
+    let sends = g.W.Streams.send_faults in
+    let name = c.args.name.now in
+    let window = c.args.window in
+    let before = c.args.store in
+    let after = c.export_series-answer.new.store in
+    let pages = shown.pages before in
+    let end_pages = shown.pages after in
+    let disk = pages.disk in
+    let new = end_pages.disk in
+    let answer = c.export_series-answer.result in
+    let e = c.export_series-answer.ensures in
+    let w = g.met.W.World in
+    let P : g.row.W.Denot → Type 0 = λ d. IsClosed (view d) in
+    let closed = subst P c.disk_of-2.ensures.disk (c.disk_of-2.ensures.rests (e.sends.fit c.requires)) in
+    let D : g.row.W.Denot → Type 0 = λ d. ExportsStore name window pages.count (view disk) (view d) (sent disk) (sent d) (sends disk) (sends d) c.export_status.result in
+    let E : Status → Type 0 = λ s. ExportsStore name window pages.count (view disk) (view new) (sent disk) (sent new) (sends disk) (sends new) s in
+    subst D (sym c.disk_of-2.ensures.disk)
+    (subst E (sym c.export_status.ensures)
+    (series_sent name window pages.count end_pages.count pages.sound end_pages.sound (view disk) (view new) (shown.numbers before) (shown.numbers after) e.sends closed c.in-Some.info.id
+    (λ total book honest stands. (c.in-Some.ensures.info total book c.requires honest stands).0)
+    (sent disk) (sent new) (sends disk) (sends new) answer (w.beside_send_faults disk) (w.beside_send_faults new)
+    (omega (arith, c.in-Some.ensures.there, before.count))
+    (λ honest. record { spelled = before.space.spelled c.requires honest; rules = before.space.rules })
+    (λ total book series honest stands there. e.sent total book series honest stands there)
+    (λ total book series honest stands there. e.part total book series honest stands there)
+    (λ total book series honest stands there. e.no_damage total book series honest stands there)
+    e.cause
+    (λ total book series honest stands there. e.reads total book series honest stands there)))
+
+pub returns-in_default-clause-untaken : goal.returns-in_default-clause-untaken
+returns-in_default-clause-untaken g c = ap g.W.Streams.left c.disk_of.ensures.disk
+
+pub returns-clause-untaken : goal.returns-clause-untaken
+returns-clause-untaken g c =
+    let disk = (shown.pages c.args.store).disk in
+    let new = (shown.pages c.export_series-answer.new.store).disk in
+    let w = g.met.W.World in
+    ap g.W.Streams.left c.disk_of-2.ensures.disk ∙ sym (w.beside_left new) ∙ c.export_series-answer.ensures.sends.left ∙ w.beside_left disk

@@ -1,0 +1,74 @@
+use Rattle.std.proofs.Common.{sym, ap, subst, ◌∙◌}
+use Rattle.block_disk.specs.View.{Beside}
+use Rattle.series_store.specs.Shown as shown
+use Rattle.store_commands.specs.Listed.{list_text}
+use Rattle.store_commands.specs.Sending.{SendsMade}
+use Rattle.store_commands.proofs.ListEnds.{listed, unlisted, text_in, made_is}
+use Rattle.store_commands.proofs.TurnedAway.{away_so, away_never}
+use Rattle.store_commands.proofs.Unopened.{ends_unopened}
+use Rattle.store_commands.proofs.list.list_series.Goals as goal
+
+pub returns-in-Ok-clause-ends : goal.returns-in-Ok-clause-ends
+returns-in-Ok-clause-ends g c =
+    let view = g.W.Disk.view in
+    let sent = g.W.Streams.sent in
+    let sends = g.W.Streams.send_faults in
+    let old = c.args.world in
+    let mid = (shown.pages c.in-Ok.store).disk in
+    let new = c.send_text.result.1 in
+    let e = c.in-Ok.ensures in
+    let beside = e.opens.beside_is in
+    let w = g.met.W.World in
+    let made = c.list_text-text.result in
+    let P : g.row.W.Denot → Type 0 = λ d. SendsMade made (view d) (view new) (sent d) (sent new) (sends d) (sends new) c.send_text.result.0 in
+    let sent_of = subst P c.disk_of.ensures.disk c.send_text.ensures.sends in
+    listed (view old) (view mid) (view new) (sent old) (sent mid) (sent new) (sends old) (sends mid) (sends new) c.send_text.result.0 (text_in made) e.opens
+    (sym (w.beside_sent mid) ∙ ap (λ (b : Beside). b.sent) beside ∙ w.beside_sent old)
+    (sym (w.beside_send_faults mid) ∙ ap (λ (b : Beside). b.send_faults) beside ∙ w.beside_send_faults old)
+    (sent_of (text_in made) (made_is made))
+    (λ total book holds. sent_of (list_text book) (c.list_text-text.ensures total book e.sound (e.opens.honest holds.honest) (e.stands total book holds)))
+
+pub returns-in-Err-clause-ends : goal.returns-in-Err-clause-ends
+returns-in-Err-clause-ends g c =
+    let view = g.W.Disk.view in
+    let sent = g.W.Streams.sent in
+    let sends = g.W.Streams.send_faults in
+    let old = c.args.world in
+    let new = c.in-Err.field-0.value in
+    let e = c.in-Err.ensures in
+    let w = g.met.W.World in
+    let end = c.opening_status.result in
+    unlisted (view old) (view new) (sent old) (sent new) (sends old) (sends new) end.code end.place
+    (ends_unopened (view old) (view new) (sent old) (sent new) e.opens
+    (sym (w.beside_sent new) ∙ ap (λ (b : Beside). b.sent) e.opens.beside_is ∙ w.beside_sent old)
+    c.in-Err.field-0.cause end e.cause e.a_store c.opening_status.ensures)
+
+pub returns-in-Ok-clause-away : goal.returns-in-Ok-clause-away
+returns-in-Ok-clause-away g c = away_never _ _ c.in-Ok.ensures.large
+
+pub returns-in-Err-clause-away : goal.returns-in-Err-clause-away
+returns-in-Err-clause-away g c =
+    let view = g.W.Disk.view in
+    let left = g.W.Streams.left in
+    let sent = g.W.Streams.sent in
+    let old = c.args.world in
+    let new = c.in-Err.field-0.value in
+    let beside = c.in-Err.ensures.opens.beside_is in
+    let w = g.met.W.World in
+    away_so (view old) (view new) (left old) (left new) (sent old) (sent new) c.in-Err.field-0.cause c.opening_status.result c.opening_status.ensures c.in-Err.ensures.cause
+    (sym (w.beside_left new) ∙ ap (λ (b : Beside). b.left) beside ∙ w.beside_left old)
+    (sym (w.beside_sent new) ∙ ap (λ (b : Beside). b.sent) beside ∙ w.beside_sent old)
+
+pub returns-in-Err-clause-untaken : goal.returns-in-Err-clause-untaken
+returns-in-Err-clause-untaken g c =
+    let old = c.args.world in
+    let new = c.in-Err.field-0.value in
+    let w = g.met.W.World in
+    sym (w.beside_left new) ∙ ap (λ (b : Beside). b.left) c.in-Err.ensures.opens.beside_is ∙ w.beside_left old
+
+pub returns-in-Ok-clause-untaken : goal.returns-in-Ok-clause-untaken
+returns-in-Ok-clause-untaken g c =
+    let old = c.args.world in
+    let mid = (shown.pages c.in-Ok.store).disk in
+    let w = g.met.W.World in
+    c.send_text.ensures.left ∙ ap g.W.Streams.left c.disk_of.ensures.disk ∙ sym (w.beside_left mid) ∙ ap (λ (b : Beside). b.left) c.in-Ok.ensures.opens.beside_is ∙ w.beside_left old

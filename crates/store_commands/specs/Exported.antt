@@ -1,0 +1,61 @@
+-- How an export of a series of the disk's store ends, by its status.
+use Rattle.std.specs.Prelude.{◌≡◌, ℕ, ◌+◌, ◌<◌, ◌≤◌, ◌⊎◌, List, [], ◌∷◌, Contains, Option}
+use Rattle.block_disk.specs.Counts.{HasRisen}
+use Rattle.block_disk.specs.Streams.{sent_after}
+use Rattle.block_disk.specs.View.{View, Honest}
+use Rattle.gate_pages.specs.Journal.{page_count, pages_of}
+use Rattle.gate_pages.specs.Pages.{GoesOn}
+use Rattle.series_book.specs.Pages.{series_pages}
+use Rattle.series_export.specs.Exports.{export_text}
+use Rattle.series_export.specs.declared.window.Window.{Window}
+use Rattle.series_store.specs.Counting.{HasBadTree}
+use Rattle.disk_store.specs.Held.{HoldsBook}
+use Rattle.stored_book.specs.Damage.{SaysNumbers}
+use Rattle.store_commands.specs.Books.{OfBook, Never, LeavesSame, SendsPartOf}
+use Rattle.store_commands.specs.Damaged.{IsDamagedAtFirst}
+use Rattle.store_commands.specs.Loaded.{OfSeries, Unnamed}
+
+-- the text of the series of this name was sent, in the window if there is one
+abbrev pub ExportsAll : List ℕ → Option Window → ℕ → View → Option (List ℕ) → Option (List ℕ) → Type 0
+ExportsAll name window count disk before now = OfSeries count disk name (λ total book series. now ≡ sent_after (export_text series window) before)
+
+-- the first bytes of it were sent
+abbrev pub ExportsPart : List ℕ → Option Window → ℕ → View → Option (List ℕ) → Option (List ℕ) → Type 0
+ExportsPart name window count disk before now = OfSeries count disk name (λ total book series. SendsPartOf (export_text series window) before now)
+
+-- the book that the disk holds has no series of this name
+abbrev pub HasNone : ℕ → View → List ℕ → Type 0
+HasNone count disk name = OfSeries count disk name (λ total book series. ⊥)
+
+-- at most the blocks were read that an opening reads, and each page of the series' tree once
+abbrev pub ReadsSeries : List ℕ → ℕ → View → View → Type 0
+ReadsSeries name count old new = OfSeries count old name (λ total book series. new.reads ≤ old.reads + 200 + series_pages series.slots)
+
+-- the block is a page of a tree, by the numbers that page 0 says, that is bad for its place
+pub record IsBadInTree (count : ℕ) (disk : View) (place : ℕ) : Type 0 where
+  pub page : ℕ
+  pub place_is : place ≡ 66 + page
+  pub bad : Honest disk → SaysNumbers count (pages_of count disk.image) (λ s. HasBadTree (pages_of count disk.image) s page)
+
+-- no store was opened, and nothing was sent; or a page was found bad as the series was read
+abbrev pub IsDamagedForExport : View → Option (List ℕ) → Option (List ℕ) → ℕ → Type 0
+IsDamagedForExport old before now place = (IsDamagedAtFirst old place × (now ≡ before)) ⊎ IsBadInTree (page_count old.size) old place
+
+-- What an export sent and left, and why it ended, by the status.
+pub record ExportEnds (name : List ℕ) (window : Option Window) (old new : View) (before now : Option (List ℕ)) (sends sends_now code place : ℕ) : Type 0 where
+  pub codes : Contains (0 ∷ 3 ∷ 5 ∷ 6 ∷ 7 ∷ 12 ∷ 14 ∷ []) code
+  pub done : code ≡ 0 → ExportsAll name window (page_count old.size) old before now
+  pub send : code ≡ 5 → HasRisen sends sends_now
+  pub part : ExportsPart name window (page_count old.size) old before now
+  pub fault : code ≡ 6 → HasRisen old.faults new.faults
+  pub damaged : code ≡ 7 → IsDamagedForExport old before now place
+  pub undamaged : code ≡ 7 → Never (page_count old.size) old
+  pub small : code ≡ 12 → (place ≡ old.size) × (old.size < 128)
+  pub unknown : code ≡ 14 → (place ≡ 8) × HasNone (page_count old.size) old name
+  pub unnamed : Unnamed (page_count old.size) old name (λ total book. Contains (3 ∷ 6 ∷ 14 ∷ []) code)
+  pub nothing : Contains (12 ∷ 14 ∷ []) code → now ≡ before
+  pub zero_place : Contains (0 ∷ 3 ∷ 5 ∷ 6 ∷ []) code → place ≡ 0
+  pub crash : LeavesSame (page_count old.size) old new
+  pub holds : OfBook (page_count old.size) old (λ total book. HoldsBook (page_count old.size) total book new)
+  pub reads : ReadsSeries name (page_count old.size) old new
+  pub goes_on : GoesOn old new

@@ -1,0 +1,69 @@
+//! The command `export`: the stored values of a series are sent as lines that a load reads.
+ghost use Rattle.std.specs.Prelude.{◌≡◌, IsTrue};
+ghost use Rattle.block_disk.specs.View.{View};
+ghost use Rattle.series_store.specs.Shown as shown;
+ghost use Rattle.store_commands.specs.Away.{TurnsAway};
+ghost use Rattle.store_commands.specs.Exported.{ExportEnds};
+ghost use Rattle.store_commands.specs.Exporting.{ExportsOn, export_status};
+ghost use Rattle.store_commands.specs.Traffic.{traffic};
+
+use crate::status::{
+    DAMAGED, DISK_FAULT, DONE, FIRST_PAGE, NO_MEMORY, REFUSED, SEND_FAULT, Status, UNKNOWN_SERIES,
+    ended, opening_status,
+};
+use block_disk::{Back, World};
+use disk_store::{disk_of, open_store};
+use gate_pages::GatePages;
+use series_book::Name;
+use series_export::{Window, export_series};
+use series_store::{SendError, Store};
+use std::alloc::Global;
+
+/// Sends the header and the lines of the stored values of the series of this name in the store of the
+/// world's disk, or of those whose times are in the window.
+pub fn export_values<W: World>(
+    alloc: Global,
+    name: &Name,
+    window: Option<Window>,
+    world: W,
+) -> (Status, W)
+    ensures ends { ExportEnds name.now window (W.view world) (W.view result.1) (W.sent world) (W.sent result.1) (W.send_faults world) (W.send_faults result.1) result.0.code result.0.place }
+    ensures away { TurnsAway (W.view world) (traffic W.left W.sent W.read_faults W.send_faults world result.1) result.0 }
+    ensures untaken { W.left result.1 ≡ W.left world }
+{
+    match open_store(alloc, world) {
+        Ok(store) => export_opened(alloc, name, window, store),
+        Err(Back { value, cause }) => (opening_status(cause), value),
+    }
+}
+
+/// The same over a store that is open.
+fn export_opened<W: World>(
+    alloc: Global,
+    name: &Name,
+    window: Option<Window>,
+    mut store: Store<GatePages<W>>,
+) -> (Status, W)
+    requires { IsTrue (shown.pages store).sound }
+    ensures exports { let pages = shown.pages store in ExportsOn name.now window pages.count (W.view pages.disk) (W.view result.1) (traffic W.left W.sent W.read_faults W.send_faults pages.disk result.1) result.0 }
+    ensures untaken { W.left result.1 ≡ W.left (shown.pages store).disk }
+{
+    let Some(info) = store.series(name) else {
+        return (ended(REFUSED, UNKNOWN_SERIES), disk_of(store));
+    };
+    let answer = export_series(alloc, &mut store, info.id, window);
+    (export_status(answer), disk_of(store))
+}
+
+/// The status of what sending a series answers.
+fn export_status(answer: Result<(), SendError>) -> Status
+    ensures { result ≡ export_status answer }
+{
+    match answer {
+        Ok(()) => ended(DONE, 0),
+        Err(SendError::SendFault) => ended(SEND_FAULT, 0),
+        Err(SendError::DiskFault) => ended(DISK_FAULT, 0),
+        Err(SendError::Damaged { page }) => ended(DAMAGED, FIRST_PAGE + u64::from(page)),
+        Err(SendError::NoMemory) => ended(NO_MEMORY, 0),
+    }
+}

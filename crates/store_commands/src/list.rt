@@ -1,0 +1,46 @@
+//! The command `list`: a line for each series of the store is sent.
+ghost use Rattle.std.specs.Prelude.{◌≡◌, IfOk, IfErr};
+ghost use Rattle.block_disk.specs.View.{View};
+ghost use Rattle.series_store.specs.Shown as shown;
+ghost use Rattle.store_commands.specs.Away.{TurnsAway};
+ghost use Rattle.store_commands.specs.Listed.{ListEnds, list_text};
+ghost use Rattle.store_commands.specs.Traffic.{traffic};
+
+use crate::sending::send_text;
+use crate::status::{Status, opening_status};
+use block_disk::{Back, World};
+use disk_store::{disk_of, open_store};
+use gate_pages::Pages;
+use reading_lines::add_series;
+use series_book::NoMemory;
+use series_store::Store;
+use std::alloc::Global;
+
+/// Sends a line for each series in the store of the world's disk, in the order of their creation:
+/// `NAME START STEP SCALE SLOTS`.
+pub fn list_series<W: World>(alloc: Global, world: W) -> (Status, W)
+    ensures ends { ListEnds (W.view world) (W.view result.1) (W.sent world) (W.sent result.1) (W.send_faults world) (W.send_faults result.1) result.0.code result.0.place }
+    ensures away { TurnsAway (W.view world) (traffic W.left W.sent W.read_faults W.send_faults world result.1) result.0 }
+    ensures untaken { W.left result.1 ≡ W.left world }
+{
+    match open_store(alloc, world) {
+        Ok(store) => {
+            let text = list_text(alloc, &store);
+            send_text(text, disk_of(store))
+        }
+        Err(Back { value, cause }) => (opening_status(cause), value),
+    }
+}
+
+/// The lines of the series of a store.
+fn list_text<P: Pages>(alloc: Global, store: &Store<P>) -> Result<Vec<u8>, NoMemory>
+    ensures { shown.ForSoundBook store.now (λ total book. IfOk result (λ text. text.items ≡ list_text book)) }
+{
+    let mut text = Vec::new(alloc);
+    for id in 0..store.len() {
+        if let Some(series) = store.series_at(id as u16) {
+            add_series(&mut text, series.name, &series.axis, series.scale)?;
+        }
+    }
+    Ok(text)
+}
