@@ -1,4 +1,5 @@
-"""What several runs of golden/ share: stores of the least size, request lines that append, and the pictures of a day of readings."""
+"""What several runs of golden/ share: stores of the least size, request lines that append, frames, and the pictures of a day of readings."""
+import os
 import struct
 import sys
 
@@ -72,3 +73,23 @@ def write_store_behind_journal():
     pages = pages_of([SERIES], PAGES)
     journal = journal_of({number: pages[number] for number in (TREE, 0, 1)})
     sys.stdout.buffer.write(journal + store_of([], BLOCKS)[len(journal) :])
+
+
+def store_with_its_gate_open():
+    """A store of SERIES as its last commit left it, but its gate is open again."""
+    pages = pages_of([SERIES], PAGES)
+    journal = journal_of({number: pages[number] for number in (TREE, 0, 1)})
+    return bytearray(journal + store_of([SERIES], BLOCKS)[len(journal) :])
+
+
+def frames_of_first_view():
+    """The frames of `create`, `append`, `open` and a view of SERIES, as golden/serve/first_view has them."""
+    with open(os.path.join(os.path.dirname(os.path.dirname(__file__)), "golden/serve/first_view/stdout"), "rb") as file:
+        return bytearray(file.read())
+
+
+def write_changed_frames(offset, *changed):
+    """Writes these frames with other bytes from an offset on."""
+    frames = frames_of_first_view()
+    frames[offset : offset + len(changed)] = changed
+    sys.stdout.buffer.write(frames)

@@ -120,6 +120,36 @@ class OverAStore(unittest.TestCase):
             picture = store.session().view("a", 3, 3, 0, 3)
         self.assertEqual((picture.lo, picture.hi), (1, 3))
 
+    def test_series_and_values(self):
+        self.assertEqual(self.store().series(), [])
+        stored = {-7: -5, -2: 150, 8: 200}
+        with self.store() as store:
+            store.create("a", -7, 5, 2)
+            store.append("a", [-5, 150, None, 200])
+            store.create("b", 0, 1)
+            with self.assertRaises(ValueError):
+                store.series()
+            with self.assertRaises(ValueError):
+                store.values("a")
+        self.assertEqual(store.series(), [("a", -7, 5, 2, 4), ("b", 0, 1, 0, 0)])
+        self.assertEqual(store.series()[0].step, 5)
+        self.assertEqual(dict(store.values("a")), stored)
+        self.assertEqual(list(store.values("a", -7, 8)), [(-7, -5), (-2, 150)])
+        self.assertEqual(list(store.values("b")), [])
+        with self.assertRaises(Refused) as met:
+            list(store.values("c"))
+        self.assertEqual(met.exception.name, "UnknownSeries")
+        with self.assertRaises(Ended) as ended:
+            list(store.values("a", 5, 5))
+        self.assertEqual((ended.exception.status, ended.exception.place), (2, 3))
+
+    def test_many_values_come_back(self):
+        values = [at if at % 7 else None for at in range(-8_000, 8_000)]
+        with self.store() as store:
+            store.create("a", 0, 1, 3)
+            store.append("a", values)
+        self.assertEqual(list(store.values("a")), [(at, value) for at, value in enumerate(values) if value is not None])
+
     def test_a_second_run_over_the_store(self):
         with self.store() as store:
             store.create("a", 0, 1)

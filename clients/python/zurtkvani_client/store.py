@@ -1,4 +1,5 @@
-"""A store: one run of the program's `serve`, its edits and its sessions."""
+"""A store: one run of the program's `serve`, its edits and its sessions; and what it holds, by runs of `list` and `export`."""
+import collections
 import operator
 import re
 import subprocess
@@ -54,17 +55,27 @@ class Ended(Exception):
         super().__init__("the program has ended with " + (f"status {status}" if place is None else f"status {status} at {place}"))
 
 
+def end_of(line):
+    """How a line of standard error says that the program ended; None where it says something else."""
+    said = re.fullmatch(rb"chart: status (\d+) at (\d+)\n", line)
+    return Ended(int(said[1]), int(said[2])) if said else None
+
+
+Series = collections.namedtuple("Series", "name start step scale slots")
+
+
 class Store:
-    """The store in a file, from entering a `with` to leaving it: one `PROGRAM PATH serve`."""
+    """The store in a file. From entering a `with` to leaving it there is one `PROGRAM PATH serve`, which edits and draws; outside of it
+    `series` and `values` tell what the store holds."""
 
     def __init__(self, path, program="chart"):
-        self.words = [str(program), str(path), "serve"]
+        self.program = [str(program), str(path)]
         self.child, self.end = None, None
 
     def __enter__(self):
         pipes = {"stdin": subprocess.PIPE, "stdout": subprocess.PIPE, "stderr": subprocess.PIPE}
         # A session of its own, so that Control-C reaches Python alone.
-        self.child = subprocess.Popen(self.words, start_new_session=True, **pipes)
+        self.child = subprocess.Popen([*self.program, "serve"], start_new_session=True, **pipes)
         self.end, self.said, self.numbers = None, None, 0
         self.listener = threading.Thread(target=self._listen, daemon=True)
         self.listener.start()
@@ -76,6 +87,17 @@ class Store:
         self._stop()
         if kind is None and not was_told and self.end.status:
             raise self.end
+
+    def series(self):
+        """The series, in the order of their creation."""
+        lines = map(str.split, self._shown("list"))
+        return [Series(name, *map(int, numbers)) for name, *numbers in lines]
+
+    def values(self, name, t0=None, t1=None):
+        """The stored values of a series in rising time, one after the other: pairs of a time and a whole number. With two times those from t0
+        on and before t1."""
+        window = () if t0 is None and t1 is None else (str(operator.index(t0)), str(operator.index(t1)))
+        return self._values(self._shown("export", str(name), *window))
 
     def create(self, name, start, step, scale=0):
         """Makes a series without slots."""
@@ -101,6 +123,33 @@ class Store:
         self._answer("open", self.numbers, cache)
         return Session(self, self.numbers)
 
+    def _values(self, lines):
+        try:
+            next(lines)  # the names of the columns
+            for line in lines:
+                time, value = line.split(",")
+                # The digits in front of the point and behind it are those of the whole number.
+                yield int(time), int(value.replace(".", ""))
+        except Ended as end:
+            if (end.status, end.place) == (14, 8):
+                raise Refused(8, 0, 0) from None
+            raise
+
+    def _shown(self, *words):
+        """The lines that a command sends, as they come."""
+        if self.child is not None and self.end is None:
+            raise ValueError("one run at a time works on a store: ask outside of the `with`")
+        # Behind two hyphens a time below 0 is no option.
+        return self._lines([*self.program, "--", *words])
+
+    def _lines(self, words):
+        with subprocess.Popen(words, stdin=subprocess.DEVNULL, stdout=subprocess.PIPE, stderr=subprocess.PIPE) as child:
+            for line in child.stdout:
+                yield line.decode()
+            said = [end_of(line) for line in child.stderr]
+        if child.returncode:
+            raise next(filter(None, said), Ended(child.returncode, None))
+
     def _answer(self, *words):
         """Sends a request, and gives its picture, None where it has none."""
         line = " ".join(word if isinstance(word, str) else str(operator.index(word)) for word in words).encode()
@@ -125,9 +174,9 @@ class Store:
     def _listen(self):
         """Keeps how the program says that it ended, and hands on what else it says."""
         for line in self.child.stderr:
-            said = re.fullmatch(rb"chart: status (\d+) at (\d+)\n", line)
+            said = end_of(line)
             if said:
-                self.said = Ended(int(said[1]), int(said[2]))
+                self.said = said
             else:
                 sys.stderr.write(line.decode(errors="replace"))
 

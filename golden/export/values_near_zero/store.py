@@ -1,0 +1,5 @@
+import sys
+
+from store_format import store_of
+
+sys.stdout.buffer.write(store_of([("a", 0, 1, 2, [-5, -100, -99, 0, 5, 101])], 128))

@@ -1,0 +1,5 @@
+import sys
+
+from store_format import store_of
+
+sys.stdout.buffer.write(store_of([("a", -7, 5, 1, [1, 2, 3])], 128))

@@ -1,0 +1,3 @@
+from golden_data import write_store_with_damaged_catalog
+
+write_store_with_damaged_catalog()
