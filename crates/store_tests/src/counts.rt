@@ -50,7 +50,7 @@ fn edits_write_each_page_twice(rt: HostRuntime) -> Result<(), Fail> {
             (others.saturating_add(writes), 1 + 4),
             "{edit:?}"
         );
-        assert!(rt; 18 < reads && reads <= 18 + 96, "{edit:?} {reads}");
+        assert!(rt; 18 <= reads && reads <= 18 + 96, "{edit:?} {reads}");
     }
     Ok(())
 }
