@@ -1,12 +1,13 @@
 -- A line that is put together from several pieces.
-use Rattle.std.proofs.Common.{◌≡◌, ◌≢◌, ℕ, zero, suc, ◌+◌, ◌≤◌, ◌<◌, Bool, true, false, not, cond, List, [], ◌∷◌, ◌++◌, Option, None, Some, IfSome, length, take, drop, get_or, refl, ap, sym, ◌∙◌, arith, length-append, length-drop, subst}
+use Rattle.std.proofs.Common.{◌≡◌, ◌≢◌, ℕ, zero, suc, ◌+◌, ◌-◌, ◌^◌, ◌≤◌, ◌<◌, Bool, ltb, inl, inr, true, false, not, cond, List, [], ◌∷◌, ◌++◌, Option, None, Some, IfSome, length, take, drop, get_or, refl, ap, sym, ◌∙◌, arith, length-append, length-drop, subst}
 use Rattle.std.specs.List.{position_or_len}
 use Rattle.std.proofs.lemmas.List.{take-append-le, take-append-drop, drop-append-le, drop-drop, drop_all, length-take, get_or-take}
 use Rattle.std.proofs.lemmas.List.Sums.{fails_before_first, prefix_len-le-length}
 use Rattle.std.proofs.lemmas.List.Folds.{prefix_len-append, length-prefix_len}
-use Rattle.std.proofs.lemmas.Bool.{eqb-false}
+use Rattle.std.proofs.lemmas.Bool.{eqb-false, cases_lt, lt-ltb, ltb-true, false_from_ne_true}
 use Rattle.std.proofs.lemmas.Bool.Decides.{nat_tests}
 use Rattle.std.proofs.Math.Seq.{take-add, drop-append_seam}
+use Rattle.block_disk.specs.Counts.{HasRisen, counted}
 use Rattle.block_disk.specs.Streams.{Given, left_after}
 use Rattle.chart_world.specs.Lines.{is_line_feed}
 use Rattle.chart_world.specs.Feed.{Gathered}
@@ -155,12 +156,6 @@ ended (Some bytes) (Some rest) size spill some none partway =
     partway.0
     (omega (arith, short, position_within bytes, partway.0.before))
 
--- the input has ended, and no byte was left
-pub ended_empty : (told left : Option (List ℕ)) (spill : List ℕ) → IfSome left (λ l. l ≡ []) → Partway told 0 spill [] left → IfSome told (λ bytes. bytes ≡ [])
-ended_empty None left spill none partway = tt
-ended_empty (Some bytes) None spill none partway = absurd (cc (partway.1))
-ended_empty (Some bytes) (Some rest) spill none partway = sym (held _ _ partway.1) ∙ none
-
 -- behind the last line there is nothing
 pub ended_rest : (told left left' : Option (List ℕ)) (size : ℕ) (spill : List ℕ) → IfSome left (λ l. l ≡ []) → left' ≡ left_after 0 left → Partway told size spill [] left → in_front_of [] left' ≡ behind_first told
 ended_rest None None left' size spill none is partway = ap (λ l. in_front_of [] l) is
@@ -215,3 +210,15 @@ input_step None left' count taken taken' buf given is sum = ap (λ l. input_leng
 input_step (Some rest) left' count taken taken' buf given is sum =
     ap (λ l. input_length taken' l) is
     ∙ ap Some (omega (arith, sum, length-drop count rest, given.within))
+
+-- nothing is left behind nothing pending where the input has ended
+pub nothing_left : (left left' : Option (List ℕ)) (pending : List ℕ) → pending ≡ [] → IfSome left (λ l. l ≡ []) → left' ≡ left_after 0 left → IfSome (in_front_of pending left') (λ bytes. bytes ≡ [])
+nothing_left None left' pending empty none is = subst (λ o. IfSome (in_front_of pending o) (λ bytes. bytes ≡ [])) (sym is) tt
+nothing_left (Some rest) left' pending empty none is = subst (λ o. IfSome (in_front_of pending o) (λ bytes. bytes ≡ [])) (sym is) (ap (λ l. l ++ rest) empty ∙ none)
+
+-- a count that is one more than a later one has risen
+pub counted_rises : (old mid new : ℕ) → old ≤ mid → new ≡ counted mid → HasRisen old new
+counted_rises old mid new later is = elim (cases_lt mid (2 ^ 64 - 1)) [
+  | inl below ↦ inl (omega (arith, later, is ∙ ap (λ b. cond b (mid + 1) mid) (lt-ltb mid (2 ^ 64 - 1) below)))
+  | inr last ↦ inr (omega (arith, last, is ∙ ap (λ b. cond b (mid + 1) mid) (false_from_ne_true (ltb mid (2 ^ 64 - 1)) (λ (is : ltb mid (2 ^ 64 - 1) ≡ true). absurd (omega (arith, last, ltb-true mid (2 ^ 64 - 1) is))))))
+]

@@ -1,10 +1,10 @@
 -- One line more of an input is read.
-use Rattle.std.proofs.Common.{◌≡◌, ◌≢◌, ◌≤◌, ℕ, ◌+◌, ◌⊎◌, List, [], ◌∷◌, ◌++◌, length, Option, Some, None, IfSome, ap, subst, inl, inr, sym, ◌∙◌, arith, append_assoc, length-append}
-use Rattle.std.specs.List.{after_first}
+use Rattle.std.proofs.Common.{◌≡◌, ◌≢◌, ◌≤◌, ℕ, zero, suc, ◌+◌, ◌⊎◌, Bool, true, false, cond, List, [], ◌∷◌, ◌++◌, length, Option, Some, None, IfSome, refl, ap, subst, inl, inr, sym, ◌∙◌, arith, append_assoc, length-append, length-drop}
+use Rattle.std.specs.List.{filter, before_first, after_first, position_or_len}
 use Rattle.std.proofs.lemmas.List.{append-nil}
-use Rattle.chart_world.specs.Fronts.{IsWhole, BeginsWith, first_piece, Gives}
-use Rattle.chart_world.specs.LineLaws.{lines_none, no_rest, pieces, piece_ends}
-use Rattle.chart_world.specs.Lines.{is_line_feed, lines}
+use Rattle.chart_world.specs.Fronts.{says, IsWhole, BeginsWith, first_piece, Gives}
+use Rattle.chart_world.specs.LineLaws.{lines_none, lines_first, no_rest, pieces, piece_ends, piece_line, said, told_behind}
+use Rattle.chart_world.specs.Lines.{is_line_feed, text_of, lines}
 use Rattle.chart_world.specs.Reading.{Reading, unread, told_lines, with_first, behind_first, input_length}
 
 pub some_left : (rest : List ℕ) (line : Option (List ℕ)) (later : List (Option (List ℕ))) → lines rest ≡ line ∷ later → rest ≢ []
@@ -93,3 +93,73 @@ read_whole (Some input) None r most none counted few whole = cc
 read_whole (Some input) (Some l) r most none counted few whole =
     let sum : r.taken + length l ≡ 0 + length input = cc in
     omega (arith, sum, counted, few, ap length (no_rest (r.pending ++ l) none), length-append r.pending l)
+
+-- some first of the lines that say something, and the bytes that they stand in
+pub record FrontOf (bytes : List ℕ) (first later : List (Option (List ℕ))) : Type 0 where
+  pub front : List ℕ
+  pub rest : List ℕ
+  pub begins : BeginsWith bytes front rest
+  pub first_are : filter says (lines front) ≡ first
+  pub later_are : filter says (lines rest) ≡ later
+
+-- no bytes behind a piece that isn't whole
+none_behind : (bytes front rest : List ℕ) → bytes ≡ front ++ rest → bytes ≡ [] → (front ≡ []) × (rest ≡ [])
+none_behind bytes [] rest split none = (refl, sym split ∙ none)
+none_behind bytes (b ∷ bs) rest split none = let e : [] ≡ b ∷ (bs ++ rest) = sym none ∙ split in cc
+
+-- with the piece of the first line in front
+front_more : (bytes : List ℕ) (line : Option (List ℕ)) (first first' later : List (Option (List ℕ))) → lines bytes ≡ line ∷ lines (after_first is_line_feed bytes) → filter says (line ∷ []) ++ first ≡ first' → FrontOf (after_first is_line_feed bytes) first later → FrontOf bytes first' later
+front_more bytes line first first' later is more f =
+    let piece = first_piece bytes in
+    record {
+      front = piece ++ f.front;
+      rest = f.rest;
+      begins = record {
+        split = pieces bytes ∙ ap (λ l. piece ++ l) f.begins.split ∙ sym (append_assoc piece f.front f.rest);
+        whole = elim (piece_ends bytes) [
+          | inl whole ↦ elim f.begins.whole [
+            | inl ended ↦ inl (whole_joined piece f.front whole ended)
+            | inr none ↦ inr none
+          ]
+          | inr none ↦ inr (none_behind (after_first is_line_feed bytes) f.front f.rest f.begins.split none).1
+        ];
+      };
+      first_are = elim (piece_ends bytes) [
+        | inl whole ↦ told_behind piece f.front whole ∙ ap (λ l. filter says l ++ filter says (lines f.front)) (piece_line bytes line is) ∙ ap (λ l. filter says (line ∷ []) ++ l) f.first_are ∙ more
+        | inr none ↦
+            let empty = (none_behind (after_first is_line_feed bytes) f.front f.rest f.begins.split none).0 in
+            let none_first : [] ≡ first = sym (ap (λ l. filter says (lines l)) empty ∙ ap (filter says) lines_none) ∙ f.first_are in
+            ap (λ l. filter says (lines (piece ++ l))) empty ∙ ap (λ l. filter says (lines l)) (append-nil piece) ∙ ap (filter says) (piece_line bytes line is)
+            ∙ sym (append-nil (filter says (line ∷ []))) ∙ ap (λ l. filter says (line ∷ []) ++ l) none_first ∙ more
+      ];
+      later_are = f.later_are;
+    }
+
+-- the first line is the first of those that say something, or says nothing
+told_first : (bytes : List ℕ) (line : Option (List ℕ)) (first later : List (Option (List ℕ))) → lines bytes ≡ line ∷ lines (after_first is_line_feed bytes) → filter says (lines bytes) ≡ first ++ later → first ≢ []
+    → ((first' : List (Option (List ℕ))) → filter says (lines (after_first is_line_feed bytes)) ≡ first' ++ later → FrontOf (after_first is_line_feed bytes) first' later)
+    → ((v : Bool) → says line ≡ v → FrontOf bytes first later)
+told_first bytes line [] later all is some behind v says_so = absurd (some refl)
+told_first bytes line (l ∷ first) later all is some behind true says_so =
+    let rest = filter says (lines (after_first is_line_feed bytes)) in
+    let here : line ∷ rest ≡ l ∷ (first ++ later) = sym (ap (filter says) all ∙ ap (λ v. cond v (line ∷ rest) rest) says_so) ∙ is in
+    let same : line ≡ l = cc (here) in
+    let next : rest ≡ first ++ later = cc (here) in
+    front_more bytes line first (l ∷ first) later all (ap (λ t. t ++ first) (said line says_so) ∙ ap (λ x. x ∷ first) same) (behind first next)
+told_first bytes line (l ∷ first) later all is some behind false says_so =
+    let rest = filter says (lines (after_first is_line_feed bytes)) in
+    let next : rest ≡ (l ∷ first) ++ later = sym (ap (filter says) all ∙ ap (λ v. cond v (line ∷ rest) rest) says_so) ∙ is in
+    front_more bytes line (l ∷ first) (l ∷ first) later all (ap (λ v. cond v (line ∷ []) [] ++ (l ∷ first)) says_so) (behind (l ∷ first) next)
+
+-- a front of whole lines has so many of the lines that say something
+pub told_split : (most : ℕ) (bytes : List ℕ) (first later : List (Option (List ℕ))) → length bytes ≤ most → filter says (lines bytes) ≡ first ++ later → FrontOf bytes first later
+told_split most bytes [] later few is = record { front = []; rest = bytes; begins = record { split = refl; whole = inl (inl refl) }; first_are = ap (filter says) lines_none; later_are = is }
+told_split most [] (l ∷ first) later few is = let e : [] ≡ l ∷ (first ++ later) = sym (ap (filter says) lines_none) ∙ is in cc
+told_split zero (b ∷ bs) (l ∷ first) later few is = absurd (omega (arith, few))
+told_split (suc most) (b ∷ bs) (l ∷ first) later few is =
+    let bytes : List ℕ = b ∷ bs in
+    let line = text_of (before_first is_line_feed bytes) in
+    let behind = after_first is_line_feed bytes in
+    let all : lines bytes ≡ line ∷ lines behind = lines_first bytes (λ e. cc) in
+    let shorter : length behind ≤ most = omega (arith, few, length-drop (position_or_len is_line_feed bytes + 1) bytes) in
+    told_first bytes line (l ∷ first) later all is (λ e. cc) (λ first' more. told_split most behind first' later shorter more) (says line) refl

@@ -201,6 +201,10 @@ pub no_rest : (rest : List ℕ) → lines rest ≡ [] → rest ≡ []
 no_rest [] none = refl
 no_rest (b ∷ bs) none = let first = lines_first (b ∷ bs) (λ e. cc) in cc
 
+-- more bytes behind whole lines, among the lines that say something
+pub told_behind : (front piece : List ℕ) → IsWhole front → filter says (lines (front ++ piece)) ≡ filter says (lines front) ++ filter says (lines piece)
+told_behind front piece whole = ap (filter says) (lines_joined front piece whole) ∙ filter-append says (lines front) (lines piece)
+
 -- a line more behind whole lines, among those that say something
 pub told_more : (front piece : List ℕ) (line : Option (List ℕ)) → IsWhole front → lines piece ≡ line ∷ [] → filter says (lines (front ++ piece)) ≡ filter says (lines front) ++ filter says (line ∷ [])
 told_more front piece line whole first =

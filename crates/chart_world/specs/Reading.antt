@@ -1,6 +1,7 @@
 -- How far a reader of lines has come in its input.
-use Rattle.std.specs.Prelude.{ℕ, ◌+◌, ◌-◌, ◌^◌, Bool, true, List, [], ◌∷◌, ◌++◌, Contains, Option, None, Some, length, take, IfSome}
-use Rattle.std.specs.List.{after_first}
+use Rattle.std.specs.Prelude.{ℕ, ◌≡◌, ◌⊎◌, ◌<◌, ◌+◌, ◌-◌, ◌^◌, Bool, true, List, [], ◌∷◌, ◌++◌, Contains, Option, None, Some, length, take, IfSome}
+use Rattle.std.specs.List.{after_first, position_or_len}
+use Rattle.block_disk.specs.Counts.{HasRisen}
 use Rattle.chart_world.specs.Lines.{is_line_feed, lines, NoLineFeed}
 
 pub record Reading : Type 0 where
@@ -56,3 +57,13 @@ input_length taken (Some left) = Some (taken + length left)
 -- no line feed stands among the first bytes, where they are told
 abbrev pub NoLineIn : ℕ → Option (List ℕ) → Type 0
 NoLineIn count bytes = IfSome bytes (λ told. NoLineFeed (take count told))
+
+-- the count of pieces has risen, or all of the input is read, where it is told
+abbrev pub Took : ℕ → ℕ → Option (List ℕ) → Type 0
+Took before now bytes = HasRisen before now ⊎ IfSome bytes (λ told. told ≡ [])
+
+-- the next line is pending behind so many bytes
+pub record HasLineAt (before : ℕ) (reading : Reading) : Type 0 where
+  pub place : before ≡ position_or_len is_line_feed reading.pending
+  pub within : before < length reading.pending
+  pub early : reading.given + before < 2 ^ 32

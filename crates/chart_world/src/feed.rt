@@ -1,7 +1,7 @@
 //! The piece of input that was taken last, and the front of a line that began in an earlier one.
 ghost use Rattle.std.specs.Prelude.{◌≡◌, ◌≤◌, ◌<◌, ◌+◌, ◌-◌, ◌^◌, ◌++◌, [], IfSome, length, take, drop, vec_len, vec_capacity, IfOk, OnOk, OnErr, slice_range};
 ghost use Rattle.std.specs.List.{position_or_len};
-ghost use Rattle.block_disk.specs.Counts.{HasRisen};
+ghost use Rattle.block_disk.specs.Counts.{HasRisen, counted};
 ghost use Rattle.block_disk.specs.Streams.{Given, left_after};
 ghost use Rattle.chart_world.specs.Lines.{is_line_feed};
 
@@ -128,6 +128,7 @@ impl Feed {
         ensures send_faults { S.send_faults from.new ≡ S.send_faults from.old }
         ensures read_faults { S.read_faults from.old ≤ S.read_faults from.new }
         ensures pieces { S.pieces from.old ≤ S.pieces from.new }
+        ensures piece { IfOk result (λ count. 0 < count → S.pieces from.new ≡ counted (S.pieces from.old)) }
         ensures beside { S.takes from.old from.new }
     {
         let count = from.take(self.bytes.as_mut_slice())?;

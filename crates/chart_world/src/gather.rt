@@ -2,8 +2,8 @@
 ghost use Rattle.std.specs.Prelude.{◌≡◌, ◌≤◌, ◌<◌, ◌+◌, ◌-◌, ◌^◌, [], IfSome, IfOk, OnOk, OnErr};
 ghost use Rattle.block_disk.specs.Counts.{HasRisen};
 ghost use Rattle.block_disk.specs.Streams.{left_after};
-ghost use Rattle.chart_world.specs.Feed.{pending_of, given_of, Gathered};
-ghost use Rattle.chart_world.specs.Reading.{in_front_of, behind_first, input_length, NoLineIn};
+ghost use Rattle.chart_world.specs.Feed.{pending_of, given_of, HasLine, Gathered};
+ghost use Rattle.chart_world.specs.Reading.{in_front_of, behind_first, input_length, NoLineIn, Took};
 
 use crate::feed::{Feed, LIMIT};
 use crate::line_answer::LineFault;
@@ -32,6 +32,7 @@ impl Feed {
         ensures send_faults { S.send_faults from.new ≡ S.send_faults from.old }
         ensures read_faults { S.read_faults from.old ≤ S.read_faults from.new }
         ensures pieces { S.pieces from.old ≤ S.pieces from.new }
+        ensures took { (HasLine self.old → ⊥) → OnOk result (Took (S.pieces from.old) (S.pieces from.new) (in_front_of (pending_of self.new) (S.left from.new))) }
         ensures beside { S.takes from.old from.new }
     {
         let mut length = 0;

@@ -1,10 +1,11 @@
 //! The lines of a stream, one at a time.
-ghost use Rattle.std.specs.Prelude.{true, false, ◌≡◌, ◌≢◌, ◌≤◌, ◌<◌, ◌+◌, ◌-◌, ◌^◌, ◌++◌, [], IsTrue, Contains, IfSome, length, take, drop, IfOk, IfErr, OnOk, OnErr};
-ghost use Rattle.std.specs.List.{position_or_len};
+ghost use Rattle.std.specs.Prelude.{true, false, ◌≡◌, ◌≢◌, ◌≤◌, ◌<◌, ◌+◌, ◌-◌, ◌^◌, ◌++◌, [], None, IsTrue, Contains, IfSome, length, take, drop, IfOk, IfErr, OnOk, OnErr};
+ghost use Rattle.std.specs.List.{position_or_len, before_first, after_first};
 ghost use Rattle.block_disk.specs.Counts.{HasRisen};
 ghost use Rattle.block_disk.specs.Streams.{left_after};
+ghost use Rattle.chart_world.specs.Fronts.{first_piece};
 ghost use Rattle.chart_world.specs.Lines.{is_line_feed, text_of};
-ghost use Rattle.chart_world.specs.Reading.{unread_input, unread, told_lines, with_first, behind_first, input_length, HasLine, NoLineIn};
+ghost use Rattle.chart_world.specs.Reading.{unread_input, unread, told_lines, with_first, behind_first, input_length, HasLine, HasLineAt, NoLineIn, Took};
 
 use crate::feed::{Feed, LIMIT, LONGEST};
 use crate::line_answer::{LineAnswer, LineFault};
@@ -70,6 +71,19 @@ impl Lines {
         LineAnswer::Line
     }
 
+    /// How many bytes stand before the next line feed, where the next line is pending.
+    fn pending_line(&self) -> Option<usize>
+        ensures here { IfSome result (λ before. HasLineAt before self.now) }
+        ensures has { IfSome result (λ before. HasLine self.now) }
+        ensures none { result ≡ None → HasLine self.now → ⊥ }
+    {
+        let before = self.feed.line_feed();
+        if before < self.feed.len() && self.feed.given() + (before as u64) < LIMIT {
+            return Some(before);
+        }
+        None
+    }
+
     /// Takes all buffers that it will need.
     pub fn new(alloc: Global) -> Result<Lines, NoMemory>
         ensures { IfOk result (λ lines. lines ≡ unread_input) }
@@ -122,13 +136,14 @@ impl Lines {
         ensures send_faults { S.send_faults from.new ≡ S.send_faults from.old }
         ensures read_faults { S.read_faults from.old ≤ S.read_faults from.new }
         ensures pieces { S.pieces from.old ≤ S.pieces from.new }
+        // where no line was pending, a piece was taken, or all of the input is read
+        ensures took { (HasLine self.old → ⊥) → OnOk result (Took (S.pieces from.old) (S.pieces from.new) (unread self.new (S.left from.new))) }
         ensures beside { S.takes from.old from.new }
     {
-        let before = self.feed.line_feed();
-        let first = self.feed.given();
-        if before < self.feed.len() && first + (before as u64) < LIMIT {
+        if let Some(before) = self.pending_line() {
             return Ok(self.give_pending(before));
         }
+        let first = self.feed.given();
         self.place = Place::Nowhere;
         let length = match self.feed.gather(from) {
             Ok(Some(length)) => length,
@@ -153,8 +168,38 @@ impl Lines {
         ensures ready { result ≡ true → HasLine self.now }
         ensures unready { result ≡ false → HasLine self.now → ⊥ }
     {
+        self.pending_line().is_some()
+    }
+
+    /// The text of the next line, where that is ready and isn't too long. It isn't passed.
+    pub fn ahead(&self) -> Option<&[u8]>
+        ensures ready { IfSome result (λ text. HasLine self.now) }
+        ensures text { IfSome result (λ text. text_of (before_first is_line_feed self.now.pending) ≡ Some text.now) }
+        ensures short { IfSome result (λ text. length text.now ≤ 8192) }
+    {
+        let before = self.pending_line()?;
+        if before > LONGEST {
+            return None;
+        }
+        let first = self.feed.start;
+        let bytes = self.feed.bytes.as_slice();
+        let length = text_len(&bytes[first..first + before]);
+        Some(&bytes[first..first + length])
+    }
+
+    /// Passes the next line, which is ready.
+    pub fn pass(&mut self)
+        requires usable { IsTrue self.old.usable }
+        requires ready { HasLine self.old }
+        requires counted { self.old.taken ≡ self.old.given + length self.old.pending }
+        ensures passed { self.new.given ≡ self.old.given + length (first_piece self.old.pending) }
+        ensures pending { self.new.pending ≡ after_first is_line_feed self.old.pending }
+        ensures within { self.new.given ≤ 2 ^ 32 }
+        ensures taken { self.new.taken ≡ self.old.taken }
+        ensures usable { IsTrue self.new.usable }
+    {
         let before = self.feed.line_feed();
-        before < self.feed.len() && self.feed.given() + (before as u64) < LIMIT
+        self.give_pending(before);
     }
 
     /// The line of the last answer, where that was `Line`; empty otherwise.

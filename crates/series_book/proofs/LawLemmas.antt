@@ -57,7 +57,7 @@ unless_ok (cause ∷ causes) slots given is =
     here cause.0 refl is
 
 -- what an append gives is in range
-appended_fits : (series : Series) (values slots : List (Option ℤ)) → IsSeries series → appended series values ≡ Ok slots → AreInRange slots
+pub appended_fits : (series : Series) (values slots : List (Option ℤ)) → IsSeries series → appended series values ≡ Ok slots → AreInRange slots
 unfolding appended
 appended_fits series values slots is given =
     let found = unless_ok ((list_any is_too_large values, ValueTooLarge) ∷ (ltb MOST_VALUES (length values), RangeTooLong) ∷ (ltb MOST_SLOTS (length series.slots + length values), SeriesFull) ∷ [])
@@ -100,7 +100,7 @@ cleared_fits slots place count old short =
     }
 
 -- what a set gives is in range
-set_fits : (series : Series) (time : ℤ) (values slots : List (Option ℤ)) → IsSeries series → set_at series time values ≡ Ok slots → AreInRange slots
+pub set_fits : (series : Series) (time : ℤ) (values slots : List (Option ℤ)) → IsSeries series → set_at series time values ≡ Ok slots → AreInRange slots
 unfolding set_at
 set_fits series time values slots is given =
     let found = unless_ok ((is_off_grid series time, OffGrid) ∷ (int_lt time series.start, BeforeStart) ∷ (list_any is_too_large values, ValueTooLarge) ∷ (ltb MOST_VALUES (length values), RangeTooLong)

@@ -4,3 +4,4 @@ pub mod Pages
 pub mod Edits
 pub mod Books
 pub mod Axes
+pub mod EditLists

@@ -1,9 +1,12 @@
-use Rattle.std.proofs.Common.{◌≡◌, ◌∙◌, ◌+◌, ◌-◌, ◌^◌, ◌≤◌, ◌<◌, ◌++◌, [], length, take, ap, sym, arith, rules}
+use Rattle.std.proofs.Common.{◌≡◌, ◌∙◌, ◌+◌, ◌-◌, ◌^◌, ◌≤◌, ◌<◌, ◌++◌, [], length, take, ap, sym, inl, inr, arith, rules}
+use Rattle.std.specs.List.{position_or_len}
 use Rattle.block_disk.specs.Streams.{left_after}
+use Rattle.chart_world.specs.Lines.{is_line_feed}
 use Rattle.chart_world.specs.Feed.{pending_of, given_of}
 use Rattle.chart_world.specs.Reading.{in_front_of}
 use Rattle.chart_world.proofs.Pending.{pending_full, pending_from, pending_piece}
-use Rattle.chart_world.proofs.Gathering.{found, found_rest, none_yet, left_is, pass_all, ended, ended_rest, none_left, refill_step, input_step}
+use Rattle.chart_world.proofs.Gathering.{found, found_rest, none_yet, left_is, pass_all, ended, ended_rest, none_left, refill_step, input_step, nothing_left, counted_rises}
+use Rattle.chart_world.proofs.NextLine.{early_contains}
 use Rattle.chart_world.proofs.feed.Feed.gather.Goals.{else-before-len-via-then-before-len+else-given-before-lt-LIMIT, else-before-len-via-else-before-len}
 use Rattle.chart_world.proofs.feed.Feed.gather.Goals as goal
 
@@ -128,6 +131,35 @@ returns-else-length-eq0-clause-rest g c =
     ap (λ l. in_front_of l (streams.left c.refill.new.from)) nothing
     ∙ ended_rest told (streams.left c.loop-self.from) (streams.left c.refill.new.from) (c.loop-self.length + length') spill none left passed
 
+pub returns-then-given-before-lt-LIMIT-clause-took : goal.returns-then-given-before-lt-LIMIT-clause-took
+returns-then-given-before-lt-LIMIT-clause-took g c none = elim c.loop-self.invariant.took [
+  | inl (unmoved, same) ↦
+      let at = c.loop-self.self in
+      let old = c.args.self.now in
+      let full = pending_full at.bytes.items at.start at.end at.ordered (omega (arith, at.within, at.sized, at.bytes.ok)) in
+      let place : c.line_feed-before.result ≡ position_or_len is_line_feed (pending_of old) = c.line_feed-before.ensures ∙ ap (λ l. position_or_len is_line_feed l) same in
+      absurd (none (early_contains (2 ^ 32 - given_of old) (pending_of old)
+      (omega (arith, place, full, ap length same, c.if-before-len.true, c.len.ensures))
+      (omega (arith, place, c.given.ensures, c.loop-self.invariant.given, unmoved, c.if-given-before-lt-LIMIT.true))))
+  | inr risen ↦ inl risen
+]
+
+pub returns-then-length-eq0-clause-took : goal.returns-then-length-eq0-clause-took
+returns-then-length-eq0-clause-took g c _ =
+    let streams = g.S.Streams in
+    let nothing : pending_of c.refill.new.self ≡ [] = rw (c.in-Ok.ensures.start, c.in-Ok.ensures.end, c.if-count-eq0.true) (pending_piece c.refill.new.self.bytes.items 0) in
+    inr (nothing_left (streams.left c.loop-self.from) (streams.left c.refill.new.from) (pending_of c.refill.new.self) nothing
+    (none_left (streams.left c.loop-self.from) c.in-Ok.count c.refill.new.self.bytes.items c.if-count-eq0.true c.in-Ok.ensures.given)
+    (c.in-Ok.ensures.left ∙ ap (λ n. left_after n (streams.left c.loop-self.from)) c.if-count-eq0.true))
+
+pub returns-else-length-eq0-clause-took : goal.returns-else-length-eq0-clause-took
+returns-else-length-eq0-clause-took g c _ =
+    let streams = g.S.Streams in
+    let nothing : pending_of c.refill.new.self ≡ [] = rw (c.in-Ok.ensures.start, c.in-Ok.ensures.end, c.if-count-eq0.true) (pending_piece c.refill.new.self.bytes.items 0) in
+    inr (nothing_left (streams.left c.loop-self.from) (streams.left c.refill.new.from) (pending_of c.refill.new.self) nothing
+    (none_left (streams.left c.loop-self.from) c.in-Ok.count c.refill.new.self.bytes.items c.if-count-eq0.true c.in-Ok.ensures.given)
+    (c.in-Ok.ensures.left ∙ ap (λ n. left_after n (streams.left c.loop-self.from)) c.if-count-eq0.true))
+
 pub loop-self-preserved : goal.loop-self-preserved
 loop-self-preserved g c =
     let streams = g.S.Streams in
@@ -157,5 +189,6 @@ loop-self-preserved g c =
       send_faults = search rules;
       read_faults = omega (arith, c.loop-self.invariant.read_faults, c.refill.ensures.read_faults);
       pieces = omega (arith, c.loop-self.invariant.pieces, c.refill.ensures.pieces);
+      took = inr (counted_rises (streams.pieces c.args.from.now) (streams.pieces c.loop-self.from) (streams.pieces c.refill.new.from) c.loop-self.invariant.pieces (c.in-Ok.ensures.piece (omega (arith, c.if-count-eq0.false))));
       beside = g.met.S.Streams.takes_then _ _ _ c.loop-self.invariant.beside c.refill.ensures.beside;
     }
