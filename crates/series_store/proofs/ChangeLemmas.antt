@@ -5,11 +5,8 @@ use Rattle.block_disk.specs.View.{Image}
 use Rattle.om3_coeff.specs.Keys.{page_levels}
 use Rattle.om3_coeff.proofs.KeyLemmas.{levels_4}
 use Rattle.page_space.specs.declared.superblock.Superblock.{Superblock}
-use Rattle.page_space.specs.declared.txn.Txn.{Txn}
-use Rattle.page_space.specs.Transactions.{left_by}
 use Rattle.path_repair.specs.Changes.{IsEdited}
-use Rattle.path_repair.specs.Edited.{IsHeldTree, IsEditedTree}
-use Rattle.path_repair.specs.Keeping.{KeepsCatalog}
+use Rattle.path_repair.specs.Edited.{IsHeldTree}
 use Rattle.path_repair.proofs.EditLemmas.{levels_more}
 use Rattle.catalog_page.specs.Entries.{Entry, IsEntry}
 use Rattle.series_book.specs.declared.one_series.Series.{Series}
@@ -22,8 +19,6 @@ use Rattle.series_catalog.specs.Catalogs.{entry_of}
 use Rattle.stored_book.proofs.TreesLemmas.{held}
 use Rattle.stored_book.specs.Records.{entry, tree_of, pages_of_others}
 use Rattle.stored_book.specs.Standing.{IsStore}
-use Rattle.stored_book.specs.Changing.{IsTreeChanged}
-use Rattle.tree_walk.specs.declared.tree.Tree.{Tree}
 use Rattle.series_store.proofs.SlotLemmas.{overwritten_edited, cleared_edited}
 
 -- a root is one of the pages
@@ -42,20 +37,11 @@ in_range image s book id series store there =
     let is : IsSeries series = IsSeries-there book id series store.is_book there in
     record { short = is.slots_in_range; fit = is.values_in_range }
 
-own_tree : (image : Image) (s : Superblock) (book : List Series) (id : ℕ) (series : Series) (one : StoredSeries) → IsStore image s book → slice_get book id ≡ Some series → entry image id ≡ entry_of one
+pub own_tree : (image : Image) (s : Superblock) (book : List Series) (id : ℕ) (series : Series) (one : StoredSeries) → IsStore image s book → slice_get book id ≡ Some series → entry image id ≡ entry_of one
     → IsHeldTree s.total image s one.tree series.slots (pages_of_others image (length book) id)
 own_tree image s book id series one store there told =
     let P : Entry → Type 0 = λ e. IsHeldTree s.total image s (tree_of e) series.slots (pages_of_others image (length book) id) in
     subst P told (held image s book id series store there)
-
--- the catalog's tree is that of the series, as a transaction that changed nothing leaves it
-pub held_tree : (image : Image) (s : Superblock) (book : List Series) (id : ℕ) (series : Series) (one : StoredSeries) (txn : Txn) → IsStore image s book → slice_get book id ≡ Some series → entry image id ≡ entry_of one
-    → txn.superblock ≡ s → left_by txn image ≡ image → IsHeldTree s.total (left_by txn image) txn.superblock one.tree series.slots (pages_of_others image (length book) id)
-held_tree image s book id series one txn store there told numbers left =
-    let others : List ℕ = pages_of_others image (length book) id in
-    let P : Image → Type 0 = λ i. IsHeldTree s.total i s one.tree series.slots others in
-    let Q : Superblock → Type 0 = λ one_more. IsHeldTree s.total (left_by txn image) one_more one.tree series.slots others in
-    subst Q (sym numbers) (subst P (sym left) (own_tree image s book id series one store there told))
 
 -- what is put into the slots of a series is put into those of its tree
 pub put_edited : (image : Image) (s : Superblock) (book : List Series) (id : ℕ) (series : Series) (one : StoredSeries) (slot : ℕ) (run : List (Option ℤ)) → IsStore image s book → slice_get book id ≡ Some series → entry image id ≡ entry_of one
@@ -73,14 +59,3 @@ clear_edited image s book id series one slot count store there told room =
     let long : one.tree.slots ≡ length series.slots = (own_tree image s book id series one store there told).is_tree.slots in
     let P : ℕ → Type 0 = λ n. IsEdited slot (slot + count) n [] series.slots (cleared series.slots slot count) in
     subst P (sym long) (cleared_edited series.slots slot count (in_range image s book id series store there) (omega (arith, room, long)))
-
--- the tree was changed in a transaction
-pub tree_changed : (image : Image) (total : ℕ) (book : List Series) (id : ℕ) (old new : Txn) (tree : Tree) (slots : List (Option ℤ)) → left_by old image ≡ image → new.superblock.total ≡ total
-    → IsEditedTree total (left_by old image) (left_by new image) new.superblock tree slots (pages_of_others image (length book) id) → KeepsCatalog (left_by old image) (left_by new image)
-    → IsTreeChanged image (left_by new image) (length book) id new.superblock tree slots
-tree_changed image total book id old new tree slots left same edited keeps =
-    let others : List ℕ = pages_of_others image (length book) id in
-    let P : Image → Type 0 = λ i. IsEditedTree new.superblock.total i (left_by new image) new.superblock tree slots others in
-    let Q : ℕ → Type 0 = λ n. IsEditedTree n (left_by old image) (left_by new image) new.superblock tree slots others in
-    let C : Image → Type 0 = λ i. KeepsCatalog i (left_by new image) in
-    record { edited = subst P left (subst Q (sym same) edited); catalog = subst C left keeps }

@@ -1,23 +1,20 @@
 -- A series without slots is added to a store.
-use Rattle.std.proofs.Common.{◌≡◌, ◌≢◌, ℕ, zero, suc, ◌+◌, ◌<◌, ◌^◌, false, List, [], ◌∷◌, ◌++◌, length, Option, Some, None, Result, Ok, Err, ℤ, IsTrue, All, is_some, refl, sym, ap, subst, ◌∙◌, arith, inl, inr}
+use Rattle.std.proofs.Common.{◌≡◌, ◌≢◌, ℕ, zero, suc, ◌+◌, ◌<◌, ◌^◌, false, List, [], ◌∷◌, ◌++◌, length, Option, Some, None, Result, Ok, ℤ, IsTrue, All, is_some, unwrap_or, refl, sym, ap, subst, ◌∙◌, arith, inl, inr}
 use Rattle.std.specs.List.{slice_get}
 use Rattle.std.proofs.lemmas.Bool.{cases_lt}
 use Rattle.std.proofs.lemmas.Bool.Decides.{eqb_tells}
 use Rattle.std.proofs.lemmas.List.{length_push}
 use Rattle.std.proofs.lemmas.Option.{same_Some, slice_get_within}
-use Rattle.block_disk.specs.View.{Image, View, Now, Only, Passes}
-use Rattle.gate_pages.specs.Pages.{Quiet, Commits}
+use Rattle.block_disk.specs.View.{Image}
 use Rattle.page_space.specs.declared.superblock.Superblock.{Superblock}
 use Rattle.page_space.specs.declared.txn.Txn.{Txn}
 use Rattle.page_space.specs.Layout.{superblock_page, with_series, IsSuperblock}
-use Rattle.page_space.specs.Transactions.{held, left_by}
+use Rattle.page_space.specs.Transactions.{OnlyFirst, left_by}
 use Rattle.catalog_page.specs.Entries.{Entry, IsEntry, entry_at}
 use Rattle.catalog_page.specs.Layout.{KeepsLayout}
 use Rattle.catalog_page.specs.Places.{page_of, number_of, records_of}
 use Rattle.catalog_page.proofs.RecordPlaces.{next_record, other_pages}
-use Rattle.path_repair.specs.Standing.{ReadsMost}
 use Rattle.series_book.specs.declared.one_series.Series.{Series}
-use Rattle.series_book.specs.declared.outcomes.Outcome.{Outcome}
 use Rattle.series_book.specs.declared.refusals.Refusal.{Refusal}
 use Rattle.series_book.specs.Books.{IsBook, IsSeries}
 use Rattle.series_book.specs.Edits.{Edited, IsEdit, id_of, is_too_large, created}
@@ -26,40 +23,19 @@ use Rattle.series_book.specs.declared.edits.Edit.TheVariants.{Create}
 use Rattle.series_book.proofs.BookLemmas.{IsBook-push}
 use Rattle.series_book.proofs.EditLemmas.{created-ok}
 use Rattle.series_catalog.specs.declared.stored_series.StoredSeries.{StoredSeries}
-use Rattle.series_catalog.specs.Catalogs.{entry_of, AreFit, AreAsTold}
+use Rattle.series_catalog.specs.Catalogs.{ForEntry, entry_of, entry_with, AreFit, AreAsTold}
 use Rattle.stored_book.proofs.FrameLemmas.{page_low, entry_stays}
 use Rattle.stored_book.proofs.AddedLemmas.{added_store}
+use Rattle.stored_book.specs.Changing.{IsRecordSet, AddsRecord}
 use Rattle.stored_book.specs.Records.{entry}
+use Rattle.tree_walk.specs.declared.tree.Tree.{Tree}
 use Rattle.stored_book.specs.Standing.{IsStore, StandsForBook, AreCatalog}
 use Rattle.series_store.specs.declared.errors.StoreError.{StoreError}
-use Rattle.series_store.specs.Changing.{IsAnswered, IsRefusedBy, IsEitherBy}
+use Rattle.series_store.specs.Staging.{IsCatalogOf, IsStagedBy}
+use Rattle.series_store.specs.declared.staged.Staged.{Staged}
 use Rattle.series_store.specs.Creating.{series_of, IsRecordAdded}
-use Rattle.series_store.proofs.CommitLemmas.{reads_pass, commit_passes}
+use Rattle.series_store.proofs.StageLemmas.{first_page}
 use Rattle.series_store.proofs.StoreLemmas.{store_of}
-
--- What the catalog keeps while nothing is committed.
-
-pub told_stays : (most : ℕ) (told told' : Type 0) (old new : View) (items items' : List StoredSeries) → ReadsMost most told told' old new → items' ≡ items
-    → (told → AreAsTold old.image items) → told' → AreAsTold new.image items'
-told_stays most told told' old new items items' reads same are is =
-    let was : told = reads.was_told is in
-    let P : List StoredSeries → Type 0 = λ list. AreAsTold new.image list in
-    let Q : Image → Type 0 = λ image. AreAsTold image items in
-    subst P (sym same) (subst Q (sym (reads.image was)) (are was))
-
-pub whole_stays : (most : ℕ) (told told' : Type 0) (old new : View) (s s' : Superblock) → ReadsMost most told told' old new → s' ≡ s
-    → (told → AreCatalog old.image s.fresh s.series) → told' → AreCatalog new.image s'.fresh s'.series
-whole_stays most told told' old new s s' reads same are is =
-    let was : told = reads.was_told is in
-    let P : Superblock → Type 0 = λ t. AreCatalog new.image t.fresh t.series in
-    let Q : Image → Type 0 = λ image. AreCatalog image s.fresh s.series in
-    subst P (sym same) (subst Q (sym (reads.image was)) (are was))
-
-pub fits_stay : (s s' : Superblock) (items items' : List StoredSeries) → s' ≡ s → items' ≡ items → AreFit s.fresh items → AreFit s'.fresh items'
-fits_stay s s' items items' same same' fit =
-    let P : List StoredSeries → Type 0 = λ list. AreFit s'.fresh list in
-    let Q : Superblock → Type 0 = λ t. AreFit t.fresh items in
-    subst P (sym same') (subst Q (sym same) fit)
 
 -- What it has with the new series.
 
@@ -116,43 +92,36 @@ whole_push before after s count e added was = λ p from to.
           subst K (sym (other_pages count p from is.1)) (subst M (sym (added.set.others p is.1)) at_mid)
     ]
 
--- the pages after the commit
-pub left_pages : (most : ℕ) (told told' : Type 0) (old mid new : View) (txn : Txn) → ReadsMost most told told' old mid → told → (told' → new.image ≡ left_by txn mid.image) → new.image ≡ left_by txn old.image
-left_pages most told told' old mid new txn reads is done = done (reads.told is) ∙ ap (λ image. left_by txn image) (reads.image is)
+-- a record without a tree is put behind the others in a transaction that counts its series
+pub record_added : (old mid new : Txn) (base : Image) (count : ℕ) (one : StoredSeries) (tree : Tree) → mid.superblock ≡ with_series old.superblock (count + 1) → OnlyFirst old mid → one.tree ≡ tree → IsEntry old.superblock.fresh (entry_of one)
+    → IsRecordSet (left_by mid base) (left_by new base) count (entry_with one tree) → ForEntry (entry_with one tree) (AddsRecord (left_by mid base) (left_by new base) count) → IsRecordAdded (left_by old base) (left_by new base) old.superblock count (entry_of one)
+record_added old mid new base count one tree numbers first empty is put adds =
+    let S : Tree → Type 0 = λ t. IsRecordSet (left_by mid base) (left_by new base) count (entry_with one t) in
+    let A : Tree → Type 0 = λ t. ForEntry (entry_with one t) (AddsRecord (left_by mid base) (left_by new base) count) in
+    record {
+      mid = left_by mid base;
+      spelled = first_page mid base ∙ ap superblock_page numbers;
+      others = λ p some. ap (λ o. unwrap_or o (base p)) (first.others p (omega (arith, some)));
+      set = subst S (sym empty) put;
+      adds = subst A (sym empty) adds old.superblock.fresh is;
+    }
 
-pub told_after : (old new : View) (s : Superblock) (txn : Txn) (items items' : List StoredSeries) (one : StoredSeries) (count : ℕ) → count ≡ length items → items' ≡ items ++ one ∷ [] → new.image ≡ left_by txn old.image
-    → IsRecordAdded old.image (left_by txn old.image) s count (entry_of one) → AreAsTold old.image items → AreAsTold new.image items'
-told_after old new s txn items items' one count counted are left added was =
-    let P : List StoredSeries → Type 0 = λ list. AreAsTold new.image list in
-    let Q : Image → Type 0 = λ image. AreAsTold image (items ++ one ∷ []) in
-    let N : ℕ → Type 0 = λ n. IsRecordAdded old.image (left_by txn old.image) s n (entry_of one) in
-    subst P (sym are) (subst Q (sym left) (told_push old.image (left_by txn old.image) s items one (subst N counted added) was))
-
-pub whole_after : (old new : View) (s s' : Superblock) (txn : Txn) (count : ℕ) (e : Entry) → count ≡ s.series → s' ≡ with_series s (count + 1) → new.image ≡ left_by txn old.image
-    → IsRecordAdded old.image (left_by txn old.image) s count e → AreCatalog old.image s.fresh s.series → AreCatalog new.image s'.fresh s'.series
-whole_after old new s s' txn count e counted is left added was =
-    let P : Superblock → Type 0 = λ t. AreCatalog new.image t.fresh t.series in
-    let Q : Image → Type 0 = λ image. AreCatalog image s.fresh (count + 1) in
-    let N : ℕ → Type 0 = λ n. AreCatalog old.image s.fresh n in
-    subst P (sym is) (subst Q (sym left) (whole_push old.image (left_by txn old.image) s count e added (subst N (sym counted) was)))
-
--- What a call answers.
-
--- an error that comes before anything is committed
-pub answer_kept : (most : ℕ) (answer : Result Edited Refusal) (total : ℕ) (book : List Series) (told told' : Type 0) (old new : View) (e : StoreError) → IsRefusedBy answer e
-    → Only old.image (Now old) → StandsForBook old.image total book → ReadsMost most told told' old new → IsAnswered answer total book (Err e) old new
-answer_kept most answer total book told told' old new e refused only stands reads = record {
-  done = tt;
-  refused = refused;
-  moments = reads_pass most told told' old new (IsEitherBy answer total book) only (inl stands) reads;
-}
-
--- the book with the new series
-abbrev added_to : List Series → Entry → Result Edited Refusal
-added_to book e = Ok (record { book = book ++ series_of e ∷ []; slots = 0 })
+-- the catalog in memory is that of the pages with the new record
+pub pushed_catalog : (told : Type 0) (before after : Image) (s : Superblock) (count : ℕ) (items : List StoredSeries) (one : StoredSeries) → count ≡ length items → IsEntry s.fresh (entry_of one) → (told → IsRecordAdded before after s count (entry_of one))
+    → IsCatalogOf told before s items → IsCatalogOf told after (with_series s (count + 1)) (items ++ one ∷ [])
+pushed_catalog told before after s count items one counted is added are =
+    let N : ℕ → Type 0 = λ n. IsRecordAdded before after s n (entry_of one) in
+    let C : ℕ → Type 0 = λ n. AreCatalog before s.fresh n in
+    record {
+      small = are.small;
+      count = omega (arith, length_push items one, counted);
+      fits = fits_push s (with_series s (count + 1)) (count + 1) items (items ++ one ∷ []) one refl refl are.fits is;
+      are_told = λ now. told_push before after s items one (subst N counted (added now)) (are.are_told now);
+      whole = λ now. whole_push before after s count (entry_of one) (added now) (subst C (sym are.count ∙ sym counted) (are.whole now));
+    }
 
 -- what the pages are that a record was added to
-added_stands : (count : ℕ) (s : Superblock) (before after : Image) (n : ℕ) (e : Entry) (total : ℕ) (book : List Series) → s.total < 2 ^ 32 → IsSuperblock count s → before 0 ≡ superblock_page s
+pub added_stands : (count : ℕ) (s : Superblock) (before after : Image) (n : ℕ) (e : Entry) (total : ℕ) (book : List Series) → s.total < 2 ^ 32 → IsSuperblock count s → before 0 ≡ superblock_page s
     → n ≡ s.series → n < 512 → e.slots ≡ 0 → e.root ≡ 0 → e.span ≡ None → IsRecordAdded before after s n e → StandsForBook before total book → IsBook (book ++ series_of e ∷ [])
     → StandsForBook after total (book ++ series_of e ∷ [])
 added_stands count s before after n e total book small rules spelled counted few slots root span added stands book_is =
@@ -166,41 +135,6 @@ added_stands count s before after n e total book small rules spelled counted few
       total_is = found.1;
       store = added_store before here.mid after s book (series_of e) e store (omega (arith, few, long)) here.spelled here.others
           (record { name = refl; start = refl; step = refl; scale = refl }) refl slots root span here.set here.adds book_is;
-    }
-
-added_moments : (most count : ℕ) (s : Superblock) (txn : Txn) (n : ℕ) (e : Entry) (total : ℕ) (book : List Series) (told told' told'' : Type 0) (old mid new : View) → s.total < 2 ^ 32 → IsSuperblock count s → old.image 0 ≡ superblock_page s
-    → n ≡ s.series → n < 512 → e.slots ≡ 0 → e.root ≡ 0 → e.span ≡ None → told → Only old.image (Now old) → ReadsMost most told told' old mid → Commits (held txn) told' told'' mid new
-    → IsRecordAdded old.image (left_by txn old.image) s n e → StandsForBook old.image total book → IsBook (book ++ series_of e ∷ []) → Passes old new (IsEitherBy (added_to book e) total book) (Quiet old)
-added_moments most count s txn n e total book told told' told'' old mid new small rules spelled counted few slots root span is only reads commits added stands book_is =
-    let after = added_stands count s old.image (left_by txn old.image) n e total book small rules spelled counted few slots root span added stands book_is in
-    commit_passes most (held txn) told told' told'' old mid new (IsEitherBy (added_to book e) total book) is only (inl stands)
-    (inr (record { edited = record { book = book ++ series_of e ∷ []; slots = 0 }; accepted = refl; stands = after })) reads commits
-
--- a fault in the commit
-pub answer_failed : (most count : ℕ) (s : Superblock) (txn : Txn) (n : ℕ) (e : Entry) (total : ℕ) (book : List Series) (told told' told'' : Type 0) (old mid new : View) (error : StoreError) → s.total < 2 ^ 32 → IsSuperblock count s → old.image 0 ≡ superblock_page s
-    → n ≡ s.series → n < 512 → e.slots ≡ 0 → e.root ≡ 0 → e.span ≡ None → told → Only old.image (Now old) → ReadsMost most told told' old mid → Commits (held txn) told' told'' mid new
-    → IsRecordAdded old.image (left_by txn old.image) s n e → StandsForBook old.image total book → IsBook (book ++ series_of e ∷ []) → IsRefusedBy (added_to book e) error → IsAnswered (added_to book e) total book (Err error) old new
-answer_failed most count s txn n e total book told told' told'' old mid new error small rules spelled counted few slots root span is only reads commits added stands book_is refused = record {
-  done = tt;
-  refused = refused;
-  moments = added_moments most count s txn n e total book told told' told'' old mid new small rules spelled counted few slots root span is only reads commits added stands book_is;
-}
-
--- the series was added
-pub answer_done : (most count : ℕ) (s : Superblock) (txn : Txn) (n : ℕ) (e : Entry) (total : ℕ) (book : List Series) (told told' told'' : Type 0) (old mid new : View) (outcome : Outcome) → s.total < 2 ^ 32 → IsSuperblock count s → old.image 0 ≡ superblock_page s
-    → n ≡ s.series → n < 512 → e.slots ≡ 0 → e.root ≡ 0 → e.span ≡ None → told → Only old.image (Now old) → ReadsMost most told told' old mid → Commits (held txn) told' told'' mid new
-    → IsRecordAdded old.image (left_by txn old.image) s n e → StandsForBook old.image total book → IsBook (book ++ series_of e ∷ []) → outcome.slots ≡ 0 → new.image ≡ left_by txn old.image → IsAnswered (added_to book e) total book (Ok outcome) old new
-answer_done most count s txn n e total book told told' told'' old mid new outcome small rules spelled counted few slots root span is only reads commits added stands book_is none left =
-    let P : Image → Type 0 = λ image. StandsForBook image total (book ++ series_of e ∷ []) in
-    record {
-      done = record {
-        edited = record { book = book ++ series_of e ∷ []; slots = 0 };
-        accepted = refl;
-        slots = none;
-        stands = subst P (sym left) (added_stands count s old.image (left_by txn old.image) n e total book small rules spelled counted few slots root span added stands book_is);
-      };
-      refused = tt;
-      moments = added_moments most count s txn n e total book told told' told'' old mid new small rules spelled counted few slots root span is only reads commits added stands book_is;
     }
 
 no_values : (value : Option ℤ → Type 0) → All value []
@@ -219,8 +153,8 @@ is_new_series name start step scale named is = record {
 }
 
 -- a series of a new name is added to a book with room
-pub created_answer : (total : ℕ) (book : List Series) (one : Series) (result : Result Outcome StoreError) (old new : View) → id_of one.name book ≡ None → IsBook book → IsSeries one → length book < 512
-    → (IsBook (book ++ one ∷ []) → IsAnswered (Ok (record { book = book ++ one ∷ []; slots = 0 })) total book result old new) → IsAnswered (created book one) total book result old new
-created_answer total book one result old new none is in_range room answered =
-    let P : Result Edited Refusal → Type 0 = λ answer. IsAnswered answer total book result old new in
+pub created_answer : (total : ℕ) (book : List Series) (one : Series) (result : Result Staged StoreError) (txn txn' : Txn) (image : Image) → id_of one.name book ≡ None → IsBook book → IsSeries one → length book < 512
+    → (IsBook (book ++ one ∷ []) → IsStagedBy (Ok (record { book = book ++ one ∷ []; slots = 0 })) 0 total result txn txn' image) → IsStagedBy (created book one) 0 total result txn txn' image
+created_answer total book one result txn txn' image none is in_range room answered =
+    let P : Result Edited Refusal → Type 0 = λ answer. IsStagedBy answer 0 total result txn txn' image in
     subst P (sym (created-ok book one (ap (λ o. is_some o) none) room)) (answered (IsBook-push book one is in_range none room))

@@ -1,10 +1,9 @@
 -- The series of a name in the catalog and in the book, and what the book answers of it.
-use Rattle.std.proofs.Common.{◌≡◌, ℕ, ℤ, zero, suc, ◌+◌, ◌-◌, ◌<◌, ◌≤◌, ◌⊎◌, ◌^◌, min, List, [], ◌∷◌, length, replicate, slice_get, Option, None, Some, Result, Ok, Err, refl, sym, ap, ◌∙◌, arith}
+use Rattle.std.proofs.Common.{◌≡◌, ℕ, ℤ, zero, suc, ◌+◌, ◌-◌, ◌<◌, ◌≤◌, ◌⊎◌, min, List, [], ◌∷◌, length, replicate, slice_get, Option, None, Some, Result, Ok, Err, refl, sym, ap, ◌∙◌, arith}
 use Rattle.std.proofs.lemmas.List.{length-replicate}
 use Rattle.std.proofs.lemmas.Option.{slice_get_within}
 use Rattle.block_disk.specs.View.{Image}
 use Rattle.page_space.specs.declared.superblock.Superblock.{Superblock}
-use Rattle.page_space.specs.Layout.{superblock_page, IsSuperblock}
 use Rattle.series_book.specs.declared.axis.Axis.{Axis}
 use Rattle.series_book.specs.declared.edits.Edit.TheVariants.{Append, Set, Clear}
 use Rattle.series_book.specs.declared.one_series.Series.{Series}
@@ -14,8 +13,9 @@ use Rattle.series_book.specs.Axes.{IsAxisOf}
 use Rattle.series_book.specs.Edits.{Edited, apply, id_of, place_of as slot_of, change_at, change_series, within, unbounded, appended, set_at, cleared_at, cleared, with_slots}
 use Rattle.series_catalog.specs.declared.stored_series.StoredSeries.{StoredSeries}
 use Rattle.series_catalog.specs.Catalogs.{place_of, AreAsTold}
-use Rattle.stored_book.specs.Standing.{IsStore, StandsForBook}
-use Rattle.series_store.proofs.AskLemmas.{own_store, as_many, same_id, kept_as}
+use Rattle.stored_book.specs.Standing.{IsStore}
+use Rattle.series_store.specs.Groups.{touched_at, touched_in}
+use Rattle.series_store.proofs.AskLemmas.{as_many, same_id, kept_as}
 use Rattle.series_store.proofs.SlotLemmas.{cleared_there, cleared_nothing, length-cleared, same_slots}
 
 -- the book has the series of the catalog at its id
@@ -32,10 +32,9 @@ there_is {X} [] i low = absurd (omega (arith, low))
 there_is {X} (x ∷ xs) zero low = (x, refl)
 there_is {X} (x ∷ xs) (suc i) low = there_is xs i (omega (arith, low))
 
-pub found : (size total : ℕ) (image : Image) (s : Superblock) (book : List Series) (items : List StoredSeries) (name : List ℕ) (id : ℕ) (one : StoredSeries) → IsSuperblock size s → s.total < 2 ^ 32 → image 0 ≡ superblock_page s → StandsForBook image total book
+pub found : (image : Image) (s : Superblock) (book : List Series) (items : List StoredSeries) (name : List ℕ) (id : ℕ) (one : StoredSeries) → IsStore image s book
     → length items ≡ s.series → AreAsTold image items → Some id ≡ place_of name items → slice_get items id ≡ Some one → IsFound book name id one
-found size total image s book items name id one rules small spelled stands count told at there =
-    let store : IsStore image s book = (own_store size total image book s rules small spelled stands).0 in
+found image s book items name id one store count told at there =
     let many = as_many image s book items store count in
     let it = there_is book id (omega (arith, many, slice_get_within items id one there)) in
     let kept = kept_as image s book items id one it.0 store told there it.1 in
@@ -48,11 +47,12 @@ found size total image s book items name id one rules small spelled stands count
       slots = kept.tree.slots;
     }
 
-pub unknown : (size total : ℕ) (image : Image) (s : Superblock) (book : List Series) (items : List StoredSeries) (name : List ℕ) → IsSuperblock size s → s.total < 2 ^ 32 → image 0 ≡ superblock_page s → StandsForBook image total book
-    → length items ≡ s.series → AreAsTold image items → None ≡ place_of name items → id_of name book ≡ None
-unknown size total image s book items name rules small spelled stands count told at =
-    let store : IsStore image s book = (own_store size total image book s rules small spelled stands).0 in
-    sym (same_id image s book items name store count told) ∙ sym at
+pub unknown : (image : Image) (s : Superblock) (book : List Series) (items : List StoredSeries) (name : List ℕ) → IsStore image s book → length items ≡ s.series → AreAsTold image items → None ≡ place_of name items → id_of name book ≡ None
+unknown image s book items name store count told at = sym (same_id image s book items name store count told) ∙ sym at
+
+-- how many pages an edit touches is that of the series that is found
+pub touch_found : (book : List Series) (found : Option ℕ) (id : ℕ) (series : Series) (touched : Series → ℕ) → found ≡ Some id → slice_get book id ≡ Some series → touched_at book found touched ≡ touched series
+touch_found book found id series touched is there = ap (λ (o : Option ℕ). touched_at book o touched) is ∙ ap (λ (o : Option Series). touched_in o touched) there
 
 pub is_axis : (book : List Series) (name : List ℕ) (id : ℕ) (one : StoredSeries) (axis : Axis) (is : IsFound book name id one) → axis.start ≡ one.start → axis.step ≡ one.step → axis.slots ≡ one.tree.slots → IsAxisOf is.series axis
 is_axis book name id one axis is start step slots = record { start = start ∙ is.start; step = step ∙ is.step; slots = slots ∙ is.slots }

@@ -9,6 +9,7 @@ pub mod OpenLemmas
 pub mod AskLemmas
 pub mod StayLemmas
 pub mod CommitLemmas
+pub mod StageLemmas
 pub mod FindLemmas
 pub mod EditLemmas
 pub mod StoreLemmas
@@ -20,3 +21,6 @@ pub mod ChainLemmas
 pub mod BookCountLemmas
 pub mod SendLemmas
 pub mod SeriesSendLemmas
+pub mod DoneLemmas
+pub mod GroupLemmas
+pub mod CoverLemmas

@@ -1,5 +1,5 @@
 -- A series has another tree in its record, and the others keep theirs.
-use Rattle.std.proofs.Common.{◌≡◌, ◌≢◌, ℕ, ℤ, zero, suc, ◌<◌, ◌≤◌, ◌^◌, List, [], ◌∷◌, length, set, slice_get, get_or, Option, None, Some, All, false, unsigned_abs, IfSome, refl, sym, ap, subst, ◌∙◌, arith, inl, inr}
+use Rattle.std.proofs.Common.{◌≡◌, ◌≢◌, ℕ, ℤ, zero, suc, ◌<◌, ◌≤◌, List, [], ◌∷◌, length, set, slice_get, get_or, Option, None, Some, All, false, unsigned_abs, IfSome, refl, sym, ap, subst, ◌∙◌, arith, inl, inr}
 use Rattle.std.proofs.lemmas.Bool.{le-ltb}
 use Rattle.std.proofs.lemmas.Bool.Decides.{eqb_tells}
 use Rattle.std.proofs.lemmas.Option.{same_Some, slice_get_within, slice_get-get_or}
@@ -7,7 +7,6 @@ use Rattle.block_disk.specs.View.{Image}
 use Rattle.om3_coeff.specs.Spans.{AreSlots}
 use Rattle.whole_number.specs.Range.{IsValue}
 use Rattle.page_space.specs.declared.superblock.Superblock.{Superblock}
-use Rattle.page_space.specs.Layout.{superblock_page, IsSuperblock}
 use Rattle.path_repair.specs.Keeping.{KeepsCatalog}
 use Rattle.catalog_page.specs.Entries.{Entry, IsEntry, entry_at}
 use Rattle.catalog_page.specs.Layout.{KeepsLayout}
@@ -21,11 +20,11 @@ use Rattle.series_catalog.specs.declared.stored_series.StoredSeries.{StoredSerie
 use Rattle.series_catalog.specs.Catalogs.{entry_of, with_tree, AreFit, AreAsTold}
 use Rattle.stored_book.proofs.ChangedLemmas.{changed_store}
 use Rattle.stored_book.proofs.FrameLemmas.{page_low, page_high, entry_stays, layout_later, records_few}
-use Rattle.stored_book.proofs.NumberLemmas.{small_numbers, numbers}
 use Rattle.stored_book.specs.Records.{entry}
 use Rattle.stored_book.specs.Standing.{IsRecordOf, IsStore, AreCatalog, StandsForBook}
 use Rattle.stored_book.specs.Changing.{IsLater, IsTreeChanged, IsRecordSet, KeepsRecords}
 use Rattle.tree_walk.specs.declared.tree.Tree.{Tree}
+use Rattle.series_store.specs.Staging.{HadTree}
 
 get_set : {X : Type 0} (xs : List X) (i : ℕ) (old new : X) → slice_get xs i ≡ Some old → slice_get (set xs i new) i ≡ Some new
 get_set {X} [] i old new there = absurd (cc)
@@ -52,7 +51,7 @@ set_each {X} P xs i old new there here others c x found = elim (eqb_tells c i) [
 ]
 
 -- more pages are given out
-entry_later : (fresh fresh' : ℕ) (e : Entry) → fresh ≤ fresh' → IsEntry fresh e → IsEntry fresh' e
+pub entry_later : (fresh fresh' : ℕ) (e : Entry) → fresh ≤ fresh' → IsEntry fresh e → IsEntry fresh' e
 entry_later fresh fresh' e more is = record {
   named = is.named;
   scale = is.scale;
@@ -71,7 +70,7 @@ fit_after fresh fresh' items id one tree more there is fit =
     set_each (λ i x. IsEntry fresh' (entry_of x)) items id one (record one { tree = tree }) there is (λ i x other found. entry_later fresh fresh' (entry_of x) more (fit i x found))
 
 -- a page of the catalog is none of a tree, so that a change of a tree leaves it
-catalog_stays : (before mid : Image) (fresh count p : ℕ) → AreCatalog before fresh count → KeepsCatalog before mid → 1 ≤ p → p < 17 → mid p ≡ before p
+pub catalog_stays : (before mid : Image) (fresh count p : ℕ) → AreCatalog before fresh count → KeepsCatalog before mid → 1 ≤ p → p < 17 → mid p ≡ before p
 catalog_stays before mid fresh count p is keeps from to = keeps p from to (λ kind. absurd (omega (arith, kind, (is p from to).kind)))
 
 pub told_after : (before mid after : Image) (fresh count : ℕ) (items : List StoredSeries) (id : ℕ) (one : StoredSeries) (tree : Tree) → AreCatalog before fresh count → KeepsCatalog before mid
@@ -118,22 +117,6 @@ record_of image s book id series one tree store there told =
       scale = sym (ap (λ (e : Entry). e.scale) told) ∙ is.scale;
     }
 
--- the pages stand with the numbers that a space has
-pub stands_with : (image : Image) (total count : ℕ) (book : List Series) (s : Superblock) → StandsForBook image total book → image 0 ≡ superblock_page s → IsSuperblock count s → s.total < 2 ^ 32 → IsStore image s book × (s.total ≡ total)
-stands_with image total count book s stands spelled rules small =
-    let own : IsSuperblock s.total s =
-    record {
-      total_low = rules.total_low;
-      total_high = omega arith;
-      fresh_low = rules.fresh_low;
-      fresh_high = rules.fresh_high;
-      head_is = rules.head_is;
-      chain_high = rules.chain_high;
-      none = rules.none;
-      series_high = rules.series_high;
-    } in
-    numbers image total book s stands spelled (small_numbers s.total s small own)
-
 -- the pages with another tree of a series and its record
 pub saved_book : (before mid after : Image) (s s' : Superblock) (total : ℕ) (book : List Series) (id : ℕ) (series : Series) (slots : List (Option ℤ)) (one : StoredSeries) (tree : Tree)
     → IsStore before s book → s.total ≡ total → slice_get book id ≡ Some series → entry before id ≡ entry_of one → IsLater s s' → IsTreeChanged before mid (length book) id s' tree slots
@@ -151,3 +134,19 @@ saved_book before mid after s s' total book id series slots one tree store same 
 -- what holds of the value, where it is known
 pub known_some : {X : Type 0} (o : Option X) (x : X) (P : X → Type 0) → o ≡ Some x → IfSome o P → P x
 known_some {X} o x P is holds = let Q : Option X → Type 0 = λ o. IfSome o P in subst Q is holds
+
+put_back : {X : Type 0} (xs : List X) (i : ℕ) (old new : X) → slice_get xs i ≡ Some old → set (set xs i new) i old ≡ xs
+put_back {X} [] i old new there = refl
+put_back {X} (x ∷ xs) zero old new there = ap (λ y. y ∷ xs) (sym (same_Some x old there))
+put_back {X} (x ∷ xs) (suc i) old new there = ap (λ ys. x ∷ ys) (put_back xs i old new there)
+
+-- a series has its old tree again
+pub set_back : (before now after : List StoredSeries) (id : ℕ) (tree : Tree) → HadTree id tree now before → IfSome (slice_get now id) (λ one. after ≡ with_tree now id one tree) → after ≡ before
+set_back before now after id tree had is =
+    let changed : StoredSeries = record had.one { tree = had.changed } in
+    let there : slice_get now id ≡ Some changed = ap (λ (l : List StoredSeries). slice_get l id) had.now_are ∙ get_set before id had.one changed had.there in
+    let I : StoredSeries → Type 0 = λ one. after ≡ with_tree now id one tree in
+    known_some (slice_get now id) changed I there is
+    ∙ ap (λ (l : List StoredSeries). set l id (record had.one { tree = tree })) had.now_are
+    ∙ ap (λ (t : Tree). set (set before id changed) id (record had.one { tree = t })) (sym had.had)
+    ∙ put_back before id had.one changed had.there

@@ -1,7 +1,7 @@
 -- A record is written and committed.
-use Rattle.std.proofs.Common.{◌≡◌, ℕ, List, Result, Ok, Err, refl, sym, ap, subst, ◌∙◌, inl, inr}
+use Rattle.std.proofs.Common.{◌≡◌, ℕ, List, Result, Ok, Err, refl, sym, subst, inl, inr}
 use Rattle.std.specs.Result.{IsErrAnd}
-use Rattle.block_disk.specs.View.{Image, View, Now, Only, Passes}
+use Rattle.block_disk.specs.View.{View, Now, Only, Passes}
 use Rattle.gate_pages.specs.Batch.{Entry, put_all}
 use Rattle.gate_pages.specs.Pages.{Quiet, Commits}
 use Rattle.series_book.specs.declared.one_series.Series.{Series}
@@ -32,19 +32,3 @@ pub saved_time : (edited : Edited) (total : ℕ) (book : List Series) (batch : L
     → Only old.image (Now old) → mid.image ≡ old.image → Passes old mid (Now old) (Quiet old) → Commits batch told told' mid new → Passes old new (IsEitherBy (Ok edited) total book) (Quiet old)
 saved_time edited total book batch told told' old mid new stands later only same time commits =
     commit_leaves batch told told' old mid new (IsEitherBy (Ok edited) total book) only (inl stands) (inr (record { edited = edited; accepted = refl; stands = later })) same time commits
-
--- it ended with what the book answers
-pub saved : (edited : Edited) (total : ℕ) (book : List Series) (outcome : Outcome) (batch : List Entry) (told told' : Type 0) (old mid new : View) → outcome.slots ≡ edited.slots → StandsForBook old.image total book → StandsForBook (put_all batch old.image) total edited.book
-    → Only old.image (Now old) → mid.image ≡ old.image → Passes old mid (Now old) (Quiet old) → Commits batch told told' mid new → new.image ≡ put_all batch mid.image → IsAnswered (Ok edited) total book (Ok outcome) old new
-saved edited total book outcome batch told told' old mid new slots stands later only same time commits done =
-    let P : Image → Type 0 = λ image. StandsForBook image total edited.book in
-    record {
-      done = record {
-        edited = edited;
-        accepted = refl;
-        slots = slots;
-        stands = subst P (sym (done ∙ ap (λ (i : Image). put_all batch i) same)) later;
-      };
-      refused = tt;
-      moments = saved_time edited total book batch told told' old mid new stands later only same time commits;
-    }

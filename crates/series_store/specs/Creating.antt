@@ -1,14 +1,11 @@
 -- A series without slots is added to a store.
 use Rattle.std.specs.Prelude.{ℕ, ◌≡◌, ◌≢◌, ◌+◌, []}
-use Rattle.block_disk.specs.Counts.{HasRisen}
-use Rattle.block_disk.specs.View.{Image, View}
+use Rattle.block_disk.specs.View.{Image}
 use Rattle.catalog_page.specs.Entries.{Entry}
 use Rattle.page_space.specs.declared.superblock.Superblock.{Superblock}
 use Rattle.page_space.specs.Layout.{superblock_page, with_series}
 use Rattle.series_book.specs.declared.one_series.Series.{Series}
 use Rattle.stored_book.specs.Changing.{IsRecordSet, AddsRecord}
-use Rattle.series_store.specs.declared.errors.StoreError.{StoreError}
-use Rattle.series_store.specs.declared.errors.StoreError.TheVariants.{Refused, NotAStore, DiskFault, Damaged, NoMemory}
 
 -- the series without slots of which a record says this
 abbrev pub series_of : Entry → Series
@@ -21,11 +18,3 @@ pub record IsRecordAdded (before after : Image) (s : Superblock) (id : ℕ) (e :
   pub others : (p : ℕ) → p ≢ 0 → mid p ≡ before p
   pub set : IsRecordSet mid after id e
   pub adds : AddsRecord mid after id s.fresh
-
--- why a record wasn't put into a transaction
-abbrev pub IsAddCause : StoreError → View → View → Type 0
-IsAddCause (Refused refusal) old new = ⊥
-IsAddCause NotAStore old new = ⊥
-IsAddCause DiskFault old new = HasRisen old.faults new.faults
-IsAddCause (Damaged page) old new = ⊥
-IsAddCause NoMemory old new = Unit {0}

@@ -10,3 +10,6 @@ pub mod Looking
 pub mod Creating
 pub mod Counting
 pub mod Sending
+pub mod Groups
+pub mod Staging
+pub mod Grouping

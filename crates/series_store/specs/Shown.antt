@@ -1,26 +1,24 @@
 -- What a store shows.
-use Rattle.std.specs.Prelude.{ℕ, ℤ, ◌≡◌, length, List, Option, Result, Some, slice_get}
-use Rattle.block_disk.specs.View.{Image, View}
+use Rattle.std.specs.Prelude.{ℕ, ◌≡◌, List, Result, Some, slice_get}
+use Rattle.block_disk.specs.View.{Image, View, Passes}
 use Rattle.gate_pages.specs.declared.pages.Pages.{Ghosts}
-use Rattle.gate_pages.specs.Pages.{GoesOn}
+use Rattle.gate_pages.specs.Pages.{GoesOn, Quiet}
 use Rattle.om3_coeff.specs.View.{NodesView}
 use Rattle.page_space.specs.declared.superblock.Superblock.{Superblock}
-use Rattle.page_space.specs.declared.txn.Txn.{Txn}
-use Rattle.page_space.specs.Transactions.{left_by}
+use Rattle.series_book.specs.declared.edits.Edit.{Edit}
 use Rattle.series_book.specs.declared.one_series.Series.{Series}
 use Rattle.series_book.specs.declared.outcomes.Outcome.{Outcome}
 use Rattle.series_book.specs.declared.refusals.Refusal.{Refusal}
 use Rattle.series_book.specs.Edits.{Edited}
 use Rattle.series_catalog.specs.Shown.{series_in}
 use Rattle.series_catalog.specs.declared.stored_series.StoredSeries.{StoredSeries}
-use Rattle.stored_book.specs.Changing.{IsTreeChanged}
 use Rattle.stored_book.specs.Standing.{StandsForBook}
-use Rattle.tree_walk.specs.declared.tree.Tree.{Tree}
 use Rattle.tree_walk.specs.PagedNodes.{Ground, ground, paged_view}
 use Rattle.series_store.specs.Beside.{Kept, KeepsBeside, kept, beside_none, beside_then, beside_so}
 use Rattle.series_store.specs.Changing.{IsIdle, IsAnswered, IsCarriedOut}
 use Rattle.series_store.specs.Counting.{Looks}
-use Rattle.series_store.specs.Results.{Moves}
+use Rattle.series_store.specs.Groups.{GroupMoves, IsNoneOrAll}
+use Rattle.series_store.specs.Results.{Moves, CommitsNone}
 use Rattle.series_store.specs.declared.errors.StoreError.{StoreError}
 use Rattle.series_store.specs.declared.store.Store.{Store}
 
@@ -94,11 +92,6 @@ module _ {P : Type 0} {g : Ghosts P} where
   abbrev pub ForSoundSeries : Store P g → ℕ → (ℕ → List Series → Series → Type 0) → Type 0
   ForSoundSeries it id IsSo = (total : ℕ) (book : List Series) (series : Series) → IsSound it → IsTold it → StandsForBook (image it) total book → slice_get book id ≡ Some series → IsSo total book series
 
-  -- and with the slots for which this tree of the series stands, as a transaction would leave it
-  abbrev pub ForChangedTree : Store P g → Txn → ℕ → Tree → (ℕ → List Series → Series → List (Option ℤ) → Type 0) → Type 0
-  ForChangedTree it txn id tree IsSo = (total : ℕ) (book : List Series) (series : Series) (slots : List (Option ℤ)) → IsTold it → StandsForBook (image it) total book → slice_get book id ≡ Some series
-      → IsTreeChanged (image it) (left_by txn (image it)) (length book) id txn.superblock tree slots → IsSo total book series slots
-
   -- a call did what the book answers
   abbrev pub Answers : Result Edited Refusal → ℕ → List Series → Result Outcome StoreError → Store P g → Store P g → Type 0
   Answers answer total book result old new = IsAnswered answer total book result (view old) (view new)
@@ -110,6 +103,18 @@ module _ {P : Type 0} {g : Ghosts P} where
   -- an edit moves this, whatever the pages are
   abbrev pub MovesSo : Store P g → Store P g → Type 0
   MovesSo old new = Moves (IsTold old) (IsTold new) (view old) (view new)
+
+  -- a group of edits moves this, whatever the pages are
+  abbrev pub MovesGroup : Store P g → Store P g → Type 0
+  MovesGroup old new = GroupMoves (IsTold old) (IsTold new) (view old) (view new)
+
+  -- meanwhile a crash leaves the book, or the one behind so many first edits
+  abbrev pub PassesNoneOrAll : ℕ → List Series → List Edit → ℕ → Store P g → Store P g → Type 0
+  PassesNoneOrAll total book edits covered old new = Passes (view old) (view new) (IsNoneOrAll total book edits covered) (Quiet (view old))
+
+  -- nothing was written or synced
+  abbrev pub WritesNone : Store P g → Store P g → Type 0
+  WritesNone old new = CommitsNone (view old) (view new)
 
   -- time goes on where the pages lie
   abbrev pub TimeGoesOn : Store P g → Store P g → Type 0

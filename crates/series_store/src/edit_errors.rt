@@ -8,12 +8,21 @@ use crate::errors::StoreError;
 use gate_pages::DiskFault;
 use path_repair::RepairError;
 use series_book::Refusal;
+use std::alloc::AllocError;
 
 impl From<DiskFault> for StoreError {
     ghost from_gives = { λ _ e. e ≡ AtDisk };
 
     fn from(_error: DiskFault) -> StoreError {
         StoreError::DiskFault
+    }
+}
+
+impl From<AllocError> for StoreError {
+    ghost from_gives = { λ _ e. e ≡ AtMemory };
+
+    fn from(_error: AllocError) -> StoreError {
+        StoreError::NoMemory
     }
 }
 

@@ -2,18 +2,19 @@
 ghost use Rattle.std.specs.Prelude.{◌≡◌, ◌≤◌, ◌<◌, ◌^◌, ℕ, List, None, length, IfOk, IfErr, OnOk};
 ghost use Rattle.block_disk.specs.View.{View, Passes};
 ghost use Rattle.gate_pages.specs.Pages.{GoesOn, Quiet};
+ghost use Rattle.page_space.specs.Transactions.{held, left_by};
 ghost use Rattle.series_book.specs.declared.one_series.Series.{Series};
-ghost use Rattle.series_book.specs.declared.edits.Edit.TheVariants.{Append, Set, Clear};
 ghost use Rattle.series_book.specs.Edits.{IsEdit, apply};
 ghost use Rattle.series_store.specs.Results.{IsDone, IsRefusedWith, IsBeforeOrAfter, IsEditCause, IsUnchangedFor, ClearsNone, CommitsNone};
 ghost use Rattle.series_store.specs.Shown as shown;
 ghost use Rattle.stored_book.specs.Standing.{StandsForBook};
 
+use crate::committing::commit_one;
 use crate::errors::StoreError;
 use crate::store::Store;
 use gate_pages::Pages;
-use series_book::checks::{append_refusal, clear_refusal, place_of, set_refusal};
-use series_book::{Edit, Name, Outcome, Refusal, Values};
+use page_space::Txn;
+use series_book::{Edit, Outcome};
 
 impl<P: Pages> Store<P> {
     /// Does the edit in one commit. It is refused exactly where a refusal stands, with the first that does;
@@ -43,82 +44,36 @@ impl<P: Pages> Store<P> {
         ensures more { length (shown.catalog self.old) ≤ length (shown.catalog self.new) }
     {
         self.select_none();
-        match edit {
-            Edit::Create {
-                name,
-                start,
-                step,
-                scale,
-            } => self.create(name, *start, *step, *scale),
-            Edit::Append { name, values } => self.append(name, values),
-            Edit::Set { name, time, values } => self.set(name, *time, values),
-            Edit::Clear { name, time, count } => self.clear(name, *time, *count),
-        }
+        self.edit_one(edit)
     }
 
-    fn append(&mut self, name: &Name, values: &Values) -> Result<Outcome, StoreError>
+    /// The same where no series is selected.
+    pub(crate) fn edit_one(&mut self, edit: &Edit) -> Result<Outcome, StoreError>
         requires sound { shown.IsSound self.old }
         requires idle { shown.SelectsNone self.old }
-        requires is_edit { IsEdit (Append name.now values.now) }
-        ensures answered { shown.ForBook self.old (λ total book. shown.Answers (apply book total (Append name.now values.now)) total book result self.old self.new) }
+        requires is_edit { IsEdit edit.now }
+        ensures answered { shown.ForBook self.old (λ total book. shown.Answers (apply book total edit.now) total book result self.old self.new) }
         ensures carried { shown.CarriesOut result self.old self.new }
+        ensures none_cleared { shown.ForBook self.old (λ total book. ClearsNone book edit.now → CommitsNone (shown.view self.old) (shown.view self.new)) }
         ensures idle { shown.SelectsNone self.new }
-        ensures count { length (shown.catalog self.new) ≡ length (shown.catalog self.old) }
+        ensures more { length (shown.catalog self.old) ≤ length (shown.catalog self.new) }
     {
-        let Some(id) = self.catalog.find(name) else {
-            return Err(StoreError::Refused(Refusal::UnknownSeries));
-        };
-        let axis = self.catalog.series(id).axis();
-        if let Some(refusal) = append_refusal(axis, values) {
-            return Err(StoreError::Refused(refusal));
-        }
-        let run = values.to_slots()?;
-        self.put(id, axis.slots, &run)
+        let txn = self.begin()?;
+        commit_one(&mut self.space, txn, &mut self.catalog, edit)
     }
 
-    fn set(&mut self, name: &Name, time: i128, values: &Values) -> Result<Outcome, StoreError>
+    /// A transaction over the pages, which it would leave as they are.
+    pub(crate) fn begin(&mut self) -> Result<Txn, StoreError>
         requires sound { shown.IsSound self.old }
-        requires idle { shown.SelectsNone self.old }
-        requires is_edit { IsEdit (Set name.now time values.now) }
-        ensures answered { shown.ForBook self.old (λ total book. shown.Answers (apply book total (Set name.now time values.now)) total book result self.old self.new) }
-        ensures carried { shown.CarriesOut result self.old self.new }
-        ensures idle { shown.SelectsNone self.new }
-        ensures count { length (shown.catalog self.new) ≡ length (shown.catalog self.old) }
+        ensures space { self.new.space ≡ self.old.space }
+        ensures catalog { self.new.catalog ≡ self.old.catalog }
+        ensures trail { self.new.trail ≡ self.old.trail }
+        ensures tree { self.new.tree ≡ self.old.tree }
+        ensures superblock { IfOk result (λ txn. txn.superblock ≡ (shown.numbers self.new)) }
+        ensures len { IfOk result (λ txn. length (held txn) ≡ 1) }
+        ensures left { shown.IsTold self.new → IfOk result (λ txn. left_by txn (shown.image self.new) ≡ shown.image self.new) }
+        ensures error { IfErr result (λ e. e ≡ StoreError.NoMemory) }
     {
-        let Some(id) = self.catalog.find(name) else {
-            return Err(StoreError::Refused(Refusal::UnknownSeries));
-        };
-        let axis = self.catalog.series(id).axis();
-        if let Some(refusal) = set_refusal(axis, time, values) {
-            return Err(StoreError::Refused(refusal));
-        }
-        let run = values.to_slots()?;
-        self.put(id, place_of(axis, time) as u64, &run)
-    }
-
-    /// Nothing is written where none of the slots is there.
-    fn clear(&mut self, name: &Name, time: i128, count: u64) -> Result<Outcome, StoreError>
-        requires sound { shown.IsSound self.old }
-        requires idle { shown.SelectsNone self.old }
-        ensures answered { shown.ForBook self.old (λ total book. shown.Answers (apply book total (Clear name.now time count)) total book result self.old self.new) }
-        ensures none_cleared { shown.ForBook self.old (λ total book. ClearsNone book (Clear name.now time count) → CommitsNone (shown.view self.old) (shown.view self.new)) }
-        ensures carried { shown.CarriesOut result self.old self.new }
-        ensures idle { shown.SelectsNone self.new }
-        ensures count { length (shown.catalog self.new) ≡ length (shown.catalog self.old) }
-    {
-        let Some(id) = self.catalog.find(name) else {
-            return Err(StoreError::Refused(Refusal::UnknownSeries));
-        };
-        let axis = self.catalog.series(id).axis();
-        if let Some(refusal) = clear_refusal(axis, time, count) {
-            return Err(StoreError::Refused(refusal));
-        }
-        let place = place_of(axis, time);
-        if place >= u128::from(axis.slots) || count == 0 {
-            return Ok(Outcome { slots: axis.slots });
-        }
-        let place = place as u64;
-        let end = (place + count).min(axis.slots);
-        self.clear_slots(id, place, end - place)
+        Ok(self.space.begin(self.alloc)?)
     }
 }

@@ -11,12 +11,14 @@
 #![tactic(auto)]
 
 mod checking;
+mod committing;
 mod counting;
 mod counts;
 mod creating;
 mod edit_errors;
 mod editing;
 mod errors;
+mod groups;
 pub mod laws;
 mod named_series;
 mod nodes;
@@ -25,10 +27,13 @@ mod saving;
 mod send_errors;
 mod sending;
 mod series_info;
+mod staged;
+mod staging;
 mod store;
 mod store_calls;
 mod streams;
 mod texts;
+mod undoing;
 mod value_sending;
 
 pub use counts::Counts;

@@ -1,0 +1,48 @@
+use Rattle.std.proofs.Common.{◌≡◌, ℤ, sym, ap, subst, rules, w64, to_z, of_z, ◌∙◌}
+use Rattle.std.specs.Int.{w128}
+use Rattle.page_space.specs.Transactions.{left_by}
+use Rattle.series_book.specs.declared.edits.Edit.{Edit}
+use Rattle.series_book.specs.declared.edits.Edit.TheVariants.{Create, Append, Set, Clear}
+use Rattle.series_book.specs.Edits.{apply}
+use Rattle.series_store.specs.Groups.{touch_of}
+use Rattle.series_store.specs.Results.{ClearsNone}
+use Rattle.series_store.specs.Staging.{IsStagedBy}
+use Rattle.series_store.proofs.staging.stage.Goals as goal
+
+pub returns-in-Create-clause-answered : goal.returns-in-Create-clause-answered
+returns-in-Create-clause-answered g c = λ total book told stands.
+    let same : to_z w64 (of_z w64 c.in-Create.start) ≡ c.in-Create.start = search rules in
+    let at : Create c.in-Create.name (to_z w64 (of_z w64 c.in-Create.start)) c.in-Create.step c.in-Create.scale ≡ c.args.edit.now = ap (λ (n : ℤ). Create c.in-Create.name n c.in-Create.step c.in-Create.scale) same ∙ sym c.in-Create.is in
+    let new = c.create.new in
+    let E : Edit → Type 0 = λ edit. IsStagedBy (apply book total edit) (touch_of book edit) total c.create.result c.args.txn.now new.txn (left_by new.txn (g.P.Pages.view new.space.pages).image) in
+    subst E at (c.create.ensures.answered total book told stands)
+
+pub returns-in-Append-clause-answered : goal.returns-in-Append-clause-answered
+returns-in-Append-clause-answered g c = λ total book told stands.
+    let at : Append c.in-Append.name c.in-Append.values ≡ c.args.edit.now = sym c.in-Append.is in
+    let new = c.append.new in
+    let E : Edit → Type 0 = λ edit. IsStagedBy (apply book total edit) (touch_of book edit) total c.append.result c.args.txn.now new.txn (left_by new.txn (g.P.Pages.view new.space.pages).image) in
+    subst E at (c.append.ensures.answered total book told stands)
+
+pub returns-in-Set-clause-answered : goal.returns-in-Set-clause-answered
+returns-in-Set-clause-answered g c = λ total book told stands.
+    let same : to_z w128 (of_z w128 c.in-Set.time) ≡ c.in-Set.time = search rules in
+    let at : Set c.in-Set.name (to_z w128 (of_z w128 c.in-Set.time)) c.in-Set.values ≡ c.args.edit.now = ap (λ (n : ℤ). Set c.in-Set.name n c.in-Set.values) same ∙ sym c.in-Set.is in
+    let new = c.set.new in
+    let E : Edit → Type 0 = λ edit. IsStagedBy (apply book total edit) (touch_of book edit) total c.set.result c.args.txn.now new.txn (left_by new.txn (g.P.Pages.view new.space.pages).image) in
+    subst E at (c.set.ensures.answered total book told stands)
+
+pub returns-in-Clear-clause-answered : goal.returns-in-Clear-clause-answered
+returns-in-Clear-clause-answered g c = λ total book told stands.
+    let same : to_z w128 (of_z w128 c.in-Clear.time) ≡ c.in-Clear.time = search rules in
+    let at : Clear c.in-Clear.name (to_z w128 (of_z w128 c.in-Clear.time)) c.in-Clear.count ≡ c.args.edit.now = ap (λ (n : ℤ). Clear c.in-Clear.name n c.in-Clear.count) same ∙ sym c.in-Clear.is in
+    let new = c.clear.new in
+    let E : Edit → Type 0 = λ edit. IsStagedBy (apply book total edit) (touch_of book edit) total c.clear.result c.args.txn.now new.txn (left_by new.txn (g.P.Pages.view new.space.pages).image) in
+    subst E at (c.clear.ensures.answered total book told stands)
+
+pub returns-in-Clear-clause-none_cleared : goal.returns-in-Clear-clause-none_cleared
+returns-in-Clear-clause-none_cleared g c = λ total book told stands none.
+    let same : to_z w128 (of_z w128 c.in-Clear.time) ≡ c.in-Clear.time = search rules in
+    let at : Clear c.in-Clear.name (to_z w128 (of_z w128 c.in-Clear.time)) c.in-Clear.count ≡ c.args.edit.now = ap (λ (n : ℤ). Clear c.in-Clear.name n c.in-Clear.count) same ∙ sym c.in-Clear.is in
+    let N : Edit → Type 0 = λ edit. ClearsNone book edit in
+    c.clear.ensures.none_cleared total book told stands (subst N (sym at) none)

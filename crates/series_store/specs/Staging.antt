@@ -1,0 +1,167 @@
+-- What staging an edit does, in a transaction and in the catalog.
+use Rattle.std.specs.Prelude.{ℕ, ℤ, Option, ◌≡◌, ◌+◌, ◌<◌, ◌≤◌, ◌^◌, ◌++◌, ◌∷◌, [], List, length, slice_get, Some, Result, Ok, Err, IfOk, IfErr, OnOk, OnErr, ⊤}
+use Rattle.block_disk.specs.Counts.{HasRisen}
+use Rattle.block_disk.specs.View.{Image, View}
+use Rattle.gate_pages.specs.declared.pages.Pages.{Ghosts}
+use Rattle.page_space.specs.Shown as spaces
+use Rattle.page_space.specs.Transactions.{held, left_by}
+use Rattle.page_space.specs.declared.space.Space.{Space}
+use Rattle.page_space.specs.declared.superblock.Superblock.{Superblock}
+use Rattle.page_space.specs.declared.txn.Txn.{Txn}
+use Rattle.path_repair.specs.Standing.{ReadsMost}
+use Rattle.series_book.specs.declared.one_series.Series.{Series}
+use Rattle.series_book.specs.declared.refusals.Refusal.{Refusal}
+use Rattle.series_book.specs.Edits.{Edited, with_slots}
+use Rattle.series_catalog.specs.Catalogs.{AreFit, AreAsTold, entry_of, with_tree}
+use Rattle.series_catalog.specs.Shown.{series_in}
+use Rattle.series_catalog.specs.declared.catalog.Catalog.{Catalog}
+use Rattle.series_catalog.specs.declared.stored_series.StoredSeries.{StoredSeries}
+use Rattle.stored_book.specs.Damage.{IsDamagedOnce}
+use Rattle.stored_book.specs.Changing.{IsLater, IsTreeChanged}
+use Rattle.stored_book.specs.Records.{entry}
+use Rattle.stored_book.specs.Standing.{AreCatalog, IsStore, StandsForBook}
+use Rattle.tree_walk.specs.SpaceViews.{StaysOn}
+use Rattle.tree_walk.specs.declared.tree.Tree.{Tree}
+use Rattle.series_book.specs.declared.outcomes.Outcome.{Outcome}
+use Rattle.series_store.specs.Changing.{IsCarriedOut, IsDoneBy, IsRefusedBy}
+use Rattle.series_store.specs.declared.errors.StoreError.{StoreError}
+use Rattle.series_store.specs.declared.errors.StoreError.TheVariants.{Refused, NotAStore, DiskFault, Damaged, NoMemory}
+use Rattle.series_store.specs.declared.staged.Staged.{Staged}
+use Rattle.series_store.specs.declared.staged.Undo.{Undo}
+use Rattle.series_store.specs.declared.staged.Undo.TheVariants as undo
+
+-- a catalog in memory is that of pages with these numbers, where these tell what they are
+pub record IsCatalogOf (told : Type 0) (image : Image) (s : Superblock) (items : List StoredSeries) : Type 0 where
+  pub small : s.total < 2 ^ 32
+  pub count : length items ≡ s.series
+  pub fits : AreFit s.fresh items
+  pub are_told : told → AreAsTold image items
+  pub whole : told → AreCatalog image s.fresh s.series
+
+-- the series of this id had this tree
+pub record HadTree (id : ℕ) (tree : Tree) (now before : List StoredSeries) : Type 0 where
+  pub one : StoredSeries
+  pub there : slice_get before id ≡ Some one
+  pub had : one.tree ≡ tree
+  pub changed : Tree
+  pub now_are : now ≡ with_tree before id one changed
+
+-- the last series is new
+pub record HasLast (now before : List StoredSeries) : Type 0 where
+  pub last : StoredSeries
+  pub now_are : now ≡ before ++ last ∷ []
+
+-- what the series of a catalog were before an edit
+abbrev pub TakesBack : Undo → List StoredSeries → List StoredSeries → Type 0
+TakesBack undo.Nothing now before = now ≡ before
+TakesBack (undo.Tree id tree) now before = HadTree id tree now before
+TakesBack undo.Last now before = HasLast now before
+
+-- why an edit wasn't staged, where the transaction would leave these pages
+abbrev pub IsStageCause : StoreError → Type 0 → Image → Superblock → ℕ → ℕ → Type 0
+IsStageCause (Refused refusal) told image s old new = Unit {0}
+IsStageCause NotAStore told image s old new = ⊥
+IsStageCause DiskFault told image s old new = HasRisen old new
+IsStageCause (Damaged page) told image s old new = (page < s.total) × (told → IsDamagedOnce image s page)
+IsStageCause NoMemory told image s old new = Unit {0}
+
+-- the edit is staged, or refused
+abbrev pub IsAnswer : Result Staged StoreError → Type 0
+IsAnswer (Ok staged) = ⊤
+IsAnswer (Err (Refused refusal)) = ⊤
+IsAnswer (Err NotAStore) = ⊥
+IsAnswer (Err DiskFault) = ⊥
+IsAnswer (Err (Damaged page)) = ⊥
+IsAnswer (Err NoMemory) = ⊥
+
+-- the edit is refused
+abbrev pub IsRefusal : StoreError → Type 0
+IsRefusal (Refused refusal) = ⊤
+IsRefusal NotAStore = ⊥
+IsRefusal DiskFault = ⊥
+IsRefusal (Damaged page) = ⊥
+IsRefusal NoMemory = ⊥
+
+-- what staging an edit does, whatever the pages are
+pub record IsStaging (told told' : Type 0) (old new under under' : View) (s s' : Superblock) (txn txn' : Txn) (items items' : List StoredSeries) (result : Result Staged StoreError) : Type 0 where
+  pub reads : ReadsMost 96 told told' old new
+  pub over : StaysOn s s' under under'
+  pub total : txn'.superblock.total ≡ txn.superblock.total
+  pub cause : IfErr result (λ e. IsStageCause e told (left_by txn old.image) txn.superblock old.faults new.faults)
+  pub kept : OnErr result (items' ≡ items)
+  pub back : IfOk result (λ staged. TakesBack staged.undo items' items)
+  pub nothing : IfOk result (λ staged. staged.undo ≡ undo.Nothing → txn' ≡ txn)
+  pub stands : IsAnswer result → IsCatalogOf told' (left_by txn' new.image) txn'.superblock items'
+  pub few : length (held txn') ≤ length (held txn) + 39
+  pub slots : IfOk result (λ staged. staged.outcome.slots ≤ 2 ^ 28)
+
+-- where a transaction would leave pages that stand for a book which answers so, an edit was staged, or refused
+pub record IsStagedBy (answer : Result Edited Refusal) (touched total : ℕ) (result : Result Staged StoreError) (txn txn' : Txn) (image' : Image) : Type 0 where
+  pub done : IfOk result (λ staged. IsDoneBy answer total staged.outcome image')
+  pub refused : IfErr result (λ e. IsRefusedBy answer e)
+  pub same : IfErr result (λ e. IsRefusal e → txn' ≡ txn)
+  pub few : OnOk result (length (held txn') ≤ length (held txn) + (1 + touched))
+
+-- A transaction changed the tree of a series, with these pages and these numbers, and its record isn't changed yet: before,
+-- the pages stood for a book.
+pub record IsPartChanged (mid : Image) (s : Superblock) (one : StoredSeries) (id : ℕ) (tree : Tree) (book : List Series) (series : Series) (slots : List (Option ℤ)) : Type 0 where
+  pub before : Image
+  pub numbers : Superblock
+  pub store : IsStore before numbers book
+  pub there : slice_get book id ≡ Some series
+  pub says : entry before id ≡ entry_of one
+  pub later : IsLater numbers s
+  pub changed : IsTreeChanged before mid (length book) id s tree slots
+
+-- so of the book with the changed slots
+abbrev pub ForChangedTree : Image → Superblock → List StoredSeries → ℕ → Tree → (List Series → Type 0) → Type 0
+ForChangedTree mid s items id tree IsSo =
+    (one : StoredSeries) (book : List Series) (series : Series) (slots : List (Option ℤ)) → slice_get items id ≡ Some one → IsPartChanged mid s one id tree book series slots → IsSo (with_slots book id series slots)
+
+-- of so many pages in all
+pub record IsWholeOf (total : ℕ) (told : Type 0) (image : Image) (s : Superblock) (items : List StoredSeries) : Type 0 where
+  pub total_is : s.total ≡ total
+  pub catalog : IsCatalogOf told image s items
+
+module _ {P : Type 0} {g : Ghosts P} where
+  -- the catalog is that of the pages that the transaction would leave
+  abbrev pub IsStaged : Space P g → Txn → Catalog → Type 0
+  IsStaged space txn catalog = IsWholeOf (spaces.total space) (spaces.IsTold space) (spaces.left space txn) txn.superblock (series_in catalog)
+
+  -- the catalog is that of the pages, while they are sound
+  abbrev pub IsStored : Space P g → Catalog → Type 0
+  IsStored space catalog = IsCatalogOf (spaces.IsSound space × spaces.IsTold space) (spaces.image space) (spaces.numbers space) (series_in catalog)
+
+  -- the same while they are sound
+  abbrev pub IsKept : Space P g → Catalog → Type 0
+  IsKept space catalog = IsCatalogOf (spaces.IsTold space) (spaces.image space) (spaces.numbers space) (series_in catalog)
+
+  -- the transaction would leave the pages as they are
+  abbrev pub LeavesAll : Space P g → Txn → Type 0
+  LeavesAll space txn = (txn.superblock ≡ spaces.numbers space) × (spaces.IsTold space → spaces.left space txn ≡ spaces.image space)
+
+  -- so of each book that the pages stand for
+  abbrev pub ForKept : Space P g → (ℕ → List Series → Type 0) → Type 0
+  ForKept space IsSo = (total : ℕ) (book : List Series) → spaces.IsTold space → StandsForBook (spaces.image space) total book → IsSo total book
+
+  -- so of each book that the transaction would leave
+  abbrev pub ForStaged : Space P g → Txn → (ℕ → List Series → Type 0) → Type 0
+  ForStaged space txn IsSo = (total : ℕ) (book : List Series) → spaces.IsTold space → StandsForBook (spaces.left space txn) total book → IsSo total book
+
+  -- so of each such book with its series of this id
+  abbrev pub ForStagedSeries : Space P g → Txn → ℕ → (ℕ → List Series → Series → Type 0) → Type 0
+  ForStagedSeries space txn id IsSo = (total : ℕ) (book : List Series) (series : Series) → spaces.IsTold space → StandsForBook (spaces.left space txn) total book → slice_get book id ≡ Some series → IsSo total book series
+
+  -- staging an edit does this, whatever the pages are
+  abbrev pub Stages : Result Staged StoreError → Space P g → Space P g → Txn → Txn → Catalog → Catalog → Type 0
+  Stages result old new txn txn' catalog catalog' =
+      IsStaging (spaces.IsTold old) (spaces.IsTold new) (spaces.view old) (spaces.view new) (spaces.under old) (spaces.under new) (spaces.numbers old) (spaces.numbers new) txn txn' (series_in catalog) (series_in catalog') result
+
+  -- an edit was staged as the book answers it
+  abbrev pub AnswersSo : Result Edited Refusal → ℕ → ℕ → Result Staged StoreError → Space P g → Txn → Txn → Type 0
+  AnswersSo answer touched total result new txn txn' = IsStagedBy answer touched total result txn txn' (spaces.left new txn')
+
+  -- a call did this, whatever the pages are
+  abbrev pub CarriesOut : Result Outcome StoreError → Space P g → Space P g → Type 0
+  CarriesOut result old new =
+      IsCarriedOut (spaces.IsTold old) (spaces.IsTold new) (spaces.view old) (spaces.view new) (spaces.under old) (spaces.under new) (spaces.numbers old) (spaces.numbers new) result

@@ -1,0 +1,250 @@
+//! Edits that stand ready are done together, in one commit.
+ghost use Rattle.std.specs.Prelude.{◌≡◌, ◌≤◌, ◌<◌, ◌+◌, ◌*◌, ◌∷◌, [], ℕ, List, None, Bool, true, false, IsTrue, All, length, take, IfOk, IfErr, OnOk, OnErr};
+ghost use Rattle.block_disk.specs.Counts.{HasRisen};
+ghost use Rattle.block_disk.specs.View.{View, Passes};
+ghost use Rattle.gate_pages.specs.Pages.{GoesOn, Quiet};
+ghost use Rattle.page_space.specs.Shown as spaces;
+ghost use Rattle.page_space.specs.Transactions.{held};
+ghost use Rattle.series_book.specs.declared.edits.Edit.{Edit};
+ghost use Rattle.series_book.specs.declared.one_series.Series.{Series};
+ghost use Rattle.series_book.specs.Edits.{IsEdit};
+ghost use Rattle.series_catalog.specs.Shown.{series_in};
+ghost use Rattle.series_store.specs.Grouping as grouping;
+ghost use Rattle.series_store.specs.Groups.{AreDone, AreSome, AreMany, IsNoneOrAll, PassesWhole, IsGroupCause, ChangeNone, HaveFewSlots};
+ghost use Rattle.series_store.specs.Opening.{IsOutside};
+ghost use Rattle.series_store.specs.Results.{IsUnchangedFor, CommitsNone};
+ghost use Rattle.series_store.specs.Shown as shown;
+ghost use Rattle.series_store.specs.Staging as stages;
+ghost use Rattle.stored_book.specs.Standing.{StandsForBook};
+
+use crate::errors::StoreError;
+use crate::staged::Undo;
+use crate::staging::stage;
+use crate::store::Store;
+use gate_pages::Pages;
+use page_space::{Space, Txn};
+use series_book::{Edit, Outcome, Refusal};
+use series_catalog::Catalog;
+use std::alloc::Global;
+
+/// An edit is staged only where the transaction holds no more pages: it may put 39 into it, and there is room for 64.
+const MOST_HELD: usize = 24;
+
+/// The refusal, or what else the error is.
+fn refusal_in(cause: StoreError) -> Result<Refusal, StoreError>
+    ensures refused { IfOk result (λ refusal. cause ≡ StoreError.Refused refusal) }
+    ensures other { IfErr result (λ e. (e ≡ cause) × (stages.IsRefusal cause → ⊥)) }
+{
+    match cause {
+        StoreError::Refused(refusal) => Ok(refusal),
+        StoreError::NotAStore => Err(StoreError::NotAStore),
+        StoreError::DiskFault => Err(StoreError::DiskFault),
+        StoreError::Damaged { page } => Err(StoreError::Damaged { page }),
+        StoreError::NoMemory => Err(StoreError::NoMemory),
+    }
+}
+
+/// Whether a page is damaged.
+fn is_damage(cause: StoreError) -> bool
+    ensures damage { IsTrue result → grouping.IsDamage cause }
+    ensures other { result ≡ false → grouping.IsDamage cause → ⊥ }
+{
+    match cause {
+        StoreError::Refused(_) | StoreError::NotAStore => false,
+        StoreError::DiskFault | StoreError::NoMemory => false,
+        StoreError::Damaged { .. } => true,
+    }
+}
+
+/// Stages an edit behind others, and adds its answer to theirs.
+fn stage_next<P: Pages>(
+    space: &mut Space<P>,
+    txn: &mut Txn,
+    catalog: &mut Catalog,
+    edit: &Edit,
+    answers: &mut Vec<Result<Outcome, Refusal>>,
+) -> Result<Undo, StoreError>
+    requires sound { spaces.IsSound space.old }
+    requires staged { stages.IsStaged space.old txn.old catalog.old }
+    requires few { length (held txn.old) ≤ 24 }
+    requires is_edit { IsEdit edit.now }
+    ensures next { grouping.GoesNext result space.old space.new txn.old txn.new catalog.old catalog.new answers.old.items answers.new.items }
+    ensures answered { stages.ForStaged space.old txn.old (λ total book. grouping.AnswersNext total book edit.now result space.new txn.old txn.new answers.old.items answers.new.items) }
+{
+    answers.reserve(1)?;
+    match stage(space, txn, catalog, edit) {
+        Ok(staged) => {
+            let _added = answers.push(Ok(staged.outcome));
+            Ok(staged.undo)
+        }
+        Err(cause) => {
+            let refusal = refusal_in(cause)?;
+            let _added = answers.push(Err(refusal));
+            Ok(Undo::Nothing)
+        }
+    }
+}
+
+/// Commits the transaction, if it changes anything.
+fn close<P: Pages>(space: &mut Space<P>, txn: Txn, is_changed: bool) -> Result<(), StoreError>
+    requires sound { spaces.IsSound space.old }
+    requires total { txn.superblock.total ≡ spaces.total space.old }
+    ensures commits { spaces.CommitsAll txn space.old space.new }
+    ensures goes_on { spaces.TimeGoesOn space.old space.new }
+    ensures done { is_changed ≡ true → spaces.IsTold space.old → OnOk result (spaces.image space.new ≡ spaces.left space.old txn) }
+    ensures superblock { is_changed ≡ true → OnOk result (spaces.numbers space.new ≡ txn.superblock) }
+    ensures none { is_changed ≡ false → space.new ≡ space.old }
+    ensures old_superblock { OnErr result (spaces.numbers space.new ≡ spaces.numbers space.old) }
+    ensures sound { OnOk result (spaces.IsSound space.new) }
+    ensures unsound { OnErr result (spaces.IsSound space.new → ⊥) }
+    ensures error { IfErr result (λ e. e ≡ StoreError.DiskFault) }
+    ensures cause { OnErr result (HasRisen (spaces.view space.old).faults (spaces.view space.new).faults) }
+{
+    if !is_changed {
+        return Ok(());
+    }
+    space.commit(txn)?;
+    Ok(())
+}
+
+/// Stages edits behind others, one after the other until too many pages are held, and commits them all.
+fn commit_all<P: Pages>(
+    space: &mut Space<P>,
+    txn: Txn,
+    catalog: &mut Catalog,
+    edits: &[Edit],
+    is_changed: bool,
+    answers: &mut Vec<Result<Outcome, Refusal>>,
+) -> Result<(), StoreError>
+    requires sound { spaces.IsSound space.old }
+    requires staged { stages.IsStaged space.old txn catalog.old }
+    requires clean { is_changed ≡ false → stages.IsKept space.old catalog.old }
+    requires are_edits { All IsEdit edits.now }
+    ensures groups { grouping.Groups result space.old space.new txn catalog.old catalog.new edits.now answers.old.items answers.new.items }
+    ensures grouped { grouping.ForGroup space.old txn is_changed (λ total book. grouping.GroupsSo total book result space.old space.new txn is_changed edits.now answers.old.items answers.new.items) }
+{
+    let held = txn.len();
+    let Some((edit, rest)) = edits.split_first() else {
+        return close(space, txn, is_changed);
+    };
+    if held > MOST_HELD {
+        return close(space, txn, is_changed);
+    }
+    let mut txn = txn;
+    let undo = stage_next(space, &mut txn, catalog, edit, answers)?;
+    let is_changed = undo.or_changed(is_changed);
+    match commit_all(space, txn, catalog, rest, is_changed, answers) {
+        Ok(()) => Ok(()),
+        Err(cause) => {
+            undo.apply(catalog);
+            Err(cause)
+        }
+    }
+}
+
+impl<P: Pages> Store<P> {
+    /// Does some first edits in one commit: all of them, or so many that their pages fill it. The answer of each
+    /// that is done stands in the list, a refusal too.
+    ///
+    /// It takes as many frames of the stack as there are edits. It reads 96 blocks at most for each edit that it
+    /// does, and syncs four times at most. After `DiskFault` the store may be unsound, and has to be opened again: it
+    /// has the book from before the edits, or the one behind all that were to be committed. After another error
+    /// nothing is changed. Where the pages stand for a book, no page is damaged.
+    pub fn edit_group(
+        &mut self,
+        edits: &[Edit],
+    ) -> Result<Vec<Result<Outcome, Refusal>>, StoreError>
+        requires sound { shown.IsSound self.old }
+        requires some { 0 < length edits.now }
+        requires are_edits { All IsEdit edits.now }
+        ensures covered { IfOk result (λ answers. AreSome edits.now (length answers.items)) }
+        ensures done { shown.ForBook self.old (λ total book. IfOk result (λ answers. AreDone total book edits.now answers.items (shown.image self.new))) }
+        ensures many { shown.ForBook self.old (λ total book. IfOk result (λ answers. AreMany total book edits.now (length answers.items))) }
+        ensures outside { shown.ForBook self.old (λ total book. IfErr result IsOutside) }
+        // a crash at any moment leaves none of the edits that are done, or all
+        ensures moments { shown.ForBook self.old (λ total book. IfOk result (λ answers. shown.PassesNoneOrAll total book edits.now (length answers.items) self.old self.new)) }
+        ensures whole { shown.ForBook self.old (λ total book. PassesWhole total book edits.now (shown.view self.old) (shown.view self.new)) }
+        ensures reads { shown.ForBook self.old (λ total book. (shown.view self.new).reads ≤ (shown.view self.old).reads + 96 * length edits.now) }
+        ensures few_reads { shown.ForBook self.old (λ total book. IfOk result (λ answers. (shown.view self.new).reads ≤ (shown.view self.old).reads + 96 * length answers.items)) }
+        // edits that change no slot write and sync nothing
+        ensures idle { shown.ForBook self.old (λ total book. IfOk result (λ answers. ChangeNone total book (take (length answers.items) edits.now) → shown.WritesNone self.old self.new)) }
+        ensures moves { shown.MovesGroup self.old self.new }
+        ensures goes_on { shown.TimeGoesOn self.old self.new }
+        ensures cause { IfErr result (λ e. IsGroupCause e (shown.IsTold self.old) (shown.numbers self.old) (shown.view self.old) (shown.view self.new)) }
+        ensures unchanged { IfErr result (λ e. IsUnchangedFor e (shown.IsTold self.old) (shown.view self.old) (shown.view self.new)) }
+        ensures sound { OnOk result (shown.IsSound self.new) }
+        ensures total { shown.total self.new ≡ shown.total self.old }
+        ensures slots { IfOk result (λ answers. HaveFewSlots answers.items) }
+        ensures none { (self.new.tree.slots ≡ 0) × (self.new.tree.span ≡ None) }
+        // no series goes away, whatever the pages are
+        ensures more { length (shown.catalog self.old) ≤ length (shown.catalog self.new) }
+    {
+        self.select_none();
+        self.edit_some(edits)
+    }
+
+    /// The same with no series selected. Where a page is called damaged behind the first edit, that one is done alone, so
+    /// that a page that is called damaged is so as it is stored.
+    fn edit_some(&mut self, edits: &[Edit]) -> Result<Vec<Result<Outcome, Refusal>>, StoreError>
+        requires sound { shown.IsSound self.old }
+        requires idle { shown.SelectsNone self.old }
+        requires some { 0 < length edits.now }
+        requires are_edits { All IsEdit edits.now }
+        ensures did { grouping.DoesGroup edits.now result self.old self.new }
+        ensures answered { shown.ForBook self.old (λ total book. grouping.AnswersGroup total book edits.now result self.old self.new) }
+        ensures idle { shown.SelectsNone self.new }
+    {
+        let mut answers = Vec::with_capacity(self.alloc, edits.len())?;
+        match self.commit_group(edits, &mut answers) {
+            Ok(()) => Ok(answers),
+            Err(cause) => {
+                if is_damage(cause) {
+                    return self.edit_first(&edits[0]);
+                }
+                Err(cause)
+            }
+        }
+    }
+
+    /// Does some first edits in one commit, or none of them.
+    fn commit_group(
+        &mut self,
+        edits: &[Edit],
+        answers: &mut Vec<Result<Outcome, Refusal>>,
+    ) -> Result<(), StoreError>
+        requires sound { shown.IsSound self.old }
+        requires idle { shown.SelectsNone self.old }
+        requires none { answers.old.items ≡ [] }
+        requires are_edits { All IsEdit edits.now }
+        ensures groups { grouping.CommitsGroup result self.old self.new edits.now answers.new.items }
+        ensures grouped { shown.ForBook self.old (λ total book. grouping.CommitsSo total book result self.old self.new edits.now answers.new.items) }
+        ensures idle { shown.SelectsNone self.new }
+    {
+        let txn = self.begin()?;
+        commit_all(
+            &mut self.space,
+            txn,
+            &mut self.catalog,
+            edits,
+            false,
+            answers,
+        )
+    }
+
+    /// Does one edit alone.
+    fn edit_first(&mut self, edit: &Edit) -> Result<Vec<Result<Outcome, Refusal>>, StoreError>
+        requires sound { shown.IsSound self.old }
+        requires idle { shown.SelectsNone self.old }
+        requires is_edit { IsEdit edit.now }
+        ensures did { grouping.DoesGroup (edit.now ∷ []) result self.old self.new }
+        ensures idle { shown.SelectsNone self.new }
+    {
+        let mut answers = Vec::with_capacity(self.alloc, 1)?;
+        let answer = match self.edit_one(edit) {
+            Ok(outcome) => Ok(outcome),
+            Err(cause) => Err(refusal_in(cause)?),
+        };
+        let _added = answers.push(answer);
+        Ok(answers)
+    }
+}
