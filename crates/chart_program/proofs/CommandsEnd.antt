@@ -23,6 +23,7 @@ use Rattle.chart_program.specs.declared.draw_end.DrawEnd.TheVariants as draw_end
 use Rattle.chart_program.specs.Slots.{FirstBad, StoppedBefore}
 use Rattle.chart_program.specs.Plotted.{SendsPlot, SendsFront}
 use Rattle.chart_program.specs.Draws.{DrawsAll, DrawsTaken, DrawsWithin, StopsAtFrame}
+use Rattle.chart_program.proofs.InitLemmas.{init_leaves, init_holds}
 use Rattle.chart_program.proofs.Codes.{plot_complete, told_all, told_both}
 use Rattle.chart_program.proofs.CommandCodes.{never, zero_of, of_plot, plot_codes, of_draw, draw_codes, of_init, init_codes, of_lines, lines_codes, of_load, load_codes, of_check, check_codes, of_demo, demo_codes}
 
@@ -452,8 +453,8 @@ init_ends old new left left' before now faults code place codes away untaken fau
   part = λ is. absurd (never of_init code 5 codes refl is);
   nothing = λ some unsent quiet. sent;
   pictures = λ is command. cc;
-  holds = λ other. told_all left _ tt;
-  crash = all_told left before _ tt;
+  holds = λ other. told_all left _ (init_holds old new disk);
+  crash = all_told left before _ (init_leaves old new disk);
   disk = disk;
   made = made;
   complete = never_input left _;

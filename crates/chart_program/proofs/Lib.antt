@@ -20,3 +20,4 @@ pub mod StoreShown
 pub mod LivesLemmas
 pub mod Knowing
 pub mod Statuses
+pub mod InitLemmas

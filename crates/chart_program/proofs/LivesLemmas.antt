@@ -14,7 +14,7 @@ use Rattle.store_commands.proofs.HoldsAgain.{series_there}
 use Rattle.store_commands.specs.Loaded.{IsAheadLoad}
 use Rattle.store_commands.specs.Demonstrated.{IsAheadDemo}
 use Rattle.demo_workload.specs.Workload.{workload}
-use Rattle.chart_program.specs.Lives.{Life, AreLives, IsLife, IsLived, BeginsOn, IsLeftAt, LeavesFrom, MakesNone, IsAfterLines, IsAfterSets, IsAfterRequests, Outlives, AreBooks, life_of}
+use Rattle.chart_program.specs.Lives.{Life, AreLives, IsLife, IsLived, BeginsOn, IsLeftAt, LeavesFrom, IsAfterLines, IsAfterSets, IsAfterRequests, Outlives, AreBooks, life_of}
 use Rattle.chart_program.specs.Ran.{Leaves, LeavesTold}
 use Rattle.chart_program.specs.Served.{Says, Spelled, AreTexts, IsAheadOn}
 
@@ -25,35 +25,36 @@ begun_holds count total book begins old b recovers =
     let P : Image → Type 0 = λ i. RecoversTo count i total book in
     record { honest = b.honest; images = λ image left. subst P (sym (b.only image left)) recovers }
 
-run_lives : (command : Command) (input : List ℕ) (old new : View) (begins left : Image) (at : ℕ) → MakesNone command → BeginsOn begins old → Leaves command input old new → IsLeftAt old new at left → IsLife (page_count old.size) (life_of command input begins old new at left)
-run_lives (Plot w h) input old new begins left at opens b leaves is = λ total book recovers.
+run_lives : (command : Command) (input : List ℕ) (old new : View) (begins left : Image) (at : ℕ) → BeginsOn begins old → Leaves command input old new → IsLeftAt old new at left → IsLife (page_count old.size) (life_of command input begins old new at left)
+run_lives (Plot w h) input old new begins left at b leaves is = λ total book recovers.
     (leaves total book (begun_holds (page_count old.size) total book begins old b recovers)).here at left is.0 is.1.0 is.1.1
-run_lives Draw input old new begins left at opens b leaves is = λ total book recovers.
+run_lives Draw input old new begins left at b leaves is = λ total book recovers.
     (leaves total book (begun_holds (page_count old.size) total book begins old b recovers)).here at left is.0 is.1.0 is.1.1
-run_lives Init input old new begins left at opens b leaves is = absurd opens
-run_lives Run input old new begins left at opens b leaves is = λ total book recovers.
+run_lives Init input old new begins left at b leaves is = λ total book recovers.
     (leaves total book (begun_holds (page_count old.size) total book begins old b recovers)).here at left is.0 is.1.0 is.1.1
-run_lives Serve input old new begins left at opens b leaves is = λ total book recovers.
+run_lives Run input old new begins left at b leaves is = λ total book recovers.
     (leaves total book (begun_holds (page_count old.size) total book begins old b recovers)).here at left is.0 is.1.0 is.1.1
-run_lives (Load name) input old new begins left at opens b leaves is = λ total book recovers.
+run_lives Serve input old new begins left at b leaves is = λ total book recovers.
+    (leaves total book (begun_holds (page_count old.size) total book begins old b recovers)).here at left is.0 is.1.0 is.1.1
+run_lives (Load name) input old new begins left at b leaves is = λ total book recovers.
     let holds = begun_holds (page_count old.size) total book begins old b recovers in (
       (λ series named. (leaves.0 total book holds series named).here at left is.0 is.1.0 is.1.1),
       (λ none. (leaves.1 total book holds none).here at left is.0 is.1.0 is.1.1),
     )
-run_lives (Demo seed rounds) input old new begins left at opens b leaves is = λ total book recovers.
+run_lives (Demo seed rounds) input old new begins left at b leaves is = λ total book recovers.
     (leaves total book (begun_holds (page_count old.size) total book begins old b recovers)).here at left is.0 is.1.0 is.1.1
-run_lives Check input old new begins left at opens b leaves is = λ total book recovers.
+run_lives Check input old new begins left at b leaves is = λ total book recovers.
     (leaves total book (begun_holds (page_count old.size) total book begins old b recovers)).here at left is.0 is.1.0 is.1.1
-run_lives ListSeries input old new begins left at opens b leaves is = λ total book recovers.
+run_lives ListSeries input old new begins left at b leaves is = λ total book recovers.
     (leaves total book (begun_holds (page_count old.size) total book begins old b recovers)).here at left is.0 is.1.0 is.1.1
-run_lives (Export name window) input old new begins left at opens b leaves is = λ total book recovers.
+run_lives (Export name window) input old new begins left at b leaves is = λ total book recovers.
     (leaves total book (begun_holds (page_count old.size) total book begins old b recovers)).here at left is.0 is.1.0 is.1.1
 
 -- where the input and what was sent are told
 pub lives_told : (command : Command) (old new : View) (left before now : Option (List ℕ)) → IfSome left (λ input. LeavesTold command old new input before now) → IfSome left (λ input. IsLived command old new input before now)
 lives_told command old new None before now leaves = tt
 lives_told command old new (Some input) None now leaves = tt
-lives_told command old new (Some input) (Some bytes) now leaves = λ begins crashed at opens b is. run_lives command input old new begins crashed at opens b leaves is
+lives_told command old new (Some input) (Some bytes) now leaves = λ begins crashed at b is. run_lives command input old new begins crashed at b leaves is
 
 -- ---- what one life leaves
 
@@ -135,17 +136,17 @@ left_load one name input count total book from left sent leaves =
           (after.0, inl after.1, after.2)
     ]) refl
 
-left_by : OneBook → (command : Command) (input : List ℕ) (count total : ℕ) (book : List Series) (from : ℕ) (left : Image) (sent : ℕ) → MakesNone command → LeavesFrom command input count total book from left sent → Left command input count total book from left sent
-left_by one (Plot w h) input count total book from left sent opens leaves = (book, refl, leaves)
-left_by one Draw input count total book from left sent opens leaves = (book, refl, leaves)
-left_by one Init input count total book from left sent opens leaves = absurd opens
-left_by one Run input count total book from left sent opens leaves = left_lines AreTexts input count total book from left sent leaves
-left_by one Serve input count total book from left sent opens leaves = left_lines Spelled input count total book from left sent leaves
-left_by one (Load name) input count total book from left sent opens leaves = left_load one name input count total book from left sent leaves
-left_by one (Demo seed rounds) input count total book from left sent opens leaves = left_requests one seed rounds count total book from left sent leaves
-left_by one Check input count total book from left sent opens leaves = (book, refl, leaves)
-left_by one ListSeries input count total book from left sent opens leaves = (book, refl, leaves)
-left_by one (Export name window) input count total book from left sent opens leaves = (book, refl, leaves)
+left_by : OneBook → (command : Command) (input : List ℕ) (count total : ℕ) (book : List Series) (from : ℕ) (left : Image) (sent : ℕ) → LeavesFrom command input count total book from left sent → Left command input count total book from left sent
+left_by one (Plot w h) input count total book from left sent leaves = (book, refl, leaves)
+left_by one Draw input count total book from left sent leaves = (book, refl, leaves)
+left_by one Init input count total book from left sent leaves = (book, refl, leaves)
+left_by one Run input count total book from left sent leaves = left_lines AreTexts input count total book from left sent leaves
+left_by one Serve input count total book from left sent leaves = left_lines Spelled input count total book from left sent leaves
+left_by one (Load name) input count total book from left sent leaves = left_load one name input count total book from left sent leaves
+left_by one (Demo seed rounds) input count total book from left sent leaves = left_requests one seed rounds count total book from left sent leaves
+left_by one Check input count total book from left sent leaves = (book, refl, leaves)
+left_by one ListSeries input count total book from left sent leaves = (book, refl, leaves)
+left_by one (Export name window) input count total book from left sent leaves = (book, refl, leaves)
 
 -- ---- lives in a row
 
@@ -154,5 +155,5 @@ lives_left one count total book image [] are recovers = tt
 lives_left one count total book image (life ∷ lives) are recovers =
     let P : Image → Type 0 = λ i. RecoversTo count i total book in
     let start = subst P (sym are.0) recovers in
-    let left = left_by one life.command life.input count total book life.from life.left life.sent are.1 (are.2 total book start) in
-    (start, (left.0, left.1, left.2, lives_left one count total left.0 life.left lives are.3 left.2))
+    let left = left_by one life.command life.input count total book life.from life.left life.sent (are.1 total book start) in
+    (start, (left.0, left.1, left.2, lives_left one count total left.0 life.left lives are.2 left.2))

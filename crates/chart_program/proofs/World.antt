@@ -42,6 +42,7 @@ pub first_none : (IsText : Says) (input : List ℕ) (start : State) (before : Op
 first_none IsText input start before none = record {
   front = [];
   begins = record { split = refl; whole = inl (inl refl) };
+  early = omega arith;
   text = [];
   answers = record { frames = []; replied = told_none start; texts = none start };
   sent = sent_none before;

@@ -1,5 +1,5 @@
 -- Runs over one disk, each begun on an image that a crash of the run before left.
-use Rattle.std.specs.Prelude.{◌≡◌, ℕ, ◌+◌, ◌<◌, ◌≤◌, ◌⊎◌, true, List, [], ◌∷◌, length, Option, None, IfSome, ⊤}
+use Rattle.std.specs.Prelude.{◌≡◌, ℕ, ◌+◌, ◌<◌, ◌≤◌, ◌⊎◌, List, [], ◌∷◌, length, Option, None, IfSome, ⊤}
 use Rattle.block_disk.specs.View.{Image, View, Now, Honest, Only, sent_now}
 use Rattle.gate_pages.specs.Journal.{page_count}
 use Rattle.chart_world.specs.Fronts.{BeginsWith}
@@ -47,7 +47,7 @@ LeavesFrom ListSeries input count total book from image sent = RecoversTo count 
 LeavesFrom (Export name window) input count total book from image sent = RecoversTo count image total book
 LeavesFrom (Plot w h) input count total book from image sent = RecoversTo count image total book
 LeavesFrom Draw input count total book from image sent = RecoversTo count image total book
-LeavesFrom Init input count total book from image sent = ⊤
+LeavesFrom Init input count total book from image sent = RecoversTo count image total book
 
 -- what is known of a life by the clause on crashes of `chart`
 abbrev pub IsLife : ℕ → Life → Type 0
@@ -66,14 +66,9 @@ life_of command input begins old new at left = record { command = command; input
 abbrev pub IsLeftAt : View → View → ℕ → Image → Type 0
 IsLeftAt old new at left = (old.clock ≤ at) × ((at ≤ new.clock) × new.crash at left)
 
--- the command isn't `init`
-abbrev pub MakesNone : Command → Type 0
-MakesNone Init = ⊥
-MakesNone command = ⊤
-
 -- a run that begins on an image with nothing pending is a life, whatever image a crash at whatever moment leaves
 abbrev pub AreItsLives : Command → List ℕ → View → View → Type 0
-AreItsLives command input old new = (begins left : Image) (at : ℕ) → MakesNone command → BeginsOn begins old → IsLeftAt old new at left
+AreItsLives command input old new = (begins left : Image) (at : ℕ) → BeginsOn begins old → IsLeftAt old new at left
     → IsLife (page_count old.size) (life_of command input begins old new at left)
 
 -- the same where the bytes sent before are told
@@ -85,10 +80,10 @@ IsLived command old new input before now = IfSome before (λ bytes. AreItsLives 
 -- each life begins on the image that the one before left
 abbrev pub AreLives : ℕ → Image → List Life → Type 0
 AreLives count image [] = ⊤
-AreLives count image (life ∷ lives) = (life.begins ≡ image) × MakesNone life.command × IsLife count life × AreLives count life.left lives
+AreLives count image (life ∷ lives) = (life.begins ≡ image) × IsLife count life × AreLives count life.left lives
 
 -- The new book is the old one after the accepted edits of some first lines: of all lines whose answers were sent whole by
--- then, and of at most `most_ahead` lines more, of whose answers no more was sent than those are long.
+-- then, and of at most `most_ahead` lines more, of whose answers no more was sent than those of the first of them are long.
 pub record IsAfterLines (IsText : List (Option (List ℕ)) → List Frame → List ℕ → Type 0) (input : List ℕ) (total : ℕ) (old new : List Series) (from sent : ℕ) : Type 0 where
   pub front : List ℕ
   pub rest : List ℕ
@@ -97,8 +92,8 @@ pub record IsAfterLines (IsText : List (Option (List ℕ)) → List Frame → Li
   pub text : List ℕ
   pub answers : Answers IsText front text (begun total old) between
   pub state : ((new ≡ between.book) × (sent ≡ from + length text))
-      ⊎ ((after : State) × (next : AnswersNext rest between after) × (new ≡ after.book)
-      × ((sent ≡ from + length text) ⊎ SendsReply IsText (told front) answers.frames text (told next.front) next.frames from sent))
+      ⊎ ((after : State) × (next : AnswersNext (length front) rest between after) × (new ≡ after.book)
+      × ((sent ≡ from + length text) ⊎ SendsReply IsText (told front) answers.frames text between (told next.front) next.frames from sent))
 
 -- the new book is the old one after the sets of all runs of the input's rows
 pub record IsAfterAll (total : ℕ) (name : List ℕ) (series : Series) (input : List ℕ) (old new : List Series) : Type 0 where
@@ -135,7 +130,7 @@ Outlives ListSeries input total old new from sent = new ≡ old
 Outlives (Export name window) input total old new from sent = new ≡ old
 Outlives (Plot w h) input total old new from sent = new ≡ old
 Outlives Draw input total old new from sent = new ≡ old
-Outlives Init input total old new from sent = ⊥
+Outlives Init input total old new from sent = new ≡ old
 
 -- the disk recovers to a book at the start of each life, which is the one that the life before left
 abbrev pub AreBooks : ℕ → ℕ → List Series → List Life → Type 0

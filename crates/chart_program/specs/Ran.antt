@@ -4,6 +4,7 @@ use Rattle.std.specs.List.{filter}
 use Rattle.block_disk.specs.Streams.{sent_after}
 use Rattle.block_disk.specs.View.{Image, View, DiskKept, Honest, Now, Only}
 use Rattle.gate_pages.specs.Journal.{page_count}
+use Rattle.empty_store.specs.Kept.{LeavesOld}
 use Rattle.empty_store.specs.Stores.{HasStore, IsNewStore, LeavesNew}
 use Rattle.line_raster.specs.Canvas.{Canvas}
 use Rattle.om3_coeff.specs.declared.key.Key.{Key}
@@ -179,14 +180,21 @@ abbrev pub NamesUnopened : Command → View → List ℕ → ℕ → Option (Lis
 NamesUnopened Draw old input place before now = StopsAtFrame input before now (draw_end.UnknownSession place)
 NamesUnopened command old input place before now = ⊥
 
--- What a command leaves of the disk. A plot and `draw` leave it alone, for the others time goes on. What `init` leaves at
--- each moment is what stood there before, or an empty store; it takes no input and sends nothing.
+-- What `init` leaves at each moment is what stood there before, or an empty store where there was none. It takes no input and
+-- sends nothing, and where reads gave what the disk holds, they do so afterwards.
+pub record LeavesMade (old new : View) : Type 0 where
+  pub beside : new.beside ≡ old.beside
+  pub moments : Honest old → LeavesNew (page_count old.size) old new
+  pub kept : Honest old → HasStore (page_count old.size) old.image → LeavesOld (page_count old.size) old new
+  pub honest : Honest old → Honest new
+
+-- What a command leaves of the disk. A plot and `draw` leave it alone, for the others but `init` time goes on.
 abbrev pub LeavesDisk : Command → View → View → Type 0
 LeavesDisk (Plot w h) old new = DiskKept old new
 LeavesDisk Run old new = GoesOn old new
 LeavesDisk Serve old new = GoesOn old new
 LeavesDisk Draw old new = DiskKept old new
-LeavesDisk Init old new = (new.beside ≡ old.beside) × (Honest old → LeavesNew (page_count old.size) old new)
+LeavesDisk Init old new = LeavesMade old new
 LeavesDisk (Load name) old new = GoesOn old new
 LeavesDisk (Demo seed rounds) old new = GoesOn old new
 LeavesDisk Check old new = GoesOn old new
@@ -194,7 +202,7 @@ LeavesDisk ListSeries old new = GoesOn old new
 LeavesDisk (Export name window) old new = GoesOn old new
 
 -- What a crash leaves at each moment of a serving command: a book with each edit whose answer was sent whole by then, and
--- with at most one edit more. `check`, `plot` and `draw` leave the book as it is.
+-- with at most 64 edits more. `init`, `check`, `plot` and `draw` leave the book as it is.
 abbrev pub Leaves : Command → List ℕ → View → View → Type 0
 Leaves Run input old new = LeavesBooks AreTexts (page_count old.size) input old new
 Leaves Serve input old new = LeavesBooks Spelled (page_count old.size) input old new
@@ -205,19 +213,15 @@ Leaves ListSeries input old new = LeavesSame (page_count old.size) old new
 Leaves (Export name window) input old new = LeavesSame (page_count old.size) old new
 Leaves (Plot w h) input old new = LeavesSame (page_count old.size) old new
 Leaves Draw input old new = LeavesSame (page_count old.size) old new
-Leaves Init input old new = ⊤
+Leaves Init input old new = LeavesSame (page_count old.size) old new
 
 -- the same where the bytes sent before are told, of which the moments speak
 abbrev pub LeavesTold : Command → View → View → List ℕ → Option (List ℕ) → Option (List ℕ) → Type 0
 LeavesTold command old new input before now = IfSome before (λ bytes. Leaves command input old new)
 
--- where the disk of a command other than `init` held a book, it holds one again
-abbrev pub HoldsFor : Command → View → View → Type 0
-HoldsFor Init old new = ⊤
-HoldsFor command old new = HoldsAgain (page_count old.size) old new
-
+-- where the disk of a command held a book, it holds one again
 abbrev pub HoldsNow : Command → View → View → List ℕ → Option (List ℕ) → Option (List ℕ) → Type 0
-HoldsNow command old new input before now = HoldsFor command old new
+HoldsNow command old new input before now = HoldsAgain (page_count old.size) old new
 
 -- a block was found damaged: at the opening, or a page by a request, by a set of a load or by a check
 abbrev pub IsDamaged : Command → View → View → ℕ → Type 0
@@ -488,7 +492,7 @@ pub record CommandEnds (command : Command) (old new : View) (left left' before n
   pub part : code ≡ 5 → IfSome left (λ input. SendsPart command old new input before now)
   pub nothing : code ≢ 0 → code ≢ 5 → (IsStreaming command → ⊥) → now ≡ before
   pub pictures : code ≡ 0 → command ≡ Draw → IfSome left (λ input. DrawsReplies input before now)
-  pub holds : code ≢ 6 → IfSome left (λ input. HoldsFor command old new)
+  pub holds : code ≢ 6 → IfSome left (λ input. HoldsAgain (page_count old.size) old new)
   pub crash : IfSome left (λ input. LeavesTold command old new input before now)
   pub disk : LeavesDisk command old new
   pub made : code ≡ 0 → IsMade command old new

@@ -69,7 +69,7 @@ pub record ShowFails {V : Type 0} (gives : Gives V) (shown shown' : V) (input : 
   pub between : State
   pub screen : V
   pub first : SendsFirst (AreShown gives shown screen) input rest old between before now
-  pub next : AnswersNext rest between new
+  pub next : AnswersNext (length first.front) rest between new
   pub frame : Frame
   pub later : List Frame
   pub is_first : next.frames ≡ frame ∷ later

@@ -48,7 +48,7 @@ pub record AreTexts (start : State) (lines : List (Option (List ℕ))) (frames :
 abbrev pub AnswersAll : Says → ℕ → View → View → List ℕ → Option (List ℕ) → Option (List ℕ) → Type 0
 AnswersAll IsText count old new input before now = FromBook count old new (λ start state. SendsText (IsText start) input start state before now)
 
--- the first bytes of what answers the first lines were sent
+-- the first bytes of what answers the first lines were sent; lines behind them may have been done too
 abbrev pub AnswersFront : Says → ℕ → View → View → List ℕ → Option (List ℕ) → Option (List ℕ) → Type 0
 AnswersFront IsText count old new input before now = FromBook count old new (λ start state. SendsFrontOf (IsText start) input start state before now)
 
@@ -60,7 +60,7 @@ AnswersTaken IsText count old new input bytes before now = FromBook count old ne
 abbrev pub AnswersWithin : Says → ℕ → View → View → List ℕ → Option (List ℕ) → Option (List ℕ) → Type 0
 AnswersWithin IsText count old new input before now = FromBook count old new (λ start state. SendsWithin (IsText start) input start state before now)
 
--- some first lines were answered; the line behind them may have been done too
+-- some first lines were answered; lines behind them may have been done too
 abbrev pub AnswersSome : Says → ℕ → View → View → List ℕ → Option (List ℕ) → Option (List ℕ) → Type 0
 AnswersSome IsText count old new input before now = FromBook count old new (λ start state. SendsSome (IsText start) input start state before now)
 
@@ -86,7 +86,7 @@ EndsLines IsText count old new input left before now (run_end.Show e) = Never co
 -- ---- crashes
 
 -- The image recovers to a book that is ahead of the start's: each edit whose answer was sent whole by then is in it, and
--- at most one edit more.
+-- at most 64 edits more.
 pub record IsAheadOn (IsText : List (Option (List ℕ)) → List Frame → List ℕ → Type 0) (input : List ℕ) (count total : ℕ) (start : State) (from : ℕ) (image : Image) (sent : ℕ) : Type 0 where
   pub readable : IsReadable count image
   pub within : total ≤ count

@@ -46,7 +46,6 @@ pub fn draw<S: World>(alloc: Global, streams: &mut S) -> Result<(), DrawEnd>
 }
 
 /// Takes the input in pieces, and draws the frames that end within each.
-#[tactic(auto, using(crate::proofs::DiskKept::stays_by, crate::proofs::DiskKept::stays_then))]
 fn draw_pieces<S: World>(
     alloc: Global,
     decoder: &mut Decoder,
@@ -138,7 +137,6 @@ fn draw_piece<S: World>(
 }
 
 /// Draws the frames that stand whole in what the decoder holds.
-#[tactic(auto, using(crate::proofs::DiskKept::stays_then))]
 fn draw_frames<S: World>(
     alloc: Global,
     decoder: &mut Decoder,
@@ -165,7 +163,6 @@ fn draw_frames<S: World>(
 }
 
 /// Draws a frame, and sends its picture where it has one.
-#[tactic(auto, using(crate::proofs::DiskKept::stays_none, crate::proofs::DiskKept::stays_by))]
 fn draw_frame<S: World>(
     alloc: Global,
     client: &mut Client,

@@ -36,7 +36,6 @@ impl From<InputEnd> for PlotEnd {
 }
 
 /// Reads the slots of the input and sends their chart, `w` columns wide and `h` rows high.
-#[tactic(auto, using(crate::proofs::DiskKept::stays_by, crate::proofs::DiskKept::stays_then))]
 pub fn plot<S: World>(alloc: Global, w: u16, h: u16, streams: &mut S) -> Result<(), PlotEnd>
     requires wide { IsSide w }
     requires high { IsSide h }

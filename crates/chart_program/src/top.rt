@@ -61,7 +61,7 @@ pub fn chart<W: World>(alloc: Global, words: &[String], world: W) -> (Status, W)
     // of the frames that answer lines `draw` sends the pictures of the book
     ensures pictures { result.0.code ≡ DONE → Spells Draw (plain_words (map string_bytes words.now)) → IfSome (W.left world) (λ input. DrawsReplies input (W.sent world) (W.sent result.1)) }
 
-    // at each moment a crash leaves a book with what was answered by then: with at most one edit more where lines are
+    // at each moment a crash leaves a book with what was answered by then: with at most 64 edits more where lines are
     // served, and with some first edits of a load and of a workload
     ensures crash { result.0.code ≢ WRONG_WORDS → (result.1 ≡ world) ⊎ ForCommand words.now W.view W.left W.sent world result.1 LeavesTold }
 
@@ -71,7 +71,7 @@ pub fn chart<W: World>(alloc: Global, words: &[String], world: W) -> (Status, W)
     // with any status but 6 the disk holds a book again, where it held one
     ensures holds { result.0.code ≢ WRONG_WORDS → result.0.code ≢ DISK_FAULT → (result.1 ≡ world) ⊎ ForCommand words.now W.view W.left W.sent world result.1 HoldsNow }
 
-    // at each moment of `init` a crash leaves the pages from before, or an empty store
+    // at each moment of `init` a crash leaves the pages from before, or an empty store where there was none
     ensures untaken { result.0.code ≢ WRONG_WORDS → IsUnread result.0 world result.1 ⊎ ByCommand words.now (λ command. TakesNone command → W.left result.1 ≡ W.left world) }
     ensures untouched { result.0.code ≡ WRONG_WORDS → result.1 ≡ world }
     ensures disk { result.0.code ≢ WRONG_WORDS → (result.1 ≡ world) ⊎ ByCommand words.now (λ command. LeavesDisk command (W.view world) (W.view result.1)) }

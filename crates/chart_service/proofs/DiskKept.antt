@@ -3,7 +3,7 @@ use Rattle.std.proofs.Common.{◌≤◌, ℕ, refl, ◌∙◌, arith, inl, inr}
 use Rattle.block_disk.specs.Counts.{HasRisen}
 use Rattle.block_disk.specs.View.{View, DiskKept}
 use Rattle.chart_service.specs.Serving.{Serves}
-use Rattle.chart_service.specs.Stepping.{Steps}
+use Rattle.chart_service.specs.Stepping.{Steps, GroupSteps}
 
 pub kept_none : (at : View) → DiskKept at at
 kept_none at = record {
@@ -55,6 +55,41 @@ serves_step told told' old new steps = record {
   faults = steps.faults;
   syncs = steps.syncs.low;
   writes = steps.writes.low;
+}
+
+-- edits that are done together, in some commits
+pub group_none : (told : Type 0) (at : View) → GroupSteps told told at at
+group_none told at = record {
+  told = λ is. is;
+  was_told = λ is. is;
+  size = refl;
+  beside = refl;
+  faults = omega arith;
+  reads = omega arith;
+  syncs = omega arith;
+  writes = omega arith;
+}
+
+pub group_then : (told between told' : Type 0) (old mid new : View) → GroupSteps told between old mid → GroupSteps between told' mid new → GroupSteps told told' old new
+group_then told between told' old mid new first second = record {
+  told = λ is. second.told (first.told is);
+  was_told = λ is. first.was_told (second.was_told is);
+  size = second.size ∙ first.size;
+  beside = second.beside ∙ first.beside;
+  faults = omega (arith, first.faults, second.faults);
+  reads = omega (arith, first.reads, second.reads);
+  syncs = omega (arith, first.syncs, second.syncs);
+  writes = omega (arith, first.writes, second.writes);
+}
+
+pub serves_group : (told told' : Type 0) (old new : View) → GroupSteps told told' old new → Serves told told' old new
+serves_group told told' old new steps = record {
+  told = steps.told;
+  was_told = steps.was_told;
+  size = steps.size;
+  faults = steps.faults;
+  syncs = steps.syncs;
+  writes = steps.writes;
 }
 
 -- a count that has risen since a later moment has risen

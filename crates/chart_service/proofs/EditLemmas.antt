@@ -25,7 +25,7 @@ view_grown : (book more : List Series) (last : Option ViewSpec) → length book 
 view_grown book more None fits has = tt
 view_grown book more (Some spec) fits has = record { there = omega (arith, has.there, fits); range = has.range }
 
-views_grown : (book more : List Series) (ss : List Session) → length book ≤ length more → AreViewsOf book ss → AreViewsOf more ss
+pub views_grown : (book more : List Series) (ss : List Session) → length book ≤ length more → AreViewsOf book ss → AreViewsOf more ss
 views_grown book more ss fits all = λ k d below. view_grown book more _ fits (all k d below)
 
 -- an accepted edit leaves this

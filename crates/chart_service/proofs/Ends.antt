@@ -35,6 +35,9 @@ differ {r = r} {s = s} is other = absurd (eqb-false (kind r) (kind s) other (ap 
 pub end_is : {T F : Type 0} {e f : AnswerEnd F} → ◌≡◌ {A = Result T (AnswerEnd F)} (Err e) (Err f) → e ≡ f
 end_is is = cc
 
+pub err_is : {T E : Type 0} {e f : E} → ◌≡◌ {A = Result T E} (Err e) (Err f) → e ≡ f
+err_is is = cc
+
 -- an error says nothing of what is done
 pub on_err : {T E : Type 0} (r : Result T E) (A : Type 0) (P : E → Type 0) → IsErrAnd r P → OnOk r A
 on_err (Ok v) A P is = absurd is

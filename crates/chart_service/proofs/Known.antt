@@ -7,6 +7,7 @@ use Rattle.chart_frames.specs.Frames.{Fits}
 use Rattle.series_book.specs.declared.refusals.Refusal.{Refusal}
 use Rattle.zoom_session.specs.declared.session.Session.{Session}
 use Rattle.zoom_session.specs.Sessions.{is_open}
+use Rattle.chart_service.specs.EditGroups.{IsEditReply}
 use Rattle.chart_service.specs.Knowing.{Follows, KnowsOpen, NamesKnown, EndsKnown}
 use Rattle.chart_service.specs.Making.{Makes, FrameStops}
 use Rattle.chart_service.specs.Opening.{opens, NamesOpen}
@@ -50,6 +51,15 @@ known_kept {S} knows kept sessions sessions' same known = let P : List Session �
 
 pub same_opens : (sessions sessions' sessions'' : List Session) (frame : Frame) → sessions'' ≡ sessions' → ((n : ℕ) → is_open n sessions' ≡ opens frame n (is_open n sessions)) → (n : ℕ) → is_open n sessions'' ≡ opens frame n (is_open n sessions)
 same_opens sessions sessions' sessions'' frame same after n = ap (λ s. is_open n s) same ∙ after n
+
+-- what tells of an edit opens and closes no session
+pub edit_opens : (frame : Frame) (sessions sessions' : List Session) → IsEditReply frame → sessions' ≡ sessions → (n : ℕ) → is_open n sessions' ≡ opens frame n (is_open n sessions)
+edit_opens (Done slots) sessions sessions' is same n = ap (λ s. is_open n s) same
+edit_opens (Refused number a b) sessions sessions' is same n = ap (λ s. is_open n s) same
+edit_opens (Opened session cache) sessions sessions' is same n = absurd is
+edit_opens (Closed session) sessions sessions' is same n = absurd is
+edit_opens (View view) sessions sessions' is same n = absurd is
+edit_opens (Rows rows) sessions sessions' is same n = absurd is
 
 -- a refusal opens and closes no session, and names none
 pub refused_opens : (frame : Frame) (refusal : Refusal) → frame ≡ refused refusal → (sessions : List Session) (n : ℕ) → is_open n sessions ≡ opens frame n (is_open n sessions)

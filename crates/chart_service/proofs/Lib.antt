@@ -21,6 +21,9 @@ pub mod Answered
 pub mod Filtered
 pub mod Told
 pub mod Editing
+pub mod Together
+pub mod GatherLemmas
+pub mod GroupReplies
 pub mod Keeping
 pub mod Lasts
 pub mod Showing

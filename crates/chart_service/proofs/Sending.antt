@@ -13,7 +13,7 @@ use Rattle.series_book.specs.declared.one_series.Series.{Series}
 use Rattle.series_book.specs.declared.refusals.Refusal.TheVariants.{LineTooLong}
 use Rattle.stored_book.specs.Standing.{StandsForBook}
 use Rattle.zoom_session.specs.declared.session.Session.{Session}
-use Rattle.chart_service.specs.Making.{Makes, AreMade, FrameSent, FramePart, FrameStops, LinesDone, LinesPart, LinesFail, LinesStop, ReplySent, FrameMoments, LinesMoments}
+use Rattle.chart_service.specs.Making.{Makes, AreMade, FrameSent, FrameStops, LinesDone, LinesCut, LinesStop, ReplySent, FrameMoments, LinesMoments}
 use Rattle.chart_service.specs.Replies.{Replied, line_text, refused}
 use Rattle.chart_service.specs.SentLaws.{sent_none}
 use Rattle.chart_service.specs.Serving.{unless_empty, end_of_step}
@@ -73,7 +73,7 @@ long_after frame total book own image replied stands = record { book = book; sta
 
 -- ---- a line that is answered by one frame
 
-made_one : {S F : Type 0} (makes : Makes S F) (v w : S) (lines : List (Option (List ℕ))) (frame : Frame) (piece : List ℕ) → makes v frame (Ok piece) w → AreMade makes v w lines (frame ∷ []) piece
+pub made_one : {S F : Type 0} (makes : Makes S F) (v w : S) (lines : List (Option (List ℕ))) (frame : Frame) (piece : List ℕ) → makes v frame (Ok piece) w → AreMade makes v w lines (frame ∷ []) piece
 made_one makes v w lines frame piece given = (piece, w, [], given, sym (append-nil piece), (refl, refl))
 
 one_done : {S F : Type 0} (makes : Makes S F) (v w : S) (line : Option (List ℕ)) (frame : Frame) (old new : State) (before now : Option (List ℕ)) → says line ≡ true → Replied line frame old new → FrameSent makes frame v w before now → LinesDone makes (unless_empty line) v w old new before now
@@ -81,27 +81,45 @@ one_done makes v w line frame old new before now some replied sent =
     let P : List (Option (List ℕ)) → Type 0 = λ l. LinesDone makes l v w old new before now in
     subst P (sym (said line some)) (record { frames = frame ∷ []; replied = replied_one old new line frame replied; text = sent.0; made = made_one makes v w (line ∷ []) frame sent.0 sent.1; sent = sent.2 })
 
-one_part : {S F : Type 0} (makes : Makes S F) (v w : S) (line : Option (List ℕ)) (frame : Frame) (old new : State) (before now : Option (List ℕ)) → says line ≡ true → Replied line frame old new → FramePart makes frame v w before now → LinesPart makes (unless_empty line) v w old new before now
-one_part makes v w line frame old new before now some replied part =
-    let P : List (Option (List ℕ)) → Type 0 = λ l. LinesPart makes l v w old new before now in
-    subst P (sym (said line some)) (record { frames = frame ∷ []; replied = replied_one old new line frame replied; text = part.0; made = made_one makes v w (line ∷ []) frame part.0 part.1; sent = part.2 })
-
-one_fails : {S F : Type 0} (makes : Makes S F) (v w : S) (line : Option (List ℕ)) (frame : Frame) (old new : State) (before now : Option (List ℕ)) (e : F) → says line ≡ true → Replied line frame old new → (now ≡ before) × makes v frame (Err e) w → LinesFail makes (unless_empty line) v w old new before now e
-one_fails makes v w line frame old new before now e some replied fails =
-    let P : List (Option (List ℕ)) → Type 0 = λ l. LinesFail makes l v w old new before now e in
-    subst P (sym (said line some)) (record { frame = frame; later = []; replied = replied_one old new line frame replied; unsent = fails.0; fails = fails.1 })
+one_cut : {S F : Type 0} (makes : Makes S F) (v w : S) (line : Option (List ℕ)) (frame : Frame) (old new : State) (before now : Option (List ℕ)) (end : AnswerEnd F) → says line ≡ true → Replied line frame old new → FrameStops makes frame v w before now end → LinesCut makes (unless_empty line) v w old new before now end
+one_cut makes v w line frame old new before now end some replied stops =
+    let P : List (Option (List ℕ)) → Type 0 = λ l. LinesCut makes l v w old new before now end in
+    subst P (sym (said line some)) (record {
+      front = [];
+      rest = line ∷ [];
+      lines_are = refl;
+      between = old;
+      last = v;
+      sent = before;
+      done = record { frames = []; replied = refl; text = []; made = (refl, refl); sent = sent_none before };
+      frame = frame;
+      later = [];
+      replied = replied_one old new line frame replied;
+      stops = stops;
+    })
 
 one_next : {S F : Type 0} (makes : Makes S F) (v : S) (line : Option (List ℕ)) (frame : Frame) (old after : State) (from : ℕ) (image : Image) (count : ℕ) → says line ≡ true → Replied line frame old after → StandsForBook image old.total after.book → ReplySent makes v frame from count → LinesMoments makes v (unless_empty line) old from image count
 one_next makes v line frame old after from image count some replied stands sent =
     let P : List (Option (List ℕ)) → Type 0 = λ l. LinesMoments makes v l old from image count in
+    let all = replied_one old after line frame replied in
     subst P (sym (said line some)) (inr (record {
+      front = line ∷ [];
+      rest = [];
+      lines_are = refl;
       frames = frame ∷ [];
       after = after;
-      replied = replied_one old after line frame replied;
+      replied = all;
       stands = stands;
       sent = elim sent [
         | inl none ↦ inl none
-        | inr bytes ↦ inr (bytes.0, bytes.1, made_one makes v bytes.1 (line ∷ []) frame bytes.0 bytes.2, bytes.3, bytes.4)
+        | inr bytes ↦ inr (
+          record { front = line ∷ []; rest = []; lines_are = refl; shown = frame ∷ []; later = []; frames_are = refl; state = after; replied = all },
+          bytes.0,
+          bytes.1,
+          made_one makes v bytes.1 (line ∷ []) frame bytes.0 bytes.2,
+          bytes.3,
+          bytes.4,
+        )
       ];
     }))
 
@@ -125,15 +143,15 @@ stops_at : {S F : Type 0} (makes : Makes S F) (v w : S) (line : Option (List ℕ
     → StandsAfter first.total image sessions (λ new. Replied line frame first new) → (end : AnswerEnd F) → FrameStops makes frame v w before later end → LinesStop makes (unless_empty line) v w first image sessions before later end
 stops_at makes v w line frame first image sessions before later some after (Serve ReadFault) why = absurd why
 stops_at makes v w line frame first image sessions before later some after (Serve SendFault) why =
-    stands_on first.total image image sessions sessions (λ new. Replied line frame first new) (λ new. LinesPart makes (unless_empty line) v w first new before later) refl refl
-    (λ new is. one_part makes v w line frame first new before later some is why) after
+    stands_on first.total image image sessions sessions (λ new. Replied line frame first new) (λ new. LinesCut makes (unless_empty line) v w first new before later (Serve SendFault)) refl refl
+    (λ new is. one_cut makes v w line frame first new before later (Serve SendFault) some is why) after
 stops_at makes v w line frame first image sessions before later some after (Serve DiskFault) why = absurd why
 stops_at makes v w line frame first image sessions before later some after (Serve (Damaged page)) why = absurd why
 stops_at makes v w line frame first image sessions before later some after (Serve InputTooLong) why = absurd why
 stops_at makes v w line frame first image sessions before later some after (Serve NoMemory) why = absurd why
 stops_at makes v w line frame first image sessions before later some after (Reply e) why =
-    stands_on first.total image image sessions sessions (λ new. Replied line frame first new) (λ new. LinesFail makes (unless_empty line) v w first new before later e) refl refl
-    (λ new is. one_fails makes v w line frame first new before later e some is why) after
+    stands_on first.total image image sessions sessions (λ new. Replied line frame first new) (λ new. LinesCut makes (unless_empty line) v w first new before later (Reply e)) refl refl
+    (λ new is. one_cut makes v w line frame first new before later (Reply e) some is why) after
 
 pub answer_stops : {S F T : Type 0} (makes : Makes S F) (v w : S) (r : Result T (AnswerEnd F)) (line : Option (List ℕ)) (frame : Frame) (first : State) (image image' : Image) (sessions sessions' : List Session) (before now later : Option (List ℕ)) → says line ≡ true
     → StandsAfter first.total image sessions (λ new. Replied line frame first new) → image' ≡ image → sessions' ≡ sessions → now ≡ before → IfErr r (FrameStops makes frame v w now later)
@@ -152,7 +170,7 @@ step_stops makes v lines total book own sessions told old new before now step.Di
 step_stops makes v lines total book own sessions told old new before now (step.Damaged page) is stands same outside unchanged = elim outside [ inl e ↦ cc | inr e ↦ cc ]
 step_stops makes v lines total book own sessions told old new before now step.NoMemory is stands same outside unchanged =
     let I : Image → Type 0 = λ i. StandsForBook i total book in
-    record { book = book; stands = subst I (sym (unchanged.image is)) stands; so = (same, (refl, refl)) }
+    record { book = book; stands = subst I (sym (unchanged.image is)) stands; so = (same, inl (refl, refl)) }
 
 -- ---- what a crash leaves
 

@@ -4,7 +4,6 @@ use Rattle.block_disk.specs.Streams.{left_after}
 use Rattle.block_disk.specs.View.{Image, View, Now, Only, Passes, sent_now}
 use Rattle.chart_world.specs.declared.line_answer.LineFault.{LineFault}
 use Rattle.chart_world.specs.declared.line_answer.LineFault.TheVariants as fault
-use Rattle.chart_world.specs.Fronts.{Gives}
 use Rattle.chart_world.specs.LineLaws.{told_so}
 use Rattle.chart_world.specs.Reading.{Reading, unread_input, unread, told_lines, input_length, NoLineIn}
 use Rattle.series_book.specs.declared.one_series.Series.{Series}
@@ -13,7 +12,7 @@ use Rattle.zoom_session.specs.declared.session.Session.{Session}
 use Rattle.chart_service.specs.Answering.{EndsAt, EndsAnswers}
 use Rattle.chart_service.specs.Making.{Makes, AreMade, AreMadeFrom, LinesDone, LinesStopAt, LinesStop, LinesMoments}
 use Rattle.chart_service.specs.Moments.{IsAhead, Since, Through}
-use Rattle.chart_service.specs.Serving.{SendsText, SendsLines, unless_empty, end_of}
+use Rattle.chart_service.specs.Serving.{SendsText, SendsLines, most_ahead, end_of}
 use Rattle.chart_service.specs.State.{State}
 use Rattle.chart_service.specs.Stepping.{StandsAfter, state_of}
 use Rattle.chart_service.specs.MomentLaws.{since_none, since_then, through_by, through_so}
@@ -22,7 +21,7 @@ use Rattle.chart_service.specs.declared.failure.AnswerEnd.TheVariants.{Serve, Re
 use Rattle.chart_service.specs.declared.failure.ServeEnd.TheVariants.{ReadFault, SendFault, DiskFault, Damaged, InputTooLong, NoMemory}
 use Rattle.chart_service.proofs.Made.{line_done, lines_fault, line_stops, no_memory}
 use Rattle.chart_service.proofs.Moments.{sent_is, at_rest, at_line}
-use Rattle.chart_service.proofs.Progress.{Progress, starts, end_at, first_at}
+use Rattle.chart_service.proofs.Progress.{Progress, PassesLines, starts, end_at, first_at}
 use Rattle.chart_service.proofs.Sending.{stands_on}
 
 -- from the book at its start, of an input that may be told
@@ -49,12 +48,12 @@ module _ {S F : Type 0} (makes : Makes S F) (v : S) (o : Option (List ℕ)) (tot
       subst N (sym same_now) (stands_on total image image' sessions sessions' (Far w r left now) (Far w r left now) same same_sessions (λ s is. is) far)
 
   -- behind an answered line; later calls may not have taken more
-  pub far_line : (w w' : S) (r r' : Reading) (left left' left'' now later : Option (List ℕ)) (line : Option (List ℕ)) (image image' : Image) (sessions sessions' : List Session) → Gives r r' left left' line → left'' ≡ left'
-      → (far : IsFar w r left now image sessions) → StandsAfter total image' sessions' (λ new. LinesDone makes (unless_empty line) w w' (state_of far.book total sessions) new now later) → IsFar w' r' left'' later image' sessions'
-  far_line w w' r r' left left' left'' now later line image image' sessions sessions' given same far after =
+  pub far_line : (w w' : S) (r r' : Reading) (left left' left'' now later : Option (List ℕ)) (all : List (Option (List ℕ))) (image image' : Image) (sessions sessions' : List Session) → PassesLines r r' left left' all → length all ≤ most_ahead → left'' ≡ left'
+      → (far : IsFar w r left now image sessions) → StandsAfter total image' sessions' (λ new. LinesDone makes all w w' (state_of far.book total sessions) new now later) → IsFar w' r' left'' later image' sessions'
+  far_line w w' r r' left left' left'' now later all image image' sessions sessions' given few same far after =
       let L : Option (List ℕ) → Type 0 = λ l. IsFar w' r' l later image' sessions' in
-      subst L (sym same) (stands_on total image' image' sessions' sessions' (λ new. LinesDone makes (unless_empty line) w w' (state_of far.book total sessions) new now later) (Far w' r' left' later) refl refl
-      (λ new is. line_done makes o r r' left left' first (state_of far.book total sessions) new v w w' before now later line given is far.so) after)
+      subst L (sym same) (stands_on total image' image' sessions' sessions' (λ new. LinesDone makes all w w' (state_of far.book total sessions) new now later) (Far w' r' left' later) refl refl
+      (λ new is. line_done makes o r r' left left' first (state_of far.book total sessions) new v w w' before now later all given few is far.so) after)
 
   -- ---- how the answering ends
 
@@ -106,20 +105,20 @@ module _ {S F : Type 0} (makes : Makes S F) (v : S) (o : Option (List ℕ)) (tot
         subst N (sym same) (told_so (λ input. Progress (AreMade makes v w) input (unread r left) r.given first here before now) (λ input. SendsLines (AreMade makes v w) input first before now) o
         (λ input p. record { rest = p.rest; between = here; first = first_at (AreMade makes v w) input first here before now (unread r left) r.given p }) far.so)
 
-    stops_at : (line : Option (List ℕ)) (end : AnswerEnd F) → Gives r r' left left' line → StandsAfter total image' sessions' (λ new. LinesStopAt makes (unless_empty line) w w' here new now later end)
+    stops_at : (all : List (Option (List ℕ))) (end : AnswerEnd F) → PassesLines r r' left left' all → length all ≤ most_ahead → StandsAfter total image' sessions' (λ new. LinesStopAt makes all w w' here new now later end)
         → StandsAfter total image' sessions' (λ new. IfSome o (λ input. EndsAt makes v w' input first new left' before later end))
-    stops_at line end given why =
-        stands_on total image' image' sessions' sessions' (λ new. LinesStopAt makes (unless_empty line) w w' here new now later end) (λ new. IfSome o (λ input. EndsAt makes v w' input first new left' before later end)) refl refl
-        (λ new is. line_stops makes o r r' left left' first here new v w w' before now later line given end is far.so) why
+    stops_at all end given few why =
+        stands_on total image' image' sessions' sessions' (λ new. LinesStopAt makes all w w' here new now later end) (λ new. IfSome o (λ input. EndsAt makes v w' input first new left' before later end)) refl refl
+        (λ new is. line_stops makes o r r' left left' first here new v w w' before now later all given few end is far.so) why
 
-    pub ends_line : (line : Option (List ℕ)) (end : AnswerEnd F) → Gives r r' left left' line → LinesStop makes (unless_empty line) w w' here image' sessions' now later end → EndsAnswers makes v w' o first image' sessions' left' before later end
-    ends_line line (Serve ReadFault) given why = stops_at line (Serve ReadFault) given why
-    ends_line line (Serve SendFault) given why = stops_at line (Serve SendFault) given why
-    ends_line line (Serve DiskFault) given why = (w, lines_sent why)
-    ends_line line (Serve (Damaged page)) given why = absurd why
-    ends_line line (Serve InputTooLong) given why = stops_at line (Serve InputTooLong) given why
-    ends_line line (Serve NoMemory) given why = stops_at line (Serve NoMemory) given why
-    ends_line line (Reply e) given why = stops_at line (Reply e) given why
+    pub ends_line : (all : List (Option (List ℕ))) (end : AnswerEnd F) → PassesLines r r' left left' all → length all ≤ most_ahead → LinesStop makes all w w' here image' sessions' now later end → EndsAnswers makes v w' o first image' sessions' left' before later end
+    ends_line all (Serve ReadFault) given few why = stops_at all (Serve ReadFault) given few why
+    ends_line all (Serve SendFault) given few why = stops_at all (Serve SendFault) given few why
+    ends_line all (Serve DiskFault) given few why = (w, lines_sent why)
+    ends_line all (Serve (Damaged page)) given few why = absurd why
+    ends_line all (Serve InputTooLong) given few why = stops_at all (Serve InputTooLong) given few why
+    ends_line all (Serve NoMemory) given few why = stops_at all (Serve NoMemory) given few why
+    ends_line all (Reply e) given few why = stops_at all (Reply e) given few why
 
   -- ---- what a crash leaves
 
@@ -154,15 +153,16 @@ lasts_take makes v w (Some input) (Some bytes) now total book own sessions old m
     (subst B (sym (only image left_by)) far.stands) (same ∙ sent)))
 
 -- behind a line
-pub lasts_line : {S F : Type 0} (makes : Makes S F) (v w : S) (o before now : Option (List ℕ)) (total : ℕ) (book : List Series) (own sessions : List Session) (old mid new : View) (r r' : Reading) (left left' line : Option (List ℕ)) → (far : IsFar makes v o total book own before w r left now mid.image sessions)
-    → IfSome before (λ bytes. sent_now old ≡ length bytes) → IfSome now (λ bytes. sent_now mid ≡ length bytes) → Gives r r' left left' line
-    → Through mid new (LinesMoments makes w (unless_empty line) (state_of far.book total sessions) (sent_now mid)) → Lasts makes v o total book own before old mid → Lasts makes v o total book own before old new
-lasts_line makes v w None before now total book own sessions old mid new r r' left left' line far counts counts_now given through lasts = tt
-lasts_line makes v w (Some input) None now total book own sessions old mid new r r' left left' line far counts counts_now given through lasts = tt
-lasts_line makes v w (Some input) (Some bytes) now total book own sessions old mid new r r' left left' line far counts counts_now given through lasts =
+pub lasts_line : {S F : Type 0} (makes : Makes S F) (v w : S) (o before now : Option (List ℕ)) (total : ℕ) (book : List Series) (own sessions : List Session) (old mid new : View) (r r' : Reading) (left left' : Option (List ℕ)) (all : List (Option (List ℕ))) → (far : IsFar makes v o total book own before w r left now mid.image sessions)
+    → IfSome before (λ bytes. sent_now old ≡ length bytes) → IfSome now (λ bytes. sent_now mid ≡ length bytes) → PassesLines r r' left left' all → length all ≤ most_ahead
+    → IfSome now (λ bytes. Through mid new (LinesMoments makes w all (state_of far.book total sessions) (sent_now mid))) → Lasts makes v o total book own before old mid → Lasts makes v o total book own before old new
+lasts_line makes v w None before now total book own sessions old mid new r r' left left' all far counts counts_now given few through lasts = tt
+lasts_line makes v w (Some input) None now total book own sessions old mid new r r' left left' all far counts counts_now given few through lasts = tt
+lasts_line makes v w (Some input) (Some bytes) now total book own sessions old mid new r r' left left' all far counts counts_now given few through lasts =
     let p = far.so in
     let IsSo : Image → ℕ → Type 0 = IsAhead (AreMadeFrom makes v) input total (state_of book total own) (sent_now old) in
     let sent = sent_is bytes p.text now (sent_now old) (sent_now mid) counts p.sent counts_now in
+    let T : Option (List ℕ) → Type 0 = λ o. IfSome o (λ bytes. Through mid new (LinesMoments makes w all (state_of far.book total sessions) (sent_now mid))) in
     since_then old mid new IsSo lasts
-    (through_so mid new (LinesMoments makes w (unless_empty line) (state_of far.book total sessions) (sent_now mid)) IsSo
-    (λ image count is. at_line makes v w input r r' left left' total (sent_now old) (state_of book total own) (state_of far.book total sessions) (Some bytes) now p refl line given image count (sent_now mid) sent is) through)
+    (through_so mid new (LinesMoments makes w all (state_of far.book total sessions) (sent_now mid)) IsSo
+    (λ image count is. at_line makes v w input r r' left left' total (sent_now old) (state_of book total own) (state_of far.book total sessions) (Some bytes) now p refl all given few image count (sent_now mid) sent is) (subst T p.sent through))

@@ -19,7 +19,12 @@ use Rattle.std.proofs.lemmas.Option.{slice_get_within}
 use Rattle.catalog_page.specs.Entries.{Entry}
 use Rattle.page_space.specs.Layout.{Keeps}
 use Rattle.series_catalog.specs.Catalogs.{AreAsTold}
+use Rattle.series_store.specs.Groups.{GroupMoves, IsGroupCause}
+use Rattle.series_store.specs.Results.{IsUnchangedFor as StoreUnchanged}
+use Rattle.series_store.specs.declared.errors.StoreError.{StoreError}
+use Rattle.series_store.specs.declared.errors.StoreError.TheVariants as store
 use Rattle.stored_book.specs.Damage.{IsDamagedOnWay, IsDamagedOnce, IsBadForRequest}
+use Rattle.chart_service.specs.EditGroups.{group_end}
 use Rattle.stored_book.specs.Records.{tree_of}
 use Rattle.stored_book.specs.Standing.{StandsForBook}
 use Rattle.tree_walk.specs.Paths.{IsDamaged}
@@ -137,6 +142,16 @@ pub edit_bad : (r : Result Frame ServiceError) (edit : Edit) (told told' : Type 
     → IfErr r (λ error. IsStepCause (EditRequest edit) error told catalog s old new) → IfErr r (NamesBad told' new.size new.image)
 edit_bad (Ok frame) edit told told' catalog s old new own steps kept cause = tt
 edit_bad (Err error) edit told told' catalog s old new own steps kept cause = edit_bad_error error edit told told' catalog s old new own steps kept cause
+
+-- the same of edits that are done together
+pub group_bad : (error : StoreError) (end : ServiceError) (told told' : Type 0) (catalog : List StoredSeries) (s : Superblock) (old new : View) → end ≡ group_end error → AreOwn told old s catalog → GroupMoves told told' old new → StoreUnchanged error told old new → IsGroupCause error told s old new → NamesBad told' new.size new.image end
+group_bad (store.Refused refusal) end told told' catalog s old new is own moves kept cause = absurd cause
+group_bad store.NotAStore end told told' catalog s old new is own moves kept cause = absurd cause
+group_bad store.DiskFault end told told' catalog s old new is own moves kept cause = let P : ServiceError → Type 0 = NamesBad told' new.size new.image in subst P (sym is) tt
+group_bad (store.Damaged page) end told told' catalog s old new is own moves kept cause =
+    let P : ServiceError → Type 0 = NamesBad told' new.size new.image in
+    subst P (sym is) (bad_on told told' old new page moves.was_told kept.image moves.size (once_bad told old s catalog page own cause.0 cause.1))
+group_bad store.NoMemory end told told' catalog s old new is own moves kept cause = let P : ServiceError → Type 0 = NamesBad told' new.size new.image in subst P (sym is) tt
 
 -- ---- lines
 

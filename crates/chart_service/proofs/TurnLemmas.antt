@@ -1,25 +1,29 @@
 -- How many blocks the lines of an input have read so far.
-use Rattle.std.proofs.Common.{◌≡◌, ◌⊎◌, ◌≤◌, ℕ, List, [], ◌∷◌, ◌++◌, length, Option, None, Some, Result, Ok, Err, IfSome, refl, sym, subst, inl, inr, ◌∙◌}
+use Rattle.std.proofs.lemmas.Bool.{cases_lt}
+use Rattle.std.proofs.Common.{◌≡◌, ◌⊎◌, ◌≤◌, ◌+◌, ◌*◌, arith, ℕ, List, [], ◌∷◌, ◌++◌, length, Option, None, Some, Result, Ok, Err, IfSome, refl, sym, subst, inl, inr, ◌∙◌}
 use Rattle.std.specs.Prelude.{true, ⊤}
 use Rattle.std.specs.List.{filter, after_first}
 use Rattle.block_disk.specs.View.{Image}
 use Rattle.chart_world.specs.Lines.{is_line_feed, lines}
-use Rattle.chart_world.specs.LineLaws.{lines_none, piece_line, said, told_more, told_so}
-use Rattle.chart_world.specs.Fronts.{says, BeginsWith, Gives, first_piece}
+use Rattle.chart_world.specs.LineLaws.{lines_none, said, told_so}
+use Rattle.chart_world.specs.Fronts.{says, BeginsWith, Gives}
 use Rattle.chart_world.specs.FrontLaws.{passes}
 use Rattle.chart_world.specs.Reading.{Reading, unread, unread_input}
 use Rattle.chart_frames.specs.declared.frame.Frame.{Frame}
 use Rattle.request_lines.specs.declared.requests.Request.{Request}
 use Rattle.request_lines.specs.Requests.{read_line}
+use Rattle.series_book.specs.declared.edits.Edit.{Edit}
 use Rattle.series_book.specs.declared.one_series.Series.{Series}
 use Rattle.stored_book.specs.Standing.{StandsForBook}
 use Rattle.zoom_session.specs.declared.session.Session.{Session}
+use Rattle.chart_service.specs.EditGroups.{SpellsEdit, SpellEdits}
 use Rattle.chart_service.specs.Making.{Makes, LinesDone}
-use Rattle.chart_service.specs.ReadingBlocks.{ReadsRead, ReadsLine, ReadsFirst, ReadsInTurn, ReadsLines}
+use Rattle.chart_service.specs.ReadingBlocks.{ReadsRead, ReadsLine, ReadsFirst, ReadsInTurn, ReadsAhead, ReadsLines}
 use Rattle.chart_service.specs.Replies.{line_text}
-use Rattle.chart_service.specs.Serving.{told, unless_empty, RepliesToAll}
+use Rattle.chart_service.specs.Serving.{told, most_ahead, unless_empty, RepliesToAll}
 use Rattle.chart_service.specs.State.{State}
 use Rattle.chart_service.specs.Stepping.{StandsAfter, ReadsFew, state_of}
+use Rattle.chart_service.proofs.Progress.{PassesLines}
 use Rattle.chart_service.proofs.ReadLemmas.{reads_none}
 use Rattle.chart_service.proofs.Sending.{stands_on, text_is}
 
@@ -72,8 +76,31 @@ turn old new (l ∷ []) (f ∷ []) from to few replied reads = (replied.0, to, r
 turn old new (l ∷ []) (f ∷ (g ∷ fs)) from to few replied reads = absurd replied.2
 turn old new (l ∷ (k ∷ ls)) (f ∷ fs) from to few replied reads = absurd (cc (few))
 
-in_turn : (old new : State) (line : Option (List ℕ)) (frames : List Frame) (from to : ℕ) → RepliesToAll old (unless_empty line) frames new → ReadsFirst (unless_empty line) old from to → ReadsInTurn old (unless_empty line) frames new from to
-in_turn old new line frames from to replied reads = turn old new (unless_empty line) frames from to (few_lines line) replied reads
+-- lines read what they may, however they are answered
+abbrev pub ReadsTurn : List (Option (List ℕ)) → State → ℕ → ℕ → Type 0
+ReadsTurn all state from to = (frames : List Frame) (new : State) → RepliesToAll state all frames new → ReadsInTurn state all frames new from to
+
+pub one_turn : (line : Option (List ℕ)) (state : State) (from to : ℕ) → ReadsFirst (unless_empty line) state from to → ReadsTurn (unless_empty line) state from to
+one_turn line state from to reads frames new replied = turn state new (unless_empty line) frames from to (few_lines line) replied reads
+
+spelled_reads : (line : Option (List ℕ)) (edit : Edit) (state : State) (from to : ℕ) → SpellsEdit line edit → to ≤ from + 96 → ReadsLine line state from to
+spelled_reads None edit state from to spells most = absurd spells
+spelled_reads (Some []) edit state from to spells most = absurd spells
+spelled_reads (Some (b ∷ bs)) edit state from to spells most =
+    let R : Result Request ℕ → Type 0 = λ r. ReadsRead r state from to in
+    subst R (sym spells) most
+
+-- edits read at most 96 blocks each
+pub edits_turn : (all : List (Option (List ℕ))) (edits : List Edit) (state : State) (from to : ℕ) → SpellEdits all edits → from ≤ to → to ≤ from + 96 * length edits → ReadsTurn all state from to
+edits_turn [] [] state from to spells low high [] new replied = (replied, omega (arith, low, high))
+edits_turn [] [] state from to spells low high (f ∷ fs) new replied = absurd replied
+edits_turn [] (e ∷ es) state from to spells low high frames new replied = absurd spells
+edits_turn (l ∷ ls) [] state from to spells low high frames new replied = absurd spells
+edits_turn (l ∷ ls) (e ∷ es) state from to spells low high [] new replied = absurd replied
+edits_turn (l ∷ ls) (e ∷ es) state from to spells low high (f ∷ fs) new replied = elim (cases_lt (from + 96) to) [
+  | inl more ↦ (replied.0, from + 96, replied.1, spelled_reads l e state from (from + 96) spells.0 (omega arith), edits_turn ls es replied.0 (from + 96) to spells.1 (omega (arith, more)) (omega (arith, high)) fs new replied.2)
+  | inr most ↦ (replied.0, to, replied.1, spelled_reads l e state from to spells.0 most, edits_turn ls es replied.0 to to spells.1 (omega arith) (omega arith) fs new replied.2)
+]
 
 turns_joined : (old between new : State) (lines more : List (Option (List ℕ))) (frames answers : List Frame) (from count to : ℕ) → ReadsInTurn old lines frames between from count → ReadsInTurn between more answers new count to → ReadsInTurn old (lines ++ more) (frames ++ answers) new from to
 turns_joined old between new [] more [] answers from count to first next =
@@ -128,34 +155,56 @@ module _ (o : Option (List ℕ)) (total : ℕ) (book : List Series) (own : List 
       let N : ℕ → Type 0 = λ n. HasRead r left image' sessions' n in
       subst N (sym same_count) (stands_on total image image' sessions sessions' (FarIn r left count) (FarIn r left count) same same_sessions (λ s is. is) far)
 
-  -- a line is given
-  module _ (r r' : Reading) (left left' : Option (List ℕ)) (line : Option (List ℕ)) (count to : ℕ) (given : Gives r r' left left' line) where
-    line_at : (input : List ℕ) (state new : State) (frames : List Frame) → RepliesToAll state (unless_empty line) frames new → ReadsFirst (unless_empty line) state count to
+  -- lines are given
+  module _ (r r' : Reading) (left left' : Option (List ℕ)) (all : List (Option (List ℕ))) (count to : ℕ) (given : PassesLines r r' left left' all) where
+    line_at : (input : List ℕ) (state new : State) (frames : List Frame) → RepliesToAll state all frames new → ReadsTurn all state count to
         → ReadsSoFar input (unread r left) r.given first state from count → ReadsSoFar input (unread r' left') r'.given first new from to
     line_at input state new frames replied reads p =
-        let q = passes input p.front p.rest r r' left left' line p.told_rest p.counted p.begins given in
+        let q = given input p.front p.rest p.told_rest p.counted p.begins in
         let P : List (Option (List ℕ)) → Type 0 = λ l. ReadsInTurn first l (p.frames ++ frames) new from to in
         record {
-          rest = after_first is_line_feed p.rest;
+          rest = q.later;
           told_rest = q.told_rest;
-          front = p.front ++ first_piece p.rest;
+          front = p.front ++ q.piece;
           begins = q.begins;
           counted = q.counted;
           frames = p.frames ++ frames;
-          answered = subst P (sym (told_more p.front (first_piece p.rest) line q.whole (piece_line p.rest line q.lines_are)))
-              (turns_joined first state new (told p.front) (unless_empty line) p.frames frames from count to p.answered (in_turn state new line frames count to replied reads));
+          answered = subst P (sym q.told_all) (turns_joined first state new (told p.front) all p.frames frames from count to p.answered (reads frames new replied));
         }
 
-    -- behind it; later calls may not have taken more
+    -- behind them; later calls may not have taken more
     pub read_line_done : {S F : Type 0} (makes : Makes S F) (w w' : S) (left'' now later : Option (List ℕ)) (image image' : Image) (sessions sessions' : List Session) → left'' ≡ left' → (far : HasRead r left image sessions count)
-        → ReadsFirst (unless_empty line) (state_of far.book total sessions) count to → StandsAfter total image' sessions' (λ new. LinesDone makes (unless_empty line) w w' (state_of far.book total sessions) new now later) → HasRead r' left'' image' sessions' to
+        → ReadsTurn all (state_of far.book total sessions) count to → StandsAfter total image' sessions' (λ new. LinesDone makes all w w' (state_of far.book total sessions) new now later) → HasRead r' left'' image' sessions' to
     read_line_done makes w w' left'' now later image image' sessions sessions' same far reads after =
         let L : Option (List ℕ) → Type 0 = λ l. HasRead r' l image' sessions' to in
         let here = state_of far.book total sessions in
-        subst L (sym same) (stands_on total image' image' sessions' sessions' (λ new. LinesDone makes (unless_empty line) w w' here new now later) (FarIn r' left' to) refl refl
+        subst L (sym same) (stands_on total image' image' sessions' sessions' (λ new. LinesDone makes all w w' here new now later) (FarIn r' left' to) refl refl
         (λ new is. told_so (λ input. ReadsSoFar input (unread r left) r.given first here from count) (λ input. ReadsSoFar input (unread r' left') r'.given first new from to) o
         (λ input. line_at input here new is.frames is.replied reads) far.so) after)
 
+    ahead_at : (input : List ℕ) (state : State) (edits : List Edit) → SpellEdits all edits → length edits ≤ most_ahead → to ≤ count + 96 * length edits → ReadsSoFar input (unread r left) r.given first state from count → ReadsLines input first from to
+    ahead_at input state edits spells few most p =
+        let q = given input p.front p.rest p.told_rest p.counted p.begins in
+        let E : List (Option (List ℕ)) → Type 0 = λ l. SpellEdits l edits in
+        record {
+          front = p.front;
+          rest = p.rest;
+          begins = p.begins;
+          frames = p.frames;
+          between = state;
+          count = count;
+          answered = p.answered;
+          last = inr (inr (record { front = q.piece; rest = q.later; begins = q.here; edits = edits; spells = subst E (sym q.told_piece) spells; few = few; most = most }));
+        }
+
+    -- edits weren't answered
+    pub read_edits_stop : (image : Image) (sessions : List Session) (edits : List Edit) → (far : HasRead r left image sessions count) → SpellEdits all edits → length edits ≤ most_ahead → to ≤ count + 96 * length edits → IfSome o (λ input. ReadsLines input first from to)
+    read_edits_stop image sessions edits far spells few most =
+        told_so (λ input. ReadsSoFar input (unread r left) r.given first (state_of far.book total sessions) from count) (λ input. ReadsLines input first from to) o
+        (λ input. ahead_at input (state_of far.book total sessions) edits spells few most) far.so
+
+  -- a line is given
+  module _ (r r' : Reading) (left left' : Option (List ℕ)) (line : Option (List ℕ)) (count to : ℕ) (given : Gives r r' left left' line) where
     last_at : (input : List ℕ) (state : State) → ReadsFirst (unless_empty line) state count to → ReadsSoFar input (unread r left) r.given first state from count → ReadsLines input first from to
     last_at input state reads p =
         let q = passes input p.front p.rest r r' left left' line p.told_rest p.counted p.begins given in
@@ -171,10 +220,10 @@ module _ (o : Option (List ℕ)) (total : ℕ) (book : List Series) (own : List 
         }
       where
         by : (l : Option (List ℕ)) → lines p.rest ≡ l ∷ lines (after_first is_line_feed p.rest) → ReadsFirst (unless_empty l) state count to
-            → (to ≡ count) ⊎ ((line : Option (List ℕ)) × (later : List (Option (List ℕ))) × (lines p.rest ≡ line ∷ later) × ReadsLine line state count to)
+            → (to ≡ count) ⊎ (((line : Option (List ℕ)) × (later : List (Option (List ℕ))) × (lines p.rest ≡ line ∷ later) × ReadsLine line state count to) ⊎ ReadsAhead p.rest count to)
         by None is reads = inl reads
         by (Some []) is reads = inl reads
-        by (Some (b ∷ bs)) is reads = inr (Some (b ∷ bs), lines (after_first is_line_feed p.rest), is, reads)
+        by (Some (b ∷ bs)) is reads = inr (inl (Some (b ∷ bs), lines (after_first is_line_feed p.rest), is, reads))
 
     -- it wasn't answered
     pub read_line_stops : (image : Image) (sessions : List Session) → (far : HasRead r left image sessions count) → ReadsFirst (unless_empty line) (state_of far.book total sessions) count to → IfSome o (λ input. ReadsLines input first from to)

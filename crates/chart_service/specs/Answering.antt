@@ -1,5 +1,5 @@
 -- How the lines of an input are answered, by a service over a store.
-use Rattle.std.specs.Prelude.{◌≡◌, ℕ, List, ◌∷◌, Option, Err, IfSome}
+use Rattle.std.specs.Prelude.{◌≡◌, ℕ, List, ◌∷◌, length, Option, Err, IfSome}
 use Rattle.block_disk.specs.View.{Image, sent_now}
 use Rattle.gate_pages.specs.declared.pages.Pages.{Ghosts}
 use Rattle.chart_frames.specs.declared.frame.Frame.{Frame}
@@ -30,7 +30,7 @@ pub record ReplyFails {S F : Type 0} (makes : Makes S F) (kept kept' : S) (input
   pub between : State
   pub last : S
   pub first : SendsFirst (AreMade makes kept last) input rest old between before now
-  pub next : AnswersNext rest between new
+  pub next : AnswersNext (length first.front) rest between new
   pub frame : Frame
   pub later : List Frame
   pub is_first : next.frames ≡ frame ∷ later

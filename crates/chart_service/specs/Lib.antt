@@ -13,6 +13,7 @@ pub mod SentLaws
 pub mod ReadingBlocks
 pub mod Making
 pub mod Spelled
+pub mod EditGroups
 pub mod Knowing
 pub mod Answering
 pub mod Telling

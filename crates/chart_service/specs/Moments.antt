@@ -6,7 +6,7 @@ use Rattle.gate_pages.specs.Pages.{GoesOn}
 use Rattle.chart_frames.specs.declared.frame.Frame.{Frame}
 use Rattle.stored_book.specs.Standing.{StandsForBook}
 use Rattle.chart_service.specs.State.{State}
-use Rattle.chart_service.specs.Serving.{Answers, AnswersNext, told}
+use Rattle.chart_service.specs.Serving.{Answers, AnswersNext, FirstOf, told}
 
 -- Time goes on from old to new. At each moment since, an image that a crash may leave and the number of bytes sent by
 -- then are so.
@@ -20,20 +20,21 @@ pub record Through (old new : View) (IsSo : Image → ℕ → Type 0) : Type 0 w
   pub goes : GoesOn old new
   pub here : (at : ℕ) (image : Image) → old.clock < at → at ≤ new.clock → new.crash at image → IsSo image (new.sent_by at)
 
--- no more bytes were sent than the text of the lines and the replies to the next ones, whose frames are these
-pub record SendsReply (IsText : List (Option (List ℕ)) → List Frame → List ℕ → Type 0) (lines : List (Option (List ℕ))) (frames : List Frame) (text : List ℕ) (ahead : List (Option (List ℕ))) (answers : List Frame) (from count : ℕ) : Type 0 where
+-- no more bytes were sent than the text of the lines and the replies to the first of those done ahead from a state on
+pub record SendsReply (IsText : List (Option (List ℕ)) → List Frame → List ℕ → Type 0) (lines : List (Option (List ℕ))) (frames : List Frame) (text : List ℕ) (between : State) (ahead : List (Option (List ℕ))) (answers : List Frame) (from count : ℕ) : Type 0 where
+  pub first : FirstOf between ahead answers
   pub reply : List ℕ
-  pub texts : IsText (lines ++ ahead) (frames ++ answers) (text ++ reply)
+  pub texts : IsText (lines ++ first.front) (frames ++ first.shown) (text ++ reply)
   pub low : from + length text ≤ count
   pub high : count ≤ from + length text + length reply
 
 -- The lines behind the first ones, whose text was sent, are done ahead, and the image stands for the book after them. Of
--- their replies nothing was sent, or a part, or all of it.
-pub record DoesNext (IsText : List (Option (List ℕ)) → List Frame → List ℕ → Type 0) (lines : List (Option (List ℕ))) (frames : List Frame) (text rest : List ℕ) (total : ℕ) (between : State) (from : ℕ) (image : Image) (count : ℕ) : Type 0 where
+-- the replies to the first of them nothing was sent, or a part, or all of it; to the others nothing was.
+pub record DoesNext (IsText : List (Option (List ℕ)) → List Frame → List ℕ → Type 0) (given : ℕ) (lines : List (Option (List ℕ))) (frames : List Frame) (text rest : List ℕ) (total : ℕ) (between : State) (from : ℕ) (image : Image) (count : ℕ) : Type 0 where
   pub after : State
-  pub next : AnswersNext rest between after
+  pub next : AnswersNext given rest between after
   pub stands : StandsForBook image total after.book
-  pub sent : (count ≡ from + length text) ⊎ SendsReply IsText lines frames text (told next.front) next.frames from count
+  pub sent : (count ≡ from + length text) ⊎ SendsReply IsText lines frames text between (told next.front) next.frames from count
 
 -- The text for some first lines was sent, after so many bytes. The image stands for the book that they leave, and no
 -- byte more was sent; or lines behind them are done ahead, the image stands for the book after those, and at most their
@@ -47,4 +48,4 @@ pub record IsAhead (IsText : List (Option (List ℕ)) → List Frame → List �
   pub answers : Answers IsText front text old between
   pub total_is : between.total ≡ total
   pub state : (StandsForBook image total between.book × (count ≡ from + length text))
-      ⊎ DoesNext IsText (told front) answers.frames text rest total between from image count
+      ⊎ DoesNext IsText (length front) (told front) answers.frames text rest total between from image count

@@ -1,5 +1,5 @@
 -- What is sent for the lines of an input: the frames that answer those that aren't empty, as a text.
-use Rattle.std.specs.Prelude.{◌≡◌, ℕ, ◌-◌, ◌^◌, ◌<◌, ◌≤◌, ◌⊎◌, List, [], ◌∷◌, ◌++◌, length, take, flat_map, Option, IfSome, ⊤}
+use Rattle.std.specs.Prelude.{◌≡◌, ℕ, ◌+◌, ◌-◌, ◌^◌, ◌<◌, ◌≤◌, ◌⊎◌, List, [], ◌∷◌, ◌++◌, length, take, flat_map, Option, IfSome, ⊤}
 use Rattle.std.specs.List.{filter}
 use Rattle.block_disk.specs.Streams.{sent_after}
 use Rattle.block_disk.specs.View.{Image, View, DiskKept}
@@ -29,7 +29,7 @@ told input = filter says (lines input)
 
 -- how many lines at most may be done before the first of them is answered
 abbrev pub most_ahead : ℕ
-most_ahead = 1
+most_ahead = 64
 
 -- What lines do, one after the other: by which frames they are answered, and to which state. Of this the loop that
 -- answers lines knows that no lines do nothing, and that lines behind others do what both do.
@@ -56,20 +56,10 @@ pub record SendsText (IsText : List (Option (List ℕ)) → List Frame → List 
 pub record SendsFirst (IsText : List (Option (List ℕ)) → List Frame → List ℕ → Type 0) (input rest : List ℕ) (old new : State) (before now : Option (List ℕ)) : Type 0 where
   pub front : List ℕ
   pub begins : BeginsWith input front rest
+  pub early : length front ≤ 2 ^ 32
   pub text : List ℕ
   pub answers : Answers IsText front text old new
   pub sent : now ≡ sent_after text before
-
--- the first bytes of the text for the first lines were sent
-pub record SendsFrontOf (IsText : List (Option (List ℕ)) → List Frame → List ℕ → Type 0) (input : List ℕ) (old new : State) (before now : Option (List ℕ)) : Type 0 where
-  pub front : List ℕ
-  pub rest : List ℕ
-  pub begins : BeginsWith input front rest
-  pub text : List ℕ
-  pub answers : Answers IsText front text old new
-  pub count : ℕ
-  pub within : count ≤ length text
-  pub sent : now ≡ sent_after (take count text) before
 
 -- all lines that ended among the bytes taken were answered, and these bytes are left
 pub record SendsTaken (IsText : List (Option (List ℕ)) → List Frame → List ℕ → Type 0) (input before_left : List ℕ) (old new : State) (before now : Option (List ℕ)) : Type 0 where
@@ -91,11 +81,13 @@ pub record SendsWithin (IsText : List (Option (List ℕ)) → List Frame → Lis
 abbrev pub KeepsBook : State → State → Type 0
 KeepsBook old new = (new.book ≡ old.book) × (new.total ≡ old.total)
 
--- some first lines of these bytes are answered: one that isn't empty at least, and no more than may be done ahead
-pub record AnswersNext (bytes : List ℕ) (old new : State) : Type 0 where
+-- Some first lines of these bytes, before which so many stand, are answered: one that isn't empty at least, and no more
+-- than may be done ahead.
+pub record AnswersNext (given : ℕ) (bytes : List ℕ) (old new : State) : Type 0 where
   pub front : List ℕ
   pub rest : List ℕ
   pub begins : BeginsWith bytes front rest
+  pub early : given + length front ≤ 2 ^ 32
   pub some : 1 ≤ length (told front)
   pub few : length (told front) ≤ most_ahead
   pub frames : List Frame
@@ -107,7 +99,22 @@ pub record SendsSome (IsText : List (Option (List ℕ)) → List Frame → List 
   pub rest : List ℕ
   pub between : State
   pub first : SendsFirst IsText input rest old between before now
-  pub state : KeepsBook between new ⊎ AnswersNext rest between new
+  pub state : KeepsBook between new ⊎ AnswersNext (length first.front) rest between new
+
+-- The first bytes of the text for the first lines were sent. This stands behind those, or behind more lines that were done
+-- ahead, for which nothing was sent.
+pub record SendsFrontOf (IsText : List (Option (List ℕ)) → List Frame → List ℕ → Type 0) (input : List ℕ) (old new : State) (before now : Option (List ℕ)) : Type 0 where
+  pub front : List ℕ
+  pub rest : List ℕ
+  pub begins : BeginsWith input front rest
+  pub early : length front ≤ 2 ^ 32
+  pub text : List ℕ
+  pub between : State
+  pub answers : Answers IsText front text old between
+  pub count : ℕ
+  pub within : count ≤ length text
+  pub sent : now ≡ sent_after (take count text) before
+  pub state : (new ≡ between) ⊎ AnswersNext (length front) rest between new
 
 -- the text of frames is their spellings, one after the other
 abbrev pub AreSpelled : List (Option (List ℕ)) → List Frame → List ℕ → Type 0
@@ -141,6 +148,17 @@ EndsAtBad told count image DiskFault = ⊤
 EndsAtBad told count image (Damaged page) = IsBadPage told count image page
 EndsAtBad told count image InputTooLong = ⊤
 EndsAtBad told count image NoMemory = ⊤
+
+-- some first of the lines are done, and the frames that answer those
+pub record FirstOf (old : State) (lines : List (Option (List ℕ))) (frames : List Frame) : Type 0 where
+  pub front : List (Option (List ℕ))
+  pub rest : List (Option (List ℕ))
+  pub lines_are : lines ≡ front ++ rest
+  pub shown : List Frame
+  pub later : List Frame
+  pub frames_are : frames ≡ shown ++ later
+  pub state : State
+  pub replied : RepliesToAll old front shown state
 
 -- what a serving moves, whatever the pages are
 pub record Serves (told_old told_new : Type 0) (old new : View) : Type 0 where

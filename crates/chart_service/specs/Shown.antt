@@ -9,7 +9,7 @@ use Rattle.series_book.specs.declared.one_series.Series.{Series}
 use Rattle.series_catalog.specs.declared.stored_series.StoredSeries.{StoredSeries}
 use Rattle.series_store.specs.Shown as store
 use Rattle.chart_service.specs.State.{State}
-use Rattle.chart_service.specs.Stepping.{StandsAfter, IsBeforeOrAfter, state_of}
+use Rattle.chart_service.specs.Stepping.{StandsAfter, IsBeforeOrAfter, GroupSteps, state_of}
 use Rattle.chart_service.specs.Holding.{KeepsSessions}
 use Rattle.chart_service.specs.HoldingLaws.{sessions_none, sessions_then, sessions_so}
 use Rattle.chart_service.specs.declared.service.Service.{Service}
@@ -60,6 +60,14 @@ module _ {P : Type 0} {g : Ghosts P} where
   -- at each moment a crash leaves the book from before, or one that an answer leaves
   abbrev pub PassesBy : (Frame → State → State → Type 0) → ℕ → List Series → Service P g → Service P g → Type 0
   PassesBy Reply total book old new = Passes (view old) (view new) (IsBeforeOrAfter Reply total book old.sessions) (Quiet (view old))
+
+  -- at each moment a crash leaves one of these images
+  abbrev pub PassesTo : (Image → Type 0) → Service P g → Service P g → Type 0
+  PassesTo IsSo old new = Passes (view old) (view new) IsSo (Quiet (view old))
+
+  -- edits move this, whatever the pages are
+  abbrev pub MovesSo : Service P g → Service P g → Type 0
+  MovesSo old new = GroupSteps (IsTold old) (IsTold new) (view old) (view new)
 
   -- the pages change so, and all else stays
   abbrev pub Keeps : Type 0 → Service P g → Service P g → Type 0

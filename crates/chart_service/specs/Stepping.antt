@@ -126,6 +126,17 @@ pub record Steps (told_old told_new : Type 0) (old new : View) : Type 0 where
   pub syncs : Rises 4 old.syncs new.syncs
   pub writes : Rises 83 old.writes new.writes
 
+-- and what edits move that are done together
+pub record GroupSteps (told_old told_new : Type 0) (old new : View) : Type 0 where
+  pub told : told_old → told_new
+  pub was_told : told_new → told_old
+  pub size : new.size ≡ old.size
+  pub beside : new.beside ≡ old.beside
+  pub faults : old.faults ≤ new.faults
+  pub reads : old.reads ≤ new.reads
+  pub syncs : old.syncs ≤ new.syncs
+  pub writes : old.writes ≤ new.writes
+
 -- the series of this id, if there is one
 abbrev pub series_at : List Series → Option ℕ → Option Series
 series_at book None = None

@@ -53,18 +53,21 @@ text_told T U input old new before now tells s = record { text = s.text; answers
 
 abbrev pub first_told : (T U : Telling) (input rest : List ℕ) (old new : State) (before now : Option (List ℕ)) → Tells old T U → SendsFirst T input rest old new before now → SendsFirst U input rest old new before now
 first_told T U input rest old new before now tells s =
-    record { front = s.front; begins = s.begins; text = s.text; answers = answers_told T U s.front s.text old new tells s.answers; sent = s.sent }
+    record { front = s.front; begins = s.begins; early = s.early; text = s.text; answers = answers_told T U s.front s.text old new tells s.answers; sent = s.sent }
 
 pub front_told : (T U : Telling) (input : List ℕ) (old new : State) (before now : Option (List ℕ)) → Tells old T U → SendsFrontOf T input old new before now → SendsFrontOf U input old new before now
 front_told T U input old new before now tells s = record {
   front = s.front;
   rest = s.rest;
   begins = s.begins;
+  early = s.early;
   text = s.text;
-  answers = answers_told T U s.front s.text old new tells s.answers;
+  between = s.between;
+  answers = answers_told T U s.front s.text old s.between tells s.answers;
   count = s.count;
   within = s.within;
   sent = s.sent;
+  state = s.state;
 }
 
 pub taken_told : (T U : Telling) (input bytes : List ℕ) (old new : State) (before now : Option (List ℕ)) → Tells old T U → SendsTaken T input bytes old new before now → SendsTaken U input bytes old new before now
@@ -102,9 +105,10 @@ ahead_told T U input total start from image count tells a = record {
       sent = elim next.sent [
         | inl none ↦ inl none
         | inr some ↦ inr (record {
+          first = some.first;
           reply = some.reply;
-          texts = tells (told a.front ++ told next.next.front) (a.answers.frames ++ next.next.frames) (a.text ++ some.reply) next.after
-              (replies_joined start a.between next.after (told a.front) (told next.next.front) a.answers.frames next.next.frames a.answers.replied next.next.replied) some.texts;
+          texts = tells (told a.front ++ some.first.front) (a.answers.frames ++ some.first.shown) (a.text ++ some.reply) some.first.state
+              (replies_joined start a.between some.first.state (told a.front) some.first.front a.answers.frames some.first.shown a.answers.replied some.first.replied) some.texts;
           low = some.low;
           high = some.high;
         })

@@ -1,17 +1,20 @@
 //! The lines of a service's streams are answered.
-ghost use Rattle.std.specs.Prelude.{◌≡◌, ◌≢◌, ◌≤◌, ◌^◌, ℕ, Bool, List, Some, None, length, IfErr, IfSome, OnOk};
+ghost use Rattle.std.specs.Prelude.{◌≡◌, ◌≢◌, ◌≤◌, ◌<◌, ◌+◌, ◌*◌, ◌^◌, ℕ, Bool, List, All, Some, None, length, IfErr, IfSome, OnOk};
 ghost use Rattle.block_disk.specs.Counts.{HasRisen};
 ghost use Rattle.block_disk.specs.View.{Now, Only};
 ghost use Rattle.chart_frames.specs.Frames.{Fits};
 ghost use Rattle.gate_pages.specs.Pages.{GoesOn};
+ghost use Rattle.series_book.specs.Edits.{IsEdit};
 ghost use Rattle.chart_service.specs.Answering.{SendsAll, EndsBy, LastsBy, ReadsByLines, EndsAtBad, AnswersOn, StopsOn, LeavesBy};
 ghost use Rattle.chart_service.specs.Knowing.{Follows, KnowsOpen, EndsKnown};
-ghost use Rattle.chart_service.specs.Making.{AreMade, AreMadeFrom, FrameSent, FrameStops, IsReplyEnd, FrameMoments};
+ghost use Rattle.chart_service.specs.EditGroups.{IsEditReply, SpelledBy};
+ghost use Rattle.chart_service.specs.Making.{AreMade, AreMadeFrom, FrameSent, FrameStops, FramesCut, FramesMoments, FramesSent, IsReplyEnd, FrameMoments};
 ghost use Rattle.chart_service.specs.ReadingBlocks.{ReadsFirst};
-ghost use Rattle.chart_service.specs.Serving.{KeepsPages, Serves, unless_empty};
+ghost use Rattle.chart_service.specs.Serving.{KeepsPages, Serves, most_ahead, unless_empty};
 ghost use Rattle.chart_service.specs.Shown as shown;
 
 use crate::failure::{AnswerEnd, ServeEnd};
+use crate::gathering::edits_ready;
 use crate::refusals::refused;
 use crate::replying::Reply;
 use crate::service::Service;
@@ -19,11 +22,14 @@ use block_disk::Streams;
 use chart_frames::Frame;
 use chart_world::{LineAnswer, Lines};
 use gate_pages::PageWorld;
-use series_book::Refusal;
+use series_book::{Edit, Refusal};
 
 /// Answers each line of the input that isn't empty, in order, by sending the bytes that `reply` makes of
 /// its frame. A line of more than 8,192 bytes is refused as too long. After `Ok` the input was read to its
 /// end.
+///
+/// Consecutive edits whose lines stand ready are done together, up to 64, and then answered; nothing is
+/// taken from the input before.
 pub fn answer_lines<P: PageWorld, S, F, R: Reply<S, F>>(
     service: &mut Service<P>,
     reply: &R,
@@ -33,7 +39,7 @@ pub fn answer_lines<P: PageWorld, S, F, R: Reply<S, F>>(
     ensures done { shown.ForBook service.old (λ total book. OnOk result (SendsAll P.left P.sent (AreMade R.makes kept.old kept.new) total book service.old service.new)) }
     ensures within { OnOk result (IfSome (P.left (shown.pages service.old)) (λ input. length input ≤ 2 ^ 32)) }
     ensures ends { shown.ForBook service.old (λ total book. IfErr result (EndsBy P.left P.sent R.makes kept.old kept.new total book service.old service.new)) }
-    // at each moment a crash leaves a book with each edit whose bytes were sent by then, and at most one edit more
+    // at each moment a crash leaves a book with each edit whose bytes were sent by then, and at most 64 edits more
     ensures crash { shown.ForBook service.old (λ total book. LastsBy P.left P.sent (AreMadeFrom R.makes kept.old) total book service.old service.new) }
     // blocks are read for lines alone, for each as few as its request may read
     ensures reads { shown.ForBook service.old (λ total book. ReadsByLines P.left total book service.old service.new) }
@@ -55,8 +61,78 @@ pub fn answer_lines<P: PageWorld, S, F, R: Reply<S, F>>(
         match lines.next(service)? {
             LineAnswer::End => return Ok(()),
             LineAnswer::TooLong => answer_long_line(service, reply, kept)?,
-            LineAnswer::Line => answer_line(service, lines.line(), reply, kept)?,
+            LineAnswer::Line => match edits_ready(service.alloc, &mut lines)? {
+                Some(edits) => answer_edits(service, edits.as_slice(), reply, kept)?,
+                None => answer_line(service, lines.line(), reply, kept)?,
+            },
         }
+    }
+}
+
+/// Answers the lines that spell these edits: does the edits, and then sends their replies one by one.
+fn answer_edits<P: PageWorld, S, F, R: Reply<S, F>>(
+    service: &mut Service<P>,
+    edits: &[Edit],
+    reply: &R,
+    kept: &mut S,
+) -> Result<(), AnswerEnd<F>>
+    requires sound { (shown.view service.old).fit }
+    requires some { 0 < length edits.now }
+    requires few { length edits.now ≤ most_ahead }
+    requires are_edits { All IsEdit edits.now }
+    ensures done { SpelledBy edits.now (λ lines. shown.ForBook service.old (λ total book. OnOk result (AnswersOn P.sent R.makes lines kept.old kept.new total book service.old service.new))) }
+    ensures stops { SpelledBy edits.now (λ lines. shown.ForBook service.old (λ total book. IfErr result (StopsOn P.sent R.makes lines kept.old kept.new total book service.old service.new))) }
+    ensures moments { SpelledBy edits.now (λ lines. shown.ForBook service.old (λ total book. IfSome (P.sent (shown.pages service.old)) (λ _. LeavesBy R.makes kept.old lines total book service.old service.new))) }
+    ensures reads { shown.ForBook service.old (λ total book. (shown.view service.new).reads ≤ (shown.view service.old).reads + 96 * length edits.now) }
+    ensures rises { (shown.view service.old).reads ≤ (shown.view service.new).reads }
+    ensures known { (knows : S → ℕ → Bool) → Follows R.makes knows → KnowsOpen knows kept.old service.old.sessions → OnOk result (KnowsOpen knows kept.new service.new.sessions) }
+    ensures named { (knows : S → ℕ → Bool) → Follows R.makes knows → KnowsOpen knows kept.old service.old.sessions → IfErr result (EndsKnown R.makes knows) }
+    ensures send { result ≡ Err (AnswerEnd.Serve ServeEnd.SendFault) → HasRisen (P.send_faults (shown.pages service.old)) (P.send_faults (shown.pages service.new)) }
+    ensures disk { result ≡ Err (AnswerEnd.Serve ServeEnd.DiskFault) → HasRisen (shown.view service.old).faults (shown.view service.new).faults }
+    ensures read { result ≢ Err (AnswerEnd.Serve ServeEnd.ReadFault) }
+    ensures bad { IfErr result (EndsAtBad (shown.IsTold service.new) (shown.view service.new).size (shown.image service.new)) }
+    ensures serves { Serves (shown.IsTold service.old) (shown.IsTold service.new) (shown.view service.old) (shown.view service.new) }
+    ensures goes_on { GoesOn (shown.under service.old) (shown.under service.new) }
+    ensures sound { result ≢ Err (AnswerEnd.Serve ServeEnd.DiskFault) → (shown.view service.new).fit }
+    ensures total { shown.total service.new ≡ shown.total service.old }
+    ensures left { P.left (shown.pages service.new) ≡ P.left (shown.pages service.old) }
+    ensures read_faults { P.read_faults (shown.pages service.new) ≡ P.read_faults (shown.pages service.old) }
+    ensures send_faults { P.send_faults (shown.pages service.old) ≤ P.send_faults (shown.pages service.new) }
+{
+    let frames = service.step_edits(edits)?;
+    send_replies(service, frames.as_slice(), reply, kept)
+}
+
+/// Sends the bytes that `reply` makes of the frames that tell what edits gave, one after the other.
+fn send_replies<P: PageWorld, S, F, R: Reply<S, F>>(
+    service: &mut Service<P>,
+    frames: &[Frame],
+    reply: &R,
+    kept: &mut S,
+) -> Result<(), AnswerEnd<F>>
+    requires fits { All Fits frames.now }
+    requires replies { All IsEditReply frames.now }
+    ensures done { OnOk result (FramesSent R.makes frames.now kept.old kept.new (P.sent (shown.pages service.old)) (P.sent (shown.pages service.new))) }
+    ensures stops { IfErr result (FramesCut R.makes frames.now kept.old kept.new (P.sent (shown.pages service.old)) (P.sent (shown.pages service.new))) }
+    // a crash leaves what it might have left before
+    ensures moments { IfSome (P.sent (shown.pages service.old)) (λ _. FramesMoments R.makes kept.old frames.now (shown.view service.old) (shown.view service.new)) }
+    ensures known { (knows : S → ℕ → Bool) → Follows R.makes knows → KnowsOpen knows kept.old service.old.sessions → OnOk result (KnowsOpen knows kept.new service.new.sessions) }
+    ensures named { (knows : S → ℕ → Bool) → Follows R.makes knows → KnowsOpen knows kept.old service.old.sessions → IfErr result (EndsKnown R.makes knows) }
+    ensures ends { IfErr result IsReplyEnd }
+    ensures send { result ≡ Err (AnswerEnd.Serve ServeEnd.SendFault) → HasRisen (P.send_faults (shown.pages service.old)) (P.send_faults (shown.pages service.new)) }
+    ensures keeps { KeepsPages (shown.IsTold service.old) (shown.IsTold service.new) (shown.view service.old) (shown.view service.new) (shown.under service.old) (shown.under service.new) }
+    ensures total { shown.total service.new ≡ shown.total service.old }
+    ensures sessions { service.new.sessions ≡ service.old.sessions }
+    ensures left { P.left (shown.pages service.new) ≡ P.left (shown.pages service.old) }
+    ensures read_faults { P.read_faults (shown.pages service.new) ≡ P.read_faults (shown.pages service.old) }
+    ensures send_faults { P.send_faults (shown.pages service.old) ≤ P.send_faults (shown.pages service.new) }
+{
+    match frames.split_first() {
+        Some((frame, later)) => {
+            send_reply(service, frame, reply, kept)?;
+            send_replies(service, later, reply, kept)
+        }
+        None => Ok(()),
     }
 }
 

@@ -16,7 +16,7 @@ pub enum ServiceError {
     /// This page is damaged.
     #[error("page {page} is damaged")]
     Damaged { page: u32 },
-    /// There was no memory. The book is as it was.
+    /// There was no memory. The book is as it was, or as some first edits left it that were to be done together.
     #[error("out of memory")]
     NoMemory,
 }
@@ -27,7 +27,7 @@ pub enum ServeEnd {
     /// A take failed. Each line that ended before was answered.
     #[error("the input could not be read")]
     ReadFault,
-    /// A send failed. The first bytes of the frames were sent.
+    /// A send failed. The first bytes of the frames were sent, and edits behind them may have been done.
     #[error("the frame could not be sent")]
     SendFault,
     /// A call of the disk failed. The lines before were answered, and the store has to be opened again.
@@ -39,7 +39,7 @@ pub enum ServeEnd {
     /// A byte past 2^32 was taken. Each line that ended before it was answered.
     #[error("the input has more than 2^32 bytes")]
     InputTooLong,
-    /// There was no memory. The lines before were answered.
+    /// There was no memory. The lines before were answered, and edits behind them may have been done.
     #[error("out of memory")]
     NoMemory,
 }
@@ -68,6 +68,17 @@ impl<T: Drop> From<AllocFailed<T>> for NoMemory {
 impl From<zoom_session::NoMemory> for NoMemory {
     fn from(_error: zoom_session::NoMemory) -> NoMemory {
         NoMemory
+    }
+}
+
+impl<T: Drop> From<AllocFailed<T>> for ServiceError {
+    ghost use Rattle.std.specs.Prelude.{◌≡◌};
+    ghost use Rattle.chart_service.specs.declared.failure.ServiceError.TheVariants.{NoMemory};
+
+    ghost from_gives = { λ _ error. error ≡ NoMemory };
+
+    fn from(_error: AllocFailed<T>) -> ServiceError {
+        ServiceError::NoMemory
     }
 }
 
@@ -153,6 +164,18 @@ impl<F> From<chart_world::NoMemory> for AnswerEnd<F> {
     ghost from_gives = { λ _ end. end ≡ Serve NoMemory };
 
     fn from(_error: chart_world::NoMemory) -> AnswerEnd<F> {
+        AnswerEnd::Serve(ServeEnd::NoMemory)
+    }
+}
+
+impl<F> From<NoMemory> for AnswerEnd<F> {
+    ghost use Rattle.std.specs.Prelude.{◌≡◌};
+    ghost use Rattle.chart_service.specs.declared.failure.AnswerEnd.TheVariants.{Serve};
+    ghost use Rattle.chart_service.specs.declared.failure.ServeEnd.TheVariants.{NoMemory};
+
+    ghost from_gives = { λ _ end. end ≡ Serve NoMemory };
+
+    fn from(_error: NoMemory) -> AnswerEnd<F> {
         AnswerEnd::Serve(ServeEnd::NoMemory)
     }
 }

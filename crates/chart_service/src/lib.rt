@@ -23,6 +23,8 @@ mod answers;
 mod edits;
 mod failure;
 mod filters;
+mod gathering;
+mod groups;
 pub mod laws;
 mod looking;
 mod ranges;

@@ -41,7 +41,7 @@ pub fn serve<P: PageWorld>(service: &mut Service<P>) -> Result<(), ServeEnd>
     ensures done { shown.ForBook service.old (λ total book. OnOk result (SendsWhole P.left P.sent AreSpelled total book service.old service.new)) }
     ensures within { OnOk result (IfSome (P.left (shown.pages service.old)) (λ input. length input ≤ 2 ^ 32)) }
     ensures ends { shown.ForBook service.old (λ total book. IfErr result (ServeEndsBy P.left P.sent total book service.old service.new)) }
-    // at each moment a crash leaves a book with each edit whose reply was sent by then, and at most one edit more
+    // at each moment a crash leaves a book with each edit whose reply was sent by then, and at most 64 edits more
     ensures crash { shown.ForBook service.old (λ total book. LastsBy P.left P.sent AreSpelled total book service.old service.new) }
     // blocks are read for lines alone, for each as few as its request may read
     ensures reads { shown.ForBook service.old (λ total book. ReadsByLines P.left total book service.old service.new) }

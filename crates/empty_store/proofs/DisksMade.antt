@@ -10,6 +10,7 @@ use Rattle.gate_pages.specs.Pages.{Quiet, GoesOn}
 use Rattle.gate_pages.proofs.Moving.{nothing_torn, sent_same}
 use Rattle.page_space.specs.declared.superblock.Superblock.{Superblock}
 use Rattle.page_space.specs.Layout.{HasMagic, superblock_page, empty_of}
+use Rattle.empty_store.specs.Kept.{LeavesOld, Stays}
 use Rattle.empty_store.specs.Stores.{IsEmptyStore, BeforeOrNew, LeavesNew, Makes}
 
 -- the images of the moments so far stand as before
@@ -96,6 +97,24 @@ leaves_made n count count' sound sound' old mid new counted same_count honest pa
         | inr early ↦ made.sent_past at early ∙ sent_so old mid (StandsAsBefore n old) passes at low early
       ];
     }
+
+-- An opening, and pages that stay behind it.
+pub kept_made : (n count count' : ℕ) (sound sound' : Bool) (old mid new : View) → count ≡ n → count' ≡ count → Honest old → Passes old mid (StandsAsBefore n old) (Quiet old) → pages_of count mid.image ≡ pages_of count old.image
+    → Stays (pages_view count sound mid) (pages_view count' sound' new) → GoesOn mid new → LeavesOld n old new
+kept_made n count count' sound sound' old mid new counted same_count honest passes same stays goes =
+    let P : ℕ → Type 0 = λ m. Stays (pages_view m sound mid) (pages_view n sound' new) in
+    let Q : ℕ → Type 0 = λ m. Stays (pages_view count sound mid) (pages_view m sound' new) in
+    let S : ℕ → Type 0 = λ m. pages_of m mid.image ≡ pages_of m old.image in
+    let kept = subst P counted (subst Q (same_count ∙ counted) stays) in
+    λ at image low high left. elim (cases_lt mid.clock at) [
+      | inl late ↦ record {
+        from = old.image;
+        was = honest;
+        same = kept.here at (pages_of n image) late high (record { from = image; was = left; same = λ readable. refl }) ∙ subst S counted same;
+        readable = λ any. left_readable n (new.crash at) (pages_of n mid.image) (λ pages found. inl (kept.here at pages late high found)) image left;
+      }
+      | inr early ↦ stood n old mid passes at image low early (goes.past at image early left)
+    ]
 
 -- calls that touch nothing, and what comes after them
 module _ (count reads syncs writes : ℕ) (old mid : View) (quiet : Moves Nowhere reads syncs writes old mid) where

@@ -9,6 +9,7 @@ use Rattle.gate_pages.specs.Pages.{Quiet, BeforeOrAfter, Reads}
 use Rattle.gate_pages.proofs.Moving.{time_then}
 use Rattle.page_space.specs.Firsts.{first_page, first_below, first_pages}
 use Rattle.page_space.specs.Layout.{superblock_page, catalog_page, empty_of}
+use Rattle.empty_store.specs.Kept.{Stays}
 use Rattle.empty_store.specs.Stores.{IsEmptyStore, Makes}
 
 first_at : (count n p : ℕ) → p < n → page_in (first_below count n) p ≡ Some (first_page count p)
@@ -47,11 +48,15 @@ makes_by old new passes =
     ])
     (λ count quiet. quiet) passes
 
--- pages that were read alone
+-- pages that were read alone stay
+pub stays_read : (told told' : Type 0) (old new : View) → Only old.image (Now old) → Reads told told' old new → Stays old new
+stays_read told told' old new only reads =
+    passes_weaker old new (Now old) (λ pages. pages ≡ old.image) (Quiet old) (Quiet old) (λ pages left. only pages left) (λ count quiet. quiet) reads.time
+
 pub makes_read : (told told' : Type 0) (old new : View) → Only old.image (Now old) → Reads told told' old new → Makes old new
 makes_read told told' old new only reads =
-    passes_weaker old new (Now old) (λ pages. (pages ≡ old.image) ⊎ IsEmptyStore old.size pages) (Quiet old) (Quiet old)
-    (λ pages left. inl (only pages left)) (λ count quiet. quiet) reads.time
+    passes_weaker old new (λ pages. pages ≡ old.image) (λ pages. (pages ≡ old.image) ⊎ IsEmptyStore old.size pages) (Quiet old) (Quiet old)
+    (λ pages same. inl same) (λ count quiet. quiet) (stays_read told told' old new only reads)
 
 -- and then more
 pub makes_then : (told told' : Type 0) (old mid new : View) → told → Only old.image (Now old) → Reads told told' old mid → Makes mid new → Makes old new

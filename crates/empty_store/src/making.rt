@@ -4,6 +4,7 @@ ghost use Rattle.block_disk.specs.View.{View, Now, Honest, Only};
 ghost use Rattle.gate_pages.specs.GatePages.{IsBrokenNow, IsClosed};
 ghost use Rattle.gate_pages.specs.Journal.{page_count};
 ghost use Rattle.empty_store.specs.Causes.{Prevents, given, lowered};
+ghost use Rattle.empty_store.specs.Kept.{LeavesOld};
 ghost use Rattle.empty_store.specs.Stores.{HasStore, IsNewStore, KeepsPages, LeavesNew};
 
 use crate::errors::InitCause;
@@ -28,6 +29,9 @@ pub fn make_store<D: Disk>(alloc: Global, disk: D) -> Result<D, Back<D, InitCaus
     ensures rests { IfOk result (λ made. Only (D.view made).image (Now (D.view made))) }
     // a crash at any moment leaves the pages from before, or the store
     ensures moments { Honest (D.view disk) → LeavesNew (page_count (D.view disk).size) (D.view disk) (D.view (given result)) }
+    // a store that is there stays at each moment
+    ensures kept { Honest (D.view disk) → HasStore (page_count (D.view disk).size) (D.view disk).image → LeavesOld (page_count (D.view disk).size) (D.view disk) (D.view (given result)) }
+    ensures honest { Honest (D.view disk) → Honest (D.view (given result)) }
     ensures beside { (D.view (given result)).beside ≡ (D.view disk).beside }
 {
     match GatePages::open(alloc, disk) {
@@ -60,6 +64,7 @@ fn make_anew<D: Disk>(alloc: Global, disk: D) -> Result<D, Back<D, InitCause>>
     ensures store { IfOk result (λ made. Honest (D.view disk) → IsNewStore (page_count (D.view disk).size) (D.view made).image) }
     ensures rests { IfOk result (λ made. Only (D.view made).image (Now (D.view made))) }
     ensures moments { Honest (D.view disk) → LeavesNew (page_count (D.view disk).size) (D.view disk) (D.view (given result)) }
+    ensures honest { Honest (D.view disk) → Honest (D.view (given result)) }
     ensures beside { (D.view (given result)).beside ≡ (D.view disk).beside }
 {
     match GatePages::format(alloc, disk) {

@@ -4,6 +4,7 @@ ghost use Rattle.block_disk.specs.View.{View};
 ghost use Rattle.gate_pages.specs.Pages.{GoesOn};
 ghost use Rattle.page_space.specs.Layout.{HasMagic};
 ghost use Rattle.empty_store.specs.Causes.{PreventsPages, given};
+ghost use Rattle.empty_store.specs.Kept.{Stays};
 ghost use Rattle.empty_store.specs.Stores.{IsEmptyStore, Makes};
 
 use crate::errors::InitCause;
@@ -20,6 +21,7 @@ pub(crate) fn make_pages<P: Pages>(alloc: Global, pages: P) -> Result<P, Back<P,
     ensures no_memory { IfErr result (λ back. back.cause ≡ InitCause.NoMemory → P.told pages → (P.view back.value).image ≡ (P.view pages).image) }
     ensures fresh { IfOk result (λ made. P.told pages → HasMagic ((P.view pages).image 0) → ⊥) }
     ensures makes { P.told pages → Makes (P.view pages) (P.view (given result)) }
+    ensures kept { P.told pages → HasMagic ((P.view pages).image 0) → Stays (P.view pages) (P.view (given result)) }
     ensures told { P.told pages → P.told (given result) }
     ensures goes_on { GoesOn (P.under pages) (P.under (given result)) }
     ensures store { IfOk result (λ made. P.told pages → IsEmptyStore (P.view pages).size (P.view made).image) }

@@ -74,3 +74,14 @@ frames-preserved g c =
       read_faults = made.read_faults ∙ inv.read_faults;
       disk = stays_then (view c.args.streams.now) (view c.frames.streams) (view c.draw_frame.new.streams) inv.disk made.disk;
     }
+
+pub returns-in-None-clause-disk : goal.returns-in-None-clause-disk
+returns-in-None-clause-disk g c = c.frames.invariant.disk
+
+pub returns-in_err-frame-clause-disk : goal.returns-in_err-frame-clause-disk
+returns-in_err-frame-clause-disk g c = c.frames.invariant.disk
+
+pub returns-in_err-draw_frame-in-Some-clause-disk : goal.returns-in_err-draw_frame-in-Some-clause-disk
+returns-in_err-draw_frame-in-Some-clause-disk g c =
+    let view = g.S.Disk.view in
+    stays_then (view c.args.streams.now) (view c.frames.streams) (view c.draw_frame.new.streams) c.frames.invariant.disk c.in_err-draw_frame-in-Some.ensures.disk

@@ -103,3 +103,41 @@ pieces-preserved g c =
           (stays_then (view c.args.streams.now) (view c.pieces.streams) (view c.take_piece.new.streams) inv.disk
           (stays_by (view c.pieces.streams) (view c.take_piece.new.streams) (λ count. count ≡ sent_now (view c.pieces.streams)) (g.met.S.World.take_keeps c.pieces.streams c.take_piece.new.streams taken.beside) (g.met.S.World.take_passes c.pieces.streams c.take_piece.new.streams taken.beside))) made.disk;
     }
+
+pub returns-in_err-count-clause-disk : goal.returns-in_err-count-clause-disk
+returns-in_err-count-clause-disk g c =
+    let view = g.S.Disk.view in
+    let at = c.pieces.streams in
+    let mid = c.take_piece.new.streams in
+    let beside = c.in_err-count.ensures.beside in
+    stays_then (view c.args.streams.now) (view at) (view mid) c.pieces.invariant.disk
+    (stays_by (view at) (view mid) (λ count. count ≡ sent_now (view at)) (g.met.S.World.take_keeps at mid beside) (g.met.S.World.take_passes at mid beside))
+
+pub returns-then-count-eq0-clause-disk : goal.returns-then-count-eq0-clause-disk
+returns-then-count-eq0-clause-disk g c =
+    let view = g.S.Disk.view in
+    let at = c.pieces.streams in
+    let mid = c.take_piece.new.streams in
+    let beside = c.in_ok-count.ensures.beside in
+    stays_then (view c.args.streams.now) (view at) (view mid) c.pieces.invariant.disk
+    (stays_by (view at) (view mid) (λ count. count ≡ sent_now (view at)) (g.met.S.World.take_keeps at mid beside) (g.met.S.World.take_passes at mid beside))
+
+pub returns-in_err-draw_piece-clause-disk : goal.returns-in_err-draw_piece-clause-disk
+returns-in_err-draw_piece-clause-disk g c =
+    let view = g.S.Disk.view in
+    let at = c.pieces.streams in
+    let mid = c.take_piece.new.streams in
+    let beside = c.in_ok-count.ensures.beside in
+    stays_then (view c.args.streams.now) (view mid) (view c.draw_piece.new.streams)
+    (stays_then (view c.args.streams.now) (view at) (view mid) c.pieces.invariant.disk
+    (stays_by (view at) (view mid) (λ count. count ≡ sent_now (view at)) (g.met.S.World.take_keeps at mid beside) (g.met.S.World.take_passes at mid beside))) c.in_err-draw_piece.ensures.disk
+
+pub returns-then-count-room-clause-disk : goal.returns-then-count-room-clause-disk
+returns-then-count-room-clause-disk g c =
+    let view = g.S.Disk.view in
+    let at = c.pieces.streams in
+    let mid = c.take_piece.new.streams in
+    let beside = c.in_ok-count.ensures.beside in
+    stays_then (view c.args.streams.now) (view mid) (view c.draw_piece.new.streams)
+    (stays_then (view c.args.streams.now) (view at) (view mid) c.pieces.invariant.disk
+    (stays_by (view at) (view mid) (λ count. count ≡ sent_now (view at)) (g.met.S.World.take_keeps at mid beside) (g.met.S.World.take_passes at mid beside))) c.in_ok-draw_piece.ensures.disk

@@ -1,4 +1,4 @@
-use Rattle.std.proofs.Common.{◌≡◌, ◌≢◌, Result, Err, IfSome, refl, sym, ap, ◌∙◌}
+use Rattle.std.proofs.Common.{◌≡◌, ◌≢◌, ◌≤◌, Result, Err, IfSome, refl, sym, ap, ◌∙◌}
 use Rattle.chart_service.proofs.Sending.{error_goes}
 use Rattle.chart_service.proofs.Ends.{error_is}
 use Rattle.chart_program.specs.declared.input.InputEnd.{InputEnd}
@@ -6,6 +6,8 @@ use Rattle.chart_program.specs.declared.plot.PlotEnd.{PlotEnd}
 use Rattle.chart_program.specs.declared.plot.PlotEnd.TheVariants.{Input, SendFault}
 use Rattle.chart_program.specs.Plotted.{EndsPlot}
 use Rattle.chart_service.proofs.Ends.{on_err}
+use Rattle.block_disk.specs.View.{sent_now}
+use Rattle.chart_program.proofs.DiskKept.{stays_by, stays_then}
 use Rattle.chart_program.proofs.plot.plot.Goals as goal
 
 input_is : {T : Type 0} {e f : InputEnd} → ◌≡◌ {A = Result T PlotEnd} (Err (Input e)) (Err (Input f)) → e ≡ f
@@ -67,3 +69,43 @@ returns-clause-ends g c = tt
 
 pub returns-clause-unsent : goal.returns-clause-unsent
 returns-clause-unsent g c = tt
+
+pub returns-in_err-slots-clause-disk : goal.returns-in_err-slots-clause-disk
+returns-in_err-slots-clause-disk g c =
+    let view = g.S.Disk.view in
+    let old = c.args.streams.now in
+    let mid = c.read_slots.new.from in
+    let beside = c.read_slots.ensures.beside in
+    stays_by (view old) (view mid) (λ count. count ≡ sent_now (view old)) (g.met.S.World.take_keeps old mid beside) (g.met.S.World.take_passes old mid beside)
+
+pub returns-in_err-bytes-clause-disk : goal.returns-in_err-bytes-clause-disk
+returns-in_err-bytes-clause-disk g c =
+    let view = g.S.Disk.view in
+    let old = c.args.streams.now in
+    let mid = c.read_slots.new.from in
+    let beside = c.read_slots.ensures.beside in
+    stays_by (view old) (view mid) (λ count. count ≡ sent_now (view old)) (g.met.S.World.take_keeps old mid beside) (g.met.S.World.take_passes old mid beside)
+
+pub returns-then-is_err-clause-disk : goal.returns-then-is_err-clause-disk
+returns-then-is_err-clause-disk g c =
+    let view = g.S.Disk.view in
+    let old = c.args.streams.now in
+    let mid = c.read_slots.new.from in
+    let new = c.send.new.self in
+    let taken = c.read_slots.ensures.beside in
+    let sent = c.send.ensures.beside in
+    stays_then (view old) (view mid) (view new)
+    (stays_by (view old) (view mid) (λ count. count ≡ sent_now (view old)) (g.met.S.World.take_keeps old mid taken) (g.met.S.World.take_passes old mid taken))
+    (stays_by (view mid) (view new) (λ count. (sent_now (view mid) ≤ count) × (count ≤ sent_now (view new))) (g.met.S.World.send_keeps _ mid new sent) (g.met.S.World.send_passes _ mid new sent))
+
+pub returns-clause-disk : goal.returns-clause-disk
+returns-clause-disk g c =
+    let view = g.S.Disk.view in
+    let old = c.args.streams.now in
+    let mid = c.read_slots.new.from in
+    let new = c.send.new.self in
+    let taken = c.read_slots.ensures.beside in
+    let sent = c.send.ensures.beside in
+    stays_then (view old) (view mid) (view new)
+    (stays_by (view old) (view mid) (λ count. count ≡ sent_now (view old)) (g.met.S.World.take_keeps old mid taken) (g.met.S.World.take_passes old mid taken))
+    (stays_by (view mid) (view new) (λ count. (sent_now (view mid) ≤ count) × (count ≤ sent_now (view new))) (g.met.S.World.send_keeps _ mid new sent) (g.met.S.World.send_passes _ mid new sent))

@@ -1,21 +1,28 @@
-use Rattle.std.proofs.Common.{ℕ, ◌≤◌, ◌^◌, None, Some, Ok, Err, IsTrue, length, refl, ap, sym, subst, ◌∙◌, arith}
+use Rattle.std.proofs.Common.{ℕ, ◌≡◌, ◌≤◌, ◌^◌, ◌∷◌, List, Option, None, Some, Ok, Err, IfNone, IfSome, IsTrue, Vec, Global, length, refl, ap, sym, subst, ◌∙◌, arith}
 use Rattle.chart_world.specs.FrontLaws.{read_whole, same_line}
 use Rattle.chart_world.specs.Fronts.{Gives}
+use Rattle.chart_world.specs.Lines.{lines}
 use Rattle.chart_world.specs.Reading.{Reading, unread, unread_input, input_length}
 use Rattle.gate_pages.specs.GateLaws.{goes_none, goes_then}
 use Rattle.page_space.specs.declared.superblock.Superblock.{Superblock}
+use Rattle.series_book.specs.declared.edits.Edit.{Edit}
 use Rattle.chart_service.specs.Answering.{EndsAnswers, EndsAtBad}
+use Rattle.chart_service.specs.EditGroups.{IsGroupOf}
 use Rattle.chart_service.specs.Knowing.{EndsKnown}
 use Rattle.chart_service.specs.Making.{IsReplyEnd}
-use Rattle.chart_service.specs.Serving.{end_of}
+use Rattle.chart_service.specs.Serving.{end_of, most_ahead, unless_empty}
 use Rattle.chart_service.specs.Shown as shown
 use Rattle.chart_service.specs.Stepping.{state_of}
 use Rattle.chart_service.specs.declared.failure.AnswerEnd.TheVariants.{Serve}
 use Rattle.chart_service.specs.declared.failure.ServeEnd.TheVariants.{NoMemory}
 use Rattle.chart_service.proofs.DiskKept.{serves_none, serves_then, serves_kept as serves_disk, risen_since}
 use Rattle.chart_service.proofs.Ends.{differ, end_is, error_is, on_err, fault_read, fault_unsent, fault_disk, fault_bad, reply_bad}
+use Rattle.chart_service.proofs.GatherLemmas.{group_passed, spelled_length}
+use Rattle.chart_service.proofs.GroupReplies.{if_told}
 use Rattle.chart_service.proofs.Known.{known_kept}
-use Rattle.chart_service.proofs.TurnLemmas.{read_first, read_kept, read_line_done, read_line_stops, read_all}
+use Rattle.chart_service.proofs.Made.{no_memory}
+use Rattle.chart_service.proofs.Progress.{few_lines, one_passed}
+use Rattle.chart_service.proofs.TurnLemmas.{one_turn, edits_turn, read_first, read_kept, read_line_done, read_line_stops, read_edits_stop, read_all}
 use Rattle.chart_service.proofs.Sending.{error_goes}
 use Rattle.chart_service.proofs.Stands.{far_first, far_kept, far_line, all_done, ends_same, no_memory_first, ends_lines, ends_line, lasts_first, lasts_take, lasts_line}
 use Rattle.chart_service.proofs.answers.answer_lines.Goals as goal
@@ -177,6 +184,8 @@ lines-preserved-in-Continue-branch-4 g c =
       counted_new = next.given;
       total = next.total;
     } in
+    let passed = one_passed c.lines.lines c.next.new.self (g.P.Streams.left mid) (g.P.Streams.left taken) None gives next.within in
+    let few = few_lines None in
     record {
       usable = next.usable;
       counted = next.given;
@@ -186,15 +195,15 @@ lines-preserved-in-Continue-branch-4 g c =
       far = λ total book told stands.
           let far = far_kept g.R.Reply.makes c.args.kept.now o total book own before c.lines.kept c.lines.lines (g.P.Streams.left mid) (g.P.Streams.sent mid) (g.P.Streams.sent taken) (view mid).image (view taken).image c.lines.service.sessions c.next.new.from.sessions kept.image beside.sessions c.next.ensures.sent (inv.far total book told stands) in
           let told' = g.met.P.PageWorld.take_told mid taken takes (inv.serves.told told) in
-          far_line g.R.Reply.makes c.args.kept.now o total book own before c.lines.kept c.answer_long_line.new.kept c.lines.lines c.next.new.self (g.P.Streams.left mid) (g.P.Streams.left taken) (g.P.Streams.left new) (g.P.Streams.sent taken) (g.P.Streams.sent new) None (view taken).image (view new).image c.next.new.from.sessions c.answer_long_line.new.service.sessions gives made.left far (c.in_ok-answer_long_line-in-TooLong.ensures.done total far.book told' far.stands);
+          far_line g.R.Reply.makes c.args.kept.now o total book own before c.lines.kept c.answer_long_line.new.kept c.lines.lines c.next.new.self (g.P.Streams.left mid) (g.P.Streams.left taken) (g.P.Streams.left new) (g.P.Streams.sent taken) (g.P.Streams.sent new) (unless_empty None) (view taken).image (view new).image c.next.new.from.sessions c.answer_long_line.new.service.sessions passed few made.left far (c.in_ok-answer_long_line-in-TooLong.ensures.done total far.book told' far.stands);
       lasts = λ total book told stands.
           let far = far_kept g.R.Reply.makes c.args.kept.now o total book own before c.lines.kept c.lines.lines (g.P.Streams.left mid) (g.P.Streams.sent mid) (g.P.Streams.sent taken) (view mid).image (view taken).image c.lines.service.sessions c.next.new.from.sessions kept.image beside.sessions c.next.ensures.sent (inv.far total book told stands) in
           let told' = g.met.P.PageWorld.take_told mid taken takes (inv.serves.told told) in
-          lasts_line g.R.Reply.makes c.args.kept.now c.lines.kept o before (g.P.Streams.sent taken) total book own c.next.new.from.sessions (view pages) (view taken) (view new) c.lines.lines c.next.new.self (g.P.Streams.left mid) (g.P.Streams.left taken) None far (g.met.P.PageWorld.counts_sent pages) (g.met.P.PageWorld.counts_sent taken) gives (made.moments total far.book told' far.stands) (lasts_take g.R.Reply.makes c.args.kept.now c.lines.kept o before (g.P.Streams.sent mid) total book own c.lines.service.sessions (view pages) (view mid) (view taken) c.lines.lines (g.P.Streams.left mid) (inv.far total book told stands) (g.met.P.Pages.rests mid inv.fit) (g.met.P.PageWorld.counts_sent pages) (g.met.P.PageWorld.counts_sent mid) (g.met.P.PageWorld.take_passes mid taken takes) (inv.lasts total book told stands));
+          lasts_line g.R.Reply.makes c.args.kept.now c.lines.kept o before (g.P.Streams.sent taken) total book own c.next.new.from.sessions (view pages) (view taken) (view new) c.lines.lines c.next.new.self (g.P.Streams.left mid) (g.P.Streams.left taken) (unless_empty None) far (g.met.P.PageWorld.counts_sent pages) (g.met.P.PageWorld.counts_sent taken) passed few (if_told _ (g.P.Streams.sent taken) (made.moments total far.book told' far.stands)) (lasts_take g.R.Reply.makes c.args.kept.now c.lines.kept o before (g.P.Streams.sent mid) total book own c.lines.service.sessions (view pages) (view mid) (view taken) c.lines.lines (g.P.Streams.left mid) (inv.far total book told stands) (g.met.P.Pages.rests mid inv.fit) (g.met.P.PageWorld.counts_sent pages) (g.met.P.PageWorld.counts_sent mid) (g.met.P.PageWorld.take_passes mid taken takes) (inv.lasts total book told stands));
       reads = λ total book told stands.
           let far = read_kept o total book own (view pages).reads c.lines.lines (g.P.Streams.left mid) (view mid).image (view taken).image c.lines.service.sessions c.next.new.from.sessions (view mid).reads (view taken).reads kept.image beside.sessions kept.reads (inv.reads total book told stands) in
           let told' = g.met.P.PageWorld.take_told mid taken takes (inv.serves.told told) in
-          read_line_done o total book own (view pages).reads c.lines.lines c.next.new.self (g.P.Streams.left mid) (g.P.Streams.left taken) None (view taken).reads (view new).reads gives g.R.Reply.makes c.lines.kept c.answer_long_line.new.kept (g.P.Streams.left new) (g.P.Streams.sent taken) (g.P.Streams.sent new) (view taken).image (view new).image c.next.new.from.sessions c.answer_long_line.new.service.sessions made.left far made.keeps.disk.reads (c.in_ok-answer_long_line-in-TooLong.ensures.done total far.book told' far.stands);
+          read_line_done o total book own (view pages).reads c.lines.lines c.next.new.self (g.P.Streams.left mid) (g.P.Streams.left taken) (unless_empty None) (view taken).reads (view new).reads passed g.R.Reply.makes c.lines.kept c.answer_long_line.new.kept (g.P.Streams.left new) (g.P.Streams.sent taken) (g.P.Streams.sent new) (view taken).image (view new).image c.next.new.from.sessions c.answer_long_line.new.service.sessions made.left far (one_turn None (state_of far.book total c.next.new.from.sessions) (view taken).reads (view new).reads made.keeps.disk.reads) (c.in_ok-answer_long_line-in-TooLong.ensures.done total far.book told' far.stands);
       known = λ knows follows known. c.in_ok-answer_long_line-in-TooLong.ensures.known knows follows (known_kept knows c.lines.kept c.lines.service.sessions c.next.new.from.sessions c.next.ensures.beside.sessions (c.lines.invariant.known knows follows known));
       serves = serves_then (told_in pages) (told_in taken) (told_in new) (view pages) (view taken) (view new) (serves_then (told_in pages) (told_in mid) (told_in taken) (view pages) (view mid) (view taken) inv.serves (serves_disk (told_in mid) (told_in taken) (view mid) (view taken) kept (g.met.P.PageWorld.take_told mid taken takes) (g.met.P.PageWorld.take_was_told mid taken takes))) (serves_disk (told_in taken) (told_in new) (view taken) (view new) made.keeps.disk made.keeps.told made.keeps.was_told);
       goes_on = goes_then (g.P.Pages.under pages) (g.P.Pages.under taken) (g.P.Pages.under new) (goes_then (g.P.Pages.under pages) (g.P.Pages.under mid) (g.P.Pages.under taken) inv.goes_on (g.met.P.PageWorld.take_goes_on mid taken takes)) made.keeps.goes_on;
@@ -226,6 +235,8 @@ returns-in_err-answer_long_line-in-TooLong g c =
       counted_new = next.given;
       total = next.total;
     } in
+    let passed = one_passed c.lines.lines c.next.new.self (g.P.Streams.left mid) (g.P.Streams.left taken) None gives next.within in
+    let few = few_lines None in
     let told_in = g.P.Pages.told in
     let sends = g.P.Streams.send_faults in
     let Low : ℕ → Type 0 = λ n. sends pages ≤ n in
@@ -238,11 +249,11 @@ returns-in_err-answer_long_line-in-TooLong g c =
           let told' = g.met.P.PageWorld.take_told mid taken takes (inv.serves.told told) in
           error_goes (λ end. EndsAnswers g.R.Reply.makes c.args.kept.now c.answer_long_line.new.kept o (state_of book total own) (view new).image c.answer_long_line.new.service.sessions (g.P.Streams.left new) before (g.P.Streams.sent new) end) c.from_residual-in_err-answer_long_line-in-TooLong.result c.in_err-answer_long_line-in-TooLong.field-0.0 c.from_residual-in_err-answer_long_line-in-TooLong.ensures.1
           (ends_same g.R.Reply.makes c.args.kept.now o total book own before c.answer_long_line.new.kept (view new).image c.answer_long_line.new.service.sessions (g.P.Streams.left taken) (g.P.Streams.left new) (g.P.Streams.sent new) (g.P.Streams.sent new) c.in_err-answer_long_line-in-TooLong.field-0.0 c.in_err-answer_long_line-in-TooLong.field-0.0 made.left refl refl
-          (ends_line g.R.Reply.makes c.args.kept.now o total book own before c.lines.kept c.answer_long_line.new.kept c.lines.lines c.next.new.self (g.P.Streams.left mid) (g.P.Streams.left taken) (g.P.Streams.sent taken) (g.P.Streams.sent new) (view taken).image (view new).image c.next.new.from.sessions c.answer_long_line.new.service.sessions far None c.in_err-answer_long_line-in-TooLong.field-0.0 gives (c.in_err-answer_long_line-in-TooLong.ensures.stops total far.book told' far.stands)));
+          (ends_line g.R.Reply.makes c.args.kept.now o total book own before c.lines.kept c.answer_long_line.new.kept c.lines.lines c.next.new.self (g.P.Streams.left mid) (g.P.Streams.left taken) (g.P.Streams.sent taken) (g.P.Streams.sent new) (view taken).image (view new).image c.next.new.from.sessions c.answer_long_line.new.service.sessions far (unless_empty None) c.in_err-answer_long_line-in-TooLong.field-0.0 passed few (c.in_err-answer_long_line-in-TooLong.ensures.stops total far.book told' far.stands)));
       crash = λ total book told stands.
           let far = far_kept g.R.Reply.makes c.args.kept.now o total book own before c.lines.kept c.lines.lines (g.P.Streams.left mid) (g.P.Streams.sent mid) (g.P.Streams.sent taken) (view mid).image (view taken).image c.lines.service.sessions c.next.new.from.sessions kept.image beside.sessions c.next.ensures.sent (inv.far total book told stands) in
           let told' = g.met.P.PageWorld.take_told mid taken takes (inv.serves.told told) in
-          lasts_line g.R.Reply.makes c.args.kept.now c.lines.kept o before (g.P.Streams.sent taken) total book own c.next.new.from.sessions (view pages) (view taken) (view new) c.lines.lines c.next.new.self (g.P.Streams.left mid) (g.P.Streams.left taken) None far (g.met.P.PageWorld.counts_sent pages) (g.met.P.PageWorld.counts_sent taken) gives (made.moments total far.book told' far.stands) (lasts_take g.R.Reply.makes c.args.kept.now c.lines.kept o before (g.P.Streams.sent mid) total book own c.lines.service.sessions (view pages) (view mid) (view taken) c.lines.lines (g.P.Streams.left mid) (inv.far total book told stands) (g.met.P.Pages.rests mid inv.fit) (g.met.P.PageWorld.counts_sent pages) (g.met.P.PageWorld.counts_sent mid) (g.met.P.PageWorld.take_passes mid taken takes) (inv.lasts total book told stands));
+          lasts_line g.R.Reply.makes c.args.kept.now c.lines.kept o before (g.P.Streams.sent taken) total book own c.next.new.from.sessions (view pages) (view taken) (view new) c.lines.lines c.next.new.self (g.P.Streams.left mid) (g.P.Streams.left taken) (unless_empty None) far (g.met.P.PageWorld.counts_sent pages) (g.met.P.PageWorld.counts_sent taken) passed few (if_told _ (g.P.Streams.sent taken) (made.moments total far.book told' far.stands)) (lasts_take g.R.Reply.makes c.args.kept.now c.lines.kept o before (g.P.Streams.sent mid) total book own c.lines.service.sessions (view pages) (view mid) (view taken) c.lines.lines (g.P.Streams.left mid) (inv.far total book told stands) (g.met.P.Pages.rests mid inv.fit) (g.met.P.PageWorld.counts_sent pages) (g.met.P.PageWorld.counts_sent mid) (g.met.P.PageWorld.take_passes mid taken takes) (inv.lasts total book told stands));
       reads = λ total book told stands.
           let far = read_kept o total book own (view pages).reads c.lines.lines (g.P.Streams.left mid) (view mid).image (view taken).image c.lines.service.sessions c.next.new.from.sessions (view mid).reads (view taken).reads kept.image beside.sessions kept.reads (inv.reads total book told stands) in
           let told' = g.met.P.PageWorld.take_told mid taken takes (inv.serves.told told) in
@@ -279,32 +290,38 @@ lines-preserved g c =
     let new = shown.pages c.answer_line.new.service in
     let made = c.answer_line.ensures in
     let told_in = g.P.Pages.told in
-    let gives : Gives c.lines.lines c.next.new.self (g.P.Streams.left mid) (g.P.Streams.left taken) (Some c.line.result.now) = record {
-      first = same_line (unread c.lines.lines (g.P.Streams.left mid)) (unread c.next.new.self (g.P.Streams.left taken)) c.line.result.now c.next.new.self.line c.line.ensures.line (next.line (ap Ok c.in-Line.is));
+    let m = c.next.new.self in
+    let r = c.edits_ready.new.lines in
+    let text = c.line.result.now in
+    let same : r ≡ m = subst (λ (o : Option (Vec Edit Global)). IfNone o (r ≡ m)) c.in-None.is c.in_ok-edits-in-Line.ensures.none in
+    let gives : Gives c.lines.lines r (g.P.Streams.left mid) (g.P.Streams.left taken) (Some text) = subst (λ (x : Reading). Gives c.lines.lines x (g.P.Streams.left mid) (g.P.Streams.left taken) (Some text)) (sym same) (record {
+      first = same_line (unread c.lines.lines (g.P.Streams.left mid)) (unread m (g.P.Streams.left taken)) text m.line (c.line.ensures.line ∙ ap (λ (x : Reading). x.line) same) (next.line (ap Ok c.in-Line.is));
       rest = next.rest;
       counted = inv.counted;
       counted_new = next.given;
       total = next.total;
-    } in
+    }) in
+    let passed = one_passed c.lines.lines r (g.P.Streams.left mid) (g.P.Streams.left taken) (Some text) gives c.in_ok-edits-in-Line.ensures.within in
+    let few = few_lines (Some text) in
     record {
-      usable = next.usable;
-      counted = next.given;
-      within = next.within;
-      whole = ap (λ l. input_length c.next.new.self.taken l) made.left ∙ next.total ∙ inv.whole;
-      fit = c.in_ok-answer_line-in-Line.ensures.sound (λ e. cc);
+      usable = c.in_ok-edits-in-Line.ensures.usable;
+      counted = c.in_ok-edits-in-Line.ensures.counted;
+      within = c.in_ok-edits-in-Line.ensures.within;
+      whole = ap (λ l. input_length r.taken l) made.left ∙ ap (λ (x : Reading). input_length x.taken (g.P.Streams.left taken)) same ∙ next.total ∙ inv.whole;
+      fit = c.in_ok-answer_line-in-None.ensures.sound (λ e. cc);
       far = λ total book told stands.
           let far = far_kept g.R.Reply.makes c.args.kept.now o total book own before c.lines.kept c.lines.lines (g.P.Streams.left mid) (g.P.Streams.sent mid) (g.P.Streams.sent taken) (view mid).image (view taken).image c.lines.service.sessions c.next.new.from.sessions kept.image beside.sessions c.next.ensures.sent (inv.far total book told stands) in
           let told' = g.met.P.PageWorld.take_told mid taken takes (inv.serves.told told) in
-          far_line g.R.Reply.makes c.args.kept.now o total book own before c.lines.kept c.answer_line.new.kept c.lines.lines c.next.new.self (g.P.Streams.left mid) (g.P.Streams.left taken) (g.P.Streams.left new) (g.P.Streams.sent taken) (g.P.Streams.sent new) (Some c.line.result.now) (view taken).image (view new).image c.next.new.from.sessions c.answer_line.new.service.sessions gives made.left far (c.in_ok-answer_line-in-Line.ensures.done total far.book told' far.stands);
+          far_line g.R.Reply.makes c.args.kept.now o total book own before c.lines.kept c.answer_line.new.kept c.lines.lines r (g.P.Streams.left mid) (g.P.Streams.left taken) (g.P.Streams.left new) (g.P.Streams.sent taken) (g.P.Streams.sent new) (unless_empty (Some text)) (view taken).image (view new).image c.next.new.from.sessions c.answer_line.new.service.sessions passed few made.left far (c.in_ok-answer_line-in-None.ensures.done total far.book told' far.stands);
       lasts = λ total book told stands.
           let far = far_kept g.R.Reply.makes c.args.kept.now o total book own before c.lines.kept c.lines.lines (g.P.Streams.left mid) (g.P.Streams.sent mid) (g.P.Streams.sent taken) (view mid).image (view taken).image c.lines.service.sessions c.next.new.from.sessions kept.image beside.sessions c.next.ensures.sent (inv.far total book told stands) in
           let told' = g.met.P.PageWorld.take_told mid taken takes (inv.serves.told told) in
-          lasts_line g.R.Reply.makes c.args.kept.now c.lines.kept o before (g.P.Streams.sent taken) total book own c.next.new.from.sessions (view pages) (view taken) (view new) c.lines.lines c.next.new.self (g.P.Streams.left mid) (g.P.Streams.left taken) (Some c.line.result.now) far (g.met.P.PageWorld.counts_sent pages) (g.met.P.PageWorld.counts_sent taken) gives (made.moments total far.book told' far.stands) (lasts_take g.R.Reply.makes c.args.kept.now c.lines.kept o before (g.P.Streams.sent mid) total book own c.lines.service.sessions (view pages) (view mid) (view taken) c.lines.lines (g.P.Streams.left mid) (inv.far total book told stands) (g.met.P.Pages.rests mid inv.fit) (g.met.P.PageWorld.counts_sent pages) (g.met.P.PageWorld.counts_sent mid) (g.met.P.PageWorld.take_passes mid taken takes) (inv.lasts total book told stands));
+          lasts_line g.R.Reply.makes c.args.kept.now c.lines.kept o before (g.P.Streams.sent taken) total book own c.next.new.from.sessions (view pages) (view taken) (view new) c.lines.lines r (g.P.Streams.left mid) (g.P.Streams.left taken) (unless_empty (Some text)) far (g.met.P.PageWorld.counts_sent pages) (g.met.P.PageWorld.counts_sent taken) passed few (if_told _ (g.P.Streams.sent taken) (made.moments total far.book told' far.stands)) (lasts_take g.R.Reply.makes c.args.kept.now c.lines.kept o before (g.P.Streams.sent mid) total book own c.lines.service.sessions (view pages) (view mid) (view taken) c.lines.lines (g.P.Streams.left mid) (inv.far total book told stands) (g.met.P.Pages.rests mid inv.fit) (g.met.P.PageWorld.counts_sent pages) (g.met.P.PageWorld.counts_sent mid) (g.met.P.PageWorld.take_passes mid taken takes) (inv.lasts total book told stands));
       reads = λ total book told stands.
           let far = read_kept o total book own (view pages).reads c.lines.lines (g.P.Streams.left mid) (view mid).image (view taken).image c.lines.service.sessions c.next.new.from.sessions (view mid).reads (view taken).reads kept.image beside.sessions kept.reads (inv.reads total book told stands) in
           let told' = g.met.P.PageWorld.take_told mid taken takes (inv.serves.told told) in
-          read_line_done o total book own (view pages).reads c.lines.lines c.next.new.self (g.P.Streams.left mid) (g.P.Streams.left taken) (Some c.line.result.now) (view taken).reads (view new).reads gives g.R.Reply.makes c.lines.kept c.answer_line.new.kept (g.P.Streams.left new) (g.P.Streams.sent taken) (g.P.Streams.sent new) (view taken).image (view new).image c.next.new.from.sessions c.answer_line.new.service.sessions made.left far (made.reads total far.book told' far.stands) (c.in_ok-answer_line-in-Line.ensures.done total far.book told' far.stands);
-      known = λ knows follows known. c.in_ok-answer_line-in-Line.ensures.known knows follows (known_kept knows c.lines.kept c.lines.service.sessions c.next.new.from.sessions c.next.ensures.beside.sessions (c.lines.invariant.known knows follows known));
+          read_line_done o total book own (view pages).reads c.lines.lines r (g.P.Streams.left mid) (g.P.Streams.left taken) (unless_empty (Some text)) (view taken).reads (view new).reads passed g.R.Reply.makes c.lines.kept c.answer_line.new.kept (g.P.Streams.left new) (g.P.Streams.sent taken) (g.P.Streams.sent new) (view taken).image (view new).image c.next.new.from.sessions c.answer_line.new.service.sessions made.left far (one_turn (Some text) (state_of far.book total c.next.new.from.sessions) (view taken).reads (view new).reads (made.reads total far.book told' far.stands)) (c.in_ok-answer_line-in-None.ensures.done total far.book told' far.stands);
+      known = λ knows follows known. c.in_ok-answer_line-in-None.ensures.known knows follows (known_kept knows c.lines.kept c.lines.service.sessions c.next.new.from.sessions c.next.ensures.beside.sessions (c.lines.invariant.known knows follows known));
       serves = serves_then (told_in pages) (told_in taken) (told_in new) (view pages) (view taken) (view new) (serves_then (told_in pages) (told_in mid) (told_in taken) (view pages) (view mid) (view taken) inv.serves (serves_disk (told_in mid) (told_in taken) (view mid) (view taken) kept (g.met.P.PageWorld.take_told mid taken takes) (g.met.P.PageWorld.take_was_told mid taken takes))) made.serves;
       goes_on = goes_then (g.P.Pages.under pages) (g.P.Pages.under taken) (g.P.Pages.under new) (goes_then (g.P.Pages.under pages) (g.P.Pages.under mid) (g.P.Pages.under taken) inv.goes_on (g.met.P.PageWorld.take_goes_on mid taken takes)) made.goes_on;
       total_is = made.total ∙ ap (λ (s : Superblock). s.total) beside.store_is.superblock ∙ inv.total_is;
@@ -312,8 +329,8 @@ lines-preserved g c =
       send_faults = omega (arith, next.send_faults, inv.send_faults, made.send_faults);
     }
 
-pub returns-in_err-answer_line-in-Line : goal.returns-in_err-answer_line-in-Line
-returns-in_err-answer_line-in-Line g c =
+pub returns-in_err-answer_line-in-None : goal.returns-in_err-answer_line-in-None
+returns-in_err-answer_line-in-None g c =
     let view = g.P.Pages.view in
     let pages = shown.pages c.args.service.now in
     let mid = shown.pages c.lines.service in
@@ -328,45 +345,226 @@ returns-in_err-answer_line-in-Line g c =
     let next = c.in_ok-next.ensures in
     let new = shown.pages c.answer_line.new.service in
     let made = c.answer_line.ensures in
-    let gives : Gives c.lines.lines c.next.new.self (g.P.Streams.left mid) (g.P.Streams.left taken) (Some c.line.result.now) = record {
-      first = same_line (unread c.lines.lines (g.P.Streams.left mid)) (unread c.next.new.self (g.P.Streams.left taken)) c.line.result.now c.next.new.self.line c.line.ensures.line (next.line (ap Ok c.in-Line.is));
+    let m = c.next.new.self in
+    let r = c.edits_ready.new.lines in
+    let text = c.line.result.now in
+    let same : r ≡ m = subst (λ (o : Option (Vec Edit Global)). IfNone o (r ≡ m)) c.in-None.is c.in_ok-edits-in-Line.ensures.none in
+    let gives : Gives c.lines.lines r (g.P.Streams.left mid) (g.P.Streams.left taken) (Some text) = subst (λ (x : Reading). Gives c.lines.lines x (g.P.Streams.left mid) (g.P.Streams.left taken) (Some text)) (sym same) (record {
+      first = same_line (unread c.lines.lines (g.P.Streams.left mid)) (unread m (g.P.Streams.left taken)) text m.line (c.line.ensures.line ∙ ap (λ (x : Reading). x.line) same) (next.line (ap Ok c.in-Line.is));
       rest = next.rest;
       counted = inv.counted;
       counted_new = next.given;
       total = next.total;
-    } in
+    }) in
+    let passed = one_passed c.lines.lines r (g.P.Streams.left mid) (g.P.Streams.left taken) (Some text) gives c.in_ok-edits-in-Line.ensures.within in
+    let few = few_lines (Some text) in
     let told_in = g.P.Pages.told in
     let sends = g.P.Streams.send_faults in
     let Low : ℕ → Type 0 = λ n. sends pages ≤ n in
     let it = c.answer_line.new.service in
     record {
-      done = λ total book told stands. on_err c.from_residual-in_err-answer_line-in-Line.result _ _ c.from_residual-in_err-answer_line-in-Line.ensures.1;
-      within = on_err c.from_residual-in_err-answer_line-in-Line.result _ _ c.from_residual-in_err-answer_line-in-Line.ensures.1;
+      done = λ total book told stands. on_err c.from_residual-in_err-answer_line-in-None.result _ _ c.from_residual-in_err-answer_line-in-None.ensures.1;
+      within = on_err c.from_residual-in_err-answer_line-in-None.result _ _ c.from_residual-in_err-answer_line-in-None.ensures.1;
       ends = λ total book told stands.
           let far = far_kept g.R.Reply.makes c.args.kept.now o total book own before c.lines.kept c.lines.lines (g.P.Streams.left mid) (g.P.Streams.sent mid) (g.P.Streams.sent taken) (view mid).image (view taken).image c.lines.service.sessions c.next.new.from.sessions kept.image beside.sessions c.next.ensures.sent (inv.far total book told stands) in
           let told' = g.met.P.PageWorld.take_told mid taken takes (inv.serves.told told) in
-          error_goes (λ end. EndsAnswers g.R.Reply.makes c.args.kept.now c.answer_line.new.kept o (state_of book total own) (view new).image c.answer_line.new.service.sessions (g.P.Streams.left new) before (g.P.Streams.sent new) end) c.from_residual-in_err-answer_line-in-Line.result c.in_err-answer_line-in-Line.field-0.0 c.from_residual-in_err-answer_line-in-Line.ensures.1
-          (ends_same g.R.Reply.makes c.args.kept.now o total book own before c.answer_line.new.kept (view new).image c.answer_line.new.service.sessions (g.P.Streams.left taken) (g.P.Streams.left new) (g.P.Streams.sent new) (g.P.Streams.sent new) c.in_err-answer_line-in-Line.field-0.0 c.in_err-answer_line-in-Line.field-0.0 made.left refl refl
-          (ends_line g.R.Reply.makes c.args.kept.now o total book own before c.lines.kept c.answer_line.new.kept c.lines.lines c.next.new.self (g.P.Streams.left mid) (g.P.Streams.left taken) (g.P.Streams.sent taken) (g.P.Streams.sent new) (view taken).image (view new).image c.next.new.from.sessions c.answer_line.new.service.sessions far (Some c.line.result.now) c.in_err-answer_line-in-Line.field-0.0 gives (c.in_err-answer_line-in-Line.ensures.stops total far.book told' far.stands)));
+          error_goes (λ end. EndsAnswers g.R.Reply.makes c.args.kept.now c.answer_line.new.kept o (state_of book total own) (view new).image c.answer_line.new.service.sessions (g.P.Streams.left new) before (g.P.Streams.sent new) end) c.from_residual-in_err-answer_line-in-None.result c.in_err-answer_line-in-None.field-0.0 c.from_residual-in_err-answer_line-in-None.ensures.1
+          (ends_same g.R.Reply.makes c.args.kept.now o total book own before c.answer_line.new.kept (view new).image c.answer_line.new.service.sessions (g.P.Streams.left taken) (g.P.Streams.left new) (g.P.Streams.sent new) (g.P.Streams.sent new) c.in_err-answer_line-in-None.field-0.0 c.in_err-answer_line-in-None.field-0.0 made.left refl refl
+          (ends_line g.R.Reply.makes c.args.kept.now o total book own before c.lines.kept c.answer_line.new.kept c.lines.lines r (g.P.Streams.left mid) (g.P.Streams.left taken) (g.P.Streams.sent taken) (g.P.Streams.sent new) (view taken).image (view new).image c.next.new.from.sessions c.answer_line.new.service.sessions far (unless_empty (Some text)) c.in_err-answer_line-in-None.field-0.0 passed few (c.in_err-answer_line-in-None.ensures.stops total far.book told' far.stands)));
       crash = λ total book told stands.
           let far = far_kept g.R.Reply.makes c.args.kept.now o total book own before c.lines.kept c.lines.lines (g.P.Streams.left mid) (g.P.Streams.sent mid) (g.P.Streams.sent taken) (view mid).image (view taken).image c.lines.service.sessions c.next.new.from.sessions kept.image beside.sessions c.next.ensures.sent (inv.far total book told stands) in
           let told' = g.met.P.PageWorld.take_told mid taken takes (inv.serves.told told) in
-          lasts_line g.R.Reply.makes c.args.kept.now c.lines.kept o before (g.P.Streams.sent taken) total book own c.next.new.from.sessions (view pages) (view taken) (view new) c.lines.lines c.next.new.self (g.P.Streams.left mid) (g.P.Streams.left taken) (Some c.line.result.now) far (g.met.P.PageWorld.counts_sent pages) (g.met.P.PageWorld.counts_sent taken) gives (made.moments total far.book told' far.stands) (lasts_take g.R.Reply.makes c.args.kept.now c.lines.kept o before (g.P.Streams.sent mid) total book own c.lines.service.sessions (view pages) (view mid) (view taken) c.lines.lines (g.P.Streams.left mid) (inv.far total book told stands) (g.met.P.Pages.rests mid inv.fit) (g.met.P.PageWorld.counts_sent pages) (g.met.P.PageWorld.counts_sent mid) (g.met.P.PageWorld.take_passes mid taken takes) (inv.lasts total book told stands));
+          lasts_line g.R.Reply.makes c.args.kept.now c.lines.kept o before (g.P.Streams.sent taken) total book own c.next.new.from.sessions (view pages) (view taken) (view new) c.lines.lines r (g.P.Streams.left mid) (g.P.Streams.left taken) (unless_empty (Some text)) far (g.met.P.PageWorld.counts_sent pages) (g.met.P.PageWorld.counts_sent taken) passed few (if_told _ (g.P.Streams.sent taken) (made.moments total far.book told' far.stands)) (lasts_take g.R.Reply.makes c.args.kept.now c.lines.kept o before (g.P.Streams.sent mid) total book own c.lines.service.sessions (view pages) (view mid) (view taken) c.lines.lines (g.P.Streams.left mid) (inv.far total book told stands) (g.met.P.Pages.rests mid inv.fit) (g.met.P.PageWorld.counts_sent pages) (g.met.P.PageWorld.counts_sent mid) (g.met.P.PageWorld.take_passes mid taken takes) (inv.lasts total book told stands));
       reads = λ total book told stands.
           let far = read_kept o total book own (view pages).reads c.lines.lines (g.P.Streams.left mid) (view mid).image (view taken).image c.lines.service.sessions c.next.new.from.sessions (view mid).reads (view taken).reads kept.image beside.sessions kept.reads (inv.reads total book told stands) in
           let told' = g.met.P.PageWorld.take_told mid taken takes (inv.serves.told told) in
-          read_line_stops o total book own (view pages).reads c.lines.lines c.next.new.self (g.P.Streams.left mid) (g.P.Streams.left taken) (Some c.line.result.now) (view taken).reads (view new).reads gives (view taken).image c.next.new.from.sessions far (made.reads total far.book told' far.stands);
-      read = λ fault. absurd (c.in_err-answer_line-in-Line.ensures.read (sym (error_is c.from_residual-in_err-answer_line-in-Line.result c.in_err-answer_line-in-Line.field-0.0 c.from_residual-in_err-answer_line-in-Line.ensures.1) ∙ fault));
-      send = λ fault. risen_since (sends pages) (sends taken) (sends new) (subst Low (sym c.next.ensures.send_faults) c.lines.invariant.send_faults) (c.in_err-answer_line-in-Line.ensures.send (sym (error_is c.from_residual-in_err-answer_line-in-Line.result c.in_err-answer_line-in-Line.field-0.0 c.from_residual-in_err-answer_line-in-Line.ensures.1) ∙ fault));
-      disk = λ is. risen_since (view pages).faults (view taken).faults (view new).faults (omega (arith, inv.serves.faults, kept.faults)) (c.in_err-answer_line-in-Line.ensures.disk (sym (error_is c.from_residual-in_err-answer_line-in-Line.result c.in_err-answer_line-in-Line.field-0.0 c.from_residual-in_err-answer_line-in-Line.ensures.1) ∙ is));
+          read_line_stops o total book own (view pages).reads c.lines.lines r (g.P.Streams.left mid) (g.P.Streams.left taken) (Some text) (view taken).reads (view new).reads gives (view taken).image c.next.new.from.sessions far (made.reads total far.book told' far.stands);
+      read = λ fault. absurd (c.in_err-answer_line-in-None.ensures.read (sym (error_is c.from_residual-in_err-answer_line-in-None.result c.in_err-answer_line-in-None.field-0.0 c.from_residual-in_err-answer_line-in-None.ensures.1) ∙ fault));
+      send = λ fault. risen_since (sends pages) (sends taken) (sends new) (subst Low (sym c.next.ensures.send_faults) c.lines.invariant.send_faults) (c.in_err-answer_line-in-None.ensures.send (sym (error_is c.from_residual-in_err-answer_line-in-None.result c.in_err-answer_line-in-None.field-0.0 c.from_residual-in_err-answer_line-in-None.ensures.1) ∙ fault));
+      disk = λ is. risen_since (view pages).faults (view taken).faults (view new).faults (omega (arith, inv.serves.faults, kept.faults)) (c.in_err-answer_line-in-None.ensures.disk (sym (error_is c.from_residual-in_err-answer_line-in-None.result c.in_err-answer_line-in-None.field-0.0 c.from_residual-in_err-answer_line-in-None.ensures.1) ∙ is));
       known = λ knows follows known.
-          let f = c.in_err-answer_line-in-Line.field-0.0 in
-          error_goes (EndsKnown g.R.Reply.makes knows) c.from_residual-in_err-answer_line-in-Line.result f c.from_residual-in_err-answer_line-in-Line.ensures.1
-          (c.in_err-answer_line-in-Line.ensures.named knows follows (known_kept knows c.lines.kept c.lines.service.sessions c.next.new.from.sessions c.next.ensures.beside.sessions (c.lines.invariant.known knows follows known)));
-      bad = error_goes (EndsAtBad (g.P.Pages.told new) (g.P.Pages.view new).size (g.P.Pages.view new).image) c.from_residual-in_err-answer_line-in-Line.result c.in_err-answer_line-in-Line.field-0.0 c.from_residual-in_err-answer_line-in-Line.ensures.1 c.in_err-answer_line-in-Line.ensures.bad;
+          let f = c.in_err-answer_line-in-None.field-0.0 in
+          error_goes (EndsKnown g.R.Reply.makes knows) c.from_residual-in_err-answer_line-in-None.result f c.from_residual-in_err-answer_line-in-None.ensures.1
+          (c.in_err-answer_line-in-None.ensures.named knows follows (known_kept knows c.lines.kept c.lines.service.sessions c.next.new.from.sessions c.next.ensures.beside.sessions (c.lines.invariant.known knows follows known)));
+      bad = error_goes (EndsAtBad (g.P.Pages.told new) (g.P.Pages.view new).size (g.P.Pages.view new).image) c.from_residual-in_err-answer_line-in-None.result c.in_err-answer_line-in-None.field-0.0 c.from_residual-in_err-answer_line-in-None.ensures.1 c.in_err-answer_line-in-None.ensures.bad;
       serves = serves_then (told_in pages) (told_in taken) (told_in new) (view pages) (view taken) (view new) (serves_then (told_in pages) (told_in mid) (told_in taken) (view pages) (view mid) (view taken) inv.serves (serves_disk (told_in mid) (told_in taken) (view mid) (view taken) kept (g.met.P.PageWorld.take_told mid taken takes) (g.met.P.PageWorld.take_was_told mid taken takes))) made.serves;
       goes_on = goes_then (g.P.Pages.under pages) (g.P.Pages.under taken) (g.P.Pages.under new) (goes_then (g.P.Pages.under pages) (g.P.Pages.under mid) (g.P.Pages.under taken) inv.goes_on (g.met.P.PageWorld.take_goes_on mid taken takes)) made.goes_on;
-      sound = λ other. c.in_err-answer_line-in-Line.ensures.sound (λ fault. other (error_is c.from_residual-in_err-answer_line-in-Line.result c.in_err-answer_line-in-Line.field-0.0 c.from_residual-in_err-answer_line-in-Line.ensures.1 ∙ fault));
-      rests = λ other. g.met.P.Pages.rests new (c.in_err-answer_line-in-Line.ensures.sound (λ fault. other (error_is c.from_residual-in_err-answer_line-in-Line.result c.in_err-answer_line-in-Line.field-0.0 c.from_residual-in_err-answer_line-in-Line.ensures.1 ∙ fault)));
+      sound = λ other. c.in_err-answer_line-in-None.ensures.sound (λ fault. other (error_is c.from_residual-in_err-answer_line-in-None.result c.in_err-answer_line-in-None.field-0.0 c.from_residual-in_err-answer_line-in-None.ensures.1 ∙ fault));
+      rests = λ other. g.met.P.Pages.rests new (c.in_err-answer_line-in-None.ensures.sound (λ fault. other (error_is c.from_residual-in_err-answer_line-in-None.result c.in_err-answer_line-in-None.field-0.0 c.from_residual-in_err-answer_line-in-None.ensures.1 ∙ fault)));
       total = c.answer_line.ensures.total ∙ ap (λ (s : Superblock). s.total) c.next.ensures.beside.store_is.superblock ∙ c.lines.invariant.total_is;
     }
+
+pub lines-preserved-in-Some : goal.lines-preserved-in-Some
+lines-preserved-in-Some g c =
+    let view = g.P.Pages.view in
+    let pages = shown.pages c.args.service.now in
+    let mid = shown.pages c.lines.service in
+    let taken = shown.pages c.next.new.from in
+    let o = g.P.Streams.left pages in
+    let before = g.P.Streams.sent pages in
+    let own = c.args.service.now.sessions in
+    let inv = c.lines.invariant in
+    let beside = c.next.ensures.beside in
+    let takes = beside.store_is.pages_are in
+    let kept = g.met.P.PageWorld.take_keeps mid taken takes in
+    let next = c.in_ok-next.ensures in
+    let new = shown.pages c.answer_edits.new.service in
+    let made = c.answer_edits.ensures in
+    let told_in = g.P.Pages.told in
+    let m = c.next.new.self in
+    let r = c.edits_ready.new.lines in
+    let edits = c.as_slice.result.now in
+    let gives : Gives c.lines.lines m (g.P.Streams.left mid) (g.P.Streams.left taken) (Some m.line) = record {
+      first = next.line (ap Ok c.in-Line.is);
+      rest = next.rest;
+      counted = inv.counted;
+      counted_new = next.given;
+      total = next.total;
+    } in
+    let group = subst (λ (e : List Edit). IsGroupOf m r e) (sym c.as_slice.ensures.value) (subst (λ (o : Option (Vec Edit Global)). IfSome o (λ edits. IsGroupOf m r edits.items)) c.in-Some.is c.in_ok-edits-in-Line.ensures.group) in
+    let most = subst (λ (e : List Edit). length e ≤ most_ahead) (sym c.as_slice.ensures.value) (subst (λ (o : Option (Vec Edit Global)). IfSome o (λ edits. length edits.items ≤ most_ahead)) c.in-Some.is c.in_ok-edits-in-Line.ensures.few) in
+    let all = Some m.line ∷ lines group.group.gathers.front in
+    let both = group_passed c.lines.lines m r (g.P.Streams.left mid) (g.P.Streams.left taken) edits gives group c.in_ok-edits-in-Line.ensures.within in
+    let passed = both.0 in
+    let spells = both.1 in
+    let few : length all ≤ most_ahead = omega (arith, most, spelled_length all edits spells) in
+    record {
+      usable = c.in_ok-edits-in-Line.ensures.usable;
+      counted = c.in_ok-edits-in-Line.ensures.counted;
+      within = c.in_ok-edits-in-Line.ensures.within;
+      whole = ap (λ l. input_length r.taken l) made.left ∙ ap (λ n. input_length n (g.P.Streams.left taken)) group.group.gathers.taken ∙ next.total ∙ inv.whole;
+      fit = c.in_ok-answer_edits-in-Some.ensures.sound (λ e. cc);
+      far = λ total book told stands.
+          let far = far_kept g.R.Reply.makes c.args.kept.now o total book own before c.lines.kept c.lines.lines (g.P.Streams.left mid) (g.P.Streams.sent mid) (g.P.Streams.sent taken) (view mid).image (view taken).image c.lines.service.sessions c.next.new.from.sessions kept.image beside.sessions c.next.ensures.sent (inv.far total book told stands) in
+          let told' = g.met.P.PageWorld.take_told mid taken takes (inv.serves.told told) in
+          far_line g.R.Reply.makes c.args.kept.now o total book own before c.lines.kept c.answer_edits.new.kept c.lines.lines r (g.P.Streams.left mid) (g.P.Streams.left taken) (g.P.Streams.left new) (g.P.Streams.sent taken) (g.P.Streams.sent new) all (view taken).image (view new).image c.next.new.from.sessions c.answer_edits.new.service.sessions passed few made.left far (c.in_ok-answer_edits-in-Some.ensures.done all spells total far.book told' far.stands);
+      lasts = λ total book told stands.
+          let far = far_kept g.R.Reply.makes c.args.kept.now o total book own before c.lines.kept c.lines.lines (g.P.Streams.left mid) (g.P.Streams.sent mid) (g.P.Streams.sent taken) (view mid).image (view taken).image c.lines.service.sessions c.next.new.from.sessions kept.image beside.sessions c.next.ensures.sent (inv.far total book told stands) in
+          let told' = g.met.P.PageWorld.take_told mid taken takes (inv.serves.told told) in
+          lasts_line g.R.Reply.makes c.args.kept.now c.lines.kept o before (g.P.Streams.sent taken) total book own c.next.new.from.sessions (view pages) (view taken) (view new) c.lines.lines r (g.P.Streams.left mid) (g.P.Streams.left taken) all far (g.met.P.PageWorld.counts_sent pages) (g.met.P.PageWorld.counts_sent taken) passed few (made.moments all spells total far.book told' far.stands) (lasts_take g.R.Reply.makes c.args.kept.now c.lines.kept o before (g.P.Streams.sent mid) total book own c.lines.service.sessions (view pages) (view mid) (view taken) c.lines.lines (g.P.Streams.left mid) (inv.far total book told stands) (g.met.P.Pages.rests mid inv.fit) (g.met.P.PageWorld.counts_sent pages) (g.met.P.PageWorld.counts_sent mid) (g.met.P.PageWorld.take_passes mid taken takes) (inv.lasts total book told stands));
+      reads = λ total book told stands.
+          let far = read_kept o total book own (view pages).reads c.lines.lines (g.P.Streams.left mid) (view mid).image (view taken).image c.lines.service.sessions c.next.new.from.sessions (view mid).reads (view taken).reads kept.image beside.sessions kept.reads (inv.reads total book told stands) in
+          let told' = g.met.P.PageWorld.take_told mid taken takes (inv.serves.told told) in
+          read_line_done o total book own (view pages).reads c.lines.lines r (g.P.Streams.left mid) (g.P.Streams.left taken) all (view taken).reads (view new).reads passed g.R.Reply.makes c.lines.kept c.answer_edits.new.kept (g.P.Streams.left new) (g.P.Streams.sent taken) (g.P.Streams.sent new) (view taken).image (view new).image c.next.new.from.sessions c.answer_edits.new.service.sessions made.left far (edits_turn all edits (state_of far.book total c.next.new.from.sessions) (view taken).reads (view new).reads spells made.rises (made.reads total far.book told' far.stands)) (c.in_ok-answer_edits-in-Some.ensures.done all spells total far.book told' far.stands);
+      known = λ knows follows known. c.in_ok-answer_edits-in-Some.ensures.known knows follows (known_kept knows c.lines.kept c.lines.service.sessions c.next.new.from.sessions c.next.ensures.beside.sessions (c.lines.invariant.known knows follows known));
+      serves = serves_then (told_in pages) (told_in taken) (told_in new) (view pages) (view taken) (view new) (serves_then (told_in pages) (told_in mid) (told_in taken) (view pages) (view mid) (view taken) inv.serves (serves_disk (told_in mid) (told_in taken) (view mid) (view taken) kept (g.met.P.PageWorld.take_told mid taken takes) (g.met.P.PageWorld.take_was_told mid taken takes))) made.serves;
+      goes_on = goes_then (g.P.Pages.under pages) (g.P.Pages.under taken) (g.P.Pages.under new) (goes_then (g.P.Pages.under pages) (g.P.Pages.under mid) (g.P.Pages.under taken) inv.goes_on (g.met.P.PageWorld.take_goes_on mid taken takes)) made.goes_on;
+      total_is = made.total ∙ ap (λ (s : Superblock). s.total) beside.store_is.superblock ∙ inv.total_is;
+      read_faults = omega (arith, next.read_faults, inv.read_faults, made.read_faults);
+      send_faults = omega (arith, next.send_faults, inv.send_faults, made.send_faults);
+    }
+
+pub returns-in_err-answer_edits-in-Some : goal.returns-in_err-answer_edits-in-Some
+returns-in_err-answer_edits-in-Some g c =
+    let view = g.P.Pages.view in
+    let pages = shown.pages c.args.service.now in
+    let mid = shown.pages c.lines.service in
+    let taken = shown.pages c.next.new.from in
+    let o = g.P.Streams.left pages in
+    let before = g.P.Streams.sent pages in
+    let own = c.args.service.now.sessions in
+    let inv = c.lines.invariant in
+    let beside = c.next.ensures.beside in
+    let takes = beside.store_is.pages_are in
+    let kept = g.met.P.PageWorld.take_keeps mid taken takes in
+    let next = c.in_ok-next.ensures in
+    let new = shown.pages c.answer_edits.new.service in
+    let made = c.answer_edits.ensures in
+    let m = c.next.new.self in
+    let r = c.edits_ready.new.lines in
+    let edits = c.as_slice.result.now in
+    let gives : Gives c.lines.lines m (g.P.Streams.left mid) (g.P.Streams.left taken) (Some m.line) = record {
+      first = next.line (ap Ok c.in-Line.is);
+      rest = next.rest;
+      counted = inv.counted;
+      counted_new = next.given;
+      total = next.total;
+    } in
+    let group = subst (λ (e : List Edit). IsGroupOf m r e) (sym c.as_slice.ensures.value) (subst (λ (o : Option (Vec Edit Global)). IfSome o (λ edits. IsGroupOf m r edits.items)) c.in-Some.is c.in_ok-edits-in-Line.ensures.group) in
+    let most = subst (λ (e : List Edit). length e ≤ most_ahead) (sym c.as_slice.ensures.value) (subst (λ (o : Option (Vec Edit Global)). IfSome o (λ edits. length edits.items ≤ most_ahead)) c.in-Some.is c.in_ok-edits-in-Line.ensures.few) in
+    let all = Some m.line ∷ lines group.group.gathers.front in
+    let both = group_passed c.lines.lines m r (g.P.Streams.left mid) (g.P.Streams.left taken) edits gives group c.in_ok-edits-in-Line.ensures.within in
+    let passed = both.0 in
+    let spells = both.1 in
+    let few : length all ≤ most_ahead = omega (arith, most, spelled_length all edits spells) in
+    let told_in = g.P.Pages.told in
+    let sends = g.P.Streams.send_faults in
+    let Low : ℕ → Type 0 = λ n. sends pages ≤ n in
+    let it = c.answer_edits.new.service in
+    record {
+      done = λ total book told stands. on_err c.from_residual-in_err-answer_edits-in-Some.result _ _ c.from_residual-in_err-answer_edits-in-Some.ensures.1;
+      within = on_err c.from_residual-in_err-answer_edits-in-Some.result _ _ c.from_residual-in_err-answer_edits-in-Some.ensures.1;
+      ends = λ total book told stands.
+          let far = far_kept g.R.Reply.makes c.args.kept.now o total book own before c.lines.kept c.lines.lines (g.P.Streams.left mid) (g.P.Streams.sent mid) (g.P.Streams.sent taken) (view mid).image (view taken).image c.lines.service.sessions c.next.new.from.sessions kept.image beside.sessions c.next.ensures.sent (inv.far total book told stands) in
+          let told' = g.met.P.PageWorld.take_told mid taken takes (inv.serves.told told) in
+          error_goes (λ end. EndsAnswers g.R.Reply.makes c.args.kept.now c.answer_edits.new.kept o (state_of book total own) (view new).image c.answer_edits.new.service.sessions (g.P.Streams.left new) before (g.P.Streams.sent new) end) c.from_residual-in_err-answer_edits-in-Some.result c.in_err-answer_edits-in-Some.field-0.0 c.from_residual-in_err-answer_edits-in-Some.ensures.1
+          (ends_same g.R.Reply.makes c.args.kept.now o total book own before c.answer_edits.new.kept (view new).image c.answer_edits.new.service.sessions (g.P.Streams.left taken) (g.P.Streams.left new) (g.P.Streams.sent new) (g.P.Streams.sent new) c.in_err-answer_edits-in-Some.field-0.0 c.in_err-answer_edits-in-Some.field-0.0 made.left refl refl
+          (ends_line g.R.Reply.makes c.args.kept.now o total book own before c.lines.kept c.answer_edits.new.kept c.lines.lines r (g.P.Streams.left mid) (g.P.Streams.left taken) (g.P.Streams.sent taken) (g.P.Streams.sent new) (view taken).image (view new).image c.next.new.from.sessions c.answer_edits.new.service.sessions far all c.in_err-answer_edits-in-Some.field-0.0 passed few (c.in_err-answer_edits-in-Some.ensures.stops all spells total far.book told' far.stands)));
+      crash = λ total book told stands.
+          let far = far_kept g.R.Reply.makes c.args.kept.now o total book own before c.lines.kept c.lines.lines (g.P.Streams.left mid) (g.P.Streams.sent mid) (g.P.Streams.sent taken) (view mid).image (view taken).image c.lines.service.sessions c.next.new.from.sessions kept.image beside.sessions c.next.ensures.sent (inv.far total book told stands) in
+          let told' = g.met.P.PageWorld.take_told mid taken takes (inv.serves.told told) in
+          lasts_line g.R.Reply.makes c.args.kept.now c.lines.kept o before (g.P.Streams.sent taken) total book own c.next.new.from.sessions (view pages) (view taken) (view new) c.lines.lines r (g.P.Streams.left mid) (g.P.Streams.left taken) all far (g.met.P.PageWorld.counts_sent pages) (g.met.P.PageWorld.counts_sent taken) passed few (made.moments all spells total far.book told' far.stands) (lasts_take g.R.Reply.makes c.args.kept.now c.lines.kept o before (g.P.Streams.sent mid) total book own c.lines.service.sessions (view pages) (view mid) (view taken) c.lines.lines (g.P.Streams.left mid) (inv.far total book told stands) (g.met.P.Pages.rests mid inv.fit) (g.met.P.PageWorld.counts_sent pages) (g.met.P.PageWorld.counts_sent mid) (g.met.P.PageWorld.take_passes mid taken takes) (inv.lasts total book told stands));
+      reads = λ total book told stands.
+          let far = read_kept o total book own (view pages).reads c.lines.lines (g.P.Streams.left mid) (view mid).image (view taken).image c.lines.service.sessions c.next.new.from.sessions (view mid).reads (view taken).reads kept.image beside.sessions kept.reads (inv.reads total book told stands) in
+          let told' = g.met.P.PageWorld.take_told mid taken takes (inv.serves.told told) in
+          read_edits_stop o total book own (view pages).reads c.lines.lines r (g.P.Streams.left mid) (g.P.Streams.left taken) all (view taken).reads (view new).reads passed (view taken).image c.next.new.from.sessions edits far spells most (made.reads total far.book told' far.stands);
+      read = λ fault. absurd (c.in_err-answer_edits-in-Some.ensures.read (sym (error_is c.from_residual-in_err-answer_edits-in-Some.result c.in_err-answer_edits-in-Some.field-0.0 c.from_residual-in_err-answer_edits-in-Some.ensures.1) ∙ fault));
+      send = λ fault. risen_since (sends pages) (sends taken) (sends new) (subst Low (sym c.next.ensures.send_faults) c.lines.invariant.send_faults) (c.in_err-answer_edits-in-Some.ensures.send (sym (error_is c.from_residual-in_err-answer_edits-in-Some.result c.in_err-answer_edits-in-Some.field-0.0 c.from_residual-in_err-answer_edits-in-Some.ensures.1) ∙ fault));
+      disk = λ is. risen_since (view pages).faults (view taken).faults (view new).faults (omega (arith, inv.serves.faults, kept.faults)) (c.in_err-answer_edits-in-Some.ensures.disk (sym (error_is c.from_residual-in_err-answer_edits-in-Some.result c.in_err-answer_edits-in-Some.field-0.0 c.from_residual-in_err-answer_edits-in-Some.ensures.1) ∙ is));
+      known = λ knows follows known.
+          let f = c.in_err-answer_edits-in-Some.field-0.0 in
+          error_goes (EndsKnown g.R.Reply.makes knows) c.from_residual-in_err-answer_edits-in-Some.result f c.from_residual-in_err-answer_edits-in-Some.ensures.1
+          (c.in_err-answer_edits-in-Some.ensures.named knows follows (known_kept knows c.lines.kept c.lines.service.sessions c.next.new.from.sessions c.next.ensures.beside.sessions (c.lines.invariant.known knows follows known)));
+      bad = error_goes (EndsAtBad (g.P.Pages.told new) (g.P.Pages.view new).size (g.P.Pages.view new).image) c.from_residual-in_err-answer_edits-in-Some.result c.in_err-answer_edits-in-Some.field-0.0 c.from_residual-in_err-answer_edits-in-Some.ensures.1 c.in_err-answer_edits-in-Some.ensures.bad;
+      serves = serves_then (told_in pages) (told_in taken) (told_in new) (view pages) (view taken) (view new) (serves_then (told_in pages) (told_in mid) (told_in taken) (view pages) (view mid) (view taken) inv.serves (serves_disk (told_in mid) (told_in taken) (view mid) (view taken) kept (g.met.P.PageWorld.take_told mid taken takes) (g.met.P.PageWorld.take_was_told mid taken takes))) made.serves;
+      goes_on = goes_then (g.P.Pages.under pages) (g.P.Pages.under taken) (g.P.Pages.under new) (goes_then (g.P.Pages.under pages) (g.P.Pages.under mid) (g.P.Pages.under taken) inv.goes_on (g.met.P.PageWorld.take_goes_on mid taken takes)) made.goes_on;
+      sound = λ other. c.in_err-answer_edits-in-Some.ensures.sound (λ fault. other (error_is c.from_residual-in_err-answer_edits-in-Some.result c.in_err-answer_edits-in-Some.field-0.0 c.from_residual-in_err-answer_edits-in-Some.ensures.1 ∙ fault));
+      rests = λ other. g.met.P.Pages.rests new (c.in_err-answer_edits-in-Some.ensures.sound (λ fault. other (error_is c.from_residual-in_err-answer_edits-in-Some.result c.in_err-answer_edits-in-Some.field-0.0 c.from_residual-in_err-answer_edits-in-Some.ensures.1 ∙ fault)));
+      total = c.answer_edits.ensures.total ∙ ap (λ (s : Superblock). s.total) c.next.ensures.beside.store_is.superblock ∙ c.lines.invariant.total_is;
+    }
+
+pub returns-in_err-edits-in-Line : goal.returns-in_err-edits-in-Line
+returns-in_err-edits-in-Line g c =
+    let view = g.P.Pages.view in
+    let pages = shown.pages c.args.service.now in
+    let mid = shown.pages c.lines.service in
+    let taken = shown.pages c.next.new.from in
+    let o = g.P.Streams.left pages in
+    let before = g.P.Streams.sent pages in
+    let own = c.args.service.now.sessions in
+    let inv = c.lines.invariant in
+    let beside = c.next.ensures.beside in
+    let takes = beside.store_is.pages_are in
+    let kept = g.met.P.PageWorld.take_keeps mid taken takes in
+    let told_in = g.P.Pages.told in
+    let residual = c.from_residual-in_err-edits-in-Line.ensures.1 in
+    let result = c.from_residual-in_err-edits-in-Line.result in
+    record {
+      done = λ total book told stands. on_err result _ _ residual;
+      within = on_err result _ _ residual;
+      ends = λ total book told stands.
+          let far = far_kept g.R.Reply.makes c.args.kept.now o total book own before c.lines.kept c.lines.lines (g.P.Streams.left mid) (g.P.Streams.sent mid) (g.P.Streams.sent taken) (view mid).image (view taken).image c.lines.service.sessions c.next.new.from.sessions kept.image beside.sessions c.next.ensures.sent (inv.far total book told stands) in
+          let here = state_of far.book total c.next.new.from.sessions in
+          error_goes (λ end. EndsAnswers g.R.Reply.makes c.args.kept.now c.lines.kept o (state_of book total own) (view taken).image c.next.new.from.sessions (g.P.Streams.left taken) before (g.P.Streams.sent taken) end) result (Serve NoMemory) residual
+          (record {
+            book = far.book;
+            stands = far.stands;
+            so = no_memory g.R.Reply.makes o (unread c.lines.lines (g.P.Streams.left mid)) c.lines.lines.given (state_of book total own) here here c.args.kept.now c.lines.kept c.lines.kept (g.P.Streams.left taken) before (g.P.Streams.sent taken) (g.P.Streams.sent taken) refl (refl, refl) far.so;
+          });
+      crash = λ total book told stands. lasts_take g.R.Reply.makes c.args.kept.now c.lines.kept o before (g.P.Streams.sent mid) total book own c.lines.service.sessions (view pages) (view mid) (view taken) c.lines.lines (g.P.Streams.left mid) (inv.far total book told stands) (g.met.P.Pages.rests mid inv.fit) (g.met.P.PageWorld.counts_sent pages) (g.met.P.PageWorld.counts_sent mid) (g.met.P.PageWorld.take_passes mid taken takes) (inv.lasts total book told stands);
+      reads = λ total book told stands. read_all o total book own (view pages).reads c.lines.lines (g.P.Streams.left mid) (view taken).image c.next.new.from.sessions (view taken).reads (read_kept o total book own (view pages).reads c.lines.lines (g.P.Streams.left mid) (view mid).image (view taken).image c.lines.service.sessions c.next.new.from.sessions (view mid).reads (view taken).reads kept.image beside.sessions kept.reads (inv.reads total book told stands));
+      read = λ fault. differ (sym (error_is result (Serve NoMemory) residual) ∙ fault) refl;
+      send = λ fault. differ (sym (error_is result (Serve NoMemory) residual) ∙ fault) refl;
+      disk = λ fault. differ (sym (error_is result (Serve NoMemory) residual) ∙ fault) refl;
+      known = λ knows follows known. error_goes (EndsKnown g.R.Reply.makes knows) result (Serve NoMemory) residual tt;
+      bad = error_goes (EndsAtBad (g.P.Pages.told taken) (g.P.Pages.view taken).size (g.P.Pages.view taken).image) result (Serve NoMemory) residual tt;
+      serves = serves_then (told_in pages) (told_in mid) (told_in taken) (view pages) (view mid) (view taken) inv.serves (serves_disk (told_in mid) (told_in taken) (view mid) (view taken) kept (g.met.P.PageWorld.take_told mid taken takes) (g.met.P.PageWorld.take_was_told mid taken takes));
+      goes_on = goes_then (g.P.Pages.under pages) (g.P.Pages.under mid) (g.P.Pages.under taken) inv.goes_on (g.met.P.PageWorld.take_goes_on mid taken takes);
+      sound = λ other. kept.fit inv.fit;
+      rests = λ other. g.met.P.Pages.rests taken (kept.fit inv.fit);
+      total = ap (λ (s : Superblock). s.total) c.next.ensures.beside.store_is.superblock ∙ c.lines.invariant.total_is;
+    }
+
+pub answer_edits-requires-clause-sound : goal.answer_edits-requires-clause-sound
+answer_edits-requires-clause-sound g c =
+    (g.met.P.PageWorld.take_keeps (shown.pages c.lines.service) (shown.pages c.next.new.from) c.next.ensures.beside.store_is.pages_are).fit c.lines.invariant.fit

@@ -12,7 +12,7 @@ returns-clause-stored g c =
     let one = there (stored.catalog c.args.store.now) c.args.id c.requires in
     let tree = c.select.new.self.tree in
     stored_fits c.slots.result tree.span
-    (λ none. none_stored c.args.store.now.space.superblock.fresh one.0 tree (c.select.ensures.slots one.0 one.1) (c.args.store.now.fits c.args.id one.0 one.1) (sym c.slots.ensures.slots ∙ none))
+    (λ none. none_stored (stored.numbers c.args.store.now).fresh one.0 tree (c.select.ensures.slots one.0 one.1) (c.args.store.now.fits c.args.id one.0 one.1) (sym c.slots.ensures.slots ∙ none))
     c.select.new.self.proper
 
 pub returns-clause-there : goal.returns-clause-there

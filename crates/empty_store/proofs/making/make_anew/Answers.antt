@@ -1,4 +1,5 @@
 use Rattle.std.proofs.Common.{◌∙◌, sym, subst}
+use Rattle.block_disk.specs.View.{Honest}
 use Rattle.gate_pages.specs.Journal.{page_count}
 use Rattle.empty_store.specs.Causes.{given}
 use Rattle.empty_store.specs.Stores.{LeavesNew}
@@ -28,3 +29,8 @@ returns-in-Ok-clause-no_memory g c =
     kept_lowered old mid c.write_pages.result c.on_disk.result c.on_disk.ensures.disk opened.count c.write_pages.ensures.size opened.moves.honest
     (λ honest. opened.pages honest ∙ sym (broken_home mid.count (page_count old.size) old.image opened.count (c.requires.broken old.image honest)))
     (memory_kept mid c.write_pages.result c.write_pages.ensures.no_memory)
+
+pub returns-in-Ok-clause-honest : goal.returns-in-Ok-clause-honest
+returns-in-Ok-clause-honest g c = λ honest.
+    let Q : g.row.D.Denot → Type 0 = λ disk. Honest (g.D.Disk.view disk) in
+    subst Q (given_of c.write_pages.result c.on_disk.result c.on_disk.ensures.disk) (c.write_pages.ensures.told (c.in-Ok.ensures.moves.honest honest))
