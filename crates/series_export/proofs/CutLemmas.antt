@@ -13,7 +13,7 @@ abbrev pub values_of_runs : List Run → List Stored
 values_of_runs [] = []
 values_of_runs (run ∷ runs) = map stored_of (readings run) ++ values_of_runs runs
 
-abbrev values_of_open : Option Run → List Stored
+abbrev pub values_of_open : Option Run → List Stored
 values_of_open None = []
 values_of_open (Some run) = map stored_of (readings run)
 
@@ -29,7 +29,7 @@ none_last (Some r ∷ rows) = ap (λ l. stored_of r ∷ l) (none_last rows)
 run_rows : (run : Run) (rows : List (Option Reading)) → values_of (rows_of run ++ rows) ≡ map stored_of (readings run) ++ values_of rows
 run_rows run rows = some_rows (readings run) rows
 
-cut_values : (step : ℕ) (rows : List (Option Reading)) (runs : List Run) (open_run : Option Run) → Cut step rows runs open_run → values_of rows ≡ values_of_runs runs ++ values_of_open open_run
+pub cut_values : (step : ℕ) (rows : List (Option Reading)) (runs : List Run) (open_run : Option Run) → Cut step rows runs open_run → values_of rows ≡ values_of_runs runs ++ values_of_open open_run
 cut_values step _ _ _ nothing = refl
 cut_values step _ _ _ (still run is few) = ap values_of (sym (append-nil (rows_of run))) ∙ run_rows run [] ∙ append-nil (map stored_of (readings run))
 cut_values step _ _ _ (gap rows runs open_run cut) = cut_values step rows runs open_run cut
@@ -81,7 +81,7 @@ abbrev pub AreRuns : ℕ → List Run → Type 0
 AreRuns step [] = Unit {0}
 AreRuns step (run ∷ runs) = IsRun step run × AreRuns step runs
 
-are_runs : (step : ℕ) (rows : List (Option Reading)) (runs : List Run) (open_run : Option Run) → Cut step rows runs open_run → AreRuns step runs
+pub are_runs : (step : ℕ) (rows : List (Option Reading)) (runs : List Run) (open_run : Option Run) → Cut step rows runs open_run → AreRuns step runs
 are_runs step _ _ _ nothing = tt
 are_runs step _ _ _ (still run is few) = tt
 are_runs step _ _ _ (gap rows runs open_run cut) = are_runs step rows runs open_run cut

@@ -2,3 +2,5 @@ pub mod ExportLemmas
 pub mod CutLemmas
 pub mod SetLemmas
 pub mod RowLemmas
+pub mod RoomLemmas
+pub mod AcceptLemmas

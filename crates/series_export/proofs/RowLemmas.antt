@@ -1,6 +1,6 @@
 -- The lines of an export are read as the series' stored values.
 use Rattle.std.proofs.Common.{◌≡◌, ◌≢◌, ℕ, ℤ, pos, ◌+ℤ◌, zero, suc, ◌+◌, ◌-◌, ◌*◌, ◌^◌, ◌<◌, ◌≤◌, ◌==◌, true, false, cond, ltb, unsigned_abs, List, [], ◌∷◌, ◌++◌, map, length, take, get_or, Option, None, Some, refl, sym, ap, subst, arith, inl, inr, ◌∙◌}
-use Rattle.std.specs.Prelude.{codes, slice_index}
+use Rattle.std.specs.Prelude.{codes, slice_index, IsTrue}
 use Rattle.std.specs.Int.{IsInRange}
 use Rattle.std.specs.Fmt.{signed_decimal}
 use Rattle.std.specs.Option.{IsSomeAnd}
@@ -10,18 +10,20 @@ use Rattle.std.proofs.lemmas.Bool.Decides.{nat_tests}
 use Rattle.std.proofs.lemmas.Int.{ints}
 use Rattle.std.proofs.lemmas.List.{append_assoc, append-nil, length-append}
 use Rattle.std.proofs.lemmas.List.Splits.{slice_split_at, length-slice_split}
-use Rattle.chart_world.specs.Fronts.{says}
-use Rattle.chart_world.specs.Lines.{is_line_feed, without_empty_end, without_return, text_of, split_lines}
+use Rattle.chart_world.specs.Fronts.{says, BeginsWith}
+use Rattle.chart_world.specs.Lines.{is_line_feed, without_empty_end, without_return, text_of, split_lines, lines}
 use Rattle.csv_load.specs.Fields.{Fields, fields_of_line, trimmed, is_plain}
-use Rattle.csv_load.specs.Rows.{Says, FieldsSay}
+use Rattle.csv_load.specs.Rows.{Says, Fails, FieldsSay}
 use Rattle.csv_load.specs.declared.row.Row.{Row}
+use Rattle.csv_load.specs.declared.row.RowCause.{RowCause}
 use Rattle.csv_load.specs.declared.row.Row.TheVariants.{Point, Skip, Header}
 use Rattle.reading_lines.specs.Lines.{reading_row, reading_line, decimal_text}
 use Rattle.series_book.specs.declared.one_series.Series.{Series}
 use Rattle.series_book.specs.Books.{IsSeries}
 use Rattle.series_book.specs.Edits.{is_too_large}
 use Rattle.series_load.specs.Fronts.{PlacedLine, placed_from, told}
-use Rattle.series_load.specs.Rows.{Reading, AreRows, AreTable, ReadsRows}
+use Rattle.series_load.specs.Rows.{Reading, IsRow, AreRows, AreTable, IsBad, BadFirst, ReadsRows}
+use Rattle.series_load.proofs.Joined.{told_begins}
 use Rattle.series_export.specs.Exports.{Stored, stored_from, stored_values, asked, lines_of, header, export_text}
 use Rattle.series_export.specs.RoundTrips.{values_of, IsBegunAs, StandsForSame}
 use Rattle.series_export.proofs.SetLemmas.{holds_named}
@@ -30,12 +32,17 @@ use Rattle.series_load.specs.Ends.{IsLoaded}
 use Rattle.series_load.specs.Runs.{AllRuns}
 use Rattle.series_load.specs.Sets.{IsNamed}
 
+-- the lines behind a front
+abbrev pub behind_lines : List ℕ → List ℕ → List PlacedLine
+behind_lines front rest = filter (λ (line : PlacedLine). says line.text) (placed_from (length front) (split_lines rest))
+
 -- what the laws of lines tell
 pub record Knows : Type 0 where
   pub bytes : (scale : ℕ) (time value : ℤ) → unsigned_abs time < 10 ^ 19 → unsigned_abs value < 10 ^ 19 → All (λ byte. IsInRange 44 57 byte) (reading_row scale time value)
   pub short : (scale : ℕ) (time value : ℤ) → scale ≤ 9 → unsigned_abs time < 10 ^ 19 → unsigned_abs value < 10 ^ 19 → length (reading_line scale time value) ≤ 52
   pub reading : (scale : ℕ) (time value : ℤ) → unsigned_abs time < 10 ^ 19 → unsigned_abs value < 10 ^ 19 → Says scale (reading_row scale time value) (Point time value)
   pub one : (scale : ℕ) (line : List ℕ) (row other : Row) → Says scale line row → Says scale line other → row ≡ other
+  pub either : (scale : ℕ) (line : List ℕ) (row : Row) (cause : RowCause) → Says scale line row → Fails scale line cause → ⊥
   pub fields : (time value : List ℕ) → AllPass is_plain time → AllPass is_plain value → slice_index (time ++ 44 ∷ value) 0 ≢ 0xEF → fields_of_line (time ++ 44 ∷ value) ≡ Some (record { time = trimmed time; value = trimmed value })
 
 abbrev row_of : ℕ → Stored → List ℕ
@@ -122,17 +129,38 @@ same_stored reading one time value = ap (λ t. record { time = t; value = readin
 same_point : (time value later other : ℤ) → Point time value ≡ Point later other → (time ≡ later) × (value ≡ other)
 same_point time value later other same = (cc, cc)
 
-rows_values : Knows → (scale : ℕ) (values : List Stored) (at : ℕ) (rows : List (Option Reading)) → AreNear values → AreRows scale (placed_values scale at values) rows → values_of rows ≡ values
-rows_values knows scale [] at [] near are = refl
-rows_values knows scale [] at (row ∷ rows) near are = absurd are
-rows_values knows scale (one ∷ values) at [] near are = absurd are
-rows_values knows scale (one ∷ values) at (None ∷ rows) near are =
-    let never : Point one.time one.value ≡ Skip are.0.0 = knows.one scale (row_of scale one) (Point one.time one.value) (Skip are.0.0) (knows.reading scale one.time one.value near.0 near.1) are.0.1 in
+-- the rows that the first lines are read the first values
+pub record ReadsFirst (values : List Stored) (rows : List (Option Reading)) (behind : List PlacedLine) : Type 0 where
+  pub later : List Stored
+  pub values_are : values ≡ values_of rows ++ later
+  pub ended : behind ≡ [] → later ≡ []
+
+no_values : (scale : ℕ) (values : List Stored) (at : ℕ) → placed_values scale at values ≡ [] → values ≡ []
+no_values scale [] at none = refl
+no_values scale (one ∷ values) at none = absurd (cc)
+
+rows_first : Knows → (scale : ℕ) (values : List Stored) (at : ℕ) (lines : List PlacedLine) (rows : List (Option Reading)) (behind : List PlacedLine) → AreNear values → placed_values scale at values ≡ lines ++ behind → AreRows scale lines rows → ReadsFirst values rows behind
+rows_first knows scale values at [] [] behind near is are = record { later = values; values_are = refl; ended = λ none. no_values scale values at (is ∙ none) }
+rows_first knows scale values at [] (row ∷ rows) behind near is are = absurd are
+rows_first knows scale values at (line ∷ lines) [] behind near is are = absurd are
+rows_first knows scale [] at (line ∷ lines) (row ∷ rows) behind near is are = absurd (cc)
+rows_first knows scale (one ∷ values) at (line ∷ lines) (None ∷ rows) behind near is are =
+    let P : PlacedLine → Type 0 = λ l. IsRow scale l None in
+    let here : line ≡ placed at (row_of scale one) = sym (cc) in
+    let skip = subst P here are.0 in
+    let never : Point one.time one.value ≡ Skip skip.0 = knows.one scale (row_of scale one) (Point one.time one.value) (Skip skip.0) (knows.reading scale one.time one.value near.0 near.1) skip.1 in
     absurd (cc)
-rows_values knows scale (one ∷ values) at (Some reading ∷ rows) near are =
-    let both = same_point reading.time reading.value one.time one.value (knows.one scale (row_of scale one) (Point reading.time reading.value) (Point one.time one.value) are.0.1 (knows.reading scale one.time one.value near.0 near.1)) in
-    ap (λ l. record { time = reading.time; value = reading.value } ∷ l) (rows_values knows scale values (at + length (row_of scale one) + 1) rows near.2 are.1)
-    ∙ ap (λ x. x ∷ values) (same_stored reading one both.0 both.1)
+rows_first knows scale (one ∷ values) at (line ∷ lines) (Some reading ∷ rows) behind near is are =
+    let P : PlacedLine → Type 0 = λ l. IsRow scale l (Some reading) in
+    let here : line ≡ placed at (row_of scale one) = sym (cc) in
+    let rest : placed_values scale (at + length (row_of scale one) + 1) values ≡ lines ++ behind = cc in
+    let both = same_point reading.time reading.value one.time one.value (knows.one scale (row_of scale one) (Point reading.time reading.value) (Point one.time one.value) (subst P here are.0).1 (knows.reading scale one.time one.value near.0 near.1)) in
+    let on = rows_first knows scale values (at + length (row_of scale one) + 1) lines rows behind near.2 rest are.1 in
+    record {
+      later = on.later;
+      values_are = ap (λ l. one ∷ l) on.values_are ∙ ap (λ x. x ∷ (values_of rows ++ on.later)) (sym (same_stored reading one both.0 both.1));
+      ended = on.ended;
+    }
 
 abbrev rows_at : ℕ → ℕ → List Stored → List (Option Reading)
 rows_at scale at [] = []
@@ -191,18 +219,29 @@ text_lines knows series few near =
     ∙ filter_row 0 names (placed_from 11 (map (row_of series.scale) (stored_values series))) (omega arith) names_text
     ∙ ap (λ l. placed 0 names ∷ l) (told_values knows series.scale (stored_values series) 11 few near)
 
-table_values : Knows → (scale : ℕ) (values : List Stored) (rows : List (Option Reading)) → AreNear values → AreTable scale (placed 0 names ∷ placed_values scale 11 values) rows → values_of rows ≡ values
-table_values knows scale values [] near (inl are) = absurd are
-table_values knows scale values (None ∷ rows) near (inl are) =
-    let never : Header ≡ Skip are.0.0 = knows.one scale names Header (Skip are.0.0) (says_header knows scale) are.0.1 in
-    absurd (cc)
-table_values knows scale values (Some reading ∷ rows) near (inl are) =
-    let never : Header ≡ Point reading.time reading.value = knows.one scale names Header (Point reading.time reading.value) (says_header knows scale) are.0.1 in
-    absurd (cc)
-table_values knows scale values rows near (inr has) =
-    let P : List PlacedLine → Type 0 = λ l. AreRows scale l rows in
-    let same : has.later ≡ placed_values scale 11 values = sym (cc) in
-    rows_values knows scale values 11 rows near (subst P same has.rows_are)
+-- the header's line is no row
+header_first : Knows → (scale at : ℕ) (line : PlacedLine) (row : Option Reading) → line ≡ placed at names → IsRow scale line row → ⊥
+header_first knows scale at line None here is =
+    let P : PlacedLine → Type 0 = λ l. IsRow scale l None in
+    let skip = subst P here is in
+    let never : Header ≡ Skip skip.0 = knows.one scale names Header (Skip skip.0) (says_header knows scale) skip.1 in
+    cc
+header_first knows scale at line (Some reading) here is =
+    let P : PlacedLine → Type 0 = λ l. IsRow scale l (Some reading) in
+    let never : Header ≡ Point reading.time reading.value = knows.one scale names Header (Point reading.time reading.value) (says_header knows scale) (subst P here is).1 in
+    cc
+
+table_first : Knows → (scale : ℕ) (values : List Stored) (lines : List PlacedLine) (rows : List (Option Reading)) (behind : List PlacedLine) → AreNear values → placed 0 names ∷ placed_values scale 11 values ≡ lines ++ behind → AreTable scale lines rows → ReadsFirst values rows behind
+table_first knows scale values [] [] behind near is (inl are) = record { later = values; values_are = refl; ended = λ none. absurd (cc) }
+table_first knows scale values [] (row ∷ rows) behind near is (inl are) = absurd are
+table_first knows scale values (line ∷ lines) [] behind near is (inl are) = absurd are
+table_first knows scale values (line ∷ lines) (row ∷ rows) behind near is (inl are) =
+    let here : line ≡ placed 0 names = sym (cc) in
+    absurd (header_first knows scale 0 line row here are.0)
+table_first knows scale values lines rows behind near is (inr has) =
+    let all : placed 0 names ∷ placed_values scale 11 values ≡ has.header ∷ (has.later ++ behind) = is ∙ ap (λ l. l ++ behind) has.split in
+    let rest : placed_values scale 11 values ≡ has.later ++ behind = cc in
+    rows_first knows scale values 11 has.later rows behind near rest has.rows_are
 
 -- the stored values of a series are small
 more_abs : (z : ℤ) (n : ℕ) → unsigned_abs (z +ℤ pos n) ≤ unsigned_abs z + n
@@ -224,11 +263,88 @@ near_values series is = near_from series.step series.slots series.start (total (
     total : (a n step : ℕ) → a ≤ 10 ^ 18 → n ≤ 2 ^ 28 → step ≤ 2 ^ 31 → a + n * step < 10 ^ 19
     total a n step few long short = omega (arith, few, mul-le-mul_right step long, short)
 
+-- the rows of a front of the export read the first stored values
+pub first_rows : Knows → (series : Series) (front rest : List ℕ) (rows : List (Option Reading)) → IsSeries series → ReadsRows series.scale (export_text series None) front rest rows
+    → ReadsFirst (stored_values series) rows (behind_lines front rest)
+first_rows knows series front rest rows is reads =
+    let near = near_values series is in
+    table_first knows series.scale (stored_values series) (told front) rows (behind_lines front rest) near
+    (sym (text_lines knows series is.scale_in_range near) ∙ told_begins (export_text series None) front rest reads.begins) reads.table
+
+-- and those of all of it read all
 pub rows_are : Knows → (series : Series) (rows : List (Option Reading)) → IsSeries series → ReadsRows series.scale (export_text series None) (export_text series None) [] rows → values_of rows ≡ stored_values series
 rows_are knows series rows is reads =
+    let first = first_rows knows series (export_text series None) [] rows is reads in
+    let none : first.later ≡ [] = first.ended (ap (λ parts. filter (λ (line : PlacedLine). says line.text) (placed_from (length (export_text series None)) parts)) split_nothing) in
+    sym (first.values_are ∙ ap (λ l. values_of rows ++ l) none ∙ append-nil (values_of rows))
+
+-- each line behind the first is a row
+record IsLineOf (scale : ℕ) (line : PlacedLine) : Type 0 where
+  pub one : Stored
+  pub near_time : unsigned_abs one.time < 10 ^ 19
+  pub near_value : unsigned_abs one.value < 10 ^ 19
+  pub text : line.text ≡ Some (row_of scale one)
+
+line_of : (scale : ℕ) (values : List Stored) (at : ℕ) (before : List PlacedLine) (line : PlacedLine) (behind : List PlacedLine) → AreNear values → placed_values scale at values ≡ before ++ line ∷ behind → IsLineOf scale line
+line_of scale [] at [] line behind near is = absurd (cc)
+line_of scale [] at (b ∷ before) line behind near is = absurd (cc)
+line_of scale (one ∷ values) at [] line behind near is =
+    let here : line ≡ placed at (row_of scale one) = sym (cc) in
+    record { one = one; near_time = near.0; near_value = near.1; text = ap (λ (l : PlacedLine). l.text) here }
+line_of scale (one ∷ values) at (b ∷ before) line behind near is =
+    let rest : placed_values scale (at + length (row_of scale one) + 1) values ≡ before ++ line ∷ behind = cc in
+    line_of scale values (at + length (row_of scale one) + 1) before line behind near.2 rest
+
+row_good : Knows → (scale : ℕ) (before : List PlacedLine) (line : PlacedLine) → IsLineOf scale line → IsBad scale before line.text → ⊥
+row_good knows scale before line of bad =
+    let P : Option (List ℕ) → Type 0 = λ text. IsBad scale before text in
+    let one = of.one in
+    let says_so = knows.reading scale one.time one.value of.near_time of.near_value in
+    elim (subst P of.text bad) [
+      | inl fails ↦ knows.either scale (row_of scale one) (Point one.time one.value) fails.0 says_so fails.1
+      | inr late ↦
+          let never : Point one.time one.value ≡ Header = knows.one scale (row_of scale one) (Point one.time one.value) Header says_so late.1 in
+          cc
+    ]
+
+header_good : Knows → (scale : ℕ) (text : Option (List ℕ)) → text ≡ Some names → IsBad scale [] text → ⊥
+header_good knows scale text is bad =
+    let P : Option (List ℕ) → Type 0 = λ text. IsBad scale [] text in
+    elim (subst P is bad) [
+      | inl fails ↦ knows.either scale names Header fails.0 (says_header knows scale) fails.1
+      | inr late ↦ absurd (omega (arith, late.0))
+    ]
+
+line_good : Knows → (scale : ℕ) (values : List Stored) (before : List PlacedLine) (line : PlacedLine) (behind : List PlacedLine) → AreNear values → placed 0 names ∷ placed_values scale 11 values ≡ before ++ line ∷ behind → IsBad scale before line.text → ⊥
+line_good knows scale values [] line behind near is bad =
+    let here : line ≡ placed 0 names = sym (cc) in
+    header_good knows scale line.text (ap (λ (l : PlacedLine). l.text) here) bad
+line_good knows scale values (b ∷ before) line behind near is bad =
+    let rest : placed_values scale 11 values ≡ before ++ line ∷ behind = cc in
+    row_good knows scale (b ∷ before) line (line_of scale values 11 before line behind near rest) bad
+
+-- the first line that says something stands first among those that do
+first_told : (at : ℕ) (line : Option (List ℕ)) (parts : List (List ℕ)) (later : List (Option (List ℕ))) → map text_of parts ≡ line ∷ later → IsTrue (says line)
+    → (behind : List PlacedLine) × (filter (λ (line : PlacedLine). says line.text) (placed_from at parts) ≡ record { at = at; text = line } ∷ behind)
+first_told at line [] later is some = absurd (cc)
+first_told at line (part ∷ parts) later is some =
+    let same : text_of part ≡ line = cc in
+    let rest = filter (λ (line : PlacedLine). says line.text) (placed_from (at + length part + 1) parts) in
+    (rest, ap (λ t. filter (λ (line : PlacedLine). says line.text) (record { at = at; text = t } ∷ placed_from (at + length part + 1) parts)) same ∙ by line some rest)
+  where
+    by : (line : Option (List ℕ)) → IsTrue (says line) → (rest : List PlacedLine) → cond (says line) (record { at = at; text = line } ∷ rest) rest ≡ record { at = at; text = line } ∷ rest
+    by None some rest = refl
+    by (Some []) some rest = absurd (cc)
+    by (Some (b ∷ bs)) some rest = refl
+
+-- no line of an export is bad
+pub none_bad : Knows → (series : Series) (front rest : List ℕ) → IsSeries series → BeginsWith (export_text series None) front rest → BadFirst series.scale (told front) rest → ⊥
+unfolding lines
+none_bad knows series front rest is begins bad =
     let near = near_values series is in
-    let P : List PlacedLine → Type 0 = λ l. AreTable series.scale l rows in
-    table_values knows series.scale (stored_values series) rows near (subst P (text_lines knows series is.scale_in_range near) reads.table)
+    let first = first_told (length front) bad.line (split_lines rest) bad.later bad.lines_are bad.some in
+    line_good knows series.scale (stored_values series) (told front) (record { at = length front; text = bad.line }) first.0 near
+    (sym (text_lines knows series is.scale_in_range near) ∙ told_begins (export_text series None) front rest begins ∙ ap (λ l. told front ++ l) first.1) bad.bad
 
 pub some_rows : Knows → (series : Series) → IsSeries series → (rows : List (Option Reading)) × ReadsRows series.scale (export_text series None) (export_text series None) [] rows
 some_rows knows series is =

@@ -3,16 +3,19 @@ ghost use Rattle.std.specs.Prelude.{◌≡◌, ◌≤◌, ℕ, List, [], Option,
 ghost use Rattle.block_disk.specs.View.{Image};
 ghost use Rattle.series_book.specs.declared.one_series.Series.{Series};
 ghost use Rattle.series_book.specs.Books.{IsSeries};
+ghost use Rattle.series_book.specs.Pages.{pages_of};
 ghost use Rattle.series_load.specs.Ends.{IsLoaded};
 ghost use Rattle.series_load.specs.Rows.{Reading, ReadsRows};
 ghost use Rattle.series_load.specs.Runs.{Run, AllRuns};
 ghost use Rattle.series_load.specs.Sets.{IsNamed, Loads};
 ghost use Rattle.series_export.specs.Exports.{stored_values, export_text};
 ghost use Rattle.series_export.specs.RoundTrips.{values_of, IsBegunAs, HoldsSame, HoldsNamed, StandsForSame};
+ghost use Rattle.series_export.specs.Room.{HasNewFor, HasRoomFor, AreRunsOf, Accepts, LoadsBack, GoesThrough};
 ghost use Rattle.series_export.specs.declared.window.Window.{Window};
 
 use csv_load::laws::{one_answer, plain_lines};
 use reading_lines::laws::{lines_are_plain, lines_are_read_back};
+use series_load::laws::runs_are_one;
 
 /// The sets that a load makes of rows that read a series' stored values give a new series of the same start,
 /// step and scale the same values at the same slots; and the export of a series that holds the same is the
@@ -37,4 +40,22 @@ pub fn exports_are_read_back()
     lines_are_read_back();
     one_answer();
     plain_lines();
+}
+
+/// In a store with room a load of a series' export into a new series of the same start, step and scale reads no bad line,
+/// and each of its sets is accepted; then that one holds the same values at the same slots, and its export is the same text. The sets
+/// are accepted of any rows that read the series' stored values, and that room is needed for it.
+pub fn exports_load_where_there_is_room()
+    ensures sets { (total : ℕ) (name : List ℕ) (book : List Series) (series : Series) (runs : List Run) → IsSeries series → HasRoomFor total name book series → AreRunsOf series runs → Accepts total name book runs }
+    ensures needed { (total : ℕ) (name : List ℕ) (book : List Series) (series : Series) (runs : List Run) →
+        IsSeries series → HasNewFor name book series → pages_of book ≤ total → AreRunsOf series runs → Accepts total name book runs → HasRoomFor total name book series }
+    ensures back { (total : ℕ) (name : List ℕ) (book : List Series) (series : Series) → IsSeries series → HasRoomFor total name book series → LoadsBack total name book series }
+    ensures through { (total : ℕ) (name : List ℕ) (book : List Series) (series begun : Series) →
+        IsSeries series → HasRoomFor total name book series → IsNamed book name begun → GoesThrough total name book begun (export_text series None) }
+{
+    lines_are_plain();
+    lines_are_read_back();
+    one_answer();
+    plain_lines();
+    runs_are_one();
 }

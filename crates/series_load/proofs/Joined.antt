@@ -2,7 +2,7 @@
 use Rattle.std.proofs.Common.{◌≡◌, ℕ, ◌+◌, ◌<◌, List, [], ◌∷◌, ◌++◌, length, take, get_or, map, refl, ap, subst, inl, inr, ◌⊎◌, sym, ◌∙◌, arith, append_assoc, length-append, Option}
 use Rattle.std.specs.Prelude.{true, false, cond}
 use Rattle.std.specs.List.{filter, flat_map, slice_split, onto_first, after_first, position_or_len}
-use Rattle.std.proofs.lemmas.List.{map-append, take-append-drop, take_more, drop_all, append_cancel_right}
+use Rattle.std.proofs.lemmas.List.{map-append, append-nil, take-append-drop, take_more, drop_all, append_cancel_right}
 use Rattle.std.proofs.lemmas.List.Elements.{filter-append}
 use Rattle.std.proofs.lemmas.List.Sums.{passes_at_first}
 use Rattle.std.proofs.lemmas.List.Splits.{length-slice_split}
@@ -10,7 +10,7 @@ use Rattle.std.proofs.lemmas.Bool.{cases_lt, eqb-true}
 use Rattle.chart_world.specs.Laws.{with_line_feed}
 use Rattle.chart_world.specs.Lines.{is_line_feed, without_empty_end, split_lines, text_of, lines}
 use Rattle.chart_world.specs.LineLaws.{split_none, split_whole, joined_lines}
-use Rattle.chart_world.specs.Fronts.{says, IsWhole}
+use Rattle.chart_world.specs.Fronts.{says, IsWhole, BeginsWith}
 use Rattle.series_load.specs.Fronts.{PlacedLine, placed_from, told}
 use Rattle.series_load.specs.Steps.{if_told}
 
@@ -49,16 +49,31 @@ one_placed : (at : ℕ) (text : Option (List ℕ)) (piece : List ℕ) → lines 
 unfolding lines
 one_placed at text piece is = one_line at text (split_lines piece) is
 
+-- behind whole lines the others stand at their places
+told_whole : (front rest : List ℕ) → IsWhole front → told (front ++ rest) ≡ told front ++ filter (λ (line : PlacedLine). says line.text) (placed_from (length front) (split_lines rest))
+unfolding told
+told_whole front rest whole =
+    let test = λ (line : PlacedLine). says line.text in
+    ap (λ parts. filter test (placed_from 0 parts)) (split_whole front rest whole)
+    ∙ ap (filter test) (placed_joined 0 (split_lines front) (split_lines rest))
+    ∙ filter-append test (placed_from 0 (split_lines front)) (placed_from (0 + bytes_of (split_lines front)) (split_lines rest))
+    ∙ ap (λ l. filter test (placed_from 0 (split_lines front)) ++ filter test l)
+    (placed_at (0 + bytes_of (split_lines front)) (length front) (split_lines rest) (omega (arith, bytes_whole front whole)))
+
 -- a line more, at its place
 pub told_joined : (front piece : List ℕ) (text : Option (List ℕ)) → IsWhole front → lines piece ≡ text ∷ [] → told (front ++ piece) ≡ told front ++ if_told (length front) text
-unfolding told
 told_joined front piece text whole is =
-    let test = λ (line : PlacedLine). says line.text in
-    ap (λ parts. filter test (placed_from 0 parts)) (split_whole front piece whole)
-    ∙ ap (filter test) (placed_joined 0 (split_lines front) (split_lines piece))
-    ∙ filter-append test (placed_from 0 (split_lines front)) (placed_from (0 + bytes_of (split_lines front)) (split_lines piece))
-    ∙ ap (λ l. filter test (placed_from 0 (split_lines front)) ++ filter test l)
-    (placed_at (0 + bytes_of (split_lines front)) (length front) (split_lines piece) (omega (arith, bytes_whole front whole)) ∙ one_placed (length front) text piece is)
+    told_whole front piece whole ∙ ap (λ l. told front ++ filter (λ (line : PlacedLine). says line.text) l) (one_placed (length front) text piece is)
+
+-- the lines of an input are those of its front and those behind it
+pub told_begins : (input front rest : List ℕ) → BeginsWith input front rest → told input ≡ told front ++ filter (λ (line : PlacedLine). says line.text) (placed_from (length front) (split_lines rest))
+told_begins input front rest begins = ap told begins.split ∙ by begins.whole
+  where
+    by : IsWhole front ⊎ (rest ≡ []) → told (front ++ rest) ≡ told front ++ filter (λ (line : PlacedLine). says line.text) (placed_from (length front) (split_lines rest))
+    by (inl whole) = told_whole front rest whole
+    by (inr none) =
+        let P : List ℕ → Type 0 = λ r. told (front ++ r) ≡ told front ++ filter (λ (line : PlacedLine). says line.text) (placed_from (length front) (split_lines r)) in
+        subst P (sym none) (ap told (append-nil front) ∙ sym (ap (λ parts. told front ++ filter (λ (line : PlacedLine). says line.text) (placed_from (length front) parts)) split_none ∙ append-nil (told front)))
 
 pub told_nothing : told [] ≡ []
 unfolding told

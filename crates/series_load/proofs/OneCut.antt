@@ -1,4 +1,4 @@
--- The runs of rows are one list, and those that have ended within the first rows are its first.
+-- Rows have runs, these are one list, and those that have ended within the first rows are its first.
 use Rattle.std.proofs.Common.{◌≡◌, ℕ, pos, ◌-ℤ◌, ◌+◌, ◌<◌, ◌≤◌, Bool, true, false, List, [], ◌∷◌, ◌++◌, length, map, Option, None, Some, refl, ap, subst, inl, inr, sym, ◌∙◌, arith, append_assoc, length-append}
 use Rattle.std.proofs.lemmas.List.{append-nil}
 use Rattle.std.specs.Prelude.{nat_lt, if◌then◌else◌}
@@ -8,8 +8,8 @@ use Rattle.std.proofs.lemmas.Bool.Decides.{Decides-int_eq, Decides-ltb}
 use Rattle.std.specs.Bool.{Decides}
 use Rattle.series_load.specs.Rows.{Reading}
 use Rattle.series_load.specs.Runs.{Run, readings, rows_of, Follows, AreSteady, last_of, last_reading, IsRun, Breaks, EndsAt, Cut, nothing, still, gap, whole, Ended}
-use Rattle.series_load.specs.Steps.{closed}
-use Rattle.series_load.proofs.RunLemmas.{one_run, run_more, last_more}
+use Rattle.series_load.specs.Steps.{closed, Adds}
+use Rattle.series_load.proofs.RunLemmas.{one_run, run_more, last_more, adds_gap, adds_first, adds_next, adds_last}
 
 -- whether a reading follows another
 abbrev follows : ℕ → Reading → Reading → Bool
@@ -135,3 +135,28 @@ first_cut step rows more runs runs' first second =
     let behind = stays step runs first.0 more in
     let same : at runs' second.0 ≡ goes step (at runs first.0) more = sym (cut_is second.1 []) ∙ goes_then step (at [] None) rows more ∙ ap (λ s. goes step s more) (cut_is first.1 []) in
     (behind.0, ap (λ (s : State). s.ended) same ∙ behind.1)
+
+-- a row more, and what it ends
+one_more : (step : ℕ) (old : Option Run) (row : Option Reading) → (ends : List Run) × (new : Option Run) × Adds step old row ends new
+one_more step None None = ([], None, adds_gap step None)
+one_more step (Some run) None = (run ∷ [], None, adds_gap step (Some run))
+one_more step None (Some reading) = ([], Some (one_run reading), adds_first step None reading tt)
+one_more step (Some run) (Some reading) = by (follows step (last_reading run) reading) (Decides-int_eq (reading.time -ℤ (last_reading run).time) (pos step))
+  where
+    by : (b : Bool) → Decides b (Follows step (last_reading run) reading) → (ends : List Run) × (new : Option Run) × Adds step (Some run) (Some reading) ends new
+    by true decides = elim (cases_lt (length (readings (run_more run reading))) 256) [
+      | inl few ↦ ([], Some (run_more run reading), adds_next step run reading (decides.0 refl) few)
+      | inr many ↦ (run_more run reading ∷ [], None, adds_last step run reading (decides.0 refl) many)
+    ]
+    by false decides = (run ∷ [], Some (one_run reading), adds_first step (Some run) reading (λ is. let other : false ≡ true = decides.1 is in cc))
+
+-- rows behind others have runs
+pub some_cut : (step : ℕ) (more done : List (Option Reading)) (runs : List Run) (old : Option Run) → Cut step done runs old → (all : List Run) × Ended step (done ++ more) all
+some_cut step [] done runs old cut =
+    let P : List (Option Reading) → Type 0 = λ r. Cut step r runs old in
+    (runs, (old, subst P (sym (append-nil done)) cut))
+some_cut step (row ∷ later) done runs old cut =
+    let one = one_more step old row in
+    let on = some_cut step later (done ++ row ∷ []) (runs ++ one.0) one.1 (one.2 done runs cut) in
+    let P : List (Option Reading) → Type 0 = λ r. Ended step r on.0 in
+    (on.0, subst P (append_assoc done (row ∷ []) later) on.1)

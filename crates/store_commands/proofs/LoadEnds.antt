@@ -194,7 +194,7 @@ opened_some name old new (Some input) opens = λ total book holds series named. 
 opened_keeps : (old new : View) (code : ℕ) → Opens (page_count old.size) old new → (name : List ℕ) → Unnamed (page_count old.size) old name (λ total book. Contains (3 ∷ 6 ∷ 14 ∷ []) code) → Unnamed (page_count old.size) old name (λ total book. KeepsUnnamed (page_count old.size) total book old new code)
 opened_keeps old new code opens name codes = λ total book holds none. record { codes = codes total book holds none; moments = opened_since old new opens total book holds }
 
-small_never : (old : View) (total : ℕ) (book : List Series) → HoldsBook (page_count old.size) total book old → old.size < 128 → ⊥
+pub small_never : (old : View) (total : ℕ) (book : List Series) → HoldsBook (page_count old.size) total book old → old.size < 128 → ⊥
 small_never old total book holds small = omega (arith, small, is_large old.size total old.image book (holds.images old.image holds.honest))
 
 pub opening_ends : (name : List ℕ) (old new : View) (left left' before now : Option (List ℕ)) (reads reads_now sends sends_now : ℕ) (cause : OpeningCause) → Opens (page_count old.size) old new → Prevents cause old new

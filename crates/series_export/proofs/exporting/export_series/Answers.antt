@@ -4,6 +4,7 @@ use Rattle.series_store.proofs.AskLemmas.{start_same}
 use Rattle.std.specs.Prelude.{OnOk, OnErr}
 use Rattle.block_disk.specs.Streams.{sent_after, PartSent}
 use Rattle.series_store.specs.Sending.{texts_of}
+use Rattle.series_store.specs.Shown as stored
 use Rattle.series_export.specs.Exports.{line_at, export_text}
 use Rattle.series_export.proofs.ExportLemmas.{text_is}
 use Rattle.series_export.proofs.exporting.export_series.Goals as goal
@@ -15,7 +16,7 @@ returns-clause-sent g c = λ total book series told stands there.
     let start : ℤ = to_z w64 (of_z w64 info.start) in
     let text : c.in_ok-out.out.items ++ texts_of (line_at start info.step info.scale c.args.window) series.slots ≡ export_text series c.args.window =
     ap (λ l. l ++ texts_of (line_at start info.step info.scale c.args.window) series.slots) c.in_ok-out.ensures.header ∙ text_is series c.args.window start info.step info.scale (start_same info.start c.info-info.ensures.start ∙ is.start) is.step is.scale in
-    let P : List ℕ → Type 0 = λ l. OnOk c.send_values.result (g.P.Streams.sent c.send_values.new.self.space.pages ≡ sent_after l (g.P.Streams.sent c.args.store.now.space.pages)) in
+    let P : List ℕ → Type 0 = λ l. OnOk c.send_values.result (g.P.Streams.sent (stored.pages c.send_values.new.self) ≡ sent_after l (g.P.Streams.sent (stored.pages c.args.store.now))) in
     subst P text (c.send_values.ensures.sent total book series told stands there)
 
 pub returns-clause-part : goal.returns-clause-part
@@ -25,5 +26,5 @@ returns-clause-part g c = λ total book series told stands there.
     let start : ℤ = to_z w64 (of_z w64 info.start) in
     let text : c.in_ok-out.out.items ++ texts_of (line_at start info.step info.scale c.args.window) series.slots ≡ export_text series c.args.window =
     ap (λ l. l ++ texts_of (line_at start info.step info.scale c.args.window) series.slots) c.in_ok-out.ensures.header ∙ text_is series c.args.window start info.step info.scale (start_same info.start c.info-info.ensures.start ∙ is.start) is.step is.scale in
-    let P : List ℕ → Type 0 = λ l. OnErr c.send_values.result (PartSent l (g.P.Streams.sent c.args.store.now.space.pages) (g.P.Streams.sent c.send_values.new.self.space.pages)) in
+    let P : List ℕ → Type 0 = λ l. OnErr c.send_values.result (PartSent l (g.P.Streams.sent (stored.pages c.args.store.now)) (g.P.Streams.sent (stored.pages c.send_values.new.self))) in
     subst P text (c.send_values.ensures.part total book series told stands there)
