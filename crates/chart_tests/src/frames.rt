@@ -65,6 +65,20 @@ pub fn append(bytes: &mut Vec<u8>, text: &str) -> Result<(), Fail> {
     Ok(())
 }
 
+/// Whether the next frame is the Closed one.
+fn gives_closed(decoder: &mut Decoder) -> bool {
+    matches!(decoder.next(), Ok(Some(Frame::Closed { session: 7 })))
+}
+
+fn wants_more(decoder: &mut Decoder) -> bool {
+    matches!(decoder.next(), Ok(None))
+}
+
+/// Whether a bad field is named at this offset.
+fn is_bad(decoder: &mut Decoder, at: u16) -> bool {
+    decoder.next().err() == Some(FrameFault::BadFrame { at: u64::from(at) })
+}
+
 /// Whether a decoder that is fed these bytes, up to a place and then the others, gives a Closed frame and wants more,
 /// and then names a bad field at this offset, and again at the next call.
 fn is_refused(alloc: Global, bytes: &[u8], end: u16, at: u16) -> Result<bool, Fail> {
@@ -73,57 +87,79 @@ fn is_refused(alloc: Global, bytes: &[u8], end: u16, at: u16) -> Result<bool, Fa
         .ok_or("no such place")?;
     let mut decoder = Decoder::new(alloc);
     decoder.feed(before)?;
-    let waits = matches!(decoder.next(), Ok(Some(Frame::Closed { session: 7 })))
-        && matches!(decoder.next(), Ok(None));
+    let waits = gives_closed(&mut decoder) && wants_more(&mut decoder);
     decoder.feed(behind)?;
-    let fault = Some(FrameFault::BadFrame { at: u64::from(at) });
-    Ok(waits && decoder.next().err() == fault && decoder.next().err() == fault)
+    Ok(waits && is_bad(&mut decoder, at) && is_bad(&mut decoder, at))
 }
 
-#[test]
-fn bad_fields_are_refused_at_their_last_byte(rt: HostRuntime) -> Result<(), Fail> {
-    let alloc = rt.alloc();
-    for (frame, changes) in [
-        (DONE, BAD_DONE),
-        (REFUSED, BAD_REFUSED),
-        (OPENED, BAD_OPENED),
-        (CLOSED, BAD_CLOSED),
-        (VIEW, BAD_VIEW),
-        (ROWS, BAD_ROWS),
-    ] {
-        for change in numbers_of(alloc, changes)?.chunks(4) {
-            let [place, value, at, end] = *change else {
-                return Err(Fail::new("no change"));
-            };
-            let mut bytes = Vec::new(alloc);
-            append(&mut bytes, CLOSED)?;
-            append(&mut bytes, frame)?;
-            if let Some(byte) = bytes.get_mut(9 + usize::from(place)) {
-                *byte = u8::try_from(value)?;
-            }
-            // its last byte is missing at first
-            let end = end.saturating_add(8);
-            assert!(rt;
-                is_refused(alloc, &bytes, end, at.saturating_add(9))?,
-                "{frame}, {place} {value}"
-            );
+/// A Closed frame and this one, whose byte at a place gets a new value.
+fn changed(alloc: Global, frame: &str, place: u16, value: u16) -> Result<Vec<u8>, Fail> {
+    let mut bytes = Vec::new(alloc);
+    append(&mut bytes, CLOSED)?;
+    append(&mut bytes, frame)?;
+    let byte = bytes
+        .get_mut(9 + usize::from(place))
+        .ok_or("no such place")?;
+    *byte = u8::try_from(value)?;
+    Ok(bytes)
+}
+
+/// Whether a changed frame is refused; its last byte is missing at first.
+fn is_refused_so(alloc: Global, frame: &str, change: &[u16]) -> Result<bool, Fail> {
+    let [place, value, at, end] = *change else {
+        return Err(Fail::new("no change"));
+    };
+    let bytes = changed(alloc, frame, place, value)?;
+    is_refused(
+        alloc,
+        bytes.as_slice(),
+        end.saturating_add(8),
+        at.saturating_add(9),
+    )
+}
+
+/// Each of these changes of a frame is refused.
+fn are_refused(alloc: Global, frame: &str, changes: &str) -> Result<(), Fail> {
+    for change in numbers_of(alloc, changes)?.chunks(4) {
+        if !is_refused_so(alloc, frame, change)? {
+            return Err(Fail::from(change[0]));
         }
     }
     Ok(())
 }
 
 #[test]
+fn bad_fields_are_refused_at_their_last_byte(rt: HostRuntime) -> Result<(), Fail> {
+    let alloc = rt.alloc();
+    are_refused(alloc, DONE, BAD_DONE)?;
+    are_refused(alloc, REFUSED, BAD_REFUSED)?;
+    are_refused(alloc, OPENED, BAD_OPENED)?;
+    are_refused(alloc, CLOSED, BAD_CLOSED)?;
+    are_refused(alloc, VIEW, BAD_VIEW)?;
+    are_refused(alloc, ROWS, BAD_ROWS)
+}
+
+const GOOD_LENGTHS: [u32; 7] = [5, 9, 18, 27, 84, 139_291, 3_276_884];
+
+const BAD_LENGTHS: [u32; 7] = [0, 1, 85, 139_325, 3_276_909, 4_194_305, u32::MAX];
+
+/// What a decoder says to a length alone.
+fn fault_of(alloc: Global, length: u32) -> Result<Option<FrameFault>, Fail> {
+    let mut decoder = Decoder::new(alloc);
+    decoder.feed(&u32::to_be_bytes(length))?;
+    Ok(decoder.next().err())
+}
+
+#[test]
 fn lengths_are_those_of_frames(rt: HostRuntime) -> Result<(), Fail> {
-    let bad = Some(FrameFault::BadFrame { at: 0 });
-    for (lengths, fault) in [
-        ([5, 9, 18, 27, 84, 139_291, 3_276_884], None),
-        ([0, 1, 85, 139_325, 3_276_909, 4_194_305, u32::MAX], bad),
-    ] {
-        for length in lengths {
-            let mut decoder = Decoder::new(rt.alloc());
-            decoder.feed(&u32::to_be_bytes(length))?;
-            assert_eq!(rt; decoder.next().err(), fault, "{length}");
-        }
+    for length in GOOD_LENGTHS {
+        assert!(rt; fault_of(rt.alloc(), length)?.is_none(), "{length}");
+    }
+    for length in BAD_LENGTHS {
+        assert!(rt;
+            fault_of(rt.alloc(), length)? == Some(FrameFault::BadFrame { at: 0 }),
+            "{length}"
+        );
     }
     Ok(())
 }
@@ -133,11 +169,8 @@ const GREATEST: &str =
     "0 50 0 84  5  0 0 0 1  1 255  16 0  16 0  0 0 0 0 0 0 0 0  0 0 0 0 16 0 0 0  0 0 0 0 0 0 0 2  0 0 0 0 0 0 0 7
     0 0 0 0 0 0 0 0  0 0 0 1  0 0 0 0 16 0 0 0  1  0 0 0 0 0 0 0 2  0 0 0 0 0 0 0 7  0 2 0 0";
 
-/// The greatest view comes in pieces of 50 bytes, and between them the decoder is asked for a frame. It keeps the place
-/// that it has reached: one that read from the front at each call would read 4 * 10^9 coefficients.
-#[test]
-fn a_view_comes_in_small_pieces(rt: HostRuntime) -> Result<(), Fail> {
-    let alloc = rt.alloc();
+/// The bytes of the greatest view.
+fn greatest(alloc: Global) -> Result<Vec<u8>, Fail> {
     let mut bytes = Vec::new(alloc);
     append(&mut bytes, GREATEST)?;
     for index in 0..131_072u32 {
@@ -145,13 +178,28 @@ fn a_view_comes_in_small_pieces(rt: HostRuntime) -> Result<(), Fail> {
         bytes.extend_from_slice(&index.to_be_bytes())?;
         bytes.extend_from_slice(&[1, 0, 0, 0, 0, 0, 0, 0, 0, 0, 0, 0, 0, 0, 0, 0, 0])?;
     }
+    Ok(bytes)
+}
+
+/// Appends the spelling of the frame that ends within a piece, if one does.
+fn pass(alloc: Global, decoder: &mut Decoder, piece: &[u8], out: &mut Vec<u8>) -> Result<(), Fail> {
+    decoder.feed(piece)?;
+    if let Some(frame) = decoder.next()? {
+        out.extend_from_slice(&encode(alloc, &frame)?)?;
+    }
+    Ok(())
+}
+
+/// The greatest view comes in pieces of 50 bytes, and between them the decoder is asked for a frame. It keeps the place
+/// that it has reached: one that read from the front at each call would read 4 * 10^9 coefficients.
+#[test]
+fn a_view_comes_in_small_pieces(rt: HostRuntime) -> Result<(), Fail> {
+    let alloc = rt.alloc();
+    let bytes = greatest(alloc)?;
     let mut decoder = Decoder::new(alloc);
     let mut out = Vec::new(alloc);
     for piece in bytes.chunks(50) {
-        decoder.feed(piece)?;
-        if let Some(frame) = decoder.next()? {
-            out.extend_from_slice(&encode(alloc, &frame)?)?;
-        }
+        pass(alloc, &mut decoder, piece, &mut out)?;
     }
     assert!(rt; out == bytes);
     Ok(())

@@ -13,6 +13,6 @@ mod reads;
 #[cfg(test)]
 mod serving;
 #[cfg(test)]
-mod spellings;
-#[cfg(test)]
 mod walks;
+#[cfg(test)]
+mod worlds;

@@ -1,11 +1,13 @@
 //! What is done to a disk of 128 blocks in memory, and the bytes that it has then.
+ghost use Rattle.std.specs.Prelude.{All, IsTrue};
+ghost use Rattle.series_book.specs.Edits.{IsEdit};
 
 use block_disk::{BLOCK, Disk, Failed, FuseDisk, MemDisk};
 use disk_store::{disk_of, open_store};
 use empty_store::make_store;
 use gate_pages::Pages;
 use series_book::{Edit, Name, Values};
-use series_store::{Store, StoreError};
+use series_store::Store;
 use std::alloc::Global;
 use std::test::Fail;
 
@@ -13,13 +15,15 @@ use std::test::Fail;
 pub const MANY: u64 = 100_000;
 
 /// A store is made on the disk, or opened; or it is opened, and its series `a` is edited. That begins at
-/// time 0 with a step of 1. Values are so many from one on, each greater by one than the one before it.
-#[derive(Clone, Copy, Debug)]
+/// time 0 with a step of 1. Values are so many from one on, each greater by one than the one before it; of a
+/// group each of its three appends has them.
+#[derive(Clone, Copy)]
 pub enum Deed {
     Make,
     Open,
     Create,
     Append(usize, i128),
+    Group(usize, i128),
     Set(i128, usize, i128),
     Clear(i128, u64),
 }
@@ -49,6 +53,10 @@ impl Deed {
                 name,
                 values: values(alloc, count, first)?,
             },
+            Deed::Group(count, first) => Edit::Append {
+                name,
+                values: values(alloc, count, first)?,
+            },
             Deed::Set(time, count, first) => Edit::Set {
                 name,
                 time,
@@ -60,32 +68,84 @@ impl Deed {
     }
 }
 
-/// The slots of `a` after an edit, where the store may be edited.
-pub fn edited<P: Pages>(store: &mut Store<P>, edit: &Edit) -> Result<u64, StoreError> {
-    if !store.is_sound() || !edit.is_edit() {
-        return Err(StoreError::NotAStore);
+/// Adds the edit of a deed, where it has one.
+fn add_edit(alloc: Global, deed: Deed, edits: &mut Vec<Edit>) -> Result<(), Fail> {
+    if let Some(edit) = deed.edit(alloc)? {
+        edits.push(edit)?;
     }
-    let outcome = store.edit(edit)?;
-    Ok(outcome.slots)
+    Ok(())
 }
 
-/// Makes a store, or opens one and edits it: whether that was done, and the disk.
-fn carried_out<D: Disk>(alloc: Global, disk: D, is_new: bool, edit: Option<Edit>) -> (bool, D) {
-    if is_new {
-        return match make_store(alloc, disk) {
-            Ok(disk) => (true, disk),
-            Err(back) => (false, back.value),
-        };
+/// The edits of a deed: none, one, or a group.
+fn edits_of(alloc: Global, deed: Deed) -> Result<Vec<Edit>, Fail> {
+    let mut edits = Vec::new(alloc);
+    add_edit(alloc, deed, &mut edits)?;
+    if let Deed::Group(..) = deed {
+        add_edit(alloc, deed, &mut edits)?;
+        add_edit(alloc, deed, &mut edits)?;
     }
-    let mut store = match open_store(alloc, disk) {
-        Ok(store) => store,
-        Err(back) => return (false, back.value),
-    };
-    let done = match edit {
-        Some(edit) => edited(&mut store, &edit).is_ok(),
+    Ok(edits)
+}
+
+/// Whether a book can take each of the edits.
+fn are_edits(edits: &[Edit]) -> bool
+    ensures { IsTrue result → All IsEdit edits.now }
+{
+    match edits.split_first() {
+        Some((edit, later)) => edit.is_edit() && are_edits(later),
         None => true,
-    };
-    (done, disk_of(store))
+    }
+}
+
+/// Whether edits were done, in one commit.
+fn are_done<P: Pages>(store: &mut Store<P>, edits: &[Edit]) -> bool {
+    if edits.is_empty() {
+        return true;
+    }
+    if !store.is_sound() || !are_edits(edits) {
+        return false;
+    }
+    if edits.len() == 1 {
+        return store.edit(&edits[0]).is_ok();
+    }
+    match store.edit_group(edits) {
+        Ok(answers) => answers.len() == edits.len(),
+        Err(_) => false,
+    }
+}
+
+/// Opens a store and edits it: whether that was done, and the disk.
+fn opened<D: Disk>(alloc: Global, disk: D, edits: &[Edit]) -> (bool, D) {
+    match open_store(alloc, disk) {
+        Ok(mut store) => {
+            let done = are_done(&mut store, edits);
+            (done, disk_of(store))
+        }
+        Err(back) => (false, back.value),
+    }
+}
+
+/// Makes a store: whether that was done, and the disk.
+fn made<D: Disk>(alloc: Global, disk: D) -> (bool, D) {
+    match make_store(alloc, disk) {
+        Ok(disk) => (true, disk),
+        Err(back) => (false, back.value),
+    }
+}
+
+/// A disk of these bytes, which fails the calls of these numbers, and all behind the first so many.
+fn fused(
+    alloc: Global,
+    image: &[u8],
+    calls: u64,
+    fails: &[u64],
+) -> Result<FuseDisk<MemDisk>, Fail> {
+    let bytes = Vec::from_slice(alloc, image)?;
+    if bytes.len() % BLOCK != 0 {
+        return Err(Fail::new("no whole blocks"));
+    }
+    let fails = Vec::from_slice(alloc, fails)?;
+    Ok(FuseDisk::new(MemDisk::from_bytes(alloc, bytes, fails), calls))
 }
 
 /// Does it on a disk of these bytes, which fails the calls of these numbers, and all behind the first so
@@ -97,14 +157,12 @@ pub fn run(
     calls: u64,
     fails: &[u64],
 ) -> Result<(bool, MemDisk), Fail> {
-    let bytes = Vec::from_slice(alloc, image)?;
-    let fails = Vec::from_slice(alloc, fails)?;
-    if bytes.len() % BLOCK != 0 {
-        return Err(Fail::new("no whole blocks"));
-    }
-    let disk = FuseDisk::new(MemDisk::from_bytes(alloc, bytes, fails), calls);
-    let is_new = matches!(deed, Deed::Make);
-    let (done, disk) = carried_out(alloc, disk, is_new, deed.edit(alloc)?);
+    let edits = edits_of(alloc, deed)?;
+    let disk = fused(alloc, image, calls, fails)?;
+    let (done, disk) = match deed {
+        Deed::Make => made(alloc, disk),
+        _ => opened(alloc, disk, edits.as_slice()),
+    };
     Ok((done, disk.into_inner()))
 }
 

@@ -1,6 +1,6 @@
 //! Tests over the libraries of the store: what no clause says of them, and no golden run shows.
 //!
-//! They run on disks and streams in memory that stop, fail and tear where they are told to, and count
+//! They run on disks in memory that stop, fail and tear where they are told to, and count
 //! their calls. The library itself is empty.
 #![tactic(auto)]
 

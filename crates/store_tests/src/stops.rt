@@ -49,21 +49,36 @@ fn is_after(alloc: Global, disk: MemDisk, ends: &Ends) -> Result<Option<bool>, F
     Ok(None)
 }
 
+/// Whether a stop after so many of a deed's calls leaves the pages from after it.
+fn is_there(
+    alloc: Global,
+    image: &[u8],
+    deed: Deed,
+    calls: u64,
+    tear: Tear,
+    ends: &Ends,
+) -> Result<bool, Fail> {
+    let (done, disk) = run(alloc, image, deed, calls, &[])?;
+    let there = is_after(alloc, disk.after_crash(tear)?, ends)?;
+    if done != (calls == ends.calls) {
+        return Err(Fail::new("done before its last call"));
+    }
+    Ok(there.ok_or("other pages")?)
+}
+
 /// After how many calls more a deed is done, from where on a stop leaves the pages from after it.
 fn calls_behind(alloc: Global, image: &[u8], deed: Deed, tear: Tear) -> Result<u64, Fail> {
     let ends = ends_of(alloc, image, deed)?;
-    let mut turn = None;
+    let mut stops: u64 = 0;
     for calls in 0..ends.calls.saturating_add(1) {
-        let (done, disk) = run(alloc, image, deed, calls, &[])?;
-        let there = is_after(alloc, disk.after_crash(tear)?, &ends)?;
-        if there == Some(true) && turn.is_none() {
-            turn = Some(calls);
-        }
-        if done != (calls == ends.calls) || there != Some(turn.is_some()) {
-            return Err(Fail::new("another end"));
+        let there = is_there(alloc, image, deed, calls, tear, &ends)?;
+        if there {
+            stops = stops.saturating_add(1);
+        } else if stops > 0 {
+            return Err(Fail::new("back again"));
         }
     }
-    Ok(ends.calls.saturating_sub(turn.ok_or("never there")?))
+    Ok(stops.checked_sub(1).ok_or("never there")?)
 }
 
 /// A series of 200 slots in two pages and a root.
@@ -72,14 +87,17 @@ const FILLED: [Deed; 3] = [Deed::Make, Deed::Create, Deed::Append(200, 5)];
 /// A change of six pages: three of slots, the root, that of its record and page 0.
 const CHANGE: Deed = Deed::Set(100, 200, -50);
 
-/// A series whose 128 slots fill its one page.
-const PAGE: [Deed; 3] = [Deed::Make, Deed::Create, Deed::Append(128, 5)];
+/// It fills the one page of a series.
+const FILL: Deed = Deed::Append(128, 5);
 
 /// One slot more: its page, a root above both, that of its record and page 0.
 const GROWTH: Deed = Deed::Append(1, 9);
 
 /// That slot is emptied: its page, which is freed, the root, that of its record and page 0.
 const FREEING: Deed = Deed::Clear(128, 1);
+
+/// A group of three appends changes as many: three of slots, the root, that of its record and page 0.
+const GROUP: Deed = Deed::Group(128, 5);
 
 /// Each way to tear what is pending, and how many pending opened gates it keeps. Other bytes close a gate or open it.
 const TEARS: [(Tear, u64); 5] = [
@@ -116,35 +134,68 @@ fn half_done(alloc: Global) -> Result<Vec<u8>, Fail> {
     )
 }
 
+/// What is done before a deed that is stopped, and how many pages that deed changes.
+const STOPPED: [(&[Deed], Deed, u64); 6] = [
+    (&[], Deed::Make, 17),
+    (&[Deed::Make], Deed::Create, 2),
+    (&[Deed::Make, Deed::Create, FILL], GROWTH, 4),
+    (&[Deed::Make, Deed::Create, FILL, GROWTH], FREEING, 4),
+    (&FILLED, CHANGE, 6),
+    (&[Deed::Make, Deed::Create], GROUP, 6),
+];
+
 /// Behind the write that opens the gate come its sync, each page, a sync, the gate and a sync. A tear that
 /// keeps what was pending keeps the open gate before its sync too.
-#[test]
-fn a_stop_leaves_the_pages_before_or_after(rt: HostRuntime) -> Result<(), Fail> {
-    let alloc = rt.alloc();
-    for (image, deed, pages) in [
-        (after(alloc, &[])?, Deed::Make, 17u64),
-        (after(alloc, &[Deed::Make])?, Deed::Create, 2),
-        (after(alloc, &PAGE)?, GROWTH, 4),
-        (
-            after(alloc, &[PAGE[0], PAGE[1], PAGE[2], GROWTH])?,
-            FREEING,
-            4,
-        ),
-        (after(alloc, &FILLED)?, CHANGE, 6),
-    ] {
-        for (tear, kept) in TEARS {
-            let behind = calls_behind(alloc, image.as_slice(), deed, tear)?;
-            assert_eq!(rt; behind, pages.saturating_add(3 + kept), "{deed:?} {tear:?}");
+fn turns_at_the_gate(alloc: Global, image: &[u8], deed: Deed, pages: u64) -> Result<(), Fail> {
+    for (tear, kept) in TEARS {
+        let behind = calls_behind(alloc, image, deed, tear)?;
+        if behind != pages.saturating_add(3 + kept) {
+            return Err(Fail::from((pages, tear, behind)));
         }
     }
     Ok(())
 }
 
-/// Whether an opening of these bytes leaves the same pages, wherever it is stopped.
-fn opens_alike(alloc: Global, image: &[u8], tear: Tear) -> Result<bool, Fail> {
+#[test]
+fn a_stop_leaves_the_pages_before_or_after(rt: HostRuntime) -> Result<(), Fail> {
+    let alloc = rt.alloc();
+    for (before, deed, pages) in STOPPED {
+        let image = after(alloc, before)?;
+        turns_at_the_gate(alloc, image.as_slice(), deed, pages)?;
+    }
+    Ok(())
+}
+
+/// An opening of these bytes leaves the same pages, wherever it is stopped.
+fn opens_alike(alloc: Global, image: &[u8], tear: Tear) -> Result<(), Fail> {
     let ends = ends_of(alloc, image, Deed::Open)?;
     let behind = calls_behind(alloc, image, Deed::Open, tear)?;
-    Ok(behind == ends.calls)
+    if behind != ends.calls {
+        return Err(Fail::from((tear, behind)));
+    }
+    Ok(())
+}
+
+/// So does one of what an opening leaves that is stopped among its first so many calls.
+fn left_alike(alloc: Global, image: &[u8], most: u64, tear: Tear) -> Result<(), Fail> {
+    for calls in 0..most {
+        let left = left_by(alloc, image, Deed::Open, calls, tear)?;
+        opens_alike(alloc, left.as_slice(), tear)?;
+    }
+    Ok(())
+}
+
+/// How many calls an opening of these bytes makes, which leaves the pages from after the change.
+fn calls_of_replay(alloc: Global, image: &[u8]) -> Result<u64, Fail> {
+    let ends = ends_of(alloc, image, Deed::Open)?;
+    let changed = after(
+        alloc,
+        &[Deed::Make, Deed::Create, Deed::Append(200, 5), CHANGE],
+    )?;
+    if !changed.as_slice().ends_with(ends.before.as_slice()) {
+        return Err(Fail::new("other pages"));
+    }
+    Ok(ends.calls)
 }
 
 /// An opening that replays a journal is stopped, what it leaves is opened, that is stopped too, and what is
@@ -153,51 +204,39 @@ fn opens_alike(alloc: Global, image: &[u8], tear: Tear) -> Result<bool, Fail> {
 fn a_stopped_opening_leaves_the_pages(rt: HostRuntime) -> Result<(), Fail> {
     let alloc = rt.alloc();
     let image = half_done(alloc)?;
-    let ends = ends_of(alloc, image.as_slice(), Deed::Open)?;
-    let changed = after(alloc, &[FILLED[0], FILLED[1], FILLED[2], CHANGE])?;
-    assert!(rt; changed.as_slice().ends_with(ends.before.as_slice()));
+    let calls = calls_of_replay(alloc, image.as_slice())?;
     for (tear, _) in TEARS {
-        assert!(rt; opens_alike(alloc, image.as_slice(), tear)?, "{tear:?}");
-        for calls in 0..ends.calls {
-            let left = left_by(alloc, image.as_slice(), Deed::Open, calls, tear)?;
-            assert!(rt;
-                opens_alike(alloc, left.as_slice(), tear)?,
-                "{tear:?} {calls}"
-            );
-        }
+        opens_alike(alloc, image.as_slice(), tear)?;
+        left_alike(alloc, image.as_slice(), calls, tear)?;
     }
     Ok(())
 }
 
-/// How many of a deed's calls can fail alone without its being told so, or leave other pages.
-fn untold_faults(alloc: Global, image: &[u8], deed: Deed) -> Result<u32, Fail> {
+/// Each of a deed's calls that fails alone is told, and leaves the pages from before or from after.
+fn faults_are_told(alloc: Global, image: &[u8], deed: Deed) -> Result<(), Fail> {
     let ends = ends_of(alloc, image, deed)?;
-    let mut untold: u32 = 0;
     for call in 0..ends.calls {
         let (done, disk) = run(alloc, image, deed, MANY, &[call])?;
-        if done || is_after(alloc, disk, &ends)?.is_none() {
-            untold = untold.saturating_add(1);
+        let there = is_after(alloc, disk, &ends)?;
+        if done || there.is_none() {
+            return Err(Fail::from(call));
         }
     }
-    Ok(untold)
+    Ok(())
 }
 
 #[test]
 fn a_fault_of_each_call_is_told(rt: HostRuntime) -> Result<(), Fail> {
     let alloc = rt.alloc();
-    for (image, deed) in [
-        (after(alloc, &[])?, Deed::Make),
-        (after(alloc, &[Deed::Make])?, Deed::Create),
-        (after(alloc, &PAGE)?, GROWTH),
-        (after(alloc, &[PAGE[0], PAGE[1], PAGE[2], GROWTH])?, FREEING),
-        (after(alloc, &FILLED)?, CHANGE),
-        (half_done(alloc)?, Deed::Open),
-    ] {
-        assert_eq!(rt;
-            untold_faults(alloc, image.as_slice(), deed)?,
-            0,
-            "{deed:?}"
-        );
+    for (before, deed, _) in STOPPED {
+        let image = after(alloc, before)?;
+        faults_are_told(alloc, image.as_slice(), deed)?;
     }
     Ok(())
+}
+
+#[test]
+fn a_fault_of_an_opening_is_told(rt: HostRuntime) -> Result<(), Fail> {
+    let image = half_done(rt.alloc())?;
+    faults_are_told(rt.alloc(), image.as_slice(), Deed::Open)
 }
