@@ -1,5 +1,5 @@
 -- Blocks that are torn one after another, and what was pending.
-use Rattle.std.proofs.Common.{◌≡◌, ℕ, ◌+◌, ◌-◌, ◌<◌, ◌⊎◌, Bool, true, false, cond, eqb, List, [], ◌∷◌, ◌++◌, length, take, drop, get_or, refl, ap, sym, ◌∙◌, arith, inl, inr, subst, IsTrue, ◌&&◌, append_assoc, length-drop}
+use Rattle.std.proofs.Common.{◌≡◌, ℕ, ◌+◌, ◌-◌, ◌<◌, ◌⊎◌, Bool, true, false, cond, eqb, List, [], ◌∷◌, ◌++◌, length, take, drop, get_or, ap, sym, ◌∙◌, arith, inl, inr, subst, IsTrue, ◌&&◌, append_assoc, length-drop}
 use Rattle.std.specs.List.{list_all}
 use Rattle.std.proofs.lemmas.List.{take_more, take_all, take-append-drop}
 use Rattle.std.proofs.lemmas.List.Folds.{list_all-append}
@@ -68,10 +68,6 @@ tears_more tear calls (Wrote one block) old new left so_far =
     }
 tears_more tear calls Synced old new left so_far = tears_quiet tear calls Synced old new left (λ number touched. touched) so_far
 tears_more tear calls Asked old new left so_far = tears_quiet tear calls Asked old new left (λ number touched. touched) so_far
-
--- before any call
-pub tears_none : (tear : Tear) (old new : Image) → TornBy tear [] old new new
-tears_none tear old new = record { touched = λ number touched. absurd touched; others = λ number untouched. refl }
 
 -- where no sync is among the calls, what was touched is pending, and the other way round
 pending_touched : (calls : List Call) (number : ℕ) → IsPending calls number → Touched calls number

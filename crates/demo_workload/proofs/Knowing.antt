@@ -1,5 +1,5 @@
 -- The client holds something of just the sessions that are open.
-use Rattle.std.proofs.Common.{ℕ, ◌≡◌, ◌≢◌, Bool, true, false, not, ◌==◌, ◌||◌, ◌&&◌, List, [], Option, None, Some, IsTrue, refl, sym, ap, ◌∙◌, subst}
+use Rattle.std.proofs.Common.{ℕ, ◌≡◌, ◌≢◌, Bool, true, false, not, ◌==◌, ◌||◌, ◌&&◌, List, [], Option, None, Some, refl, sym, ap, ◌∙◌, subst}
 use Rattle.std.specs.Prelude.{is_some}
 use Rattle.std.proofs.lemmas.Bool.Decides.{Decides-eqb}
 use Rattle.line_raster.specs.Canvas.{Canvas}
@@ -10,8 +10,8 @@ use Rattle.zoom_session.specs.declared.session.Session.{Session}
 use Rattle.zoom_session.specs.Sessions.{is_open}
 use Rattle.chart_client.specs.declared.holding.Holding.{Holding}
 use Rattle.chart_client.specs.Holdings.{holding_of}
-use Rattle.chart_client.specs.Accepting.{Accepts, AcceptsView, named_in, session_in, viewed}
-use Rattle.chart_service.specs.Opening.{opens, NamesOpen, OpensBy}
+use Rattle.chart_client.specs.Accepting.{Accepts, AcceptsView, named_in, viewed}
+use Rattle.chart_service.specs.Opening.{opens, OpensBy}
 use Rattle.demo_workload.specs.Answering.{KnowsOpen}
 
 -- what an accepted frame changes
@@ -88,25 +88,6 @@ pub knows_on : Changes → (frame : Frame) (drawing : Option Canvas) (sessions s
     → OpensBy frame sessions sessions' → Accepts frame drawing old new → KnowsOpen sessions' new
 knows_on laws frame drawing sessions sessions' old new knows by accepted = λ n.
     accepted_opens laws frame drawing old new n accepted ∙ ap (λ (b : Bool). opens frame n b) (knows n) ∙ sym (by.after n)
-
-named_held : (sessions : List Session) (holdings : List Holding) (m n : ℕ) → KnowsOpen sessions holdings → IsTrue (is_open m sessions)
-    → ◌≡◌ {A = Option ℕ} (Some m) (Some n) → holding_of n holdings ≡ None → ⊥
-named_held sessions holdings m n knows there same none =
-    let e : m ≡ n = cc in
-    let P : ℕ → Type 0 = λ k. is_open k sessions ≡ true in
-    let yes : is_open n sessions ≡ true = subst P e there in
-    let never : true ≡ false = sym yes ∙ sym (knows n) ∙ bare n holdings none in
-    cc
-
--- the client holds something of the session that a frame needs
-pub knows_named : (frame : Frame) (sessions : List Session) (holdings : List Holding) → KnowsOpen sessions holdings → NamesOpen frame sessions
-    → (n : ℕ) → session_in frame ≡ Some n → holding_of n holdings ≡ None → ⊥
-knows_named (Done slots) sessions holdings knows there n is none = let never : ◌≡◌ {A = Option ℕ} None (Some n) = is in cc
-knows_named (Refused number a b) sessions holdings knows there n is none = let never : ◌≡◌ {A = Option ℕ} None (Some n) = is in cc
-knows_named (Opened session cache) sessions holdings knows there n is none = let never : ◌≡◌ {A = Option ℕ} None (Some n) = is in cc
-knows_named (Closed session) sessions holdings knows there n is none = named_held sessions holdings session n knows there is none
-knows_named (View view) sessions holdings knows there n is none = named_held sessions holdings view.session n knows there is none
-knows_named (Rows rows) sessions holdings knows there n is none = named_held sessions holdings rows.session n knows there is none
 
 pub knows_none : (sessions : List Session) (holdings : List Holding) → sessions ≡ [] → holdings ≡ [] → KnowsOpen sessions holdings
 knows_none sessions holdings alone none = λ n. ap (λ (h : List Holding). holds n h) none ∙ ap (λ (s : List Session). is_open n s) (sym alone)

@@ -1,6 +1,6 @@
 -- What one request of a workload does to the service, its client and the summary. Private contracts are stated by
 -- these words.
-use Rattle.std.specs.Prelude.{ℕ, ◌≡◌, ◌++◌, List, [], ◌∷◌, Option, is_some, ⊤}
+use Rattle.std.specs.Prelude.{ℕ, ◌≡◌, ◌++◌, List, [], Option, is_some, ⊤}
 use Rattle.block_disk.specs.Counts.{HasRisen}
 use Rattle.block_disk.specs.View.{Image, View}
 use Rattle.line_raster.specs.Canvas.{Canvas}

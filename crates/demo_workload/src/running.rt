@@ -15,6 +15,7 @@ use crate::workloads::Workload;
 use chart_client::Client;
 use chart_service::Service;
 use gate_pages::Pages;
+use request_lines::Request;
 use std::alloc::Global;
 
 /// Gives each request of the workload of a seed with so many rounds to the service, in which no session is
@@ -60,9 +61,14 @@ pub fn run_workload<P: Pages>(
         let Some(request) = next else {
             return Ok(summary);
         };
-        match answer(alloc, service, &request, &mut client, &mut summary) {
+        let answered = answer(alloc, service, &request, &mut client, &mut summary);
+        discard(request);
+        match answered {
             Ok(()) => {}
             Err(end) => return Err(end),
         }
     }
 }
+
+/// Drops a request.
+fn discard(_request: Request) {}

@@ -134,12 +134,6 @@ nothing_torn images image torn =
 pub honest_by : (view : View) (image : Image) → Only view.image (Now view) → Now view image → Honest view
 honest_by view image only left = subst (Now view) (only image left) left
 
--- what is at rest stays at rest where nothing is touched
-pub only_kept : (reads syncs writes : ℕ) (old new : View) → Moves Nowhere reads syncs writes old new → Only old.image (Now old) → Only new.image (Now new)
-only_kept reads syncs writes old new moves only other left =
-    let was = nothing_torn (Now old) other (moves_now Nowhere reads syncs writes old new other moves left) in
-    only other was ∙ sym (untouched reads syncs writes old new moves (honest_by old other only was))
-
 -- at each moment of calls on a disk at rest there is the image that it had, but at the blocks that they touch
 pub moments_from : (touched : ℕ → Type 0) (reads syncs writes : ℕ) (old new : View) (images : Image → Type 0) → Moves touched reads syncs writes old new → Only old.image (Now old)
     → ((image : Image) → SameOff touched old.image image → Honest old → images image) → Passes old new images (Quiet old)

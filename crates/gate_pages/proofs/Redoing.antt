@@ -25,9 +25,6 @@ pub record Shut (pages image : Image) : Type 0 where
   pub gate : is_open (image 0) ≡ false
   pub lies : home image ≡ pages
 
-pub closed_of : (pages : Image) (view : View) → Rests (Shut pages) view → IsClosed view
-closed_of pages view rests = record { only = rests.only; gate = λ honest. (rests.is honest).gate }
-
 module _ (count : ℕ) (batch : List Entry) (few : length batch ≤ 64) (start : View) (images : Image → Type 0) (pages : Image) where
   -- some way into a commit: the moments so far, and what stands on a disk at rest
   pub record Way (property : Image → Type 0) (view : View) : Type 0 where

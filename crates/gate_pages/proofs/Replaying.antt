@@ -2,7 +2,7 @@
 use Rattle.std.proofs.Common.{◌≡◌, ℕ, ◌≤◌, true, List, length, Some, refl, sym, ap, subst, ◌∙◌}
 use Rattle.block_disk.specs.View.{Image, View, Now, Honest, Only, Passes, Moves, Nowhere}
 use Rattle.block_disk.proofs.Passing.{passes_none, passes_weaker}
-use Rattle.gate_pages.specs.Batch.{Entry, put_all, numbers}
+use Rattle.gate_pages.specs.Batch.{put_all, numbers}
 use Rattle.gate_pages.specs.GatePages.{StandsAsBefore}
 use Rattle.gate_pages.specs.Journal.{home, is_open, directory, images}
 use Rattle.gate_pages.specs.Pages.{Quiet}
@@ -12,10 +12,6 @@ use Rattle.gate_pages.proofs.Redoing.{Way, Opened}
 use Rattle.gate_pages.proofs.States.{Staged, Gives, staged_open, numbers_images}
 
 module _ (count : ℕ) (ns : List ℕ) (start : View) (is_opened : Honest start → is_open (start.image 0) ≡ true) (listed : Honest start → directory count (start.image 1) ≡ Some ns) where
-  -- the batch that the journal tells of
-  pub batch_told : List Entry
-  batch_told = images ns 2 start.image
-
   staged : Honest start → Staged count (images ns 2 start.image) (home start.image) start.image
   staged honest =
       let same = numbers_images ns 2 start.image in

@@ -1,12 +1,10 @@
-use Rattle.std.proofs.Common.{◌≡◌, ℕ, ℤ, ◌+◌, ◌*◌, ◌/◌, ◌<◌, ◌≤◌, ◌-ℤ◌, ◌↔◌, refl, sym, ◌∙◌, ap, inl, inr, arith, unsigned_abs}
-use Rattle.std.proofs.lemmas.Int.{ints, clamps, by_lt_z}
+use Rattle.std.proofs.Common.{◌≡◌, ℕ, ℤ, ◌+◌, ◌*◌, ◌/◌, ◌<◌, ◌≤◌, ◌-ℤ◌, refl, sym, ◌∙◌, ap, inl, inr, arith, unsigned_abs}
+use Rattle.std.proofs.lemmas.Int.{ints, by_lt_z}
 use Rattle.std.proofs.lemmas.Bool.{cases_lt, cases_eq}
 use Rattle.std.proofs.lemmas.Nat.{div-mul-add}
-use Rattle.std.specs.Int.{int_min, int_max}
 use Rattle.line_raster.specs.declared.position.Point.{Point}
-use Rattle.line_raster.specs.Segment.{columns, rows, share, towards, On, InFill}
-use Rattle.line_raster.proofs.IdealLemmas.{column_pixel}
-use Rattle.line_raster.proofs.SegmentLemmas.{share-le, towards_down, towards_up}
+use Rattle.line_raster.specs.Segment.{columns, rows, share, towards, On}
+use Rattle.line_raster.proofs.SegmentLemmas.{towards_down, towards_up}
 
 -- no step has no share
 share_none : (most distance : ℕ) → 0 < most → share most distance 0 ≡ 0
@@ -90,32 +88,3 @@ on_last p q order =
             }))
       ]
     ]
-
--- a segment within one column is that column's rows from the lower end up to the higher
-pub on_one_column : (p q : Point) (x : ℕ) (y : ℤ) → p.x ≡ q.x → On p q x y ↔ InFill p.x (int_min p.y q.y) (int_max p.y q.y) x y
-on_one_column p q x y same =
-    let none : columns p q ≡ 0 = omega (arith, same) in (
-      (λ h. elim h [
-        | inl dot ↦ record { here = dot.column; above = omega (arith, ints, clamps, dot.row); below = omega (arith, ints, clamps, dot.row) }
-        | inr line ↦ elim line [
-          | inl flat ↦ absurd (omega (arith, none, flat.some))
-          | inr steep ↦
-              let part = share-le (rows p q) (columns p q) steep.n (omega (arith, steep.high)) steep.reached in
-              let place : InFill p.x (int_min p.y q.y) (int_max p.y q.y) x y =
-              by_lt_z q.y p.y
-              (λ down. let e = towards_down p.y q.y steep.n down in
-              record { here = omega (arith, steep.column, part, none); above = omega (arith, ints, clamps, steep.row, steep.reached, e, down); below = omega (arith, ints, clamps, steep.row, steep.reached, e, down) })
-              (λ up. let e = towards_up p.y q.y steep.n up in
-              record { here = omega (arith, steep.column, part, none); above = omega (arith, ints, clamps, steep.row, steep.reached, e, up); below = omega (arith, ints, clamps, steep.row, steep.reached, e, up) }) in
-              place
-        ]
-      ]),
-      (λ h. elim (cases_eq (rows p q) 0) [
-        | inl flat ↦ inl (record { no_columns = none; no_rows = flat; column = h.here; row = (let e = h.above in let f = h.below in omega (arith, ints, clamps, e, f, flat)) })
-        | inr apart ↦
-            let n : ℕ = unsigned_abs (y -ℤ p.y) in
-            let reached : n ≤ rows p q = omega (arith, ints, clamps, h.above, h.below) in
-            let part = share-le (rows p q) (columns p q) n (omega (arith, apart)) reached in
-            inr (inr (column_pixel p q y n x (omega (arith, none, apart)) h.above h.below refl (omega (arith, part, none, h.here))))
-      ]),
-    )

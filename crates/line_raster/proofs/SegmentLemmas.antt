@@ -1,10 +1,10 @@
-use Rattle.std.proofs.Common.{◌≡◌, ℕ, ℤ, pos, negsuc, ◌+◌, ◌*◌, ◌<◌, ◌≤◌, ◌+ℤ◌, ◌-ℤ◌, ◌≤ℤ◌, ◌<ℤ◌, ◌↔◌, refl, sym, ◌∙◌, subst, inl, inr, arith, unsigned_abs}
+use Rattle.std.proofs.Common.{◌≡◌, ℕ, ℤ, pos, negsuc, ◌+◌, ◌*◌, ◌<◌, ◌≤◌, ◌+ℤ◌, ◌-ℤ◌, ◌≤ℤ◌, ◌<ℤ◌, ◌↔◌, refl, sym, ◌∙◌, inl, inr, arith, unsigned_abs}
 use Rattle.std.proofs.lemmas.Int.{ints}
 use Rattle.std.proofs.lemmas.Bool.{cases_lt}
 use Rattle.std.proofs.lemmas.Nat.{div_below}
 use Rattle.std.proofs.Math.Nat.{mul-le-mul_right}
 use Rattle.line_raster.specs.declared.position.Point.{Point}
-use Rattle.line_raster.specs.Segment.{columns, rows, share, towards, InColumn, InRow, On, InFill}
+use Rattle.line_raster.specs.Segment.{columns, rows, share, towards, InRow, InFill}
 use Rattle.line_raster.specs.Run.{InRun, IsCut}
 
 -- the rows between two cuts are a steep segment's pixels in a column
@@ -29,18 +29,6 @@ steep_run p q from to x k first end is_from is_to high column bound begun ended 
       )),
 )
 
--- a cut of a segment whose numbers go by other names
-pub cut_named : (rows rows' columns columns' cut k k' : ℕ) → rows' ≡ rows → columns' ≡ columns → k' ≡ k → IsCut rows' columns' cut k' → IsCut rows columns cut k
-cut_named rows rows' columns columns' cut k k' is_rows is_columns is_k h =
-    let P : ℕ → Type 0 = λ r. IsCut r columns cut k in
-    let Q : ℕ → Type 0 = λ c. IsCut rows' c cut k in
-    let R : ℕ → Type 0 = λ j. IsCut rows' columns' cut j in
-    subst P is_rows (subst Q is_columns (subst R is_k h))
-
--- no row is before the first column
-pub no_rows_before : (most distance k : ℕ) → k ≡ 0 → IsCut most distance 0 k
-no_rows_before most distance k e n reached = ((λ h. absurd (omega arith)), (λ h. absurd (omega (arith, e, h))))
-
 -- a share is no more than the whole
 pub share-le : (most distance n : ℕ) → 0 < most → n ≤ most → share most distance n ≤ distance
 share-le most distance n some reached =
@@ -48,45 +36,11 @@ share-le most distance n some reached =
     let below : share most distance n < distance + 1 = div_below (2 * n * distance + most) (2 * most) (distance + 1) (omega arith) (omega (arith, part)) in
     omega (arith, below)
 
--- the pixels of a flat segment lie in its columns
-pub flat_within : (p q : Point) (a : ℕ) (b : ℤ) → p.x ≤ q.x → InColumn p q a b → (p.x ≤ a) × (a < q.x + 1)
-flat_within p q a b order h = (omega (arith, h.column), omega (arith, h.column, h.reached))
-
 -- the pixels of a steep segment too
 pub steep_within : (p q : Point) (a : ℕ) (b : ℤ) → p.x ≤ q.x → InRow p q a b → (p.x ≤ a) × (a < q.x + 1)
 steep_within p q a b order h =
     let part = share-le (rows p q) (columns p q) h.n (omega (arith, h.high)) h.reached in
     (omega (arith, h.column), omega (arith, h.column, part))
-
--- a segment that is higher than wide
-pub on_steep : (p q : Point) (a : ℕ) (b : ℤ) → columns p q < rows p q → InRow p q a b ↔ On p q a b
-on_steep p q a b high = (
-  (λ h. inr (inr h)),
-  (λ h. elim h [
-    | inl dot ↦ absurd (omega (arith, high, dot.no_rows))
-    | inr line ↦ elim line [ inl flat ↦ absurd (omega (arith, high, flat.wide)) | inr steep ↦ steep ]
-  ]),
-)
-
--- a segment that isn't, and has more than one column
-pub on_flat : (p q : Point) (a : ℕ) (b : ℤ) → rows p q ≤ columns p q → 0 < columns p q → InColumn p q a b ↔ On p q a b
-on_flat p q a b wide some = (
-  (λ h. inr (inl h)),
-  (λ h. elim h [
-    | inl dot ↦ absurd (omega (arith, some, dot.no_columns))
-    | inr line ↦ elim line [ inl flat ↦ flat | inr steep ↦ absurd (omega (arith, wide, steep.high)) ]
-  ]),
-)
-
--- a segment of one pixel
-pub on_dot : (p q : Point) (a : ℕ) (b : ℤ) → rows p q ≤ columns p q → columns p q ≡ 0 → InFill p.x p.y p.y a b ↔ On p q a b
-on_dot p q a b wide none = (
-  (λ h. inl (record { no_columns = none; no_rows = omega (arith, wide, none); column = h.here; row = omega (arith, ints, h.above, h.below) })),
-  (λ h. elim h [
-    | inl dot ↦ record { here = dot.column; above = omega (arith, ints, dot.row); below = omega (arith, ints, dot.row) }
-    | inr line ↦ elim line [ inl flat ↦ absurd (omega (arith, none, flat.some)) | inr steep ↦ absurd (omega (arith, wide, steep.high)) ]
-  ]),
-)
 
 -- an integer that isn't negative is a number of rows
 size_of : (z : ℤ) → pos 0 ≤ℤ z → pos (unsigned_abs z) ≡ z

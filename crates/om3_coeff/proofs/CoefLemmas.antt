@@ -104,9 +104,6 @@ pub record AreParts (s : Span) (c : Coef) (left right : Option Span) : Type 0 wh
   pub whole : hull left right ≡ Some s
   pub coef : coef_of left right ≡ c
 
-same_pair : (a b : Option Span × Option Span) (left right : Option Span) → a ≡ (left, right) → (a.0 ≡ left) × (a.1 ≡ right)
-same_pair a b left right e = (ap (λ p. p.0) e, ap (λ p. p.1) e)
-
 parts_of_pair : (s : Span) (c : Coef) (a b left right : Option Span) → Some (let p : Option Span × Option Span = (a, b) in p) ≡ Some (left, right)
     → AreParts s c a b → AreParts s c left right
 parts_of_pair s c a b left right e h =

@@ -67,9 +67,6 @@ span_over-all list b long =
     let whole : b - 0 ≡ b = omega arith in
     ap (λ n. span_of (take n list)) whole ∙ ap span_of (take_all b list long)
 
-min_past : (x n : ℕ) → n ≤ x → min x n ≡ n
-min_past x n h = omega arith
-
 -- a range by the places that a list has
 pub span_within : (list : List (Option ℤ)) (a b : ℕ) → span_of (take (min b (length list) - min a (length list)) (drop (min a (length list)) list)) ≡ span_over list a b
 unfolding span_over

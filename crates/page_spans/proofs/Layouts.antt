@@ -1,15 +1,15 @@
 -- Heaps keep the rules of a page's flags and differences.
-use Rattle.std.proofs.Common.{ℕ, ℤ, List, ◌≡◌, ◌+◌, ◌*◌, ◌/◌, ◌%◌, ◌<◌, ◌≤◌, ◌^◌, sym, ◌∙◌, ap, subst, refl, unsigned_abs, ◌-ℤ◌, Bool, true, false, ◌==◌, cond, arith}
+use Rattle.std.proofs.Common.{ℕ, ℤ, List, ◌≡◌, ◌+◌, ◌*◌, ◌/◌, ◌%◌, ◌<◌, sym, ◌∙◌, ap, subst, refl, ◌-ℤ◌, Bool, true, false, ◌==◌, cond, arith}
 use Rattle.std.proofs.lemmas.Int.{ints}
 use Rattle.std.proofs.lemmas.Bool.{eqb-true, eqb-false}
-use Rattle.std.specs.Prelude.{Option, None, Some, Result, Ok, Err, OnOk, is_some, IsSome}
+use Rattle.std.specs.Prelude.{Option, None, Some, Result, Ok, Err, OnOk, is_some}
 use Rattle.om3_coeff.specs.declared.span.Span.{Span}
 use Rattle.om3_coeff.specs.declared.coef.Coef.{Coef}
 use Rattle.om3_coeff.specs.Spans.{IsProperIfAny, hull}
 use Rattle.whole_number.specs.Range.{IsValue, IsTime}
 use Rattle.om3_coeff.specs.Coefs.{coef_of}
-use Rattle.node_page.specs.Fields.{flag_at, coef_at}
-use Rattle.node_page.specs.Layout.{AreFlags, AreDifferences, HasDifferences, has_value, has_child}
+use Rattle.node_page.specs.Fields.{coef_at}
+use Rattle.node_page.specs.Layout.{AreDifferences, HasDifferences, has_value, has_child}
 use Rattle.page_spans.specs.Heaps.{AreProper, IsHeap}
 use Rattle.page_spans.proofs.HeapLemmas.{coef-left, coef-right}
 
@@ -28,15 +28,6 @@ left_is spans coefs n few heap = ap (λ (c : Coef). c.left) (heap n few).coef �
 
 right_is : (spans : ℕ → Option Span) (coefs : ℕ → Coef) (n : ℕ) → n < 127 → IsHeap spans coefs → (coefs n).right ≡ is_some (spans (2 * n + 2))
 right_is spans coefs n few heap = ap (λ (c : Coef). c.right) (heap n few).coef ∙ coef-right (spans (2 * n + 1)) (spans (2 * n + 2))
-
-pub heap_flags : (spans : ℕ → Option Span) (page : List ℕ) → IsHeap spans (coef_at page) → IsSome (spans 0) → flag_at page 254 ≡ false → flag_at page 255 ≡ false → AreFlags page
-heap_flags spans page heap some even odd = record {
-  top = value_is spans (coef_at page) 0 (omega arith) heap ∙ some;
-  left = λ n few. value_is spans (coef_at page) (2 * n + 1) (omega (arith, few)) heap ∙ sym (left_is spans (coef_at page) n (omega (arith, few)) heap);
-  right = λ n few. value_is spans (coef_at page) (2 * n + 2) (omega (arith, few)) heap ∙ sym (right_is spans (coef_at page) n (omega (arith, few)) heap);
-  spare_even = even;
-  spare_odd = odd;
-}
 
 apart : (a b : ℤ) → IsValue a → IsValue b → IsTime (a -ℤ b)
 apart a b va vb = grind (arith, ints, va, vb)

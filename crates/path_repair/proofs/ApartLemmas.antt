@@ -1,5 +1,5 @@
 -- Pages that are apart stay so while a tree is changed.
-use Rattle.std.proofs.Common.{◌≡◌, ◌≢◌, ◌↔◌, ℕ, zero, suc, ◌+◌, ◌-◌, ◌*◌, ◌^◌, ◌<◌, ◌≤◌, ◌⊎◌, Bool, cond, eqb, ltb, true, false, List, [], ◌∷◌, length, unwrap_or, refl, sym, ap, subst, arith, inl, inr, ◌∙◌}
+use Rattle.std.proofs.Common.{◌≡◌, ◌≢◌, ℕ, zero, suc, ◌+◌, ◌-◌, ◌*◌, ◌^◌, ◌<◌, ◌≤◌, Bool, cond, ltb, List, [], ◌∷◌, length, unwrap_or, refl, sym, ap, subst, arith, inl, inr, ◌∙◌}
 use Rattle.std.proofs.lemmas.Bool.{cases_lt, lt-ltb, le-ltb}
 use Rattle.std.proofs.lemmas.Bool.Decides.{eqb_tells}
 use Rattle.block_disk.specs.View.{Image}
@@ -8,13 +8,12 @@ use Rattle.node_page.specs.Fields.{number_at, with_bytes, child_at}
 use Rattle.node_page.proofs.Bytes.{number_written}
 use Rattle.page_space.specs.declared.superblock.Superblock.{Superblock}
 use Rattle.page_space.specs.declared.txn.Txn.{Txn}
-use Rattle.page_space.specs.declared.errors.SpaceError.{SpaceError}
 use Rattle.page_space.specs.declared.errors.SpaceError.TheVariants as space
 use Rattle.page_space.specs.Causes.{FromChain, FromFresh, Takes, Refuses}
-use Rattle.page_space.specs.Layout.{word, freed_page, IsGiven, IsNext, IsSuperblock, Links, with_fresh, without_head, with_head}
+use Rattle.page_space.specs.Layout.{word, freed_page, IsGiven, IsNext, IsSuperblock, Links, without_head, with_head}
 use Rattle.page_space.specs.Spaces.{times, once}
-use Rattle.page_space.specs.Transactions.{left_by, held_page, OnlyFirst}
-use Rattle.page_space.proofs.Counting.{times_here, times_other, times_more, once_low, once_high, once_in, once_given, once_most, once_step}
+use Rattle.page_space.specs.Transactions.{left_by, OnlyFirst}
+use Rattle.page_space.proofs.Counting.{times_here, times_other, times_more, once_high, once_in, once_given, once_most, once_step}
 use Rattle.path_repair.specs.Apart.{TellsUnfit, AreChained, AreApart, IsChain, StandsApart, reached_pages, and_page, and_tree, and_children}
 use Rattle.path_repair.specs.Damage.{HasBadLink}
 use Rattle.path_repair.specs.Keeping.{root_level}
@@ -48,9 +47,6 @@ page_times p page ps = elim (eqb_tells p page) [
 
 page_itself : (page : ℕ) → times page (page ∷ []) ≡ 1
 page_itself page = times_here page page [] refl
-
-page_alone : (p page : ℕ) → times page (p ∷ []) ≡ 0 → page ≢ p
-page_alone p page none same = omega (arith, none, times_here page p [] same)
 
 -- ---- chains
 

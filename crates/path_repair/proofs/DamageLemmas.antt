@@ -8,7 +8,7 @@ use Rattle.page_space.specs.declared.superblock.Superblock.{Superblock}
 use Rattle.path_repair.specs.declared.errors.RepairError.{RepairError}
 use Rattle.path_repair.specs.declared.errors.RepairError.TheVariants.{Full, DiskFault, Damaged, NoMemory}
 use Rattle.path_repair.specs.Costs.{is_new_root}
-use Rattle.path_repair.specs.Damage.{IsUnfit, IsUnfitAt, IsBadAt, IsUnsplitPage, AreBelow, IsAbove, HasUnfit, HasUnsplit, IsDamaged, IsDamage, IsUnfitBelow, IsHeadCause}
+use Rattle.path_repair.specs.Damage.{IsUnfit, IsUnfitAt, IsBadAt, IsUnsplitPage, AreBelow, IsAbove, HasUnfit, HasUnsplit, IsDamaged, IsDamage, IsUnfitBelow}
 use Rattle.path_repair.proofs.KeepLemmas.{no_new}
 use Rattle.path_repair.specs.Keeping.{IsRead, IsNew, IsLookedAt, IsOpened, IsAsTold, Spares, root_level}
 
@@ -155,13 +155,6 @@ damage_here image fresh s height level below index page total top (Damaged at) i
       | inr unsplit ↦ inr (inl (inl (some, bad.0, unsplit)))
     ])
 damage_here image fresh s height level below index page total top NoMemory is total_is some old bad = tt
-
--- no page could be taken
-pub damage_head : (image : Image) (fresh : ℕ) (s : Superblock) (level page : ℕ) (top : Option Span) (e : RepairError) → IsHeadCause image s e → IsDamage image fresh s level page top e
-damage_head image fresh s level page top (Full needed have) bad = tt
-damage_head image fresh s level page top DiskFault bad = tt
-damage_head image fresh s level page top (Damaged at) bad = inr (inr bad)
-damage_head image fresh s level page top NoMemory bad = tt
 
 -- the same of the pass that changes nothing
 

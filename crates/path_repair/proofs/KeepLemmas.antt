@@ -1,12 +1,12 @@
 -- Which pages a change spares.
-use Rattle.std.proofs.Common.{◌≡◌, ◌≢◌, ℕ, ◌<◌, ◌≤◌, List, sym, subst, arith, inl, inr, ◌∙◌}
+use Rattle.std.proofs.Common.{◌≡◌, ◌≢◌, ℕ, ◌≤◌, List, sym, subst, arith, inl, inr, ◌∙◌}
 use Rattle.block_disk.specs.View.{Image}
 use Rattle.node_page.specs.Layout.{IsKind}
 use Rattle.page_space.specs.Causes.{Takes}
 use Rattle.page_space.specs.Layout.{IsGiven, freed_page}
 use Rattle.page_space.specs.declared.superblock.Superblock.{Superblock}
 use Rattle.path_repair.specs.Damage.{IsNoNew}
-use Rattle.path_repair.specs.Keeping.{KeepsCatalog, IsSpared, Spares, IsOwn}
+use Rattle.path_repair.specs.Keeping.{IsSpared, Spares, IsOwn}
 
 -- a page that may be put isn't spared
 pub own_spared : (image : Image) (fresh last level number : ℕ) → IsOwn image fresh last level number → IsSpared level fresh last number (image number) → ⊥
@@ -56,9 +56,6 @@ spares_put below level fresh mid last number before between after less later own
 -- a failing change below spares what one of this level does
 pub spares_up : (below level fresh last : ℕ) (before after : Image) → below ≤ level → Spares below fresh last before after → Spares level fresh last before after
 spares_up below level fresh last before after less spares p some spared = spares p some (spared_below below level fresh fresh last last p (before p) less (omega arith) (omega arith) spared)
-
-pub keeps_catalog : (level fresh last : ℕ) (before after : Image) → Spares level fresh last before after → KeepsCatalog before after
-keeps_catalog level fresh last before after spares p some within other = spares p some (inl (within, other))
 
 -- a page of the chain is no tree page
 freed_other : (next : ℕ) → IsKind (freed_page next) → ⊥

@@ -13,8 +13,8 @@ use Rattle.path_repair.specs.declared.errors.RepairError.{RepairError}
 use Rattle.path_repair.specs.declared.errors.RepairError.TheVariants.{Full, DiskFault, Damaged, NoMemory}
 use Rattle.path_repair.specs.Apart.{TellsUnfit, AreApart, StandsApart, reached_pages, HasWrongPage, HasWrongNode, IsDamagedPage, NamesDamaged, NamesLink, and_page, and_tree, and_children}
 use Rattle.path_repair.specs.Costs.{is_new_root}
-use Rattle.path_repair.specs.Damage.{IsUnfit, IsBadAt, IsUnsplitPage, AreBelow, HasUnfit, HasBadLink, IsUnfitBelow}
-use Rattle.path_repair.specs.Keeping.{IsRead, IsNew, IsOpened, IsAsTold, root_level}
+use Rattle.path_repair.specs.Damage.{IsUnfit, IsBadAt, IsUnsplitPage, AreBelow, HasUnfit, IsUnfitBelow}
+use Rattle.path_repair.specs.Keeping.{IsNew, IsOpened, IsAsTold, root_level}
 use Rattle.path_repair.specs.Sums.{sum_below, join_below}
 use Rattle.path_repair.specs.Standing.{AreTold}
 use Rattle.path_repair.specs.Forms.{IsForm}

@@ -74,11 +74,6 @@ times_swap p f g i n low same =
     let swap = sum_swap (λ c. times p (f c)) (λ c. times p (g c)) i n low (λ c within other. ap (λ l. times p l) (same c within other)) in
     omega (arith, swap, times_join p f n, times_join p g n)
 
-pub length_swap : (f g : ℕ → List ℕ) (i n : ℕ) → i < n → ((c : ℕ) → c < n → c ≢ i → g c ≡ f c) → length (join_below f n) + length (g i) ≡ length (join_below g n) + length (f i)
-length_swap f g i n low same =
-    let swap = sum_swap (λ c. length (f c)) (λ c. length (g c)) i n low (λ c within other. ap (λ l. length l) (same c within other)) in
-    omega (arith, swap, length_join f n, length_join g n)
-
 pub join_none : (f : ℕ → List ℕ) (n : ℕ) → ((c : ℕ) → c < n → f c ≡ []) → join_below f n ≡ []
 unfolding join_below
 join_none f zero none = refl

@@ -7,10 +7,6 @@ use Rattle.line_raster.specs.Canvas.{Canvas}
 use Rattle.pbm_writer.specs.Picture.{byte_at, row_bytes, row, rows_below}
 use Rattle.pbm_writer.specs.Strip.{IsStrip}
 
--- no row is written yet
-pub strip_none : (c : Canvas) (k : ℕ) (rows : List ℕ) → IsStrip c k 0 rows rows
-strip_none c k rows = record { size = refl; written = λ b h. absurd (omega arith); others = λ i apart. refl }
-
 -- one row more
 pub strip_more : (c : Canvas) (k y i v : ℕ) (old now : List ℕ) → length old ≡ c.h * row_bytes c.w → k < row_bytes c.w → y < c.h → i ≡ (c.h - 1 - y) * row_bytes c.w + k → v ≡ byte_at c k y → IsStrip c k y old now → IsStrip c k (y + 1) old (set now i v)
 strip_more c k y i v old now size in_row in_h is_i is_v before =
@@ -33,10 +29,6 @@ strip_more c k y i v old now size in_row in_h is_i is_v before =
 pub record HasStrips (c : Canvas) (k : ℕ) (rows : List ℕ) : Type 0 where
   pub size : length rows ≡ c.h * row_bytes c.w
   pub written : (j y : ℕ) → j < k → y < c.h → get_or rows ((c.h - 1 - y) * row_bytes c.w + j) 0 ≡ byte_at c j y
-
--- no byte of a row is written yet
-pub strips_none : (c : Canvas) (rows : List ℕ) → length rows ≡ c.h * row_bytes c.w → HasStrips c 0 rows
-strips_none c rows size = record { size = size; written = λ j y below in_h. absurd (omega arith) }
 
 -- one byte of each row more
 pub strips_more : (c : Canvas) (k : ℕ) (now new : List ℕ) → k < row_bytes c.w → HasStrips c k now → IsStrip c k c.h now new → HasStrips c (k + 1) new

@@ -26,9 +26,6 @@ towards_all a b = grind (arith, ints)
 no_rows : (a b : ℤ) → unsigned_abs (b -ℤ a) ≡ 0 → b ≡ a
 no_rows a b none = grind (arith, ints)
 
-self_rows : (a : ℤ) → unsigned_abs (a -ℤ a) ≡ 0
-self_rows a = grind (arith, ints)
-
 end_high : (p q : Point) → p.x ≤ q.x → columns p q < rows p q → (x : ℕ) (y : ℤ) → IsAt q x y → On p q x y
 end_high p q order high x y at =
     inr (inr (record {
@@ -69,15 +66,6 @@ on_end p q order x y at =
         | inr none ↦ end_dot p q order (omega (arith, none)) (omega (arith, none, wide)) x y at
       ]
     ]
-
-self_at : (p : Point) (x : ℕ) (y : ℤ) → On p p x y → IsAt p x y
-self_at p x y (inl dot) = record { column = dot.column; row = dot.row }
-self_at p x y (inr (inl wide)) = absurd (omega (arith, wide.some))
-self_at p x y (inr (inr high)) = absurd (omega (arith, high.high, self_rows p.y))
-
--- a point's segment to itself is the point
-pub on_self : (p : Point) (x : ℕ) (y : ℤ) → On p p x y ↔ IsAt p x y
-on_self p x y = (self_at p x y, on_end p p (omega arith) x y)
 
 -- an element of the list with one more is an old one or that one
 in_more : (ps : List Point) (q r : Point) (i : ℕ) → slice_get (ps ++ q ∷ []) i ≡ Some r → ((i < length ps) × (slice_get ps i ≡ Some r)) ⊎ ((i ≡ length ps) × (r ≡ q))

@@ -31,9 +31,6 @@ shown_slots axis g a b i start stop slot shown = (
   (stop.before i slot).1 shown.to,
 )
 
-pub fewer_shown : (axis : Axis) (g : Grid) (a b m n : ℕ) → AreShown axis g a b → a ≤ m → n ≤ b → AreShown axis g m n
-fewer_shown axis g a b m n h from to = record { each = λ i low high. h.each i (omega arith) (omega arith) }
-
 -- later slots have later times
 pub time_rises : (axis : Axis) (i j : ℕ) → i ≤ j → slot_time axis i ≤ℤ slot_time axis j
 time_rises axis i j le =

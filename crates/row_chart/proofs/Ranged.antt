@@ -72,15 +72,6 @@ span_more rows r a b low high s =
           (alone (λ q. q.greatest ≤ℤ int_max a.hi r.greatest) r (max-right a.hi r.greatest)));
     }
 
--- the range of one row
-pub span_one : (r : Row) (a : ValueRange) → a.lo ≡ r.least → a.hi ≡ r.greatest → SpanRows (r ∷ []) a
-span_one r a low high = record {
-  least = subst (λ (z : ℤ). Contains (r.least ∷ []) z) (sym low) (Contains-here r.least []);
-  none_below = alone (λ q. a.lo ≤ℤ q.least) r (omega (arith, ints, low));
-  greatest = subst (λ (z : ℤ). Contains (r.greatest ∷ []) z) (sym high) (Contains-here r.greatest []);
-  none_above = alone (λ q. q.greatest ≤ℤ a.hi) r (omega (arith, ints, high));
-}
-
 head-or-tail : (x v : ℤ) (vs : List ℤ) → Contains (x ∷ vs) v → (x ≡ v) ⊎ Contains vs v
 head-or-tail x v vs (zero, low, is) = inl is
 head-or-tail x v vs (suc i, low, is) = inr (i, omega (arith, low), is)

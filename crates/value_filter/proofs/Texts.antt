@@ -75,9 +75,6 @@ pub record IsRead (text rest : List ℕ) (state : State) : Type 0 where
   pub here : rest ≡ past_spaces behind
   pub reached : taken_all tokens initial ≡ Some state
 
-pub nothing_read : (text : List ℕ) → IsRead text (past_spaces text) initial
-nothing_read text = record { tokens = []; behind = text; begins = refl; here = refl; reached = refl }
-
 -- the tokens of a state that is reached
 is_step : (next : Option State) (tokens before : List Token) (token : Token) (from to : State) → Is from before → taken token from ≡ next
     → ((state : State) → Is state (before ++ token ∷ []) → taken_all tokens state ≡ Some to → Is to ((before ++ token ∷ []) ++ tokens))

@@ -57,28 +57,10 @@ behind_dash ds (negsuc n) spells = (suc n, omega arith, (ap (drop 1) spells.0, s
 pub none_behind : (ds : List ℕ) → ((n : ℕ) → SpellsNatural ds n → ⊥) → (z : ℤ) → SpellsInteger (45 ∷ ds) z → ⊥
 none_behind ds none z spells = let b = behind_dash ds z spells in none b.0 b.2
 
-pub zero_behind : (ds : List ℕ) → SpellsNatural ds 0 → (z : ℤ) → SpellsInteger (45 ∷ ds) z → ⊥
-zero_behind ds zero_spells z spells =
-    let b = behind_dash ds z spells in
-    let low : 0 < 2 ^ 64 = omega arith in
-    let high : b.0 < 2 ^ 64 = omega (arith, b.2.1) in
-    let same : 0 ≡ b.0 = decimal_injective 0 b.0 low high (sym zero_spells.0 ∙ b.2.0) in
-    omega (arith, same, b.1)
-
 -- a text that begins with `-`, by what stands behind that
 pub begins_dash : (text : List ℕ) → 0 < length text → get_or text 0 0 ≡ 45 → text ≡ 45 ∷ drop 1 text
 begins_dash [] some first = absurd (omega (arith, some))
 begins_dash (c ∷ cs) some first = ap (λ d. d ∷ cs) first
-
-pub none_dash : (text : List ℕ) → 0 < length text → get_or text 0 0 ≡ 45 → ((n : ℕ) → SpellsNatural (drop 1 text) n → ⊥) → (z : ℤ) → SpellsInteger text z → ⊥
-none_dash text some first none z spells =
-    let P : List ℕ → Type 0 = λ t. SpellsInteger t z in
-    none_behind (drop 1 text) none z (subst P (begins_dash text some first) spells)
-
-pub zero_dash : (text : List ℕ) → 0 < length text → get_or text 0 0 ≡ 45 → SpellsNatural (drop 1 text) 0 → (z : ℤ) → SpellsInteger text z → ⊥
-zero_dash text some first zero_spells z spells =
-    let P : List ℕ → Type 0 = λ t. SpellsInteger t z in
-    zero_behind (drop 1 text) zero_spells z (subst P (begins_dash text some first) spells)
 
 -- a text spells one number at the most
 pub one_natural : (text : List ℕ) (m n : ℕ) → SpellsNatural text m → SpellsNatural text n → m ≡ n

@@ -58,208 +58,40 @@ pub returns-in-Err-clause-moments : goal.returns-in-Err-clause-moments
 returns-in-Err-clause-moments g c = λ total book told stands.
     let is : c.requests.workload ≡ c.in-Some.request ∷ c.next.new.self = given_some c.in-Ok-next.next c.in-Some.request _ _ c.in-Ok-next.ensures.given c.in-Some.is in
     let r = next_reaches (workload c.args.seed c.args.count) c.requests.workload c.next.new.self c.in-Some.request total (state_of book total []) (shown.image c.requests.service) c.requests.service.sessions c.requests.client c.requests.summary is (c.requests.invariant.reaches total book told stands) in
-    moments_more (workload c.args.seed c.args.count) c.next.new.self c.in-Some.request total (state_of book total []) (shown.view c.args.service.now) (shown.view c.requests.service) (shown.view c.answer.new.service) c.requests.service.sessions c.requests.client c.requests.summary r
+    moments_more (workload c.args.seed c.args.count) c.next.new.self c.in-Some.request total (state_of book total []) (shown.view c.args.service.now) (shown.view c.requests.service) (shown.view c.answer-answered.new.service) c.requests.service.sessions c.requests.client c.requests.summary r
     (c.requests.invariant.moments total book told stands) (c.in-Err.ensures.moments total r.book (c.requests.invariant.runs.told told) r.stands)
 
 pub returns-in-Err-clause-left : goal.returns-in-Err-clause-left
 returns-in-Err-clause-left g c = λ total book told stands apart.
     let is : c.requests.workload ≡ c.in-Some.request ∷ c.next.new.self = given_some c.in-Ok-next.next c.in-Some.request _ _ c.in-Ok-next.ensures.given c.in-Some.is in
     let r = next_reaches (workload c.args.seed c.args.count) c.requests.workload c.next.new.self c.in-Some.request total (state_of book total []) (shown.image c.requests.service) c.requests.service.sessions c.requests.client c.requests.summary is (c.requests.invariant.reaches total book told stands) in
-    next_part (workload c.args.seed c.args.count) c.next.new.self c.in-Some.request total (state_of book total []) (shown.image c.requests.service) (shown.image c.answer.new.service) c.requests.service.sessions c.requests.client c.requests.summary r
+    next_part (workload c.args.seed c.args.count) c.next.new.self c.in-Some.request total (state_of book total []) (shown.image c.requests.service) (shown.image c.answer-answered.new.service) c.requests.service.sessions c.requests.client c.requests.summary r
     (c.in-Err.ensures.left total r.book (c.requests.invariant.runs.told told) r.stands apart)
-
-pub requests-preserved-in-Ok-answer : goal.requests-preserved-in-Ok-answer
-requests-preserved-in-Ok-answer g c =
-    let is : c.requests.workload ≡ c.in-Some.request ∷ c.next.new.self = given_some c.in-Ok-next.next c.in-Some.request _ _ c.in-Ok-next.ensures.given c.in-Some.is in
-    record {
-      fit = c.in-Ok-answer.ensures.fit (λ never. ok_err c.in-Ok-answer.field-0 DiskFault never);
-      small = c.in-Ok-answer.ensures.small;
-      few =
-          let one : c.answer.new.summary.requests ≡ c.requests.summary.requests + 1 = c.in-Ok-answer.ensures.requests in
-          let was : c.requests.summary.requests + length c.requests.workload ≤ 12290 = c.requests.invariant.few in
-          one_fewer c.requests.summary.requests c.answer.new.summary.requests c.requests.workload c.next.new.self c.in-Some.request is one was;
-      knows = c.in-Ok-answer.ensures.known;
-      accepted = accepted_more c.requests.client c.answer.new.client c.requests.invariant.accepted c.in-Ok-answer.ensures.accepts;
-      reaches = λ total book told stands.
-          let r = next_reaches (workload c.args.seed c.args.count) c.requests.workload c.next.new.self c.in-Some.request total (state_of book total []) (shown.image c.requests.service) c.requests.service.sessions c.requests.client c.requests.summary is (c.requests.invariant.reaches total book told stands) in
-          reaches_more (workload c.args.seed c.args.count) c.next.new.self c.in-Some.request total (state_of book total []) (shown.image c.requests.service) (shown.image c.answer.new.service) c.requests.service.sessions c.answer.new.service.sessions
-          c.requests.client c.answer.new.client c.requests.summary c.answer.new.summary r
-          (c.in-Ok-answer.ensures.answered total r.book (c.requests.invariant.runs.told told) r.stands r.sound r.mirrors);
-      moments = λ total book told stands.
-          let r = next_reaches (workload c.args.seed c.args.count) c.requests.workload c.next.new.self c.in-Some.request total (state_of book total []) (shown.image c.requests.service) c.requests.service.sessions c.requests.client c.requests.summary is (c.requests.invariant.reaches total book told stands) in
-          moments_more (workload c.args.seed c.args.count) c.next.new.self c.in-Some.request total (state_of book total []) (shown.view c.args.service.now) (shown.view c.requests.service) (shown.view c.answer.new.service) c.requests.service.sessions c.requests.client c.requests.summary r
-          (c.requests.invariant.moments total book told stands) (c.in-Ok-answer.ensures.moments total r.book (c.requests.invariant.runs.told told) r.stands);
-      runs = runs_on (shown.IsTold c.args.service.now) (shown.IsTold c.requests.service) (shown.IsTold c.answer.new.service)
-          (shown.view c.args.service.now) (shown.view c.requests.service) (shown.view c.answer.new.service) c.requests.invariant.runs c.in-Ok-answer.ensures.steps;
-      goes_on = goes_then (shown.under c.args.service.now) (shown.under c.requests.service) (shown.under c.answer.new.service)
-          c.requests.invariant.goes_on c.in-Ok-answer.ensures.goes_on;
-      total = c.in-Ok-answer.ensures.total ∙ c.requests.invariant.total;
-    }
-
-pub requests-preserved-in-Ok-answer-2 : goal.requests-preserved-in-Ok-answer-2
-requests-preserved-in-Ok-answer-2 g c =
-    let is : c.requests.workload ≡ c.in-Some.request ∷ c.next.new.self = given_some c.in-Ok-next.next c.in-Some.request _ _ c.in-Ok-next.ensures.given c.in-Some.is in
-    record {
-      fit = c.in-Ok-answer.ensures.fit (λ never. ok_err c.in-Ok-answer.field-0 DiskFault never);
-      small = c.in-Ok-answer.ensures.small;
-      few =
-          let one : c.answer.new.summary.requests ≡ c.requests.summary.requests + 1 = c.in-Ok-answer.ensures.requests in
-          let was : c.requests.summary.requests + length c.requests.workload ≤ 12290 = c.requests.invariant.few in
-          one_fewer c.requests.summary.requests c.answer.new.summary.requests c.requests.workload c.next.new.self c.in-Some.request is one was;
-      knows = c.in-Ok-answer.ensures.known;
-      accepted = accepted_more c.requests.client c.answer.new.client c.requests.invariant.accepted c.in-Ok-answer.ensures.accepts;
-      reaches = λ total book told stands.
-          let r = next_reaches (workload c.args.seed c.args.count) c.requests.workload c.next.new.self c.in-Some.request total (state_of book total []) (shown.image c.requests.service) c.requests.service.sessions c.requests.client c.requests.summary is (c.requests.invariant.reaches total book told stands) in
-          reaches_more (workload c.args.seed c.args.count) c.next.new.self c.in-Some.request total (state_of book total []) (shown.image c.requests.service) (shown.image c.answer.new.service) c.requests.service.sessions c.answer.new.service.sessions
-          c.requests.client c.answer.new.client c.requests.summary c.answer.new.summary r
-          (c.in-Ok-answer.ensures.answered total r.book (c.requests.invariant.runs.told told) r.stands r.sound r.mirrors);
-      moments = λ total book told stands.
-          let r = next_reaches (workload c.args.seed c.args.count) c.requests.workload c.next.new.self c.in-Some.request total (state_of book total []) (shown.image c.requests.service) c.requests.service.sessions c.requests.client c.requests.summary is (c.requests.invariant.reaches total book told stands) in
-          moments_more (workload c.args.seed c.args.count) c.next.new.self c.in-Some.request total (state_of book total []) (shown.view c.args.service.now) (shown.view c.requests.service) (shown.view c.answer.new.service) c.requests.service.sessions c.requests.client c.requests.summary r
-          (c.requests.invariant.moments total book told stands) (c.in-Ok-answer.ensures.moments total r.book (c.requests.invariant.runs.told told) r.stands);
-      runs = runs_on (shown.IsTold c.args.service.now) (shown.IsTold c.requests.service) (shown.IsTold c.answer.new.service)
-          (shown.view c.args.service.now) (shown.view c.requests.service) (shown.view c.answer.new.service) c.requests.invariant.runs c.in-Ok-answer.ensures.steps;
-      goes_on = goes_then (shown.under c.args.service.now) (shown.under c.requests.service) (shown.under c.answer.new.service)
-          c.requests.invariant.goes_on c.in-Ok-answer.ensures.goes_on;
-      total = c.in-Ok-answer.ensures.total ∙ c.requests.invariant.total;
-    }
-
-pub requests-preserved-in-Ok-answer-3 : goal.requests-preserved-in-Ok-answer-3
-requests-preserved-in-Ok-answer-3 g c =
-    let is : c.requests.workload ≡ c.in-Some.request ∷ c.next.new.self = given_some c.in-Ok-next.next c.in-Some.request _ _ c.in-Ok-next.ensures.given c.in-Some.is in
-    record {
-      fit = c.in-Ok-answer.ensures.fit (λ never. ok_err c.in-Ok-answer.field-0 DiskFault never);
-      small = c.in-Ok-answer.ensures.small;
-      few =
-          let one : c.answer.new.summary.requests ≡ c.requests.summary.requests + 1 = c.in-Ok-answer.ensures.requests in
-          let was : c.requests.summary.requests + length c.requests.workload ≤ 12290 = c.requests.invariant.few in
-          one_fewer c.requests.summary.requests c.answer.new.summary.requests c.requests.workload c.next.new.self c.in-Some.request is one was;
-      knows = c.in-Ok-answer.ensures.known;
-      accepted = accepted_more c.requests.client c.answer.new.client c.requests.invariant.accepted c.in-Ok-answer.ensures.accepts;
-      reaches = λ total book told stands.
-          let r = next_reaches (workload c.args.seed c.args.count) c.requests.workload c.next.new.self c.in-Some.request total (state_of book total []) (shown.image c.requests.service) c.requests.service.sessions c.requests.client c.requests.summary is (c.requests.invariant.reaches total book told stands) in
-          reaches_more (workload c.args.seed c.args.count) c.next.new.self c.in-Some.request total (state_of book total []) (shown.image c.requests.service) (shown.image c.answer.new.service) c.requests.service.sessions c.answer.new.service.sessions
-          c.requests.client c.answer.new.client c.requests.summary c.answer.new.summary r
-          (c.in-Ok-answer.ensures.answered total r.book (c.requests.invariant.runs.told told) r.stands r.sound r.mirrors);
-      moments = λ total book told stands.
-          let r = next_reaches (workload c.args.seed c.args.count) c.requests.workload c.next.new.self c.in-Some.request total (state_of book total []) (shown.image c.requests.service) c.requests.service.sessions c.requests.client c.requests.summary is (c.requests.invariant.reaches total book told stands) in
-          moments_more (workload c.args.seed c.args.count) c.next.new.self c.in-Some.request total (state_of book total []) (shown.view c.args.service.now) (shown.view c.requests.service) (shown.view c.answer.new.service) c.requests.service.sessions c.requests.client c.requests.summary r
-          (c.requests.invariant.moments total book told stands) (c.in-Ok-answer.ensures.moments total r.book (c.requests.invariant.runs.told told) r.stands);
-      runs = runs_on (shown.IsTold c.args.service.now) (shown.IsTold c.requests.service) (shown.IsTold c.answer.new.service)
-          (shown.view c.args.service.now) (shown.view c.requests.service) (shown.view c.answer.new.service) c.requests.invariant.runs c.in-Ok-answer.ensures.steps;
-      goes_on = goes_then (shown.under c.args.service.now) (shown.under c.requests.service) (shown.under c.answer.new.service)
-          c.requests.invariant.goes_on c.in-Ok-answer.ensures.goes_on;
-      total = c.in-Ok-answer.ensures.total ∙ c.requests.invariant.total;
-    }
-
-pub requests-preserved-in-Ok-answer-4 : goal.requests-preserved-in-Ok-answer-4
-requests-preserved-in-Ok-answer-4 g c =
-    let is : c.requests.workload ≡ c.in-Some.request ∷ c.next.new.self = given_some c.in-Ok-next.next c.in-Some.request _ _ c.in-Ok-next.ensures.given c.in-Some.is in
-    record {
-      fit = c.in-Ok-answer.ensures.fit (λ never. ok_err c.in-Ok-answer.field-0 DiskFault never);
-      small = c.in-Ok-answer.ensures.small;
-      few =
-          let one : c.answer.new.summary.requests ≡ c.requests.summary.requests + 1 = c.in-Ok-answer.ensures.requests in
-          let was : c.requests.summary.requests + length c.requests.workload ≤ 12290 = c.requests.invariant.few in
-          one_fewer c.requests.summary.requests c.answer.new.summary.requests c.requests.workload c.next.new.self c.in-Some.request is one was;
-      knows = c.in-Ok-answer.ensures.known;
-      accepted = accepted_more c.requests.client c.answer.new.client c.requests.invariant.accepted c.in-Ok-answer.ensures.accepts;
-      reaches = λ total book told stands.
-          let r = next_reaches (workload c.args.seed c.args.count) c.requests.workload c.next.new.self c.in-Some.request total (state_of book total []) (shown.image c.requests.service) c.requests.service.sessions c.requests.client c.requests.summary is (c.requests.invariant.reaches total book told stands) in
-          reaches_more (workload c.args.seed c.args.count) c.next.new.self c.in-Some.request total (state_of book total []) (shown.image c.requests.service) (shown.image c.answer.new.service) c.requests.service.sessions c.answer.new.service.sessions
-          c.requests.client c.answer.new.client c.requests.summary c.answer.new.summary r
-          (c.in-Ok-answer.ensures.answered total r.book (c.requests.invariant.runs.told told) r.stands r.sound r.mirrors);
-      moments = λ total book told stands.
-          let r = next_reaches (workload c.args.seed c.args.count) c.requests.workload c.next.new.self c.in-Some.request total (state_of book total []) (shown.image c.requests.service) c.requests.service.sessions c.requests.client c.requests.summary is (c.requests.invariant.reaches total book told stands) in
-          moments_more (workload c.args.seed c.args.count) c.next.new.self c.in-Some.request total (state_of book total []) (shown.view c.args.service.now) (shown.view c.requests.service) (shown.view c.answer.new.service) c.requests.service.sessions c.requests.client c.requests.summary r
-          (c.requests.invariant.moments total book told stands) (c.in-Ok-answer.ensures.moments total r.book (c.requests.invariant.runs.told told) r.stands);
-      runs = runs_on (shown.IsTold c.args.service.now) (shown.IsTold c.requests.service) (shown.IsTold c.answer.new.service)
-          (shown.view c.args.service.now) (shown.view c.requests.service) (shown.view c.answer.new.service) c.requests.invariant.runs c.in-Ok-answer.ensures.steps;
-      goes_on = goes_then (shown.under c.args.service.now) (shown.under c.requests.service) (shown.under c.answer.new.service)
-          c.requests.invariant.goes_on c.in-Ok-answer.ensures.goes_on;
-      total = c.in-Ok-answer.ensures.total ∙ c.requests.invariant.total;
-    }
-
-pub requests-preserved-in-Ok-answer-5 : goal.requests-preserved-in-Ok-answer-5
-requests-preserved-in-Ok-answer-5 g c =
-    let is : c.requests.workload ≡ c.in-Some.request ∷ c.next.new.self = given_some c.in-Ok-next.next c.in-Some.request _ _ c.in-Ok-next.ensures.given c.in-Some.is in
-    record {
-      fit = c.in-Ok-answer.ensures.fit (λ never. ok_err c.in-Ok-answer.field-0 DiskFault never);
-      small = c.in-Ok-answer.ensures.small;
-      few =
-          let one : c.answer.new.summary.requests ≡ c.requests.summary.requests + 1 = c.in-Ok-answer.ensures.requests in
-          let was : c.requests.summary.requests + length c.requests.workload ≤ 12290 = c.requests.invariant.few in
-          one_fewer c.requests.summary.requests c.answer.new.summary.requests c.requests.workload c.next.new.self c.in-Some.request is one was;
-      knows = c.in-Ok-answer.ensures.known;
-      accepted = accepted_more c.requests.client c.answer.new.client c.requests.invariant.accepted c.in-Ok-answer.ensures.accepts;
-      reaches = λ total book told stands.
-          let r = next_reaches (workload c.args.seed c.args.count) c.requests.workload c.next.new.self c.in-Some.request total (state_of book total []) (shown.image c.requests.service) c.requests.service.sessions c.requests.client c.requests.summary is (c.requests.invariant.reaches total book told stands) in
-          reaches_more (workload c.args.seed c.args.count) c.next.new.self c.in-Some.request total (state_of book total []) (shown.image c.requests.service) (shown.image c.answer.new.service) c.requests.service.sessions c.answer.new.service.sessions
-          c.requests.client c.answer.new.client c.requests.summary c.answer.new.summary r
-          (c.in-Ok-answer.ensures.answered total r.book (c.requests.invariant.runs.told told) r.stands r.sound r.mirrors);
-      moments = λ total book told stands.
-          let r = next_reaches (workload c.args.seed c.args.count) c.requests.workload c.next.new.self c.in-Some.request total (state_of book total []) (shown.image c.requests.service) c.requests.service.sessions c.requests.client c.requests.summary is (c.requests.invariant.reaches total book told stands) in
-          moments_more (workload c.args.seed c.args.count) c.next.new.self c.in-Some.request total (state_of book total []) (shown.view c.args.service.now) (shown.view c.requests.service) (shown.view c.answer.new.service) c.requests.service.sessions c.requests.client c.requests.summary r
-          (c.requests.invariant.moments total book told stands) (c.in-Ok-answer.ensures.moments total r.book (c.requests.invariant.runs.told told) r.stands);
-      runs = runs_on (shown.IsTold c.args.service.now) (shown.IsTold c.requests.service) (shown.IsTold c.answer.new.service)
-          (shown.view c.args.service.now) (shown.view c.requests.service) (shown.view c.answer.new.service) c.requests.invariant.runs c.in-Ok-answer.ensures.steps;
-      goes_on = goes_then (shown.under c.args.service.now) (shown.under c.requests.service) (shown.under c.answer.new.service)
-          c.requests.invariant.goes_on c.in-Ok-answer.ensures.goes_on;
-      total = c.in-Ok-answer.ensures.total ∙ c.requests.invariant.total;
-    }
-
-pub requests-preserved-in-Ok-answer-6 : goal.requests-preserved-in-Ok-answer-6
-requests-preserved-in-Ok-answer-6 g c =
-    let is : c.requests.workload ≡ c.in-Some.request ∷ c.next.new.self = given_some c.in-Ok-next.next c.in-Some.request _ _ c.in-Ok-next.ensures.given c.in-Some.is in
-    record {
-      fit = c.in-Ok-answer.ensures.fit (λ never. ok_err c.in-Ok-answer.field-0 DiskFault never);
-      small = c.in-Ok-answer.ensures.small;
-      few =
-          let one : c.answer.new.summary.requests ≡ c.requests.summary.requests + 1 = c.in-Ok-answer.ensures.requests in
-          let was : c.requests.summary.requests + length c.requests.workload ≤ 12290 = c.requests.invariant.few in
-          one_fewer c.requests.summary.requests c.answer.new.summary.requests c.requests.workload c.next.new.self c.in-Some.request is one was;
-      knows = c.in-Ok-answer.ensures.known;
-      accepted = accepted_more c.requests.client c.answer.new.client c.requests.invariant.accepted c.in-Ok-answer.ensures.accepts;
-      reaches = λ total book told stands.
-          let r = next_reaches (workload c.args.seed c.args.count) c.requests.workload c.next.new.self c.in-Some.request total (state_of book total []) (shown.image c.requests.service) c.requests.service.sessions c.requests.client c.requests.summary is (c.requests.invariant.reaches total book told stands) in
-          reaches_more (workload c.args.seed c.args.count) c.next.new.self c.in-Some.request total (state_of book total []) (shown.image c.requests.service) (shown.image c.answer.new.service) c.requests.service.sessions c.answer.new.service.sessions
-          c.requests.client c.answer.new.client c.requests.summary c.answer.new.summary r
-          (c.in-Ok-answer.ensures.answered total r.book (c.requests.invariant.runs.told told) r.stands r.sound r.mirrors);
-      moments = λ total book told stands.
-          let r = next_reaches (workload c.args.seed c.args.count) c.requests.workload c.next.new.self c.in-Some.request total (state_of book total []) (shown.image c.requests.service) c.requests.service.sessions c.requests.client c.requests.summary is (c.requests.invariant.reaches total book told stands) in
-          moments_more (workload c.args.seed c.args.count) c.next.new.self c.in-Some.request total (state_of book total []) (shown.view c.args.service.now) (shown.view c.requests.service) (shown.view c.answer.new.service) c.requests.service.sessions c.requests.client c.requests.summary r
-          (c.requests.invariant.moments total book told stands) (c.in-Ok-answer.ensures.moments total r.book (c.requests.invariant.runs.told told) r.stands);
-      runs = runs_on (shown.IsTold c.args.service.now) (shown.IsTold c.requests.service) (shown.IsTold c.answer.new.service)
-          (shown.view c.args.service.now) (shown.view c.requests.service) (shown.view c.answer.new.service) c.requests.invariant.runs c.in-Ok-answer.ensures.steps;
-      goes_on = goes_then (shown.under c.args.service.now) (shown.under c.requests.service) (shown.under c.answer.new.service)
-          c.requests.invariant.goes_on c.in-Ok-answer.ensures.goes_on;
-      total = c.in-Ok-answer.ensures.total ∙ c.requests.invariant.total;
-    }
 
 pub requests-preserved : goal.requests-preserved
 requests-preserved g c =
     let is : c.requests.workload ≡ c.in-Some.request ∷ c.next.new.self = given_some c.in-Ok-next.next c.in-Some.request _ _ c.in-Ok-next.ensures.given c.in-Some.is in
     record {
-      fit = c.in-Ok-answer.ensures.fit (λ never. ok_err c.in-Ok-answer.field-0 DiskFault never);
-      small = c.in-Ok-answer.ensures.small;
+      fit = c.in-Ok-answered.ensures.fit (λ never. ok_err c.in-Ok-answered.field-0 DiskFault never);
+      small = c.in-Ok-answered.ensures.small;
       few =
-          let one : c.answer.new.summary.requests ≡ c.requests.summary.requests + 1 = c.in-Ok-answer.ensures.requests in
+          let one : c.answer-answered.new.summary.requests ≡ c.requests.summary.requests + 1 = c.in-Ok-answered.ensures.requests in
           let was : c.requests.summary.requests + length c.requests.workload ≤ 12290 = c.requests.invariant.few in
-          one_fewer c.requests.summary.requests c.answer.new.summary.requests c.requests.workload c.next.new.self c.in-Some.request is one was;
-      knows = c.in-Ok-answer.ensures.known;
-      accepted = accepted_more c.requests.client c.answer.new.client c.requests.invariant.accepted c.in-Ok-answer.ensures.accepts;
+          one_fewer c.requests.summary.requests c.answer-answered.new.summary.requests c.requests.workload c.next.new.self c.in-Some.request is one was;
+      knows = c.in-Ok-answered.ensures.known;
+      accepted = accepted_more c.requests.client c.answer-answered.new.client c.requests.invariant.accepted c.in-Ok-answered.ensures.accepts;
       reaches = λ total book told stands.
           let r = next_reaches (workload c.args.seed c.args.count) c.requests.workload c.next.new.self c.in-Some.request total (state_of book total []) (shown.image c.requests.service) c.requests.service.sessions c.requests.client c.requests.summary is (c.requests.invariant.reaches total book told stands) in
-          reaches_more (workload c.args.seed c.args.count) c.next.new.self c.in-Some.request total (state_of book total []) (shown.image c.requests.service) (shown.image c.answer.new.service) c.requests.service.sessions c.answer.new.service.sessions
-          c.requests.client c.answer.new.client c.requests.summary c.answer.new.summary r
-          (c.in-Ok-answer.ensures.answered total r.book (c.requests.invariant.runs.told told) r.stands r.sound r.mirrors);
+          reaches_more (workload c.args.seed c.args.count) c.next.new.self c.in-Some.request total (state_of book total []) (shown.image c.requests.service) (shown.image c.answer-answered.new.service) c.requests.service.sessions c.answer-answered.new.service.sessions
+          c.requests.client c.answer-answered.new.client c.requests.summary c.answer-answered.new.summary r
+          (c.in-Ok-answered.ensures.answered total r.book (c.requests.invariant.runs.told told) r.stands r.sound r.mirrors);
       moments = λ total book told stands.
           let r = next_reaches (workload c.args.seed c.args.count) c.requests.workload c.next.new.self c.in-Some.request total (state_of book total []) (shown.image c.requests.service) c.requests.service.sessions c.requests.client c.requests.summary is (c.requests.invariant.reaches total book told stands) in
-          moments_more (workload c.args.seed c.args.count) c.next.new.self c.in-Some.request total (state_of book total []) (shown.view c.args.service.now) (shown.view c.requests.service) (shown.view c.answer.new.service) c.requests.service.sessions c.requests.client c.requests.summary r
-          (c.requests.invariant.moments total book told stands) (c.in-Ok-answer.ensures.moments total r.book (c.requests.invariant.runs.told told) r.stands);
-      runs = runs_on (shown.IsTold c.args.service.now) (shown.IsTold c.requests.service) (shown.IsTold c.answer.new.service)
-          (shown.view c.args.service.now) (shown.view c.requests.service) (shown.view c.answer.new.service) c.requests.invariant.runs c.in-Ok-answer.ensures.steps;
-      goes_on = goes_then (shown.under c.args.service.now) (shown.under c.requests.service) (shown.under c.answer.new.service)
-          c.requests.invariant.goes_on c.in-Ok-answer.ensures.goes_on;
-      total = c.in-Ok-answer.ensures.total ∙ c.requests.invariant.total;
+          moments_more (workload c.args.seed c.args.count) c.next.new.self c.in-Some.request total (state_of book total []) (shown.view c.args.service.now) (shown.view c.requests.service) (shown.view c.answer-answered.new.service) c.requests.service.sessions c.requests.client c.requests.summary r
+          (c.requests.invariant.moments total book told stands) (c.in-Ok-answered.ensures.moments total r.book (c.requests.invariant.runs.told told) r.stands);
+      runs = runs_on (shown.IsTold c.args.service.now) (shown.IsTold c.requests.service) (shown.IsTold c.answer-answered.new.service)
+          (shown.view c.args.service.now) (shown.view c.requests.service) (shown.view c.answer-answered.new.service) c.requests.invariant.runs c.in-Ok-answered.ensures.steps;
+      goes_on = goes_then (shown.under c.args.service.now) (shown.under c.requests.service) (shown.under c.answer-answered.new.service)
+          c.requests.invariant.goes_on c.in-Ok-answered.ensures.goes_on;
+      total = c.in-Ok-answered.ensures.total ∙ c.requests.invariant.total;
     }

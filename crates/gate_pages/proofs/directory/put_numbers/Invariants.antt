@@ -1,4 +1,4 @@
-use Rattle.std.proofs.Common.{◌≡◌, ◌≤◌, ◌+◌, ℕ, length, take, drop}
+use Rattle.std.proofs.Common.{◌≡◌, ◌≤◌, ◌+◌, ℕ, take, drop}
 use Rattle.block_disk.specs.Blocks.{IsBlock}
 use Rattle.gate_pages.specs.Batch.{numbers}
 use Rattle.gate_pages.specs.Entries.{entries}

@@ -1,4 +1,4 @@
-use Rattle.std.proofs.Common.{◌≡◌, take, length}
+use Rattle.std.proofs.Common.{◌≡◌, take}
 use Rattle.block_disk.specs.Blocks.{IsBlock}
 use Rattle.block_disk.specs.View.{Honest, Moves}
 use Rattle.gate_pages.specs.Batch.{put_all}

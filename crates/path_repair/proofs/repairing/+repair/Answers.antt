@@ -13,7 +13,7 @@ use Rattle.path_repair.proofs.RepairLemmas.{way_start, way_child, way_on, way_mo
 use Rattle.path_repair.specs.declared.errors.RepairError.{RepairError}
 use Rattle.path_repair.specs.Damage.{IsDamage}
 use Rattle.path_repair.specs.Keeping.{root_level}
-use Rattle.path_repair.specs.Apart.{NamesDamaged, and_page, and_tree, and_children}
+use Rattle.path_repair.specs.Apart.{NamesDamaged, and_page, and_children}
 use Rattle.path_repair.proofs.ApartLemmas.{apart_settled}
 use Rattle.path_repair.proofs.StoredLemmas.{apart_child, apart_end, stored_up}
 use Rattle.path_repair.proofs.KeepLemmas.{spares_up}
