@@ -9,28 +9,47 @@ import sys
 from measuring import HEIGHT, LINE, PROGRAM, WIDTH, build_store, counted_calls, least_seconds, lines_of_series, make_store, measure, walk
 
 SYNCS = ("fsync", "fdatasync", "msync", "sync_file_range")
-SEEKS = ("lseek",)  # a block is read by a seek and a read
-EDITS, EDIT_ROUNDS = {1: 400, LINE: 200}, 3  # how many edits of so many values
+READS = ("pread64",)
+EDITS, EDIT_ROUNDS = {1: 640, LINE: 192}, 3  # how many edits of so many values
+BURST = 64  # edits that stand ready
+DONE = 13  # bytes of the frame that answers an edit
 BLOCKS = 16384
 SERIES = {10**5: 2048, 10**6: 16384, 10**7: 131072}  # slots, and the blocks of a store that has room for them
 VIEWS, ROUNDS = 20, 5
 
 
-def edits_by_sqlite(path, given):
-    """Does the edits of a file of request lines in a database with a full sync, one transaction an edit."""
+def lines_of(given):
+    with open(given) as lines:
+        return list(lines)
+
+
+def edits_by_sqlite(path, given, at_once):
+    """Does the edits of a file of request lines in a database with a full sync, so many in one transaction."""
     database = sqlite3.connect(path, isolation_level=None)
     database.execute("pragma journal_mode = wal")
     database.execute("pragma synchronous = full")
     database.execute("create table points (series integer, slot integer, value integer, primary key (series, slot)) without rowid")
-    slots = 0
-    with open(given) as lines:
-        for line in lines:
+    slots, lines = 0, lines_of(given)
+    for begin in range(0, len(lines), at_once):
+        database.execute("begin")
+        for line in lines[begin : begin + at_once]:
             values = [(0, slot, int(word)) for slot, word in enumerate(line.split()[2:], slots)]
             slots += len(values)
-            database.execute("begin")
             database.executemany("insert into points values (?, ?, ?)", values)
-            database.execute("commit")
+        database.execute("commit")
     database.close()
+
+
+def edits_by_serve(path, given, at_once):
+    """Gives so many of the edits of a file to `serve`, waits for their answers, and goes on with the next ones."""
+    lines = lines_of(given)
+    with subprocess.Popen([PROGRAM, path, "serve"], stdin=subprocess.PIPE, stdout=subprocess.PIPE) as program:
+        for begin in range(0, len(lines), at_once):
+            ready = lines[begin : begin + at_once]
+            program.stdin.write("".join(ready).encode())
+            program.stdin.flush()
+            if len(program.stdout.read(DONE * len(ready))) < DONE * len(ready):
+                sys.exit("an edit isn't answered")
 
 
 def write_edits(name, count, values):
@@ -40,14 +59,15 @@ def write_edits(name, count, values):
             file.write(f"append s {' '.join(str(draw.randrange(-(10**6), 10**6)) for _ in range(values))}\n")
 
 
-def measure_edits(values, count):
+def measure_edits(values, count, at_once):
     """The runs and the syncs of each program, by its name, on new files each time. The programs take turns."""
     given = f"edits{values}"
     write_edits(given, count, values)
     build_store("empty.store", BLOCKS, ["create s 0 1 0"])
+    by = [sys.executable, os.path.realpath(__file__)]
     programs = {
-        "serve": [PROGRAM, "edits.store", "serve"],
-        "sqlite": [sys.executable, os.path.realpath(__file__), "edits.sqlite", given],
+        "serve": [*by, "serve", "edits.store", given, str(at_once)],
+        "sqlite": [*by, "sqlite", "edits.sqlite", given, str(at_once)],
     }
 
     def clear():
@@ -73,18 +93,18 @@ def shown(count, of):
 
 
 def print_edits():
-    print(f"durable edits of one series, one commit each, the least of {EDIT_ROUNDS} rounds: serve, and sqlite {sqlite3.sqlite_version}")
-    print("with write-ahead log and full sync, one transaction an edit, from Python")
-    print(f"{'program':10}{'values an edit':>16}{'edits':>8}{'edits a second':>16}{'syncs an edit':>15}{'peak MiB':>10}{'time, over sqlite':>19}")
+    print(f"durable edits of one series, the least of {EDIT_ROUNDS} rounds: serve, asked from Python, and sqlite {sqlite3.sqlite_version} with write-ahead log")
+    print("and full sync, from Python. So many edits are given at once, in sqlite in one transaction, and the next once these are answered")
+    print(f"{'program':10}{'values an edit':>16}{'at once':>9}{'edits':>8}{'edits a second':>16}{'syncs an edit':>15}{'time, over sqlite':>19}")
     for values, count in EDITS.items():
-        runs, syncs = measure_edits(values, count)
-        least = least_seconds(runs)
-        for name in runs:
-            peak = max(run[1] for run in runs[name])
-            print(
-                f"{name:10}{values:16}{count:8}{count / least[name]:16.0f}{shown(syncs[name], count):>15}{peak:10.1f}"
-                f"{least[name] / least['sqlite']:19.2f}"
-            )
+        for at_once in (1, BURST):
+            runs, syncs = measure_edits(values, count, at_once)
+            least = least_seconds(runs)
+            for name in runs:
+                print(
+                    f"{name:10}{values:16}{at_once:9}{count:8}{count / least[name]:16.0f}{shown(syncs[name], count):>15}"
+                    f"{least[name] / least['sqlite']:19.2f}"
+                )
 
 
 def measure_view(slots, blocks):
@@ -93,16 +113,16 @@ def measure_view(slots, blocks):
     build_store(store, blocks, lines_of_series(list(walk(slots))))
     serve = [PROGRAM, store, "serve"]
     asked = {"without": "", "with": f"view 1 s {WIDTH} {HEIGHT} 0 {slots} auto\n"}
-    runs, seeks = {}, {}
+    runs, read = {}, {}
     for kind, view in asked.items():
         with open(kind, "w") as file:
             file.write(VIEWS * f"open 1\n{view}close 1\n")
-        seeks[kind] = counted_calls(serve, kind, SEEKS)
+        read[kind] = counted_calls(serve, kind, READS)
     for _ in range(ROUNDS):
         for kind in asked:
             runs.setdefault(kind, []).append(measure(serve, kind))
     least = least_seconds(runs)
-    reads = None if seeks["with"] is None else seeks["with"] - seeks["without"]
+    reads = None if read["with"] is None else read["with"] - read["without"]
     os.remove(store)
     return (least["with"] - least["without"]) / VIEWS, reads, max(run[1] for run in runs["with"])
 
@@ -124,4 +144,5 @@ def measure_store():
 
 
 if __name__ == "__main__":
-    edits_by_sqlite(*sys.argv[1:])
+    by, path, given, at_once = sys.argv[1:]
+    {"serve": edits_by_serve, "sqlite": edits_by_sqlite}[by](path, given, int(at_once))

@@ -27,10 +27,10 @@ def append_lines(name, begin, end):
         yield " ".join(["append", name, *map(str, range(at, min(at + LINE, end)))])
 
 
-def write_views(count=3):
-    """Writes what `run` answers to the first so many of a view of the day, a zoom to an hour and a pan by an hour."""
+def write_views(count=3, session=1):
+    """Writes what `run` answers to the first so many of a session's view of the day, zoom to an hour and pan by an hour."""
     for length, picture in [(17213, STEP), (38788, FLAT), (38738, FLAT)][:count]:
-        sys.stdout.buffer.write(b"view 1 sent %d\n" % length + HEAD + picture)
+        sys.stdout.buffer.write(b"view %d sent %d\n" % (session, length) + HEAD + picture)
 
 
 def write_pages(*book, pages=PAGES):
