@@ -12,10 +12,10 @@ use Rattle.chart_world.specs.declared.line_answer.LineFault.TheVariants as fault
 use Rattle.series_book.specs.declared.one_series.Series.{Series}
 use Rattle.stored_book.specs.Standing.{StandsForBook}
 use Rattle.chart_world.specs.FrontLaws.{passes}
-use Rattle.chart_world.specs.Fronts.{says, first_piece, Gives}
+use Rattle.chart_world.specs.Fronts.{says, first_piece}
 use Rattle.chart_world.specs.LineLaws.{piece_line, no_rest, told_so}
 use Rattle.series_load.specs.Fronts.{PlacedLine, told}
-use Rattle.series_load.specs.Rows.{AreTable, BadFirst, Stops, ReadsRows}
+use Rattle.series_load.specs.Rows.{AreTable, BadEarly, Stops, ReadsRows}
 use Rattle.series_load.specs.Runs.{Run, Cut, AllRuns, AreFirst}
 use Rattle.series_load.specs.Sets.{Loads, IsAfter, AreFirstOf, IsAfterSome}
 use Rattle.series_load.specs.Ends.{IsLoaded, IsAtBad, IsTaken, IsPast, EndsLoad, KeepsSome}
@@ -28,15 +28,15 @@ use Rattle.series_load.proofs.RunLemmas.{adds_gap}
 use Rattle.series_load.proofs.LineLemmas.{is_bad}
 use Rattle.series_load.proofs.Joined.{told_joined}
 use Rattle.series_load.proofs.SetLemmas.{after_then}
-use Rattle.series_load.proofs.Progress.{Heard, Progress, first_so, first_now}
+use Rattle.series_load.proofs.Progress.{Heard, Takes, Progress, first_so, first_now}
 
 some_text : (text : List ℕ) → 0 < length text → IsTrue (says (Some text))
 some_text [] some = absurd (omega (arith, some))
 some_text (byte ∷ bytes) some = refl
 
-line_first : (scale step : ℕ) (input : List ℕ) (r r' : Reading) (left left' : Option (List ℕ)) (text : List ℕ) (at : ℕ) (runs : List Run) (first : Bool) (old : Option Run) (points : ℕ) (ends : List Run) → Gives r r' left left' (Some text) → at ≡ r.given → LineEnds scale step at text first old points ends → Heard scale step input (unread r left) r.given runs first old points → AreFirst scale step input (runs ++ ends)
+line_first : (scale step : ℕ) (input : List ℕ) (r r' : Reading) (left left' : Option (List ℕ)) (text : List ℕ) (at : ℕ) (runs : List Run) (first : Bool) (old : Option Run) (points : ℕ) (ends : List Run) → Takes r r' left left' (Some text) → at ≡ r.given → LineEnds scale step at text first old points ends → Heard scale step input (unread r left) r.given runs first old points → AreFirst scale step input (runs ++ ends)
 line_first scale step input r r' left left' text at runs first old points ends gives place so h =
-    let q = passes input h.front h.rest r r' left left' (Some text) h.told_rest h.counted h.begins gives in
+    let q = passes input h.front h.rest r r' left left' (Some text) h.told_rest h.counted h.begins gives.gives in
     let A : ℕ → Type 0 = λ a. LineEnds scale step a text first old points ends in
     let e = (subst A (place ∙ h.counted) so) (told h.front) runs h.read in
     let P : List PlacedLine → Type 0 = λ l. AreTable scale l e.rows in
@@ -44,6 +44,7 @@ line_first scale step input r r' left left' text at runs first old points ends g
       | inl t ↦ record {
         front = h.front ++ first_piece h.rest;
         rest = after_first is_line_feed h.rest;
+        early = omega (arith, gives.early, q.counted);
         rows = e.rows;
         reads = record { begins = q.begins; table = subst P (sym (told_joined h.front (first_piece h.rest) (Some text) q.whole (piece_line h.rest (Some text) q.lines_are))) t.0 };
         ended = inl t.1;
@@ -51,14 +52,15 @@ line_first scale step input r r' left left' text at runs first old points ends g
       | inr b ↦ record {
         front = h.front;
         rest = h.rest;
+        early = omega (arith, h.early, h.counted);
         rows = e.rows;
         reads = record { begins = h.begins; table = b.2 };
-        ended = inr (inr (record { line = Some text; later = lines (after_first is_line_feed h.rest); lines_are = q.lines_are; some = some_text text b.0; bad = b.1 }), b.3);
+        ended = inr (inr (record { bad = record { line = Some text; later = lines (after_first is_line_feed h.rest); lines_are = q.lines_are; some = some_text text b.0; bad = b.1 }; early = omega (arith, gives.early, q.counted) }), b.3);
       }
     ]
 
 -- a line more ends the first runs of the input
-pub line_firsts : (total : ℕ) (name : List ℕ) (book : List Series) (series : Series) (o : Option (List ℕ)) (r r' : Reading) (left left' : Option (List ℕ)) (text : List ℕ) (at : ℕ) (first : Bool) (kept : OpenRun) (points : ℕ) (image : Image) → Gives r r' left left' (Some text) → at ≡ r.given → (p : Progress total name book series o (unread r left) r.given first kept points image)
+pub line_firsts : (total : ℕ) (name : List ℕ) (book : List Series) (series : Series) (o : Option (List ℕ)) (r r' : Reading) (left left' : Option (List ℕ)) (text : List ℕ) (at : ℕ) (first : Bool) (kept : OpenRun) (points : ℕ) (image : Image) → Takes r r' left left' (Some text) → at ≡ r.given → (p : Progress total name book series o (unread r left) r.given first kept points image)
     → (ends : List Run) (new : Option Run) → LineEnds series.scale series.step at text first p.open_run points ends → AreFirstOf series.scale series.step o (p.runs ++ ends)
 line_firsts total name book series o r r' left left' text at first kept points image gives place p ends new so =
     first_so series.scale series.step o (p.runs ++ ends) (λ input. Heard series.scale series.step input (unread r left) r.given p.runs first p.open_run points)
@@ -73,6 +75,7 @@ stop_first : (scale step : ℕ) (input : List ℕ) (bytes : Option (List ℕ)) (
 stop_first scale step input bytes given runs first old points ends new closes h stops = record {
   front = h.front;
   rest = h.rest;
+  early = omega (arith, h.early, h.counted);
   rows = h.read.rows;
   reads = record { begins = h.begins; table = h.read.table };
   ended = inr (stops, all_runs scale step input bytes given runs first old points ends new closes h);
@@ -90,13 +93,13 @@ end_firsts total name book series o bytes given first kept points image none p e
     first_so series.scale series.step o (p.runs ++ ends) (λ input. Heard series.scale series.step input bytes given p.runs first p.open_run points)
     (λ input h. stop_first series.scale series.step input bytes given p.runs first p.open_run points ends new closes h (inl (rest_none series.scale series.step input bytes given p.runs first p.open_run points none h))) p.heard
 
-bad_long : (scale step : ℕ) (input : List ℕ) (r r' : Reading) (left left' : Option (List ℕ)) (runs : List Run) (first : Bool) (old : Option Run) (points : ℕ) → Gives r r' left left' None → (h : Heard scale step input (unread r left) r.given runs first old points) → BadFirst scale (told h.front) h.rest
+bad_long : (scale step : ℕ) (input : List ℕ) (r r' : Reading) (left left' : Option (List ℕ)) (runs : List Run) (first : Bool) (old : Option Run) (points : ℕ) → Takes r r' left left' None → (h : Heard scale step input (unread r left) r.given runs first old points) → BadEarly scale h.front h.rest
 bad_long scale step input r r' left left' runs first old points gives h =
-    let q = passes input h.front h.rest r r' left left' None h.told_rest h.counted h.begins gives in
-    record { line = None; later = lines (after_first is_line_feed h.rest); lines_are = q.lines_are; some = refl; bad = tt }
+    let q = passes input h.front h.rest r r' left left' None h.told_rest h.counted h.begins gives.gives in
+    record { bad = record { line = None; later = lines (after_first is_line_feed h.rest); lines_are = q.lines_are; some = refl; bad = tt }; early = omega (arith, gives.early, q.counted) }
 
 -- and a line that is too long
-pub long_firsts : (total : ℕ) (name : List ℕ) (book : List Series) (series : Series) (o : Option (List ℕ)) (r r' : Reading) (left left' : Option (List ℕ)) (first : Bool) (kept : OpenRun) (points : ℕ) (image : Image) → Gives r r' left left' None → (p : Progress total name book series o (unread r left) r.given first kept points image)
+pub long_firsts : (total : ℕ) (name : List ℕ) (book : List Series) (series : Series) (o : Option (List ℕ)) (r r' : Reading) (left left' : Option (List ℕ)) (first : Bool) (kept : OpenRun) (points : ℕ) (image : Image) → Takes r r' left left' None → (p : Progress total name book series o (unread r left) r.given first kept points image)
     → (ends : List Run) (new : Option Run) → Closes p.open_run ends new → AreFirstOf series.scale series.step o (p.runs ++ ends)
 long_firsts total name book series o r r' left left' first kept points image gives p ends new closes =
     first_so series.scale series.step o (p.runs ++ ends) (λ input. Heard series.scale series.step input (unread r left) r.given p.runs first p.open_run points)
@@ -161,26 +164,27 @@ ends_so G B total name book now series (Some input) left runs image DiskFault lo
 ends_so G B total name book now series (Some input) left runs image (Damaged page) loads firsts bad why = absurd why
 ends_so G B total name book now series (Some input) left runs image NoMemory loads firsts bad why = tt
 
-bad_at : (total : ℕ) (name : List ℕ) (book now : List Series) (series : Series) (input : List ℕ) (bytes : Option (List ℕ)) (given : ℕ) (runs : List Run) (first : Bool) (old : Option Run) (points at : ℕ) (image : Image) → Loads total name book runs now → at ≡ given → (h : Heard series.scale series.step input bytes given runs first old points) → BadFirst series.scale (told h.front) h.rest → IsAfter total name now (closed old) image → IsAtBad total name book series input at image
+bad_at : (total : ℕ) (name : List ℕ) (book now : List Series) (series : Series) (input : List ℕ) (bytes : Option (List ℕ)) (given : ℕ) (runs : List Run) (first : Bool) (old : Option Run) (points at : ℕ) (image : Image) → Loads total name book runs now → at ≡ given → (h : Heard series.scale series.step input bytes given runs first old points) → BadEarly series.scale h.front h.rest → IsAfter total name now (closed old) image → IsAtBad total name book series input at image
 bad_at total name book now series input bytes given runs first old points at image loads place h bad after = record {
   front = h.front;
   rest = h.rest;
   rows = h.read.rows;
   reads = record { begins = h.begins; table = h.read.table };
-  bad = bad;
+  bad = bad.bad;
+  early = bad.early;
   at_is = place ∙ h.counted;
   runs = runs ++ closed old;
   all = all_runs series.scale series.step input bytes given runs first old points (closed old) None (refl, refl) h;
   after = after_then total name book now runs (closed old) image loads after;
 }
 
-bad_text : (scale step : ℕ) (input : List ℕ) (r r' : Reading) (left left' : Option (List ℕ)) (text : List ℕ) (runs : List Run) (first : Bool) (old : Option Run) (points : ℕ) → Gives r r' left left' (Some text) → 0 < length text → SaysSo scale first text Bad → (h : Heard scale step input (unread r left) r.given runs first old points) → BadFirst scale (told h.front) h.rest
+bad_text : (scale step : ℕ) (input : List ℕ) (r r' : Reading) (left left' : Option (List ℕ)) (text : List ℕ) (runs : List Run) (first : Bool) (old : Option Run) (points : ℕ) → Takes r r' left left' (Some text) → 0 < length text → SaysSo scale first text Bad → (h : Heard scale step input (unread r left) r.given runs first old points) → BadEarly scale h.front h.rest
 bad_text scale step input r r' left left' text runs first old points gives some says h =
-    let q = passes input h.front h.rest r r' left left' (Some text) h.told_rest h.counted h.begins gives in
-    record { line = Some text; later = lines (after_first is_line_feed h.rest); lines_are = q.lines_are; some = some_text text some; bad = is_bad scale text first (told h.front) h.read.some_yet says }
+    let q = passes input h.front h.rest r r' left left' (Some text) h.told_rest h.counted h.begins gives.gives in
+    record { bad = record { line = Some text; later = lines (after_first is_line_feed h.rest); lines_are = q.lines_are; some = some_text text some; bad = is_bad scale text first (told h.front) h.read.some_yet says }; early = omega (arith, gives.early, q.counted) }
 
 -- at a bad line
-pub line_bad : (total : ℕ) (name : List ℕ) (book : List Series) (series : Series) (o : Option (List ℕ)) (r r' : Reading) (left left' : Option (List ℕ)) (text : List ℕ) (at place : ℕ) (first : Bool) (kept : OpenRun) (points : ℕ) (image image' : Image) → Gives r r' left left' (Some text) → at ≡ r.given → (p : Progress total name book series o (unread r left) r.given first kept points image)
+pub line_bad : (total : ℕ) (name : List ℕ) (book : List Series) (series : Series) (o : Option (List ℕ)) (r r' : Reading) (left left' : Option (List ℕ)) (text : List ℕ) (at place : ℕ) (first : Bool) (kept : OpenRun) (points : ℕ) (image image' : Image) → Takes r r' left left' (Some text) → at ≡ r.given → (p : Progress total name book series o (unread r left) r.given first kept points image)
     → BadDone series.scale at first text total name p.now p.open_run image' place → IfSome o (λ input. IsAtBad total name book series input place image')
 line_bad total name book series o r r' left left' text at place first kept points image image' gives given p done =
     told_so (λ input. Heard series.scale series.step input (unread r left) r.given p.runs first p.open_run points) (λ input. IsAtBad total name book series input place image') o
@@ -188,7 +192,7 @@ line_bad total name book series o r r' left left' text at place first kept point
     (bad_text series.scale series.step input r r' left left' text p.runs first p.open_run points gives done.some done.bad h) done.after) p.heard
 
 -- at one that is too long
-pub long_bad : (total : ℕ) (name : List ℕ) (book : List Series) (series : Series) (o : Option (List ℕ)) (r r' : Reading) (left left' : Option (List ℕ)) (at place : ℕ) (first : Bool) (kept : OpenRun) (points : ℕ) (image image' : Image) → Gives r r' left left' None → at ≡ r.given → (p : Progress total name book series o (unread r left) r.given first kept points image)
+pub long_bad : (total : ℕ) (name : List ℕ) (book : List Series) (series : Series) (o : Option (List ℕ)) (r r' : Reading) (left left' : Option (List ℕ)) (at place : ℕ) (first : Bool) (kept : OpenRun) (points : ℕ) (image image' : Image) → Takes r r' left left' None → at ≡ r.given → (p : Progress total name book series o (unread r left) r.given first kept points image)
     → TooLongDone at total name p.now p.open_run image' place → IfSome o (λ input. IsAtBad total name book series input place image')
 long_bad total name book series o r r' left left' at place first kept points image image' gives given p done =
     told_so (λ input. Heard series.scale series.step input (unread r left) r.given p.runs first p.open_run points) (λ input. IsAtBad total name book series input place image') o

@@ -7,7 +7,6 @@ use Rattle.block_disk.specs.Streams.{left_after}
 use Rattle.block_disk.proofs.Passing.{passes_none, passes_weaker}
 use Rattle.gate_pages.specs.Pages.{Quiet}
 use Rattle.gate_pages.proofs.Moving.{time_then}
-use Rattle.chart_world.specs.Fronts.{Gives}
 use Rattle.chart_world.specs.Reading.{Reading, unread_input, unread, told_lines, input_length, NoLineIn}
 use Rattle.chart_world.specs.declared.line_answer.LineFault.{LineFault}
 use Rattle.chart_world.specs.declared.line_answer.LineFault.TheVariants as fault
@@ -23,7 +22,7 @@ use Rattle.series_load.specs.declared.loader.Loader.{Loader}
 use Rattle.series_load.specs.declared.open_run.OpenRun.{OpenRun}
 use Rattle.series_load.proofs.Carrying.{took_of, stops_of}
 use Rattle.series_load.proofs.LineLemmas.{ends_bad, ends_at}
-use Rattle.series_load.proofs.Progress.{Progress, starts, line_taken, image_moved, some_now}
+use Rattle.series_load.proofs.Progress.{Takes, Progress, starts, line_taken, image_moved, some_now}
 use Rattle.series_load.proofs.Endings.{Firsts, line_firsts, end_firsts, long_firsts, moment_some, keeps_some, ends_so, line_bad, long_bad, closed_some, loaded, fault_ends, fault_keeps}
 
 -- how far a load has come, and what was possible at each moment so far
@@ -87,7 +86,7 @@ moments_then G total name book series o bytes given loader old before now going 
     (moment_some G total name book series o bytes given loader.first loader.run loader.points before.image going.progress firsts) (λ count quiet. quiet) time)
 
 -- behind a line
-pub going_line : {T : Type 0} (total : ℕ) (name : List ℕ) (book : List Series) (series : Series) (o : Option (List ℕ)) (r r' : Reading) (left left' : Option (List ℕ)) (at : ℕ) (text : List ℕ) (loader loader' : Loader) (result : Result T LoadEnd) (v : T) (old before now : View) → Gives r r' left left' (Some text) → at ≡ r.given → loader'.name ≡ loader.name → loader'.step ≡ loader.step → loader'.scale ≡ loader.scale → result ≡ Ok v
+pub going_line : {T : Type 0} (total : ℕ) (name : List ℕ) (book : List Series) (series : Series) (o : Option (List ℕ)) (r r' : Reading) (left left' : Option (List ℕ)) (at : ℕ) (text : List ℕ) (loader loader' : Loader) (result : Result T LoadEnd) (v : T) (old before now : View) → Takes r r' left left' (Some text) → at ≡ r.given → loader'.name ≡ loader.name → loader'.step ≡ loader.step → loader'.scale ≡ loader.scale → result ≡ Ok v
     → (going : Going total name book series o (unread r left) r.given loader old before) → LineDoes total name going.progress.now series at text going.progress.open_run loader loader' result before now → Going total name book series o (unread r' left') r'.given loader' old now
 going_line total name book series o r r' left left' at text loader loader' result v old before now gives place same_name same_step same_scale ok going does =
     let p = going.progress in
@@ -104,7 +103,7 @@ going_line total name book series o r r' left left' at text loader loader' resul
     }
 
 -- at a line that wasn't taken
-pub line_ends : {T : Type 0} (total : ℕ) (name : List ℕ) (book : List Series) (series : Series) (o : Option (List ℕ)) (r r' : Reading) (left left' left'' : Option (List ℕ)) (at : ℕ) (text : List ℕ) (loader loader' : Loader) (result : Result T LoadEnd) (e : LoadEnd) (old before now : View) → Gives r r' left left' (Some text) → at ≡ r.given → result ≡ Err e
+pub line_ends : {T : Type 0} (total : ℕ) (name : List ℕ) (book : List Series) (series : Series) (o : Option (List ℕ)) (r r' : Reading) (left left' left'' : Option (List ℕ)) (at : ℕ) (text : List ℕ) (loader loader' : Loader) (result : Result T LoadEnd) (e : LoadEnd) (old before now : View) → Takes r r' left left' (Some text) → at ≡ r.given → result ≡ Err e
     → (going : Going total name book series o (unread r left) r.given loader old before) → LineDoes total name going.progress.now series at text going.progress.open_run loader loader' result before now → Stopped total name book series o left'' e old now
 line_ends total name book series o r r' left left' left'' at text loader loader' result e old before now gives place err going does =
     let p = going.progress in
@@ -128,7 +127,7 @@ name_as open_run B total name name' book result kept before now same =
     subst N same
 
 -- at a line that is too long
-pub long_ends : {T : Type 0} (total : ℕ) (name : List ℕ) (book : List Series) (series : Series) (o : Option (List ℕ)) (r r' : Reading) (left left' left'' : Option (List ℕ)) (at : ℕ) (loader : Loader) (kept : OpenRun) (e : LoadEnd) (old before now : View) → Gives r r' left left' None → at ≡ r.given
+pub long_ends : {T : Type 0} (total : ℕ) (name : List ℕ) (book : List Series) (series : Series) (o : Option (List ℕ)) (r r' : Reading) (left left' left'' : Option (List ℕ)) (at : ℕ) (loader : Loader) (kept : OpenRun) (e : LoadEnd) (old before now : View) → Takes r r' left left' None → at ≡ r.given
     → (going : Going total name book series o (unread r left) r.given loader old before) → Does {T = T} (Closes going.progress.open_run) (Closes going.progress.open_run) (TooLongDone at total loader.name going.progress.now going.progress.open_run now.image) total loader.name going.progress.now (Err e) kept before now → Stopped total name book series o left'' e old now
 long_ends {T} total name book series o r r' left left' left'' at loader kept e old before now gives place going does =
     let p = going.progress in

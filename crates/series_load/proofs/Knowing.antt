@@ -1,5 +1,5 @@
 -- The series of a name.
-use Rattle.std.proofs.Common.{◌≡◌, ◌≢◌, ℕ, true, List, [], Option, None, Some, Result, Ok, Err, subst, inl, sym, ◌∙◌}
+use Rattle.std.proofs.Common.{◌≡◌, ◌≢◌, ℕ, true, List, [], Option, None, Some, Result, Ok, Err, subst, inl, sym, ◌∙◌, arith}
 use Rattle.std.specs.Prelude.{◌↔◌, IsErrAnd, MatchOption, slice_get}
 use Rattle.block_disk.specs.View.{Image}
 use Rattle.chart_world.specs.Reading.{unread_input, unread}
@@ -51,6 +51,7 @@ some_at_first total name book series o image stands = record {
       (λ input h. record {
         front = h.front;
         rest = h.rest;
+        early = omega (arith, h.early, h.counted);
         rows = h.read.rows;
         reads = record { begins = h.begins; table = h.read.table };
         ended = inl (None, h.read.cut);

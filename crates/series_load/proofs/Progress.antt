@@ -1,5 +1,5 @@
 -- How far a load has come.
-use Rattle.std.proofs.Common.{◌≡◌, ℕ, Bool, true, List, [], ◌++◌, length, Option, None, Some, IfSome, refl, subst, inl, sym, ◌∙◌}
+use Rattle.std.proofs.Common.{◌≡◌, ℕ, ◌^◌, ◌≤◌, Bool, true, List, [], ◌++◌, length, Option, None, Some, IfSome, refl, subst, inl, sym, ◌∙◌, arith}
 use Rattle.std.specs.List.{after_first}
 use Rattle.block_disk.specs.View.{Image}
 use Rattle.chart_world.specs.FrontLaws.{passes}
@@ -17,6 +17,11 @@ use Rattle.series_load.specs.declared.open_run.OpenRun.{OpenRun}
 use Rattle.series_load.proofs.Joined.{told_joined, told_nothing}
 use Rattle.series_load.proofs.SetLemmas.{loads_then}
 
+-- a line was given that ends among the first 2^32 bytes
+pub record Takes (r r' : Reading) (left left' line : Option (List ℕ)) : Type 0 where
+  pub gives : Gives r r' left left' line
+  pub early : r'.given ≤ 2 ^ 32
+
 -- what was read of the input
 pub record Heard (scale step : ℕ) (input : List ℕ) (bytes : Option (List ℕ)) (given : ℕ) (runs : List Run) (first : Bool) (open_run : Option Run) (points : ℕ) : Type 0 where
   pub rest : List ℕ
@@ -24,6 +29,7 @@ pub record Heard (scale step : ℕ) (input : List ℕ) (bytes : Option (List ℕ
   pub front : List ℕ
   pub begins : BeginsWith input front rest
   pub counted : given ≡ length front
+  pub early : given ≤ 2 ^ 32
   pub read : Read scale step (told front) runs first open_run points
 
 -- and what was done
@@ -49,6 +55,7 @@ heard_none scale step (Some input) = record {
   front = [];
   begins = record { split = refl; whole = inl (inl refl) };
   counted = refl;
+  early = omega arith;
   read = read_none scale step;
 }
 
@@ -68,9 +75,9 @@ starts total name book series o r kept first points image fresh none is_first no
       heard = subst R (sym fresh) (subst F (sym is_first) (subst N (sym no_points) (heard_none series.scale series.step o)));
     }
 
-heard_line : (scale step : ℕ) (input : List ℕ) (r r' : Reading) (left left' : Option (List ℕ)) (text : List ℕ) (at : ℕ) (runs : List Run) (first first' : Bool) (old new : Option Run) (points points' : ℕ) (ends : List Run) → Gives r r' left left' (Some text) → at ≡ r.given → LineAdds scale step at text first old points ends first' new points' → Heard scale step input (unread r left) r.given runs first old points → Heard scale step input (unread r' left') r'.given (runs ++ ends) first' new points'
-heard_line scale step input r r' left left' text at runs first first' old new points points' ends gives place adds h =
-    let q = passes input h.front h.rest r r' left left' (Some text) h.told_rest h.counted h.begins gives in
+heard_line : (scale step : ℕ) (input : List ℕ) (r r' : Reading) (left left' : Option (List ℕ)) (text : List ℕ) (at : ℕ) (runs : List Run) (first first' : Bool) (old new : Option Run) (points points' : ℕ) (ends : List Run) → Takes r r' left left' (Some text) → at ≡ r.given → LineAdds scale step at text first old points ends first' new points' → Heard scale step input (unread r left) r.given runs first old points → Heard scale step input (unread r' left') r'.given (runs ++ ends) first' new points'
+heard_line scale step input r r' left left' text at runs first first' old new points points' ends takes place adds h =
+    let q = passes input h.front h.rest r r' left left' (Some text) h.told_rest h.counted h.begins takes.gives in
     let here : at ≡ length h.front = place ∙ h.counted in
     let A : ℕ → Type 0 = λ a. LineAdds scale step a text first old points ends first' new points' in
     let P : List PlacedLine → Type 0 = λ l. Read scale step l (runs ++ ends) first' new points' in
@@ -80,14 +87,15 @@ heard_line scale step input r r' left left' text at runs first first' old new po
       front = h.front ++ first_piece h.rest;
       begins = q.begins;
       counted = q.counted;
+      early = takes.early;
       read = subst P (sym (told_joined h.front (first_piece h.rest) (Some text) q.whole (piece_line h.rest (Some text) q.lines_are))) (subst A here adds (told h.front) runs h.read);
     }
 
 -- behind a line
-pub line_taken : (total : ℕ) (name : List ℕ) (book : List Series) (series : Series) (o : Option (List ℕ)) (r r' : Reading) (left left' : Option (List ℕ)) (text : List ℕ) (at : ℕ) (first first' : Bool) (kept kept' : OpenRun) (points points' : ℕ) (image image' : Image) → Gives r r' left left' (Some text) → at ≡ r.given
+pub line_taken : (total : ℕ) (name : List ℕ) (book : List Series) (series : Series) (o : Option (List ℕ)) (r r' : Reading) (left left' : Option (List ℕ)) (text : List ℕ) (at : ℕ) (first first' : Bool) (kept kept' : OpenRun) (points points' : ℕ) (image image' : Image) → Takes r r' left left' (Some text) → at ≡ r.given
     → (p : Progress total name book series o (unread r left) r.given first kept points image) → Took (λ ends new. LineAdds series.scale series.step at text first p.open_run points ends first' new points') total name p.now kept' image'
     → Progress total name book series o (unread r' left') r'.given first' kept' points' image'
-line_taken total name book series o r r' left left' text at first first' kept kept' points points' image image' gives place p took = record {
+line_taken total name book series o r r' left left' text at first first' kept kept' points points' image image' takes place p took = record {
   runs = p.runs ++ took.ends;
   open_run = took.new;
   now = took.after.new;
@@ -95,7 +103,7 @@ line_taken total name book series o r r' left left' text at first first' kept ke
   stands = took.after.stands;
   keeps = took.keeps;
   heard = told_so (λ input. Heard series.scale series.step input (unread r left) r.given p.runs first p.open_run points) (λ input. Heard series.scale series.step input (unread r' left') r'.given (p.runs ++ took.ends) first' took.new points') o
-      (λ input. heard_line series.scale series.step input r r' left left' text at p.runs first first' p.open_run took.new points points' took.ends gives place took.gives) p.heard;
+      (λ input. heard_line series.scale series.step input r r' left left' text at p.runs first first' p.open_run took.new points points' took.ends takes place took.gives) p.heard;
 }
 
 -- where nothing but the image is another
@@ -116,6 +124,7 @@ first_now total name book series o bytes given first kept points image p =
     (λ input h. record {
       front = h.front;
       rest = h.rest;
+      early = omega (arith, h.early, h.counted);
       rows = h.read.rows;
       reads = record { begins = h.begins; table = h.read.table };
       ended = inl (p.open_run, h.read.cut);

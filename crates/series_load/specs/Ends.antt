@@ -10,6 +10,7 @@ use Rattle.series_book.specs.Edits.{apply}
 use Rattle.stored_book.specs.Damage.{IsBadForEdit}
 use Rattle.stored_book.specs.Standing.{StandsForBook}
 use Rattle.series_load.specs.Rows.{Reading, ReadsRows, BadFirst}
+use Rattle.chart_world.specs.Fronts.{first_piece}
 use Rattle.series_load.specs.Fronts.{told}
 use Rattle.series_load.specs.Runs.{Run, Ended, AllRuns, AreFirst}
 use Rattle.series_load.specs.Sets.{set_of, Loads, IsAfter, IsAfterSome}
@@ -25,13 +26,14 @@ pub record IsLoaded (total : ℕ) (name : List ℕ) (book : List Series) (series
   pub after : IsAfter total name book runs image
   pub counted : count ≡ count_by is_some rows
 
--- the first bad line is the one at this offset, and the sets of all runs before it were done
+-- The first bad line is the one at this offset, and ends among the first 2^32 bytes. The sets of all runs before it were done.
 pub record IsAtBad (total : ℕ) (name : List ℕ) (book : List Series) (series : Series) (input : List ℕ) (at : ℕ) (image : Image) : Type 0 where
   pub front : List ℕ
   pub rest : List ℕ
   pub rows : List (Option Reading)
   pub reads : ReadsRows series.scale input front rest rows
   pub bad : BadFirst series.scale (told front) rest
+  pub early : length (front ++ first_piece rest) ≤ 2 ^ 32
   pub at_is : at ≡ length front
   pub runs : List Run
   pub all : AllRuns series.step rows runs

@@ -1,10 +1,10 @@
 -- The rows that the lines of an input say.
-use Rattle.std.specs.Prelude.{◌≡◌, ◌⊎◌, ℕ, ℤ, ◌<◌, List, [], ◌∷◌, length, Option, None, Some, IsSomeAnd, IsTrue}
+use Rattle.std.specs.Prelude.{◌≡◌, ◌⊎◌, ℕ, ℤ, ◌^◌, ◌<◌, ◌≤◌, List, [], ◌∷◌, ◌++◌, length, Option, None, Some, IsSomeAnd, IsTrue}
 use Rattle.chart_world.specs.Lines.{lines}
 use Rattle.csv_load.specs.Rows.{Says, Fails}
 use Rattle.csv_load.specs.declared.row.Row.TheVariants.{Point, Skip, Header}
 use Rattle.csv_load.specs.declared.row.RowCause.{RowCause}
-use Rattle.chart_world.specs.Fronts.{says, BeginsWith}
+use Rattle.chart_world.specs.Fronts.{says, first_piece, BeginsWith}
 use Rattle.series_load.specs.Fronts.{PlacedLine, told}
 
 -- what a row with a value says, and the offset of its line
@@ -53,9 +53,14 @@ pub record BadFirst (scale : ℕ) (before : List PlacedLine) (bytes : List ℕ) 
   pub some : IsTrue (says line)
   pub bad : IsBad scale before line
 
+-- a bad line stands behind the front, and ends among the first 2^32 bytes
+pub record BadEarly (scale : ℕ) (front rest : List ℕ) : Type 0 where
+  pub bad : BadFirst scale (told front) rest
+  pub early : length (front ++ first_piece rest) ≤ 2 ^ 32
+
 -- behind the front the input ends, or a bad line stands
 abbrev pub Stops : ℕ → List ℕ → List ℕ → Type 0
-Stops scale front rest = (rest ≡ []) ⊎ BadFirst scale (told front) rest
+Stops scale front rest = (rest ≡ []) ⊎ BadEarly scale front rest
 
 -- the input begins with these rows, and this stands behind them
 pub record ReadsRows (scale : ℕ) (input front rest : List ℕ) (rows : List (Option Reading)) : Type 0 where

@@ -1,5 +1,5 @@
 -- Rows as runs of readings.
-use Rattle.std.specs.Prelude.{◌≡◌, ◌⊎◌, ℕ, pos, ◌-ℤ◌, ◌<◌, ◌≤◌, List, [], ◌∷◌, ◌++◌, length, map, Option, None, Some}
+use Rattle.std.specs.Prelude.{◌≡◌, ◌⊎◌, ℕ, pos, ◌-ℤ◌, ◌^◌, ◌<◌, ◌≤◌, List, [], ◌∷◌, ◌++◌, length, map, Option, None, Some}
 use Rattle.series_load.specs.Rows.{Reading, Stops, ReadsRows}
 
 -- rows, each with a reading or without one
@@ -66,10 +66,11 @@ abbrev pub AllRuns : ℕ → List (Option Reading) → List Run → Type 0
 AllRuns step rows runs = Ended step (rows ++ None ∷ []) runs
 
 -- the runs are the first of the input: those that have ended within its first lines, or all of the lines before
--- its end or before its first bad line
+-- its end or before its first bad line; no line that begins or ends behind the first 2^32 bytes is among them
 pub record AreFirst (scale step : ℕ) (input : List ℕ) (runs : List Run) : Type 0 where
   pub front : List ℕ
   pub rest : List ℕ
+  pub early : length front ≤ 2 ^ 32
   pub rows : List (Option Reading)
   pub reads : ReadsRows scale input front rest rows
   pub ended : Ended step rows runs ⊎ (Stops scale front rest × AllRuns step rows runs)

@@ -176,6 +176,7 @@ first_none scale step input =
     record {
       front = [];
       rest = input;
+      early = omega arith;
       rows = [];
       reads = record { begins = record { split = refl; whole = inl (inl refl) }; table = subst T (sym told_nothing) (inl tt) };
       ended = inl (None, nothing);

@@ -4,8 +4,8 @@ use Rattle.series_catalog.specs.declared.catalog.Catalog.{Catalog}
 use Rattle.chart_world.specs.Reading.{Reading, unread, input_length}
 use Rattle.series_load.specs.Steps.{end_of}
 use Rattle.chart_world.specs.FrontLaws.{same_line}
-use Rattle.chart_world.specs.Fronts.{Gives}
 use Rattle.series_load.proofs.Passing.{short_end, short_so}
+use Rattle.series_load.proofs.Progress.{Takes}
 use Rattle.series_load.proofs.Sides.{goes_nowhere, goes_further, goes_call, goes_take, call_left}
 use Rattle.series_load.proofs.Going.{going_none, going_taken, going_left, line_does, going_line, line_ends, long_ends, at_end, fault_done, passed_on, cause_so, cause_on, sound_on, no_value, fault_cause, fault_sound, known_so, known_on, known_fault}
 use Rattle.series_load.specs.Shown.{side_of}
@@ -111,12 +111,15 @@ returns-in-TooLong-clause-outcome g c = λ total book series told stands step sc
     let says = (goes_further (side_of g.P.Streams c.args.store.now) (side_of g.P.Streams c.lines.store) (side_of g.P.Streams c.next.new.from) c.lines.invariant.goes (goes_take (side_of g.P.Streams c.lines.store) (side_of g.P.Streams c.next.new.from) (g.met.P.PageWorld.take_keeps (shown.pages c.lines.store) (shown.pages c.next.new.from) c.next.ensures.beside.pages_are) (g.met.P.PageWorld.take_told (shown.pages c.lines.store) (shown.pages c.next.new.from) c.next.ensures.beside.pages_are) (g.met.P.PageWorld.take_was_told (shown.pages c.lines.store) (shown.pages c.next.new.from) c.next.ensures.beside.pages_are) (g.met.P.PageWorld.take_goes_on (shown.pages c.lines.store) (shown.pages c.next.new.from) c.next.ensures.beside.pages_are)
     (ap (λ (s : Superblock). s.total) c.next.ensures.beside.superblock) (ap (λ (k : Catalog). length (series_in k)) c.next.ensures.beside.catalog) c.next.ensures.sent c.next.ensures.read_faults c.next.ensures.send_faults c.next.ensures.pieces)).is_told told in
     let p = going.progress in
-    let gives : Gives c.lines.lines c.next.new.self (g.P.Streams.left (shown.pages c.lines.store)) (g.P.Streams.left (shown.pages c.next.new.from)) None = record {
-      first = c.in_ok-next.ensures.too_long (ap Ok c.in-TooLong.is);
-      rest = c.in_ok-next.ensures.rest;
-      counted = c.lines.invariant.counted;
-      counted_new = c.in_ok-next.ensures.given;
-      total = c.next.ensures.total;
+    let gives : Takes c.lines.lines c.next.new.self (g.P.Streams.left (shown.pages c.lines.store)) (g.P.Streams.left (shown.pages c.next.new.from)) None = record {
+      gives = record {
+        first = c.in_ok-next.ensures.too_long (ap Ok c.in-TooLong.is);
+        rest = c.in_ok-next.ensures.rest;
+        counted = c.lines.invariant.counted;
+        counted_new = c.in_ok-next.ensures.given;
+        total = c.next.ensures.total;
+      };
+      early = c.in_ok-next.ensures.within;
     } in
     let place : c.offset_of.result ≡ c.lines.lines.given = c.offset_of.ensures ∙ c.in_ok-next.ensures.offset_too_long (ap Ok c.in-TooLong.is) in
     long_ends total c.args.loader.now.name book series (g.P.Streams.left (shown.pages c.args.store.now)) c.lines.lines c.next.new.self (g.P.Streams.left (shown.pages c.lines.store)) (g.P.Streams.left (shown.pages c.next.new.from)) (g.P.Streams.left (shown.pages c.stop.new.store)) c.offset_of.result c.lines.loader c.stop.new.self.run c.stop.result (shown.view c.args.store.now) (shown.view c.next.new.from) (shown.view c.stop.new.store) gives place going
@@ -159,12 +162,15 @@ lines-preserved g c = record {
       let says = (goes_further (side_of g.P.Streams c.args.store.now) (side_of g.P.Streams c.lines.store) (side_of g.P.Streams c.next.new.from) c.lines.invariant.goes (goes_take (side_of g.P.Streams c.lines.store) (side_of g.P.Streams c.next.new.from) (g.met.P.PageWorld.take_keeps (shown.pages c.lines.store) (shown.pages c.next.new.from) c.next.ensures.beside.pages_are) (g.met.P.PageWorld.take_told (shown.pages c.lines.store) (shown.pages c.next.new.from) c.next.ensures.beside.pages_are) (g.met.P.PageWorld.take_was_told (shown.pages c.lines.store) (shown.pages c.next.new.from) c.next.ensures.beside.pages_are) (g.met.P.PageWorld.take_goes_on (shown.pages c.lines.store) (shown.pages c.next.new.from) c.next.ensures.beside.pages_are)
       (ap (λ (s : Superblock). s.total) c.next.ensures.beside.superblock) (ap (λ (k : Catalog). length (series_in k)) c.next.ensures.beside.catalog) c.next.ensures.sent c.next.ensures.read_faults c.next.ensures.send_faults c.next.ensures.pieces)).is_told told in
       let p = going.progress in
-      let gives : Gives c.lines.lines c.next.new.self (g.P.Streams.left (shown.pages c.lines.store)) (g.P.Streams.left (shown.pages c.next.new.from)) (Some c.line.result.now) = record {
-        first = same_line (unread c.lines.lines (g.P.Streams.left (shown.pages c.lines.store))) (unread c.next.new.self (g.P.Streams.left (shown.pages c.next.new.from))) c.line.result.now c.next.new.self.line c.line.ensures.line (c.in_ok-next.ensures.line (ap Ok c.in-Line.is));
-        rest = c.in_ok-next.ensures.rest;
-        counted = c.lines.invariant.counted;
-        counted_new = c.in_ok-next.ensures.given;
-        total = c.next.ensures.total;
+      let gives : Takes c.lines.lines c.next.new.self (g.P.Streams.left (shown.pages c.lines.store)) (g.P.Streams.left (shown.pages c.next.new.from)) (Some c.line.result.now) = record {
+        gives = record {
+          first = same_line (unread c.lines.lines (g.P.Streams.left (shown.pages c.lines.store))) (unread c.next.new.self (g.P.Streams.left (shown.pages c.next.new.from))) c.line.result.now c.next.new.self.line c.line.ensures.line (c.in_ok-next.ensures.line (ap Ok c.in-Line.is));
+          rest = c.in_ok-next.ensures.rest;
+          counted = c.lines.invariant.counted;
+          counted_new = c.in_ok-next.ensures.given;
+          total = c.next.ensures.total;
+        };
+        early = c.in_ok-next.ensures.within;
       } in
       let place : c.offset_of-in-Line.result ≡ c.lines.lines.given = c.offset_of-in-Line.ensures ∙ c.in_ok-next.ensures.offset (ap Ok c.in-Line.is) in
       let left_is = call_left (side_of g.P.Streams c.next.new.from) (side_of g.P.Streams c.take_line.new.store) (record { left_is = g.met.P.PageWorld.beside_left (shown.pages c.next.new.from); sent_is = g.met.P.PageWorld.beside_sent (shown.pages c.next.new.from); reads_are = g.met.P.PageWorld.beside_read_faults (shown.pages c.next.new.from); sends_are = g.met.P.PageWorld.beside_send_faults (shown.pages c.next.new.from); pieces_are = g.met.P.PageWorld.beside_pieces (shown.pages c.next.new.from) }) (record { left_is = g.met.P.PageWorld.beside_left (shown.pages c.take_line.new.store); sent_is = g.met.P.PageWorld.beside_sent (shown.pages c.take_line.new.store); reads_are = g.met.P.PageWorld.beside_read_faults (shown.pages c.take_line.new.store); sends_are = g.met.P.PageWorld.beside_send_faults (shown.pages c.take_line.new.store); pieces_are = g.met.P.PageWorld.beside_pieces (shown.pages c.take_line.new.store) }) c.take_line.ensures.carries in
@@ -184,12 +190,15 @@ returns-in_err-take_line-in-Line-clause-outcome g c = λ total book series told 
     let says = (goes_further (side_of g.P.Streams c.args.store.now) (side_of g.P.Streams c.lines.store) (side_of g.P.Streams c.next.new.from) c.lines.invariant.goes (goes_take (side_of g.P.Streams c.lines.store) (side_of g.P.Streams c.next.new.from) (g.met.P.PageWorld.take_keeps (shown.pages c.lines.store) (shown.pages c.next.new.from) c.next.ensures.beside.pages_are) (g.met.P.PageWorld.take_told (shown.pages c.lines.store) (shown.pages c.next.new.from) c.next.ensures.beside.pages_are) (g.met.P.PageWorld.take_was_told (shown.pages c.lines.store) (shown.pages c.next.new.from) c.next.ensures.beside.pages_are) (g.met.P.PageWorld.take_goes_on (shown.pages c.lines.store) (shown.pages c.next.new.from) c.next.ensures.beside.pages_are)
     (ap (λ (s : Superblock). s.total) c.next.ensures.beside.superblock) (ap (λ (k : Catalog). length (series_in k)) c.next.ensures.beside.catalog) c.next.ensures.sent c.next.ensures.read_faults c.next.ensures.send_faults c.next.ensures.pieces)).is_told told in
     let p = going.progress in
-    let gives : Gives c.lines.lines c.next.new.self (g.P.Streams.left (shown.pages c.lines.store)) (g.P.Streams.left (shown.pages c.next.new.from)) (Some c.line.result.now) = record {
-      first = same_line (unread c.lines.lines (g.P.Streams.left (shown.pages c.lines.store))) (unread c.next.new.self (g.P.Streams.left (shown.pages c.next.new.from))) c.line.result.now c.next.new.self.line c.line.ensures.line (c.in_ok-next.ensures.line (ap Ok c.in-Line.is));
-      rest = c.in_ok-next.ensures.rest;
-      counted = c.lines.invariant.counted;
-      counted_new = c.in_ok-next.ensures.given;
-      total = c.next.ensures.total;
+    let gives : Takes c.lines.lines c.next.new.self (g.P.Streams.left (shown.pages c.lines.store)) (g.P.Streams.left (shown.pages c.next.new.from)) (Some c.line.result.now) = record {
+      gives = record {
+        first = same_line (unread c.lines.lines (g.P.Streams.left (shown.pages c.lines.store))) (unread c.next.new.self (g.P.Streams.left (shown.pages c.next.new.from))) c.line.result.now c.next.new.self.line c.line.ensures.line (c.in_ok-next.ensures.line (ap Ok c.in-Line.is));
+        rest = c.in_ok-next.ensures.rest;
+        counted = c.lines.invariant.counted;
+        counted_new = c.in_ok-next.ensures.given;
+        total = c.next.ensures.total;
+      };
+      early = c.in_ok-next.ensures.within;
     } in
     let place : c.offset_of-in-Line.result ≡ c.lines.lines.given = c.offset_of-in-Line.ensures ∙ c.in_ok-next.ensures.offset (ap Ok c.in-Line.is) in
     let e = c.in_err-take_line-in-Line.field-0.0 in
