@@ -1,0 +1,6 @@
+pub mod LineLemmas
+pub mod NumberLemmas
+pub mod OpenLemmas
+pub mod PassingLemmas
+pub mod SetLemmas
+pub mod BoundLemmas

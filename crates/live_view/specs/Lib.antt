@@ -1,0 +1,6 @@
+pub mod Numbers
+pub mod Lines
+pub mod Meaning
+pub mod Sessions
+pub mod Replies
+pub mod Live

@@ -1,0 +1,44 @@
+-- Which sessions are open, and which have had a view.
+use Rattle.std.specs.Prelude.{ℕ, ◌≡◌, Bool, not, ◌==◌, ◌&&◌, ◌||◌, is_some, List, All, Option, None, Some, IsTrue, filter}
+use Rattle.chart_frames.specs.declared.frame.Frame.{Frame}
+use Rattle.chart_frames.specs.declared.frame.Frame.TheVariants.{Done, Refused, Opened, Closed, View, Rows}
+use Rattle.zoom_session.specs.declared.session.Session.{Session}
+use Rattle.zoom_session.specs.Sessions.{is_open, session_of, last_of}
+
+-- how many coefficients a session's client keeps
+abbrev pub cache_of : Option Session → Option ℕ
+cache_of None = None
+cache_of (Some session) = Some session.cache.capacity
+
+-- the session has had an answered view
+abbrev pub has_view : ℕ → List Session → Bool
+has_view n sessions = is_some (last_of (session_of n sessions))
+
+-- whether the session n is open after a frame, where it was or wasn't before it
+abbrev pub opens : Frame → ℕ → Bool → Bool
+opens (Done slots) n was = was
+opens (Refused number a b) n was = was
+opens (Opened session cache) n was = session == n || was
+opens (Closed session) n was = not (session == n) && was
+opens (View view) n was = was
+opens (Rows rows) n was = was
+
+-- an Opened frame opens its session, a Closed one closes it, and no other frame changes which are open
+abbrev pub OpensBy : Frame → List Session → List Session → Type 0
+OpensBy frame old new = (n : ℕ) → is_open n new ≡ opens frame n (is_open n old)
+
+-- the same sessions are open
+abbrev pub AreOpenAlike : List Session → List Session → Type 0
+AreOpenAlike old new = (n : ℕ) → is_open n new ≡ is_open n old
+
+-- the sessions of these numbers are open
+abbrev pub AreOpen : List Session → List ℕ → Type 0
+AreOpen sessions numbers = All (λ n. IsTrue (is_open n sessions)) numbers
+
+-- they have had a view
+abbrev pub HaveViews : List Session → List ℕ → Type 0
+HaveViews sessions numbers = All (λ n. IsTrue (has_view n sessions)) numbers
+
+-- those of the numbers whose sessions are open
+abbrev pub open_among : List Session → List ℕ → List ℕ
+open_among sessions numbers = filter (λ n. is_open n sessions) numbers

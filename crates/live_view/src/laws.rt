@@ -1,0 +1,47 @@
+//! What follows from the definitions. The functions do nothing: their contracts are the laws.
+ghost use Rattle.std.specs.Prelude.{◌≡◌, ◌≢◌, ◌⊎◌, ◌↔◌, ℕ, ℤ, ◌≤◌, List, length, Contains, Option, None, Some, IsTrue, true, false};
+ghost use Rattle.std.specs.List.Sorted.{IsStrictlyIncreasing};
+ghost use Rattle.chart_grid.specs.declared.axis.Axis.{Axis};
+ghost use Rattle.chart_grid.specs.declared.grid.Grid.{Grid};
+ghost use Rattle.om3_coeff.specs.declared.key.Key.{Key};
+ghost use Rattle.om3_coeff.specs.declared.coef.Coef.{Coef};
+ghost use Rattle.zoom_session.specs.declared.session.Session.{Session};
+ghost use Rattle.zoom_session.specs.declared.view_spec.ViewSpec.{ViewSpec};
+ghost use Rattle.zoom_session.specs.Plans.{AreNeeded};
+ghost use Rattle.zoom_session.specs.Sessions.{session_of, last_of};
+ghost use Rattle.live_view.specs.declared.replies.LiveReply.TheVariants.{Live};
+ghost use Rattle.live_view.specs.Numbers.{with_number, without_number};
+ghost use Rattle.live_view.specs.Replies.{follow_reply, live_bound, followers, shows};
+
+use view_keys::laws::keys_of_a_view_are_few;
+
+/// Numbers that rise go on to rise with one more and with one less, and have just these.
+pub fn numbers_are_sets()
+    ensures more { (n m : ℕ) (numbers : List ℕ) → Contains (with_number n numbers) m ↔ ((m ≡ n) ⊎ Contains numbers m) }
+    ensures fewer { (n m : ℕ) (numbers : List ℕ) → Contains (without_number n numbers) m ↔ (Contains numbers m × (m ≢ n)) }
+    ensures more_rise { (n : ℕ) (numbers : List ℕ) → IsStrictlyIncreasing numbers → IsStrictlyIncreasing (with_number n numbers) }
+    ensures fewer_rise { (n : ℕ) (numbers : List ℕ) → IsStrictlyIncreasing numbers → IsStrictlyIncreasing (without_number n numbers) }
+{}
+
+/// The sessions that an edit of a series is pushed to are just the followed ones whose last view is one of that
+/// series, each of them once, by rising number.
+pub fn edits_go_to_followers()
+    ensures just { (series n : ℕ) (sessions : List Session) (followed : List ℕ) →
+        Contains (followers (Some series) sessions followed) n ↔ (Contains followed n × IsTrue (shows series (last_of (session_of n sessions)))) }
+    ensures rising { (series : ℕ) (sessions : List Session) (followed : List ℕ) →
+        IsStrictlyIncreasing followed → IsStrictlyIncreasing (followers (Some series) sessions followed) }
+{}
+
+/// A session is followed only where no view without a filter on so many columns, over whatever window and range,
+/// needs more coefficients than its client keeps. So a push is never refused as too large, and such a view has at
+/// most 1,247 columns.
+pub fn followed_views_fit()
+    ensures needed { (n : ℕ) (session : Session) (view : ViewSpec) (list : List (Option ℤ)) (axis : Axis) (grid : Grid) (lo hi : ℤ) (keys : List (Key × Coef)) →
+        follow_reply n (Some session) ≡ Live n true → session.last ≡ Some view → view.filter ≡ None → grid.w ≡ view.grid.w →
+        AreNeeded list axis grid lo hi keys → length keys ≤ session.cache.capacity }
+    ensures columns { (n : ℕ) (session : Session) (view : ViewSpec) →
+        follow_reply n (Some session) ≡ Live n true → session.last ≡ Some view → view.filter ≡ None →
+        session.cache.capacity ≤ 131072 → view.grid.w ≤ 1247 }
+{
+    keys_of_a_view_are_few();
+}
