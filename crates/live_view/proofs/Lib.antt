@@ -4,3 +4,4 @@ pub mod OpenLemmas
 pub mod PassingLemmas
 pub mod SetLemmas
 pub mod BoundLemmas
+pub mod SpellingLemmas

@@ -1,15 +1,12 @@
 -- What the lines that follow a session ask.
-use Rattle.std.proofs.Common.{◌≡◌, ℕ, ◌+◌, ◌<◌, ◌≤◌, Bool, true, false, ltb, List, [], ◌∷◌, length, drop, Ok, Err, refl, sym, ap, ◌∙◌, subst, zero-add, arith}
-use Rattle.std.specs.Prelude.{codes}
+use Rattle.std.proofs.Common.{◌≡◌, ℕ, ◌+◌, ◌<◌, ◌≤◌, true, false, ltb, List, ◌∷◌, length, drop, Ok, Err, refl, sym, ap, ◌∙◌, zero-add, arith}
 use Rattle.std.specs.List.{before_first}
-use Rattle.std.specs.Str.{bytes_eq}
 use Rattle.std.proofs.lemmas.Bool.Decides.{nat_tests}
 use Rattle.whole_number.specs.Numbers.{natural_value}
 use Rattle.request_lines.specs.declared.places.Place.TheVariants.{Session}
 use Rattle.request_lines.specs.Grammar.{allows, fault, ending_fault}
-use Rattle.request_lines.specs.Tokens.{is_space, tokens, Cursor, tokens_left, next_token, past_token}
+use Rattle.request_lines.specs.Tokens.{is_space, Cursor, tokens_left, next_token}
 use Rattle.request_lines.proofs.TokenLemmas.{tokens_left-within, tokens_left-none, tokens_left-there}
-use Rattle.live_view.specs.declared.live_lines.LiveLine.{LiveLine}
 use Rattle.live_view.specs.declared.live_lines.LiveLine.TheVariants.{Other}
 use Rattle.live_view.specs.Lines.{session_alone, tokens_ask, live_line}
 

@@ -1,6 +1,6 @@
 -- Which of some numbers are open sessions', and how many.
-use Rattle.std.proofs.Common.{◌≡◌, ◌≢◌, ℕ, zero, suc, ◌+◌, ◌<◌, ◌≤◌, Bool, true, false, eqb, not, ◌||◌, List, [], ◌∷◌, length, get_or, map, refl, sym, ap, ◌∙◌, subst, arith, rules}
-use Rattle.std.specs.Prelude.{All, AllPairs, Contains, filter, IsTrue, nat_eq, ◌==◌, is_some, Option, None, Some, if◌then◌else◌}
+use Rattle.std.proofs.Common.{◌≡◌, ◌≢◌, ℕ, suc, ◌<◌, ◌≤◌, Bool, true, false, ◌||◌, List, [], ◌∷◌, length, get_or, map, refl, sym, ap, ◌∙◌, subst, arith}
+use Rattle.std.specs.Prelude.{IsTrue, nat_eq, ◌==◌, is_some, Option, None, Some, if◌then◌else◌}
 use Rattle.std.specs.Cmp.{nat_eq_equiv}
 use Rattle.std.specs.Set.{is_member}
 use Rattle.std.specs.List.Sorted.{IsStrictlyIncreasing}
@@ -14,7 +14,7 @@ use Rattle.zoom_session.specs.Sessions.{is_open, session_of, last_of, AreSession
 use Rattle.live_view.specs.declared.replies.LiveReply.{LiveReply}
 use Rattle.live_view.specs.declared.replies.LiveReply.TheVariants.{Live}
 use Rattle.live_view.specs.Replies.{follow_reply}
-use Rattle.live_view.specs.Sessions.{cache_of, AreOpen, HaveViews, has_view, open_among}
+use Rattle.live_view.specs.Sessions.{cache_of, AreOpen, HaveViews, has_view}
 
 -- the numbers of the open sessions
 abbrev numbers : List Session → List ℕ

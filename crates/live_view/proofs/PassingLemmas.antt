@@ -1,6 +1,6 @@
 -- What answers of the stepper leave of the followed sessions, and to whom they push.
-use Rattle.std.proofs.Common.{◌≡◌, ◌≢◌, ℕ, zero, suc, ◌+◌, ◌<◌, ◌≤◌, Bool, true, false, not, ◌||◌, ◌&&◌, List, [], ◌∷◌, length, get_or, refl, sym, ap, ◌∙◌, subst, arith, rules, Option, None, Some}
-use Rattle.std.specs.Prelude.{All, filter, IsTrue, ◌==◌, is_some}
+use Rattle.std.proofs.Common.{◌≡◌, ℕ, ◌≤◌, Bool, true, false, not, ◌||◌, ◌&&◌, List, [], length, get_or, refl, ap, ◌∙◌, arith, Option, None, Some}
+use Rattle.std.specs.Prelude.{All, IsTrue, ◌==◌, is_some}
 use Rattle.std.specs.Cmp.{nat_eq_equiv}
 use Rattle.std.specs.List.Sorted.{IsStrictlyIncreasing}
 use Rattle.std.proofs.lemmas.List.Kept.{IsStrictlyIncreasing-filter}

@@ -1,6 +1,7 @@
 -- The lines that follow a session and that end it.
-use Rattle.std.specs.Prelude.{ℕ, ◌+◌, nat_lt, if◌then◌else◌, List, [], ◌∷◌, length, ⊤, Option, None, Some, Result, Ok, Err, codes}
+use Rattle.std.specs.Prelude.{◌≡◌, ◌≤◌, ℕ, ◌+◌, nat_lt, if◌then◌else◌, List, [], ◌∷◌, length, ⊤, Option, None, Some, Result, Ok, Err, codes}
 use Rattle.std.specs.Str.{bytes_eq}
+use Rattle.std.specs.Fmt.{decimal}
 use Rattle.whole_number.specs.Numbers.{natural_value}
 use Rattle.request_lines.specs.declared.places.Place.TheVariants.{Session}
 use Rattle.request_lines.specs.Tokens.{tokens}
@@ -48,3 +49,7 @@ NamesSession (Follow session) = IsSession session
 NamesSession (Unfollow session) = IsSession session
 NamesSession (Bad at) = ⊤
 NamesSession Other = ⊤
+
+-- a line of at most 8,192 bytes is this word and the number of a session, with one space between them
+abbrev pub SpellsWith : List ℕ → ℕ → List ℕ → Type 0
+SpellsWith word n line = (length line ≤ 8192) × (tokens line ≡ word ∷ decimal n ∷ []) × IsSession n

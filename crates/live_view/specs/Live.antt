@@ -1,8 +1,7 @@
 -- What live views answer, and how they change, over the relations of what answers their lines.
-use Rattle.std.specs.Prelude.{ℕ, ◌≡◌, List, [], ◌∷◌, Option, Some, Result, Ok, Err, refl}
+use Rattle.std.specs.Prelude.{ℕ, ◌≡◌, List, [], ◌∷◌, Result, Ok, Err, refl}
 use Rattle.std.proofs.Common.{◌∙◌}
 use Rattle.block_disk.specs.declared.streams.Streams.{Ghosts as StreamGhosts}
-use Rattle.series_book.specs.declared.refusals.Refusal.{Refusal}
 use Rattle.series_book.specs.declared.refusals.Refusal.TheVariants.{BadLine}
 use Rattle.chart_frames.specs.declared.frame.Frame.{Frame as AnyFrame}
 use Rattle.zoom_session.specs.declared.session.Session.{Session}

@@ -1,5 +1,5 @@
 //! What follows from the definitions. The functions do nothing: their contracts are the laws.
-ghost use Rattle.std.specs.Prelude.{◌≡◌, ◌≢◌, ◌⊎◌, ◌↔◌, ℕ, ℤ, ◌≤◌, List, length, Contains, Option, None, Some, IsTrue, true, false};
+ghost use Rattle.std.specs.Prelude.{◌≡◌, ◌≢◌, ◌⊎◌, ◌↔◌, ℕ, ℤ, ◌≤◌, List, length, Contains, Option, None, Some, IsTrue, true, false, codes};
 ghost use Rattle.std.specs.List.Sorted.{IsStrictlyIncreasing};
 ghost use Rattle.chart_grid.specs.declared.axis.Axis.{Axis};
 ghost use Rattle.chart_grid.specs.declared.grid.Grid.{Grid};
@@ -10,10 +10,18 @@ ghost use Rattle.zoom_session.specs.declared.view_spec.ViewSpec.{ViewSpec};
 ghost use Rattle.zoom_session.specs.Plans.{AreNeeded};
 ghost use Rattle.zoom_session.specs.Sessions.{session_of, last_of};
 ghost use Rattle.live_view.specs.declared.replies.LiveReply.TheVariants.{Live};
+ghost use Rattle.live_view.specs.declared.live_lines.LiveLine.TheVariants.{Follow, Unfollow};
+ghost use Rattle.live_view.specs.Lines.{live_line, SpellsWith};
 ghost use Rattle.live_view.specs.Numbers.{with_number, without_number};
 ghost use Rattle.live_view.specs.Replies.{follow_reply, live_bound, followers, shows};
 
 use view_keys::laws::keys_of_a_view_are_few;
+
+/// A line follows a session exactly where it spells so, and ends it exactly where it spells that.
+pub fn lines_spell_followings()
+    ensures follow { (line : List ℕ) (n : ℕ) → (live_line line ≡ Follow n) ↔ SpellsWith (codes "follow") n line }
+    ensures unfollow { (line : List ℕ) (n : ℕ) → (live_line line ≡ Unfollow n) ↔ SpellsWith (codes "unfollow") n line }
+{}
 
 /// Numbers that rise go on to rise with one more and with one less, and have just these.
 pub fn numbers_are_sets()

@@ -1,5 +1,4 @@
-use Rattle.std.proofs.Common.{◌≡◌, ◌+◌, ◌<◌, ◌≤◌, length, arith, rules, true, false, sym, ◌∙◌}
-use Rattle.std.specs.Str.{bytes_eq}
+use Rattle.std.proofs.Common.{arith, rules}
 use Rattle.live_view.proofs.LineLemmas.{line-long, line-asks}
 use Rattle.live_view.proofs.live_lines.live_line.Goals as goal
 

@@ -1,4 +1,4 @@
-use Rattle.std.proofs.Common.{◌≡◌, ◌+◌, ◌<◌, ◌≤◌, length, Ok, ap, sym, ◌∙◌, arith, rules}
+use Rattle.std.proofs.Common.{Ok, ap, sym, ◌∙◌, arith}
 use Rattle.live_view.proofs.LineLemmas.{alone-missing, alone-bad, alone-more, alone-ok}
 use Rattle.live_view.proofs.live_lines.session_alone.Goals as goal
 

@@ -1,10 +1,9 @@
-use Rattle.std.proofs.Common.{◌≡◌, ℕ, ◌≤◌, List, length, ◌∙◌, ap, arith}
-use Rattle.std.specs.Prelude.{IsTrue}
+use Rattle.std.proofs.Common.{ℕ, ◌≤◌, List, length, arith}
 use Rattle.std.specs.List.Sorted.{IsStrictlyIncreasing}
 use Rattle.std.proofs.lemmas.List.Kept.{IsStrictlyIncreasing-filter}
 use Rattle.std.proofs.lemmas.List.Elements.{filter_passes}
 use Rattle.zoom_session.specs.Sessions.{is_open}
-use Rattle.live_view.specs.Sessions.{AreOpen, HaveViews, open_among}
+use Rattle.live_view.specs.Sessions.{AreOpen, open_among}
 use Rattle.live_view.proofs.NumberLemmas.{so-too, some-few, rest-rises, first_of}
 use Rattle.live_view.proofs.OpenLemmas.{open-alike, views-stay}
 use Rattle.live_view.proofs.live.Live.push.Goals as goal
