@@ -1,5 +1,5 @@
 -- The answers to the lines that follow a session and end it, and what other answers mean for those that follow.
-use Rattle.std.specs.Prelude.{ℕ, ◌+◌, ◌*◌, ◌^◌, ◌<◌, Bool, true, false, ◌==◌, ◌&&◌, nat_lt, is_none, if◌then◌else◌, List, [], filter, Option, None, Some}
+use Rattle.std.specs.Prelude.{◌≡◌, ℕ, ◌+◌, ◌*◌, ◌^◌, ◌<◌, Bool, true, false, ◌==◌, ◌&&◌, nat_lt, is_none, if◌then◌else◌, List, [], filter, Option, None, Some}
 use Rattle.series_book.specs.declared.refusals.Refusal.{Refusal}
 use Rattle.series_book.specs.declared.refusals.Refusal.TheVariants.{UnknownSession, NoView}
 use Rattle.series_book.specs.Refusals.{number_of, pair_of}
@@ -38,6 +38,12 @@ follow_view n cache (Some view) =
 abbrev pub follow_reply : ℕ → Option Session → LiveReply
 follow_reply n None = refused UnknownSession
 follow_reply n (Some session) = follow_view n session.cache.capacity session.last
+
+-- the session is followed where that is asked for, and its last view has no filter
+pub record FollowsUnfiltered (session : Session) (view : ViewSpec) : Type 0 where
+  pub last : session.last ≡ Some view
+  pub unfiltered : view.filter ≡ None
+  pub followed : follow_reply session.number (Some session) ≡ Live session.number true
 
 -- the answer to `unfollow n`, by whether the session is open
 abbrev pub unfollow_reply : ℕ → Bool → LiveReply

@@ -1,19 +1,19 @@
 //! What follows from the definitions. The functions do nothing: their contracts are the laws.
-ghost use Rattle.std.specs.Prelude.{◌≡◌, ◌≢◌, ◌⊎◌, ◌↔◌, ℕ, ℤ, ◌≤◌, List, length, Contains, Option, None, Some, IsTrue, true, false, codes};
+ghost use Rattle.std.specs.Prelude.{◌≡◌, ◌≢◌, ◌⊎◌, ◌↔◌, ℕ, ℤ, ◌≤◌, List, length, Contains, Option, Some, IsTrue, codes};
 ghost use Rattle.std.specs.List.Sorted.{IsStrictlyIncreasing};
 ghost use Rattle.chart_grid.specs.declared.axis.Axis.{Axis};
 ghost use Rattle.chart_grid.specs.declared.grid.Grid.{Grid};
 ghost use Rattle.om3_coeff.specs.declared.key.Key.{Key};
 ghost use Rattle.om3_coeff.specs.declared.coef.Coef.{Coef};
+ghost use Rattle.coefficient_cache.specs.Caches.{IsCapacity};
 ghost use Rattle.zoom_session.specs.declared.session.Session.{Session};
 ghost use Rattle.zoom_session.specs.declared.view_spec.ViewSpec.{ViewSpec};
 ghost use Rattle.zoom_session.specs.Plans.{AreNeeded};
 ghost use Rattle.zoom_session.specs.Sessions.{session_of, last_of};
-ghost use Rattle.live_view.specs.declared.replies.LiveReply.TheVariants.{Live};
 ghost use Rattle.live_view.specs.declared.live_lines.LiveLine.TheVariants.{Follow, Unfollow};
 ghost use Rattle.live_view.specs.Lines.{live_line, SpellsWith};
 ghost use Rattle.live_view.specs.Numbers.{with_number, without_number};
-ghost use Rattle.live_view.specs.Replies.{follow_reply, live_bound, followers, shows};
+ghost use Rattle.live_view.specs.Replies.{FollowsUnfiltered, followers, shows};
 
 use view_keys::laws::keys_of_a_view_are_few;
 
@@ -40,16 +40,13 @@ pub fn edits_go_to_followers()
         IsStrictlyIncreasing followed → IsStrictlyIncreasing (followers (Some series) sessions followed) }
 {}
 
-/// A session is followed only where no view without a filter on so many columns, over whatever window and range,
-/// needs more coefficients than its client keeps. So a push is never refused as too large, and such a view has at
-/// most 1,247 columns.
+/// Where a session is followed by a view without a filter, no view without one on as many columns needs more
+/// coefficients than its client keeps, whatever the window and the range; and there are at most 1,247 columns. So
+/// where zooms keep the columns, no push is too large.
 pub fn followed_views_fit()
-    ensures needed { (n : ℕ) (session : Session) (view : ViewSpec) (list : List (Option ℤ)) (axis : Axis) (grid : Grid) (lo hi : ℤ) (keys : List (Key × Coef)) →
-        follow_reply n (Some session) ≡ Live n true → session.last ≡ Some view → view.filter ≡ None → grid.w ≡ view.grid.w →
-        AreNeeded list axis grid lo hi keys → length keys ≤ session.cache.capacity }
-    ensures columns { (n : ℕ) (session : Session) (view : ViewSpec) →
-        follow_reply n (Some session) ≡ Live n true → session.last ≡ Some view → view.filter ≡ None →
-        session.cache.capacity ≤ 131072 → view.grid.w ≤ 1247 }
+    ensures needed { (session : Session) (view : ViewSpec) (list : List (Option ℤ)) (axis : Axis) (grid : Grid) (lo hi : ℤ) (keys : List (Key × Coef)) →
+        FollowsUnfiltered session view → grid.w ≡ view.grid.w → AreNeeded list axis grid lo hi keys → length keys ≤ session.cache.capacity }
+    ensures columns { (session : Session) (view : ViewSpec) → FollowsUnfiltered session view → IsCapacity session.cache.capacity → view.grid.w ≤ 1247 }
 {
     keys_of_a_view_are_few();
 }
