@@ -1,0 +1,4 @@
+pub mod ProductLemmas
+pub mod SumLemmas
+pub mod BestLemmas
+pub mod EndLemmas

@@ -1,0 +1,42 @@
+use Rattle.std.proofs.Common.{false, Option, ℤ, rules, arith, ◌≡◌, ℕ, ◌+◌, ◌≤◌, sym, ◌∙◌, ap, subst, Some, None}
+use Rattle.std.proofs.lemmas.Result.{IfOk-weaker}
+use Rattle.derived_chart.specs.Searches.{IsEndOf}
+use Rattle.derived_chart.proofs.SumLemmas.{value_between}
+use Rattle.derived_chart.proofs.EndLemmas.{none_empty, none_clear, none_large, one_end, end_near, end_far}
+use Rattle.derived_chart.proofs.ends.+end_from.Goals as goal
+
+pub returns-then-are_in_limits-clause-end : goal.returns-then-are_in_limits-clause-end
+returns-then-are_in_limits-clause-end g t c = λ xs ys sums trees are.
+    none_large c.args.large sums c.args.p c.args.q c.in-Some.range c.if-large.true (c.are_in_limits.ensures.yes c.if-are_in_limits.true) (value_between sums c.args.p c.args.q c.in_ok-range.field-0 c.in-Some.range c.in-Some.is (c.in_ok-range.ensures.between xs ys sums trees are))
+
+pub end_from-requires : goal.end_from-requires
+end_from-requires g t c κs within =
+    let parts = c.halves.ensures.shorter in (
+      omega (arith, parts.near_short, parts.near),
+      (
+        search rules,
+        (c.in_ok-range.ensures.fit, (omega (arith, parts.near), (omega (arith, parts.near_end, c.requires.within, g.met.T.TwoTrees.still_count false _ _ c.in_ok-range.ensures.goes), (omega (arith, parts.near_end, c.requires.few), c.requires.small)))),
+      ),
+    )
+
+pub end_from-requires-in-None : goal.end_from-requires-in-None
+end_from-requires-in-None g t c κs within =
+    let parts = c.halves.ensures.shorter in (
+      omega (arith, parts.far_short, parts.far),
+      (
+        search rules,
+        (c.in_ok-found.ensures.fit, (omega (arith, parts.far), (omega (arith, parts.far_end, c.requires.within, g.met.T.TwoTrees.still_count false _ _ c.in_ok-range.ensures.goes, g.met.T.TwoTrees.still_count false _ _ c.in_ok-found.ensures.goes), (omega (arith, parts.far_end, c.requires.few), c.requires.small)))),
+      ),
+    )
+
+pub returns-in-Some-2-clause-end : goal.returns-in-Some-2-clause-end
+returns-in-Some-2-clause-end g t c = λ xs ys sums trees are.
+    let now = g.met.T.TwoTrees.still_are _ _ xs ys c.in_ok-range.ensures.goes trees in
+    end_near c.args.side c.args.large sums c.args.p c.args.q c.halves.result c.in-Some-2.found c.halves.ensures.halves (subst (IsEndOf c.args.side c.args.large sums c.halves.result.0.0 c.halves.result.0.1) c.in-Some-2.is (c.in_ok-found.ensures.end xs ys sums now are))
+
+pub returns-in-None-clause-end : goal.returns-in-None-clause-end
+returns-in-None-clause-end g t c = λ xs ys sums trees are.
+    let now = g.met.T.TwoTrees.still_are _ _ xs ys c.in_ok-range.ensures.goes trees in
+    IfOk-weaker c.end_from-in-None.result (IsEndOf c.args.side c.args.large sums c.halves.result.1.0 c.halves.result.1.1) (IsEndOf c.args.side c.args.large sums c.args.p c.args.q)
+    (λ o. end_far c.args.side c.args.large sums c.args.p c.args.q c.halves.result o c.halves.ensures.halves (subst (IsEndOf c.args.side c.args.large sums c.halves.result.0.0 c.halves.result.0.1) c.in-None.is (c.in_ok-found.ensures.end xs ys sums now are)))
+    (c.end_from-in-None.ensures.end xs ys sums (g.met.T.TwoTrees.still_are _ _ xs ys c.in_ok-found.ensures.goes now) are)
