@@ -1,5 +1,5 @@
 -- Products of numbers of which one is at most the other.
-use Rattle.std.proofs.Common.{◌≡◌, ℕ, ℤ, pos, negsuc, zero, suc, ◌≤◌, ◌^◌, ◌*◌, ◌*ℤ◌, ◌≤ℤ◌, ◌<ℤ◌, arith, ap, sym, ◌∙◌, subst}
+use Rattle.std.proofs.Common.{◌≡◌, ℕ, ℤ, pos, negsuc, zero, suc, ◌≤◌, ◌^◌, ◌*ℤ◌, ◌≤ℤ◌, ◌<ℤ◌, arith, ap, sym, ◌∙◌, subst}
 use Rattle.std.specs.Prelude.{unsigned_abs}
 use Rattle.std.proofs.Math.IntN.{suc_ℤ-*ℤ, pred_ℤ-*ℤ, zero-*ℤ}
 use Rattle.std.proofs.Common.{to_z, of_z, w64}
@@ -7,7 +7,6 @@ use mir.Syntax.{w128}
 use Rattle.std.proofs.lemmas.Int.{ints, unsigned_abs-mul, to_z-of_z, fits_signed_from_abs}
 use Rattle.std.proofs.lemmas.Nat.{mul-le}
 use Rattle.om3_coeff.specs.declared.span.Span.{Span}
-use Rattle.om3_coeff.specs.Spans.{IsProper}
 use Rattle.derived_chart.specs.Bounds.{AreProducts}
 
 up : (n : ℕ) (x y : ℤ) → x ≤ℤ y → (pos n *ℤ x) ≤ℤ (pos n *ℤ y)

@@ -1,16 +1,16 @@
 -- Sums of ranges.
-use Rattle.std.proofs.Common.{◌≡◌, ℕ, ℤ, pos, ◌≤◌, ◌<◌, ◌+◌, ◌+ℤ◌, ◌*ℤ◌, ◌≤ℤ◌, ◌<ℤ◌, List, length, Option, None, Some, arith, ap, refl, sym, ◌∙◌, subst}
+use Rattle.std.proofs.Common.{◌≡◌, ℕ, ℤ, pos, ◌≤◌, ◌<◌, ◌+◌, ◌+ℤ◌, List, length, Option, None, Some, arith, sym, ◌∙◌, subst}
 use Rattle.std.proofs.Common.{to_z, of_z, w64, ◌*◌, ◌^◌, Result, Ok, Err, IfErr}
 use Rattle.std.specs.Prelude.{IsErrAnd, unsigned_abs}
 use Rattle.std.proofs.lemmas.Int.{ints, to_z-of_z, fits_signed_from_abs}
 use Rattle.om3_coeff.specs.declared.errors.NodeError.{NodeError}
 use Rattle.std.proofs.lemmas.Option.{slice_get_within}
 use Rattle.om3_coeff.specs.declared.span.Span.{Span}
-use Rattle.om3_coeff.specs.Spans.{Holds, IsClear, IsStored, IsSpanOf, AreExtremes, span_over}
+use Rattle.om3_coeff.specs.Spans.{Holds, IsClear, IsSpanOf, AreExtremes, span_over}
 use Rattle.om3_coeff.proofs.ExtremeLemmas.{span_over_is}
 use Rattle.derived_chart.specs.declared.sum.Sum.{Sum}
-use Rattle.derived_chart.specs.Sums.{HoldsAt, Adds, AreSums}
-use Rattle.derived_chart.specs.Bounds.{AreBetween, AreBeside, AreProducts, IsValueOf}
+use Rattle.derived_chart.specs.Sums.{Adds, AreSums}
+use Rattle.derived_chart.specs.Bounds.{AreBetween, AreBeside, AreProducts}
 
 -- what a range holds, by its span
 spanned : (list : List (Option ℤ)) (p q : ℕ) (o : Option Span) → o ≡ span_over list p q → IsSpanOf list p q o

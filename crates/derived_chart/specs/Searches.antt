@@ -1,5 +1,5 @@
 -- What the searches find.
-use Rattle.std.specs.Prelude.{ℕ, ℤ, ◌≡◌, ◌<◌, ◌≤◌, ◌^◌, ◌≤ℤ◌, ◌<ℤ◌, ◌⊎◌, ◌+◌, Bool, true, false, List, Option, None, Some, IfSome, unsigned_abs}
+use Rattle.std.specs.Prelude.{ℕ, ℤ, ◌≡◌, ◌<◌, ◌≤◌, ◌^◌, ◌≤ℤ◌, ◌<ℤ◌, ◌⊎◌, ◌+◌, Bool, true, List, Option, None, Some, IfSome, unsigned_abs}
 use Rattle.whole_number.specs.Range.{IsValue}
 use Rattle.om3_coeff.specs.Spans.{Holds, IsClear, IsStored}
 use Rattle.derived_chart.specs.declared.searches.Best.{Best}

@@ -1,4 +1,4 @@
-use Rattle.std.proofs.Common.{rules, arith, ◌≡◌, ℕ, length, sym, ap, ◌∙◌, subst, IfErr, Some, None, Option, IfOk, ◌+◌}
+use Rattle.std.proofs.Common.{sym, ◌∙◌, subst}
 use Rattle.om3_coeff.specs.Spans.{IsClear}
 use Rattle.derived_chart.proofs.SumLemmas.{first_clear, second_clear, between, here, beside_as, passed_on}
 use Rattle.derived_chart.proofs.ProductLemmas.{products_as}

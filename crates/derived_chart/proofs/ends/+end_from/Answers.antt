@@ -1,8 +1,8 @@
-use Rattle.std.proofs.Common.{false, Option, ℤ, rules, arith, ◌≡◌, ℕ, ◌+◌, ◌≤◌, sym, ◌∙◌, ap, subst, Some, None}
+use Rattle.std.proofs.Common.{false, rules, arith, subst}
 use Rattle.std.proofs.lemmas.Result.{IfOk-weaker}
 use Rattle.derived_chart.specs.Searches.{IsEndOf}
 use Rattle.derived_chart.proofs.SumLemmas.{value_between}
-use Rattle.derived_chart.proofs.EndLemmas.{none_empty, none_clear, none_large, one_end, end_near, end_far}
+use Rattle.derived_chart.proofs.EndLemmas.{none_large, end_near, end_far}
 use Rattle.derived_chart.proofs.ends.+end_from.Goals as goal
 
 pub returns-then-are_in_limits-clause-end : goal.returns-then-are_in_limits-clause-end

@@ -1,4 +1,4 @@
-use Rattle.std.proofs.Common.{true, false}
+use Rattle.std.proofs.Common.{false}
 use Rattle.std.proofs.lemmas.Result.{IfOk-weaker}
 use Rattle.om3_coeff.specs.Walks.{IsFirstStored}
 use Rattle.derived_chart.specs.declared.ends.Side.TheVariants.{First}

@@ -1,4 +1,4 @@
-use Rattle.std.proofs.Common.{rules, arith}
+use Rattle.std.proofs.Common.{arith}
 use Rattle.std.proofs.lemmas.Int.{ints}
 use Rattle.derived_chart.proofs.ProductLemmas.{rising, falling, passed, given_back}
 use Rattle.derived_chart.proofs.products.products.Goals as goal

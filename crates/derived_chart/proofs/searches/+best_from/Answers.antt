@@ -1,8 +1,8 @@
-use Rattle.std.proofs.Common.{rules, arith, ◌≡◌, ℕ, ◌+◌, ◌-◌, ◌/◌}
+use Rattle.std.proofs.Common.{arith, ◌+◌, ◌-◌, ◌/◌}
 use Rattle.std.proofs.lemmas.Result.{IfOk-weaker, IfErr-weaker}
 use Rattle.derived_chart.specs.Searches.{IsBestWith}
-use Rattle.derived_chart.proofs.SumLemmas.{passed_on, value_between}
-use Rattle.derived_chart.proofs.BestLemmas.{best_kept, best_here, best_both}
+use Rattle.derived_chart.proofs.SumLemmas.{value_between}
+use Rattle.derived_chart.proofs.BestLemmas.{best_kept, best_both}
 use Rattle.derived_chart.proofs.searches.+best_from.Goals as goal
 
 pub returns-then-is_no_better-clause-best : goal.returns-then-is_no_better-clause-best
