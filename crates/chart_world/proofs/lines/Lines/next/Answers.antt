@@ -1,60 +1,113 @@
-use Rattle.std.proofs.Common.{ℕ, IfSome, ◌∙◌, Some, None, Ok, take, ap}
+use Rattle.std.proofs.Common.{ℕ, IfSome, ◌≡◌, ◌+◌, ◌-◌, ◌∙◌, [], Some, None, Ok, length, take, drop, ap, arith, length-drop}
 use Rattle.chart_world.specs.Feed.{pending_of, Gathered}
-use Rattle.chart_world.specs.Reading.{Reading, unread, in_front_of}
+use Rattle.chart_world.specs.Reading.{Reading, HasLine, Took, told_lines, with_first, unread, in_front_of}
+use Rattle.block_disk.specs.Counts.{HasRisen}
+use Rattle.chart_world.proofs.Pending.{pending_full}
 use Rattle.chart_world.proofs.NextLine.{here_lines, here_rest, gathered_long, gathered_short, no_lines, of_value}
 use Rattle.chart_world.proofs.lines.Lines.next.Goals as goal
 
-pub returns-in-Some-clause-rest : goal.returns-in-Some-clause-rest
-returns-in-Some-clause-rest g c =
-    let here = c.in-Some.ensures.here in
-    here_rest c.args.self.now.pending c.give_pending.new.self.pending (g.S.Streams.left c.args.from.now) c.in-Some.before here.place here.within c.give_pending.ensures.pending
-
-pub returns-in-Some-clause-line : goal.returns-in-Some-clause-line
-returns-in-Some-clause-line g c is =
+pub returns-in-Some : goal.returns-in-Some
+returns-in-Some g c =
     let left = g.S.Streams.left c.args.from.now in
     let here = c.in-Some.ensures.here in
-    here_lines c.args.self.now.pending left (unread c.give_pending.new.self left) c.in-Some.before (Some c.give_pending.new.self.line) here.place here.within (c.give_pending.ensures.line (cc (is)))
-    (here_rest c.args.self.now.pending c.give_pending.new.self.pending left c.in-Some.before here.place here.within c.give_pending.ensures.pending)
+    let old = c.args.self.now in
+    let new = c.give_pending.new.self in
+    let before = c.in-Some.before in
+    let at = c.self.inside.feed in
+    let full = pending_full at.bytes.items at.start at.end at.ordered (omega (arith, at.within, at.sized, at.bytes.ok)) in
+    let whole : old.taken ≡ old.given + length old.pending =
+    omega (arith, full, at.counted, at.ordered, ap (λ (r : Reading). r.taken) c.self.view_is, ap (λ (r : Reading). r.given) c.self.view_is, ap (λ (r : Reading). length r.pending) c.self.view_is) in
+    let behind : length new.pending ≡ length (drop (before + 1) old.pending) = ap length c.give_pending.ensures.pending in
+    let counted : new.taken ≡ new.given + length new.pending =
+    omega (arith, whole, behind, length-drop (before + 1) old.pending, c.give_pending.ensures.taken, c.give_pending.ensures.passed, here.within) in
+    grind (
+      arith,
+      counted,
+      here_rest old.pending new.pending left before here.place here.within c.give_pending.ensures.pending,
+      here_lines old.pending left (unread new left) before (Some new.line) here.place here.within,
+      here_lines old.pending left (unread new left) before None here.place here.within,
+    )
 
-pub returns-in-Some-clause-too_long : goal.returns-in-Some-clause-too_long
-returns-in-Some-clause-too_long g c is =
+pub returns-in-Ok-None : goal.returns-in-Ok-None
+returns-in-Ok-None g c =
     let left = g.S.Streams.left c.args.from.now in
-    let here = c.in-Some.ensures.here in
-    here_lines c.args.self.now.pending left (unread c.give_pending.new.self left) c.in-Some.before None here.place here.within (c.give_pending.ensures.too_long (cc (is)))
-    (here_rest c.args.self.now.pending c.give_pending.new.self.pending left c.in-Some.before here.place here.within c.give_pending.ensures.pending)
+    let at = c.gather.new.self in
+    let full = pending_full at.bytes.items at.start at.end at.ordered (omega (arith, at.within, at.sized, at.bytes.ok)) in
+    let pending : pending_of c.self.inside.feed ≡ c.args.self.now.pending = ap (λ (r : Reading). r.pending) c.self.view_is in
+    let none : IfSome (told_lines (unread c.args.self.now left)) (λ later. later ≡ []) =
+    rw (← pending) (no_lines (in_front_of (pending_of c.self.inside.feed) left) (c.gather.ensures.none (c.in-Ok-None.is ∙ ap Ok c.in-Ok-None.field-0-is))) in
+    grind (arith, full, none)
 
-pub returns-then-length-clause-took : goal.returns-then-length-clause-took
-returns-then-length-clause-took g c none =
-    let given = ap (λ (r : Reading). r.given) c.self.view_is in
-    let pending = ap (λ (r : Reading). r.pending) c.self.view_is in
-    c.in-Ok-Some.ensures.took (λ has. none (rw (← given, ← pending) has))
+pub returns-in-Err : goal.returns-in-Err
+returns-in-Err g c = grind arith
 
-pub returns-clause-took : goal.returns-clause-took
-returns-clause-took g c none =
-    let given = ap (λ (r : Reading). r.given) c.self.view_is in
-    let pending = ap (λ (r : Reading). r.pending) c.self.view_is in
-    c.in-Ok-Some.ensures.took (λ has. none (rw (← given, ← pending) has))
-
-pub returns-in-Ok-None-clause-end : goal.returns-in-Ok-None-clause-end
-returns-in-Ok-None-clause-end g c _ =
-    let pending = ap (λ (r : Reading). r.pending) c.self.view_is in
-    rw (← pending) (no_lines (in_front_of (pending_of c.self.inside.feed) (g.S.Streams.left c.args.from.now)) (c.gather.ensures.none (c.in-Ok-None.is ∙ ap Ok c.in-Ok-None.field-0-is)))
-
-pub returns-then-length-clause-too_long : goal.returns-then-length-clause-too_long
-returns-then-length-clause-too_long g c _ =
-    let streams = g.S.Streams in
-    let pending = ap (λ (r : Reading). r.pending) c.self.view_is in
+pub returns-then-length : goal.returns-then-length
+returns-then-length g c =
+    let left = g.S.Streams.left c.args.from.now in
+    let told = in_front_of (pending_of c.self.inside.feed) left in
+    let after = in_front_of (pending_of c.gather.new.self) (g.S.Streams.left c.gather.new.from) in
+    let at = c.gather.new.self in
     let spill = c.gather.new.self.spill.items in
-    let Line : ℕ → Type 0 = λ n. IfSome (in_front_of (pending_of c.self.inside.feed) (streams.left c.args.from.now)) (λ bytes. Gathered n spill bytes) in
+    let full = pending_full at.bytes.items at.start at.end at.ordered (omega (arith, at.within, at.sized, at.bytes.ok)) in
+    let counted : at.taken ≡ at.taken - (at.end - at.start) + length (pending_of at) = omega (arith, full, at.counted, at.ordered) in
+    let given = ap (λ (r : Reading). r.given) c.self.view_is in
+    let pending : pending_of c.self.inside.feed ≡ c.args.self.now.pending = ap (λ (r : Reading). r.pending) c.self.view_is in
+    let Line : ℕ → Type 0 = λ n. IfSome told (λ bytes. Gathered n spill bytes) in
     let line = of_value Line c.in-Ok-Some.field-0 c.in-Ok-Some.length c.in-Ok-Some.field-0-is c.in-Ok-Some.ensures.line in
-    rw (← pending) (gathered_long (in_front_of (pending_of c.self.inside.feed) (streams.left c.args.from.now)) (in_front_of (pending_of c.gather.new.self) (streams.left c.gather.new.from)) c.in-Ok-Some.length c.gather.new.self.spill.items c.if-length.true line c.in-Ok-Some.ensures.rest)
+    let long : told_lines (unread c.args.self.now left) ≡ with_first None (told_lines after) =
+    rw (← pending) (gathered_long told after c.in-Ok-Some.length spill c.if-length.true line c.in-Ok-Some.ensures.rest) in
+    let took : (HasLine c.args.self.now → ⊥) → Took (g.S.Streams.pieces c.args.from.now) (g.S.Streams.pieces c.gather.new.from) after =
+    λ none. c.in-Ok-Some.ensures.took (λ has. none (rw (← given, ← pending) has)) in
+    record {
+      line = grind arith;
+      too_long = λ _. long;
+      end = grind arith;
+      rest = grind arith;
+      given = counted;
+      passes = grind arith;
+      passes_too_long = grind arith;
+      passes_end = grind arith;
+      within = grind arith;
+      offset = grind arith;
+      offset_too_long = grind arith;
+      offset_end = grind arith;
+      offset_fault = grind arith;
+      no_line = grind arith;
+      read_fault = grind arith;
+      read_before = grind arith;
+      read_within = grind arith;
+      past = grind arith;
+      past_before = grind arith;
+      left_on_err = grind arith;
+      usable = grind arith;
+      unusable = grind arith;
+      total = grind arith;
+      forward = grind arith;
+      waits = grind arith;
+      sent = grind arith;
+      send_faults = grind arith;
+      read_faults = grind arith;
+      pieces = grind arith;
+      took = took;
+      beside = grind arith;
+    }
 
-pub returns-clause-line : goal.returns-clause-line
-returns-clause-line g c _ =
-    let streams = g.S.Streams in
-    let pending = ap (λ (r : Reading). r.pending) c.self.view_is in
+pub returns : goal.returns
+returns g c =
+    let left = g.S.Streams.left c.args.from.now in
+    let told = in_front_of (pending_of c.self.inside.feed) left in
+    let after = in_front_of (pending_of c.gather.new.self) (g.S.Streams.left c.gather.new.from) in
+    let at = c.gather.new.self in
     let spill = c.gather.new.self.spill.items in
+    let full = pending_full at.bytes.items at.start at.end at.ordered (omega (arith, at.within, at.sized, at.bytes.ok)) in
+    let counted : at.taken ≡ at.taken - (at.end - at.start) + length (pending_of at) = omega (arith, full, at.counted, at.ordered) in
+    let given = ap (λ (r : Reading). r.given) c.self.view_is in
+    let pending : pending_of c.self.inside.feed ≡ c.args.self.now.pending = ap (λ (r : Reading). r.pending) c.self.view_is in
     let text = rw c.as_slice.ensures.value at c.text_len-end.ensures.text in
-    let Line : ℕ → Type 0 = λ n. IfSome (in_front_of (pending_of c.self.inside.feed) (streams.left c.args.from.now)) (λ bytes. Gathered n spill bytes) in
+    let Line : ℕ → Type 0 = λ n. IfSome told (λ bytes. Gathered n spill bytes) in
     let line = of_value Line c.in-Ok-Some.field-0 c.in-Ok-Some.length c.in-Ok-Some.field-0-is c.in-Ok-Some.ensures.line in
-    rw (← pending) (gathered_short (in_front_of (pending_of c.self.inside.feed) (streams.left c.args.from.now)) (in_front_of (pending_of c.gather.new.self) (streams.left c.gather.new.from)) c.in-Ok-Some.length spill (take c.text_len-end.result spill) c.if-length.false text line c.in-Ok-Some.ensures.rest)
+    let short : told_lines (unread c.args.self.now left) ≡ with_first (Some (take c.text_len-end.result spill)) (told_lines after) =
+    rw (← pending) (gathered_short told after c.in-Ok-Some.length spill (take c.text_len-end.result spill) c.if-length.false text line c.in-Ok-Some.ensures.rest) in
+    let took : (HasLine c.args.self.now → ⊥) → Took (g.S.Streams.pieces c.args.from.now) (g.S.Streams.pieces c.gather.new.from) after =
+    λ none. c.in-Ok-Some.ensures.took (λ has. none (rw (← given, ← pending) has)) in
+    grind (arith, counted, short, took)
