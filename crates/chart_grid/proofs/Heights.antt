@@ -90,6 +90,11 @@ pub below_is : (v lo hi : ℤ) (h d s n : ℕ) (r : ℤ) → lo <ℤ hi → v �
 below_is v lo hi h d s n r wide down de se ne re =
     re ∙ ap (λ k. neg_ℤ (pos k)) (ne ∙ ap₂ (λ a b. div_ceil (a * (h - 1)) b) de se) ∙ sym (height-below v lo hi h wide down)
 
+-- and of one that isn't below the range
+pub above_is : (v lo hi : ℤ) (h d s n : ℕ) (r : ℤ) → lo <ℤ hi → lo ≤ℤ v → d ≡ distance lo v → s ≡ distance lo hi → n ≡ d * (h - 1) / s → r ≡ pos n → r ≡ height v lo hi h
+above_is v lo hi h d s n r wide up de se ne re =
+    re ∙ ap pos (ne ∙ ap₂ (λ a b. a * (h - 1) / b) de se) ∙ sym (height-above v lo hi h wide up)
+
 -- a height is the floor of the value's share of the rows
 pub height-is : (v lo hi : ℤ) (h : ℕ) → lo <ℤ hi → IsFloor ((v -ℤ lo) *ℤ pos (h - 1)) (distance lo hi) (height v lo hi h)
 height-is v lo hi h wide =
@@ -122,3 +127,8 @@ height-size v lo hi h =
     ))
     (λ up. omega (arith, ap unsigned_abs (height-above v lo hi h wide up), div-le_self (distance lo v * (h - 1)) (distance lo hi))))
     (λ flat. omega (arith, ap unsigned_abs (height-flat v lo hi h flat)))
+
+pub height-size_at : (v lo hi : ℤ) (h : ℕ) (r : ℤ) → r ≡ height v lo hi h → unsigned_abs r ≤ distance lo v * (h - 1)
+height-size_at v lo hi h r e =
+    let P : ℤ → Type 0 = λ z. unsigned_abs z ≤ distance lo v * (h - 1) in
+    subst P (sym e) (height-size v lo hi h)
