@@ -1,5 +1,5 @@
 -- A page that was read is damaged as it stands.
-use Rattle.std.proofs.Common.{◌≡◌, ◌∙◌, List, ℕ, length, refl, subst, ap}
+use Rattle.std.proofs.Common.{◌≡◌, ◌∙◌, List, ℕ, length, refl, subst, ap, arith}
 use Rattle.block_disk.proofs.Blocks.{all_of}
 use Rattle.tree_walk.specs.Holding.{IsBadPage}
 use Rattle.tree_walk.proofs.paths.read_page.Goals as goal
@@ -14,3 +14,21 @@ returns-then-not-is_sound-clause-cause g c = (
       let P : List ℕ → Type 0 = λ l. IsBadPage l c.args.level in
       subst P page (c.is_sound.ensures.bad c.if-not-is_sound.true),
 )
+
+pub returns-in_default : goal.returns-in_default
+returns-in_default g c = grind arith
+
+pub returns-clause-reads : goal.returns-clause-reads
+returns-clause-reads g c = grind arith
+
+pub returns-clause-over : goal.returns-clause-over
+returns-clause-over g c = grind arith
+
+pub returns-clause-count : goal.returns-clause-count
+returns-clause-count g c = grind arith
+
+pub returns-clause-number : goal.returns-clause-number
+returns-clause-number g c = grind arith
+
+pub returns-clause-cause : goal.returns-clause-cause
+returns-clause-cause g c = grind arith
