@@ -1,4 +1,4 @@
-use Rattle.std.proofs.Common.{ℕ, subst, sym}
+use Rattle.std.proofs.Common.{arith, ℕ, subst, sym}
 use Rattle.std.proofs.lemmas.Result.{IfErr-weaker}
 use Rattle.block_disk.specs.View.{Image, Honest}
 use Rattle.gate_pages.specs.Journal.{page_count, pages_of}
@@ -75,3 +75,51 @@ pub returns-in-Ok-clause-honest : goal.returns-in-Ok-clause-honest
 returns-in-Ok-clause-honest g c = λ honest.
     let Q : g.row.D.Denot → Type 0 = λ disk. Honest (g.D.Disk.view disk) in
     subst Q (given_of c.make_pages.result c.on_disk.result c.on_disk.ensures.disk) (c.make_pages.ensures.told (c.in-Ok.ensures.moves.honest honest))
+
+pub returns-in-TooSmall : goal.returns-in-TooSmall
+returns-in-TooSmall g c = grind arith
+
+pub returns-in-DiskFault : goal.returns-in-DiskFault
+returns-in-DiskFault g c = grind arith
+
+pub returns-in-NoMemory : goal.returns-in-NoMemory
+returns-in-NoMemory g c = grind arith
+
+pub returns-in-Ok-clause-cause : goal.returns-in-Ok-clause-cause
+returns-in-Ok-clause-cause g c = grind arith
+
+pub returns-in-Ok-clause-large : goal.returns-in-Ok-clause-large
+returns-in-Ok-clause-large g c = grind arith
+
+pub returns-in-Ok-clause-fresh : goal.returns-in-Ok-clause-fresh
+returns-in-Ok-clause-fresh g c = grind arith
+
+pub returns-in-Ok-clause-store : goal.returns-in-Ok-clause-store
+returns-in-Ok-clause-store g c = grind arith
+
+pub returns-in-Ok-clause-rests : goal.returns-in-Ok-clause-rests
+returns-in-Ok-clause-rests g c = grind arith
+
+pub returns-in-Ok-clause-beside : goal.returns-in-Ok-clause-beside
+returns-in-Ok-clause-beside g c = grind arith
+
+pub returns-in-BadDirectory-clause-cause : goal.returns-in-BadDirectory-clause-cause
+returns-in-BadDirectory-clause-cause g c = grind arith
+
+pub returns-in-BadDirectory-clause-large : goal.returns-in-BadDirectory-clause-large
+returns-in-BadDirectory-clause-large g c = grind arith
+
+pub returns-in-BadDirectory-clause-fresh : goal.returns-in-BadDirectory-clause-fresh
+returns-in-BadDirectory-clause-fresh g c = grind arith
+
+pub returns-in-BadDirectory-clause-store : goal.returns-in-BadDirectory-clause-store
+returns-in-BadDirectory-clause-store g c = grind arith
+
+pub returns-in-BadDirectory-clause-rests : goal.returns-in-BadDirectory-clause-rests
+returns-in-BadDirectory-clause-rests g c = grind arith
+
+pub returns-in-BadDirectory-clause-honest : goal.returns-in-BadDirectory-clause-honest
+returns-in-BadDirectory-clause-honest g c = grind arith
+
+pub returns-in-BadDirectory-clause-beside : goal.returns-in-BadDirectory-clause-beside
+returns-in-BadDirectory-clause-beside g c = grind arith
