@@ -1,4 +1,4 @@
-use Rattle.std.proofs.Common.{◌≡◌, ◌∙◌, List, length, ap, sym, subst, w64, rules}
+use Rattle.std.proofs.Common.{◌≡◌, ◌∙◌, List, length, ap, sym, subst, w64, rules, arith}
 use Rattle.std.proofs.lemmas.Int.{to_z-of_z}
 use Rattle.std.specs.Prelude.{Option, None, All}
 use Rattle.needed_nodes.specs.declared.blocks.Blocks.{Blocks}
@@ -40,3 +40,9 @@ pub returns-clause-found : goal.returns-clause-found
 returns-clause-found g c =
     explores_as c.wanted_keys_are_needed.ensures.same (g.N.Nodes.view c.args.nodes.now) c.in-Some.window c.args.axis c.args.grid c.args.lo c.args.hi _ _ c.in_ok-rows.rows.items c.in-Some.ensures.axis c.in-Some.ensures.grid (c.in-Some.ensures.lo ∙ to_z-of_z w64 c.args.lo (search rules)) (c.in-Some.ensures.hi ∙ to_z-of_z w64 c.args.hi (search rules)) c.requires.slots
     c.new-keys.ensures.items c.in_ok-rows.ensures.found
+
+pub of-requires : goal.of-requires
+of-requires g c = grind arith
+
+pub returns-in_err-table : goal.returns-in_err-table
+returns-in_err-table g c = grind arith

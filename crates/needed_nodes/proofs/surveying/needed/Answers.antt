@@ -1,4 +1,4 @@
-use Rattle.std.proofs.Common.{◌≤◌, List, length, sym, subst, w64, rules}
+use Rattle.std.proofs.Common.{◌≤◌, List, length, sym, subst, w64, rules, arith}
 use Rattle.std.proofs.lemmas.Int.{to_z-of_z}
 use Rattle.std.specs.Prelude.{Some, All}
 use Rattle.om3_coeff.specs.declared.key.Key.{Key}
@@ -44,3 +44,9 @@ returns-clause-few g c =
     subst P (sym c.from_vec.ensures)
     (sorted_few c.in_ok-explored.explored.keys.items c.sort_keys.new.keys.items (most_needed c.args.grid.w c.args.axis.slots) c.in_ok-sort_keys.ensures.same
     c.in_ok-explored.ensures.found.few)
+
+pub explore-requires : goal.explore-requires
+explore-requires g c = grind arith
+
+pub returns-in_err-sort_keys : goal.returns-in_err-sort_keys
+returns-in_err-sort_keys g c = grind arith

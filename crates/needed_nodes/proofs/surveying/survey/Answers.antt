@@ -1,4 +1,4 @@
-use Rattle.std.proofs.Common.{◌≤◌, List, length, sym, subst, w64, rules}
+use Rattle.std.proofs.Common.{◌≤◌, List, length, sym, subst, w64, rules, arith}
 use Rattle.std.proofs.lemmas.Int.{to_z-of_z}
 use Rattle.std.specs.Prelude.{Some, All}
 use Rattle.om3_coeff.specs.declared.key.Key.{Key}
@@ -54,3 +54,9 @@ returns-clause-rising g c =
 pub returns-clause-shown : goal.returns-clause-shown
 returns-clause-shown g c =
     let P : List Row → Type 0 = λ rows. All (IsShownRow c.args.grid.w) rows in subst P (sym c.from_vec-2.ensures) c.in_ok-explored.ensures.found.shown
+
+pub explore-requires : goal.explore-requires
+explore-requires g c = grind arith
+
+pub returns-in_err-sort_keys : goal.returns-in_err-sort_keys
+returns-in_err-sort_keys g c = grind arith
