@@ -1,0 +1,3 @@
+pub mod Sweeps
+pub mod Drops
+pub mod Steps

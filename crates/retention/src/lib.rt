@@ -1,0 +1,14 @@
+//! Old slots of a store are dropped by a rule, in small commits.
+//!
+//! A rule names the slots before a time, all but the last slots of a series, or as many of the oldest slots as
+//! free some pages. specs/Sweeps.antt says of the plain book which clears that makes: one an aligned range
+//! of 4,096 slots, or one a page. Each is an edit of its own, so that at each moment a crash leaves the book
+//! behind some first of them.
+//!
+//! No command uses this crate yet. Words of a command line, its answers and its codes are left to the layer above.
+#![tactic(auto)]
+
+pub mod laws;
+mod rule;
+
+pub use rule::Rule;
