@@ -27,17 +27,17 @@ use Rattle.retention.proofs.FreeLemmas.{free_enough, free_next, free_none}
 use Rattle.retention.proofs.TimeLemmas.{before_few, before_is, before_slot}
 
 -- a rule makes no clear, or a first one
-abbrev NoneOrNext : ℕ → List Series → Rule → Type 0
+abbrev pub NoneOrNext : ℕ → List Series → Rule → Type 0
 NoneOrNext total book rule = (sweeps total book rule ≡ []) ⊎ ((clear : Edit) × IsNext total book rule clear)
 
 pub unnamed : (book : List Series) (name : List ℕ) (old : Series → ℕ) → named book name ≡ None → clears_if name (named book name) old ≡ []
 unnamed book name old none = ap (λ (o : Option Series). clears_if name o old) none
 
-old_before : (book : List Series) (name : List ℕ) (time : ℤ) (id : ℕ) (series : Series) (p : ℕ × ℤ) → IsBook book → id_of name book ≡ Some id → slice_get book id ≡ Some series → IsFirstStored series.slots 0 (slots_before series time) (Some p)
+pub old_before : (book : List Series) (name : List ℕ) (time : ℤ) (id : ℕ) (series : Series) (p : ℕ × ℤ) → IsBook book → id_of name book ≡ Some id → slice_get book id ≡ Some series → IsFirstStored series.slots 0 (slots_before series time) (Some p)
     → IsOldIn book name (λ one. slots_before one time) id series p.0 p.1
 old_before book name time id series p is at there found = record { is_book = is; at = at; there = there; within = before_few series time; stays = before_stays series time; found = found }
 
-old_last : (book : List Series) (name : List ℕ) (count : ℕ) (id : ℕ) (series : Series) (p : ℕ × ℤ) → IsBook book → id_of name book ≡ Some id → slice_get book id ≡ Some series → IsFirstStored series.slots 0 (length series.slots - count) (Some p)
+pub old_last : (book : List Series) (name : List ℕ) (count : ℕ) (id : ℕ) (series : Series) (p : ℕ × ℤ) → IsBook book → id_of name book ≡ Some id → slice_get book id ≡ Some series → IsFirstStored series.slots 0 (length series.slots - count) (Some p)
     → IsOldIn book name (λ one. length one.slots - count) id series p.0 p.1
 old_last book name count id series p is at there found = record {
   is_book = is;
@@ -81,7 +81,7 @@ free_or_none total pages book is = by (nat_le pages (total - pages_of book)) ref
     by true enough = inl (free_enough total pages book enough)
     by false few = one (oldest book) few refl
 
-none_or_next : (total : ℕ) (book : List Series) (rule : Rule) → IsBook book → NoneOrNext total book rule
+pub none_or_next : (total : ℕ) (book : List Series) (rule : Rule) → IsBook book → NoneOrNext total book rule
 none_or_next total book (Before name time) is =
     found_series book name (NoneOrNext total book (Before name time)) (λ none. inl (unnamed book name (λ one. slots_before one time) none))
     (λ id series at there. let first = first_stored series.slots (slots_before series time) (before_few series time) in before_or_none total book name time id series first.0 is at there first.1)
@@ -287,11 +287,6 @@ loses_as Old New id book after to from loses = record {
   };
   others = loses.others;
 }
-
-some_at : {X : Type 0} (book : List X) (o : Option X) (id : ℕ) → slice_get book id ≡ o → id < length book → (x : X) × (slice_get book id ≡ Some x)
-some_at {X} [] o id at low = absurd (omega (arith, low))
-some_at {X} (x ∷ xs) o zero at low = (x, refl)
-some_at {X} (x ∷ xs) o (suc id) at low = some_at xs o id at (omega (arith, low))
 
 pub loses_before : (total : ℕ) (book : List Series) (name : List ℕ) (time : ℤ) (id : ℕ) (series : Series) → IsBook book → id_of name book ≡ Some id → slice_get book id ≡ Some series
     → LosesIn (λ one slot. slot_time one slot <ℤ time) id book (after_edits total book (sweeps total book (Before name time)))

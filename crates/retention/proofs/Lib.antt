@@ -6,3 +6,6 @@ pub mod OldestLemmas
 pub mod FreeLemmas
 pub mod TimeLemmas
 pub mod LawLemmas
+pub mod LookLemmas
+pub mod NextLemmas
+pub mod SweepLemmas

@@ -100,9 +100,6 @@ cleared_is slots first end low room =
     }
 
 -- clears take values away
-one_of : Option ℤ → ℕ
-one_of x = cond (is_some x) 1 0
-
 count_more : (x : Option ℤ) (xs : List (Option ℤ)) → values_in (x ∷ xs) ≡ cond (is_some x) 1 0 + values_in xs
 count_more x xs = sum_by-cons (λ (y : Option ℤ). cond (is_some y) 1 0) x xs
 

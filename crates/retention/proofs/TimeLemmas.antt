@@ -1,10 +1,11 @@
 -- Slots that stand before a time.
-use Rattle.std.proofs.Common.{◌≡◌, ℕ, ℤ, zero, suc, ◌+◌, ◌*◌, ◌<◌, ◌≤◌, Bool, true, false, cond, length, refl, ap, ◌∙◌, arith, inl, inr}
-use Rattle.std.specs.Prelude.{pos, int_lt, ◌<ℤ◌, ◌+ℤ◌, ◌↔◌}
-use Rattle.std.proofs.Math.Nat.{mul-le-mul_right, mul-lt-mul_of_pos_right}
+use Rattle.std.proofs.Common.{◌≡◌, ℕ, ℤ, zero, suc, ◌+◌, ◌-◌, ◌*◌, ◌<◌, ◌≤◌, Bool, true, false, cond, length, refl, sym, ap, ◌∙◌, arith, inl, inr}
+use Rattle.std.specs.Prelude.{pos, ◌/◌, ◌-ℤ◌, unsigned_abs, int_lt, ◌<ℤ◌, ◌≤ℤ◌, ◌+ℤ◌, ◌↔◌}
+use Rattle.std.proofs.Math.Nat.{le-div_iff_mul-le, mul-le-mul_right, mul-lt-mul_of_pos_right}
 use Rattle.std.proofs.lemmas.Bool.{cases_lt}
 use Rattle.std.proofs.lemmas.Int.{ints}
 use Rattle.series_book.specs.declared.one_series.Series.{Series}
+use Rattle.series_book.specs.Edits.{distance}
 use Rattle.series_book.specs.Pages.{count_below}
 use Rattle.retention.specs.Sweeps.{slot_time, slots_before}
 
@@ -123,3 +124,32 @@ before_slot series n some within = before_count series (slot_time series n) n wi
     | inr up ↦ absurd (no_earlier series.start (slot * series.step) (n * series.step) (mul-le-mul_right series.step up) early)
   ],
 ))
+
+-- none stands before the start
+none_early : (start time : ℤ) (n : ℕ) → time ≤ℤ start → (start +ℤ pos n) <ℤ time → ⊥
+none_early start time n late early = omega (arith, ints, late, early)
+
+pub before_none : (series : Series) (time : ℤ) → time ≤ℤ series.start → 0 ≡ slots_before series time
+before_none series time late = sym (before_count series time 0 (omega arith) (λ slot within. (λ low. absurd (omega (arith, low)), λ early. absurd (none_early series.start time (slot * series.step) late early))))
+
+-- one stands before a time where it is nearer to the start
+nearer : (start time : ℤ) (n : ℕ) → start <ℤ time → (n ≤ unsigned_abs (time -ℤ start) - 1) ↔ ((start +ℤ pos n) <ℤ time)
+nearer start time n late = (λ low. grind (arith, ints), λ early. grind (arith, ints))
+
+pub before_place : (series : Series) (time : ℤ) (slot : ℕ) → 1 ≤ series.step → series.start <ℤ time → (slot ≤ (distance series time - 1) / series.step) ↔ (slot_time series slot <ℤ time)
+before_place series time slot some late =
+    let d : ℕ = distance series time - 1 in
+    let steps : (slot ≤ d / series.step) ↔ (slot * series.step ≤ d) = le-div_iff_mul-le some in
+    let times : (slot * series.step ≤ d) ↔ (slot_time series slot <ℤ time) = nearer series.start time (slot * series.step) late in
+    (λ low. times.0 (steps.0 low), λ early. steps.1 (times.1 early))
+
+pub before_all : (series : Series) (time : ℤ) (place : ℕ) → 1 ≤ series.step → series.start <ℤ time → place ≡ (distance series time - 1) / series.step → length series.slots ≤ place → length series.slots ≡ slots_before series time
+before_all series time place some late is far =
+    sym (before_count series time (length series.slots) (omega arith) (λ slot within. (λ low. (before_place series time slot some late).0 (omega (arith, far, within, is)), λ early. within)))
+
+pub before_some : (series : Series) (time : ℤ) (place : ℕ) → 1 ≤ series.step → series.start <ℤ time → place ≡ (distance series time - 1) / series.step → place < length series.slots → place + 1 ≡ slots_before series time
+before_some series time place some late is near =
+    sym (before_count series time (place + 1) (omega (arith, near)) (λ slot within. (
+      λ low. (before_place series time slot some late).0 (omega (arith, low, is)),
+      λ early. let low = (before_place series time slot some late).1 early in omega (arith, low, is),
+    )))

@@ -1,3 +1,6 @@
 pub mod Sweeps
 pub mod Drops
 pub mod Steps
+pub mod Moving
+pub mod Sweeping
+pub mod Stepping

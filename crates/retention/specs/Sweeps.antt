@@ -1,5 +1,5 @@
 -- Which clears a rule makes of a book.
-use Rattle.std.specs.Prelude.{ℕ, zero, suc, ℤ, pos, ◌+◌, ◌-◌, ◌*◌, ◌/◌, ◌+ℤ◌, min, Bool, nat_le, int_lt, if◌then◌else◌, List, [], ◌∷◌, take, drop, length, map, slice_get, position, count_by, sum_by, Option, None, Some, is_some}
+use Rattle.std.specs.Prelude.{◌≡◌, ℕ, zero, suc, ℤ, pos, ◌+◌, ◌-◌, ◌*◌, ◌/◌, ◌+ℤ◌, min, Bool, nat_le, int_lt, if◌then◌else◌, List, [], ◌∷◌, take, drop, length, map, slice_get, position, count_by, sum_by, Option, None, Some, is_some}
 use Rattle.std.specs.List.{list_any, filter, range_with_len}
 use Rattle.series_book.specs.declared.limits.TheConstants.{MOST_CLEARED, PAGE_SLOTS}
 use Rattle.series_book.specs.declared.one_series.Series.{Series}
@@ -114,3 +114,21 @@ abbrev pub sweeps : ℕ → List Series → Rule → List Edit
 sweeps total book (Before name time) = clears_if name (named book name) (λ series. slots_before series time)
 sweeps total book (Last name count) = clears_if name (named book name) (λ series. length series.slots - count)
 sweeps total book (Free pages) = frees total pages (values_of book) book
+
+-- the rule names a series that the book hasn't
+abbrev pub NamesNone : List Series → Rule → Type 0
+NamesNone book (Before name time) = id_of name book ≡ None
+NamesNone book (Last name count) = id_of name book ≡ None
+NamesNone book (Free pages) = ⊥
+
+-- the rule names the series of this name
+abbrev pub Names : Rule → List ℕ → Type 0
+Names (Before named time) name = named ≡ name
+Names (Last named count) name = named ≡ name
+Names (Free pages) name = ⊥
+
+-- how many first slots of a series are old by a rule that names it
+abbrev pub old_slots : Rule → Series → ℕ
+old_slots (Before name time) series = slots_before series time
+old_slots (Last name count) series = length series.slots - count
+old_slots (Free pages) series = 0

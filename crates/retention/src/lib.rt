@@ -8,7 +8,18 @@
 //! No command uses this crate yet. Words of a command line, its answers and its codes are left to the layer above.
 #![tactic(auto)]
 
+mod asking;
+mod clearing;
+mod clears;
+mod freeing;
 pub mod laws;
+mod oldest;
 mod rule;
+mod sweep_error;
+mod sweeping;
+mod swept;
 
 pub use rule::Rule;
+pub use sweep_error::SweepError;
+pub use sweeping::sweep;
+pub use swept::Swept;

@@ -6,6 +6,8 @@ ghost use Rattle.om3_coeff.specs.Spans.{IsProperIfAny};
 ghost use Rattle.om3_coeff.specs.View.{Agrees};
 ghost use Rattle.series_book.specs.declared.one_series.Series.{Series};
 ghost use Rattle.series_book.specs.Edits.{id_of};
+ghost use Rattle.series_book.specs.Pages.{pages_of};
+ghost use Rattle.page_space.specs.Layout.{in_use};
 ghost use Rattle.series_store.specs.Asking.{IsFound, IsInfo};
 ghost use Rattle.series_store.specs.Changing.{IsIdle};
 ghost use Rattle.series_catalog.specs.declared.stored_series.StoredSeries.{StoredSeries};
@@ -26,6 +28,15 @@ impl<P: Pages> Store<P> {
         ensures books { shown.ForSoundBook self.now (λ total book. result ≡ total) }
     {
         self.space.total()
+    }
+
+    /// How many pages are in use, page 0 and the catalog among them. Nothing is read.
+    pub fn used(&self) -> u32
+        ensures used { result ≡ in_use (shown.numbers self.now) }
+        ensures within { result ≤ shown.total self.now }
+        ensures books { shown.ForSoundBook self.now (λ total book. result ≡ pages_of book) }
+    {
+        self.space.used()
     }
 
     /// How many series there are, at most 512.

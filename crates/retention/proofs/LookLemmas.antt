@@ -1,0 +1,204 @@
+-- Calls that read pages and change nothing else.
+use Rattle.std.proofs.Common.{◌≡◌, ℕ, zero, suc, ◌<◌, ◌≤◌, List, [], ◌∷◌, length, Some, refl, sym, ap, subst, inl, inr, ◌∙◌, arith}
+use Rattle.std.proofs.lemmas.Option.{slice_get_within}
+use Rattle.std.specs.List.{slice_get}
+use Rattle.block_disk.specs.View.{Image, View, Now}
+use Rattle.block_disk.proofs.Passing.{passes_none, passes_weaker, now_back}
+use Rattle.catalog_page.specs.Entries.{Entry}
+use Rattle.gate_pages.specs.declared.pages.Pages.{Ghosts}
+use Rattle.gate_pages.specs.GateLaws.{goes_none, goes_then}
+use Rattle.gate_pages.specs.Pages.{GoesOn, Quiet}
+use Rattle.om3_coeff.specs.View.{NodesView}
+use Rattle.om3_coeff.specs.declared.errors.NodeError.TheVariants as node
+use Rattle.gate_pages.proofs.Moving.{time_then}
+use Rattle.page_space.specs.Layout.{Keeps as KeepsPage}
+use Rattle.page_space.specs.Shown as spaces
+use Rattle.page_space.specs.declared.space.Space.{Space}
+use Rattle.page_space.specs.declared.superblock.Superblock.{Superblock}
+use Rattle.series_catalog.specs.Catalogs.{AreAsTold}
+use Rattle.series_catalog.specs.declared.catalog.Catalog.{Catalog}
+use Rattle.series_catalog.specs.declared.stored_series.StoredSeries.{StoredSeries}
+use Rattle.series_catalog.specs.Shown.{series_in}
+use Rattle.series_book.specs.declared.one_series.Series.{Series}
+use Rattle.series_store.proofs.AskLemmas.{kept_as}
+use Rattle.series_store.specs.Results.{Moves}
+use Rattle.stored_book.specs.Standing.{IsStore}
+use Rattle.tree_walk.specs.Trees.{StandsFor}
+use Rattle.tree_walk.proofs.StandingLemmas.{standing_sound}
+use Rattle.stored_book.specs.Damage.{IsBadForRequest}
+use Rattle.stored_book.specs.Records.{tree_of}
+use Rattle.tree_walk.specs.Paths.{IsDamaged}
+use Rattle.tree_walk.specs.PagedNodes.{Keeps, ground}
+use Rattle.tree_walk.specs.declared.tree.Tree.{Tree}
+use Rattle.retention.specs.Moving.{Carries, Looks}
+use Rattle.retention.specs.Sweeping.{IsAskCause, IsBadPage, IsOutside, IsReadCause, IsSweepCause}
+use Rattle.retention.specs.declared.sweep_error.SweepError.{SweepError}
+use Rattle.retention.specs.declared.sweep_error.SweepError.TheVariants.{UnknownSeries, DiskFault, Damaged, NoMemory}
+
+pub looks_none : (told : Type 0) (at under : View) (s : Superblock) (catalog : Catalog) → Looks told told at at under under s s catalog catalog
+looks_none told at under s catalog = record {
+  time = passes_none at (Now at) (Quiet at);
+  goes_on = goes_none under;
+  told = λ t. t;
+  was_told = λ t. t;
+  image = λ t. refl;
+  size = refl;
+  beside = refl;
+  fit = λ f. f;
+  faults = omega arith;
+  syncs = refl;
+  writes = refl;
+  superblock = refl;
+  catalog_is = refl;
+}
+
+pub looks_then : (told told' told'' : Type 0) (old mid new under under' under'' : View) (s s' s'' : Superblock) (catalog catalog' catalog'' : Catalog)
+    → Looks told told' old mid under under' s s' catalog catalog' → Looks told' told'' mid new under' under'' s' s'' catalog' catalog'' → Looks told told'' old new under under'' s s'' catalog catalog''
+looks_then told told' told'' old mid new under under' under'' s s' s'' catalog catalog' catalog'' first second = record {
+  time = time_then old mid new (Now old) first.time
+      (passes_weaker mid new (Now mid) (Now old) (Quiet mid) (Quiet mid) (now_back old mid (Quiet old) first.time) (λ count quiet. quiet) second.time);
+  goes_on = goes_then under under' under'' first.goes_on second.goes_on;
+  told = λ t. second.told (first.told t);
+  was_told = λ t. first.was_told (second.was_told t);
+  image = λ t. second.image (first.told t) ∙ first.image t;
+  size = second.size ∙ first.size;
+  beside = second.beside ∙ first.beside;
+  fit = λ f. second.fit (first.fit f);
+  faults = omega (arith, first.faults, second.faults);
+  syncs = second.syncs ∙ first.syncs;
+  writes = second.writes ∙ first.writes;
+  superblock = second.superblock ∙ first.superblock;
+  catalog_is = second.catalog_is ∙ first.catalog_is;
+}
+
+-- the same space
+pub looks_same : {P : Type 0} → {g : Ghosts P} → (space space' : Space P g) (catalog catalog' : Catalog) → space' ≡ space → catalog' ≡ catalog
+    → Looks (spaces.IsTold space) (spaces.IsTold space') (spaces.view space) (spaces.view space') (spaces.under space) (spaces.under space') (spaces.numbers space) (spaces.numbers space') catalog catalog'
+looks_same {P} {g} space space' catalog catalog' same same_catalog =
+    let S : Space P g → Type 0 = λ x. Looks (spaces.IsTold space) (spaces.IsTold x) (spaces.view space) (spaces.view x) (spaces.under space) (spaces.under x) (spaces.numbers space) (spaces.numbers x) catalog catalog' in
+    let C : Catalog → Type 0 = λ x. Looks (spaces.IsTold space) (spaces.IsTold space) (spaces.view space) (spaces.view space) (spaces.under space) (spaces.under space) (spaces.numbers space) (spaces.numbers space) catalog x in
+    subst S (sym same) (subst C (sym same_catalog) (looks_none (spaces.IsTold space) (spaces.view space) (spaces.under space) (spaces.numbers space) catalog))
+
+-- asks of nodes
+pub looks_asked : (told told' : Type 0) (old new under under' : View) (s s' : Superblock) (tree tree' : Tree) (catalog catalog' : Catalog) → Keeps (ground told old under s tree) (ground told' new under' s' tree') → old.faults ≤ new.faults → catalog' ≡ catalog → Looks told told' old new under under' s s' catalog catalog'
+looks_asked told told' old new under under' s s' tree tree' catalog catalog' kept faults same = record {
+  time = record { later = kept.time.later; past = kept.time.past; kept = kept.time.kept; here = kept.time.here; sent_past = kept.time.sent_past; sent_here = kept.time.sent_here };
+  goes_on = kept.goes_on;
+  told = kept.told;
+  was_told = kept.was_told;
+  image = kept.image;
+  size = kept.count;
+  beside = kept.beside;
+  fit = kept.fit;
+  faults = faults;
+  syncs = kept.syncs;
+  writes = kept.writes;
+  superblock = kept.superblock;
+  catalog_is = same;
+}
+
+pub there : {A : Type 0} (list : List A) (id : ℕ) → id < length list → (a : A) × (slice_get list id ≡ Some a)
+there {A} [] id low = absurd (omega (arith, low))
+there {A} (x ∷ xs) zero low = (x, refl)
+there {A} (x ∷ xs) (suc id) low = there xs id (omega (arith, low))
+
+-- a page of which the nodes of a series tell is damaged on the way to a key of its tree
+pub bad_in : (told : Type 0) (view : View) (s : Superblock) (items : List StoredSeries) (id : ℕ) (one : StoredSeries) (tree : Tree) (page : ℕ) → (told → KeepsPage view.size s (view.image 0)) → length items ≡ s.series → (told → AreAsTold view.image items)
+    → slice_get items id ≡ Some one → tree ≡ one.tree → (page < s.total) × (told → IsDamaged view.image s.total tree page) → IsBadPage told s.total view page
+bad_in told view s items id one tree page keeps count says at same is =
+    let E : Entry → Type 0 = λ e. IsDamaged view.image s.total (tree_of e) page in
+    let T : Tree → Type 0 = λ t. IsDamaged view.image s.total t page in (
+      is.0,
+      λ t. record {
+        numbers = s;
+        keeps = keeps t;
+        so = (
+          is.0,
+          inl (record {
+            id = id;
+            there = omega (arith, slice_get_within items id one at, count);
+            damaged = subst E (sym (says t id one at)) (subst T same (is.1 t));
+          }),
+        );
+      },
+    )
+
+-- and where the pages stand for a book, none is
+pub whole_in : (image : Image) (s : Superblock) (book : List Series) (items : List StoredSeries) (id : ℕ) (one : StoredSeries) (two : Series) (tree : Tree) (page : ℕ) → IsStore image s book → AreAsTold image items → slice_get items id ≡ Some one → slice_get book id ≡ Some two → tree ≡ one.tree → IsDamaged image s.total tree page → ⊥
+whole_in image s book items id one two tree page store told at at' same damaged =
+    let is = kept_as image s book items id one two store told at at' in
+    let P : Tree → Type 0 = λ t. StandsFor image s.total t two.slots in
+    standing_sound image s.total tree two.slots page (subst P (sym same) is.tree) damaged
+
+-- what was bad before a look is so behind it
+pub bad_later : (told told' : Type 0) (old new under under' : View) (s s' : Superblock) (catalog catalog' : Catalog) (total page : ℕ) → Looks told told' old new under under' s s' catalog catalog' → IsBadPage told total old page → IsBadPage told' total new page
+bad_later told told' old new under under' s s' catalog catalog' total page looks bad =
+    let I : Image → Type 0 = λ i. IsBadForRequest old.size i page in
+    let C : ℕ → Type 0 = λ n. IsBadForRequest n new.image page in
+    (bad.0, λ t. subst C (sym looks.size) (subst I (sym (looks.image (looks.was_told t))) (bad.1 (looks.was_told t))))
+
+-- why asks gave no answer is why a clear wasn't found
+pub ask_fails : (e : SweepError) (told told' : Type 0) (before old new under under' : View) (s s' : Superblock) (catalog catalog' : Catalog) (nodes nodes' : NodesView) (total : ℕ) → Looks told told' old new under under' s s' catalog catalog'
+    → before.faults ≤ old.faults → nodes.faults ≡ old.faults → nodes'.faults ≡ new.faults → ((page : ℕ) → nodes.bad (node.Damaged page) → IsBadPage told total old page) → IsAskCause nodes nodes' e → IsReadCause e told' total before new
+ask_fails UnknownSeries told told' before old new under under' s s' catalog catalog' nodes nodes' total looks low first last bad cause = absurd cause
+ask_fails DiskFault told told' before old new under under' s s' catalog catalog' nodes nodes' total looks low first last bad cause = elim cause [
+  | inl risen ↦ inl (omega (arith, low, first, last, risen))
+  | inr full ↦ inr (omega (arith, last, full))
+]
+ask_fails (Damaged page) told told' before old new under under' s s' catalog catalog' nodes nodes' total looks low first last bad cause =
+    bad_later told told' old new under under' s s' catalog catalog' total page looks (bad page cause)
+ask_fails NoMemory told told' before old new under under' s s' catalog catalog' nodes nodes' total looks low first last bad cause = absurd cause
+
+pub ask_outside : (e : SweepError) (nodes nodes' : NodesView) → ((page : ℕ) → nodes.bad (node.Damaged page) → ⊥) → IsAskCause nodes nodes' e → IsOutside e
+ask_outside UnknownSeries nodes nodes' none cause = absurd cause
+ask_outside DiskFault nodes nodes' none cause = tt
+ask_outside (Damaged page) nodes nodes' none cause = absurd (none page cause)
+ask_outside NoMemory nodes nodes' none cause = absurd cause
+
+-- why a look behind another failed
+pub fails_later : (e : SweepError) (told : Type 0) (total total' : ℕ) (before old new : View) → before.faults ≤ old.faults → total' ≡ total → IsReadCause e told total' old new → IsReadCause e told total before new
+fails_later UnknownSeries told total total' before old new low same cause = absurd cause
+fails_later DiskFault told total total' before old new low same cause = elim cause [
+  | inl risen ↦ inl (omega (arith, low, risen))
+  | inr full ↦ inr full
+]
+fails_later (Damaged page) told total total' before old new low same cause = (omega (arith, cause.0, same), cause.1)
+fails_later NoMemory told total total' before old new low same cause = tt
+
+pub read_sweeps : (e : SweepError) (told : Type 0) (total : ℕ) (old new : View) → IsReadCause e told total old new → IsSweepCause e told total old new
+read_sweeps UnknownSeries told total old new cause = absurd cause
+read_sweeps DiskFault told total old new cause = cause
+read_sweeps (Damaged page) told total old new cause = cause
+read_sweeps NoMemory told total old new cause = tt
+
+pub carries_none : (told : Type 0) (at under : View) (total count : ℕ) → Carries told told at at under under total total count count
+carries_none told at under total count = record { told = λ t. t; was_told = λ t. t; size = refl; beside = refl; faults = omega arith; goes_on = goes_none under; total_is = refl; more = omega arith }
+
+pub carries_looks : (told told' : Type 0) (old new under under' : View) (s s' : Superblock) (catalog catalog' : Catalog) → Looks told told' old new under under' s s' catalog catalog' → Carries told told' old new under under' s.total s'.total (length (series_in catalog)) (length (series_in catalog'))
+carries_looks told told' old new under under' s s' catalog catalog' looks = record {
+  told = looks.told;
+  was_told = looks.was_told;
+  size = looks.size;
+  beside = looks.beside;
+  faults = looks.faults;
+  goes_on = looks.goes_on;
+  total_is = ap (λ (x : Superblock). x.total) looks.superblock;
+  more = omega (arith, ap (λ (x : Catalog). length (series_in x)) looks.catalog_is);
+}
+
+pub carries_edit : (told told' : Type 0) (old new under under' : View) (total total' count count' : ℕ) → Moves told told' old new → GoesOn under under' → total' ≡ total → count ≤ count' → Carries told told' old new under under' total total' count count'
+carries_edit told told' old new under under' total total' count count' moves on same more =
+    record { told = moves.told; was_told = moves.was_told; size = moves.size; beside = moves.beside; faults = moves.faults; goes_on = on; total_is = same; more = more }
+
+pub carries_then : (told told' told'' : Type 0) (old mid new under under' under'' : View) (total total' total'' count count' count'' : ℕ) → Carries told told' old mid under under' total total' count count' → Carries told' told'' mid new under' under'' total' total'' count' count''
+    → Carries told told'' old new under under'' total total'' count count''
+carries_then told told' told'' old mid new under under' under'' total total' total'' count count' count'' first second = record {
+  told = λ t. second.told (first.told t);
+  was_told = λ t. first.was_told (second.was_told t);
+  size = second.size ∙ first.size;
+  beside = second.beside ∙ first.beside;
+  faults = omega (arith, first.faults, second.faults);
+  goes_on = goes_then under under' under'' first.goes_on second.goes_on;
+  total_is = second.total_is ∙ first.total_is;
+  more = omega (arith, first.more, second.more);
+}

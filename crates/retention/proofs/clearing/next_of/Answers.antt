@@ -1,0 +1,22 @@
+use Rattle.series_store.specs.Shown as shown
+use Rattle.retention.proofs.LookLemmas.{ask_outside}
+use Rattle.retention.proofs.NextLemmas.{clear_is, none_first, some_first}
+use Rattle.retention.proofs.clearing.next_of.Goals as goal
+
+pub returns-in-Err-clause-outside : goal.returns-in-Err-clause-outside
+returns-in-Err-clause-outside g c = λ total book series told stands at.
+    ask_outside c.in-Err.error (shown.nodes c.selected-axis.new.store) (shown.nodes c.first_stored.new.store) (c.selected-axis.ensures.whole total book series told stands at) c.in-Err.ensures.cause
+
+pub returns-in_default-clause-first : goal.returns-in_default-clause-first
+returns-in_default-clause-first g c = λ total book series told stands at.
+    none_first series.slots c.old_slots-old.result _ c.in-Ok.found (c.old_slots-old.ensures.old series (c.selected-axis.ensures.axis total book series told stands at)) c.in_default.is
+    (c.in-Ok.ensures.first series.slots (c.selected-axis.ensures.agrees total book series told stands at))
+
+pub returns-clause-first : goal.returns-clause-first
+returns-clause-first g c = λ total book series told stands at.
+    let axis = c.selected-axis.ensures.axis total book series told stands at in
+    let same = c.old_slots-old.ensures.old series axis in
+    clear_is c.args.name.now series c.old_slots-old.result _ c.in-Some.slot c.in-Some.field-0-1 c.in_ok-clear.clear same
+    (some_first series.slots c.old_slots-old.result _ c.in-Ok.found (c.in-Some.slot, c.in-Some.field-0-1) same c.in-Some.is
+    (c.in-Ok.ensures.first series.slots (c.selected-axis.ensures.agrees total book series told stands at)))
+    (c.in_ok-clear.ensures.clear series axis)

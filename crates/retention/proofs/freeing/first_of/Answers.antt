@@ -1,0 +1,22 @@
+use Rattle.std.proofs.Common.{refl}
+use Rattle.series_store.specs.Shown as shown
+use Rattle.retention.proofs.LookLemmas.{ask_outside}
+use Rattle.retention.proofs.NextLemmas.{kept_none, kept_some, none_first, some_first}
+use Rattle.retention.proofs.freeing.first_of.Goals as goal
+
+pub returns-in-Err-clause-outside : goal.returns-in-Err-clause-outside
+returns-in-Err-clause-outside g c = λ total book series told stands at.
+    ask_outside c.in-Err.error (shown.nodes c.selected-axis.new.store) (shown.nodes c.first_stored.new.store) (c.selected-axis.ensures.whole total book series told stands at) c.in-Err.ensures.cause
+
+pub returns-in_default-clause-first : goal.returns-in_default-clause-first
+returns-in_default-clause-first g c = λ total book series told stands at.
+    kept_none c.args.id series
+    (none_first series.slots c.selected-axis.result.slots _ c.in-Ok.found (c.selected-axis.ensures.axis total book series told stands at).slots c.in_default.is
+    (c.in-Ok.ensures.first series.slots (c.selected-axis.ensures.agrees total book series told stands at)))
+
+pub returns-clause-first : goal.returns-clause-first
+returns-clause-first g c = λ total book series told stands at.
+    let axis = c.selected-axis.ensures.axis total book series told stands at in
+    kept_some c.args.id series (c.in-Some.slot, c.in-Some.field-0-1) _
+    (some_first series.slots c.selected-axis.result.slots _ c.in-Ok.found (c.in-Some.slot, c.in-Some.field-0-1) axis.slots c.in-Some.is
+    (c.in-Ok.ensures.first series.slots (c.selected-axis.ensures.agrees total book series told stands at))) refl axis refl

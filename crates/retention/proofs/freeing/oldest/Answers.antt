@@ -1,0 +1,46 @@
+use Rattle.std.proofs.Common.{◌<◌, Some, length, sym, ap, subst, arith}
+use Rattle.block_disk.specs.View.{Image}
+use Rattle.series_catalog.specs.Shown.{series_in}
+use Rattle.series_catalog.specs.declared.catalog.Catalog.{Catalog}
+use Rattle.series_store.specs.Shown as shown
+use Rattle.stored_book.specs.Standing.{StandsForBook}
+use Rattle.retention.specs.Sweeps.{found_at, oldest_among}
+use Rattle.retention.proofs.LookLemmas.{looks_none, looks_then, there}
+use Rattle.retention.proofs.NextLemmas.{kept_all, kept_more, kept_zero}
+use Rattle.retention.proofs.freeing.oldest.Goals as goal
+
+pub loop-id-init : goal.loop-id-init
+loop-id-init g c =
+    let store = c.args.store.now in
+    record { sound = c.requires.sound; looks = looks_none (shown.IsTold store) (shown.view store) (shown.under store) (shown.numbers store) store.catalog; best = λ total book told stands. kept_zero book }
+
+pub first_of-requires-clause-there : goal.first_of-requires-clause-there
+first_of-requires-clause-there g c = omega (arith, c.loop-id-test.true, c.len-count.ensures.count, ap (λ (k : Catalog). length (series_in k)) c.loop-id.invariant.looks.catalog_is)
+
+pub loop-id-preserved : goal.loop-id-preserved
+loop-id-preserved g c =
+    let was = c.loop-id.invariant in
+    record {
+      sound = c.in-Ok.ensures.looks.fit was.sound;
+      looks = looks_then _ _ _ _ _ _ _ _ _ _ _ _ _ _ _ was.looks c.in-Ok.ensures.looks;
+      best = λ total book told stands.
+          let S : Image → Type 0 = λ i. StandsForBook i total book in
+          let stands' = subst S (sym (was.looks.image told)) stands in
+          let low : c.loop-id.id < length book = omega (arith, c.loop-id-test.true, c.len-count.ensures.books total book c.requires.sound told stands) in
+          let one = there book c.loop-id.id low in
+          kept_more book c.loop-id.id one.0 c.older-best.result one.1
+          (c.older-best.ensures (oldest_among book c.loop-id.id) (found_at c.loop-id.id (Some one.0)) (was.best total book told stands) (c.in-Ok.ensures.first total book one.0 (was.looks.told told) stands' one.1));
+    }
+
+pub returns-in-Err-clause-outside : goal.returns-in-Err-clause-outside
+returns-in-Err-clause-outside g c = λ total book told stands.
+    let was = c.loop-id.invariant in
+    let S : Image → Type 0 = λ i. StandsForBook i total book in
+    let stands' = subst S (sym (was.looks.image told)) stands in
+    let low : c.loop-id.id < length book = omega (arith, c.loop-id-test.true, c.len-count.ensures.books total book c.requires.sound told stands) in
+    let one = there book c.loop-id.id low in
+    c.in-Err.ensures.outside total book one.0 (was.looks.told told) stands' one.1
+
+pub returns-clause-oldest : goal.returns-clause-oldest
+returns-clause-oldest g c = λ total book told stands.
+    kept_all book c.loop-id.id c.len-count.result c.loop-id.best c.loop-id.auto.id-end c.loop-id-test.false (c.len-count.ensures.books total book c.requires.sound told stands) (c.loop-id.invariant.best total book told stands)

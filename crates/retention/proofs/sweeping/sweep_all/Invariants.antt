@@ -1,0 +1,19 @@
+use Rattle.std.proofs.Common.{ℕ, List, ◌+◌, ◌*◌, ◌-◌, ◌≤◌}
+use Rattle.series_book.specs.declared.one_series.Series.{Series}
+use Rattle.series_store.specs.Shown as shown
+use Rattle.stored_book.specs.Standing.{StandsForBook}
+use Rattle.retention.specs.Moving.{CarriesOn}
+use Rattle.retention.proofs.SweepLemmas.{Going}
+use Rattle.retention.proofs.sweeping.sweep_all.Given as goal
+
+-- the clears so far were done
+abbrev pub invariant-clearing : goal.invariant-clearing
+invariant-clearing g l = record {
+  sound : shown.IsSound l.store;
+  carries : CarriesOn l.initial.store l.store;
+  syncs : (shown.view l.store).syncs ≤ (shown.view l.initial.store).syncs + 4 * l.clears;
+  going : (total : ℕ) (book : List Series) → shown.IsTold l.initial.store → StandsForBook (shown.image l.initial.store) total book → Going total book l.rule l.clears (shown.view l.initial.store) (shown.view l.store);
+}
+
+abbrev pub decreases-clearing : goal.decreases-clearing
+decreases-clearing g l = 137438953472 - l.clears

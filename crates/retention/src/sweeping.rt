@@ -1,0 +1,161 @@
+//! The clears of a rule are done, one commit each.
+ghost use Rattle.std.specs.Prelude.{◌≡◌, ◌≢◌, ◌≤◌, ◌+◌, ◌*◌, ◌↔◌, ℕ, List, Ok, Err, true, false, length, IfOk, IfErr, IfSome, OnOk};
+ghost use Rattle.block_disk.specs.View.{View, Passes};
+ghost use Rattle.gate_pages.specs.Pages.{Quiet};
+ghost use Rattle.series_book.specs.declared.one_series.Series.{Series};
+ghost use Rattle.series_book.specs.Edits.{IsEdit, apply};
+ghost use Rattle.series_store.specs.Shown as shown;
+ghost use Rattle.stored_book.specs.Standing.{StandsForBook};
+ghost use Rattle.retention.specs.Moving.{CarriesOn, LooksOnly};
+ghost use Rattle.retention.specs.Stepping.{ClearsTo, StepsSo, clear_error};
+ghost use Rattle.retention.specs.Sweeping.{FailsFor, IsNextOrNone, IsOutside, IsSoundFor, IsSwept, PassesSome, ReadFails, StopsSo};
+ghost use Rattle.retention.specs.Sweeps.{NamesNone};
+
+use crate::clearing::next_named;
+use crate::freeing::next_free;
+use crate::rule::Rule;
+use crate::sweep_error::SweepError;
+use crate::swept::Swept;
+use gate_pages::Pages;
+use series_book::Edit;
+use series_store::{Store, StoreError};
+
+/// As many slots as a book may have: 512 series of 2^28 slots. Each clear takes a value.
+const MOST_CLEARS: u64 = 137_438_953_472;
+
+/// What an error of a clear is for a sweep.
+fn clear_error(cause: StoreError) -> SweepError
+    ensures { result ≡ clear_error cause }
+{
+    match cause {
+        StoreError::Refused(_) | StoreError::NotAStore => SweepError::NoMemory,
+        StoreError::DiskFault => SweepError::DiskFault,
+        StoreError::Damaged { page } => SweepError::Damaged { page },
+        StoreError::NoMemory => SweepError::NoMemory,
+    }
+}
+
+/// The next clear of a rule; none where it makes none.
+fn next_clear<P: Pages>(store: &mut Store<P>, rule: &Rule) -> Result<Option<Edit>, SweepError>
+    requires sound { shown.IsSound store.old }
+    ensures next { shown.ForBook store.old (λ total book. IfOk result (IsNextOrNone total book rule.now)) }
+    ensures is_edit { IfOk result (λ next. IfSome next IsEdit) }
+    ensures outside { shown.ForBook store.old (λ total book. IfErr result IsOutside) }
+    ensures cause { IfErr result (λ e. ReadFails e store.old store.new) }
+    ensures looks { LooksOnly store.old store.new }
+{
+    match rule {
+        Rule::Before { name, .. } => next_named(store, rule, name),
+        Rule::Last { name, .. } => next_named(store, rule, name),
+        Rule::Free { pages } => next_free(store, *pages),
+    }
+}
+
+/// Does a clear.
+fn do_clear<P: Pages>(store: &mut Store<P>, clear: &Edit) -> Result<(), SweepError>
+    requires sound { shown.IsSound store.old }
+    requires is_edit { IsEdit clear.now }
+    ensures done { shown.ForBook store.old (λ total book. (after : List Series) (slots : ℕ) → apply book total clear.now ≡ Ok (record { book = after; slots = slots }) → ClearsTo total book after result (shown.view store.old) (shown.view store.new)) }
+    ensures carries { CarriesOn store.old store.new }
+    ensures syncs { (shown.view store.new).syncs ≤ (shown.view store.old).syncs + 4 }
+    ensures cause { IfErr result (λ e. ReadFails e store.old store.new) }
+    ensures sound { OnOk result (shown.IsSound store.new) }
+    ensures sound_for { IfErr result (λ e. IsSoundFor e (shown.view store.new)) }
+{
+    match store.edit(clear) {
+        Ok(_) => Ok(()),
+        Err(cause) => Err(clear_error(cause)),
+    }
+}
+
+/// Does the next clear of a rule, if there is one, and answers whether there was.
+fn clear_next<P: Pages>(store: &mut Store<P>, rule: &Rule) -> Result<bool, SweepError>
+    requires sound { shown.IsSound store.old }
+    ensures steps { shown.ForBook store.old (λ total book. StepsSo total book rule.now result (shown.view store.old) (shown.view store.new)) }
+    ensures carries { CarriesOn store.old store.new }
+    ensures syncs { (shown.view store.new).syncs ≤ (shown.view store.old).syncs + 4 }
+    ensures idle { result ≡ Ok false → (shown.view store.new).syncs ≤ (shown.view store.old).syncs }
+    ensures cause { IfErr result (λ e. ReadFails e store.old store.new) }
+    ensures sound { OnOk result (shown.IsSound store.new) }
+    ensures sound_for { IfErr result (λ e. IsSoundFor e (shown.view store.new)) }
+{
+    let next = match next_clear(store, rule) {
+        Ok(next) => next,
+        Err(error) => return Err(error),
+    };
+    let Some(clear) = next else {
+        return Ok(false);
+    };
+    match do_clear(store, &clear) {
+        Ok(()) => Ok(true),
+        Err(error) => Err(error),
+    }
+}
+
+/// Does all clears of a rule.
+fn sweep_all<P: Pages>(store: &mut Store<P>, rule: &Rule) -> Result<Swept, SweepError>
+    requires sound { shown.IsSound store.old }
+    ensures known { IfErr result (λ e. e ≢ SweepError.UnknownSeries) }
+    ensures done { shown.ForBook store.old (λ total book. IfOk result (λ swept. IsSwept total book rule.now swept (shown.image store.new))) }
+    ensures stops { shown.ForBook store.old (λ total book. IfErr result (StopsSo total book rule.now (shown.image store.new))) }
+    ensures moments { shown.ForBook store.old (λ total book. PassesSome total book rule.now store.old store.new) }
+    ensures carries { CarriesOn store.old store.new }
+    ensures syncs { IfOk result (λ swept. (shown.view store.new).syncs ≤ (shown.view store.old).syncs + 4 * swept.clears) }
+    ensures cause { IfErr result (λ e. FailsFor e store.old store.new) }
+    ensures sound { OnOk result (shown.IsSound store.new) }
+    ensures sound_for { IfErr result (λ e. IsSoundFor e (shown.view store.new)) }
+{
+    let mut clears = 0;
+    'clearing: while clears < MOST_CLEARS {
+        let more = match clear_next(store, rule) {
+            Ok(more) => more,
+            Err(error) => return Err(error),
+        };
+        if !more {
+            let used = u64::from(store.used());
+            return Ok(Swept { clears, used });
+        }
+        clears += 1;
+    }
+    let used = u64::from(store.used());
+    Ok(Swept { clears, used })
+}
+
+/// Whether a rule names a series that isn't there.
+fn names_none<P: Pages>(store: &Store<P>, rule: &Rule) -> bool
+    requires sound { shown.IsSound store.now }
+    ensures none { shown.ForBook store.now (λ total book. result ≡ true → NamesNone book rule.now) }
+    ensures some { shown.ForBook store.now (λ total book. NamesNone book rule.now → result ≡ true) }
+{
+    match rule {
+        Rule::Before { name, .. } => store.series(name).is_none(),
+        Rule::Last { name, .. } => store.series(name).is_none(),
+        Rule::Free { .. } => false,
+    }
+}
+
+/// Drops old slots by a rule: does its clears, each in one commit, and answers how many they were and how many pages
+/// are in use behind them. specs/Sweeps.antt says which clears a rule makes of a book.
+///
+/// `UnknownSeries` comes exactly where the rule names a series that isn't there, and nothing is done then. After
+/// another error the clears that were done stay. After `DiskFault` the store may be unsound, and has to be opened
+/// again. Where the pages stand for a book, no page is damaged. Afterwards no series is selected, or any one.
+pub fn sweep<P: Pages>(store: &mut Store<P>, rule: &Rule) -> Result<Swept, SweepError>
+    requires sound { shown.IsSound store.old }
+    ensures unknown { shown.ForBook store.old (λ total book. (result ≡ Err SweepError.UnknownSeries) ↔ NamesNone book rule.now) }
+    ensures untouched { result ≡ Err SweepError.UnknownSeries → store.new ≡ store.old }
+    ensures done { shown.ForBook store.old (λ total book. IfOk result (λ swept. IsSwept total book rule.now swept (shown.image store.new))) }
+    ensures stops { shown.ForBook store.old (λ total book. IfErr result (StopsSo total book rule.now (shown.image store.new))) }
+    // a crash at any moment leaves the book behind some first clears of the rule
+    ensures moments { shown.ForBook store.old (λ total book. PassesSome total book rule.now store.old store.new) }
+    ensures carries { CarriesOn store.old store.new }
+    ensures syncs { IfOk result (λ swept. (shown.view store.new).syncs ≤ (shown.view store.old).syncs + 4 * swept.clears) }
+    ensures cause { IfErr result (λ e. FailsFor e store.old store.new) }
+    ensures sound { OnOk result (shown.IsSound store.new) }
+    ensures sound_for { IfErr result (λ e. IsSoundFor e (shown.view store.new)) }
+{
+    if names_none(store, rule) {
+        return Err(SweepError::UnknownSeries);
+    }
+    sweep_all(store, rule)
+}
