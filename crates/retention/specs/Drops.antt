@@ -1,11 +1,14 @@
 -- What sweeps leave of a book.
-use Rattle.std.specs.Prelude.{ℕ, ℤ, ◌≡◌, ◌≢◌, ◌<◌, ◌<ℤ◌, ◌≤ℤ◌, List, [], ◌∷◌, length, slice_get, Some, IsOk, ⊤}
+use Rattle.std.specs.Prelude.{ℕ, ℤ, ◌≡◌, ◌≢◌, ◌<◌, ◌<ℤ◌, ◌≤ℤ◌, List, [], ◌∷◌, length, slice_get, Some, IsOk, ⊤, ◌-◌, ◌≤◌, ◌⊎◌}
+use Rattle.series_book.specs.Pages.{pages_of}
+use Rattle.series_book.specs.Books.{IsBook}
+use Rattle.retention.specs.declared.rule.Rule.{Rule}
 use Rattle.om3_coeff.specs.Spans.{Holds}
 use Rattle.series_book.specs.declared.one_series.Series.{Series}
 use Rattle.series_book.specs.declared.edits.Edit.{Edit}
-use Rattle.series_book.specs.Edits.{apply}
-use Rattle.series_book.specs.EditLists.{book_behind}
-use Rattle.retention.specs.Sweeps.{Found, found_time, slot_time}
+use Rattle.series_book.specs.Edits.{apply, id_of}
+use Rattle.series_book.specs.EditLists.{book_behind, after_edits}
+use Rattle.retention.specs.Sweeps.{Found, found_time, slot_time, sweeps}
 
 -- each of the edits is accepted, one after the other
 abbrev pub AreAccepted : ℕ → List Series → List Edit → Type 0
@@ -43,3 +46,15 @@ pub record IsOldest (book : List Series) (found : Found) : Type 0 where
   pub holds : Holds found.series.slots found.slot value
   pub least : (id slot : ℕ) (series : Series) (value : ℤ) → slice_get book id ≡ Some series → Holds series.slots slot value → found_time found ≤ℤ slot_time series slot
   pub first : (id slot : ℕ) (series : Series) (value : ℤ) → id < found.id → slice_get book id ≡ Some series → Holds series.slots slot value → found_time found <ℤ slot_time series slot
+
+-- so of each book, and of the series of a name in it
+abbrev pub ForNamed : (ℕ → List Series → List ℕ → ℕ → Series → Type 0) → Type 0
+ForNamed IsSo = (total : ℕ) (book : List Series) (name : List ℕ) (id : ℕ) (series : Series) → IsBook book → id_of name book ≡ Some id → slice_get book id ≡ Some series → IsSo total book name id series
+
+-- the book behind the clears of a rule
+abbrev pub book_swept : ℕ → List Series → Rule → List Series
+book_swept total book rule = after_edits total book (sweeps total book rule)
+
+-- of so many pages in all so many are free beside those of the book, or it stores nothing
+abbrev pub HasFree : ℕ → ℕ → List Series → Type 0
+HasFree total pages book = (pages ≤ total - pages_of book) ⊎ HoldsNothing book

@@ -1,19 +1,16 @@
 //! What follows from the definitions. The functions do nothing: their contracts are the laws.
-ghost use Rattle.std.specs.Prelude.{◌≡◌, ℕ, ℤ, ◌+◌, ◌-◌, ◌<◌, ◌≤◌, ◌<ℤ◌, ◌↔◌, ◌⊎◌, List, Option, None, Some, length, slice_get};
+ghost use Rattle.std.specs.Prelude.{◌≡◌, ℕ, ℤ, ◌+◌, ◌-◌, ◌<◌, ◌≤◌, ◌<ℤ◌, ◌↔◌, List, None, Some, length};
 ghost use Rattle.series_book.specs.declared.one_series.Series.{Series};
 ghost use Rattle.series_book.specs.Books.{IsBook};
-ghost use Rattle.series_book.specs.Edits.{id_of};
-ghost use Rattle.series_book.specs.EditLists.{after_edits};
-ghost use Rattle.series_book.specs.Pages.{pages_of};
 ghost use Rattle.retention.specs.declared.rule.Rule.{Rule};
 ghost use Rattle.retention.specs.declared.rule.Rule.TheVariants.{Before, Last, Free};
-ghost use Rattle.retention.specs.Drops.{AreAccepted, HoldsNothing, IsOldest, LosesIn};
+ghost use Rattle.retention.specs.Drops.{AreAccepted, ForNamed, HasFree, HoldsNothing, IsOldest, LosesIn, book_swept};
 ghost use Rattle.retention.specs.Sweeps.{Found, oldest, slot_time, slots_before, sweeps};
 
 /// Each clear of a rule is accepted, one after the other, and leaves a book.
 pub fn clears_are_accepted()
     ensures accepted { (total : ℕ) (book : List Series) (rule : Rule) → IsBook book → AreAccepted total book (sweeps total book rule) }
-    ensures books { (total : ℕ) (book : List Series) (rule : Rule) → IsBook book → IsBook (after_edits total book (sweeps total book rule)) }
+    ensures books { (total : ℕ) (book : List Series) (rule : Rule) → IsBook book → IsBook (book_swept total book rule) }
 {}
 
 /// The slots before a time are those whose time is below it; as many stand before the time of a slot as before it.
@@ -25,18 +22,14 @@ pub fn slots_before_a_time()
 /// Behind the clears before a time the series has no value before it, and all other slots and series are as they were. So
 /// it is of all but the last slots, which are those before a time.
 pub fn old_slots_are_lost()
-    ensures before { (total : ℕ) (book : List Series) (name : List ℕ) (time : ℤ) (id : ℕ) (series : Series) → IsBook book → id_of name book ≡ Some id → slice_get book id ≡ Some series
-        → LosesIn (λ one slot. slot_time one slot <ℤ time) id book (after_edits total book (sweeps total book (Before name time))) }
-    ensures last { (total : ℕ) (book : List Series) (name : List ℕ) (count id : ℕ) (series : Series) → IsBook book → id_of name book ≡ Some id → slice_get book id ≡ Some series
-        → LosesIn (λ one slot. slot + count < length one.slots) id book (after_edits total book (sweeps total book (Last name count))) }
-    ensures same { (total : ℕ) (book : List Series) (name : List ℕ) (count id : ℕ) (series : Series) → IsBook book → id_of name book ≡ Some id → slice_get book id ≡ Some series
-        → sweeps total book (Last name count) ≡ sweeps total book (Before name (slot_time series (length series.slots - count))) }
+    ensures before { (time : ℤ) → ForNamed (λ total book name id series. LosesIn (λ one slot. slot_time one slot <ℤ time) id book (book_swept total book (Before name time))) }
+    ensures last { (count : ℕ) → ForNamed (λ total book name id series. LosesIn (λ one slot. slot + count < length one.slots) id book (book_swept total book (Last name count))) }
+    ensures same { (count : ℕ) → ForNamed (λ total book name id series. sweeps total book (Last name count) ≡ sweeps total book (Before name (slot_time series (length series.slots - count)))) }
 {}
 
 /// Behind the clears that free pages so many are free, or nothing is stored.
 pub fn pages_are_freed()
-    ensures { (total pages : ℕ) (book : List Series) → IsBook book
-        → (pages ≤ total - pages_of (after_edits total book (sweeps total book (Free pages)))) ⊎ HoldsNothing (after_edits total book (sweeps total book (Free pages))) }
+    ensures { (total pages : ℕ) (book : List Series) → IsBook book → HasFree total pages (book_swept total book (Free pages)) }
 {}
 
 /// The slot that the next of them clears is the oldest that is stored; none is where nothing is stored.

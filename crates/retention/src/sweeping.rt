@@ -139,7 +139,7 @@ fn names_none<P: Pages>(store: &Store<P>, rule: &Rule) -> bool
 ///
 /// `UnknownSeries` comes exactly where the rule names a series that isn't there, and nothing is done then. After
 /// another error the clears that were done stay. After `DiskFault` the store may be unsound, and has to be opened
-/// again. Where the pages stand for a book, no page is damaged. Afterwards no series is selected, or any one.
+/// again. Where the pages stand for a book, no page is damaged. Afterwards any series may be selected, or none.
 pub fn sweep<P: Pages>(store: &mut Store<P>, rule: &Rule) -> Result<Swept, SweepError>
     requires sound { shown.IsSound store.old }
     ensures unknown { shown.ForBook store.old (λ total book. (result ≡ Err SweepError.UnknownSeries) ↔ NamesNone book rule.now) }
