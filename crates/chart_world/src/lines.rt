@@ -176,6 +176,7 @@ impl Lines {
         ensures ready { IfSome result (λ text. HasLine self.now) }
         ensures text { IfSome result (λ text. text_of (before_first is_line_feed self.now.pending) ≡ Some text.now) }
         ensures short { IfSome result (λ text. length text.now ≤ 8192) }
+        ensures none { result ≡ None → HasLine self.now → text_of (before_first is_line_feed self.now.pending) ≡ None }
     {
         let before = self.pending_line()?;
         if before > LONGEST {
