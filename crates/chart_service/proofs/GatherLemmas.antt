@@ -83,7 +83,7 @@ spelled_length [] (e ∷ es) spells = absurd spells
 spelled_length (l ∷ ls) [] spells = absurd spells
 spelled_length (l ∷ ls) (e ∷ es) spells = omega (arith, spelled_length ls es spells.1)
 
-both_none : (front rest : List ℕ) → front ++ rest ≡ [] → (front ≡ []) × (rest ≡ [])
+pub both_none : (front rest : List ℕ) → front ++ rest ≡ [] → (front ≡ []) × (rest ≡ [])
 both_none [] rest none = (refl, none)
 both_none (b ∷ bs) rest none = absurd (cc (none))
 

@@ -30,3 +30,4 @@ pub mod Showing
 pub mod Openings
 pub mod Standing
 pub mod OneReply
+pub mod SyncLemmas

@@ -23,7 +23,7 @@ use Rattle.series_book.specs.Edits.{Edited, IsEdit, apply}
 use Rattle.series_book.proofs.EditListLemmas.{after_append, give_append}
 use Rattle.series_book.proofs.LawLemmas.{edits_keep}
 use Rattle.series_book.proofs.RefusalLemmas.{IsEditRefusal, edit_refuses}
-use Rattle.series_store.specs.Groups.{AreDone, IsNoneOrAll, PassesWhole, answer_of}
+use Rattle.series_store.specs.Groups.{AreDone, AreMany, IsNoneOrAll, PassesWhole, answer_of}
 use Rattle.series_store.specs.Opening.{IsOutside as store_outside}
 use Rattle.series_store.specs.declared.errors.StoreError.{StoreError}
 use Rattle.stored_book.specs.Standing.{StandsForBook}
@@ -213,14 +213,15 @@ pub group_outside : (e : StoreError) (s : ServiceError) → s ≡ group_end e �
 group_outside e s is (inl disk) = inl (is ∙ ap group_end disk)
 group_outside e s is (inr memory) = inr (is ∙ ap group_end memory)
 
-pub does_some : {T E : Type 0} (r : Result T E) (total : ℕ) (book : List Series) (edits : List Edit) (answers slice : List (Result Outcome Refusal)) (before now : List Frame) (image : Image) → slice ≡ answers → length answers ≤ length edits → AreDone total book edits answers image → OnOk r (now ≡ before ++ frames_of (map answer_of slice)) → OnOk r (DoesSome total book edits before now image)
-does_some (Ok t) total book edits answers slice before now image same within done is = record {
+pub does_some : {T E : Type 0} (r : Result T E) (total : ℕ) (book : List Series) (edits : List Edit) (answers slice : List (Result Outcome Refusal)) (before now : List Frame) (image : Image) → slice ≡ answers → length answers ≤ length edits → AreMany total book edits (length answers) → AreDone total book edits answers image → OnOk r (now ≡ before ++ frames_of (map answer_of slice)) → OnOk r (DoesSome total book edits before now image)
+does_some (Ok t) total book edits answers slice before now image same within many done is = record {
   covered = length answers;
   within = within;
+  many = many;
   frames_are = is ∙ ap (λ l. before ++ frames_of (map answer_of l)) same ∙ ap (λ l. before ++ frames_of l) done.answered;
   stands = done.stands;
 }
-does_some (Err e) total book edits answers slice before now image same within done is = tt
+does_some (Err e) total book edits answers slice before now image same within many done is = tt
 
 frames_length : (answers : List (Result Outcome Refusal)) → length (frames_of (map answer_of answers)) ≡ length answers
 frames_length answers = length-map (map answer_of answers) frame_of ∙ length-map answers answer_of

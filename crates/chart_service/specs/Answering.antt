@@ -1,5 +1,5 @@
 -- How the lines of an input are answered, by a service over a store.
-use Rattle.std.specs.Prelude.{◌≡◌, ℕ, List, ◌∷◌, length, Option, Err, IfSome}
+use Rattle.std.specs.Prelude.{◌≡◌, ◌<◌, ◌-◌, ◌^◌, ℕ, List, ◌∷◌, length, Option, Err, IfSome}
 use Rattle.block_disk.specs.View.{Image, sent_now}
 use Rattle.gate_pages.specs.declared.pages.Pages.{Ghosts}
 use Rattle.chart_frames.specs.declared.frame.Frame.{Frame}
@@ -13,6 +13,7 @@ use Rattle.chart_service.specs.Serving as serving
 use Rattle.chart_service.specs.Shown as shown
 use Rattle.chart_service.specs.State.{State}
 use Rattle.chart_service.specs.Stepping.{StandsAfter}
+use Rattle.chart_service.specs.Syncing.{SyncsLines}
 use Rattle.chart_service.specs.declared.failure.AnswerEnd.{AnswerEnd}
 use Rattle.chart_service.specs.declared.failure.AnswerEnd.TheVariants.{Serve, Reply}
 use Rattle.chart_service.specs.declared.failure.ServeEnd.{ServeEnd}
@@ -110,6 +111,11 @@ module _ {P : Type 0} {g : Ghosts P} {S F : Type 0} (sent : P → Option (List �
 abbrev pub ReadsByLines : {P : Type 0} {g : Ghosts P} → (P → Option (List ℕ)) → ℕ → List Series → Service P g → Service P g → Type 0
 ReadsByLines left total book old new =
     IfSome (left (shown.pages old)) (λ input. ReadsLines input (shown.state old total book) (shown.view old).reads (shown.view new).reads)
+
+-- the lines of the input sync no more often than they may, where the pieces are counted
+abbrev pub SyncsByLines : {P : Type 0} {g : Ghosts P} → (P → Option (List ℕ)) → (P → ℕ) → ℕ → List Series → Service P g → Service P g → Type 0
+SyncsByLines left pieces total book old new =
+    IfSome (left (shown.pages old)) (λ input. pieces (shown.pages new) < 2 ^ 64 - 1 → SyncsLines input total book (pieces (shown.pages new) - pieces (shown.pages old)) (shown.view old).syncs (shown.view new).syncs)
 
 -- while lines are answered a crash leaves the book from before, or the one after them
 abbrev pub LeavesBy : {P : Type 0} {g : Ghosts P} {S F : Type 0} → Makes S F → S → List (Option (List ℕ)) → ℕ → List Series → Service P g → Service P g → Type 0

@@ -14,6 +14,7 @@ use Rattle.series_book.specs.declared.one_series.Series.{Series}
 use Rattle.series_book.specs.declared.refusals.Refusal.{Refusal}
 use Rattle.series_book.specs.EditLists.{after_edits, edits_give}
 use Rattle.stored_book.specs.Standing.{StandsForBook}
+use Rattle.series_store.specs.Groups.{AreMany}
 use Rattle.series_store.specs.declared.errors.StoreError.{StoreError}
 use Rattle.series_store.specs.declared.errors.StoreError.TheVariants as store
 use Rattle.chart_service.specs.Replies.{refused}
@@ -46,10 +47,12 @@ frame_of (Err refusal) = refused refusal
 abbrev pub frames_of : List (Result ℕ Refusal) → List Frame
 frames_of given = map frame_of given
 
--- some first of the edits are done, and the frames that tell what they gave stand behind the others
+-- some first of the edits are done, all or as many as fill a commit, and the frames that tell what they gave stand behind
+-- the others
 pub record DoesSome (total : ℕ) (book : List Series) (edits : List Edit) (before now : List Frame) (image : Image) : Type 0 where
   pub covered : ℕ
   pub within : covered ≤ length edits
+  pub many : AreMany total book edits covered
   pub frames_are : now ≡ before ++ frames_of (edits_give total book (take covered edits))
   pub stands : StandsForBook image total (after_edits total book (take covered edits))
 

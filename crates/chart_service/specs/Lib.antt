@@ -7,6 +7,7 @@ pub mod Alone
 pub mod Stepping
 pub mod Looking
 pub mod Serving
+pub mod Syncing
 pub mod Moments
 pub mod MomentLaws
 pub mod SentLaws

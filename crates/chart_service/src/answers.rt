@@ -1,17 +1,21 @@
 //! The lines of a service's streams are answered.
-ghost use Rattle.std.specs.Prelude.{◌≡◌, ◌≢◌, ◌≤◌, ◌<◌, ◌+◌, ◌*◌, ◌^◌, ℕ, Bool, List, All, Some, None, length, IfErr, IfSome, OnOk};
+ghost use Rattle.std.specs.Prelude.{◌≡◌, ◌≢◌, ◌≤◌, ◌<◌, ◌+◌, ◌*◌, ◌^◌, ℕ, Bool, List, [], All, Some, None, length, IfErr, IfSome, OnOk};
 ghost use Rattle.block_disk.specs.Counts.{HasRisen};
 ghost use Rattle.block_disk.specs.View.{Now, Only};
 ghost use Rattle.chart_frames.specs.Frames.{Fits};
 ghost use Rattle.gate_pages.specs.Pages.{GoesOn};
 ghost use Rattle.series_book.specs.Edits.{IsEdit};
-ghost use Rattle.chart_service.specs.Answering.{SendsAll, EndsBy, LastsBy, ReadsByLines, EndsAtBad, AnswersOn, StopsOn, LeavesBy};
+ghost use Rattle.series_book.specs.EditLists.{after_edits};
+ghost use Rattle.series_store.specs.Results.{IsUnchanged};
+ghost use Rattle.stored_book.specs.Standing.{StandsForBook};
+ghost use Rattle.chart_service.specs.Answering.{SendsAll, EndsBy, LastsBy, ReadsByLines, SyncsByLines, EndsAtBad, AnswersOn, StopsOn, LeavesBy};
 ghost use Rattle.chart_service.specs.Knowing.{Follows, KnowsOpen, EndsKnown};
 ghost use Rattle.chart_service.specs.EditGroups.{IsEditReply, SpelledBy};
 ghost use Rattle.chart_service.specs.Making.{AreMade, AreMadeFrom, FrameSent, FrameStops, FramesCut, FramesMoments, FramesSent, IsReplyEnd, FrameMoments};
 ghost use Rattle.chart_service.specs.ReadingBlocks.{ReadsFirst};
 ghost use Rattle.chart_service.specs.Serving.{KeepsPages, Serves, most_ahead, unless_empty};
 ghost use Rattle.chart_service.specs.Shown as shown;
+ghost use Rattle.chart_service.specs.Syncing.{edit_of, group_syncs};
 
 use crate::failure::{AnswerEnd, ServeEnd};
 use crate::gathering::edits_ready;
@@ -43,6 +47,8 @@ pub fn answer_lines<P: PageWorld, S, F, R: Reply<S, F>>(
     ensures crash { shown.ForBook service.old (λ total book. LastsBy P.left P.sent (AreMadeFrom R.makes kept.old) total book service.old service.new) }
     // blocks are read for lines alone, for each as few as its request may read
     ensures reads { shown.ForBook service.old (λ total book. ReadsByLines P.left total book service.old service.new) }
+    // edits whose lines stand ready are committed together
+    ensures syncs { shown.ForBook service.old (λ total book. SyncsByLines P.left P.pieces total book service.old service.new) }
     // whatever the pages are
     ensures read { result ≡ Err (AnswerEnd.Serve ServeEnd.ReadFault) → HasRisen (P.read_faults (shown.pages service.old)) (P.read_faults (shown.pages service.new)) }
     ensures send { result ≡ Err (AnswerEnd.Serve ServeEnd.SendFault) → HasRisen (P.send_faults (shown.pages service.old)) (P.send_faults (shown.pages service.new)) }
@@ -85,6 +91,8 @@ fn answer_edits<P: PageWorld, S, F, R: Reply<S, F>>(
     ensures moments { SpelledBy edits.now (λ lines. shown.ForBook service.old (λ total book. IfSome (P.sent (shown.pages service.old)) (λ _. LeavesBy R.makes kept.old lines total book service.old service.new))) }
     ensures reads { shown.ForBook service.old (λ total book. (shown.view service.new).reads ≤ (shown.view service.old).reads + 96 * length edits.now) }
     ensures rises { (shown.view service.old).reads ≤ (shown.view service.new).reads }
+    ensures syncs { shown.ForBook service.old (λ total book. (shown.view service.new).syncs ≤ (shown.view service.old).syncs + group_syncs total book edits.now) }
+    ensures behind { shown.ForBook service.old (λ total book. OnOk result (StandsForBook (shown.image service.new) total (after_edits total book edits.now))) }
     ensures known { (knows : S → ℕ → Bool) → Follows R.makes knows → KnowsOpen knows kept.old service.old.sessions → OnOk result (KnowsOpen knows kept.new service.new.sessions) }
     ensures named { (knows : S → ℕ → Bool) → Follows R.makes knows → KnowsOpen knows kept.old service.old.sessions → IfErr result (EndsKnown R.makes knows) }
     ensures send { result ≡ Err (AnswerEnd.Serve ServeEnd.SendFault) → HasRisen (P.send_faults (shown.pages service.old)) (P.send_faults (shown.pages service.new)) }
@@ -98,6 +106,7 @@ fn answer_edits<P: PageWorld, S, F, R: Reply<S, F>>(
     ensures left { P.left (shown.pages service.new) ≡ P.left (shown.pages service.old) }
     ensures read_faults { P.read_faults (shown.pages service.new) ≡ P.read_faults (shown.pages service.old) }
     ensures send_faults { P.send_faults (shown.pages service.old) ≤ P.send_faults (shown.pages service.new) }
+    ensures pieces { P.pieces (shown.pages service.new) ≡ P.pieces (shown.pages service.old) }
 {
     let frames = service.step_edits(edits)?;
     send_replies(service, frames.as_slice(), reply, kept)
@@ -126,6 +135,7 @@ fn send_replies<P: PageWorld, S, F, R: Reply<S, F>>(
     ensures left { P.left (shown.pages service.new) ≡ P.left (shown.pages service.old) }
     ensures read_faults { P.read_faults (shown.pages service.new) ≡ P.read_faults (shown.pages service.old) }
     ensures send_faults { P.send_faults (shown.pages service.old) ≤ P.send_faults (shown.pages service.new) }
+    ensures pieces { P.pieces (shown.pages service.new) ≡ P.pieces (shown.pages service.old) }
 {
     match frames.split_first() {
         Some((frame, later)) => {
@@ -149,6 +159,7 @@ fn answer_line<P: PageWorld, S, F, R: Reply<S, F>>(
     ensures stops { shown.ForBook service.old (λ total book. IfErr result (StopsOn P.sent R.makes (unless_empty (Some line.now)) kept.old kept.new total book service.old service.new)) }
     ensures moments { shown.ForBook service.old (λ total book. LeavesBy R.makes kept.old (unless_empty (Some line.now)) total book service.old service.new) }
     ensures reads { shown.ForBook service.old (λ total book. ReadsFirst (unless_empty (Some line.now)) (shown.state service.old total book) (shown.view service.old).reads (shown.view service.new).reads) }
+    ensures idle { edit_of (Some line.now) ≡ [] → IsUnchanged (shown.IsTold service.old) (shown.view service.old) (shown.view service.new) }
     ensures known { (knows : S → ℕ → Bool) → Follows R.makes knows → KnowsOpen knows kept.old service.old.sessions → OnOk result (KnowsOpen knows kept.new service.new.sessions) }
     ensures named { (knows : S → ℕ → Bool) → Follows R.makes knows → KnowsOpen knows kept.old service.old.sessions → IfErr result (EndsKnown R.makes knows) }
     ensures send { result ≡ Err (AnswerEnd.Serve ServeEnd.SendFault) → HasRisen (P.send_faults (shown.pages service.old)) (P.send_faults (shown.pages service.new)) }
@@ -162,6 +173,7 @@ fn answer_line<P: PageWorld, S, F, R: Reply<S, F>>(
     ensures left { P.left (shown.pages service.new) ≡ P.left (shown.pages service.old) }
     ensures read_faults { P.read_faults (shown.pages service.new) ≡ P.read_faults (shown.pages service.old) }
     ensures send_faults { P.send_faults (shown.pages service.old) ≤ P.send_faults (shown.pages service.new) }
+    ensures pieces { P.pieces (shown.pages service.new) ≡ P.pieces (shown.pages service.old) }
 {
     if line.is_empty() {
         return Ok(());
@@ -189,6 +201,7 @@ fn answer_long_line<P: PageWorld, S, F, R: Reply<S, F>>(
     ensures left { P.left (shown.pages service.new) ≡ P.left (shown.pages service.old) }
     ensures read_faults { P.read_faults (shown.pages service.new) ≡ P.read_faults (shown.pages service.old) }
     ensures send_faults { P.send_faults (shown.pages service.old) ≤ P.send_faults (shown.pages service.new) }
+    ensures pieces { P.pieces (shown.pages service.new) ≡ P.pieces (shown.pages service.old) }
 {
     service.is_sound();
     send_reply(service, &refused(Refusal::LineTooLong), reply, kept)
@@ -215,6 +228,7 @@ fn send_reply<P: PageWorld, S, F, R: Reply<S, F>>(
     ensures left { P.left (shown.pages service.new) ≡ P.left (shown.pages service.old) }
     ensures read_faults { P.read_faults (shown.pages service.new) ≡ P.read_faults (shown.pages service.old) }
     ensures send_faults { P.send_faults (shown.pages service.old) ≤ P.send_faults (shown.pages service.new) }
+    ensures pieces { P.pieces (shown.pages service.new) ≡ P.pieces (shown.pages service.old) }
 {
     let bytes = match reply.make(frame, kept) {
         Ok(bytes) => bytes,

@@ -1,8 +1,9 @@
 //! Edits whose lines stand ready are gathered.
-ghost use Rattle.std.specs.Prelude.{◌≡◌, ◌≤◌, ◌<◌, ◌+◌, ◌^◌, ℕ, List, All, Some, true, length, IfNone, IfOk, IfSome, IsTrue, OnOk};
+ghost use Rattle.std.specs.Prelude.{◌≡◌, ◌≤◌, ◌<◌, ◌+◌, ◌^◌, ℕ, List, [], All, Some, length, IfNone, IfOk, IfSome, IsTrue, OnOk};
 ghost use Rattle.series_book.specs.Edits.{IsEdit};
 ghost use Rattle.chart_service.specs.EditGroups.{IsEditAhead, IsGroup, IsGroupOf, SpellsEdit};
 ghost use Rattle.chart_service.specs.Serving.{most_ahead};
+ghost use Rattle.chart_service.specs.Syncing.{EndsGroup, IsOtherNext, edit_of};
 
 use crate::failure::NoMemory;
 use chart_world::Lines;
@@ -22,6 +23,8 @@ pub(crate) fn edits_ready(alloc: Global, lines: &mut Lines) -> Result<Option<Vec
     ensures none { IfOk result (λ some. IfNone some (lines.new ≡ lines.old)) }
     ensures group { IfOk result (λ some. IfSome some (λ edits. IsGroupOf lines.old lines.new edits.items)) }
     ensures few { IfOk result (λ some. IfSome some (λ edits. length edits.items ≤ most_ahead)) }
+    ensures other { IfOk result (λ some. IfNone some (edit_of (Some lines.old.line) ≡ [])) }
+    ensures ends { IfOk result (λ some. IfSome some (λ edits. EndsGroup lines.new edits.items)) }
     ensures are_edits { IfOk result (λ some. IfSome some (λ edits. All IsEdit edits.items)) }
     ensures usable { OnOk result (IsTrue lines.new.usable) }
     ensures counted { OnOk result (lines.new.taken ≡ lines.new.given + length lines.new.pending) }
@@ -41,6 +44,7 @@ fn gather(alloc: Global, first: Edit, lines: &mut Lines) -> Result<Vec<Edit>, No
     requires is_edit { IsEdit first }
     ensures group { IfOk result (λ edits. IsGroup first lines.old lines.new edits.items) }
     ensures few { IfOk result (λ edits. length edits.items ≤ most_ahead) }
+    ensures ends { IfOk result (λ edits. EndsGroup lines.new edits.items) }
     ensures are_edits { IfOk result (λ edits. All IsEdit edits.items) }
     ensures usable { OnOk result (IsTrue lines.new.usable) }
     ensures counted { OnOk result (lines.new.taken ≡ lines.new.given + length lines.new.pending) }
@@ -61,6 +65,7 @@ fn gather(alloc: Global, first: Edit, lines: &mut Lines) -> Result<Vec<Edit>, No
 /// The edit that the next line spells, where that stands ready.
 fn edit_ahead(alloc: Global, lines: &Lines) -> Result<Option<Edit>, NoMemory>
     ensures ahead { IfOk result (λ some. IfSome some (IsEditAhead lines.now)) }
+    ensures none { IfOk result (λ some. IfNone some (IsOtherNext lines.now)) }
     ensures is_edit { IfOk result (λ some. IfSome some IsEdit) }
 {
     match lines.ahead() {
@@ -73,24 +78,15 @@ fn edit_ahead(alloc: Global, lines: &Lines) -> Result<Option<Edit>, NoMemory>
 fn edit_in(alloc: Global, line: &[u8]) -> Result<Option<Edit>, NoMemory>
     requires { length line.now ≤ 8192 }
     ensures spells { IfOk result (λ some. IfSome some (SpellsEdit (Some line.now))) }
+    ensures none { IfOk result (λ some. IfNone some (edit_of (Some line.now) ≡ [])) }
     ensures is_edit { IfOk result (λ some. IfSome some IsEdit) }
 {
-    if !may_be_edit(line) {
+    if line.is_empty() {
         return Ok(None);
     }
     match parse_line(alloc, line) {
         Ok(Request::Edit(edit)) => Ok(Some(edit)),
         Ok(_) | Err(LineError::BadLine { .. }) => Ok(None),
         Err(LineError::NoMemory) => Err(NoMemory),
-    }
-}
-
-/// Whether a line may spell an edit, by its first byte.
-fn may_be_edit(line: &[u8]) -> bool
-    ensures { result ≡ true → 0 < length line.now }
-{
-    match line.first() {
-        Some(byte) => matches!(byte, b'a' | b'c' | b's'),
-        None => false,
     }
 }

@@ -9,6 +9,7 @@ ghost use Rattle.series_store.specs.Groups.{HaveFewSlots, answer_of};
 ghost use Rattle.chart_service.specs.EditGroups.{AnswersSome, DoesSome, IsAfterSome, IsEditReply, IsOfGroup, RepliesToEdits, frame_of, frames_of, group_end};
 ghost use Rattle.chart_service.specs.Serving.{most_ahead};
 ghost use Rattle.chart_service.specs.Stepping.{IsOutside, NamesBad};
+ghost use Rattle.chart_service.specs.Syncing.{group_syncs};
 ghost use Rattle.chart_service.specs.Shown as shown;
 
 use crate::failure::ServiceError;
@@ -37,6 +38,8 @@ impl<P: Pages> Service<P> {
         // and a crash at any moment leaves it
         ensures moments { shown.ForBook self.old (λ total book. shown.PassesTo (AnswersSome edits.now (shown.state self.old total book)) self.old self.new) }
         ensures reads { shown.ForBook self.old (λ total book. (shown.view self.new).reads ≤ (shown.view self.old).reads + 96 * length edits.now) }
+        // they are committed together, and what their pages fill by themselves
+        ensures syncs { shown.ForBook self.old (λ total book. (shown.view self.new).syncs ≤ (shown.view self.old).syncs + group_syncs total book edits.now) }
         // whatever the pages are
         ensures each { IfOk result (λ frames. length frames.items ≡ length edits.now) }
         ensures fits { IfOk result (λ frames. All Fits frames.items) }
@@ -70,6 +73,7 @@ impl<P: Pages> Service<P> {
         ensures moments { shown.ForBook self.old (λ total book. shown.PassesTo (IsAfterSome total book edits.now) self.old self.new) }
         ensures reads { shown.ForBook self.old (λ total book. (shown.view self.new).reads ≤ (shown.view self.old).reads + 96 * length edits.now) }
         ensures few_reads { shown.ForBook self.old (λ total book. OnOk result ((shown.view self.new).reads + 96 * length frames.old.items ≤ (shown.view self.old).reads + 96 * length frames.new.items)) }
+        ensures syncs { (shown.view self.new).syncs ≤ (shown.view self.old).syncs + 4 }
         ensures more { OnOk result (length frames.old.items < length frames.new.items) }
         ensures most { OnOk result (length frames.new.items ≤ length frames.old.items + length edits.now) }
         ensures fits { All Fits frames.old.items → OnOk result (All Fits frames.new.items) }

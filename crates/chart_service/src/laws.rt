@@ -6,6 +6,7 @@ ghost use Rattle.chart_service.specs.State.{State};
 ghost use Rattle.chart_service.specs.Alone.{alone, own_lines, own_frames, NeverCrowded};
 ghost use Rattle.chart_service.specs.Replies.{RepliesToLine};
 ghost use Rattle.chart_service.specs.Serving.{RepliesToAll};
+ghost use Rattle.chart_service.specs.Syncing.{FirstLinesSyncLess};
 
 use m4_groups::laws::rows_are_one;
 use value_filter::laws::a_text_is_read_in_one_way;
@@ -38,3 +39,10 @@ pub fn replies_are_one()
     rows_are_one();
     a_text_is_read_in_one_way();
 }
+
+/// What some first lines of an input may sync, the whole input may: four times for each line that is no
+/// edit, for each piece that is taken, for each 64 edits and for each 24 of their weight, and eight times
+/// more.
+pub fn first_lines_sync_less()
+    ensures { FirstLinesSyncLess }
+{}

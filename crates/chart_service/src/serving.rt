@@ -4,7 +4,7 @@ ghost use Rattle.block_disk.specs.Counts.{HasRisen};
 ghost use Rattle.block_disk.specs.View.{Now, Only};
 ghost use Rattle.chart_frames.specs.Frames.{spelling};
 ghost use Rattle.gate_pages.specs.Pages.{GoesOn};
-ghost use Rattle.chart_service.specs.Answering.{SendsWhole, ServeEndsBy, LastsBy, ReadsByLines};
+ghost use Rattle.chart_service.specs.Answering.{SendsWhole, ServeEndsBy, LastsBy, ReadsByLines, SyncsByLines};
 ghost use Rattle.chart_service.specs.Serving.{AreSpelled, EndsAtBad, Serves};
 ghost use Rattle.chart_service.specs.Shown as shown;
 ghost use Rattle.chart_service.specs.Spelled.{serve_end};
@@ -45,6 +45,8 @@ pub fn serve<P: PageWorld>(service: &mut Service<P>) -> Result<(), ServeEnd>
     ensures crash { shown.ForBook service.old (λ total book. LastsBy P.left P.sent AreSpelled total book service.old service.new) }
     // blocks are read for lines alone, for each as few as its request may read
     ensures reads { shown.ForBook service.old (λ total book. ReadsByLines P.left total book service.old service.new) }
+    // edits whose lines stand ready are committed together
+    ensures syncs { shown.ForBook service.old (λ total book. SyncsByLines P.left P.pieces total book service.old service.new) }
     // whatever the pages are
     ensures read { result ≡ Err ServeEnd.ReadFault → HasRisen (P.read_faults (shown.pages service.old)) (P.read_faults (shown.pages service.new)) }
     ensures send { result ≡ Err ServeEnd.SendFault → HasRisen (P.send_faults (shown.pages service.old)) (P.send_faults (shown.pages service.new)) }

@@ -1,11 +1,12 @@
 //! A service answers requests and lines.
-ghost use Rattle.std.specs.Prelude.{◌≡◌, ◌≤◌, ◌^◌, ℕ, List, length, IfOk, IfErr, OnErr, OnOk};
+ghost use Rattle.std.specs.Prelude.{◌≡◌, ◌≤◌, ◌^◌, ℕ, List, [], length, IfOk, IfErr, OnErr, OnOk};
 ghost use Rattle.block_disk.specs.Counts.{HasRisen};
 ghost use Rattle.block_disk.specs.View.{View, Passes};
 ghost use Rattle.chart_frames.specs.Frames.{Fits};
 ghost use Rattle.gate_pages.specs.Pages.{GoesOn, Quiet};
 ghost use Rattle.request_lines.specs.Requests.{IsInRange};
 ghost use Rattle.series_book.specs.declared.one_series.Series.{Series};
+ghost use Rattle.series_store.specs.Results.{IsUnchanged};
 ghost use Rattle.stored_book.specs.Standing.{StandsForBook};
 ghost use Rattle.chart_service.specs.Alone.{session_in, session_named};
 ghost use Rattle.chart_service.specs.Opening.{OpensBy, LosesAtMost};
@@ -13,6 +14,7 @@ ghost use Rattle.chart_service.specs.Replies.{Replied, line_text};
 ghost use Rattle.chart_service.specs.Stepping.{RepliedTo, NamesBad, IsOutside, Steps, ReadsFew};
 ghost use Rattle.chart_service.specs.Called.{AnswersSo, CommitsOnly, IsCause, IsCauseOfLine, ReadsFewFor};
 ghost use Rattle.chart_service.specs.Shown as shown;
+ghost use Rattle.chart_service.specs.Syncing.{edit_asked, edit_of};
 
 use crate::failure::ServiceError;
 use crate::refusals::refused;
@@ -45,6 +47,8 @@ impl<P: Pages> Service<P> {
         ensures opens { IfOk result (λ frame. OpensBy frame self.old.sessions self.new.sessions) }
         ensures sessions { OnErr result (LosesAtMost (session_in request.now) self.old.sessions self.new.sessions) }
         ensures unchanged { CommitsOnly result self.old self.new }
+        // a request that is no edit commits nothing
+        ensures idle { edit_asked request.now ≡ [] → IsUnchanged (shown.IsTold self.old) (shown.view self.old) (shown.view self.new) }
         ensures cause { IfErr result (IsCause request.now self.old self.new) }
         ensures bad { IfErr result (NamesBad (shown.IsTold self.new) (shown.view self.new).size (shown.image self.new)) }
         ensures steps { Steps (shown.IsTold self.old) (shown.IsTold self.new) (shown.view self.old) (shown.view self.new) }
@@ -76,6 +80,7 @@ impl<P: Pages> Service<P> {
         ensures opens { IfOk result (λ frame. OpensBy frame self.old.sessions self.new.sessions) }
         ensures sessions { OnErr result (LosesAtMost (session_named (line_text line.now)) self.old.sessions self.new.sessions) }
         ensures unchanged { CommitsOnly result self.old self.new }
+        ensures idle { edit_of (line_text line.now) ≡ [] → IsUnchanged (shown.IsTold self.old) (shown.view self.old) (shown.view self.new) }
         ensures cause { IfErr result (IsCauseOfLine (line_text line.now) self.old self.new) }
         ensures disk { result ≡ Err ServiceError.DiskFault → HasRisen (shown.view self.old).faults (shown.view self.new).faults }
         ensures bad { IfErr result (NamesBad (shown.IsTold self.new) (shown.view self.new).size (shown.image self.new)) }

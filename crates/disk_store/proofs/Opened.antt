@@ -34,6 +34,7 @@ opens_pages count old new passes moves = record {
   beside_is = moves.beside;
   faults = moves.faults;
   reads = record { low = moves.reads.low; high = omega (arith, moves.reads.high) };
+  syncs = moves.syncs;
 }
 
 -- pages at rest were read
@@ -78,6 +79,7 @@ opens_read n count count' sound sound' old mid new counted passes moves closed s
       beside_is = reads.beside ∙ moves.beside;
       faults = omega (arith, moves.faults, reads.faults);
       reads = record { low = omega (arith, moves.reads.low, reads.reads.low); high = omega (arith, moves.reads.high, reads.reads.high) };
+      syncs = record { low = omega (arith, moves.syncs.low, reads.syncs); high = omega (arith, moves.syncs.high, reads.syncs) };
     }
 
 -- an image that stands for pages from before stands for their book

@@ -65,6 +65,7 @@ pub record Opens (count : ℕ) (old new : View) : Type 0 where
   pub beside_is : new.beside ≡ old.beside
   pub faults : old.faults ≤ new.faults
   pub reads : Rises 200 old.reads new.reads
+  pub syncs : Rises 3 old.syncs new.syncs
 
 -- the cause, by that of the pages
 abbrev pub cause_of : OpenCause → OpeningCause

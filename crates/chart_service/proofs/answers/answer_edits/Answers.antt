@@ -1,6 +1,9 @@
-use Rattle.std.proofs.Common.{◌≡◌, ◌∙◌, List, Err, ap, sym, subst, arith}
-use Rattle.block_disk.specs.View.{sent_now}
+use Rattle.std.proofs.Common.{◌≡◌, ◌∙◌, ℕ, List, Err, ap, sym, subst, arith}
+use Rattle.block_disk.specs.View.{Image, sent_now}
 use Rattle.chart_frames.specs.declared.frame.Frame.{Frame}
+use Rattle.series_book.specs.EditLists.{after_edits}
+use Rattle.series_book.specs.declared.one_series.Series.{Series}
+use Rattle.stored_book.specs.Standing.{StandsForBook}
 use Rattle.chart_service.specs.EditGroups.{RepliesToEdits}
 use Rattle.chart_service.specs.Making.{LinesStop, LinesMoments}
 use Rattle.chart_service.specs.Moments.{Through}
@@ -11,6 +14,7 @@ use Rattle.chart_service.specs.declared.failure.AnswerEnd.TheVariants.{Serve}
 use Rattle.chart_service.proofs.Ends.{err_is}
 use Rattle.chart_service.proofs.GroupReplies.{if_told, group_done, group_stops, edits_stop, edits_moments, group_moments}
 use Rattle.chart_service.proofs.Sending.{error_goes}
+use Rattle.chart_service.proofs.SyncLemmas.{always_ok, replied_book}
 use Rattle.chart_service.proofs.answers.answer_edits.Goals as goal
 
 pub returns-in_err-frames-clause-stops : goal.returns-in_err-frames-clause-stops
@@ -80,3 +84,21 @@ returns-clause-moments g c = λ lines spells total book told stands.
 
 pub returns-clause-reads : goal.returns-clause-reads
 returns-clause-reads g c = λ total book told stands. omega (arith, c.step_edits.ensures.reads total book told stands, c.send_replies.ensures.keeps.disk.reads)
+
+pub returns-clause-syncs : goal.returns-clause-syncs
+returns-clause-syncs g c = λ total book told stands. omega (arith, c.step_edits.ensures.syncs total book told stands, c.send_replies.ensures.keeps.disk.syncs)
+
+pub returns-clause-behind : goal.returns-clause-behind
+returns-clause-behind g c = λ total book told stands.
+    let after = c.in_ok-frames.ensures.reply total book told stands in
+    let first = state_of book total c.args.service.now.sessions in
+    let book_is = replied_book c.args.edits.now c.in_ok-frames.frames.items first (state_of after.book total c.step_edits.new.self.sessions) after.so in
+    let B : List Series → Type 0 = λ b. StandsForBook (g.P.Pages.view (shown.pages c.send_replies.new.service)).image total b in
+    let I : Image → Type 0 = λ i. StandsForBook i total after.book in
+    always_ok c.send_replies.result (StandsForBook (g.P.Pages.view (shown.pages c.send_replies.new.service)).image total (after_edits total book c.args.edits.now)) (subst B book_is (subst I (sym c.send_replies.ensures.keeps.disk.image) after.stands))
+
+pub returns-clause-pieces : goal.returns-clause-pieces
+returns-clause-pieces g c =
+    let pages = shown.pages c.args.service.now in
+    let mid = shown.pages c.step_edits.new.self in
+    c.send_replies.ensures.pieces ∙ sym (g.met.P.PageWorld.beside_pieces mid) ∙ ap (λ b. b.pieces) c.step_edits.ensures.moves.beside ∙ g.met.P.PageWorld.beside_pieces pages

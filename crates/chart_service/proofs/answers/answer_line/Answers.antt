@@ -11,12 +11,14 @@ use Rattle.chart_service.specs.Serving.{unless_empty, end_of_step}
 use Rattle.chart_service.specs.Shown as shown
 use Rattle.chart_service.specs.Stepping.{state_of}
 use Rattle.chart_service.specs.MomentLaws.{through_none}
+use Rattle.chart_service.specs.Syncing.{edit_of}
 use Rattle.chart_service.specs.declared.failure.AnswerEnd.TheVariants.{Serve}
 use Rattle.chart_service.proofs.DiskKept.{serves_none, serves_then, serves_kept, serves_step}
 use Rattle.chart_service.proofs.Ends.{differ, error_is, on_err, step_unread, step_unsent, step_fault, step_bad, step_sound, reply_bad, not_of_disk, not_of_input, stays}
 use Rattle.chart_service.proofs.Known.{known_next, named_known, ends_known, same_opens}
+use Rattle.chart_service.proofs.SyncLemmas.{unchanged_kept}
 use Rattle.chart_service.proofs.TurnLemmas.{first_none, text_reads}
-use Rattle.chart_service.proofs.Sending.{empty_done, error_goes, error_so, ok_so, step_stops, answer_done, answer_stops, text_replied, text_step, text_moments}
+use Rattle.chart_service.proofs.Sending.{empty_done, error_goes, error_so, ok_so, step_stops, answer_done, answer_stops, text_replied, text_step, text_moments, text_is}
 use Rattle.chart_service.proofs.answers.answer_line.Goals as goal
 
 pub returns-in_err-frame : goal.returns-in_err-frame
@@ -41,6 +43,7 @@ returns-in_err-frame g c =
           text_step g.R.Reply.makes c.args.kept.now c.args.line.now total book c.args.service.now.sessions (g.P.Pages.view pages) (g.P.Pages.view pages') c.requires.short (says_text c.args.line.now some) (c.step_line.ensures.moments total book told stands);
       reads = λ total book told stands.
           text_reads c.args.line.now (shown.state c.args.service.now total book) _ _ c.requires.short (says_text c.args.line.now some) (c.step_line.ensures.reads total book told stands);
+      idle = λ none. c.step_line.ensures.idle (ap edit_of (text_is c.args.line.now c.requires.short) ∙ none);
       known = λ knows follows known. on_err c.from_residual.result _ _ c.from_residual.ensures.1;
       named = λ knows follows known.
           error_goes (EndsKnown g.R.Reply.makes knows) c.from_residual.result (Serve (end_of_step c.in_err-frame.field-0.0)) c.from_residual.ensures.1 tt;
@@ -56,6 +59,7 @@ returns-in_err-frame g c =
       total = c.step_line.ensures.total;
       left = sym (g.met.P.PageWorld.beside_left pages') ∙ ap (λ b. b.left) c.step_line.ensures.steps.beside ∙ g.met.P.PageWorld.beside_left pages;
       read_faults = sym (g.met.P.PageWorld.beside_read_faults pages') ∙ ap (λ b. b.read_faults) c.step_line.ensures.steps.beside ∙ g.met.P.PageWorld.beside_read_faults pages;
+      pieces = sym (g.met.P.PageWorld.beside_pieces pages') ∙ ap (λ b. b.pieces) c.step_line.ensures.steps.beside ∙ g.met.P.PageWorld.beside_pieces pages;
       send_faults = stays (g.P.Streams.send_faults pages) (g.P.Streams.send_faults pages') (sym (g.met.P.PageWorld.beside_send_faults pages') ∙ ap (λ b. b.send_faults) c.step_line.ensures.steps.beside ∙ g.met.P.PageWorld.beside_send_faults pages);
     }
 
@@ -100,6 +104,7 @@ returns g c =
           let R : ℕ → Type 0 = λ n. ReadsFirst (unless_empty (Some c.args.line.now)) state before n in
           subst R (sym c.send_reply.ensures.keeps.disk.reads)
           (text_reads c.args.line.now state before _ c.requires.short (says_text c.args.line.now some) (c.step_line.ensures.reads total book told stands));
+      idle = λ none. unchanged_kept (told_in pages) (view pages) (view mid) (view pages') (c.step_line.ensures.idle (ap edit_of (text_is c.args.line.now c.requires.short) ∙ none)) kept.disk;
       known = λ knows follows known.
           ok_so c.send_reply.result (FrameSent g.R.Reply.makes frame c.args.kept.now c.send_reply.new.kept (g.P.Streams.sent mid) (g.P.Streams.sent pages')) (KnowsOpen knows c.send_reply.new.kept c.send_reply.new.service.sessions)
           (λ shows. known_next g.R.Reply.makes knows c.args.kept.now c.send_reply.new.kept frame c.args.service.now.sessions c.send_reply.new.service.sessions follows yes.fits known
@@ -122,6 +127,7 @@ returns g c =
       left = c.send_reply.ensures.left ∙ sym (g.met.P.PageWorld.beside_left mid) ∙ ap (λ b. b.left) c.step_line.ensures.steps.beside ∙ g.met.P.PageWorld.beside_left pages;
       read_faults = c.send_reply.ensures.read_faults ∙ sym (g.met.P.PageWorld.beside_read_faults mid) ∙ ap (λ b. b.read_faults) c.step_line.ensures.steps.beside ∙ g.met.P.PageWorld.beside_read_faults pages;
       send_faults = subst Low same c.send_reply.ensures.send_faults;
+      pieces = c.send_reply.ensures.pieces ∙ sym (g.met.P.PageWorld.beside_pieces mid) ∙ ap (λ b. b.pieces) c.step_line.ensures.steps.beside ∙ g.met.P.PageWorld.beside_pieces pages;
     }
 
 pub returns-then-is_empty : goal.returns-then-is_empty
@@ -138,6 +144,7 @@ returns-then-is_empty g c =
       stops = λ total book told stands. tt;
       moments = λ total book told stands. through_none (g.P.Pages.view at) _;
       reads = λ total book told stands. first_none (unless_empty (Some c.args.line.now)) (shown.state it total book) _;
+      idle = λ none. record { image = λ t. refl; fit = λ f. f; syncs = refl; writes = refl };
       known = λ knows follows known. known;
       named = λ knows follows known. tt;
       send = λ fault. differ fault refl;
@@ -151,4 +158,5 @@ returns-then-is_empty g c =
       left = refl;
       read_faults = refl;
       send_faults = stays _ _ refl;
+      pieces = refl;
     }

@@ -1,4 +1,5 @@
-use Rattle.std.proofs.Common.{ℕ, ◌≡◌, ◌≤◌, ◌^◌, ◌∷◌, List, Option, None, Some, Ok, Err, IfNone, IfSome, IsTrue, Vec, Global, length, refl, ap, sym, subst, ◌∙◌, arith}
+use Rattle.std.proofs.Common.{ℕ, ◌≡◌, ◌≤◌, ◌^◌, [], ◌∷◌, List, Option, None, Some, Ok, Err, IfNone, IfSome, IsTrue, Vec, Global, length, refl, ap, sym, subst, ◌∙◌, arith}
+use Rattle.block_disk.specs.View.{Image}
 use Rattle.chart_world.specs.FrontLaws.{read_whole, same_line}
 use Rattle.chart_world.specs.Fronts.{Gives}
 use Rattle.chart_world.specs.Lines.{lines}
@@ -6,6 +7,7 @@ use Rattle.chart_world.specs.Reading.{Reading, unread, unread_input, input_lengt
 use Rattle.gate_pages.specs.GateLaws.{goes_none, goes_then}
 use Rattle.page_space.specs.declared.superblock.Superblock.{Superblock}
 use Rattle.series_book.specs.declared.edits.Edit.{Edit}
+use Rattle.stored_book.specs.Standing.{StandsForBook}
 use Rattle.chart_service.specs.Answering.{EndsAnswers, EndsAtBad}
 use Rattle.chart_service.specs.EditGroups.{IsGroupOf}
 use Rattle.chart_service.specs.Knowing.{EndsKnown}
@@ -13,6 +15,7 @@ use Rattle.chart_service.specs.Making.{IsReplyEnd}
 use Rattle.chart_service.specs.Serving.{end_of, most_ahead, unless_empty}
 use Rattle.chart_service.specs.Shown as shown
 use Rattle.chart_service.specs.Stepping.{state_of}
+use Rattle.chart_service.specs.Syncing.{EndsGroup, edit_of}
 use Rattle.chart_service.specs.declared.failure.AnswerEnd.TheVariants.{Serve}
 use Rattle.chart_service.specs.declared.failure.ServeEnd.TheVariants.{NoMemory}
 use Rattle.chart_service.proofs.DiskKept.{serves_none, serves_then, serves_kept as serves_disk, risen_since}
@@ -22,6 +25,7 @@ use Rattle.chart_service.proofs.GroupReplies.{if_told}
 use Rattle.chart_service.proofs.Known.{known_kept}
 use Rattle.chart_service.proofs.Made.{no_memory}
 use Rattle.chart_service.proofs.Progress.{few_lines, one_passed}
+use Rattle.chart_service.proofs.SyncLemmas.{sync_first, sync_all, sync_other, sync_group, sync_stop}
 use Rattle.chart_service.proofs.TurnLemmas.{one_turn, edits_turn, read_first, read_kept, read_line_done, read_line_stops, read_edits_stop, read_all}
 use Rattle.chart_service.proofs.Sending.{error_goes}
 use Rattle.chart_service.proofs.Stands.{far_first, far_kept, far_line, all_done, ends_same, no_memory_first, ends_lines, ends_line, lasts_first, lasts_take, lasts_line}
@@ -46,6 +50,7 @@ lines-init g c =
       lasts = λ total book told stands. lasts_first g.R.Reply.makes c.args.kept.now o before total book own (view pages) c.in_ok-lines.lines
           (far_first g.R.Reply.makes c.args.kept.now o total book own before (view pages).image c.in_ok-lines.lines stands fresh) (g.met.P.Pages.rests pages c.requires) (g.met.P.PageWorld.counts_sent pages);
       reads = λ total book told stands. read_first o total book own (view pages).reads (view pages).image c.in_ok-lines.lines stands fresh;
+      syncs = λ total book told stands. sync_first o total book (view pages).syncs (g.P.Streams.pieces pages) (view pages).image c.in_ok-lines.lines stands fresh;
       known = λ knows follows known. known;
       serves = serves_none (g.P.Pages.told pages) (view pages);
       goes_on = goes_none (g.P.Pages.under pages);
@@ -76,6 +81,8 @@ returns-in_err-lines g c =
       read = λ fault. differ (sym (error_is c.from_residual.result (Serve NoMemory) c.from_residual.ensures.1) ∙ fault) refl;
       send = λ fault. differ (sym (error_is c.from_residual.result (Serve NoMemory) c.from_residual.ensures.1) ∙ fault) refl;
       disk = λ fault. differ (sym (error_is c.from_residual.result (Serve NoMemory) c.from_residual.ensures.1) ∙ fault) refl;
+      syncs = λ total book told stands.
+          sync_all o total book (view pages).syncs (g.P.Streams.pieces pages) unread_input o (view pages).image (view pages).syncs (g.P.Streams.pieces pages) (view pages).syncs (g.P.Streams.pieces pages) refl (omega arith) (sync_first o total book (view pages).syncs (g.P.Streams.pieces pages) (view pages).image unread_input stands refl);
       known = λ knows follows known. error_goes (EndsKnown g.R.Reply.makes knows) c.from_residual.result (Serve NoMemory) c.from_residual.ensures.1 tt;
       bad = error_goes (EndsAtBad (g.P.Pages.told (shown.pages it)) (g.P.Pages.view (shown.pages it)).size (g.P.Pages.view (shown.pages it)).image) c.from_residual.result (Serve NoMemory) c.from_residual.ensures.1 tt;
       serves = serves_none (g.P.Pages.told (shown.pages c.args.service.now)) (g.P.Pages.view (shown.pages c.args.service.now));
@@ -116,6 +123,7 @@ returns-in_err-next g c =
       read = λ fault. risen_since (reads pages) (reads mid) (reads taken) c.lines.invariant.read_faults (c.in_err-next.ensures.read_fault (ap Err (fault_read c.in_err-next.field-0.0 (sym (error_is c.from_residual-in_err-next.result (Serve (end_of c.in_err-next.field-0.0)) c.from_residual-in_err-next.ensures.1) ∙ fault))));
       send = λ fault. fault_unsent c.in_err-next.field-0.0 (sym (error_is c.from_residual-in_err-next.result (Serve (end_of c.in_err-next.field-0.0)) c.from_residual-in_err-next.ensures.1) ∙ fault);
       disk = λ fault. fault_disk c.in_err-next.field-0.0 (sym (error_is c.from_residual-in_err-next.result (Serve (end_of c.in_err-next.field-0.0)) c.from_residual-in_err-next.ensures.1) ∙ fault);
+      syncs = λ total book told stands. sync_all o total book (view pages).syncs (g.P.Streams.pieces pages) c.lines.lines (g.P.Streams.left mid) (view mid).image (view mid).syncs (g.P.Streams.pieces mid) (view taken).syncs (g.P.Streams.pieces taken) kept.syncs c.next.ensures.pieces (inv.syncs total book told stands);
       known = λ knows follows known. error_goes (EndsKnown g.R.Reply.makes knows) c.from_residual-in_err-next.result (Serve (end_of c.in_err-next.field-0.0)) c.from_residual-in_err-next.ensures.1 tt;
       bad = error_goes (EndsAtBad (g.P.Pages.told taken) (g.P.Pages.view taken).size (g.P.Pages.view taken).image) c.from_residual-in_err-next.result (Serve (end_of c.in_err-next.field-0.0)) c.from_residual-in_err-next.ensures.1
           (fault_bad (g.P.Pages.told taken) (g.P.Pages.view taken).size (g.P.Pages.view taken).image c.in_err-next.field-0.0);
@@ -151,6 +159,7 @@ returns-in-End g c =
       read = λ fault. differ fault refl;
       send = λ fault. differ fault refl;
       disk = λ fault. differ fault refl;
+      syncs = λ total book told stands. sync_all o total book (view pages).syncs (g.P.Streams.pieces pages) c.lines.lines (g.P.Streams.left mid) (view mid).image (view mid).syncs (g.P.Streams.pieces mid) (view taken).syncs (g.P.Streams.pieces taken) kept.syncs c.next.ensures.pieces (inv.syncs total book told stands);
       known = λ knows follows known. tt;
       bad = tt;
       serves = serves_then (told_in pages) (told_in mid) (told_in taken) (view pages) (view mid) (view taken) inv.serves (serves_disk (told_in mid) (told_in taken) (view mid) (view taken) kept (g.met.P.PageWorld.take_told mid taken takes) (g.met.P.PageWorld.take_was_told mid taken takes));
@@ -204,6 +213,9 @@ lines-preserved-in-Continue-branch-4 g c =
           let far = read_kept o total book own (view pages).reads c.lines.lines (g.P.Streams.left mid) (view mid).image (view taken).image c.lines.service.sessions c.next.new.from.sessions (view mid).reads (view taken).reads kept.image beside.sessions kept.reads (inv.reads total book told stands) in
           let told' = g.met.P.PageWorld.take_told mid taken takes (inv.serves.told told) in
           read_line_done o total book own (view pages).reads c.lines.lines c.next.new.self (g.P.Streams.left mid) (g.P.Streams.left taken) (unless_empty None) (view taken).reads (view new).reads passed g.R.Reply.makes c.lines.kept c.answer_long_line.new.kept (g.P.Streams.left new) (g.P.Streams.sent taken) (g.P.Streams.sent new) (view taken).image (view new).image c.next.new.from.sessions c.answer_long_line.new.service.sessions made.left far (one_turn None (state_of far.book total c.next.new.from.sessions) (view taken).reads (view new).reads made.keeps.disk.reads) (c.in_ok-answer_long_line-in-TooLong.ensures.done total far.book told' far.stands);
+      syncs = λ total book told stands.
+          sync_other o total book (view pages).syncs (g.P.Streams.pieces pages) c.lines.lines c.next.new.self (g.P.Streams.left mid) (g.P.Streams.left taken) None (view mid).image (view new).image (view mid).syncs (view new).syncs (g.P.Streams.pieces mid) (g.P.Streams.pieces new) gives refl
+          (made.keeps.disk.image ∙ kept.image) (made.keeps.disk.syncs ∙ kept.syncs) (omega (arith, c.next.ensures.pieces, made.pieces)) (g.P.Streams.left new) made.left (inv.syncs total book told stands);
       known = λ knows follows known. c.in_ok-answer_long_line-in-TooLong.ensures.known knows follows (known_kept knows c.lines.kept c.lines.service.sessions c.next.new.from.sessions c.next.ensures.beside.sessions (c.lines.invariant.known knows follows known));
       serves = serves_then (told_in pages) (told_in taken) (told_in new) (view pages) (view taken) (view new) (serves_then (told_in pages) (told_in mid) (told_in taken) (view pages) (view mid) (view taken) inv.serves (serves_disk (told_in mid) (told_in taken) (view mid) (view taken) kept (g.met.P.PageWorld.take_told mid taken takes) (g.met.P.PageWorld.take_was_told mid taken takes))) (serves_disk (told_in taken) (told_in new) (view taken) (view new) made.keeps.disk made.keeps.told made.keeps.was_told);
       goes_on = goes_then (g.P.Pages.under pages) (g.P.Pages.under taken) (g.P.Pages.under new) (goes_then (g.P.Pages.under pages) (g.P.Pages.under mid) (g.P.Pages.under taken) inv.goes_on (g.met.P.PageWorld.take_goes_on mid taken takes)) made.keeps.goes_on;
@@ -261,6 +273,8 @@ returns-in_err-answer_long_line-in-TooLong g c =
       read = λ fault. absurd (subst IsReplyEnd (end_is (sym (error_is c.from_residual-in_err-answer_long_line-in-TooLong.result c.in_err-answer_long_line-in-TooLong.field-0.0 c.from_residual-in_err-answer_long_line-in-TooLong.ensures.1) ∙ fault)) c.in_err-answer_long_line-in-TooLong.ensures.ends);
       send = λ fault. risen_since (sends pages) (sends taken) (sends new) (subst Low (sym c.next.ensures.send_faults) c.lines.invariant.send_faults) (c.in_err-answer_long_line-in-TooLong.ensures.send (sym (error_is c.from_residual-in_err-answer_long_line-in-TooLong.result c.in_err-answer_long_line-in-TooLong.field-0.0 c.from_residual-in_err-answer_long_line-in-TooLong.ensures.1) ∙ fault));
       disk = λ fault. absurd (subst IsReplyEnd (end_is (sym (error_is c.from_residual-in_err-answer_long_line-in-TooLong.result c.in_err-answer_long_line-in-TooLong.field-0.0 c.from_residual-in_err-answer_long_line-in-TooLong.ensures.1) ∙ fault)) c.in_err-answer_long_line-in-TooLong.ensures.ends);
+      syncs = λ total book told stands.
+          sync_all o total book (view pages).syncs (g.P.Streams.pieces pages) c.lines.lines (g.P.Streams.left mid) (view mid).image (view mid).syncs (g.P.Streams.pieces mid) (view new).syncs (g.P.Streams.pieces new) (made.keeps.disk.syncs ∙ kept.syncs) (omega (arith, c.next.ensures.pieces, made.pieces)) (inv.syncs total book told stands);
       known = λ knows follows known.
           let f = c.in_err-answer_long_line-in-TooLong.field-0.0 in
           error_goes (EndsKnown g.R.Reply.makes knows) c.from_residual-in_err-answer_long_line-in-TooLong.result f c.from_residual-in_err-answer_long_line-in-TooLong.ensures.1
@@ -303,6 +317,8 @@ lines-preserved g c =
     }) in
     let passed = one_passed c.lines.lines r (g.P.Streams.left mid) (g.P.Streams.left taken) (Some text) gives c.in_ok-edits-in-Line.ensures.within in
     let few = few_lines (Some text) in
+    let none : edit_of (Some text) ≡ [] = ap (λ t. edit_of (Some t)) (c.line.ensures.line ∙ ap (λ (x : Reading). x.line) same) ∙ subst (λ (x : Option (Vec Edit Global)). IfNone x (edit_of (Some m.line) ≡ [])) c.in-None.is c.in_ok-edits-in-Line.ensures.other in
+    let idle = made.idle none in
     record {
       usable = c.in_ok-edits-in-Line.ensures.usable;
       counted = c.in_ok-edits-in-Line.ensures.counted;
@@ -321,6 +337,10 @@ lines-preserved g c =
           let far = read_kept o total book own (view pages).reads c.lines.lines (g.P.Streams.left mid) (view mid).image (view taken).image c.lines.service.sessions c.next.new.from.sessions (view mid).reads (view taken).reads kept.image beside.sessions kept.reads (inv.reads total book told stands) in
           let told' = g.met.P.PageWorld.take_told mid taken takes (inv.serves.told told) in
           read_line_done o total book own (view pages).reads c.lines.lines r (g.P.Streams.left mid) (g.P.Streams.left taken) (unless_empty (Some text)) (view taken).reads (view new).reads passed g.R.Reply.makes c.lines.kept c.answer_line.new.kept (g.P.Streams.left new) (g.P.Streams.sent taken) (g.P.Streams.sent new) (view taken).image (view new).image c.next.new.from.sessions c.answer_line.new.service.sessions made.left far (one_turn (Some text) (state_of far.book total c.next.new.from.sessions) (view taken).reads (view new).reads (made.reads total far.book told' far.stands)) (c.in_ok-answer_line-in-None.ensures.done total far.book told' far.stands);
+      syncs = λ total book told stands.
+          let told' = g.met.P.PageWorld.take_told mid taken takes (inv.serves.told told) in
+          sync_other o total book (view pages).syncs (g.P.Streams.pieces pages) c.lines.lines r (g.P.Streams.left mid) (g.P.Streams.left taken) (Some text) (view mid).image (view new).image (view mid).syncs (view new).syncs (g.P.Streams.pieces mid) (g.P.Streams.pieces new) gives none
+          (idle.image told' ∙ kept.image) (idle.syncs ∙ kept.syncs) (omega (arith, c.next.ensures.pieces, made.pieces)) (g.P.Streams.left new) made.left (inv.syncs total book told stands);
       known = λ knows follows known. c.in_ok-answer_line-in-None.ensures.known knows follows (known_kept knows c.lines.kept c.lines.service.sessions c.next.new.from.sessions c.next.ensures.beside.sessions (c.lines.invariant.known knows follows known));
       serves = serves_then (told_in pages) (told_in taken) (told_in new) (view pages) (view taken) (view new) (serves_then (told_in pages) (told_in mid) (told_in taken) (view pages) (view mid) (view taken) inv.serves (serves_disk (told_in mid) (told_in taken) (view mid) (view taken) kept (g.met.P.PageWorld.take_told mid taken takes) (g.met.P.PageWorld.take_was_told mid taken takes))) made.serves;
       goes_on = goes_then (g.P.Pages.under pages) (g.P.Pages.under taken) (g.P.Pages.under new) (goes_then (g.P.Pages.under pages) (g.P.Pages.under mid) (g.P.Pages.under taken) inv.goes_on (g.met.P.PageWorld.take_goes_on mid taken takes)) made.goes_on;
@@ -358,6 +378,8 @@ returns-in_err-answer_line-in-None g c =
     }) in
     let passed = one_passed c.lines.lines r (g.P.Streams.left mid) (g.P.Streams.left taken) (Some text) gives c.in_ok-edits-in-Line.ensures.within in
     let few = few_lines (Some text) in
+    let none : edit_of (Some text) ≡ [] = ap (λ t. edit_of (Some t)) (c.line.ensures.line ∙ ap (λ (x : Reading). x.line) same) ∙ subst (λ (x : Option (Vec Edit Global)). IfNone x (edit_of (Some m.line) ≡ [])) c.in-None.is c.in_ok-edits-in-Line.ensures.other in
+    let idle = made.idle none in
     let told_in = g.P.Pages.told in
     let sends = g.P.Streams.send_faults in
     let Low : ℕ → Type 0 = λ n. sends pages ≤ n in
@@ -382,6 +404,8 @@ returns-in_err-answer_line-in-None g c =
       read = λ fault. absurd (c.in_err-answer_line-in-None.ensures.read (sym (error_is c.from_residual-in_err-answer_line-in-None.result c.in_err-answer_line-in-None.field-0.0 c.from_residual-in_err-answer_line-in-None.ensures.1) ∙ fault));
       send = λ fault. risen_since (sends pages) (sends taken) (sends new) (subst Low (sym c.next.ensures.send_faults) c.lines.invariant.send_faults) (c.in_err-answer_line-in-None.ensures.send (sym (error_is c.from_residual-in_err-answer_line-in-None.result c.in_err-answer_line-in-None.field-0.0 c.from_residual-in_err-answer_line-in-None.ensures.1) ∙ fault));
       disk = λ is. risen_since (view pages).faults (view taken).faults (view new).faults (omega (arith, inv.serves.faults, kept.faults)) (c.in_err-answer_line-in-None.ensures.disk (sym (error_is c.from_residual-in_err-answer_line-in-None.result c.in_err-answer_line-in-None.field-0.0 c.from_residual-in_err-answer_line-in-None.ensures.1) ∙ is));
+      syncs = λ total book told stands.
+          sync_all o total book (view pages).syncs (g.P.Streams.pieces pages) c.lines.lines (g.P.Streams.left mid) (view mid).image (view mid).syncs (g.P.Streams.pieces mid) (view new).syncs (g.P.Streams.pieces new) (idle.syncs ∙ kept.syncs) (omega (arith, c.next.ensures.pieces, made.pieces)) (inv.syncs total book told stands);
       known = λ knows follows known.
           let f = c.in_err-answer_line-in-None.field-0.0 in
           error_goes (EndsKnown g.R.Reply.makes knows) c.from_residual-in_err-answer_line-in-None.result f c.from_residual-in_err-answer_line-in-None.ensures.1
@@ -428,6 +452,7 @@ lines-preserved-in-Some g c =
     let passed = both.0 in
     let spells = both.1 in
     let few : length all ≤ most_ahead = omega (arith, most, spelled_length all edits spells) in
+    let ends = subst (λ (e : List Edit). EndsGroup r e) (sym c.as_slice.ensures.value) (subst (λ (x : Option (Vec Edit Global)). IfSome x (λ edits. EndsGroup r edits.items)) c.in-Some.is c.in_ok-edits-in-Line.ensures.ends) in
     record {
       usable = c.in_ok-edits-in-Line.ensures.usable;
       counted = c.in_ok-edits-in-Line.ensures.counted;
@@ -446,6 +471,11 @@ lines-preserved-in-Some g c =
           let far = read_kept o total book own (view pages).reads c.lines.lines (g.P.Streams.left mid) (view mid).image (view taken).image c.lines.service.sessions c.next.new.from.sessions (view mid).reads (view taken).reads kept.image beside.sessions kept.reads (inv.reads total book told stands) in
           let told' = g.met.P.PageWorld.take_told mid taken takes (inv.serves.told told) in
           read_line_done o total book own (view pages).reads c.lines.lines r (g.P.Streams.left mid) (g.P.Streams.left taken) all (view taken).reads (view new).reads passed g.R.Reply.makes c.lines.kept c.answer_edits.new.kept (g.P.Streams.left new) (g.P.Streams.sent taken) (g.P.Streams.sent new) (view taken).image (view new).image c.next.new.from.sessions c.answer_edits.new.service.sessions made.left far (edits_turn all edits (state_of far.book total c.next.new.from.sessions) (view taken).reads (view new).reads spells made.rises (made.reads total far.book told' far.stands)) (c.in_ok-answer_edits-in-Some.ensures.done all spells total far.book told' far.stands);
+      syncs = λ total book told stands.
+          let told' = g.met.P.PageWorld.take_told mid taken takes (inv.serves.told told) in
+          sync_group o total book (view pages).syncs (g.P.Streams.pieces pages) c.lines.lines m r (g.P.Streams.left mid) (g.P.Streams.left taken) edits all (view mid).image (view mid).syncs (view new).syncs (g.P.Streams.pieces mid) (g.P.Streams.pieces new) gives group passed spells
+          (λ b is. omega (arith, made.syncs total b told' (subst (λ (i : Image). StandsForBook i total b) (sym kept.image) is), kept.syncs)) (omega (arith, c.next.ensures.pieces, made.pieces)) (g.P.Streams.pieces taken) (view new).image
+          (λ b is. c.in_ok-answer_edits-in-Some.ensures.behind total b told' (subst (λ (i : Image). StandsForBook i total b) (sym kept.image) is)) ends next.took (omega (arith, made.pieces)) (g.P.Streams.left new) made.left (inv.syncs total book told stands);
       known = λ knows follows known. c.in_ok-answer_edits-in-Some.ensures.known knows follows (known_kept knows c.lines.kept c.lines.service.sessions c.next.new.from.sessions c.next.ensures.beside.sessions (c.lines.invariant.known knows follows known));
       serves = serves_then (told_in pages) (told_in taken) (told_in new) (view pages) (view taken) (view new) (serves_then (told_in pages) (told_in mid) (told_in taken) (view pages) (view mid) (view taken) inv.serves (serves_disk (told_in mid) (told_in taken) (view mid) (view taken) kept (g.met.P.PageWorld.take_told mid taken takes) (g.met.P.PageWorld.take_was_told mid taken takes))) made.serves;
       goes_on = goes_then (g.P.Pages.under pages) (g.P.Pages.under taken) (g.P.Pages.under new) (goes_then (g.P.Pages.under pages) (g.P.Pages.under mid) (g.P.Pages.under taken) inv.goes_on (g.met.P.PageWorld.take_goes_on mid taken takes)) made.goes_on;
@@ -511,6 +541,10 @@ returns-in_err-answer_edits-in-Some g c =
       read = λ fault. absurd (c.in_err-answer_edits-in-Some.ensures.read (sym (error_is c.from_residual-in_err-answer_edits-in-Some.result c.in_err-answer_edits-in-Some.field-0.0 c.from_residual-in_err-answer_edits-in-Some.ensures.1) ∙ fault));
       send = λ fault. risen_since (sends pages) (sends taken) (sends new) (subst Low (sym c.next.ensures.send_faults) c.lines.invariant.send_faults) (c.in_err-answer_edits-in-Some.ensures.send (sym (error_is c.from_residual-in_err-answer_edits-in-Some.result c.in_err-answer_edits-in-Some.field-0.0 c.from_residual-in_err-answer_edits-in-Some.ensures.1) ∙ fault));
       disk = λ is. risen_since (view pages).faults (view taken).faults (view new).faults (omega (arith, inv.serves.faults, kept.faults)) (c.in_err-answer_edits-in-Some.ensures.disk (sym (error_is c.from_residual-in_err-answer_edits-in-Some.result c.in_err-answer_edits-in-Some.field-0.0 c.from_residual-in_err-answer_edits-in-Some.ensures.1) ∙ is));
+      syncs = λ total book told stands.
+          let told' = g.met.P.PageWorld.take_told mid taken takes (inv.serves.told told) in
+          sync_stop o total book (view pages).syncs (g.P.Streams.pieces pages) c.lines.lines m r (g.P.Streams.left mid) (g.P.Streams.left taken) edits all (view mid).image (view mid).syncs (view new).syncs (g.P.Streams.pieces mid) (g.P.Streams.pieces new) gives group passed spells
+          (λ b is. omega (arith, made.syncs total b told' (subst (λ (i : Image). StandsForBook i total b) (sym kept.image) is), kept.syncs)) (omega (arith, c.next.ensures.pieces, made.pieces)) (inv.syncs total book told stands);
       known = λ knows follows known.
           let f = c.in_err-answer_edits-in-Some.field-0.0 in
           error_goes (EndsKnown g.R.Reply.makes knows) c.from_residual-in_err-answer_edits-in-Some.result f c.from_residual-in_err-answer_edits-in-Some.ensures.1
@@ -556,6 +590,7 @@ returns-in_err-edits-in-Line g c =
       read = λ fault. differ (sym (error_is result (Serve NoMemory) residual) ∙ fault) refl;
       send = λ fault. differ (sym (error_is result (Serve NoMemory) residual) ∙ fault) refl;
       disk = λ fault. differ (sym (error_is result (Serve NoMemory) residual) ∙ fault) refl;
+      syncs = λ total book told stands. sync_all o total book (view pages).syncs (g.P.Streams.pieces pages) c.lines.lines (g.P.Streams.left mid) (view mid).image (view mid).syncs (g.P.Streams.pieces mid) (view taken).syncs (g.P.Streams.pieces taken) kept.syncs c.next.ensures.pieces (inv.syncs total book told stands);
       known = λ knows follows known. error_goes (EndsKnown g.R.Reply.makes knows) result (Serve NoMemory) residual tt;
       bad = error_goes (EndsAtBad (g.P.Pages.told taken) (g.P.Pages.view taken).size (g.P.Pages.view taken).image) result (Serve NoMemory) residual tt;
       serves = serves_then (told_in pages) (told_in mid) (told_in taken) (view pages) (view mid) (view taken) inv.serves (serves_disk (told_in mid) (told_in taken) (view mid) (view taken) kept (g.met.P.PageWorld.take_told mid taken takes) (g.met.P.PageWorld.take_was_told mid taken takes));

@@ -6,6 +6,7 @@ use Rattle.stored_book.specs.Standing.{StandsForBook}
 use Rattle.chart_service.specs.Knowing.{Follows, KnowsOpen}
 use Rattle.chart_service.specs.Serving.{Serves}
 use Rattle.chart_service.specs.Shown as shown
+use Rattle.chart_service.proofs.SyncLemmas.{HasSynced}
 use Rattle.chart_service.proofs.TurnLemmas.{HasRead}
 use Rattle.chart_service.proofs.Stands.{IsFar, Lasts}
 use Rattle.chart_service.proofs.answers.answer_lines.Given as goal
@@ -29,6 +30,8 @@ invariant-lines g l =
           → Lasts g.R.Reply.makes l.initial.kept (g.P.Streams.left first) total book l.initial.service.sessions (g.P.Streams.sent first) (view first) (view pages);
       reads : (total : ℕ) (book : List Series) → told first → StandsForBook (view first).image total book
           → HasRead (g.P.Streams.left first) total book l.initial.service.sessions (view first).reads l.lines (g.P.Streams.left pages) (view pages).image l.service.sessions (view pages).reads;
+      syncs : (total : ℕ) (book : List Series) → told first → StandsForBook (view first).image total book
+          → HasSynced (g.P.Streams.left first) total book (view first).syncs (g.P.Streams.pieces first) l.lines (g.P.Streams.left pages) (view pages).image (view pages).syncs (g.P.Streams.pieces pages);
       known : (knows : g.row.S.Denot → ℕ → Bool) → Follows g.R.Reply.makes knows → KnowsOpen knows l.initial.kept l.initial.service.sessions → KnowsOpen knows l.kept l.service.sessions;
       serves : Serves (told first) (told pages) (view first) (view pages);
       goes_on : GoesOn (g.P.Pages.under first) (g.P.Pages.under pages);

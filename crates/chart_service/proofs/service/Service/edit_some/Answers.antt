@@ -26,7 +26,7 @@ returns-in-Err-clause-bad g c =
 pub returns-clause-done : goal.returns-clause-done
 returns-clause-done g c = λ total book told stands.
     does_some c.add_frames.result total book c.args.edits.now c.in-Ok.answers.items c.as_slice.result.now c.args.frames.now.items c.add_frames.new.frames.items (g.P.Pages.view (stored.pages c.edit_group.new.self)).image
-    c.as_slice.ensures.value c.in-Ok.ensures.covered.1 (c.in-Ok.ensures.done total book told stands) c.add_frames.ensures.done
+    c.as_slice.ensures.value c.in-Ok.ensures.covered.1 (c.in-Ok.ensures.many total book told stands) (c.in-Ok.ensures.done total book told stands) c.add_frames.ensures.done
 
 pub returns-clause-left : goal.returns-clause-left
 returns-clause-left g c = λ total book told stands other.

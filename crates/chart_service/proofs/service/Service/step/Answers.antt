@@ -9,6 +9,7 @@ use Rattle.chart_service.specs.Shown as shown
 use Rattle.series_store.specs.Shown as stored
 use Rattle.chart_service.proofs.LookLemmas.{unchanged, unchanged_so, steps_so, moments_so}
 use Rattle.chart_service.proofs.StepLemmas.{AreOwn, look_reply, look_bad, edit_bad, on_ok}
+use Rattle.chart_service.proofs.SyncLemmas.{asks_one}
 use Rattle.chart_service.proofs.service.Service.step.Goals as goal
 
 pub returns-in-Edit-clause-reply : goal.returns-in-Edit-clause-reply
@@ -66,6 +67,7 @@ returns-in_default g c =
       opens = looked.opens;
       sessions = looked.lost;
       unchanged = unchanged_so r (g.P.Pages.told (stored.pages store)) (g.P.Pages.view (stored.pages store)) (g.P.Pages.view (stored.pages new)) (unchanged _ _ _ _ _ _ _ _ _ _ looks);
+      idle = λ none. unchanged _ _ _ _ _ _ _ _ _ _ looks;
       cause = c.look-reply.ensures.cause;
       bad = look_bad r _ _ _ _ _ _ _ _ _ _ own looks looked.cause;
       steps = steps_so _ _ _ _ _ _ _ _ _ _ looks;
@@ -73,3 +75,6 @@ returns-in_default g c =
       sound = on_ok r (g.P.Pages.view (stored.pages new)).fit fit;
       total = ap (λ (s : Superblock). s.total) looks.superblock;
     }
+
+pub returns-in-Edit-clause-idle : goal.returns-in-Edit-clause-idle
+returns-in-Edit-clause-idle g c = λ none. absurd (asks_one c.args.request.now c.in-Edit.edit c.in-Edit.is none)

@@ -11,6 +11,7 @@ use Rattle.chart_service.specs.Stepping.{IsOutside}
 use Rattle.chart_service.proofs.DiskKept.{group_then}
 use Rattle.chart_service.proofs.Ends.{err_is, error_is}
 use Rattle.chart_service.proofs.Sending.{error_goes}
+use Rattle.chart_service.proofs.SyncLemmas.{group_next, group_stop, group_end}
 use Rattle.chart_service.proofs.Together.{HasDone, after_more, after_first, more_done, tail_is, all_done, more_passes, some_replied, some_passes}
 use Rattle.chart_service.proofs.service.Service.step_edits.Goals as goal
 
@@ -43,6 +44,11 @@ edits-preserved g c =
       reads = λ total book told stands.
           let h = inv.has total book told stands in
           omega (arith, inv.reads total book told stands, yes.few_reads total (after_edits total book (take (length before) edits)) (inv.moves.told told) h.stands);
+      syncs = λ total book told stands.
+          let h = inv.has total book told stands in
+          let behind = after_edits total book (take (length before) edits) in
+          let D : List Edit → Type 0 = λ l. DoesSome total behind l before now (view new).image in
+          group_next total book edits before now (view new).image (view first).syncs (view mid).syncs (view new).syncs (omega (arith, c.edits-test.true, c.len.ensures)) (subst D tail (yes.done total behind (inv.moves.told told) h.stands)) c.edit_some.ensures.syncs (inv.syncs total book told stands);
       fits = yes.fits inv.fits;
       replies = yes.replies inv.replies;
       sessions = c.edit_some.ensures.sessions ∙ inv.sessions;
@@ -115,3 +121,10 @@ returns-clause-moments g c = λ total book told stands.
 
 pub returns-clause-reads : goal.returns-clause-reads
 returns-clause-reads g c = λ total book told stands. omega (arith, c.edits.invariant.reads total book told stands, c.edits.invariant.within)
+
+pub returns-in_err-edit_some-clause-syncs : goal.returns-in_err-edit_some-clause-syncs
+returns-in_err-edit_some-clause-syncs g c = λ total book told stands.
+    group_stop total book c.args.edits.now (length c.edits.frames.items) _ _ _ (omega (arith, c.edits-test.true, c.len.ensures)) c.edit_some.ensures.syncs (c.edits.invariant.syncs total book told stands)
+
+pub returns-clause-syncs : goal.returns-clause-syncs
+returns-clause-syncs g c = λ total book told stands. group_end total book c.args.edits.now (length c.edits.frames.items) _ _ (c.edits.invariant.syncs total book told stands)

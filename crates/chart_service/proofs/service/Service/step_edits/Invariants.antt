@@ -7,6 +7,7 @@ use Rattle.stored_book.specs.Standing.{StandsForBook}
 use Rattle.chart_service.specs.EditGroups.{IsAfterSome, IsEditReply}
 use Rattle.chart_service.specs.Shown as shown
 use Rattle.chart_service.specs.Stepping.{GroupSteps}
+use Rattle.chart_service.proofs.SyncLemmas.{GroupSynced}
 use Rattle.chart_service.proofs.Together.{HasDone}
 use Rattle.chart_service.proofs.service.Service.step_edits.Given as goal
 
@@ -23,6 +24,7 @@ invariant-edits g l =
       has : (total : ℕ) (book : List Series) → told first → StandsForBook (view first).image total book → HasDone total book l.edits l.frames.items (view pages).image;
       moments : (total : ℕ) (book : List Series) → told first → StandsForBook (view first).image total book → Passes (view first) (view pages) (IsAfterSome total book l.edits) (Quiet (view first));
       reads : (total : ℕ) (book : List Series) → told first → StandsForBook (view first).image total book → (view pages).reads ≤ (view first).reads + 96 * length l.frames.items;
+      syncs : (total : ℕ) (book : List Series) → told first → StandsForBook (view first).image total book → GroupSynced total book l.edits (length l.frames.items) (view first).syncs (view pages).syncs;
       fits : All Fits l.frames.items;
       replies : All IsEditReply l.frames.items;
       sessions : l.self.sessions ≡ l.initial.self.sessions;

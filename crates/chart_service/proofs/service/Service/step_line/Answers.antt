@@ -6,6 +6,8 @@ use Rattle.chart_service.specs.Replies.{line_text}
 use Rattle.chart_service.proofs.TurnLemmas.{line_none, line_reads}
 use Rattle.chart_service.proofs.LineLemmas.{long_line}
 use Rattle.chart_service.proofs.StepLemmas.{line_reply, line_moments, bad_line}
+use Rattle.chart_service.proofs.Sending.{text_is}
+use Rattle.chart_service.proofs.SyncLemmas.{no_edit}
 use Rattle.chart_service.proofs.service.Service.step_line.Goals as goal
 
 pub returns-then-line-gt-LONGEST_LINE-clause-reply : goal.returns-then-line-gt-LONGEST_LINE-clause-reply
@@ -50,3 +52,9 @@ returns-in-Err-BadLine-clause-reads g c = λ total book told stands. line_none (
 
 pub returns-in-Err-NoMemory-clause-reads : goal.returns-in-Err-NoMemory-clause-reads
 returns-in-Err-NoMemory-clause-reads g c = λ total book told stands. line_none (line_text c.args.line.now) (shown.state c.args.self.now total book) _
+
+pub returns-in-Ok-clause-idle : goal.returns-in-Ok-clause-idle
+returns-in-Ok-clause-idle g c = λ none.
+    let short : length c.args.line.now ≤ 8192 = omega arith in
+    let is : read_line c.args.line.now ≡ Ok c.in-Ok.request = c.in-Ok.ensures.reading in
+    c.step.ensures.idle (no_edit c.args.line.now c.in-Ok.request (text_is c.args.line.now short) is none)
