@@ -25,6 +25,7 @@ use Rattle.chart_program.specs.Plotted.{SendsPlot, SendsFront}
 use Rattle.chart_program.specs.Draws.{DrawsAll, DrawsTaken, DrawsWithin, StopsAtFrame}
 use Rattle.chart_program.proofs.InitLemmas.{init_leaves, init_holds}
 use Rattle.chart_program.proofs.Codes.{plot_complete, told_all, told_both}
+use Rattle.chart_program.proofs.Counts.{told_any}
 use Rattle.chart_program.proofs.CommandCodes.{never, zero_of, of_plot, plot_codes, of_draw, draw_codes, of_init, init_codes, of_lines, lines_codes, of_load, load_codes, of_check, check_codes, of_demo, demo_codes}
 
 both_told : (o b : Option (List ℕ)) (P : List ℕ → Type 0) (Q : Type 0) → IfSome o P → Q → IfSome o (λ input. IfSome b (λ bytes. P input × Q))
@@ -116,6 +117,8 @@ run_ends old new left left' before now faults code place e own away bars = recor
   untaken = λ none. absurd none;
   bars = bars;
   reads = tt;
+  reads_lines = e.reads;
+  syncs = e.syncs;
   unsent = λ is. absurd (never of_lines code 14 e.codes refl is);
   read = e.read;
   stopped = e.stopped;
@@ -157,6 +160,8 @@ serve_ends old new left left' before now faults code place e own away bars = rec
   untaken = λ none. absurd none;
   bars = bars;
   reads = tt;
+  reads_lines = e.reads;
+  syncs = e.syncs;
   unsent = λ is. absurd (never of_lines code 14 e.codes refl is);
   read = e.read;
   stopped = e.stopped;
@@ -203,6 +208,8 @@ load_ends name old new left left' before now faults code place e away holds = re
   untaken = λ none. absurd none;
   bars = λ is. e.nothing (omega (arith, is)) (omega (arith, is));
   reads = tt;
+  reads_lines = told_any left;
+  syncs = told_any left;
   unsent = λ is. e.nothing (omega (arith, is)) (omega (arith, is));
   read = e.read;
   stopped = e.stopped;
@@ -244,6 +251,8 @@ check_ends old new left left' before now faults code place e away untaken = reco
   untaken = λ none. untaken;
   bars = λ is. e.nothing (omega (arith, is)) (omega (arith, is));
   reads = tt;
+  reads_lines = told_any left;
+  syncs = told_any left;
   unsent = λ is. absurd (never of_check code 14 e.codes refl is);
   read = λ is. absurd (never of_check code 4 e.codes refl is);
   stopped = λ is. absurd (never of_check code 4 e.codes refl is);
@@ -285,6 +294,8 @@ demo_ends seed rounds old new left left' before now faults code place e away unt
   untaken = λ none. untaken;
   bars = λ is. e.nothing (omega (arith, is)) (omega (arith, is));
   reads = tt;
+  reads_lines = told_any left;
+  syncs = told_any left;
   unsent = λ is. absurd (never of_demo code 14 e.codes refl is);
   read = λ is. absurd (never of_demo code 4 e.codes refl is);
   stopped = λ is. absurd (never of_demo code 4 e.codes refl is);
@@ -347,6 +358,8 @@ plot_ends w h old new left left' before now faults code place codes read stopped
   untaken = λ none. absurd none;
   bars = λ is. absurd (never of_plot code 7 codes refl is);
   reads = tt;
+  reads_lines = told_any left;
+  syncs = told_any left;
   unsent = λ is. absurd (never of_plot code 14 codes refl is);
   read = read;
   stopped = stopped;
@@ -388,6 +401,8 @@ draw_ends old new left left' before now faults code place codes read send zeros 
   untaken = λ none. absurd none;
   bars = λ is. absurd (never of_draw code 7 codes refl is);
   reads = tt;
+  reads_lines = told_any left;
+  syncs = told_any left;
   unsent = λ is. absurd (never of_draw code 14 codes refl is);
   read = read;
   stopped = stopped;
@@ -429,6 +444,8 @@ init_ends old new left left' before now faults code place codes away untaken fau
   untaken = λ none. untaken;
   bars = λ is. absurd (never of_init code 7 codes refl is);
   reads = tt;
+  reads_lines = told_any left;
+  syncs = told_any left;
   unsent = λ is. absurd (never of_init code 14 codes refl is);
   read = λ is. absurd (never of_init code 4 codes refl is);
   stopped = λ is. absurd (never of_init code 4 codes refl is);

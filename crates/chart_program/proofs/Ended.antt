@@ -49,6 +49,8 @@ ends_by IsText CanShow old new left left' before now faults (Ok u) s = record {
   zero_place = λ is. refl;
   holds = λ other. s.holds (λ e. cc);
   crash = s.crash;
+  reads = s.reads;
+  syncs = s.syncs;
   goes_on = s.goes_on;
 }
 ends_by IsText CanShow old new left left' before now faults (Err (lines_end.Opening (opening.TooSmall size))) s = record {
@@ -72,6 +74,8 @@ ends_by IsText CanShow old new left left' before now faults (Err (lines_end.Open
   zero_place = λ is. absurd (omega (arith, low_code 12 is));
   holds = λ other. s.holds (λ e. cc);
   crash = s.crash;
+  reads = s.reads;
+  syncs = s.syncs;
   goes_on = s.goes_on;
 }
 ends_by IsText CanShow old new left left' before now faults (Err (lines_end.Opening (opening.Damaged block))) s = record {
@@ -95,6 +99,8 @@ ends_by IsText CanShow old new left left' before now faults (Err (lines_end.Open
   zero_place = λ is. absurd (omega (arith, low_code 7 is));
   holds = λ other. s.holds (λ e. cc);
   crash = s.crash;
+  reads = s.reads;
+  syncs = s.syncs;
   goes_on = s.goes_on;
 }
 ends_by IsText CanShow old new left left' before now faults (Err (lines_end.Opening opening.DiskFault)) s = record {
@@ -118,6 +124,8 @@ ends_by IsText CanShow old new left left' before now faults (Err (lines_end.Open
   zero_place = λ is. refl;
   holds = λ other. absurd (other refl);
   crash = s.crash;
+  reads = s.reads;
+  syncs = s.syncs;
   goes_on = s.goes_on;
 }
 ends_by IsText CanShow old new left left' before now faults (Err (lines_end.Opening opening.NoMemory)) s = record {
@@ -141,6 +149,8 @@ ends_by IsText CanShow old new left left' before now faults (Err (lines_end.Open
   zero_place = λ is. refl;
   holds = λ other. s.holds (λ e. cc);
   crash = s.crash;
+  reads = s.reads;
+  syncs = s.syncs;
   goes_on = s.goes_on;
 }
 ends_by IsText CanShow old new left left' before now faults (Err (lines_end.Answering (run_end.Serve serve_end.ReadFault))) s = record {
@@ -164,6 +174,8 @@ ends_by IsText CanShow old new left left' before now faults (Err (lines_end.Answ
   zero_place = λ is. refl;
   holds = λ other. s.holds (λ e. cc);
   crash = s.crash;
+  reads = s.reads;
+  syncs = s.syncs;
   goes_on = s.goes_on;
 }
 ends_by IsText CanShow old new left left' before now faults (Err (lines_end.Answering (run_end.Serve serve_end.SendFault))) s = record {
@@ -187,6 +199,8 @@ ends_by IsText CanShow old new left left' before now faults (Err (lines_end.Answ
   zero_place = λ is. refl;
   holds = λ other. s.holds (λ e. cc);
   crash = s.crash;
+  reads = s.reads;
+  syncs = s.syncs;
   goes_on = s.goes_on;
 }
 ends_by IsText CanShow old new left left' before now faults (Err (lines_end.Answering (run_end.Serve serve_end.DiskFault))) s = record {
@@ -210,6 +224,8 @@ ends_by IsText CanShow old new left left' before now faults (Err (lines_end.Answ
   zero_place = λ is. refl;
   holds = λ other. absurd (other refl);
   crash = s.crash;
+  reads = s.reads;
+  syncs = s.syncs;
   goes_on = s.goes_on;
 }
 ends_by IsText CanShow old new left left' before now faults (Err (lines_end.Answering (run_end.Serve (serve_end.Damaged page)))) s = record {
@@ -233,6 +249,8 @@ ends_by IsText CanShow old new left left' before now faults (Err (lines_end.Answ
   zero_place = λ is. absurd (omega (arith, low_code 7 is));
   holds = λ other. s.holds (λ e. cc);
   crash = s.crash;
+  reads = s.reads;
+  syncs = s.syncs;
   goes_on = s.goes_on;
 }
 ends_by IsText CanShow old new left left' before now faults (Err (lines_end.Answering (run_end.Serve serve_end.InputTooLong))) s = record {
@@ -256,6 +274,8 @@ ends_by IsText CanShow old new left left' before now faults (Err (lines_end.Answ
   zero_place = λ is. absurd (omega (arith, low_code 9 is));
   holds = λ other. s.holds (λ e. cc);
   crash = s.crash;
+  reads = s.reads;
+  syncs = s.syncs;
   goes_on = s.goes_on;
 }
 ends_by IsText CanShow old new left left' before now faults (Err (lines_end.Answering (run_end.Serve serve_end.NoMemory))) s = record {
@@ -279,6 +299,8 @@ ends_by IsText CanShow old new left left' before now faults (Err (lines_end.Answ
   zero_place = λ is. refl;
   holds = λ other. s.holds (λ e. cc);
   crash = s.crash;
+  reads = s.reads;
+  syncs = s.syncs;
   goes_on = s.goes_on;
 }
 ends_by IsText CanShow old new left left' before now faults (Err (lines_end.Answering (run_end.Show (client.Missing key)))) s = record {
@@ -302,6 +324,8 @@ ends_by IsText CanShow old new left left' before now faults (Err (lines_end.Answ
   zero_place = λ is. absurd (omega (arith, low_code 10 is));
   holds = λ other. s.holds (λ e. cc);
   crash = s.crash;
+  reads = s.reads;
+  syncs = s.syncs;
   goes_on = s.goes_on;
 }
 ends_by IsText CanShow old new left left' before now faults (Err (lines_end.Answering (run_end.Show (client.BadCoefficient key)))) s = record {
@@ -325,6 +349,8 @@ ends_by IsText CanShow old new left left' before now faults (Err (lines_end.Answ
   zero_place = λ is. absurd (omega (arith, low_code 11 is));
   holds = λ other. s.holds (λ e. cc);
   crash = s.crash;
+  reads = s.reads;
+  syncs = s.syncs;
   goes_on = s.goes_on;
 }
 ends_by IsText CanShow old new left left' before now faults (Err (lines_end.Answering (run_end.Show (client.UnknownSession number)))) s = absurd s.cause
@@ -349,6 +375,8 @@ ends_by IsText CanShow old new left left' before now faults (Err (lines_end.Answ
   zero_place = λ is. refl;
   holds = λ other. s.holds (λ e. cc);
   crash = s.crash;
+  reads = s.reads;
+  syncs = s.syncs;
   goes_on = s.goes_on;
 }
 

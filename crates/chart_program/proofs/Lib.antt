@@ -3,6 +3,7 @@ pub mod Progress
 pub mod Ending
 pub mod Apart
 pub mod Codes
+pub mod Counts
 pub mod DiskKept
 pub mod Drawing
 pub mod Running

@@ -27,10 +27,11 @@ use Rattle.chart_program.specs.declared.run_end.RunEnd.TheVariants as run_end
 use Rattle.chart_program.specs.Runs.{AreShown, AreShownFrom, EndsRun, EndsAtBad, IsShown}
 use Rattle.stored_book.specs.Damage.{IsBadForRequest}
 use Rattle.store_commands.specs.Damaged.{IsDamagedLater}
-use Rattle.chart_program.specs.Served.{Says, Spelled, AreTexts, Faults, AnswersAll, EndsServing, EndsLines, LeavesBooks, IsAheadOn, IsLinesCause, ServesLines, served}
+use Rattle.chart_program.specs.Served.{Says, Spelled, AreTexts, Faults, AnswersAll, EndsServing, EndsLines, LeavesBooks, IsAheadOn, IsLinesCause, ReadsFrom, SyncsFrom, ServesLines, served}
 use Rattle.store_commands.specs.Books.{OfBook, HoldsAgain}
 use Rattle.store_commands.proofs.HoldsAgain.{again_from}
 use Rattle.store_commands.specs.Books.{begun}
+use Rattle.chart_program.proofs.Counts.{reads_none, syncs_none}
 use Rattle.chart_program.proofs.Lowering.{crash_for, serve_ends, serve_again, text_ends, run_again, leaves_lowered}
 use Rattle.store_commands.proofs.Held.{stands_held, from_book}
 use Rattle.chart_service.proofs.Sending.{stands_on}
@@ -106,8 +107,8 @@ module _ (count count' : ℕ) (sound sound' : Bool) (old new : View) (left left'
       (crash_for left before (λ total book. HoldsBook count total book old) X (λ total book holds. lasts total book holds.honest (stands_held count total book old holds)))
 
   serve_alone : {T : Type 0} (answer : Result T ServeEnd) → AllDone answer [] → OnOk answer (IfSome left (λ input. length input ≤ 2 ^ 32)) → AllEnds answer [] → AllLasts [] → ((answer ≡ Err serve_end.DiskFault → ⊥) → IsClosed new)
-      → IfErr answer (λ end. IsLinesCause ⊥ count old new faults (run_end.Serve end)) → ServesLines Spelled ⊥ count old new left left' before now faults (served answer)
-  serve_alone {T} (Ok v) done within ends lasts closed cause =
+      → IfErr answer (λ end. IsLinesCause ⊥ count old new faults (run_end.Serve end)) → IfSome left (λ input. ReadsFrom count old new input old.reads) → IfSome left (λ input. SyncsFrom count old new input old.syncs) → ServesLines Spelled ⊥ count old new left left' before now faults (served answer)
+  serve_alone {T} (Ok v) done within ends lasts closed cause reads syncs =
       let X : ℕ → List Series → List ℕ → Type 0 = λ total book input. StandsAfter total (pages_of count' new.image) sessions (λ state. SendsText AreSpelled input (begun total book) state before now) in
       record {
         done = told_so (λ input. OfBook count old (λ total book. X total book input)) (λ input. AnswersAll Spelled count old new input before now) left
@@ -120,10 +121,12 @@ module _ (count count' : ℕ) (sound sound' : Bool) (old new : View) (left left'
         holds = λ other. told_so (λ input. OfBook count old (λ total book. X total book input)) (λ input. HoldsAgain count old new) left
             (λ input all. again_from count old new (λ start state. SendsText AreSpelled input start state before now) (from_book count count' old new same told sessions (λ start state. SendsText AreSpelled input start state before now) (closed (λ e. cc)) all))
             (told_for left (λ total book. HoldsBook count total book old) X (λ total book holds. done total book holds.honest (stands_held count total book old holds)));
+        reads = reads;
+        syncs = syncs;
         goes_on = goes;
         risen = risen;
       }
-  serve_alone {T} (Err end) done within ends lasts closed cause =
+  serve_alone {T} (Err end) done within ends lasts closed cause reads syncs =
       let X : ℕ → List Series → List ℕ → Type 0 = λ total book input. EndsServe input (begun total book) (pages_of count' new.image) sessions left' before now end in
       record {
         done = tt;
@@ -136,17 +139,19 @@ module _ (count count' : ℕ) (sound sound' : Bool) (old new : View) (left left'
         holds = λ other. told_so (λ input. OfBook count old (λ total book. X total book input)) (λ input. HoldsAgain count old new) left
             (λ input all. serve_again count count' old new same told sessions input left' before now end (λ more. closed (λ e. more (cc))) (λ e. other (ap (λ f. Err (run_end.Serve f)) e)) all)
             (told_for left (λ total book. HoldsBook count total book old) X (λ total book holds. ends total book holds.honest (stands_held count total book old holds)));
+        reads = reads;
+        syncs = syncs;
         goes_on = goes;
         risen = risen;
       }
 
   pub serve_made : {T : Type 0} (answer : Result T ServeEnd) (own : List Session) → own ≡ [] → AllDone answer own → OnOk answer (IfSome left (λ input. length input ≤ 2 ^ 32)) → AllEnds answer own → AllLasts own → ((answer ≡ Err serve_end.DiskFault → ⊥) → IsClosed new)
-      → IfErr answer (λ end. IsLinesCause ⊥ count old new faults (run_end.Serve end)) → ServesLines Spelled ⊥ count old new left left' before now faults (served answer)
-  serve_made {T} answer own alone done within ends lasts closed cause =
+      → IfErr answer (λ end. IsLinesCause ⊥ count old new faults (run_end.Serve end)) → IfSome left (λ input. ReadsFrom count old new input old.reads) → IfSome left (λ input. SyncsFrom count old new input old.syncs) → ServesLines Spelled ⊥ count old new left left' before now faults (served answer)
+  serve_made {T} answer own alone done within ends lasts closed cause reads syncs =
       let D : List Session → Type 0 = λ s. AllDone answer s in
       let E : List Session → Type 0 = λ s. AllEnds answer s in
       let L : List Session → Type 0 = λ s. AllLasts s in
-      serve_alone answer (subst D alone done) within (subst E alone ends) (subst L alone lasts) closed cause
+      serve_alone answer (subst D alone done) within (subst E alone ends) (subst L alone lasts) closed cause reads syncs
 
   -- ---- a run over a screen that holds nothing yet
 
@@ -183,8 +188,8 @@ module _ (count count' : ℕ) (sound sound' : Bool) (old new : View) (left left'
         (crash_for left before (λ total book. HoldsBook count total book old) X (λ total book holds. lasts total book holds.honest (stands_held count total book old holds)))
 
     run_alone : {T : Type 0} (answer : Result T RunEnd) (h : List Holding) → AreSoundStarts [] → RunDone answer [] h [] → OnOk answer (IfSome left (λ input. length input ≤ 2 ^ 32)) → RunEnds answer [] h [] → RunLasts [] [] → ((answer ≡ Err (run_end.Serve serve_end.DiskFault) → ⊥) → IsClosed new)
-        → IfErr answer (IsLinesCause (Unit {0}) count old new faults) → ServesLines AreTexts (Unit {0}) count old new left left' before now faults answer
-    run_alone {T} (Ok v) h starts done within ends lasts closed cause = record {
+        → IfErr answer (IsLinesCause (Unit {0}) count old new faults) → IfSome left (λ input. ReadsFrom count old new input old.reads) → IfSome left (λ input. SyncsFrom count old new input old.syncs) → ServesLines AreTexts (Unit {0}) count old new left left' before now faults answer
+    run_alone {T} (Ok v) h starts done within ends lasts closed cause reads syncs = record {
       done = for_told left (λ input. AnswersAll AreTexts count old new input before now) (λ input is.
           from_book count count' old new same told sessions (λ start state. SendsText (AreTexts start) input start state before now) (closed (λ e. cc)) (λ total book holds.
           stands_on total (pages_of count' new.image) (pages_of count' new.image) sessions sessions (λ state. IfSome left (λ given. SendsText (AreShown ScreenGives [] h) given (begun total book) state before now)) (λ state. SendsText (AreTexts (begun total book)) input (begun total book) state before now) refl refl
@@ -198,10 +203,12 @@ module _ (count count' : ℕ) (sound sound' : Bool) (old new : View) (left left'
           again_from count old new (λ start state. Unit {0}) (from_book count count' old new same told sessions (λ start state. Unit {0}) (closed (λ e. cc)) (λ total book holds.
           stands_on total (pages_of count' new.image) (pages_of count' new.image) sessions sessions (λ state. IfSome left (λ given. SendsText (AreShown ScreenGives [] h) given (begun total book) state before now)) (λ state. Unit {0}) refl refl
           (λ state sends. tt) (done total book holds.honest (stands_held count total book old holds)))));
+      reads = reads;
+      syncs = syncs;
       goes_on = goes;
       risen = risen;
     }
-    run_alone {T} (Err end) h starts done within ends lasts closed cause = record {
+    run_alone {T} (Err end) h starts done within ends lasts closed cause reads syncs = record {
       done = tt;
       within = tt;
       ends = for_told left (λ input. EndsLines AreTexts count old new input left' before now end) (λ input is.
@@ -213,13 +220,15 @@ module _ (count count' : ℕ) (sound sound' : Bool) (old new : View) (left left'
       holds = λ other. for_told left (λ input. HoldsAgain count old new) (λ input is.
           run_again count count' old new same told h sessions left left' before now end (λ more. closed (λ e. more (cc))) (λ e. other (ap Err e)) (λ total book holds.
           ends total book holds.honest (stands_held count total book old holds)));
+      reads = reads;
+      syncs = syncs;
       goes_on = goes;
       risen = risen;
     }
 
     pub run_made : {T : Type 0} (answer : Result T RunEnd) (v h : List Holding) (own : List Session) → v ≡ [] → own ≡ [] → AreSoundStarts own → RunDone answer v h own → OnOk answer (IfSome left (λ input. length input ≤ 2 ^ 32)) → RunEnds answer v h own → RunLasts v own
-        → ((answer ≡ Err (run_end.Serve serve_end.DiskFault) → ⊥) → IsClosed new) → IfErr answer (IsLinesCause (Unit {0}) count old new faults) → ServesLines AreTexts (Unit {0}) count old new left left' before now faults answer
-    run_made {T} answer v h own none alone starts done within ends lasts closed cause =
+        → ((answer ≡ Err (run_end.Serve serve_end.DiskFault) → ⊥) → IsClosed new) → IfErr answer (IsLinesCause (Unit {0}) count old new faults) → IfSome left (λ input. ReadsFrom count old new input old.reads) → IfSome left (λ input. SyncsFrom count old new input old.syncs) → ServesLines AreTexts (Unit {0}) count old new left left' before now faults answer
+    run_made {T} answer v h own none alone starts done within ends lasts closed cause reads syncs =
         let D : List Session → Type 0 = λ s. RunDone answer [] h s in
         let E : List Session → Type 0 = λ s. RunEnds answer [] h s in
         let L : List Session → Type 0 = λ s. RunLasts [] s in
@@ -227,7 +236,7 @@ module _ (count count' : ℕ) (sound sound' : Bool) (old new : View) (left left'
         let DV : List Holding → Type 0 = λ w. RunDone answer w h own in
         let EV : List Holding → Type 0 = λ w. RunEnds answer w h own in
         let LV : List Holding → Type 0 = λ w. RunLasts w own in
-        run_alone answer h (subst S alone starts) (subst D alone (subst DV none done)) within (subst E alone (subst EV none ends)) (subst L alone (subst LV none lasts)) closed cause
+        run_alone answer h (subst S alone starts) (subst D alone (subst DV none done)) within (subst E alone (subst EV none ends)) (subst L alone (subst LV none lasts)) closed cause reads syncs
 
 -- the causes of a run over a screen
 pub run_cause : OneFrame → Numbered → (count count' : ℕ) (old new : View) (faults : Faults) (end : RunEnd) → count' ≡ count
@@ -261,6 +270,8 @@ made_none {T} IsText CanShow count at left before faults none = record {
       ahead_none IsText input count total book (sent_now at) image (sent_now at) none (holds.images image left_by) refl)));
   cause = tt;
   holds = λ other. for_told left (λ input. HoldsAgain count at at) (λ input is total book holds. (book, holds));
+  reads = reads_none left count at;
+  syncs = syncs_none left count at;
   goes_on = goes_none at;
   risen = omega arith;
 }

@@ -10,6 +10,7 @@ use Rattle.program_words.specs.declared.words.Command.TheVariants.{ListSeries, E
 use Rattle.chart_program.specs.Served.{Faults}
 use Rattle.chart_program.specs.Ran.{CommandEnds, StandsOn, HoldsNamed, of_done}
 use Rattle.chart_program.proofs.Codes.{told_all}
+use Rattle.chart_program.proofs.Counts.{told_any}
 use Rattle.chart_program.proofs.CommandCodes.{never, zero_of, of_check, check_codes, of_export, export_codes}
 use Rattle.chart_program.proofs.CommandsEnd.{all_told, small_never}
 
@@ -35,6 +36,8 @@ list_ends old new left left' before now faults code place e away untaken = recor
   untaken = λ none. untaken;
   bars = λ is. e.nothing (omega (arith, is)) (omega (arith, is));
   reads = e.reads;
+  reads_lines = told_any left;
+  syncs = told_any left;
   unsent = λ is. absurd (never of_check code 14 e.codes refl is);
   read = λ is. absurd (never of_check code 4 e.codes refl is);
   stopped = λ is. absurd (never of_check code 4 e.codes refl is);
@@ -91,6 +94,8 @@ export_ends name window old new left left' before now faults code place e away u
   untaken = λ none. untaken;
   bars = e.damaged;
   reads = e.reads;
+  reads_lines = told_any left;
+  syncs = told_any left;
   unsent = λ is. e.nothing (1, omega arith, sym is);
   read = λ is. absurd (never of_export code 4 e.codes refl is);
   stopped = λ is. absurd (never of_export code 4 e.codes refl is);

@@ -26,6 +26,7 @@ use Rattle.chart_program.specs.declared.lines_end.LinesEnd.{LinesEnd}
 use Rattle.chart_program.specs.declared.lines_end.LinesEnd.TheVariants as lines_end
 use Rattle.chart_program.specs.declared.run_end.RunEnd.{RunEnd}
 use Rattle.chart_program.specs.declared.run_end.RunEnd.TheVariants as run_end
+use Rattle.chart_program.proofs.Counts.{reads_opened, reads_unopened, syncs_opened, syncs_unopened}
 use Rattle.chart_program.specs.Served.{Says, Faults, faults_of, AnswersAll, AnswersTaken, AnswersSome, AnswersLines, EndsLines, IsAheadOn, LeavesBooks, IsLinesCause, ServesLines, EndsOpening, ServesWorld, in_world}
 use Rattle.store_commands.specs.Books.{begun, HoldsAgain}
 use Rattle.store_commands.proofs.HoldsAgain.{again_opened}
@@ -156,6 +157,8 @@ serves_on {T} IsText CanShow old mid new left left' before now faults (Ok done) 
   crash = crash_on IsText left before old mid new none opens s.crash;
   cause = tt;
   holds = λ other. again_on left old mid new opens (s.holds (λ e. cc));
+  reads = reads_opened left old mid new opens s.reads;
+  syncs = syncs_opened left old mid new opens s.syncs;
   goes_on = goes_then old mid new (goes_by old mid (StandsAsBefore (page_count old.size) old) (Quiet old) opens.time) s.goes_on;
 }
 serves_on {T} IsText CanShow old mid new left left' before now faults (Err end) none opens s = record {
@@ -166,6 +169,8 @@ serves_on {T} IsText CanShow old mid new left left' before now faults (Err end) 
   crash = crash_on IsText left before old mid new none opens s.crash;
   cause = cause_on CanShow (page_count old.size) old mid new faults end opens.faults s.cause;
   holds = λ other. again_on left old mid new opens (s.holds (λ e. other (ap (λ (r : Result T RunEnd). in_world r) e)));
+  reads = reads_opened left old mid new opens s.reads;
+  syncs = syncs_opened left old mid new opens s.syncs;
   goes_on = goes_then old mid new (goes_by old mid (StandsAsBefore (page_count old.size) old) (Quiet old) opens.time) s.goes_on;
 }
 
@@ -212,6 +217,8 @@ opening_at IsText CanShow old new left left' before faults cause none opens prev
     | None ↦ tt
     | Some input ↦ again_opened old new opens
   ];
+  reads = reads_unopened left old new opens;
+  syncs = syncs_unopened left old new opens;
   goes_on = goes_by old new (StandsAsBefore (page_count old.size) old) (Quiet old) opens.time;
 }
 

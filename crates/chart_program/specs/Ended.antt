@@ -16,7 +16,7 @@ use Rattle.chart_program.specs.declared.lines_end.LinesEnd.TheVariants as lines_
 use Rattle.chart_program.specs.declared.run_end.RunEnd.TheVariants as run_end
 use Rattle.store_commands.specs.declared.status.Status.{Status}
 use Rattle.store_commands.specs.Status.{status, opening_status}
-use Rattle.chart_program.specs.Served.{Says, Faults, AnswersAll, AnswersFront, AnswersTaken, AnswersWithin, AnswersSome, AnswersLines, LeavesBooks, IsRejected}
+use Rattle.chart_program.specs.Served.{Says, Faults, AnswersAll, AnswersFront, AnswersTaken, AnswersWithin, AnswersSome, AnswersLines, LeavesBooks, IsRejected, ReadsServing, SyncsServing}
 use Rattle.stored_book.specs.Damage.{IsBadForRequest}
 use Rattle.store_commands.specs.Damaged.{IsDamagedPlace}
 use Rattle.store_commands.specs.Books.{HoldsAgain, Never}
@@ -71,5 +71,7 @@ pub record EndsBy (IsText : Says) (CanShow : Type 0) (old new : View) (left left
   pub opened : code ≡ 15 → ⊥
   pub zero_place : Contains (0 ∷ 3 ∷ 4 ∷ 5 ∷ 6 ∷ []) code → place ≡ 0
   pub holds : code ≢ 6 → IfSome left (λ input. HoldsAgain (page_count old.size) old new)
+  pub reads : IfSome left (λ input. ReadsServing old new input)
+  pub syncs : IfSome left (λ input. SyncsServing old new input)
   pub crash : IfSome left (λ input. IfSome before (λ bytes. LeavesBooks IsText (page_count old.size) input old new))
   pub goes_on : GoesOn old new

@@ -29,7 +29,7 @@ use Rattle.store_commands.specs.Away.{IsTurnedAway}
 use Rattle.chart_grid.specs.Limits.{IsSide}
 use Rattle.chart_program.specs.Slots.{SpellsAll, FirstBad, HasTooMany, IsTooLong, StoppedBefore, most_slots}
 use Rattle.chart_program.specs.Plotted.{SendsPlot, SendsFront}
-use Rattle.chart_program.specs.Served.{Faults, faults_of, AreTexts, Spelled, AnswersAll, AnswersFront, AnswersTaken, AnswersWithin, AnswersSome, AnswersLines, LeavesBooks, IsRejected}
+use Rattle.chart_program.specs.Served.{Faults, faults_of, AreTexts, Spelled, AnswersAll, AnswersFront, AnswersTaken, AnswersWithin, AnswersSome, AnswersLines, LeavesBooks, ReadsServing, SyncsServing, IsRejected}
 use Rattle.store_commands.specs.Books.{FromBook, HoldsAgain, Never, LeavesSame}
 use Rattle.store_commands.specs.Loaded.{Unnamed, LoadsAll, LoadsAndSendsPart, LoadsSome, LoadsToBad, LoadsTaken, LoadsWithin, RefusesSet, LeavesLoads, LeavesUnnamed}
 use Rattle.store_commands.specs.Checked.{SendsCounts, SendsCountsPart, IsBadForCheck}
@@ -315,6 +315,18 @@ ReadsFew ListSeries old new = ReadsOpening old new
 ReadsFew (Export name window) old new = ReadsSeries name (page_count old.size) old new
 ReadsFew command old new = ⊤
 
+-- Where lines are served, blocks are read by the opening and by the lines alone; of the other commands nothing is said here.
+abbrev pub ReadsByInput : Command → View → View → List ℕ → Option (List ℕ) → Option (List ℕ) → Type 0
+ReadsByInput Run old new input before now = ReadsServing old new input
+ReadsByInput Serve old new input before now = ReadsServing old new input
+ReadsByInput command old new input before now = ⊤
+
+-- and so the disk is synced
+abbrev pub SyncsByInput : Command → View → View → List ℕ → Option (List ℕ) → Option (List ℕ) → Type 0
+SyncsByInput Run old new input before now = SyncsServing old new input
+SyncsByInput Serve old new input before now = SyncsServing old new input
+SyncsByInput command old new input before now = ⊤
+
 -- the input is slots, and no more than a plot takes
 pub record IsSlots (input : List ℕ) : Type 0 where
   pub slots : List (Option ℤ)
@@ -468,6 +480,8 @@ pub record CommandEnds (command : Command) (old new : View) (left left' before n
   pub untaken : TakesNone command → left' ≡ left
   pub bars : code ≡ 7 → Bars command old new left left' before now place
   pub reads : ReadsFew command old new
+  pub reads_lines : IfSome left (λ input. ReadsByInput command old new input before now)
+  pub syncs : IfSome left (λ input. SyncsByInput command old new input before now)
   pub unsent : code ≡ 14 → now ≡ before
   pub read : code ≡ 4 → HasRisen faults.reads faults.reads_now
   pub stopped : code ≡ 4 → IfSome left (λ input. IfSome left' (StopsBefore command old new input before now))

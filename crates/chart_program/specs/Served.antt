@@ -1,5 +1,5 @@
 -- What a serving command says to the lines of its input, over the book that its disk holds, and what it leaves.
-use Rattle.std.specs.Prelude.{◌≡◌, ◌≢◌, ℕ, ◌+◌, ◌^◌, ◌<◌, ◌≤◌, List, length, Option, IfSome, Result, Ok, Err, OnOk, IfErr, ⊤}
+use Rattle.std.specs.Prelude.{◌≡◌, ◌≢◌, ℕ, ◌+◌, ◌-◌, ◌^◌, ◌<◌, ◌≤◌, List, length, Option, IfSome, Result, Ok, Err, OnOk, IfErr, ⊤}
 use Rattle.block_disk.specs.Counts.{HasRisen}
 use Rattle.block_disk.specs.View.{Image, View, Honest, sent_now}
 use Rattle.chart_client.specs.Accepting.{Rejects}
@@ -16,6 +16,8 @@ use Rattle.disk_store.specs.declared.causes.OpeningCause.{OpeningCause}
 use Rattle.disk_store.specs.declared.causes.OpeningCause.TheVariants as opening
 use Rattle.chart_service.specs.State.{State}
 use Rattle.chart_service.specs.Moments.{Since, IsAhead}
+use Rattle.chart_service.specs.ReadingBlocks.{ReadsLines}
+use Rattle.chart_service.specs.Syncing.{SyncsLines}
 use Rattle.chart_service.specs.Serving.{AreSpelled, SendsText, SendsFrontOf, SendsTaken, SendsWithin, SendsSome, SendsLines}
 use Rattle.chart_service.specs.declared.failure.ServeEnd.{ServeEnd}
 use Rattle.chart_service.specs.declared.failure.ServeEnd.TheVariants as serve_end
@@ -97,6 +99,24 @@ abbrev pub LeavesBooks : Says → ℕ → List ℕ → View → View → Type 0
 LeavesBooks IsText count input old new =
     OfBook count old (λ total book. Since old new (IsAheadOn (IsText (begun total book)) input count total (begun total book) (sent_now old)))
 
+-- ---- how much is read, and how often the disk is synced
+
+-- the lines of the input read no more blocks than they may, and no other block is read, from this count on
+abbrev pub ReadsFrom : ℕ → View → View → List ℕ → ℕ → Type 0
+ReadsFrom count old new input from = OfBook count old (λ total book. ReadsLines input (begun total book) from new.reads)
+
+-- they sync no more often than they may, from this count on, where the pieces are counted
+abbrev pub SyncsFrom : ℕ → View → View → List ℕ → ℕ → Type 0
+SyncsFrom count old new input from = OfBook count old (λ total book. new.beside.pieces < 2 ^ 64 - 1 → SyncsLines input total book (new.beside.pieces - old.beside.pieces) from new.syncs)
+
+-- an opening reads 200 blocks at most, and then the lines read
+abbrev pub ReadsServing : View → View → List ℕ → Type 0
+ReadsServing old new input = (opened : ℕ) × (opened ≤ old.reads + 200) × ReadsFrom (page_count old.size) old new input opened
+
+-- an opening syncs three times at most, and then the lines sync
+abbrev pub SyncsServing : View → View → List ℕ → Type 0
+SyncsServing old new input = (opened : ℕ) × (opened ≤ old.syncs + 3) × SyncsFrom (page_count old.size) old new input opened
+
 -- ---- frames that can't be used
 
 -- a frame was given to a client that rejects it so
@@ -139,6 +159,8 @@ pub record ServesLines {T : Type 0} (IsText : Says) (CanShow : Type 0) (count : 
   pub crash : IfSome left (λ input. IfSome before (λ bytes. LeavesBooks IsText count input old new))
   pub cause : IfErr answer (λ end. IsLinesCause CanShow count old new faults end)
   pub holds : answer ≢ Err (run_end.Serve serve_end.DiskFault) → IfSome left (λ input. HoldsAgain count old new)
+  pub reads : IfSome left (λ input. ReadsFrom count old new input old.reads)
+  pub syncs : IfSome left (λ input. SyncsFrom count old new input old.syncs)
   pub goes_on : GoesOn old new
   pub risen : old.faults ≤ new.faults
 
@@ -170,6 +192,8 @@ pub record ServesWorld {T : Type 0} (IsText : Says) (CanShow : Type 0) (old new 
   pub crash : IfSome left (λ input. IfSome before (λ bytes. LeavesBooks IsText (page_count old.size) input old new))
   pub cause : IfErr answer (λ end. IsWorldCause CanShow old new faults end)
   pub holds : answer ≢ Err (lines_end.Answering (run_end.Serve serve_end.DiskFault)) → IfSome left (λ input. HoldsAgain (page_count old.size) old new)
+  pub reads : IfSome left (λ input. ReadsServing old new input)
+  pub syncs : IfSome left (λ input. SyncsServing old new input)
   pub goes_on : GoesOn old new
 
 abbrev pub in_world : {T : Type 0} → Result T RunEnd → Result T LinesEnd

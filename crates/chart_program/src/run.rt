@@ -2,7 +2,7 @@ ghost use Rattle.std.specs.Prelude.{◌≡◌, ◌≢◌, ◌≤◌, ◌^◌, �
 ghost use Rattle.block_disk.specs.Counts.{HasRisen};
 ghost use Rattle.chart_frames.specs.Frames.{Fits};
 ghost use Rattle.gate_pages.specs.Pages.{GoesOn};
-ghost use Rattle.chart_service.specs.Answering.{SendsAll, LastsBy, ReadsByLines};
+ghost use Rattle.chart_service.specs.Answering.{SendsAll, LastsBy, ReadsByLines, SyncsByLines};
 ghost use Rattle.chart_service.specs.Knowing.{KnowsOpen};
 ghost use Rattle.chart_service.specs.Serving.{Serves};
 ghost use Rattle.chart_service.specs.Shown as shown;
@@ -47,6 +47,8 @@ pub fn run_on<P: PageWorld, V: Show>(
     ensures crash { shown.ForBook service.old (λ total book. LastsBy P.left P.sent (AreShownFrom V.gives show.old) total book service.old service.new) }
     // blocks are read for lines alone, for each as few as its request may read
     ensures reads { shown.ForBook service.old (λ total book. ReadsByLines P.left total book service.old service.new) }
+    // edits whose lines stand ready are committed together
+    ensures syncs { shown.ForBook service.old (λ total book. SyncsByLines P.left P.pieces total book service.old service.new) }
     // whatever the pages are
     ensures read { result ≡ Err (RunEnd.Serve ServeEnd.ReadFault) → HasRisen (P.read_faults (shown.pages service.old)) (P.read_faults (shown.pages service.new)) }
     ensures send { result ≡ Err (RunEnd.Serve ServeEnd.SendFault) → HasRisen (P.send_faults (shown.pages service.old)) (P.send_faults (shown.pages service.new)) }

@@ -7,7 +7,7 @@ ghost use Rattle.program_words.specs.Words.{AreCommand, AreWordsOf, ByCommand, S
 ghost use Rattle.store_commands.specs.Status.{status_codes};
 ghost use Rattle.chart_program.specs.CommandStatuses.{codes_of, TakesNone, BarsBy};
 ghost use Rattle.chart_program.specs.Lives.{IsLived};
-ghost use Rattle.chart_program.specs.Ran.{ForCommand, ForStreams, IsUnread, IsAwayFor, SendsAll, SendsPart, StopsWith, StopsAtDisk, IsBadInput, IsTooMuch, IsCutShort, IsInput, HasGoodInput, IsFree, IsWithin, LeavesDisk, LeavesTold, HoldsNow, IsDamaged, IsUndamaged, IsMade, IsTooSmall, IsThere, IsRefusedWith, TellsUnnamed, ReadsFew, Lacks, Misfits, NamesUnopened, DrawsReplies, IsOfReplies, BeginStream};
+ghost use Rattle.chart_program.specs.Ran.{ForCommand, ForStreams, IsUnread, IsAwayFor, SendsAll, SendsPart, StopsWith, StopsAtDisk, IsBadInput, IsTooMuch, IsCutShort, IsInput, HasGoodInput, IsFree, IsWithin, LeavesDisk, LeavesTold, HoldsNow, IsDamaged, IsUndamaged, IsMade, IsTooSmall, IsThere, IsRefusedWith, TellsUnnamed, ReadsFew, ReadsByInput, SyncsByInput, Lacks, Misfits, NamesUnopened, DrawsReplies, IsOfReplies, BeginStream};
 
 use crate::commands::status_of_command;
 use block_disk::World;
@@ -57,6 +57,10 @@ pub fn chart<W: World>(alloc: Global, words: &[String], world: W) -> (Status, W)
 
     // how much `list` and `export` read
     ensures reads { result.0.code ≢ WRONG_WORDS → (result.1 ≡ world) ⊎ ByCommand words.now (λ command. ReadsFew command (W.view world) (W.view result.1)) }
+
+    // where lines are served, the opening and the lines alone read and sync
+    ensures reads_lines { result.0.code ≢ WRONG_WORDS → (result.1 ≡ world) ⊎ ForCommand words.now W.view W.left W.sent world result.1 ReadsByInput }
+    ensures syncs { result.0.code ≢ WRONG_WORDS → (result.1 ≡ world) ⊎ ForCommand words.now W.view W.left W.sent world result.1 SyncsByInput }
 
     // of the frames that answer lines `draw` sends the pictures of the book
     ensures pictures { result.0.code ≡ DONE → Spells Draw (plain_words (map string_bytes words.now)) → IfSome (W.left world) (λ input. DrawsReplies input (W.sent world) (W.sent result.1)) }

@@ -5,6 +5,7 @@ use Rattle.chart_service.specs.declared.failure.ServeEnd.TheVariants.{DiskFault,
 use Rattle.chart_service.specs.Shown as shown
 use Rattle.chart_program.specs.declared.run_end.RunEnd.TheVariants.{Serve}
 use Rattle.chart_program.specs.Served.{AreTexts, faults_of, ServesLines}
+use Rattle.chart_program.proofs.Counts.{reads_served, syncs_served}
 use Rattle.chart_program.proofs.LinesServed.{run_made, run_causes, made_none}
 use Rattle.chart_program.proofs.Telling.{texts_none}
 use Rattle.chart_program.proofs.Knowing.{holds_of, screen_follows, known_first}
@@ -18,6 +19,7 @@ returns-in-Ok g c =
     let sent = g.W.Streams.sent in
     let reads = g.W.Streams.read_faults in
     let sends = g.W.Streams.send_faults in
+    let pieces = g.W.Streams.pieces in
     let pages = shown.pages c.args.service in
     let after = c.run_on-answer.new.service in
     let end_pages = shown.pages after in
@@ -38,7 +40,9 @@ returns-in-Ok g c =
     c.one_frame_a_spelling.ensures c.replies_draw_the_book.ensures c.clients_draw_the_book.ensures.accepts c.run_on-answer.result c.in-Ok.screen c.run_on-answer.new.show own c.in-Ok.ensures c.requires.alone
     (λ total book told stands. c.is_sound.ensures.state total book c.requires.sound told stands) made.done made.within made.ends made.crash closed
     (run_causes c.one_frame_a_spelling.ensures law.numbered pages.count end_pages.count (view disk) (view new) faults c.run_on-answer.result made.serves.size made.read made.send made.disk made.bad made.shown
-    (made.known holds_of (screen_follows change.others change.opened change.viewed c.one_frame_a_spelling.ensures) (known_first c.in-Ok.screen own c.requires.alone))) in
+    (made.known holds_of (screen_follows change.others change.opened change.viewed c.one_frame_a_spelling.ensures) (known_first c.in-Ok.screen own c.requires.alone)))
+    (reads_served (left disk) pages.count (view disk) (view new) own c.requires.alone made.reads)
+    (syncs_served (left disk) pages.count (view disk) (view new) (pieces disk) (pieces new) (g.met.W.World.beside_pieces disk) (g.met.W.World.beside_pieces new) made.syncs) in
     let D : g.row.W.Denot → Type 0 = λ d. ServesLines AreTexts (Unit {0}) pages.count (view disk) (view d) (left disk) (left d) (sent disk) (sent d) (faults_of (reads disk) (reads d) (sends disk) (sends d)) c.run_on-answer.result in
     subst D (sym same_disk) all
 

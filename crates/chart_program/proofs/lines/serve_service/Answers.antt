@@ -4,6 +4,7 @@ use Rattle.gate_pages.specs.GatePages.{IsClosed}
 use Rattle.chart_service.specs.declared.failure.ServeEnd.TheVariants.{DiskFault}
 use Rattle.chart_service.specs.Shown as shown
 use Rattle.chart_program.specs.Served.{Spelled, faults_of, ServesLines, served}
+use Rattle.chart_program.proofs.Counts.{reads_served, syncs_served}
 use Rattle.chart_program.proofs.LinesServed.{serve_made, serve_causes, same_answer}
 use Rattle.store_commands.proofs.Stores.{store_disk, store_sound}
 use Rattle.chart_program.proofs.lines.serve_service.Goals as goal
@@ -15,6 +16,7 @@ returns g c =
     let sent = g.W.Streams.sent in
     let reads = g.W.Streams.read_faults in
     let sends = g.W.Streams.send_faults in
+    let pieces = g.W.Streams.pieces in
     let pages = shown.pages c.args.service in
     let after = c.serve-answer.new.service in
     let end_pages = shown.pages after in
@@ -31,6 +33,8 @@ returns g c =
     subst P same_disk (c.disk_of.ensures.rests (subst IsTrue (sym (store_sound store after.store c.into_store.ensures)) (made.sound other))) in
     let all = serve_made pages.count end_pages.count pages.sound end_pages.sound (view disk) (view new) (left disk) (left new) (sent disk) (sent new) faults after.sessions made.serves.size made.serves.told made.goes_on made.serves.faults
     c.serve-answer.result own c.requires.alone made.done made.within made.ends made.crash closed
-    (serve_causes pages.count end_pages.count (view disk) (view new) faults ⊥ c.serve-answer.result made.serves.size made.read made.send made.disk made.bad) in
+    (serve_causes pages.count end_pages.count (view disk) (view new) faults ⊥ c.serve-answer.result made.serves.size made.read made.send made.disk made.bad)
+    (reads_served (left disk) pages.count (view disk) (view new) own c.requires.alone made.reads)
+    (syncs_served (left disk) pages.count (view disk) (view new) (pieces disk) (pieces new) (g.met.W.World.beside_pieces disk) (g.met.W.World.beside_pieces new) made.syncs) in
     let D : g.row.W.Denot → Type 0 = λ d. ServesLines Spelled ⊥ pages.count (view disk) (view d) (left disk) (left d) (sent disk) (sent d) (faults_of (reads disk) (reads d) (sends disk) (sends d)) (served c.serve-answer.result) in
     same_answer Spelled ⊥ pages.count (view disk) (view c.disk_of.result) (left disk) (left c.disk_of.result) (sent disk) (sent c.disk_of.result) (faults_of (reads disk) (reads c.disk_of.result) (sends disk) (sends c.disk_of.result)) (served c.serve-answer.result) c.of_serving.result c.of_serving.ensures (subst D (sym same_disk) all)

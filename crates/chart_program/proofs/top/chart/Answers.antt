@@ -137,6 +137,16 @@ returns-in-Ok-clause-reads g c =
     let e = c.status_of_command.ensures in
     λ other. inr (of_command _ c.in-Ok.command c.in-Ok.command _ refl c.in-Ok.ensures.command e.reads)
 
+pub returns-in-Ok-clause-reads_lines : goal.returns-in-Ok-clause-reads_lines
+returns-in-Ok-clause-reads_lines g c =
+    let e = c.status_of_command.ensures in
+    λ other. inr (of_command _ c.in-Ok.command c.in-Ok.command _ refl c.in-Ok.ensures.command e.reads_lines)
+
+pub returns-in-Ok-clause-syncs : goal.returns-in-Ok-clause-syncs
+returns-in-Ok-clause-syncs g c =
+    let e = c.status_of_command.ensures in
+    λ other. inr (of_command _ c.in-Ok.command c.in-Ok.command _ refl c.in-Ok.ensures.command e.syncs)
+
 pub returns-in-Ok-clause-crash : goal.returns-in-Ok-clause-crash
 returns-in-Ok-clause-crash g c =
     let e = c.status_of_command.ensures in
@@ -239,6 +249,12 @@ returns-in-Err-Wrong-clause-unnamed g c = λ other. absurd (other c.ended.ensure
 pub returns-in-Err-Wrong-clause-reads : goal.returns-in-Err-Wrong-clause-reads
 returns-in-Err-Wrong-clause-reads g c = λ other. absurd (other c.ended.ensures.code)
 
+pub returns-in-Err-Wrong-clause-reads_lines : goal.returns-in-Err-Wrong-clause-reads_lines
+returns-in-Err-Wrong-clause-reads_lines g c = λ other. absurd (other c.ended.ensures.code)
+
+pub returns-in-Err-Wrong-clause-syncs : goal.returns-in-Err-Wrong-clause-syncs
+returns-in-Err-Wrong-clause-syncs g c = λ other. absurd (other c.ended.ensures.code)
+
 pub returns-in-Err-Wrong-clause-crash : goal.returns-in-Err-Wrong-clause-crash
 returns-in-Err-Wrong-clause-crash g c = λ other. absurd (other c.ended.ensures.code)
 
@@ -328,6 +344,12 @@ returns-in-Err-NoMemory-clause-unnamed g c = λ other. inl (c.ended-in-Err-NoMem
 
 pub returns-in-Err-NoMemory-clause-crash : goal.returns-in-Err-NoMemory-clause-crash
 returns-in-Err-NoMemory-clause-crash g c = λ other. inl refl
+
+pub returns-in-Err-NoMemory-clause-reads_lines : goal.returns-in-Err-NoMemory-clause-reads_lines
+returns-in-Err-NoMemory-clause-reads_lines g c = λ other. inl refl
+
+pub returns-in-Err-NoMemory-clause-syncs : goal.returns-in-Err-NoMemory-clause-syncs
+returns-in-Err-NoMemory-clause-syncs g c = λ other. inl refl
 
 pub returns-in-Err-NoMemory-clause-disk : goal.returns-in-Err-NoMemory-clause-disk
 returns-in-Err-NoMemory-clause-disk g c = λ other. inl refl
