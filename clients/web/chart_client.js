@@ -18,8 +18,8 @@ const MOST = 10 ** 18; // the greatest size of a value; exact as a number
 const EXACT = 2 ** 53; // up to this size whole numbers are exact
 const SMALL = 2 ** 39; // two values of this size, their difference times a height or a width: still exact
 const MOST_KEYS = 131072;
-const KINDS = ["", "done", "refused", "opened", "closed", "view", "rows"];
-const [, DONE, REFUSED, OPENED, CLOSED, VIEW, ROWS] = KINDS.keys();
+const KINDS = ["", "done", "refused", "opened", "closed", "view", "rows", "live"];
+const [, DONE, REFUSED, OPENED, CLOSED, VIEW, ROWS, LIVE] = KINDS.keys();
 
 // For each kind of frame the length without items, the length of an item, and the most items.
 const LENGTHS = new Map([
@@ -29,6 +29,7 @@ const LENGTHS = new Map([
   [CLOSED, [5, 1, 0]],
   [VIEW, [84, 25, MOST_KEYS]],
   [ROWS, [27, 34, 4096]],
+  [LIVE, [6, 1, 0]],
 ]);
 
 // The name of each refusal and what it means, from number 1 on, as clients/python has them.
@@ -54,6 +55,7 @@ const REFUSALS = [
   ["BadRange", "the range isn't one, or passes 10^18 in size"],
   ["ViewTooLarge", "the view needs more coefficients than the session's cache keeps"],
   ["Full", "the store is full"],
+  ["LiveTooLarge", "the view may need more coefficients than the session's cache keeps, so it isn't followed"],
 ];
 
 /** Why no further picture is drawn: its message says so, as the client in clients/python does. */
@@ -517,9 +519,9 @@ class Rows {
 
 /** A Refused frame, with the name of the refusal and what it means. */
 function readRefusal(fields) {
-  const number = fields.byte(1, 21);
-  const a = fields.unsigned([2, 3, 20, 21].includes(number) ? 2n ** 64n : 0);
-  const b = fields.unsigned([20, 21].includes(number) ? 2n ** 64n : 0);
+  const number = fields.byte(1, 22);
+  const a = fields.unsigned([2, 3, 20, 21, 22].includes(number) ? 2n ** 64n : 0);
+  const b = fields.unsigned([20, 21, 22].includes(number) ? 2n ** 64n : 0);
   const [name, meaning] = REFUSALS[number - 1];
   return { kind: KINDS[REFUSED], number, a, b, name, meaning };
 }
@@ -542,6 +544,9 @@ function readFrame(fields) {
   }
   if (kind === CLOSED) {
     return { kind: KINDS[kind], session };
+  }
+  if (kind === LIVE) {
+    return { kind: KINDS[kind], session, on: fields.byte(0, 1) === 1 };
   }
   const chart = new (kind === VIEW ? View : Rows)(fields, itemsOf(kind, length), session);
   return Object.assign(chart, { kind: KINDS[kind] });
@@ -636,6 +641,9 @@ export class Client {
     }
     if (frame.kind === "closed") {
       this.sessions.delete(frame.session);
+      return null;
+    }
+    if (frame.kind === "live") {
       return null;
     }
     return frame.draw(session);

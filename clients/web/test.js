@@ -91,6 +91,25 @@ test("a session that isn't open, and one that was closed", () => {
   assert.throws(() => drawn(join(OPENED, closed, VIEW), 1000), new Stopped("the frame at byte 22: session 1 isn't open"));
 });
 
+test("a push is drawn by what changed, where the session follows its view", () => {
+  // 1 in the place of the 2: of what the view needs one coefficient changed.
+  const live = bytesOf("00000006 07 00000001 01");
+  const push = bytesOf(`
+    0000006D 05 00000001 0000 0004 0004 0000000000000000 0000000000000004 0000000000000001 0000000000000007
+    0000000000000000 00000001 0000000000000004 01 0000000000000001 0000000000000007 00000001
+    0000020000000000 03 0000000000000003 0000000000000006`);
+  const { kinds, pictures } = drawn(join(OPENED, VIEW, live, bytesOf("00000009 01 0000000000000004"), push), 7);
+  assert.deepStrictEqual(kinds, ["opened", "view", "live", "done", "view"]);
+  assert.deepStrictEqual(pictures, [".#.. .#.. #.#. ..#.", ".#.. .#.. #.#. ..#."]);
+  assert.throws(() => drawn(live, 1000), new Stopped("the frame at byte 0: session 1 isn't open"));
+  assert.throws(() => drawn(join(OPENED, bytesOf("00000006 07 00000001 02")), 1000), new Stopped("the frame at byte 13: the field at byte 22 breaks its rule"));
+});
+
+test("a refusal to follow has the coefficients that the view may need, and those that the cache keeps", () => {
+  const [{ frame }] = new Client().push(bytesOf("00000012 02 16 00000000000001C7 0000000000000064"));
+  assert.deepStrictEqual([frame.number, frame.name, frame.a, frame.b], [22, "LiveTooLarge", 455, 100]);
+});
+
 test("a refusal has its number, its name and its numbers", () => {
   const [{ frame }] = new Client().push(bytesOf("00000012 02 14 0000000000000029 0000000000000028"));
   assert.deepStrictEqual([frame.number, frame.name, frame.a, frame.b], [20, "ViewTooLarge", 41, 40]);

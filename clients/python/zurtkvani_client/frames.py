@@ -8,10 +8,11 @@ from collections import OrderedDict, namedtuple
 from .picture import Picture, height
 
 MOST = 10**18  # the greatest size of a value
-DONE, REFUSED, OPENED, CLOSED, VIEW, ROWS = range(1, 7)
+DONE, REFUSED, OPENED, CLOSED, VIEW, ROWS, LIVE = range(1, 8)
 # For each kind the length without items, the length of an item, and the most items.
 LENGTHS = {
-    DONE: (9, 1, 0), REFUSED: (18, 1, 0), OPENED: (9, 1, 0), CLOSED: (5, 1, 0), VIEW: (84, 25, 131072), ROWS: (27, 34, 4096)
+    DONE: (9, 1, 0), REFUSED: (18, 1, 0), OPENED: (9, 1, 0), CLOSED: (5, 1, 0), VIEW: (84, 25, 131072), ROWS: (27, 34, 4096),
+    LIVE: (6, 1, 0),
 }
 
 
@@ -19,6 +20,7 @@ Done = namedtuple("Done", "slots")
 Refused = namedtuple("Refused", "number a b")
 Opened = namedtuple("Opened", "session cache")
 Closed = namedtuple("Closed", "session")
+Live = namedtuple("Live", "session on")
 
 
 class Stopped(Exception):
@@ -192,17 +194,20 @@ def accept(fields, sessions):
     if kind == DONE:
         return Done(fields.number(8, 0, 2**28)), None
     if kind == REFUSED:
-        number = fields.number(1, 1, 21)
-        a = fields.number(8, 0, 2**64 - 1 if number in (2, 3, 20, 21) else 0)
-        return Refused(number, a, fields.number(8, 0, 2**64 - 1 if number in (20, 21) else 0)), None
+        number = fields.number(1, 1, 22)
+        a = fields.number(8, 0, 2**64 - 1 if number in (2, 3, 20, 21, 22) else 0)
+        return Refused(number, a, fields.number(8, 0, 2**64 - 1 if number in (20, 21, 22) else 0)), None
     session = fields.number(4, 1, 2**32 - 1)
     if kind == OPENED:
         opened = Opened(session, fields.number(4, 1, 131072))
         sessions[session] = Session(opened.cache)
         return opened, None
+    live = Live(session, fields.number(1, 0, 1) == 1) if kind == LIVE else None
     chart = View(fields, counts[kind]) if kind == VIEW else Rows(fields, counts[kind]) if kind == ROWS else None
     if session not in sessions:
         raise Stopped(f"session {session} isn't open")
+    if live:
+        return live, None
     if chart:
         return chart, chart.draw(sessions[session])
     del sessions[session]

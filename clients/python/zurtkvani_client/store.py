@@ -32,9 +32,10 @@ REFUSALS = (
     ("BadRange", "the range isn't one, or passes 10^18 in size"),
     ("ViewTooLarge", "the view needs more coefficients than the session's cache keeps"),
     ("Full", "the store is full"),
+    ("LiveTooLarge", "the view may need more coefficients than the session's cache keeps, so it isn't followed"),
 )
 # Which numbers a refusal tells, by its number.
-TOLD = {2: ("at byte {a}",), 3: ("at byte {a}",), 20: ("{a} of {b}",), 21: ("{a} pages of {b}",)}
+TOLD = {2: ("at byte {a}",), 3: ("at byte {a}",), 20: ("{a} of {b}",), 21: ("{a} pages of {b}",), 22: ("{a} of {b}",)}
 
 
 class Refused(Exception):

@@ -1,0 +1,67 @@
+"""Frames of a session that follows its view: the worked stream of docs/FORMATS.md, and what breaks a rule."""
+import io
+import pathlib
+import sys
+import unittest
+
+sys.path.insert(0, str(pathlib.Path(__file__).resolve().parent.parent))
+
+from zurtkvani_client.frames import Fields, Live, Refused, Stopped, accept  # noqa: E402
+
+OPENED = "00000009 03 00000001 00010000"
+# 4, 7 and 2 over 2 to 7; then 1 in the place of the 2, and of what the view needs the one coefficient that changed.
+VIEW = """
+    0000011C 05 00000001 0000 0004 0004 0000000000000000 0000000000000004 0000000000000002 0000000000000007
+    0000000000000000 00000001 0000000000000004 01 0000000000000002 0000000000000007 00000008
+    0000070000000000 01 0000000000000000 0000000000000000
+    0000060000000000 01 0000000000000000 0000000000000000
+    0000050000000000 01 0000000000000000 0000000000000000
+    0000040000000000 01 0000000000000000 0000000000000000
+    0000030000000000 01 0000000000000000 0000000000000000
+    0000020000000000 03 0000000000000002 0000000000000005
+    0000010000000000 03 FFFFFFFFFFFFFFFD FFFFFFFFFFFFFFFD
+    0000010000000001 01 0000000000000000 0000000000000000
+"""
+LIVE = "00000006 07 00000001 01"
+DONE = "00000009 01 0000000000000004"
+PUSH = """
+    0000006D 05 00000001 0000 0004 0004 0000000000000000 0000000000000004 0000000000000001 0000000000000007
+    0000000000000000 00000001 0000000000000004 01 0000000000000001 0000000000000007 00000001
+    0000020000000000 03 0000000000000003 0000000000000006
+"""
+
+
+def read_all(*frames):
+    """What a client makes of frames: each with its picture."""
+    data = bytes.fromhex("".join(frames))
+    fields, sessions, read = Fields(io.BytesIO(data)), {}, []
+    while fields.offset < len(data):
+        read.append(accept(fields, sessions))
+    return read
+
+
+class Frames(unittest.TestCase):
+    def test_a_push_is_drawn_by_what_changed(self):
+        read = read_all(OPENED, VIEW, LIVE, DONE, PUSH)
+        self.assertEqual(read[2], (Live(1, True), None))
+        pictures = [picture.to_pbm() for _, picture in read if picture]
+        self.assertEqual(pictures, [b"P4\n4 4\n" + bytes.fromhex("4040A020")] * 2)
+
+    def test_an_unfollowed_session_goes_on(self):
+        self.assertEqual(read_all(OPENED, "00000006 07 00000001 00")[1], (Live(1, False), None))
+
+    def test_a_session_that_is_not_open_follows_nothing(self):
+        with self.assertRaisesRegex(Stopped, "session 1 isn't open"):
+            read_all(LIVE)
+
+    def test_a_following_is_0_or_1(self):
+        with self.assertRaisesRegex(Stopped, "the field at byte 22 breaks its rule"):
+            read_all(OPENED, "00000006 07 00000001 02")
+
+    def test_a_refusal_to_follow_has_both_numbers(self):
+        # A view of 4 columns may need 13 * 35 coefficients, and the cache keeps 100.
+        self.assertEqual(read_all("00000012 02 16 00000000000001C7 0000000000000064"), [(Refused(22, 455, 100), None)])
+
+
+if __name__ == "__main__":
+    unittest.main()
