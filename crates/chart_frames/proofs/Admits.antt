@@ -23,10 +23,14 @@ pub admits_view : (length kind : ℕ) → admits length kind ≡ true → kind �
 unfolding admits
 admits_view length kind h e = sym (ap (admits length) e) ∙ h
 
+pub admits_live : (length kind : ℕ) → admits length kind ≡ true → kind ≡ 7 → length ≡ 6
+unfolding admits
+admits_live length kind h e = eqb-true length 6 (sym (ap (admits length) e) ∙ h)
+
 none : (b : Bool) → b ≡ false → b ≡ true → ⊥
 none b e f = both_ways b e f
 
-admits_high : (length kind : ℕ) → 6 < kind → admits length kind ≡ false
+admits_high : (length kind : ℕ) → 7 < kind → admits length kind ≡ false
 unfolding admits
 admits_high length kind high =
     let a : eqb kind 1 ≡ false = ne_eqb kind 1 (λ e. omega (arith, e)) in
@@ -35,15 +39,16 @@ admits_high length kind high =
     let d : eqb kind 4 ≡ false = ne_eqb kind 4 (λ e. omega (arith, e)) in
     let e : eqb kind 5 ≡ false = ne_eqb kind 5 (λ e. omega (arith, e)) in
     let f : eqb kind 6 ≡ false = ne_eqb kind 6 (λ e. omega (arith, e)) in
-    rw (a, b, c, d, e, f) refl
+    let g : eqb kind 7 ≡ false = ne_eqb kind 7 (λ e. omega (arith, e)) in
+    rw (a, b, c, d, e, f, g) refl
 
 admits_low : (length kind : ℕ) → kind ≡ 0 → admits length kind ≡ false
 unfolding admits
 admits_low length kind e = ap (admits length) e
 
--- a kind is 1 to 6
-pub admits_some : (length kind : ℕ) → admits length kind ≡ true → (1 ≤ kind) × (kind ≤ 6)
+-- a kind is 1 to 7
+pub admits_some : (length kind : ℕ) → admits length kind ≡ true → (1 ≤ kind) × (kind ≤ 7)
 admits_some length kind h = (
   elim (cases_lt 0 kind) [ inl some ↦ omega (arith, some) | inr empty ↦ absurd (none (admits length kind) (admits_low length kind (omega (arith, empty))) h) ],
-  elim (cases_lt 6 kind) [ inl high ↦ absurd (none (admits length kind) (admits_high length kind high) h) | inr low ↦ low ],
+  elim (cases_lt 7 kind) [ inl high ↦ absurd (none (admits length kind) (admits_high length kind high) h) | inr low ↦ low ],
 )

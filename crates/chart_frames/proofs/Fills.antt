@@ -5,7 +5,7 @@ use Rattle.chart_frames.specs.declared.fields.Stop.{Stop}
 use Rattle.chart_frames.specs.declared.fields.Stop.TheVariants.{More, Bad}
 use Rattle.chart_frames.specs.Format.{Format, field, number_in}
 use Rattle.chart_frames.specs.Reading.{read}
-use Rattle.chart_frames.specs.Fields.{is_rows_length, is_length, admits, session_fields, side_field, side_fields, series_fields, window_fields, range_fields, axis_fields, has_field, rmin_field, rmax_field, stored_fields, count_fields, key_field, difference_field, coef_fields, coefs_fields, place_fields, source_fields, view_fields, row_count_fields, column_field, value_field, at_most_field, at_least_field, between_field, row_fields, rows_fields, head_fields, done_fields, refused_fields, opened_fields, kind_fields, length_field, kind_field, frame_fields}
+use Rattle.chart_frames.specs.Fields.{is_rows_length, is_length, admits, session_fields, side_field, side_fields, series_fields, window_fields, range_fields, axis_fields, has_field, rmin_field, rmax_field, stored_fields, count_fields, key_field, difference_field, coef_fields, coefs_fields, place_fields, source_fields, view_fields, row_count_fields, column_field, value_field, at_most_field, at_least_field, between_field, row_fields, rows_fields, head_fields, done_fields, refused_fields, opened_fields, flag_fields, live_fields, kind_fields, length_field, kind_field, frame_fields}
 use Rattle.chart_frames.proofs.FormatLaws.{Fills, Sized, read_there, read_short, read_sized}
 
 coefs_fill : (count slots : ℕ) (last : Option ℕ) (m : ℕ) → m ≡ 25 * count → Fills m (coefs_fields slots last count)
@@ -130,14 +130,15 @@ last_pick true p h = h
 last_pick false p h = absurd cc
 
 kind_fill : (length kind : ℕ) → admits length kind ≡ true → Fills (length - 1) (kind_fields length kind)
-unfolding admits kind_fields done_fields refused_fields opened_fields session_fields
+unfolding admits kind_fields done_fields refused_fields opened_fields flag_fields live_fields session_fields
 kind_fill length kind h =
     pick (length - 1) (eqb kind 1) _ _ _ _ h (λ e. let is = eqb-true length 9 e in (omega (arith, is), λ slots _. omega (arith, is)))
     (λ h. pick (length - 1) (eqb kind 2) _ _ _ _ h (λ e. let is = eqb-true length 18 e in (omega (arith, is), λ number _. (omega (arith, is), λ a _. (omega (arith, is), λ b _. omega (arith, is)))))
     (λ h. pick (length - 1) (eqb kind 3) _ _ _ _ h (λ e. let is = eqb-true length 9 e in (omega (arith, is), λ session _. (omega (arith, is), λ cache _. omega (arith, is))))
     (λ h. pick (length - 1) (eqb kind 4) _ _ _ _ h (λ e. let is = eqb-true length 5 e in (omega (arith, is), λ session _. omega (arith, is)))
     (λ h. pick (length - 1) (eqb kind 5) _ _ _ _ h (λ e. view_fill length (leb-true 84 length (and_parts (leb 84 length) _ e).0))
-    (λ h. head_fill length (leb-true 27 length (and_parts (leb 27 length) _ (last_pick (eqb kind 6) (is_rows_length length) h)).0))))))
+    (λ h. pick (length - 1) (eqb kind 6) _ _ _ _ h (λ e. head_fill length (leb-true 27 length (and_parts (leb 27 length) _ e).0))
+    (λ h. let is = eqb-true length 6 (last_pick (eqb kind 7) (eqb length 6) h) in (omega (arith, is), λ session _. (omega (arith, is), λ flag _. omega (arith, is)))))))))
 
 length_some : (length kind : ℕ) → is_length length ≡ true → 1 ≤ length
 length_some zero kind h = absurd (cc (h))

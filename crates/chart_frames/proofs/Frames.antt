@@ -7,19 +7,19 @@ use Rattle.om3_coeff.specs.Keys.{height, IsNode}
 use Rattle.m4_groups.specs.declared.row.Row.{Row}
 use Rattle.whole_number.specs.Range.{IsValue}
 use Rattle.chart_frames.specs.declared.frame.Frame.{Frame}
-use Rattle.chart_frames.specs.declared.frame.Frame.TheVariants.{Done, Refused, Opened, Closed, View, Rows}
+use Rattle.chart_frames.specs.declared.frame.Frame.TheVariants.{Done, Refused, Opened, Closed, View, Rows, Live}
 use Rattle.chart_frames.specs.declared.frame.ViewFrame.{ViewFrame}
 use Rattle.chart_frames.specs.declared.frame.RowsFrame.{RowsFrame}
 use Rattle.chart_frames.specs.Format.{Format, stop, field, number_bytes, spell, after, Meets, IsEnd}
 use Rattle.chart_frames.specs.Reading.{read}
-use Rattle.chart_frames.specs.Fields.{session_fields, side_field, side_fields, series_fields, window_fields, range_fields, axis_fields, has_field, rmin_field, rmax_field, stored_fields, count_fields, key_field, difference_field, coef_fields, coefs_fields, place_fields, source_fields, view_fields, row_count_fields, column_field, value_field, at_most_field, at_least_field, between_field, row_fields, rows_fields, head_fields, done_fields, refused_fields, opened_fields, kind_fields, length_field, kind_field, frame_fields}
+use Rattle.chart_frames.specs.Fields.{session_fields, side_field, side_fields, series_fields, window_fields, range_fields, axis_fields, has_field, rmin_field, rmax_field, stored_fields, count_fields, key_field, difference_field, coef_fields, coefs_fields, place_fields, source_fields, view_fields, row_count_fields, column_field, value_field, at_most_field, at_least_field, between_field, row_fields, rows_fields, head_fields, done_fields, refused_fields, opened_fields, flag_fields, live_fields, kind_fields, length_field, kind_field, frame_fields}
 use Rattle.chart_frames.specs.Frames.{unsigned, key_number, flags_of, coefs_numbers, all_rows_numbers, view_numbers, rows_numbers, numbers_of, spelling, Fits, IsCoef, FitsCoef, FitCoefs, FitsViewHead, FitsView, FitsRow, FitRows, FitsRowsHead, FitsRows}
 use Rattle.chart_frames.specs.Spelled.{framed, place_before, source_before, view_before, coef_before, coefs_before, rows_before, row_before, rows_all_before, frame_before}
 use Rattle.chart_frames.specs.Items.{last_key, last_column}
 use Rattle.chart_frames.proofs.FormatLaws.{passed_all, read_again, one_reading}
 use Rattle.chart_frames.proofs.Items.{coefs_fields-end, rows_fields-end}
 use Rattle.chart_frames.proofs.Orders.{index_bound, level_of-number, index_of-number}
-use Rattle.chart_frames.proofs.Meets.{round, view_numbers_meet, view_numbers_after, rows_numbers_meet, rows_numbers_after, done_meets, refused_meets, opened_meets, closed_meets}
+use Rattle.chart_frames.proofs.Meets.{round, view_numbers_meet, view_numbers_after, rows_numbers_meet, rows_numbers_after, done_meets, refused_meets, opened_meets, closed_meets, live_meets}
 
 -- ---- the numbers meet the format
 
@@ -30,12 +30,13 @@ fits_meets (Opened session cache) h = opened_meets session cache h
 fits_meets (Closed session) h = closed_meets session h
 fits_meets (View v) h = view_numbers_meet v v.coefs h.head h.coefs (omega (arith, h.count))
 fits_meets (Rows r) h = rows_numbers_meet r r.rows h.head h.rows (omega (arith, h.count))
+fits_meets (Live session on) h = live_meets session on h
 
 ended : (f : Format) → f ≡ stop → IsEnd f
 ended f e = subst IsEnd (sym e) tt
 
 pub fits_ends : (f : Frame) → Fits f → IsEnd (after frame_fields (numbers_of f))
-unfolding frame_fields length_field kind_field kind_fields done_fields refused_fields opened_fields session_fields
+unfolding frame_fields length_field kind_field kind_fields done_fields refused_fields opened_fields session_fields flag_fields live_fields
 fits_ends (Done slots) h = tt
 fits_ends (Refused number a b) h = tt
 fits_ends (Opened session cache) h = tt
@@ -44,6 +45,7 @@ fits_ends (View v) h =
     ended (after frame_fields (view_numbers v v.coefs)) (view_numbers_after v v.coefs (omega (arith, h.count)) ∙ coefs_fields-end v.slots (last_key v.coefs) (length v.coefs) v.count (sym h.count))
 fits_ends (Rows r) h =
     ended (after frame_fields (rows_numbers r r.rows)) (rows_numbers_after r r.rows (omega (arith, h.count)) ∙ rows_fields-end r.w (last_column r.rows) (length r.rows) r.count (sym h.count))
+fits_ends (Live session on) h = tt
 
 -- ---- spelled in front of what follows
 
@@ -99,13 +101,14 @@ rows_frame_spelled r rows tail room =
 
 -- a frame's spelling, and what follows
 pub spelled : (f : Frame) (tail : List ℕ) → Fits f → spelling f ++ tail ≡ frame_before f tail
-unfolding frame_fields length_field kind_field kind_fields done_fields refused_fields opened_fields session_fields
+unfolding frame_fields length_field kind_field kind_fields done_fields refused_fields opened_fields session_fields flag_fields live_fields
 spelled (Done slots) tail h = spelled_before frame_fields (numbers_of (Done slots)) tail
 spelled (Refused number a b) tail h = spelled_before frame_fields (numbers_of (Refused number a b)) tail
 spelled (Opened session cache) tail h = spelled_before frame_fields (numbers_of (Opened session cache)) tail
 spelled (Closed session) tail h = spelled_before frame_fields (numbers_of (Closed session)) tail
 spelled (View v) tail h = view_spelled v v.coefs tail (omega (arith, h.count))
 spelled (Rows r) tail h = rows_frame_spelled r r.rows tail (omega (arith, h.count))
+spelled (Live session on) tail h = spelled_before frame_fields (numbers_of (Live session on)) tail
 
 -- ---- reading
 
@@ -194,7 +197,8 @@ frame_from ns =
     (cond (eqb (number_of ns 1) 2) (Refused (number_of ns 2) (number_of ns 3) (number_of ns 4))
     (cond (eqb (number_of ns 1) 3) (Opened (number_of ns 2) (number_of ns 3))
     (cond (eqb (number_of ns 1) 4) (Closed (number_of ns 2))
-    (cond (eqb (number_of ns 1) 5) (View (view_from ns)) (Rows (rows_frame_from ns))))))
+    (cond (eqb (number_of ns 1) 5) (View (view_from ns))
+    (cond (eqb (number_of ns 1) 6) (Rows (rows_frame_from ns)) (Live (number_of ns 2) (eqb (number_of ns 3) 1)))))))
 
 abbrev key_at : ℕ → ℕ → Key
 key_at level index = record { level = level; index = index }
@@ -288,6 +292,8 @@ frame_back (Opened session cache) h = refl
 frame_back (Closed session) h = refl
 frame_back (View v) h = ap View (view_back v h)
 frame_back (Rows r) h = ap Rows (rows_frame_back r h)
+frame_back (Live session true) h = refl
+frame_back (Live session false) h = refl
 
 -- two frames at the front of the same bytes are one, and so is what follows
 pub same_frame : (f g : Frame) (x y : List ℕ) → Fits f → Fits g → spelling f ++ x ≡ spelling g ++ y → (f ≡ g) × (x ≡ y)

@@ -27,9 +27,10 @@ rows_limited n h =
 length_limited : (n : ℕ) → is_length n ≡ true → n ≤ 4194304
 length_limited n h =
     limited n (eqb n 5) _ h (λ e. omega (arith, eqb-true n 5 e))
+    (λ h. limited n (eqb n 6) _ h (λ e. omega (arith, eqb-true n 6 e))
     (λ h. limited n (eqb n 9) _ h (λ e. omega (arith, eqb-true n 9 e))
     (λ h. limited n (eqb n 18) _ h (λ e. omega (arith, eqb-true n 18 e))
-    (λ h. limited n (is_view_length n) (is_rows_length n) h (view_limited n) (rows_limited n))))
+    (λ h. limited n (is_view_length n) (is_rows_length n) h (view_limited n) (rows_limited n)))))
 
 not_length : (n : ℕ) (b : Bool) → is_length n ≡ b → 4194304 < n → b ≡ false
 not_length n true e h = absurd (omega (arith, length_limited n e, h))

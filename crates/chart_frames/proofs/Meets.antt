@@ -14,8 +14,8 @@ use Rattle.whole_number.specs.Range.{IsValue, is_time, is_value, IsTime}
 use Rattle.chart_frames.specs.declared.frame.ViewFrame.{ViewFrame}
 use Rattle.chart_frames.specs.declared.frame.RowsFrame.{RowsFrame}
 use Rattle.chart_frames.specs.Format.{Format, stop, field, Meets, after}
-use Rattle.chart_frames.specs.Fields.{signed, within, is_zero, is_view_length, is_rows_length, is_length, admits, session_fields, side_field, side_fields, series_fields, window_fields, range_fields, axis_fields, has_field, rmin_field, rmax_field, stored_fields, count_fields, level_of, index_of, is_key, follows, is_difference, key_field, difference_field, coef_fields, coefs_fields, place_fields, source_fields, view_fields, row_count_fields, rises, column_field, value_field, at_most_field, at_least_field, between_field, row_fields, rows_fields, head_fields, done_fields, names_first, names_second, refused_fields, opened_fields, kind_fields, length_field, kind_field, frame_fields}
-use Rattle.chart_frames.specs.Frames.{unsigned, key_number, flags_of, coefs_numbers, all_rows_numbers, view_numbers, rows_numbers, IsSession, IsSide, IsWindow, IsRange, IsAxis, IsStored, IsCoef, FitsCoef, Precedes, FitCoefs, FitsViewHead, FitsRow, FitRows, FitsRowsHead, FitsRefused, FitsOpened}
+use Rattle.chart_frames.specs.Fields.{signed, within, is_zero, is_view_length, is_rows_length, is_length, admits, session_fields, side_field, side_fields, series_fields, window_fields, range_fields, axis_fields, has_field, rmin_field, rmax_field, stored_fields, count_fields, level_of, index_of, is_key, follows, is_difference, key_field, difference_field, coef_fields, coefs_fields, place_fields, source_fields, view_fields, row_count_fields, rises, column_field, value_field, at_most_field, at_least_field, between_field, row_fields, rows_fields, head_fields, done_fields, names_first, names_second, refused_fields, opened_fields, flag_fields, live_fields, kind_fields, length_field, kind_field, frame_fields}
+use Rattle.chart_frames.specs.Frames.{unsigned, key_number, flags_of, coefs_numbers, all_rows_numbers, view_numbers, rows_numbers, IsSession, IsSide, IsWindow, IsRange, IsAxis, IsStored, IsCoef, FitsCoef, Precedes, FitCoefs, FitsViewHead, FitsRow, FitRows, FitsRowsHead, FitsRefused, FitsOpened, number_of_flag}
 use Rattle.chart_frames.specs.Items.{last_key, last_column}
 use Rattle.chart_frames.proofs.Orders.{height_bound, index_bound, level_of-number, index_of-number}
 
@@ -280,7 +280,7 @@ view_length_test count most =
 
 length_of_view : (length : ℕ) → is_view_length length ≡ true → is_length length ≡ true
 length_of_view length h =
-    or_right (eqb length 5) _ (or_right (eqb length 9) _ (or_right (eqb length 18) _ (or_left (is_view_length length) (is_rows_length length) h)))
+    or_right (eqb length 5) _ (or_right (eqb length 6) _ (or_right (eqb length 9) _ (or_right (eqb length 18) _ (or_left (is_view_length length) (is_rows_length length) h))))
 
 -- a view up to some of its coefficients
 pub view_numbers_meet : (v : ViewFrame) (coefs : List (Key × Coef)) → FitsViewHead v → FitCoefs v.slots coefs → length coefs ≤ v.count → Meets frame_fields (view_numbers v coefs)
@@ -387,7 +387,7 @@ rows_length_test count most =
 
 length_of_rows : (length : ℕ) → is_rows_length length ≡ true → is_length length ≡ true
 length_of_rows length h =
-    or_right (eqb length 5) _ (or_right (eqb length 9) _ (or_right (eqb length 18) _ (or_right (is_view_length length) (is_rows_length length) h)))
+    or_right (eqb length 5) _ (or_right (eqb length 6) _ (or_right (eqb length 9) _ (or_right (eqb length 18) _ (or_right (is_view_length length) (is_rows_length length) h))))
 
 head_meets : (r : RowsFrame) (next : ℕ → ℕ → Format) (ns : List ℕ) → FitsRowsHead r → Meets (next r.w r.count) ns
     → Meets (head_fields (27 + 34 * r.count) next) (r.session ∷ (r.w ∷ (r.h ∷ (unsigned r.lo ∷ (unsigned r.hi ∷ (r.count ∷ ns))))))
@@ -450,7 +450,7 @@ refused_meets number a b h = (
         (
           omega (arith, h.high),
           (
-            within_from 1 21 number h.low h.high,
+            within_from 1 22 number h.low h.high,
             (omega (arith, h.first), (named_test (names_first number) a h.no_first, (omega (arith, h.second), (named_test (names_second number) b h.no_second, tt)))),
           ),
         ),
@@ -469,3 +469,13 @@ opened_meets session cache h =
 pub closed_meets : (session : ℕ) → IsSession session → Meets frame_fields (5 ∷ (4 ∷ (session ∷ [])))
 unfolding frame_fields length_field kind_field kind_fields admits
 closed_meets session h = (omega arith, (refl, (omega arith, (refl, session_meets session stop [] h tt))))
+
+flag_meets : (on : Bool) → Meets (flag_fields stop) (number_of_flag on ∷ [])
+unfolding flag_fields
+flag_meets true = (omega arith, (refl, tt))
+flag_meets false = (omega arith, (refl, tt))
+
+pub live_meets : (session : ℕ) (on : Bool) → IsSession session → Meets frame_fields (6 ∷ (7 ∷ (session ∷ (number_of_flag on ∷ []))))
+unfolding frame_fields length_field kind_field kind_fields admits live_fields
+live_meets session on h =
+    (omega arith, (refl, (omega arith, (refl, session_meets session (flag_fields stop) (number_of_flag on ∷ []) h (flag_meets on)))))

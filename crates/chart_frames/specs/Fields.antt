@@ -27,7 +27,7 @@ is_rows_length length = has_items 27 34 4096 length
 
 -- the length is possible for some kind
 abbrev pub is_length : ℕ → Bool
-is_length length = length == 5 || (length == 9 || (length == 18 || (is_view_length length || is_rows_length length)))
+is_length length = length == 5 || (length == 6 || (length == 9 || (length == 18 || (is_view_length length || is_rows_length length))))
 
 -- the kind admits the length
 unfoldable pub admits : ℕ → ℕ → Bool
@@ -37,7 +37,8 @@ admits length kind =
     else (if kind == 3 then length == 9
     else (if kind == 4 then length == 5
     else (if kind == 5 then is_view_length length
-    else (if kind == 6 then is_rows_length length else false)))))
+    else (if kind == 6 then is_rows_length length
+    else (if kind == 7 then length == 6 else false))))))
 
 unfoldable pub session_fields : Format → Format
 session_fields next = field 4 (λ session. nat_le 1 session) (λ session. next)
@@ -181,18 +182,25 @@ done_fields = field 8 (λ slots. nat_le slots (2 ^ 28)) (λ slots. stop)
 
 -- the numbers of refusals that tell a first and a second number more
 abbrev pub names_second : ℕ → Bool
-names_second number = number == 20 || number == 21
+names_second number = number == 20 || (number == 21 || number == 22)
 
 abbrev pub names_first : ℕ → Bool
 names_first number = number == 2 || (number == 3 || names_second number)
 
 unfoldable pub refused_fields : Format
 refused_fields =
-    field 1 (within 1 21) (λ number.
+    field 1 (within 1 22) (λ number.
     field 8 (λ a. names_first number || a == 0) (λ a. field 8 (λ b. names_second number || b == 0) (λ b. stop)))
 
 unfoldable pub opened_fields : Format
 opened_fields = session_fields (field 4 (within 1 131072) (λ cache. stop))
+
+-- a number that is 1 or 0
+unfoldable pub flag_fields : Format → Format
+flag_fields next = field 1 (λ flag. nat_le flag 1) (λ flag. next)
+
+unfoldable pub live_fields : Format
+live_fields = session_fields (flag_fields stop)
 
 -- the fields of a kind, behind it
 unfoldable pub kind_fields : ℕ → ℕ → Format
@@ -202,7 +210,8 @@ kind_fields length kind =
     else (if kind == 3 then opened_fields
     else (if kind == 4 then session_fields stop
     else (if kind == 5 then view_fields length (λ slots count. coefs_fields slots None count)
-    else head_fields length (λ w count. rows_fields w None count)))))
+    else (if kind == 6 then head_fields length (λ w count. rows_fields w None count)
+    else live_fields)))))
 
 -- the length of what follows it
 unfoldable pub length_field : (ℕ → Format) → Format

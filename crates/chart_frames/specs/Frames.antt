@@ -1,5 +1,5 @@
 -- Frames: the numbers of their fields, their one spelling, and the rules that their fields meet.
-use Rattle.std.specs.Prelude.{ℕ, ℤ, pos, ◌≡◌, ◌+◌, ◌*◌, ◌^◌, ◌<◌, ◌≤◌, ◌≤ℤ◌, ◌<ℤ◌, ◌⊎◌, false, ◌&&◌, ◌||◌, IsTrue, unsigned_abs, List, [], ◌∷◌, length, All, AllPairs, if◌then◌else◌}
+use Rattle.std.specs.Prelude.{ℕ, ℤ, pos, ◌≡◌, ◌+◌, ◌*◌, ◌^◌, ◌<◌, ◌≤◌, ◌≤ℤ◌, ◌<ℤ◌, ◌⊎◌, Bool, false, ◌&&◌, ◌||◌, IsTrue, unsigned_abs, List, [], ◌∷◌, length, All, AllPairs, if◌then◌else◌}
 use Rattle.std.specs.Int.{w64, cast_unsigned}
 use Rattle.om3_coeff.specs.declared.key.Key.{Key}
 use Rattle.om3_coeff.specs.declared.coef.Coef.{Coef}
@@ -8,7 +8,7 @@ use Rattle.m4_groups.specs.declared.row.Row.{Row}
 use Rattle.m4_groups.specs.Rows.{AreRising}
 use Rattle.whole_number.specs.Range.{IsValue, IsTime}
 use Rattle.chart_frames.specs.declared.frame.Frame.{Frame}
-use Rattle.chart_frames.specs.declared.frame.Frame.TheVariants.{Done, Refused, Opened, Closed, View, Rows}
+use Rattle.chart_frames.specs.declared.frame.Frame.TheVariants.{Done, Refused, Opened, Closed, View, Rows, Live}
 use Rattle.chart_frames.specs.declared.frame.ViewFrame.{ViewFrame}
 use Rattle.chart_frames.specs.declared.frame.RowsFrame.{RowsFrame}
 use Rattle.chart_frames.specs.Format.{spell}
@@ -47,6 +47,10 @@ abbrev pub rows_numbers : RowsFrame → List Row → List ℕ
 rows_numbers r rows =
     (27 + 34 * r.count) ∷ (6 ∷ (r.session ∷ (r.w ∷ (r.h ∷ (unsigned r.lo ∷ (unsigned r.hi ∷ (r.count ∷ all_rows_numbers rows)))))))
 
+-- 1 where it is so
+abbrev pub number_of_flag : Bool → ℕ
+number_of_flag on = if on then 1 else 0
+
 -- the numbers of a frame's fields, in their order
 abbrev pub numbers_of : Frame → List ℕ
 numbers_of (Done slots) = 9 ∷ (1 ∷ (slots ∷ []))
@@ -55,6 +59,7 @@ numbers_of (Opened session cache) = 9 ∷ (3 ∷ (session ∷ (cache ∷ [])))
 numbers_of (Closed session) = 5 ∷ (4 ∷ (session ∷ []))
 numbers_of (View v) = view_numbers v v.coefs
 numbers_of (Rows r) = rows_numbers r r.rows
+numbers_of (Live session on) = 6 ∷ (7 ∷ (session ∷ (number_of_flag on ∷ [])))
 
 -- the bytes of a frame: each field's number by its size
 abbrev pub spelling : Frame → List ℕ
@@ -180,7 +185,7 @@ pub record FitsRows (r : RowsFrame) : Type 0 where
 -- a refusal's number; it tells numbers more only where it names them
 pub record FitsRefused (number a b : ℕ) : Type 0 where
   pub low : 1 ≤ number
-  pub high : number ≤ 21
+  pub high : number ≤ 22
   pub first : a < 2 ^ 64
   pub second : b < 2 ^ 64
   pub no_first : names_first number ≡ false → a ≡ 0
@@ -199,3 +204,4 @@ Fits (Opened session cache) = FitsOpened session cache
 Fits (Closed session) = IsSession session
 Fits (View v) = FitsView v
 Fits (Rows r) = FitsRows r
+Fits (Live session on) = IsSession session

@@ -4,11 +4,11 @@ use Rattle.om3_coeff.specs.declared.key.Key.{Key}
 use Rattle.om3_coeff.specs.declared.coef.Coef.{Coef}
 use Rattle.m4_groups.specs.declared.row.Row.{Row}
 use Rattle.chart_frames.specs.declared.frame.Frame.{Frame}
-use Rattle.chart_frames.specs.declared.frame.Frame.TheVariants.{Done, Refused, Opened, Closed, View, Rows}
+use Rattle.chart_frames.specs.declared.frame.Frame.TheVariants.{Done, Refused, Opened, Closed, View, Rows, Live}
 use Rattle.chart_frames.specs.declared.frame.ViewFrame.{ViewFrame}
 use Rattle.chart_frames.specs.declared.frame.RowsFrame.{RowsFrame}
 use Rattle.chart_frames.specs.Format.{number_bytes}
-use Rattle.chart_frames.specs.Frames.{unsigned, key_number, flags_of}
+use Rattle.chart_frames.specs.Frames.{unsigned, key_number, flags_of, number_of_flag}
 
 -- the eight bytes of a signed number
 abbrev pub signed_bytes : ℤ → List ℕ
@@ -68,3 +68,4 @@ frame_before (Opened session cache) tail = framed 9 3 (number_bytes 4 session ++
 frame_before (Closed session) tail = framed 5 4 (number_bytes 4 session ++ tail)
 frame_before (View v) tail = framed (84 + 25 * v.count) 5 (view_before v (coefs_before v.coefs tail))
 frame_before (Rows r) tail = framed (27 + 34 * r.count) 6 (rows_before r (rows_all_before r.rows tail))
+frame_before (Live session on) tail = framed 6 7 (number_bytes 4 session ++ (number_bytes 1 (number_of_flag on) ++ tail))

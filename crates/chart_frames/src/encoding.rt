@@ -2,7 +2,7 @@ ghost use Rattle.std.specs.Prelude.{◌≡◌, ◌<◌, ◌≤◌, ◌+◌, ◌*
 ghost use Rattle.om3_coeff.specs.declared.key.Key.{Key};
 ghost use Rattle.om3_coeff.specs.declared.coef.Coef.{Coef};
 ghost use Rattle.chart_frames.specs.Format.{number_bytes};
-ghost use Rattle.chart_frames.specs.Frames.{Fits, FitsView, FitsRows, spelling, flags_of};
+ghost use Rattle.chart_frames.specs.Frames.{Fits, FitsView, FitsRows, spelling, flags_of, number_of_flag};
 ghost use Rattle.chart_frames.specs.Spelled.{signed_bytes, two_before, place_before, source_before, view_before, coef_before, coefs_before, row_before, rows_before, rows_all_before, framed, frame_before};
 
 use crate::errors::NoMemory;
@@ -192,6 +192,20 @@ fn put_closed(out: &mut Vec<u8>, session: u32) -> Result<(), AllocError>
     put_word(out, session)
 }
 
+fn put_live(out: &mut Vec<u8>, session: u32, on: bool) -> Result<(), AllocError>
+    ensures { OnOk result ((tail : List ℕ) → out.new.items ++ tail ≡ out.old.items ++ framed 6 7 (number_bytes 4 session ++ (number_bytes 1 (number_of_flag on) ++ tail))) }
+{
+    put_start(out, 6, 7)?;
+    put_word(out, session)?;
+    put_byte(out, number_of_flag(on))
+}
+
+fn number_of_flag(on: bool) -> u8
+    ensures { result ≡ number_of_flag on }
+{
+    if on { 1 } else { 0 }
+}
+
 fn put_frame(out: &mut Vec<u8>, frame: &Frame) -> Result<(), AllocError>
     requires { Fits frame.now }
     ensures { OnOk result ((tail : List ℕ) → out.new.items ++ tail ≡ out.old.items ++ frame_before frame.now tail) }
@@ -203,6 +217,7 @@ fn put_frame(out: &mut Vec<u8>, frame: &Frame) -> Result<(), AllocError>
         Frame::Closed { session } => put_closed(out, *session),
         Frame::View(view) => put_view(out, view),
         Frame::Rows(rows) => put_rows(out, rows),
+        Frame::Live { session, on } => put_live(out, *session, *on),
     }
 }
 

@@ -3,8 +3,8 @@ ghost use Rattle.std.specs.Prelude.{◌≡◌, ◌<◌, ◌≤◌, ◌≤ℤ◌,
 ghost use Rattle.whole_number.specs.Range.{IsValue, IsTime};
 ghost use Rattle.chart_frames.specs.Format.{Format, number_bytes};
 ghost use Rattle.chart_frames.specs.Reading.{Reads, read};
-ghost use Rattle.chart_frames.specs.Fields.{session_fields, series_fields, side_field, side_fields, window_fields, range_fields, axis_fields, has_field, rmin_field, rmax_field, stored_fields, count_fields, row_count_fields};
-ghost use Rattle.chart_frames.specs.Frames.{IsSession, IsSide, IsWindow, IsRange, IsAxis, IsStored};
+ghost use Rattle.chart_frames.specs.Fields.{session_fields, series_fields, side_field, side_fields, window_fields, range_fields, axis_fields, has_field, rmin_field, rmax_field, stored_fields, count_fields, row_count_fields, flag_fields};
+ghost use Rattle.chart_frames.specs.Frames.{IsSession, IsSide, IsWindow, IsRange, IsAxis, IsStored, number_of_flag};
 ghost use Rattle.chart_frames.specs.Spelled.{signed_bytes, two_before};
 
 use crate::fields::{Stop, byte_at, long_at, short_at, signed_at, word_at};
@@ -35,6 +35,20 @@ pub fn session_at(bytes: &[u8]) -> Result<(u32, &[u8]), Stop>
         return Err(Stop::Bad(bytes.len()));
     }
     Ok((session, rest))
+}
+
+/// A number that is 1 or 0.
+#[tactic(auto, unfolding(crate::specs::Fields::flag_fields))]
+pub fn flag_at(bytes: &[u8]) -> Result<(bool, &[u8]), Stop>
+    ensures reads { (next : Format) → Reads result (read (flag_fields next) bytes.now) (λ x. read next x.1.now) }
+    ensures takes { IfOk result (λ x. bytes.now ≡ number_bytes 1 (number_of_flag x.0) ++ x.1.now) }
+{
+    let (flag, rest) = byte_at(bytes)?;
+    match flag {
+        0 => Ok((false, rest)),
+        1 => Ok((true, rest)),
+        _ => Err(Stop::Bad(bytes.len())),
+    }
 }
 
 #[tactic(auto, unfolding(crate::specs::Fields::series_fields))]

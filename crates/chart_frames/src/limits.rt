@@ -7,6 +7,9 @@ pub const REFUSED_LENGTH: u32 = 18;
 /// The length of a frame that tells a session alone.
 pub const SESSION_LENGTH: u32 = 5;
 
+/// The length of a frame that tells a session and whether it follows its view.
+pub const LIVE_LENGTH: u32 = 6;
+
 /// The length of a view without coefficients, the bytes before the first one, and those of one.
 pub const VIEW_LENGTH: u32 = 84;
 

@@ -1,8 +1,8 @@
 // A frame up to its items: the length, the kind, and the fields of the kind.
-ghost use Rattle.std.specs.Prelude.{◌≡◌, ◌≤◌, ◌+◌, ◌*◌, ◌++◌, ℕ, Ok, Err, IsTrue, IfOk, IfErr};
+ghost use Rattle.std.specs.Prelude.{◌≡◌, ◌≢◌, ◌+◌, ◌*◌, ◌++◌, ℕ, Ok, Err, IsTrue, IfOk, IfErr};
 ghost use Rattle.chart_frames.specs.Format.{Format, stop, number_bytes};
 ghost use Rattle.chart_frames.specs.Reading.{Reads, read};
-ghost use Rattle.chart_frames.specs.Fields.{is_view_length, is_rows_length, is_length, admits, names_first, names_second, session_fields, done_fields, refused_fields, opened_fields, place_fields, source_fields, view_fields, head_fields, kind_fields, length_field, kind_field, frame_fields};
+ghost use Rattle.chart_frames.specs.Fields.{is_view_length, is_rows_length, is_length, admits, names_first, names_second, session_fields, done_fields, refused_fields, opened_fields, live_fields, place_fields, source_fields, view_fields, head_fields, kind_fields, length_field, kind_field, frame_fields};
 ghost use Rattle.chart_frames.specs.Frames.{Fits, FitsPlace, FitsSource, FitsViewHead, FitsRowsHead};
 ghost use Rattle.chart_frames.specs.Spelled.{framed, frame_before, view_before, rows_before, two_before, signed_bytes};
 ghost use Rattle.chart_frames.specs.Places.{Opens};
@@ -10,11 +10,11 @@ ghost use Rattle.chart_frames.specs.Places.{Opens};
 use crate::fields::{Stop, byte_at, long_at, word_at};
 use crate::frame::{Frame, RowsFrame, ViewFrame};
 use crate::heads::{
-    Axis, Stored, axis_at, count_at, range_at, row_count_at, series_at, session_at, sides_at,
+    Axis, Stored, axis_at, count_at, flag_at, range_at, row_count_at, series_at, session_at, sides_at,
     stored_at, window_at,
 };
 use crate::limits::{
-    EIGHT_LENGTH, MOST_COEFS, MOST_ROWS, MOST_SLOTS, REFUSED_LENGTH, ROWS_LENGTH, SESSION_LENGTH,
+    EIGHT_LENGTH, LIVE_LENGTH, MOST_COEFS, MOST_ROWS, MOST_SLOTS, REFUSED_LENGTH, ROWS_LENGTH, SESSION_LENGTH,
     VIEW_LENGTH,
 };
 use m4_groups::Rows;
@@ -53,6 +53,7 @@ fn is_length(length: u32) -> bool
     let of_view = is_view_length(length);
     let of_rows = is_rows_length(length);
     length == SESSION_LENGTH
+        || length == LIVE_LENGTH
         || length == EIGHT_LENGTH
         || length == REFUSED_LENGTH
         || of_view
@@ -70,6 +71,7 @@ fn admits(length: u32, kind: u8) -> bool
         4 => length == SESSION_LENGTH,
         5 => is_view_length(length),
         6 => is_rows_length(length),
+        7 => length == LIVE_LENGTH,
         _ => false,
     }
 }
@@ -113,7 +115,7 @@ fn done_at(bytes: &[u8]) -> Result<(Frame, &[u8]), Stop>
 fn names_second(number: u8) -> bool
     ensures { result ≡ names_second number }
 {
-    number == 20 || number == 21
+    number == 20 || number == 21 || number == 22
 }
 
 fn names_first(number: u8) -> bool
@@ -129,7 +131,7 @@ fn refused_at(bytes: &[u8]) -> Result<(Frame, &[u8]), Stop>
     ensures takes { IfOk result (λ x. Fits x.0 × (framed 18 2 bytes.now ≡ frame_before x.0 x.1.now)) }
 {
     let (number, rest) = byte_at(bytes)?;
-    if number == 0 || number > 21 {
+    if number == 0 || number > 22 {
         return Err(Stop::Bad(bytes.len()));
     }
     let (a, after) = long_at(rest)?;
@@ -162,6 +164,16 @@ fn closed_at(bytes: &[u8]) -> Result<(Frame, &[u8]), Stop>
 {
     let (session, rest) = session_at(bytes)?;
     Ok((Frame::Closed { session }, rest))
+}
+
+#[tactic(auto, unfolding(crate::specs::Fields::live_fields))]
+fn live_at(bytes: &[u8]) -> Result<(Frame, &[u8]), Stop>
+    ensures reads { Reads result (read live_fields bytes.now) (λ x. Ok x.1.now) }
+    ensures takes { IfOk result (λ x. Fits x.0 × (framed 6 7 bytes.now ≡ frame_before x.0 x.1.now)) }
+{
+    let (session, rest) = session_at(bytes)?;
+    let (on, after) = flag_at(rest)?;
+    Ok((Frame::Live { session, on }, after))
 }
 
 /// Where a view is shown.
@@ -287,7 +299,8 @@ fn rows_at(alloc: Global, length: u32, bytes: &[u8]) -> Result<(RowsFrame, &[u8]
 #[tactic(auto, unfolding(crate::specs::Fields::kind_fields))]
 fn short_frame_at(length: u32, kind: u8, bytes: &[u8]) -> Result<(Frame, &[u8]), Stop>
     requires admitted { IsTrue (admits length kind) }
-    requires short { kind ≤ 4 }
+    requires no_coefs { kind ≢ 5 }
+    requires no_rows { kind ≢ 6 }
     ensures ok { IfOk result (λ x. Fits x.0 × (framed length kind bytes.now ≡ frame_before x.0 x.1.now)) }
     ensures err { IfErr result (λ e. read (kind_fields length kind) bytes.now ≡ Err e) }
 {
@@ -295,7 +308,8 @@ fn short_frame_at(length: u32, kind: u8, bytes: &[u8]) -> Result<(Frame, &[u8]),
         1 => done_at(bytes),
         2 => refused_at(bytes),
         3 => opened_at(bytes),
-        _ => closed_at(bytes),
+        4 => closed_at(bytes),
+        _ => live_at(bytes),
     }
 }
 
