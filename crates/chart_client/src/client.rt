@@ -46,7 +46,7 @@ impl Client {
 
     /// Takes a frame, and answers the picture of a View or Rows frame.
     ///
-    /// It is `UnknownSession` where a View, Rows or Closed frame names a session that isn't open, and
+    /// It is `UnknownSession` where a View, Rows, Closed or Live frame names a session that isn't open, and
     /// `Missing` or `BadCoefficient` where a View wants a key whose coefficient is neither sent nor held,
     /// or doesn't fit the key's span: for the first such key, from the top level down and then from left
     /// to right. After these nothing has changed. After `NoMemory` no session is open any more.
@@ -82,6 +82,10 @@ impl Client {
             }
             Frame::View(view) => Ok(Some(self.view(view)?)),
             Frame::Rows(rows) => Ok(Some(self.rows(rows)?)),
+            Frame::Live { session, .. } => {
+                self.need(*session)?;
+                Ok(None)
+            }
         }
     }
 
@@ -112,6 +116,19 @@ impl Client {
         }
         self.remove(number);
         Ok(())
+    }
+
+    // Whether a session is open, or why a frame that names it isn't accepted.
+    fn need(&self, number: u32) -> Result<(), ClientError>
+        ensures is_open { OnOk result (IsSome (holding_of number self.now)) }
+        ensures refused { IfErr result (λ e. e ≡ client.UnknownSession number) }
+        ensures not_open { OnErr result (holding_of number self.now ≡ None) }
+    {
+        if self.is_open(number) {
+            Ok(())
+        } else {
+            Err(ClientError::UnknownSession { session: number })
+        }
     }
 
     // Drops the holding of a session, if it is open.
