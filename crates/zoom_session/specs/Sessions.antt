@@ -26,6 +26,11 @@ abbrev pub last_of : Option Session → Option ViewSpec
 last_of None = None
 last_of (Some s) = s.last
 
+-- how many coefficients a session's client keeps
+abbrev pub cache_of : Option Session → Option ℕ
+cache_of None = None
+cache_of (Some s) = Some s.cache.capacity
+
 -- the most sessions that are open at once
 abbrev pub most_sessions : ℕ
 most_sessions = 16

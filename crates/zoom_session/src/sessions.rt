@@ -4,7 +4,7 @@ ghost use Rattle.needed_nodes.specs.Answers.{AgreesForView, most_needed, most_re
 ghost use Rattle.zoom_session.specs.Places.{IsPlaceOf, IsClosed};
 ghost use Rattle.zoom_session.specs.Planned.{IsInBounds};
 ghost use Rattle.zoom_session.specs.Plans.{AreNeeded, AreWanted, HasEntries, PlansIn, RefusesPlan, CountsNeeded};
-ghost use Rattle.zoom_session.specs.Sessions.{is_open, session_of, last_of, open_refusal, fresh_session, without, needed_in, viewed, AreSessions};
+ghost use Rattle.zoom_session.specs.Sessions.{is_open, session_of, last_of, cache_of, open_refusal, fresh_session, without, needed_in, viewed, AreSessions};
 ghost use Rattle.zoom_session.specs.declared.errors.SessionError.TheVariants.{Refused};
 ghost use Rattle.series_book.specs.declared.refusals.Refusal.{Refusal};
 ghost use Rattle.series_book.specs.declared.refusals.Refusal.TheVariants.{UnknownSession};
@@ -141,6 +141,15 @@ impl Sessions {
     {
         let place = self.place_of(number)?;
         self.sessions[place].last.as_ref()
+    }
+
+    /// How many coefficients a session's client keeps. It is `None` where the session isn't open.
+    pub fn cache(&self, number: u32) -> Option<u32>
+        ensures cache { result ≡ cache_of (session_of number self.now) }
+        ensures valid { AreSessions self.now }
+    {
+        let place = self.place_of(number)?;
+        Some(self.sessions[place].cache.capacity())
     }
 
     /// What a view without a filter takes that shows the values from `lo` to `hi`: the keys that it needs,
