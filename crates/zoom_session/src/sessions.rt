@@ -148,6 +148,8 @@ impl Sessions {
         ensures cache { result ≡ cache_of (session_of number self.now) }
         ensures valid { AreSessions self.now }
     {
+        // It brings in what holds of the open sessions.
+        let _open = self.is_open(number);
         let place = self.place_of(number)?;
         Some(self.sessions[place].cache.capacity())
     }
