@@ -5,16 +5,16 @@ use Rattle.std.proofs.Math.Nat.{mul-le-mul_left}
 use Rattle.std.proofs.lemmas.Bool.{cases_lt}
 use Rattle.std.proofs.lemmas.Bool.Decides.{nat_tests}
 use Rattle.zoom_session.specs.declared.view_spec.ViewSpec.{ViewSpec}
-use Rattle.live_view.specs.declared.replies.LiveReply.TheVariants.{Live, TooLarge}
-use Rattle.live_view.specs.Replies.{follow_view, live_bound}
+use Rattle.chart_frames.specs.declared.frame.Frame.TheVariants.{Live}
+use Rattle.live_view.specs.Replies.{follow_view, live_bound, too_large}
 
 -- a view that is too large isn't followed
 not-followed : (n bound cache : ℕ) (unfiltered large : Bool) → unfiltered ≡ true → large ≡ true
-    → (if unfiltered && large then TooLarge bound cache else Live n true) ≡ Live n true → ⊥
+    → (if unfiltered && large then too_large bound cache else Live n true) ≡ Live n true → ⊥
 not-followed n bound cache unfiltered large one two live =
-    let P : Bool → Type 0 = λ b. (if b then TooLarge bound cache else Live n true) ≡ Live n true in
+    let P : Bool → Type 0 = λ b. (if b then too_large bound cache else Live n true) ≡ Live n true in
     let test : (unfiltered && large) ≡ true = ap (λ b. b && large) one ∙ two in
-    let clash : TooLarge bound cache ≡ Live n true = subst P test live in
+    let clash : too_large bound cache ≡ Live n true = subst P test live in
     cc
 
 -- the bound of a followed view without a filter is within the cache

@@ -47,6 +47,14 @@ with-all P n xs one all =
     All-append P (filter (λ m. nat_lt m n) xs) (n ∷ filter (λ m. nat_lt n m) xs) (All-filter (λ m. nat_lt m n) P xs all)
     (All-cons P n (filter (λ m. nat_lt n m) xs) one (All-filter (λ m. nat_lt n m) P xs all))
 
+-- what holds of all numbers holds of all but the first
+pub rest-all : (P : ℕ → Type 0) (n : ℕ) (xs rest : List ℕ) → xs ≡ n ∷ rest → All P xs → All P rest
+rest-all P n xs rest is all = λ k d below. let A : List ℕ → Type 0 = λ l. All P l in subst A is all (suc k) d (omega (arith, below))
+
+-- and of the first
+pub first-of-all : (P : ℕ → Type 0) (n : ℕ) (xs rest : List ℕ) → xs ≡ n ∷ rest → All P xs → P n
+first-of-all P n xs rest is all = let A : List ℕ → Type 0 = λ l. All P l in subst A is all 0 n (omega arith)
+
 -- one less
 pub without-rises : (n : ℕ) (xs : List ℕ) → IsStrictlyIncreasing xs → IsStrictlyIncreasing (without_number n xs)
 without-rises n xs rising = IsStrictlyIncreasing-filter (λ m. not (m == n)) xs rising

@@ -10,11 +10,11 @@ use Rattle.std.proofs.lemmas.List.Kept.{AllPairs-from_increasing}
 use Rattle.std.proofs.lemmas.List.Elements.{All-contains}
 use Rattle.std.proofs.lemmas.Map.Made.{length-le_from_is_member, is_member-Decides, IsDistinct-from_AllPairs}
 use Rattle.zoom_session.specs.declared.session.Session.{Session}
-use Rattle.zoom_session.specs.Sessions.{is_open, session_of, last_of, AreSessions}
-use Rattle.live_view.specs.declared.replies.LiveReply.{LiveReply}
-use Rattle.live_view.specs.declared.replies.LiveReply.TheVariants.{Live}
+use Rattle.zoom_session.specs.Sessions.{is_open, session_of, last_of, cache_of, AreSessions}
+use Rattle.chart_frames.specs.declared.frame.Frame.{Frame}
+use Rattle.chart_frames.specs.declared.frame.Frame.TheVariants.{Live}
 use Rattle.live_view.specs.Replies.{follow_reply}
-use Rattle.live_view.specs.Sessions.{cache_of, AreOpen, HaveViews, has_view}
+use Rattle.live_view.specs.Sessions.{AreOpen, HaveViews, has_view}
 
 -- the numbers of the open sessions
 abbrev numbers : List Session → List ℕ
@@ -59,7 +59,7 @@ live-there n m on None live = cc
 live-there n m on (Some s) live = refl
 
 -- so a session that is followed is open
-pub live-open : (n m : ℕ) (on : Bool) (reply : LiveReply) (sessions : List Session) → reply ≡ follow_reply n (session_of n sessions) → reply ≡ Live m on → IsTrue (is_open n sessions)
+pub live-open : (n m : ℕ) (on : Bool) (reply : Frame) (sessions : List Session) → reply ≡ follow_reply n (session_of n sessions) → reply ≡ Live m on → IsTrue (is_open n sessions)
 live-open n m on reply sessions is live = sym (opens-found n sessions) ∙ live-there n m on (session_of n sessions) (sym is ∙ live)
 
 -- sessions of which the same are open

@@ -6,14 +6,13 @@ use Rattle.std.specs.List.Sorted.{IsStrictlyIncreasing}
 use Rattle.std.proofs.lemmas.List.Kept.{IsStrictlyIncreasing-filter}
 use Rattle.std.proofs.lemmas.List.Elements.{All-filter, All-weaker, filter_passes}
 use Rattle.chart_frames.specs.declared.frame.Frame.{Frame}
-use Rattle.chart_frames.specs.declared.frame.Frame.TheVariants.{Done, Refused, Opened, Closed, View as ViewOf, Rows}
+use Rattle.chart_frames.specs.declared.frame.Frame.TheVariants.{Done, Refused, Opened, Closed, View as ViewOf, Rows, Live}
 use Rattle.zoom_session.specs.declared.session.Session.{Session}
 use Rattle.zoom_session.specs.declared.view_spec.ViewSpec.{ViewSpec}
 use Rattle.zoom_session.specs.Sessions.{is_open, session_of, last_of}
 use Rattle.live_view.specs.declared.meaning.Meaning.{Meaning}
-use Rattle.live_view.specs.declared.meaning.Meaning.TheVariants.{View, Edit, Other}
 use Rattle.live_view.specs.Numbers.{without_number}
-use Rattle.live_view.specs.Replies.{ended, still_followed, shows, followers, pushed_to}
+use Rattle.live_view.specs.Replies.{ended, still_followed, shows, followers}
 use Rattle.live_view.specs.Sessions.{OpensBy, AreOpen, HaveViews, has_view}
 use Rattle.live_view.proofs.NumberLemmas.{without-rises, some-few}
 
@@ -42,7 +41,7 @@ pub still-few : (e : Option ℕ) (ns : List ℕ) → length ns ≤ 16 → length
 still-few None ns few = few
 still-few (Some n) ns few = some-few (λ m. not (m == n)) ns few
 
-still-all : (P : ℕ → Type 0) (e : Option ℕ) (ns : List ℕ) → All P ns → All P (still_followed e ns)
+pub still-all : (P : ℕ → Type 0) (e : Option ℕ) (ns : List ℕ) → All P ns → All P (still_followed e ns)
 still-all P None ns all = all
 still-all P (Some n) ns all = All-filter (λ m. not (m == n)) P ns all
 
@@ -65,9 +64,10 @@ passed-open meaning (ViewOf view) old new ns opens opened =
     still-all (λ n. IsTrue (is_open n new)) (ended meaning (ViewOf view)) ns (λ k d below. opens (get_or ns k d) ∙ opened k d below)
 passed-open meaning (Rows rows) old new ns opens opened =
     still-all (λ n. IsTrue (is_open n new)) (ended meaning (Rows rows)) ns (λ k d below. opens (get_or ns k d) ∙ opened k d below)
+passed-open meaning (Live session on) old new ns opens opened = λ k d below. opens (get_or ns k d) ∙ opened k d below
 
 -- the sessions that follow a series rise, and have had a view
-followers-rise : (series : Option ℕ) (sessions : List Session) (ns : List ℕ) → IsStrictlyIncreasing ns → IsStrictlyIncreasing (followers series sessions ns)
+pub followers-rise : (series : Option ℕ) (sessions : List Session) (ns : List ℕ) → IsStrictlyIncreasing ns → IsStrictlyIncreasing (followers series sessions ns)
 followers-rise None sessions ns rising = none-rises
 followers-rise (Some series) sessions ns rising = IsStrictlyIncreasing-filter (λ n. shows series (last_of (session_of n sessions))) ns rising
 
@@ -75,32 +75,13 @@ shown-viewed : (series : ℕ) (last : Option ViewSpec) → shows series last ≡
 shown-viewed series None shown = cc
 shown-viewed series (Some view) shown = refl
 
-followers-viewed : (series : Option ℕ) (sessions : List Session) (ns : List ℕ) → HaveViews sessions (followers series sessions ns)
+pub followers-viewed : (series : Option ℕ) (sessions : List Session) (ns : List ℕ) → HaveViews sessions (followers series sessions ns)
 followers-viewed None sessions ns = none-viewed sessions
 followers-viewed (Some series) sessions ns =
     All-weaker (λ n. shows series (last_of (session_of n sessions)) ≡ true) (λ n. IsTrue (has_view n sessions))
     (λ n shown. shown-viewed series (last_of (session_of n sessions)) shown)
     (followers (Some series) sessions ns) (filter_passes (λ n. shows series (last_of (session_of n sessions))) ns)
 
--- so do those that a frame is pushed to
-pub pushed-rise : (meaning : Meaning) (frame : Frame) (series_of : List ℕ → Option ℕ) (sessions : List Session) (ns : List ℕ) → IsStrictlyIncreasing ns
-    → IsStrictlyIncreasing (pushed_to meaning frame series_of sessions ns)
-pushed-rise View frame series_of sessions ns rising = none-rises
-pushed-rise Other frame series_of sessions ns rising = none-rises
-pushed-rise (Edit name) (Done slots) series_of sessions ns rising = followers-rise (series_of name) sessions ns rising
-pushed-rise (Edit name) (Refused number a b) series_of sessions ns rising = none-rises
-pushed-rise (Edit name) (Opened session cache) series_of sessions ns rising = none-rises
-pushed-rise (Edit name) (Closed session) series_of sessions ns rising = none-rises
-pushed-rise (Edit name) (ViewOf view) series_of sessions ns rising = none-rises
-pushed-rise (Edit name) (Rows rows) series_of sessions ns rising = none-rises
-
-pub pushed-viewed : (meaning : Meaning) (frame : Frame) (series_of : List ℕ → Option ℕ) (sessions : List Session) (ns : List ℕ)
-    → HaveViews sessions (pushed_to meaning frame series_of sessions ns)
-pushed-viewed View frame series_of sessions ns = none-viewed sessions
-pushed-viewed Other frame series_of sessions ns = none-viewed sessions
-pushed-viewed (Edit name) (Done slots) series_of sessions ns = followers-viewed (series_of name) sessions ns
-pushed-viewed (Edit name) (Refused number a b) series_of sessions ns = none-viewed sessions
-pushed-viewed (Edit name) (Opened session cache) series_of sessions ns = none-viewed sessions
-pushed-viewed (Edit name) (Closed session) series_of sessions ns = none-viewed sessions
-pushed-viewed (Edit name) (ViewOf view) series_of sessions ns = none-viewed sessions
-pushed-viewed (Edit name) (Rows rows) series_of sessions ns = none-viewed sessions
+pub followers-all : (P : ℕ → Type 0) (series : Option ℕ) (sessions : List Session) (ns : List ℕ) → All P ns → All P (followers series sessions ns)
+followers-all P None sessions ns all = λ k d below. absurd (omega (arith, below))
+followers-all P (Some series) sessions ns all = All-filter (λ n. shows series (last_of (session_of n sessions))) P ns all

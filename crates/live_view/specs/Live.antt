@@ -1,9 +1,9 @@
 -- What live views answer, and how they change, over the relations of what answers their lines.
-use Rattle.std.specs.Prelude.{ℕ, ◌≡◌, List, [], ◌∷◌, Result, Ok, Err, refl}
+use Rattle.std.specs.Prelude.{ℕ, ◌≡◌, List, [], ◌∷◌, Option, Result, Ok, Err, refl}
 use Rattle.std.proofs.Common.{◌∙◌}
 use Rattle.block_disk.specs.declared.streams.Streams.{Ghosts as StreamGhosts}
 use Rattle.series_book.specs.declared.refusals.Refusal.TheVariants.{BadLine}
-use Rattle.chart_frames.specs.declared.frame.Frame.{Frame as AnyFrame}
+use Rattle.chart_frames.specs.declared.frame.Frame.{Frame}
 use Rattle.zoom_session.specs.declared.session.Session.{Session}
 use Rattle.zoom_session.specs.Sessions.{is_open, session_of}
 use Rattle.live_view.specs.declared.errors.LiveFault.{LiveFault}
@@ -11,12 +11,10 @@ use Rattle.live_view.specs.declared.errors.LiveFault.TheVariants.{Stepper, NoMem
 use Rattle.live_view.specs.declared.live.Live.{Live}
 use Rattle.live_view.specs.declared.live_lines.LiveLine.{LiveLine}
 use Rattle.live_view.specs.declared.live_lines.LiveLine.TheVariants.{Follow, Unfollow, Bad, Other}
-use Rattle.live_view.specs.declared.replies.LiveReply.{LiveReply}
-use Rattle.live_view.specs.declared.replies.LiveReply.TheVariants.{Frame}
 use Rattle.live_view.specs.declared.stepper.Stepper.{Ghosts}
 use Rattle.live_view.specs.Lines.{live_line}
 use Rattle.live_view.specs.Meaning.{meaning_of}
-use Rattle.live_view.specs.Replies.{refused, follow_reply, unfollow_reply, followed_by, ended, still_followed, pushed_to}
+use Rattle.live_view.specs.Replies.{refused, follow_reply, unfollow_reply, followed_by, ended, still_followed, followers, Changes}
 use Rattle.live_view.specs.Sessions.{open_among}
 
 module _ {S F : Type 0} {g : Ghosts S F} {streams : StreamGhosts S} where
@@ -43,7 +41,7 @@ module _ {S F : Type 0} {g : Ghosts S F} {streams : StreamGhosts S} where
     pub pending_same : pending new ≡ pending old
 
   -- Live itself answers, and what answers other lines stays
-  pub record AnswersItself (reply answer : LiveReply) (old new : Live S F g streams) : Type 0 where
+  pub record AnswersItself (reply answer : Frame) (old new : Live S F g streams) : Type 0 where
     pub is : answer ≡ reply
     pub stepper : new.stepper ≡ old.stepper
     pub followed_now : followed new ≡ followed_by reply (followed old)
@@ -51,22 +49,22 @@ module _ {S F : Type 0} {g : Ghosts S F} {streams : StreamGhosts S} where
 
   -- The reply is the frame that answers the line. Its following is ended where the frame ends one, and where the line
   -- is an edit that was done, a push is pending for each session that follows its series.
-  pub record PassesOn (line : List ℕ) (answer : LiveReply) (old new : Live S F g streams) : Type 0 where
-    pub frame : AnyFrame
-    pub is : answer ≡ Frame frame
+  pub record PassesOn (line : List ℕ) (frame : Frame) (old new : Live S F g streams) : Type 0 where
     pub reply : g.replies old.stepper line (Ok frame) new.stepper
     pub followed_now : followed new ≡ still_followed (ended (meaning_of line) frame) (followed old)
-    pub pending_now : pending new ≡ pushed_to (meaning_of line) frame (g.series_of new.stepper) (sessions new) (followed old)
+    pub series : Option ℕ
+    pub changes : Changes (g.names new.stepper) (meaning_of line) frame series
+    pub pending_now : pending new ≡ followers series (sessions new) (followed old)
 
   -- the reply by what the line asks of live views
-  abbrev pub RepliesTo : LiveLine → List ℕ → LiveReply → Live S F g streams → Live S F g streams → Type 0
+  abbrev pub RepliesTo : LiveLine → List ℕ → Frame → Live S F g streams → Live S F g streams → Type 0
   RepliesTo (Follow n) line answer old new = AnswersItself (follow_reply n (session_of n (sessions old))) answer old new
   RepliesTo (Unfollow n) line answer old new = AnswersItself (unfollow_reply n (is_open n (sessions old))) answer old new
   RepliesTo (Bad at) line answer old new = AnswersItself (refused (BadLine at)) answer old new
   RepliesTo Other line answer old new = PassesOn line answer old new
 
   -- the reply to a line
-  abbrev pub Replies : List ℕ → LiveReply → Live S F g streams → Live S F g streams → Type 0
+  abbrev pub Replies : List ℕ → Frame → Live S F g streams → Live S F g streams → Type 0
   Replies line answer old new = RepliesTo (live_line line) line answer old new
 
   -- what answers other lines failed at this one; sessions that it closed aren't followed any more
@@ -82,13 +80,13 @@ module _ {S F : Type 0} {g : Ghosts S F} {streams : StreamGhosts S} where
   Fails line NoMemory old new = Stays old new
 
   -- the first pending push is made, with this answer of a repeat of its session
-  pub record Repeats (answer : Result AnyFrame F) (old new : Live S F g streams) : Type 0 where
+  pub record Repeats (answer : Result Frame F) (old new : Live S F g streams) : Type 0 where
     pub session : ℕ
     pub first : pending old ≡ session ∷ pending new
     pub repeat : g.repeats old.stepper session answer new.stepper
 
   -- it is made, and the same sessions are followed
-  pub record Pushes (frame : AnyFrame) (old new : Live S F g streams) : Type 0 where
+  pub record Pushes (frame : Frame) (old new : Live S F g streams) : Type 0 where
     pub repeated : Repeats (Ok frame) old new
     pub followed_same : followed new ≡ followed old
 

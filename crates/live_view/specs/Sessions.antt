@@ -1,14 +1,9 @@
 -- Which sessions are open, and which have had a view.
-use Rattle.std.specs.Prelude.{ℕ, ◌≡◌, Bool, not, ◌==◌, ◌&&◌, ◌||◌, is_some, List, All, Option, None, Some, IsTrue, filter}
+use Rattle.std.specs.Prelude.{ℕ, ◌≡◌, Bool, not, ◌==◌, ◌&&◌, ◌||◌, is_some, List, All, IsTrue, filter}
 use Rattle.chart_frames.specs.declared.frame.Frame.{Frame}
-use Rattle.chart_frames.specs.declared.frame.Frame.TheVariants.{Done, Refused, Opened, Closed, View, Rows}
+use Rattle.chart_frames.specs.declared.frame.Frame.TheVariants.{Done, Refused, Opened, Closed, View, Rows, Live}
 use Rattle.zoom_session.specs.declared.session.Session.{Session}
 use Rattle.zoom_session.specs.Sessions.{is_open, session_of, last_of}
-
--- how many coefficients a session's client keeps
-abbrev pub cache_of : Option Session → Option ℕ
-cache_of None = None
-cache_of (Some session) = Some session.cache.capacity
 
 -- the session has had an answered view
 abbrev pub has_view : ℕ → List Session → Bool
@@ -22,6 +17,7 @@ opens (Opened session cache) n was = session == n || was
 opens (Closed session) n was = not (session == n) && was
 opens (View view) n was = was
 opens (Rows rows) n was = was
+opens (Live session on) n was = was
 
 -- an Opened frame opens its session, a Closed one closes it, and no other frame changes which are open
 abbrev pub OpensBy : Frame → List Session → List Session → Type 0

@@ -1,58 +1,60 @@
 //! Sessions are followed, and not any more.
 ghost use Rattle.std.specs.Prelude.{◌≡◌, ◌≤◌, ◌<◌, ◌^◌, ℕ, IfOk, OnErr, IsTrue, is_some};
-ghost use Rattle.chart_frames.specs.Frames.{IsSession};
+ghost use Rattle.chart_frames.specs.Frames.{Fits, IsSession};
 ghost use Rattle.series_book.specs.declared.refusals.Refusal.{Refusal};
 ghost use Rattle.zoom_session.specs.Sessions.{is_open, session_of, AreSessions};
-ghost use Rattle.live_view.specs.Replies.{refused, follow_reply, unfollow_reply, is_too_large, live_bound, IsInRange};
+ghost use Rattle.live_view.specs.Replies.{refused, too_large, follow_reply, unfollow_reply, is_too_large, live_bound};
 
 use crate::errors::NoMemory;
 use crate::live::Live;
 use crate::numbers::{take_out, with_number};
 use crate::passing::is_open;
-use crate::replies::LiveReply;
 use crate::stepper::Stepper;
 use chart_frames::Frame;
 use series_book::Refusal;
 use zoom_session::ViewSpec;
 
+/// The number of the refusal to follow a view that may need more coefficients than its cache holds.
+pub const TOO_LARGE: u8 = 22;
+
 impl<S: Stepper> Live<S> {
     ghost use Rattle.live_view.specs.Live as live;
 
     /// Follows a session, unless that is refused. After `NoMemory` nothing has changed.
-    pub(crate) fn follow(&mut self, session: u32) -> Result<LiveReply, NoMemory>
+    pub(crate) fn follow(&mut self, session: u32) -> Result<Frame, NoMemory>
         requires number { IsSession session }
         requires idle { live.IsIdle self.old }
         ensures reply { IfOk result (λ answer. live.AnswersItself (follow_reply session (session_of session (live.sessions self.old))) answer self.old self.new) }
-        ensures in_range { IfOk result IsInRange }
+        ensures fits { IfOk result Fits }
         ensures unchanged { OnErr result (live.Stays self.old self.new) }
     {
         let reply = reply_to_follow(&self.stepper, session);
-        if let LiveReply::Live { .. } = reply {
+        if let Frame::Live { .. } = reply {
             self.followed = with_number(self.alloc, &self.followed, session)?;
         }
         Ok(reply)
     }
 
     /// Ends the following of a session, unless that is refused.
-    pub(crate) fn unfollow(&mut self, session: u32) -> LiveReply
+    pub(crate) fn unfollow(&mut self, session: u32) -> Frame
         requires number { IsSession session }
         requires idle { live.IsIdle self.old }
         ensures reply { live.AnswersItself (unfollow_reply session (is_open session (live.sessions self.old))) result self.old self.new }
-        ensures in_range { IsInRange result }
+        ensures fits { Fits result }
     {
         if !is_open(&self.stepper, session) {
             return refused(Refusal::UnknownSession);
         }
         take_out(&mut self.followed, session);
-        LiveReply::Live { session, on: false }
+        Frame::Live { session, on: false }
     }
 }
 
 /// The answer to a line that asks to follow a session.
-fn reply_to_follow<S: Stepper>(stepper: &S, session: u32) -> LiveReply
+fn reply_to_follow<S: Stepper>(stepper: &S, session: u32) -> Frame
     requires { IsSession session }
     ensures reply { result ≡ follow_reply session (session_of session (S.sessions stepper.now)) }
-    ensures in_range { IsInRange result }
+    ensures fits { Fits result }
     ensures valid { AreSessions (S.sessions stepper.now) }
 {
     let Some(cache) = stepper.cache(session) else {
@@ -62,12 +64,9 @@ fn reply_to_follow<S: Stepper>(stepper: &S, session: u32) -> LiveReply
         return refused(Refusal::NoView);
     };
     if is_too_large(view, cache) {
-        return LiveReply::TooLarge {
-            needed: live_bound(view.grid.w()),
-            cache: u64::from(cache),
-        };
+        return too_large(live_bound(view.grid.w()), u64::from(cache));
     }
-    LiveReply::Live { session, on: true }
+    Frame::Live { session, on: true }
 }
 
 /// Whether a view is too large to be followed.
@@ -85,15 +84,27 @@ pub fn live_bound(columns: u16) -> u64
     (3 * u64::from(columns) + 1) * 35
 }
 
+/// The refusal of a view that may need so many coefficients, which is more than its cache holds.
+fn too_large(needed: u64, cache: u64) -> Frame
+    ensures reply { result ≡ too_large needed cache }
+    ensures fits { Fits result }
+{
+    Frame::Refused {
+        number: TOO_LARGE,
+        a: needed,
+        b: cache,
+    }
+}
+
 /// A refusal.
-pub(crate) fn refused(refusal: Refusal) -> LiveReply
+pub(crate) fn refused(refusal: Refusal) -> Frame
     ensures reply { result ≡ refused refusal }
-    ensures in_range { IsInRange result }
+    ensures fits { Fits result }
 {
     let (a, b) = refusal.pair();
-    LiveReply::Frame(Frame::Refused {
+    Frame::Refused {
         number: refusal.number(),
         a,
         b,
-    })
+    }
 }

@@ -19,12 +19,10 @@ pub mod live_lines;
 pub mod meaning;
 mod numbers;
 mod passing;
-pub mod replies;
 pub mod stepper;
 mod stepping;
 mod streams;
 
 pub use errors::{LiveFault, NoMemory};
 pub use live::Live;
-pub use replies::LiveReply;
 pub use stepper::Stepper;

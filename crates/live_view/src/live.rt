@@ -1,6 +1,7 @@
 //! Sessions that follow their views.
 ghost use Rattle.std.specs.Prelude.{◌≡◌, ◌≤◌, ℕ, [], length, IsTrue, ◌↔◌};
 ghost use Rattle.std.specs.List.Sorted.{IsStrictlyIncreasing};
+ghost use Rattle.live_view.specs.Numbers.{ArePositive};
 ghost use Rattle.live_view.specs.Sessions.{AreOpen, HaveViews};
 
 use crate::stepper::Stepper;
@@ -16,8 +17,10 @@ pub struct Live<S: Stepper> {
     ghost rising: { IsStrictlyIncreasing followed.items },
     ghost few: { length followed.items ≤ 16 },
     ghost opened: { AreOpen (S.sessions stepper) followed.items },
+    ghost named: { ArePositive followed.items },
     ghost queue: { IsStrictlyIncreasing pending.items },
     ghost viewed: { HaveViews (S.sessions stepper) pending.items },
+    ghost queued: { ArePositive pending.items },
 }
 
 impl<S: Stepper> Live<S> {

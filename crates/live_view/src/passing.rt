@@ -2,7 +2,7 @@
 ghost use Rattle.std.specs.Prelude.{◌≡◌, []};
 ghost use Rattle.zoom_session.specs.Sessions.{is_open, session_of, last_of};
 ghost use Rattle.live_view.specs.Sessions.{open_among};
-ghost use Rattle.live_view.specs.Replies.{ended, still_followed, shows, followers, pushed_to};
+ghost use Rattle.live_view.specs.Replies.{ended, still_followed, shows, followers, Changes};
 
 use crate::meaning::Meaning;
 use crate::numbers::take_out;
@@ -30,25 +30,18 @@ pub(crate) fn end_following(followed: &mut Vec<u32>, ended: Option<u32>)
     }
 }
 
-/// Of the followed sessions, those that a frame is pushed to behind the frame that answers a line.
-pub(crate) fn pushed_to<S: Stepper>(
-    stepper: &S,
-    meaning: &Meaning,
-    frame: &Frame,
-    followed: Vec<u32>,
-) -> Vec<u32>
-    ensures { result.items ≡ pushed_to meaning.now frame.now (S.series_of stepper.now) (S.sessions stepper.now) followed.items }
+/// The series whose edit was done, as the frame says that answers a line, if one was.
+pub(crate) fn changed<S: Stepper>(stepper: &S, meaning: &Meaning, frame: &Frame) -> Option<u16>
+    ensures { Changes (S.names stepper.now) meaning.now frame.now result }
 {
     match (meaning, frame) {
-        (Meaning::Edit(name), Frame::Done { .. }) => {
-            followers(stepper, stepper.series_id(name), followed)
-        }
-        _ => none_of(followed),
+        (Meaning::Edit(name), Frame::Done { .. }) => stepper.series_id(name),
+        _ => None,
     }
 }
 
 /// Of the followed sessions, those whose last view is one of a series.
-fn followers<S: Stepper>(stepper: &S, series: Option<u16>, mut followed: Vec<u32>) -> Vec<u32>
+pub(crate) fn followers<S: Stepper>(stepper: &S, series: Option<u16>, mut followed: Vec<u32>) -> Vec<u32>
     ensures { result.items ≡ followers series (S.sessions stepper.now) followed.items }
 {
     let Some(series) = series else {

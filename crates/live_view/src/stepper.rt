@@ -1,11 +1,11 @@
 //! What answers the lines of a live view's sessions.
-ghost use Rattle.std.specs.Prelude.{ℕ, ◌≡◌, ◌≢◌, List, Option, Result, IfOk, OnOk, IsTrue};
-ghost use Rattle.std.specs.Option.{option_copied, option_map};
+ghost use Rattle.std.specs.Prelude.{ℕ, ◌≡◌, ◌≢◌, ◌≤◌, List, Option, Result, IfOk, OnOk, IsTrue};
+ghost use Rattle.std.specs.Option.{option_copied};
 ghost use Rattle.chart_frames.specs.declared.frame.Frame.{Frame};
 ghost use Rattle.chart_frames.specs.Frames.{Fits};
 ghost use Rattle.zoom_session.specs.declared.session.Session.{Session};
-ghost use Rattle.zoom_session.specs.Sessions.{session_of, last_of, AreSessions};
-ghost use Rattle.live_view.specs.Sessions.{cache_of, has_view, OpensBy, AreOpenAlike};
+ghost use Rattle.zoom_session.specs.Sessions.{session_of, last_of, cache_of, AreSessions};
+ghost use Rattle.live_view.specs.Sessions.{has_view, OpensBy, AreOpenAlike};
 
 use block_disk::Streams;
 use chart_frames::Frame;
@@ -20,8 +20,8 @@ pub trait Stepper: Streams {
     /// The sessions that are open.
     ghost sessions: { Self → List Session };
 
-    /// The id of the series that has a name.
-    ghost series_of: { Self → List ℕ → Option ℕ };
+    /// What the id of the series of a name may be.
+    ghost names: { Self → List ℕ → Option ℕ → Type 0 };
 
     /// More lines may be answered.
     ghost fit: { Self → Type 0 };
@@ -43,6 +43,7 @@ pub trait Stepper: Streams {
     /// Answers a zoom of a session to the window of its own last view. Other sessions keep their last views.
     fn repeat(&mut self, session: u32) -> Result<Frame, Self::Fault>
         requires fit { fit self.old }
+        requires number { 1 ≤ session }
         requires viewed { IsTrue (has_view session (sessions self.old)) }
         ensures reply { repeats self.old session result self.new }
         ensures fits { IfOk result Fits }
@@ -62,7 +63,7 @@ pub trait Stepper: Streams {
 
     /// The id of the series of a name. It is `None` where no series has the name.
     fn series_id(&self, name: &Name) -> Option<u16>
-        ensures { result ≡ series_of self.now name.now };
+        ensures { names self.now name.now result };
 
     /// Taking from the input and sending leave the sessions.
     ghost takes_keep: { (old new : Self) → Self.takes old new → sessions new ≡ sessions old };

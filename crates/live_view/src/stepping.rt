@@ -3,7 +3,6 @@ ghost use Rattle.std.specs.Prelude.{◌≡◌, ◌↔◌, ℕ, Ok, None, IfOk, I
 ghost use Rattle.chart_frames.specs.Frames.{Fits, IsSession};
 ghost use Rattle.live_view.specs.declared.live_lines.LiveLine.TheVariants.{Other};
 ghost use Rattle.live_view.specs.Lines.{live_line};
-ghost use Rattle.live_view.specs.Replies.{IsInRange};
 
 use crate::errors::LiveFault;
 use crate::following::refused;
@@ -11,8 +10,7 @@ use crate::live::Live;
 use crate::live_lines::{LiveLine, live_line};
 use crate::meaning::meaning_of;
 use crate::numbers::copy_of;
-use crate::passing::{end_following, ended, keep_open, pushed_to};
-use crate::replies::LiveReply;
+use crate::passing::{changed, end_following, ended, followers, keep_open};
 use crate::stepper::Stepper;
 use chart_frames::Frame;
 use series_book::Refusal;
@@ -22,11 +20,11 @@ impl<S: Stepper> Live<S> {
 
     /// Answers a line. After an edit that was done, pushes may be pending. `NoMemory` changes nothing; after a
     /// fault of the stepper no push is pending, and sessions that it closed aren't followed.
-    pub fn step_line(&mut self, line: &[u8]) -> Result<LiveReply, LiveFault<S::Fault>>
+    pub fn step_line(&mut self, line: &[u8]) -> Result<Frame, LiveFault<S::Fault>>
         requires idle { live.IsIdle self.old }
         requires fit { S.fit self.old.stepper }
         ensures reply { IfOk result (λ answer. live.Replies line.now answer self.old self.new) }
-        ensures in_range { IfOk result IsInRange }
+        ensures fits { IfOk result Fits }
         ensures fails { IfErr result (λ fault. live.Fails line.now fault self.old self.new) }
         ensures fit { OnOk result (S.fit self.new.stepper) }
     {
@@ -39,12 +37,12 @@ impl<S: Stepper> Live<S> {
     }
 
     /// Answers a line that asks nothing of live views.
-    fn step_other(&mut self, line: &[u8]) -> Result<LiveReply, LiveFault<S::Fault>>
+    fn step_other(&mut self, line: &[u8]) -> Result<Frame, LiveFault<S::Fault>>
         requires other { live_line line.now ≡ Other }
         requires idle { live.IsIdle self.old }
         requires fit { S.fit self.old.stepper }
         ensures reply { IfOk result (λ answer. live.PassesOn line.now answer self.old self.new) }
-        ensures in_range { IfOk result IsInRange }
+        ensures fits { IfOk result Fits }
         ensures fails { IfErr result (λ fault. live.Fails line.now fault self.old self.new) }
         ensures fit { OnOk result (S.fit self.new.stepper) }
     {
@@ -53,8 +51,9 @@ impl<S: Stepper> Live<S> {
         match self.stepper.step_line(line) {
             Ok(frame) => {
                 end_following(&mut self.followed, ended(&meaning, &frame));
-                self.pending = pushed_to(&self.stepper, &meaning, &frame, followed);
-                Ok(LiveReply::Frame(frame))
+                let series = changed(&self.stepper, &meaning, &frame);
+                self.pending = followers(&self.stepper, series, followed);
+                Ok(frame)
             }
             Err(fault) => {
                 keep_open(&self.stepper, &mut self.followed);

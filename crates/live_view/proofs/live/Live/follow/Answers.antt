@@ -2,7 +2,7 @@ use Rattle.std.proofs.Common.{◌≡◌, ℕ, ◌≤◌, List, length, ◌∙◌
 use Rattle.std.specs.Prelude.{IsTrue}
 use Rattle.std.specs.List.Sorted.{IsStrictlyIncreasing}
 use Rattle.zoom_session.specs.Sessions.{is_open}
-use Rattle.live_view.specs.Numbers.{with_number}
+use Rattle.live_view.specs.Numbers.{with_number, ArePositive}
 use Rattle.live_view.specs.Sessions.{AreOpen}
 use Rattle.live_view.proofs.NumberLemmas.{so-too, with-rises, with-all}
 use Rattle.live_view.proofs.OpenLemmas.{live-open, open-few}
@@ -21,6 +21,8 @@ invariant_of-self g c =
       rising = so-too IsStrictlyIncreasing all c.in_ok-self.field-0.items is rising;
       few = so-too (λ l. length l ≤ 16) all c.in_ok-self.field-0.items is (open-few sessions all c.reply_to_follow-reply.ensures.valid opened rising);
       opened = so-too (AreOpen sessions) all c.in_ok-self.field-0.items is opened;
+      named = so-too ArePositive all c.in_ok-self.field-0.items is (with-all (λ n. 1 ≤ n) c.args.session followed c.requires.number.low c.args.self.now.named);
       queue = c.args.self.now.queue;
       viewed = c.args.self.now.viewed;
+      queued = c.args.self.now.queued;
     }

@@ -3,7 +3,7 @@ use Rattle.std.specs.Prelude.{IsTrue, ◌==◌}
 use Rattle.std.specs.List.Sorted.{IsStrictlyIncreasing}
 use Rattle.std.proofs.lemmas.List.Elements.{All-filter}
 use Rattle.zoom_session.specs.Sessions.{is_open}
-use Rattle.live_view.specs.Numbers.{without_number}
+use Rattle.live_view.specs.Numbers.{without_number, ArePositive}
 use Rattle.live_view.specs.Sessions.{AreOpen}
 use Rattle.live_view.proofs.NumberLemmas.{so-too, some-few, without-rises}
 use Rattle.live_view.proofs.live.Live.unfollow.Goals as goal
@@ -17,6 +17,8 @@ invariant_of-self g c =
       rising = so-too IsStrictlyIncreasing left c.take_out.new.numbers.items c.take_out.ensures (without-rises c.args.session followed c.args.self.now.rising);
       few = so-too (λ l. length l ≤ 16) left c.take_out.new.numbers.items c.take_out.ensures (some-few (λ m. not (m == c.args.session)) followed c.args.self.now.few);
       opened = so-too (AreOpen sessions) left c.take_out.new.numbers.items c.take_out.ensures (All-filter (λ m. not (m == c.args.session)) (λ n. IsTrue (is_open n sessions)) followed c.args.self.now.opened);
+      named = so-too ArePositive left c.take_out.new.numbers.items c.take_out.ensures (All-filter (λ m. not (m == c.args.session)) (λ n. 1 ≤ n) followed c.args.self.now.named);
       queue = c.args.self.now.queue;
       viewed = c.args.self.now.viewed;
+      queued = c.args.self.now.queued;
     }
