@@ -1,0 +1,4 @@
+mod Spans
+mod Trees
+mod Fronts
+mod Shrinking

@@ -1,0 +1,3 @@
+pub mod Scene
+pub mod Front
+pub mod Cover
