@@ -13,14 +13,9 @@ use Rattle.om3_coeff.specs.Known.{half, known_below}
 use Rattle.view_keys.specs.Ranges.{IsInRange}
 use Rattle.view_keys.proofs.Ranging.{above-in_range, shared-above, parent-above, first-in_range}
 use Rattle.view_cover.specs.Scene.{Scene, with_told, IsToldBy, known_in, IsSeen, IsDrawnIn}
-use Rattle.view_cover.specs.Front.{IsInFront}
+use Rattle.view_cover.specs.Front.{IsLowest}
 use Rattle.view_cover.proofs.Spans.{Basis, IsPart, part-same, part-trans, known-top, inner, not-known, not-empty, left-half, right-half}
 use Rattle.view_cover.proofs.Trees.{peak, above-trans, above-same, above-both, level-same, parent-key, left-key, right-key, left-parent, right-parent, left-above, right-above, known-under, seen-more, seen-parent, seen-above, ranges-apart}
-
--- the key is seen, and no half of it is
-pub record IsLowest (scene : Scene) (k : Key) (s : Span) : Type 0 where
-  pub seen : IsSeen scene k s
-  pub none : (part : Key) (t : Span) → parent_of part ≡ k → IsSeen scene part t → ⊥
 
 -- a seen key whose coefficient shows nothing is one of them
 untold : (index : ℕ) (s t : Span) → known_below index (Some (Some s)) None ≡ Some (Some t) → ⊥
@@ -32,7 +27,7 @@ unsplit index s t c bad is = not-known (sym (ap (option_map (half index)) bad) �
 pub lowest-untold : Basis → (scene : Scene) (k : Key) (s : Span) → IsSeen scene k s → scene.told k ≡ None → IsLowest scene k s
 lowest-untold by scene k s seen is = record {
   seen = seen;
-  none = λ part t up part_seen. untold part.index s t
+  no_half = λ part t up part_seen. untold part.index s t
       (subst (λ (c : Option Coef). known_below part.index (Some (Some s)) c ≡ Some (Some t)) is
       (sym (known-under by scene part k (Some (Some s)) up seen.key.high seen.span) ∙ part_seen.span));
 }
@@ -40,7 +35,7 @@ lowest-untold by scene k s seen is = record {
 pub lowest-unsplit : Basis → (scene : Scene) (k : Key) (s : Span) (c : Coef) → IsSeen scene k s → scene.told k ≡ Some c → parts s c ≡ None → IsLowest scene k s
 lowest-unsplit by scene k s c seen is bad = record {
   seen = seen;
-  none = λ part t up part_seen. unsplit part.index s t c bad
+  no_half = λ part t up part_seen. unsplit part.index s t c bad
       (subst (λ (e : Option Coef). known_below part.index (Some (Some s)) e ≡ Some (Some t)) is
       (sym (known-under by scene part k (Some (Some s)) up seen.key.high seen.span) ∙ part_seen.span));
 }
@@ -48,7 +43,7 @@ lowest-unsplit by scene k s c seen is bad = record {
 pub lowest-slot : (scene : Scene) (k : Key) (s : Span) → IsSeen scene k s → k.level ≡ 0 → IsLowest scene k s
 lowest-slot scene k s seen low = record {
   seen = seen;
-  none = λ part t up part_seen. absurd (omega (arith, low, ap (λ (b : Key). b.level) up));
+  no_half = λ part t up part_seen. absurd (omega (arith, low, ap (λ (b : Key). b.level) up));
 }
 
 -- A key that is seen by more coefficients is seen, or lies below a lowest seen one.
@@ -96,7 +91,7 @@ reached-lowest : (scene : Scene) (more : Key → Option Coef) → IsToldBy scene
     → (w : Key) × (t : Span) × IsLowest scene w t × IsAtOrAbove w k × IsPart s t
 unfolding Reached
 reached-lowest scene more tells k s low (inl seen) =
-    (k, s, record { seen = seen; none = λ part t up is. low.none part t up (seen-more scene more tells part t is) }, above-same k, part-same s)
+    (k, s, record { seen = seen; no_half = λ part t up is. low.no_half part t up (seen-more scene more tells part t is) }, above-same k, part-same s)
 reached-lowest scene more tells k s low (inr found) = found
 
 -- above each lowest key that is seen by more there is a lowest one
@@ -112,7 +107,7 @@ lowest-ends by scene w v t u low seen above under =
     let over : IsAtOrAbove part v = record { higher = omega (arith, under); holds = refl } in
     let found = seen-above by scene part v u (omega (arith, low.seen.key.high)) over seen in
     let up : IsAtOrAbove w (parent_of part) = above-both w (parent_of part) v above (above-trans (parent_of part) part v (parent-above part) over) (omega (arith, under)) in
-    low.none part found.0 (sym (level-same w (parent_of part) up (omega (arith, under)))) found.1
+    low.no_half part found.0 (sym (level-same w (parent_of part) up (omega (arith, under)))) found.1
 
 -- two lowest keys are one, or their ranges are apart
 share-lowest : Basis → (scene : Scene) (w v : Key) (t u : Span) → IsLowest scene w t → IsLowest scene v u → (i : ℕ) → IsInRange w i → IsInRange v i → w ≡ v

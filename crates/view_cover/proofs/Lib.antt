@@ -2,3 +2,6 @@ mod Spans
 mod Trees
 mod Fronts
 mod Shrinking
+mod Parts
+mod Drawn
+mod Steps

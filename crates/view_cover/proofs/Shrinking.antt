@@ -15,17 +15,17 @@ use Rattle.om3_coeff.specs.Spans.{hull}
 use Rattle.view_keys.specs.Ranges.{IsInRange}
 use Rattle.view_keys.proofs.Ranging.{above-in_range, first-in_range}
 use Rattle.view_cover.specs.Scene.{Scene, with_told, IsToldBy, IsSeen, IsDrawnIn}
-use Rattle.view_cover.specs.Front.{IsInFront, AreConsecutive}
+use Rattle.view_cover.specs.Front.{IsLowest, IsInFront, AreConsecutive}
 use Rattle.view_cover.specs.Cover.{bottom, top, IsBetweenColumns, InRectangle, InBox, InSomeBox, InSomeJoin, InCover}
 use Rattle.view_cover.proofs.Spans.{Basis, IsPart}
 use Rattle.view_cover.proofs.Trees.{seen-more, seen-one}
-use Rattle.view_cover.proofs.Fronts.{IsLowest, IsInherited, lowest-above, lowest-apart, lowest-below}
+use Rattle.view_cover.proofs.Fronts.{IsInherited, lowest-above, lowest-apart, lowest-below}
 
 pub front-lowest : (scene : Scene) (k : Key) (s : Span) → IsInFront scene k s → IsLowest scene k s
-front-lowest scene k s f = record { seen = f.seen; none = f.lowest }
+front-lowest scene k s f = f.lowest
 
 pub lowest-front : (scene : Scene) (k : Key) (s : Span) (c : ℕ) → IsLowest scene k s → IsDrawnIn scene.axis scene.grid k c → IsInFront scene k s
-lowest-front scene k s c low drawn = record { seen = low.seen; column = c; drawn = drawn; lowest = low.none }
+lowest-front scene k s c low drawn = record { lowest = low; column = c; drawn = drawn }
 
 -- a key above has the columns of the one below
 pub drawn-above : (axis : Axis) (grid : Grid) (w k : Key) (c : ℕ) → IsAtOrAbove w k → IsDrawnIn axis grid k c → IsDrawnIn axis grid w c
@@ -102,7 +102,7 @@ none-between : Basis → (scene : Scene) (more : Key → Option Coef) → IsTold
     → IsInFront (with_told scene more) k s → IsInFront (with_told scene more) l t → AreConsecutive (with_told scene more) k l
     → IsAtOrAbove w k → IsAtOrAbove v l → IsInFront scene m u → end_slot w ≤ first_slot m → end_slot m ≤ first_slot v → ⊥
 none-between by scene more tells k l w v m s t p q u front_k front_l next above_k above_l front_m from to =
-    let found = lowest-below by (with_told scene more) (λ s. Unit {0}) some-inherited m u (seen-more scene more tells m u front_m.seen) tt in
+    let found = lowest-below by (with_told scene more) (λ s. Unit {0}) some-inherited m u (seen-more scene more tells m u front_m.lowest.seen) tt in
     let start = by.last w k above_k in
     let stop = by.first v l above_l in
     let a = front_k.drawn in

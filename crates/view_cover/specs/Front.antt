@@ -5,13 +5,17 @@ use Rattle.om3_coeff.specs.declared.span.Span.{Span}
 use Rattle.om3_coeff.specs.Keys.{first_slot, end_slot, parent_of}
 use Rattle.view_cover.specs.Scene.{Scene, IsSeen, IsDrawnIn}
 
+-- the key is seen with the span s, and no half of it is seen
+pub record IsLowest (scene : Scene) (k : Key) (s : Span) : Type 0 where
+  pub seen : IsSeen scene k s
+  pub no_half : (half : Key) (t : Span) → parent_of half ≡ k → IsSeen scene half t → ⊥
+
 -- The front has the keys, those of single slots too, that are seen and meet the window, and of which no
 -- half is seen. This key is one of them, with the span s.
 pub record IsInFront (scene : Scene) (k : Key) (s : Span) : Type 0 where
-  pub seen : IsSeen scene k s
+  pub lowest : IsLowest scene k s
   pub column : ℕ
   pub drawn : IsDrawnIn scene.axis scene.grid k column
-  pub lowest : (half : Key) (t : Span) → parent_of half ≡ k → IsSeen scene half t → ⊥
 
 -- no key of the front lies between the slots a and b
 abbrev pub IsFreeBetween : Scene → ℕ → ℕ → Type 0

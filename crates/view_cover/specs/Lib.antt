@@ -1,3 +1,5 @@
 pub mod Scene
 pub mod Front
 pub mod Cover
+pub mod Area
+pub mod Walk

@@ -9,4 +9,11 @@
 //! Between calls nothing is kept. Which coefficients are told is left to the layer above.
 #![tactic(auto)]
 
+mod area;
 pub mod laws;
+mod scope;
+mod teller;
+mod walk;
+
+pub use teller::Teller;
+pub use walk::draw_cover;
