@@ -141,7 +141,7 @@ not-black : (c : Canvas) (x y : ℕ) → black_at c x y ≡ false → IsTrue (bl
 not-black c x y white black = let t : false ≡ true = sym white ∙ black in cc
 
 -- what the whole walk draws on a white canvas is the cover
-pub covered : (scene : Scene) (w h : ℕ) (blank drawn : Canvas) → w ≡ scene.grid.w → h ≡ scene.grid.h → IsBlank w h blank
+covered : (scene : Scene) (w h : ℕ) (blank drawn : Canvas) → w ≡ scene.grid.w → h ≡ scene.grid.h → IsBlank w h blank
     → Adds (λ x y. InPart scene (first_slot (top_key scene.axis.slots)) (end_slot (top_key scene.axis.slots)) x (pos y)) blank drawn → IsCoverOf scene drawn
 covered scene w h blank drawn wide tall is_blank adds = record {
   wide = adds.width ∙ is_blank.width ∙ wide;
@@ -155,6 +155,12 @@ covered scene w h blank drawn wide tall is_blank adds = record {
         (λ set. p.1 (inr (whole-part scene x (pos y) set))),
       );
 }
+
+pub covered-by : (scene : Scene) (w h : ℕ) (key : Key) (blank drawn : Canvas) → w ≡ scene.grid.w → h ≡ scene.grid.h → key ≡ top_key scene.axis.slots → IsBlank w h blank
+    → Adds (λ x y. InPart scene (first_slot key) (end_slot key) x (pos y)) blank drawn → IsCoverOf scene drawn
+covered-by scene w h key blank drawn wide tall is is_blank adds =
+    covered scene w h blank drawn wide tall is_blank
+    (subst (λ (k : Key). Adds (λ x y. InPart scene (first_slot k) (end_slot k) x (pos y)) blank drawn) is adds)
 
 -- the scope has the view's own fields
 pub cover-same : (w : Scope) (told : Key → Option Coef) (axis : Axis) (grid : Grid) (lo hi : ℤ) (root : Option Span) (c : Canvas) → w.axis ≡ axis → w.grid ≡ grid → w.lo ≡ lo → w.hi ≡ hi
