@@ -5,3 +5,4 @@ mod Shrinking
 mod Parts
 mod Drawn
 mod Steps
+pub mod Crossing

@@ -3,3 +3,4 @@ pub mod Front
 pub mod Cover
 pub mod Area
 pub mod Walk
+pub mod Across

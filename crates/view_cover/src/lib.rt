@@ -15,5 +15,6 @@ mod scope;
 mod teller;
 mod walk;
 
+pub use scope::Scope;
 pub use teller::Teller;
 pub use walk::draw_cover;

@@ -5,10 +5,10 @@ use chart_grid::laws::borders_part_columns;
 use chart_grid::{Axis, Grid, later};
 use om3_coeff::{Key, Span};
 
-/// The slots that a view draws, those from `from` on and below `end`; the range of values, from `lo` to
-/// `hi`; and the span of all slots.
+/// What a view draws: the slots of its window, those from `from` on and below `end`; the range of
+/// values, from `lo` to `hi`; and the span of all slots.
 #[derive(Clone, Copy)]
-pub(crate) struct Scope {
+pub struct Scope {
     pub(crate) axis: Axis,
     pub(crate) grid: Grid,
     pub(crate) lo: i64,
@@ -24,15 +24,16 @@ pub(crate) struct Scope {
 }
 
 impl Scope {
-    ghost use Rattle.std.specs.Prelude.{◌≡◌, ℕ, ◌<◌, ◌≤◌, ◌≤ℤ◌, ◌^◌, IfSome, IfNone};
+    ghost use Rattle.std.specs.Prelude.{◌≡◌, ℕ, ◌<◌, ◌≤◌, ◌≤ℤ◌, ◌^◌, ◌↔◌, IfSome, IfNone, IsTrue};
     ghost use Rattle.chart_grid.specs.Projection.{InWindow};
     ghost use Rattle.chart_grid.specs.Slots.{IsInColumn, slot_time};
     ghost use Rattle.om3_coeff.specs.Keys.{end_slot};
     ghost use Rattle.view_cover.specs.Scene.{IsDrawnIn};
     ghost use Rattle.view_cover.specs.Walk.{AreColumnsIn};
+    ghost use Rattle.view_cover.specs.Across.{is_across, IsAcross};
 
     /// The scope of a view.
-    pub(crate) fn of(axis: Axis, grid: Grid, lo: i64, hi: i64, root: Option<Span>) -> Scope
+    pub fn of(axis: Axis, grid: Grid, lo: i64, hi: i64, root: Option<Span>) -> Scope
         requires few { axis.slots ≤ 2 ^ 35 }
         requires step { 0 < axis.step }
         requires range { lo ≤ℤ hi }
@@ -91,5 +92,22 @@ impl Scope {
         let left = self.column_of(first);
         let right = self.column_of(end - 1);
         Some((left, right))
+    }
+
+    /// Whether a key's range meets the slots of some column and isn't within them.
+    pub fn is_across(&self, key: Key) -> bool
+        requires { end_slot key < 2 ^ 63 }
+        ensures test { result ≡ is_across self.now key }
+        ensures across { IsTrue result ↔ IsAcross self.now.axis self.now.grid key }
+    {
+        let first = key.first();
+        let end = key.end();
+        if end <= self.from || self.end <= first {
+            return false;
+        }
+        if first < self.from || self.end < end {
+            return self.from < self.end;
+        }
+        self.column_of(first) != self.column_of(end - 1)
     }
 }
