@@ -1,4 +1,5 @@
 pub mod Holdings
+pub mod Held
 pub mod Agreeing
 pub mod Failing
 pub mod HeldNodes

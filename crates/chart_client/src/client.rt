@@ -3,6 +3,7 @@ ghost use Rattle.coefficient_cache.specs.Caches.{IsCapacity};
 ghost use Rattle.chart_frames.specs.declared.frame.Frame.TheVariants.{View, Rows};
 ghost use Rattle.chart_frames.specs.Frames.{Fits, FitsView, FitsRows};
 ghost use Rattle.chart_client.specs.declared.errors.ClientError.TheVariants as client;
+ghost use Rattle.chart_client.specs.Held.{held_by};
 ghost use Rattle.chart_client.specs.Holdings.{holding_of, without, opened};
 ghost use Rattle.chart_client.specs.Accepting.{Accepts, Rejects, Leaves, KeepsUnless};
 
@@ -14,6 +15,7 @@ use chart_frames::{Frame, RowsFrame, ViewFrame};
 use coefficient_cache::CoefficientCache;
 use line_raster::Bitmap;
 use needed_nodes::laws::points_are_the_samples;
+use om3_coeff::{Coef, Key};
 use std::alloc::Global;
 use std::marker::Model;
 
@@ -138,11 +140,22 @@ impl Client {
         self.holdings.retain(|holding| holding.number != number);
     }
 
-    // Whether a session is open.
-    fn is_open(&self, number: u32) -> bool
+    /// Whether a session is open.
+    pub fn is_open(&self, number: u32) -> bool
         ensures { result ≡ is_some (holding_of number self.now) }
     {
         self.place_of(number).is_some()
+    }
+
+    /// The coefficient that is held for a key of a series, in the list of a session. It is `None` where
+    /// the session isn't open or its list lacks the key. The list stays as it is.
+    pub fn held(&self, session: u32, series: u16, key: Key) -> Option<Coef>
+        ensures { result ≡ held_by (holding_of session self.now) series key }
+    {
+        let Some(place) = self.place_of(session) else {
+            return None;
+        };
+        self.holdings[place].cache.find(series, key)
     }
 
     // The place of the holding of a session.

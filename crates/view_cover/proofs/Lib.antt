@@ -1,0 +1,8 @@
+mod Spans
+mod Trees
+mod Fronts
+mod Shrinking
+mod Parts
+mod Drawn
+mod Steps
+pub mod Crossing

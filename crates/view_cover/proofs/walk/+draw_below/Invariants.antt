@@ -1,0 +1,4 @@
+use Rattle.view_cover.proofs.walk.+draw_below.Given as goal
+
+abbrev pub decreases-draw_below : goal.decreases-draw_below
+decreases-draw_below g l = l.key.level

@@ -1,0 +1,6 @@
+pub mod Scene
+pub mod Front
+pub mod Cover
+pub mod Area
+pub mod Walk
+pub mod Across

@@ -1,0 +1,21 @@
+//! What follows from the definitions. The functions do nothing: their contracts are the laws.
+
+ghost use Rattle.std.specs.Prelude.{ℕ, ℤ, Option};
+ghost use Rattle.om3_coeff.specs.declared.key.Key.{Key};
+ghost use Rattle.om3_coeff.specs.declared.coef.Coef.{Coef};
+ghost use Rattle.view_cover.specs.Scene.{Scene, with_told, IsToldBy};
+ghost use Rattle.view_cover.specs.Cover.{InCover};
+
+use chart_grid::laws::heights_rise;
+use om3_coeff::laws::{ranges_hold_those_below, split_and_join_undo_each_other, what_is_known};
+
+/// With more coefficients the cover of a view lies within the cover of before.
+pub fn covers_shrink()
+    ensures { (scene : Scene) (more : Key → Option Coef) (x : ℕ) (y : ℤ) → IsToldBy scene.told more →
+        InCover (with_told scene more) x y → InCover scene x y }
+{
+    heights_rise();
+    ranges_hold_those_below();
+    split_and_join_undo_each_other();
+    what_is_known();
+}
