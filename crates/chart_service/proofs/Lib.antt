@@ -28,6 +28,7 @@ pub mod Keeping
 pub mod Lasts
 pub mod Showing
 pub mod Openings
+pub mod Others
 pub mod Standing
 pub mod OneReply
 pub mod SyncLemmas

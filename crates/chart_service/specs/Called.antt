@@ -1,5 +1,5 @@
 -- What a call does to a service, and what it tells.
-use Rattle.std.specs.Prelude.{ℕ, ℤ, List, Option, None, Result, MatchResult, IsSomeAnd, slice_get}
+use Rattle.std.specs.Prelude.{ℕ, ℤ, List, Option, None, Result, MatchResult, IfSome, IsSomeAnd, slice_get}
 use Rattle.gate_pages.specs.declared.pages.Pages.{Ghosts}
 use Rattle.chart_frames.specs.declared.frame.Frame.{Frame}
 use Rattle.request_lines.specs.declared.requests.Request.{Request}
@@ -34,6 +34,10 @@ module _ {P : Type 0} {g : Ghosts P} where
   -- a line reads no more blocks than the request that it spells may
   abbrev pub ReadsFewFor : Option (List ℕ) → ℕ → List Series → Service P g → Service P g → Type 0
   ReadsFewFor line total book old new = ReadsLine line (shown.state old total book) (shown.view old).reads (shown.view new).reads
+
+  -- so of the view that a session was answered last, if it had one
+  abbrev pub ForLast : ℕ → Service P g → (ViewSpec → Type 0) → Type 0
+  ForLast session it IsSo = IfSome (last_of (session_of session it.sessions)) IsSo
 
   -- why a request wasn't answered, and a line
   abbrev pub IsCause : Request → Service P g → Service P g → ServiceError → Type 0

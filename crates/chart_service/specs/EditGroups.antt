@@ -6,7 +6,7 @@ use Rattle.std.specs.List.{before_first}
 use Rattle.chart_world.specs.Lines.{is_line_feed, text_of, lines}
 use Rattle.chart_world.specs.Reading.{Reading, HasLine}
 use Rattle.chart_frames.specs.declared.frame.Frame.{Frame}
-use Rattle.chart_frames.specs.declared.frame.Frame.TheVariants.{Done, Refused, Opened, Closed, View, Rows}
+use Rattle.chart_frames.specs.declared.frame.Frame.TheVariants.{Done, Refused, Opened, Closed, View, Rows, Live}
 use Rattle.request_lines.specs.declared.requests.Request.TheVariants.{Edit as EditRequest}
 use Rattle.request_lines.specs.Requests.{read_line}
 use Rattle.series_book.specs.declared.edits.Edit.{Edit}
@@ -64,6 +64,7 @@ IsEditReply (Opened session cache) = ⊥
 IsEditReply (Closed session) = ⊥
 IsEditReply (View view) = ⊥
 IsEditReply (Rows rows) = ⊥
+IsEditReply (Live session on) = ⊥
 
 -- some first of the edits are answered, and the pages stand for the book then
 pub record AnswersSome (edits : List Edit) (old : State) (image : Image) : Type 0 where

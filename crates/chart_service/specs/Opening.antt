@@ -1,9 +1,9 @@
 -- Which sessions are open before and after a frame, and after want of memory.
-use Rattle.std.specs.Prelude.{ℕ, ◌≡◌, ◌⊎◌, Bool, not, ◌==◌, ◌&&◌, ◌||◌, List, Option, None, Some, IsTrue, ⊤}
+use Rattle.std.specs.Prelude.{ℕ, ◌≡◌, ◌≢◌, ◌⊎◌, Bool, not, ◌==◌, ◌&&◌, ◌||◌, List, Option, None, Some, Result, OnOk, IsTrue, ⊤}
 use Rattle.chart_frames.specs.declared.frame.Frame.{Frame}
-use Rattle.chart_frames.specs.declared.frame.Frame.TheVariants.{Done, Refused, Opened, Closed, View, Rows}
+use Rattle.chart_frames.specs.declared.frame.Frame.TheVariants.{Done, Refused, Opened, Closed, View, Rows, Live}
 use Rattle.zoom_session.specs.declared.session.Session.{Session}
-use Rattle.zoom_session.specs.Sessions.{is_open, without}
+use Rattle.zoom_session.specs.Sessions.{is_open, session_of, without}
 
 -- whether the session n is open after a frame, where it was or wasn't before it
 abbrev pub opens : Frame → ℕ → Bool → Bool
@@ -13,6 +13,7 @@ opens (Opened session cache) n was = session == n || was
 opens (Closed session) n was = not (session == n) && was
 opens (View view) n was = was
 opens (Rows rows) n was = was
+opens (Live session on) n was = was
 
 -- a frame that answers in a session names one that is open
 abbrev pub NamesOpen : Frame → List Session → Type 0
@@ -22,6 +23,7 @@ NamesOpen (Opened session cache) sessions = ⊤
 NamesOpen (Closed session) sessions = IsTrue (is_open session sessions)
 NamesOpen (View view) sessions = IsTrue (is_open view.session sessions)
 NamesOpen (Rows rows) sessions = IsTrue (is_open rows.session sessions)
+NamesOpen (Live session on) sessions = IsTrue (is_open session sessions)
 
 -- An Opened frame opens its session, a Closed one closes it, and no other frame changes which sessions
 -- are open; one that closes a session or answers in it names an open one.
@@ -33,3 +35,8 @@ pub record OpensBy (frame : Frame) (old new : List Session) : Type 0 where
 abbrev pub LosesAtMost : Option ℕ → List Session → List Session → Type 0
 LosesAtMost None old new = new ≡ old
 LosesAtMost (Some number) old new = (new ≡ old) ⊎ (new ≡ without number old)
+
+-- An answer in the session of a number leaves the sessions of others. Unless it failed, it opens and closes none.
+pub record StaysIn {T E : Type 0} (number : ℕ) (result : Result T E) (old new : List Session) : Type 0 where
+  pub others : (n : ℕ) → n ≢ number → session_of n new ≡ session_of n old
+  pub alike : OnOk result ((n : ℕ) → is_open n new ≡ is_open n old)

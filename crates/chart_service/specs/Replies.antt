@@ -143,6 +143,10 @@ Replies (Pan number by) answer old new =
     MovesIn (session_of number old.sessions) number (λ last. (last.grid.t0 +ℤ by, last.grid.t1 +ℤ by)) answer old new
 Replies (Close number) answer old new = Closes (is_open number old.sessions) number answer old new
 
+-- a zoom of a session to the window of the view that it was answered last
+abbrev pub own_zoom : ℕ → ViewSpec → Request
+own_zoom number last = Zoom number last.grid.t0 last.grid.t1
+
 -- the reply to what a line is read as
 abbrev pub RepliesTo : Result Request ℕ → Frame → State → State → Type 0
 RepliesTo (Err at) answer old new = Refuses (BadLine at) answer old new

@@ -6,6 +6,7 @@ ghost use Rattle.stored_book.specs.Standing.{StandsForBook};
 ghost use Rattle.zoom_session.specs.Sessions.{is_open, session_of};
 ghost use Rattle.chart_service.specs.Holding.{IsViewIn};
 ghost use Rattle.chart_service.specs.Looking.{IsPlanCause, IsScanCause, IsOfPages, IsGoodPlan, error_of};
+ghost use Rattle.chart_service.specs.Opening.{StaysIn};
 ghost use Rattle.chart_service.specs.Planning.{PlansOrStops, ShowsOrStops, FitInFrame};
 ghost use Rattle.chart_service.specs.Stepping.{ReadsFor};
 ghost use Rattle.chart_service.specs.Called.{HasCoefs, HasRows, LooksIn, LooksOnly, ReadsAny, ReadsForSpec, RepliesOver};
@@ -45,6 +46,7 @@ impl<P: Pages> Service<P> {
         requires view { IsViewIn (length (shown.catalog self.old)) spec }
         ensures replying { RepliesOver (HasRows spec number) ReadsAny result self.old self.new }
         ensures looked { LooksIn (Some number) result self.old self.new }
+        ensures stays { StaysIn number result self.old.sessions self.new.sessions }
     {
         let shown = match self.rows(&spec) {
             Ok(shown) => shown,
@@ -85,6 +87,7 @@ impl<P: Pages> Service<P> {
         requires unfiltered { spec.filter ≡ None }
         ensures replying { RepliesOver (HasCoefs spec number) (ReadsForSpec spec) result self.old self.new }
         ensures looked { LooksIn (Some number) result self.old self.new }
+        ensures stays { StaysIn number result self.old.sessions self.new.sessions }
     {
         let planned = match self.plan(number, &spec) {
             Ok(planned) => planned,

@@ -1,8 +1,11 @@
 //! A service is made, and what it tells.
 ghost use Rattle.std.specs.Prelude.{◌≡◌, ◌↔◌, [], ℕ, List, IfOk, IfErr, IsTrue};
+ghost use Rattle.std.specs.Option.{option_copied};
 ghost use Rattle.block_disk.specs.View.{View};
 ghost use Rattle.series_book.specs.declared.one_series.Series.{Series};
+ghost use Rattle.series_book.specs.Edits.{id_of};
 ghost use Rattle.stored_book.specs.Standing.{StandsForBook};
+ghost use Rattle.zoom_session.specs.Sessions.{session_of, last_of, cache_of, AreSessions};
 ghost use Rattle.chart_service.specs.State.{IsSound};
 ghost use Rattle.chart_service.specs.Stepping.{state_of};
 ghost use Rattle.chart_service.specs.Shown as shown;
@@ -11,9 +14,10 @@ use crate::failure::NoMemory;
 use crate::service::Service;
 use block_disk::Back;
 use gate_pages::Pages;
+use series_book::Name;
 use series_store::Store;
 use std::alloc::Global;
-use zoom_session::Sessions;
+use zoom_session::{Sessions, ViewSpec};
 
 impl<P: Pages> Service<P> {
     /// A service over this store, with no session open.
@@ -50,5 +54,29 @@ impl<P: Pages> Service<P> {
         let _count = self.store.len();
         let _open = self.sessions.is_open(1);
         self.store.is_sound()
+    }
+
+    /// The view that a session was answered last. It is `None` where the session isn't open, or has had no
+    /// answered view.
+    pub fn last_view(&self, session: u32) -> Option<&ViewSpec>
+        ensures { option_copied result ≡ last_of (session_of session self.now.sessions) }
+    {
+        self.sessions.last_view(session)
+    }
+
+    /// How many coefficients a session's client keeps. It is `None` where the session isn't open.
+    pub fn cache(&self, session: u32) -> Option<u32>
+        ensures cache { result ≡ cache_of (session_of session self.now.sessions) }
+        ensures valid { AreSessions self.now.sessions }
+    {
+        self.sessions.cache(session)
+    }
+
+    /// The id of the series of a name. It is `None` where no series has the name.
+    pub fn series_id(&self, name: &Name) -> Option<u16>
+        ensures { shown.ForSoundBook self.now (λ total book. result ≡ id_of name.now book) }
+    {
+        let info = self.store.series(name)?;
+        Some(info.id)
     }
 }

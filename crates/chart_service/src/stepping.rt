@@ -1,7 +1,7 @@
-//! A service answers requests and lines.
-ghost use Rattle.std.specs.Prelude.{◌≡◌, ◌≤◌, ◌^◌, ℕ, List, [], length, IfOk, IfErr, OnErr, OnOk};
+//! A service answers requests, lines, and repeats of views.
+ghost use Rattle.std.specs.Prelude.{◌≡◌, ◌≤◌, ◌^◌, ℕ, List, [], length, Some, IfOk, IfErr, IfSome, IsTrue, OnErr, OnOk, is_some};
 ghost use Rattle.block_disk.specs.Counts.{HasRisen};
-ghost use Rattle.block_disk.specs.View.{View, Passes};
+ghost use Rattle.block_disk.specs.View.{View, Now, Passes};
 ghost use Rattle.chart_frames.specs.Frames.{Fits};
 ghost use Rattle.gate_pages.specs.Pages.{GoesOn, Quiet};
 ghost use Rattle.request_lines.specs.Requests.{IsInRange};
@@ -9,10 +9,11 @@ ghost use Rattle.series_book.specs.declared.one_series.Series.{Series};
 ghost use Rattle.series_store.specs.Results.{IsUnchanged};
 ghost use Rattle.stored_book.specs.Standing.{StandsForBook};
 ghost use Rattle.chart_service.specs.Alone.{session_in, session_named};
-ghost use Rattle.chart_service.specs.Opening.{OpensBy, LosesAtMost};
-ghost use Rattle.chart_service.specs.Replies.{Replied, line_text};
+ghost use Rattle.chart_service.specs.Opening.{OpensBy, LosesAtMost, StaysIn};
+ghost use Rattle.zoom_session.specs.Sessions.{session_of, last_of};
+ghost use Rattle.chart_service.specs.Replies.{Replied, line_text, own_zoom};
 ghost use Rattle.chart_service.specs.Stepping.{RepliedTo, NamesBad, IsOutside, Steps, ReadsFew};
-ghost use Rattle.chart_service.specs.Called.{AnswersSo, CommitsOnly, IsCause, IsCauseOfLine, ReadsFewFor};
+ghost use Rattle.chart_service.specs.Called.{AnswersSo, CommitsOnly, ForLast, IsCause, IsCauseOfLine, ReadsFewFor};
 ghost use Rattle.chart_service.specs.Shown as shown;
 ghost use Rattle.chart_service.specs.Syncing.{edit_asked, edit_of};
 
@@ -98,5 +99,39 @@ impl<P: Pages> Service<P> {
             Err(LineError::BadLine { at }) => Ok(refused(Refusal::BadLine { at })),
             Err(LineError::NoMemory) => Err(ServiceError::NoMemory),
         }
+    }
+
+    /// Answers a zoom of a session to the window of the view that it was answered last. Else as `step`.
+    /// Nothing is committed, and other sessions stay as they are.
+    pub fn repeat(&mut self, session: u32) -> Result<Frame, ServiceError>
+        requires sound { (shown.view self.old).fit }
+        requires number { 1 ≤ session }
+        requires viewed { IsTrue (is_some (last_of (session_of session self.old.sessions))) }
+        ensures reply { ForLast session self.old (λ last. shown.ForBook self.old (λ total book. IfOk result (AnswersSo (RepliedTo (own_zoom session last)) total book self.old self.new))) }
+        ensures standing { shown.ForBook self.old (λ total book. IfErr result IsOutside) }
+        ensures reads { ForLast session self.old (λ last. shown.ForBook self.old (λ total book. ReadsFew (own_zoom session last) book self.old.sessions (shown.view self.old).reads (shown.view self.new).reads)) }
+        // whatever the pages are
+        ensures fits { IfOk result Fits }
+        ensures opens { IfOk result (λ frame. OpensBy frame self.old.sessions self.new.sessions) }
+        ensures sessions { OnErr result (LosesAtMost (Some session) self.old.sessions self.new.sessions) }
+        ensures stays { StaysIn session result self.old.sessions self.new.sessions }
+        // a crash leaves what it might have left before
+        ensures moments { shown.PassesTo (Now (shown.view self.old)) self.old self.new }
+        ensures idle { IsUnchanged (shown.IsTold self.old) (shown.view self.old) (shown.view self.new) }
+        ensures cause { ForLast session self.old (λ last. IfErr result (IsCause (own_zoom session last) self.old self.new)) }
+        ensures bad { IfErr result (NamesBad (shown.IsTold self.new) (shown.view self.new).size (shown.image self.new)) }
+        ensures steps { Steps (shown.IsTold self.old) (shown.IsTold self.new) (shown.view self.old) (shown.view self.new) }
+        ensures goes_on { GoesOn (shown.under self.old) (shown.under self.new) }
+        ensures sound { OnOk result (shown.view self.new).fit }
+        ensures total { shown.total self.new ≡ shown.total self.old }
+    {
+        let Some(last) = self.last_view(session) else {
+            unreachable!()
+        };
+        let t0 = i128::from(last.grid.t0());
+        let t1 = i128::from(last.grid.t1());
+        let reply = self.zoom(session, t0, t1);
+        self.is_sound();
+        reply
     }
 }

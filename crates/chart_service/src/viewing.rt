@@ -7,6 +7,7 @@ ghost use Rattle.zoom_session.specs.Sessions.{is_open, session_of};
 ghost use Rattle.zoom_session.specs.Views.{IsRangeSpec};
 ghost use Rattle.chart_service.specs.Holding.{IsViewIn};
 ghost use Rattle.chart_service.specs.Looking.{Replying, ReadsBy};
+ghost use Rattle.chart_service.specs.Opening.{StaysIn};
 ghost use Rattle.chart_service.specs.Planning.{IsSpecFor, IsLastOf, IsMoved, IsGridFor};
 ghost use Rattle.chart_service.specs.Replies.{Moves};
 ghost use Rattle.chart_service.specs.Called.{LooksIn, MovesTo, ReadsByName, ReadsFiltered, ReadsLastOf, ReadsNamed, RepliesOver, Shows, ShowsBy, ShowsByText};
@@ -85,8 +86,9 @@ impl<P: Pages> Service<P> {
         requires number { 1 ≤ number }
         ensures replying { RepliesOver (MovesTo number (λ last. (t0, t1))) (ReadsLastOf number self.old.sessions) result self.old self.new }
         ensures looked { LooksIn (Some number) result self.old self.new }
+        ensures stays { StaysIn number result self.old.sessions self.new.sessions }
     {
-        let last = match self.last_view(number) {
+        let last = match self.last_answered(number) {
             Ok(last) => last.copy()?,
             Err(refusal) => return Ok(refused(refusal)),
         };
@@ -101,7 +103,7 @@ impl<P: Pages> Service<P> {
         ensures replying { RepliesOver (MovesTo number (λ last. (last.grid.t0 +ℤ by, last.grid.t1 +ℤ by))) (ReadsLastOf number self.old.sessions) result self.old self.new }
         ensures looked { LooksIn (Some number) result self.old self.new }
     {
-        let last = match self.last_view(number) {
+        let last = match self.last_answered(number) {
             Ok(last) => last.copy()?,
             Err(refusal) => return Ok(refused(refusal)),
         };
@@ -123,6 +125,7 @@ impl<P: Pages> Service<P> {
         ensures replying { (total : ℕ) (book : List Series) (t0 t1 : ℤ) → shown.IsTold self.old → StandsForBook (shown.image self.old) total book → IsMoved last.grid t0 t1 grid
             → Replying (λ frame old new. Moves last number t0 t1 frame old new) (ReadsLast book (Some last)) result total book self.old.sessions self.new.sessions (shown.view self.old) (shown.view self.new) }
         ensures looked { LooksIn (Some number) result self.old self.new }
+        ensures stays { StaysIn number result self.old.sessions self.new.sessions }
     {
         // It brings in how many series there are.
         let _count = self.store.len();
@@ -142,7 +145,7 @@ impl<P: Pages> Service<P> {
 
     /// The view that a session was answered last, or why there is none.
     #[tactic(auto, using(crate::proofs::Lasts::none_of, crate::proofs::Lasts::no_last, crate::proofs::Lasts::last_so, crate::proofs::Lasts::view_so))]
-    fn last_view(&self, number: u32) -> Result<&ViewSpec, Refusal>
+    fn last_answered(&self, number: u32) -> Result<&ViewSpec, Refusal>
         ensures last { MatchResult result (λ last. IsLastOf (session_of number self.now.sessions) (Ok last.now)) (λ refusal. IsLastOf (session_of number self.now.sessions) (Err refusal)) }
         ensures view { IfOk result (λ last. IsViewIn (length (shown.catalog self.now)) last.now) }
         ensures answer { OnOk result (IsTrue (is_open number self.now.sessions)) }
@@ -164,6 +167,7 @@ impl<P: Pages> Service<P> {
         requires view { IsViewIn (length (shown.catalog self.old)) spec }
         ensures replying { RepliesOver (Shows spec number) (ReadsFiltered spec) result self.old self.new }
         ensures looked { LooksIn (Some number) result self.old self.new }
+        ensures stays { StaysIn number result self.old.sessions self.new.sessions }
     {
         if spec.filter.is_none() {
             self.answer_coefs(number, spec)

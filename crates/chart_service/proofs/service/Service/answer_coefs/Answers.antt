@@ -1,7 +1,7 @@
 use Rattle.std.proofs.Common.{◌≡◌, length, rules, None, Some, Option, List, subst}
 use Rattle.om3_coeff.specs.declared.key.Key.{Key}
 use Rattle.om3_coeff.specs.declared.coef.Coef.{Coef}
-use Rattle.zoom_session.specs.Sessions.{session_of, viewed}
+use Rattle.zoom_session.specs.Sessions.{session_of, viewed, without}
 use Rattle.chart_frames.specs.declared.frame.Frame.TheVariants.{View}
 use Rattle.std.proofs.Common.{Result}
 use Rattle.std.specs.Prelude.{IsSomeAnd, slice_get}
@@ -14,6 +14,7 @@ use Rattle.chart_service.specs.Stepping.{ReadsFor}
 use Rattle.chart_service.specs.Shown as shown
 use Rattle.chart_service.proofs.Answered.{answered_fits}
 use Rattle.chart_service.proofs.Keeping.{views_after_view}
+use Rattle.chart_service.proofs.Others.{stays_same, stays_viewed, stays_closed}
 use Rattle.chart_service.proofs.PlanLemmas.{replying_too_large, replying_node, replying_want, replying_view, looked_viewed, opens_view}
 use Rattle.chart_service.proofs.service.Service.answer_coefs.Goals as goal
 
@@ -73,3 +74,23 @@ returns-clause-looked g c =
     (answered_fits c.args.number spec c.in-Ok.planned c.view_frame.result good c.view_frame.ensures.fields c.requires.number (search rules) c.plan.ensures.few spec.grid.window spec.grid.wide spec.grid.high)
     (opens_view c.args.number spec needed c.view_frame.result ss c.plan.new.self.sessions c.apply.new.self c.view_frame.ensures.session c.plan.ensures.sessions kept c.requires.opened)
     c.plan.ensures.looks
+
+pub returns-in-Err-TooLarge-clause-stays : goal.returns-in-Err-TooLarge-clause-stays
+returns-in-Err-TooLarge-clause-stays g c = stays_same c.args.number _ c.args.self.now.sessions c.plan.new.self.sessions c.plan.ensures.sessions
+
+pub returns-in-Err-Node-clause-stays : goal.returns-in-Err-Node-clause-stays
+returns-in-Err-Node-clause-stays g c = stays_same c.args.number _ c.args.self.now.sessions c.plan.new.self.sessions c.plan.ensures.sessions
+
+pub returns-in-Err-NoMemory-clause-stays : goal.returns-in-Err-NoMemory-clause-stays
+returns-in-Err-NoMemory-clause-stays g c = stays_same c.args.number _ c.args.self.now.sessions c.plan.new.self.sessions c.plan.ensures.sessions
+
+pub returns-then-is_err-clause-stays : goal.returns-then-is_err-clause-stays
+returns-then-is_err-clause-stays g c =
+    let closed : c.apply.new.self ≡ without c.args.number c.plan.new.self.sessions = search rules in
+    stays_closed c.args.number _ c.args.self.now.sessions c.plan.new.self.sessions c.apply.new.self closed c.plan.ensures.sessions
+
+pub returns-clause-stays : goal.returns-clause-stays
+returns-clause-stays g c =
+    let needed : Option (List (Key × Coef)) = (Some c.in-Ok.planned.plan.needed) in
+    let kept : c.apply.new.self ≡ viewed c.args.number c.args.spec needed c.plan.new.self.sessions = search rules in
+    stays_viewed c.args.number _ c.args.spec needed c.args.self.now.sessions c.plan.new.self.sessions c.apply.new.self kept c.plan.ensures.sessions

@@ -1,16 +1,19 @@
-use Rattle.std.proofs.Common.{◌≡◌, length, rules, None, Result, sym, ap, subst}
+use Rattle.std.proofs.Common.{◌≡◌, length, rules, None, Option, List, Result, sym, ap, subst}
+use Rattle.om3_coeff.specs.declared.key.Key.{Key}
+use Rattle.om3_coeff.specs.declared.coef.Coef.{Coef}
 use Rattle.std.specs.Prelude.{IsSomeAnd, slice_get}
 use Rattle.chart_frames.specs.declared.frame.Frame.TheVariants.{Rows}
 use Rattle.chart_frames.specs.declared.frame.RowsFrame.{RowsFrame}
 use Rattle.chart_frames.specs.Frames.{FitsRows}
 use Rattle.filter_scan.specs.declared.scan_error.ScanError.{ScanError}
-use Rattle.zoom_session.specs.Sessions.{viewed}
+use Rattle.zoom_session.specs.Sessions.{viewed, without}
 use Rattle.chart_service.specs.declared.shown_rows.ShownRows.{ShownRows}
 use Rattle.chart_service.specs.Planning.{ShowsOrStops, FitInFrame}
 use Rattle.chart_service.specs.Viewing.{AnswersRows}
 use Rattle.chart_service.specs.Shown as shown
 use Rattle.chart_service.proofs.Filtered.{rows_fit}
 use Rattle.chart_service.proofs.Keeping.{views_after_view}
+use Rattle.chart_service.proofs.Others.{stays_same, stays_viewed, stays_closed}
 use Rattle.chart_service.proofs.PlanLemmas.{replying_scan, replying_rows, looked_viewed, opens_rows_of}
 use Rattle.chart_service.proofs.service.Service.answer_rows.Goals as goal
 
@@ -44,3 +47,20 @@ returns-clause-looked g c =
     (subst FitsRows (sym c.rows_frame-frame.ensures) (rows_fit c.args.number spec c.in-Ok.shown c.requires.number (search rules) spec.grid.wide spec.grid.high fit))
     (opens_rows_of c.args.number spec c.rows_frame-frame.result ss c.rows.new.self.sessions c.apply.new.self (ap (λ (r : RowsFrame). r.session) c.rows_frame-frame.ensures) c.rows.ensures.sessions kept c.requires.opened)
     c.rows.ensures.looks
+
+pub returns-in-Err-Node-clause-stays : goal.returns-in-Err-Node-clause-stays
+returns-in-Err-Node-clause-stays g c = stays_same c.args.number _ c.args.self.now.sessions c.rows.new.self.sessions c.rows.ensures.sessions
+
+pub returns-in-Err-NoMemory-clause-stays : goal.returns-in-Err-NoMemory-clause-stays
+returns-in-Err-NoMemory-clause-stays g c = stays_same c.args.number _ c.args.self.now.sessions c.rows.new.self.sessions c.rows.ensures.sessions
+
+pub returns-then-is_err-clause-stays : goal.returns-then-is_err-clause-stays
+returns-then-is_err-clause-stays g c =
+    let closed : c.apply.new.self ≡ without c.args.number c.rows.new.self.sessions = search rules in
+    stays_closed c.args.number _ c.args.self.now.sessions c.rows.new.self.sessions c.apply.new.self closed c.rows.ensures.sessions
+
+pub returns-clause-stays : goal.returns-clause-stays
+returns-clause-stays g c =
+    let needed : Option (List (Key × Coef)) = None in
+    let kept : c.apply.new.self ≡ viewed c.args.number c.args.spec needed c.rows.new.self.sessions = search rules in
+    stays_viewed c.args.number _ c.args.spec needed c.args.self.now.sessions c.rows.new.self.sessions c.apply.new.self kept c.rows.ensures.sessions

@@ -2,7 +2,7 @@ use Rattle.std.proofs.Common.{◌≡◌, length, rules, Some}
 use Rattle.zoom_session.specs.Sessions.{session_of, last_of}
 use Rattle.chart_service.specs.Shown as shown
 use Rattle.chart_service.proofs.Lasts.{view_so}
-use Rattle.chart_service.proofs.service.Service.last_view.Goals as goal
+use Rattle.chart_service.proofs.service.Service.last_answered.Goals as goal
 
 pub returns-in-Some-clause-view : goal.returns-in-Some-clause-view
 returns-in-Some-clause-view g c =
