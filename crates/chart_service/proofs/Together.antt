@@ -38,7 +38,7 @@ use Rattle.chart_service.proofs.Editing.{edit_leaves, edit_fits}
 
 -- ---- one edit
 
-plain : (number : ℕ) → 1 ≤ number → number ≤ 21 → FitsRefused number 0 0
+plain : (number : ℕ) → 1 ≤ number → number ≤ 22 → FitsRefused number 0 0
 plain number low high = record { low = low; high = high; first = omega arith; second = omega arith; no_first = λ none. refl; no_second = λ none. refl }
 
 -- the frame of a refused edit fits

@@ -76,7 +76,9 @@ impl<P: Pages> Service<P> {
     pub fn series_id(&self, name: &Name) -> Option<u16>
         ensures { shown.ForSoundBook self.now (λ total book. result ≡ id_of name.now book) }
     {
-        let info = self.store.series(name)?;
-        Some(info.id)
+        match self.store.series(name) {
+            Some(info) => Some(info.id),
+            None => None,
+        }
     }
 }
