@@ -1,0 +1,2 @@
+-- The coefficients that count.
+use Rattle.std.proofs.Common.{ℕ, ◌≡◌}
