@@ -1,2 +1,3 @@
-mod Places
+mod Standing
 mod Used
+mod Later

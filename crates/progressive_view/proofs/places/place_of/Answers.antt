@@ -2,7 +2,7 @@ use Rattle.std.proofs.Common.{ℕ, ◌≡◌, ◌<◌, ◌+◌, ◌-◌, ◌/◌
 use Rattle.std.proofs.lemmas.List.{get_or_default}
 use Rattle.om3_coeff.specs.declared.key.Key.{Key}
 use Rattle.om3_coeff.specs.declared.coef.Coef.{Coef}
-use Rattle.progressive_view.proofs.Places.{narrowed-up, narrowed-down, narrowed-done, place-is}
+use Rattle.progressive_view.proofs.Standing.{narrowed-up, narrowed-down, narrowed-done, place-is}
 use Rattle.progressive_view.proofs.places.place_of.Goals as goal
 
 abbrev no_entry : Key × Coef
@@ -22,8 +22,8 @@ loop-from-preserved-then-comes_before c =
     narrowed-up list c.args.key c.loop-from.from c.loop-from.to middle (middle + 1) (get_or list middle no_entry) c.requires.order c.loop-from.invariant less refl
     (same list middle (omega (arith, less, c.loop-from.invariant.within))) (c.comes_before.ensures.0 c.if-comes_before.true)
 
-pub loop-from-preserved-else-comes_before : goal.loop-from-preserved-else-comes_before
-loop-from-preserved-else-comes_before c =
+pub loop-from-preserved : goal.loop-from-preserved
+loop-from-preserved c =
     let list : List (Key × Coef) = c.args.list.now in
     let middle : ℕ = c.loop-from.from + (c.loop-from.to - c.loop-from.from) / 2 in
     let less : middle < c.loop-from.to = omega (arith, c.loop-from-test.true) in

@@ -1,5 +1,5 @@
 use Rattle.std.proofs.Common.{◌-◌}
-use Rattle.progressive_view.proofs.Places.{Narrowed}
+use Rattle.progressive_view.proofs.Standing.{Narrowed}
 use Rattle.progressive_view.proofs.places.place_of.Given as goal
 
 abbrev pub invariant-loop-from : goal.invariant-loop-from

@@ -83,11 +83,11 @@ more-not : (a b : Key) → a.level ≡ b.level → b.index ≤ a.index → prece
 unfolding precedes
 more-not a b e h = grind (arith, nat_tests, e, h)
 
-precedes-is : (a b : Key) → ComesBefore a b → precedes a b ≡ true
+pub precedes-is : (a b : Key) → ComesBefore a b → precedes a b ≡ true
 precedes-is a b (inl lower) = lower-is a b lower
 precedes-is a b (inr less) = less-is a b less.0 less.1
 
-precedes-not : (a b : Key) → (ComesBefore a b → ⊥) → precedes a b ≡ false
+pub precedes-not : (a b : Key) → (ComesBefore a b → ⊥) → precedes a b ≡ false
 precedes-not a b not =
     elim (cases_lt b.level a.level) [
       | inl lower ↦ absurd (not (inl lower))
@@ -102,10 +102,10 @@ precedes-not a b not =
       ]
     ]
 
-cond-true : (b : Bool) (x y : ℕ) → b ≡ true → cond b x y ≡ x
+pub cond-true : (b : Bool) (x y : ℕ) → b ≡ true → cond b x y ≡ x
 cond-true b x y is = ap (λ (c : Bool). cond c x y) is
 
-cond-false : (b : Bool) (x y : ℕ) → b ≡ false → cond b x y ≡ y
+pub cond-false : (b : Bool) (x y : ℕ) → b ≡ false → cond b x y ≡ y
 cond-false b x y is = ap (λ (c : Bool). cond c x y) is
 
 pub place-is : (list : List (Key × Coef)) (k : Key) (p : ℕ) → IsPlace list k p → p ≡ place_in list k
