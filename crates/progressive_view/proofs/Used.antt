@@ -40,9 +40,9 @@ before-cases a b =
       | inr low ↦ elim (cases_eq a.level b.level) [
         | inl same ↦ elim (cases_lt a.index b.index) [
           | inl less ↦ inl (inr (same, less))
-          | inr more ↦ inr (λ h. elim h [ | inl lower ↦ absurd (omega (arith, lower, low)) | inr less ↦ absurd (omega (arith, less.1, more)) ])
+          | inr more ↦ inr (λ h. elim h [ inl lower ↦ absurd (omega (arith, lower, low)) | inr less ↦ absurd (omega (arith, less.1, more)) ])
         ]
-        | inr other ↦ inr (λ h. elim h [ | inl lower ↦ absurd (omega (arith, lower, low)) | inr less ↦ other less.0 ])
+        | inr other ↦ inr (λ h. elim h [ inl lower ↦ absurd (omega (arith, lower, low)) | inr less ↦ other less.0 ])
       ]
     ]
 
@@ -154,21 +154,21 @@ if-cases None k = inr (refl, λ c h. none-entry (k, c) h)
 if-cases (Some e) k =
     elim (cases_eq e.0.level k.level) [
       | inr other ↦ inr (
-          pick-false (e.0.level == k.level && e.0.index == k.index) (Some e.1) None (first-false (e.0.level == k.level) (e.0.index == k.index) (eq-false e.0.level k.level other)),
-          λ c h. other (ap (λ (q : Key × Coef). q.0.level) (some-entry e (k, c) h)),
-        )
+        pick-false (e.0.level == k.level && e.0.index == k.index) (Some e.1) None (first-false (e.0.level == k.level) (e.0.index == k.index) (eq-false e.0.level k.level other)),
+        λ c h. other (ap (λ (q : Key × Coef). q.0.level) (some-entry e (k, c) h)),
+      )
       | inl level ↦ elim (cases_eq e.0.index k.index) [
         | inr other ↦ inr (
-            pick-false (e.0.level == k.level && e.0.index == k.index) (Some e.1) None
-            (second-false (e.0.level == k.level) (e.0.index == k.index) (eq-true e.0.level k.level level) (eq-false e.0.index k.index other)),
-            λ c h. other (ap (λ (q : Key × Coef). q.0.index) (some-entry e (k, c) h)),
-          )
+          pick-false (e.0.level == k.level && e.0.index == k.index) (Some e.1) None
+              (second-false (e.0.level == k.level) (e.0.index == k.index) (eq-true e.0.level k.level level) (eq-false e.0.index k.index other)),
+          λ c h. other (ap (λ (q : Key × Coef). q.0.index) (some-entry e (k, c) h)),
+        )
         | inl index ↦ inl (
-            e.1,
-            ap (λ (q : Key). Some (q, e.1)) (key-same e.0 k level index),
-            pick-true (e.0.level == k.level && e.0.index == k.index) (Some e.1) None
-            (both-true (e.0.level == k.level) (e.0.index == k.index) (eq-true e.0.level k.level level) (eq-true e.0.index k.index index)),
-          )
+          e.1,
+          ap (λ (q : Key). Some (q, e.1)) (key-same e.0 k level index),
+          pick-true (e.0.level == k.level && e.0.index == k.index) (Some e.1) None
+              (both-true (e.0.level == k.level) (e.0.index == k.index) (eq-true e.0.level k.level level) (eq-true e.0.index k.index index)),
+        )
       ]
     ]
 
@@ -260,11 +260,11 @@ to-used view holding scope i g k c (inr none) is =
       | inr low ↦ elim (decided scope k) [
         | inr other ↦ absurd (none-coef c (sym (chosen-within (coef_if (slice_get view.coefs p) k) held (is_across scope k) i p none.0 low other.0) ∙ is))
         | inl across ↦ inr (record {
-            unsent = unsent;
-            across = across-of view scope k g.axis across.1;
-            turn = turn-of view i p k place low unsent;
-            held = sym (chosen-held (coef_if (slice_get view.coefs p) k) held (is_across scope k) i p none.0 low across.0) ∙ is;
-          })
+          unsent = unsent;
+          across = across-of view scope k g.axis across.1;
+          turn = turn-of view i p k place low unsent;
+          held = sym (chosen-held (coef_if (slice_get view.coefs p) k) held (is_across scope k) i p none.0 low across.0) ∙ is;
+        })
       ]
     ]
 

@@ -62,9 +62,9 @@ impl<'a> Progress<'a> {
     pub fn advance(&mut self) -> bool
         ensures more { IsTrue result ↔ (self.old.taken < length self.old.view.coefs) }
         ensures taken { self.new ≡ record {
-            view = self.old.view;
-            holdings = self.old.holdings;
-            taken = if result then self.old.taken + 1 else self.old.taken;
+          view = self.old.view;
+          holdings = self.old.holdings;
+          taken = if result then self.old.taken + 1 else self.old.taken;
         } }
     {
         if self.taken >= self.view.count {

@@ -33,13 +33,7 @@ impl<'a> Teller for Taken<'a> {
     fn coef(&self, key: Key) -> Option<Coef> {
         let place = place_of(self.sent, key);
         match coef_at(self.sent, place, key) {
-            Some(coef) => {
-                if place < self.taken {
-                    Some(coef)
-                } else {
-                    None
-                }
-            }
+            Some(coef) => { if place < self.taken { Some(coef) } else { None } }
             None => {
                 if place <= self.taken && self.scope.is_across(key) {
                     self.client.held(self.session, self.series, key)

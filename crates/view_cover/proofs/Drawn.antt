@@ -29,7 +29,7 @@ slot-shown w i a b =
 
 pub shown-slot : (w : Scope) (c i : ℕ) → IsInColumn w.axis w.grid c i → (w.from ≤ i) × (i < w.end)
 shown-slot w c i own = (
-  elim (cases_lt i w.from) [ | inl less ↦ absurd (omega (arith, ints, own.shown.from, (w.start.before i own.slot).0 less)) | inr le ↦ le ],
+  elim (cases_lt i w.from) [ inl less ↦ absurd (omega (arith, ints, own.shown.from, (w.start.before i own.slot).0 less)) | inr le ↦ le ],
   (w.stop.before i own.slot).1 own.shown.to,
 )
 

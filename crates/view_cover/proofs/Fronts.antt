@@ -76,12 +76,18 @@ reach : Basis → (scene : Scene) (more : Key → Option Coef) → IsToldBy scen
     → IsSeen (with_told scene more) k s → Reached scene k s
 unfolding Reached
 reach by scene more tells zero k s few seen =
-    inl (record { key = seen.key; span = known-top scene.root scene.told (peak scene) k (omega (arith, few))
-    ∙ sym (known-top scene.root more (peak scene) k (omega (arith, few))) ∙ seen.span })
+    inl (record {
+      key = seen.key;
+      span = known-top scene.root scene.told (peak scene) k (omega (arith, few))
+          ∙ sym (known-top scene.root more (peak scene) k (omega (arith, few))) ∙ seen.span;
+    })
 reach by scene more tells (suc fuel) k s few seen =
     elim (cases_lt k.level (peak scene)) [
-      | inr high ↦ inl (record { key = seen.key; span = known-top scene.root scene.told (peak scene) k high
-          ∙ sym (known-top scene.root more (peak scene) k high) ∙ seen.span })
+      | inr high ↦ inl (record {
+        key = seen.key;
+        span = known-top scene.root scene.told (peak scene) k high
+            ∙ sym (known-top scene.root more (peak scene) k high) ∙ seen.span;
+      })
       | inl low ↦
           (let p = seen-parent by (with_told scene more) k s low seen in
           reach-on by scene more tells k s p.0 low seen p.2 (reach by scene more tells fuel (parent_of k) p.0 (omega (arith, few)) p.1))

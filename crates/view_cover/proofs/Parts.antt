@@ -85,7 +85,7 @@ places : Basis → (scene : Scene) (k : Key) (o : Option Span) → IsReached sce
     → IsAtOrAbove k m ⊎ ((end_slot m ≤ first_slot k) ⊎ (end_slot k ≤ first_slot m))
 places by scene k o reached m u lowest =
     elim (ranges-apart k m) [
-      | inr apart ↦ elim apart [ | inl behind ↦ inr (inr behind) | inr before ↦ inr (inl before) ]
+      | inr apart ↦ elim apart [ inl behind ↦ inr (inr behind) | inr before ↦ inr (inl before) ]
       | inl shared ↦ elim (cases_lt k.level m.level) [
         | inl under ↦ absurd (lowest-unknown by scene m k u o lowest (shared-above m k shared.0 (omega (arith, under)) shared.2 shared.1) under reached.known_so)
         | inr over ↦ inl (shared-above k m shared.0 over shared.1 shared.2)
@@ -189,29 +189,29 @@ split-part by scene k o low reached x y (inl s) =
 split-part by scene k o low reached x y (inr j) =
     elim (in-half by scene k o low reached j.next j.next_span j.next_front j.from j.to) [
       | inl early ↦ inl (inr (record {
-          key = j.key;
-          span = j.span;
-          front = j.front;
-          next = j.next;
-          next_span = j.next_span;
-          next_front = j.next_front;
-          consecutive = j.consecutive;
-          from = omega (arith, j.from, left_first k low);
-          to = early;
-          pixel = j.pixel;
-        }))
+        key = j.key;
+        span = j.span;
+        front = j.front;
+        next = j.next;
+        next_span = j.next_span;
+        next_front = j.next_front;
+        consecutive = j.consecutive;
+        from = omega (arith, j.from, left_first k low);
+        to = early;
+        pixel = j.pixel;
+      }))
       | inr late ↦ inr (inr (record {
-          key = j.key;
-          span = j.span;
-          front = j.front;
-          next = j.next;
-          next_span = j.next_span;
-          next_front = j.next_front;
-          consecutive = j.consecutive;
-          from = late;
-          to = omega (arith, j.to, right_end k low);
-          pixel = j.pixel;
-        }))
+        key = j.key;
+        span = j.span;
+        front = j.front;
+        next = j.next;
+        next_span = j.next_span;
+        next_front = j.next_front;
+        consecutive = j.consecutive;
+        from = late;
+        to = omega (arith, j.to, right_end k low);
+        pixel = j.pixel;
+      }))
     ]
 
 pub part-halves : Basis → (scene : Scene) (k l r : Key) (o : Option Span) (a b c : Canvas) → 1 ≤ k.level → l ≡ left_of k → r ≡ right_of k → IsReached scene (left_of k) o

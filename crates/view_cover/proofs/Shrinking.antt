@@ -148,30 +148,30 @@ join-within by scene more tells x y j =
           }))
       | inr apart ↦ elim apart [
         | inl order ↦ inr (record {
-            key = a.0;
-            span = a.1;
-            front = front_a;
-            next = b.0;
-            next_span = b.1;
-            next_front = front_b;
-            consecutive = record {
-              order = order;
-              none_between = λ m u front from to.
-                  none-between by scene more tells j.key j.next a.0 b.0 m j.span j.next_span a.1 b.1 u j.front j.next_front j.consecutive a.3 b.3 front from to;
-            };
-            pixel = pixel;
-          })
+          key = a.0;
+          span = a.1;
+          front = front_a;
+          next = b.0;
+          next_span = b.1;
+          next_front = front_b;
+          consecutive = record {
+            order = order;
+            none_between = λ m u front from to.
+                none-between by scene more tells j.key j.next a.0 b.0 m j.span j.next_span a.1 b.1 u j.front j.next_front j.consecutive a.3 b.3 front from to;
+          };
+          pixel = pixel;
+        })
         | inr turned ↦ absurd (omega (
-            arith,
-            turned,
-            j.consecutive.order,
-            by.last a.0 j.key a.3,
-            by.first a.0 j.key a.3,
-            by.first b.0 j.next b.3,
-            by.last b.0 j.next b.3,
-            (first-in_range j.key).to,
-            (first-in_range j.next).to,
-          ))
+          arith,
+          turned,
+          j.consecutive.order,
+          by.last a.0 j.key a.3,
+          by.first a.0 j.key a.3,
+          by.first b.0 j.next b.3,
+          by.last b.0 j.next b.3,
+          (first-in_range j.key).to,
+          (first-in_range j.next).to,
+        ))
       ]
     ]
 
