@@ -1,6 +1,6 @@
 -- The test of a key that lies across the end of a column.
-use Rattle.std.proofs.Common.{ℕ, suc, ◌≡◌, ◌+◌, ◌-◌, ◌*◌, ◌<◌, ◌≤◌, ◌⊎◌, ◌↔◌, inl, inr, Bool, true, false, IsTrue, max, refl, sym, ap, ◌∙◌, arith}
-use Rattle.std.specs.Prelude.{not, ◌==◌}
+use Rattle.std.proofs.Common.{ℕ, suc, ap₂, subst, ◌≡◌, ◌+◌, ◌-◌, ◌*◌, ◌<◌, ◌≤◌, ◌⊎◌, ◌↔◌, inl, inr, Bool, true, false, IsTrue, max, refl, sym, ap, ◌∙◌, arith}
+use Rattle.std.specs.Prelude.{not, ◌==◌, nat_lt}
 use Rattle.std.proofs.lemmas.Bool.{cases_lt, cases_eq}
 use Rattle.std.proofs.lemmas.Bool.Decides.{nat_tests}
 use Rattle.chart_grid.specs.Projection.{column}
@@ -124,11 +124,41 @@ decided w k =
     ]
 
 true-false : (b : Bool) → b ≡ false → IsTrue b → ⊥
-true-false b no yes = let t : false ≡ true = sym no ∙ yes in cc
+true-false b off on = let t : false ≡ true = sym off ∙ on in cc
 
 pub across-law : (w : Scope) (k : Key) → IsTrue (is_across w k) ↔ IsAcross w.axis w.grid k
 across-law w k =
     elim (decided w k) [
-      | inl yes ↦ (λ h. yes.1, λ h. yes.0)
-      | inr no ↦ (λ h. absurd (true-false (is_across w k) no.0 h), λ h. absurd (no.1 h))
+      | inl is ↦ (λ h. is.1, λ h. is.0)
+      | inr other ↦ (λ h. absurd (true-false (is_across w k) other.0 h), λ h. absurd (other.1 h))
     ]
+
+pub across-by : (w : Scope) (k : Key) (b : Bool) → b ≡ is_across w k → IsTrue b ↔ IsAcross w.axis w.grid k
+across-by w k b is = subst (λ (t : Bool). IsTrue t ↔ IsAcross w.axis w.grid k) (sym is) (across-law w k)
+
+pub before-test : (w : Scope) (k : Key) (e : ℕ) → e ≡ end_slot k → e ≤ w.from → false ≡ is_across w k
+before-test w k e is low = sym (before-not w k (omega (arith, is, low)))
+
+pub behind-test : (w : Scope) (k : Key) (f : ℕ) → f ≡ first_slot k → w.end ≤ f → false ≡ is_across w k
+behind-test w k f is high = sym (behind-not w k (omega (arith, is, high)))
+
+left-says : (w : Scope) (k : Key) → w.from < end_slot k → first_slot k < w.end → first_slot k < w.from → nat_lt w.from w.end ≡ is_across w k
+unfolding is_across
+left-says w k a b c = grind (arith, nat_tests, a, b, c)
+
+pub left-test : (w : Scope) (k : Key) (f e : ℕ) → f ≡ first_slot k → e ≡ end_slot k → w.from < e → f < w.end → f < w.from → nat_lt w.from w.end ≡ is_across w k
+left-test w k f e f_is e_is a b c = left-says w k (omega (arith, e_is, a)) (omega (arith, f_is, b)) (omega (arith, f_is, c))
+
+pub right-test : (w : Scope) (k : Key) (f e : ℕ) → f ≡ first_slot k → e ≡ end_slot k → w.from < e → f < w.end → w.from ≤ f → w.end < e → true ≡ is_across w k
+right-test w k f e f_is e_is a b c d = sym (right-is w k (omega (arith, e_is, a)) (omega (arith, f_is, b)) (omega (arith, e_is, d)) (omega (arith, b, c)))
+
+inner-says : (w : Scope) (k : Key) → w.from < end_slot k → first_slot k < w.end → w.from ≤ first_slot k → end_slot k ≤ w.end
+    → not (column w.grid (slot_time w.axis (first_slot k)) == column w.grid (slot_time w.axis (end_slot k - 1))) ≡ is_across w k
+unfolding is_across
+inner-says w k a b c d = grind (arith, nat_tests, a, b, c, d)
+
+pub inner-test : (w : Scope) (k : Key) (f e p q : ℕ) → f ≡ first_slot k → e ≡ end_slot k → w.from < e → f < w.end → w.from ≤ f → e ≤ w.end
+    → column w.grid (slot_time w.axis f) ≡ p → column w.grid (slot_time w.axis (e - 1)) ≡ q → not (p == q) ≡ is_across w k
+inner-test w k f e p q f_is e_is a b c d first last =
+    ap₂ (λ (m n : ℕ). not (m == n)) (sym first ∙ ap (λ (i : ℕ). column w.grid (slot_time w.axis i)) f_is) (sym last ∙ ap (λ (i : ℕ). column w.grid (slot_time w.axis (i - 1))) e_is)
+    ∙ inner-says w k (omega (arith, e_is, a)) (omega (arith, f_is, b)) (omega (arith, f_is, c)) (omega (arith, e_is, d))

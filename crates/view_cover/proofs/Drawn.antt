@@ -52,7 +52,7 @@ time-rises : (w : Scope) (i j : ℕ) → i ≤ j → slot_time w.axis i ≤ℤ s
 time-rises w i j low =
     let steps : i * w.axis.step ≤ j * w.axis.step = mul-le-mul_right w.axis.step low in omega (arith, ints, steps)
 
-columns-rise : (w : Scope) (i j c d : ℕ) → i ≤ j → IsInColumn w.axis w.grid c i → IsInColumn w.axis w.grid d j → c ≤ d
+pub columns-rise : (w : Scope) (i j c d : ℕ) → i ≤ j → IsInColumn w.axis w.grid c i → IsInColumn w.axis w.grid d j → c ≤ d
 columns-rise w i j c d low a b =
     omega (arith, a.place, b.place, column-rising w.grid (slot_time w.axis i) (slot_time w.axis j) a.shown b.shown (time-rises w i j low))
 

@@ -161,15 +161,3 @@ pub covered-by : (scene : Scene) (w h : ℕ) (key : Key) (blank drawn : Canvas) 
 covered-by scene w h key blank drawn wide tall is is_blank adds =
     covered scene w h blank drawn wide tall is_blank
     (subst (λ (k : Key). Adds (λ x y. InPart scene (first_slot k) (end_slot k) x (pos y)) blank drawn) is adds)
-
--- the scope has the view's own fields
-pub cover-same : (w : Scope) (told : Key → Option Coef) (axis : Axis) (grid : Grid) (lo hi : ℤ) (root : Option Span) (c : Canvas) → w.axis ≡ axis → w.grid ≡ grid → w.lo ≡ lo → w.hi ≡ hi
-    → w.root ≡ root → IsCoverOf (scene_of w told) c
-    → (let scene : Scene = record { axis = axis; grid = grid; lo = lo; hi = hi; root = root; told = told } in IsCoverOf scene c)
-cover-same w told axis grid lo hi root c of_axis of_grid of_lo of_hi of_root h =
-    let A : Axis → Type 0 = λ a. let scene : Scene = record { axis = a; grid = w.grid; lo = w.lo; hi = w.hi; root = w.root; told = told } in IsCoverOf scene c in
-    let G : Grid → Type 0 = λ g. let scene : Scene = record { axis = axis; grid = g; lo = w.lo; hi = w.hi; root = w.root; told = told } in IsCoverOf scene c in
-    let L : ℤ → Type 0 = λ l. let scene : Scene = record { axis = axis; grid = grid; lo = l; hi = w.hi; root = w.root; told = told } in IsCoverOf scene c in
-    let H : ℤ → Type 0 = λ l. let scene : Scene = record { axis = axis; grid = grid; lo = lo; hi = l; root = w.root; told = told } in IsCoverOf scene c in
-    let R : Option Span → Type 0 = λ r. let scene : Scene = record { axis = axis; grid = grid; lo = lo; hi = hi; root = r; told = told } in IsCoverOf scene c in
-    subst R of_root (subst H of_hi (subst L of_lo (subst G of_grid (subst A of_axis h))))

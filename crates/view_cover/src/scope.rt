@@ -102,11 +102,17 @@ impl Scope {
     {
         let first = key.first();
         let end = key.end();
-        if end <= self.from || self.end <= first {
+        if end <= self.from {
             return false;
         }
-        if first < self.from || self.end < end {
+        if self.end <= first {
+            return false;
+        }
+        if first < self.from {
             return self.from < self.end;
+        }
+        if self.end < end {
+            return true;
         }
         self.column_of(first) != self.column_of(end - 1)
     }

@@ -12,33 +12,23 @@ ghost use Rattle.view_cover.specs.Walk.{IsCoverOf, scene_of, IsReached, IsLastBe
 use crate::area::{Area, both, fill};
 use crate::scope::Scope;
 use crate::teller::Teller;
+use chart_grid::height_of;
 use chart_grid::laws::heights_rise;
-use chart_grid::{Axis, Grid, height_of};
 use line_raster::{Bitmap, NoMemory};
 use om3_coeff::laws::{ranges_hold_those_below, split_and_join_undo_each_other, what_is_known};
 use om3_coeff::{Key, Span, split, top_key};
 use std::alloc::Global;
 
-/// The cover of a view over the range `lo` to `hi`, by the span of all slots and what is told.
-pub fn draw_cover<T: Teller>(
-    alloc: Global,
-    teller: &T,
-    axis: Axis,
-    grid: Grid,
-    lo: i64,
-    hi: i64,
-    root: Option<Span>,
-) -> Result<Bitmap, NoMemory>
-    requires few { axis.slots ≤ 2 ^ 35 }
-    requires step { 0 < axis.step }
-    requires range { lo ≤ℤ hi }
-    requires proper { IsProperIfAny root }
-    ensures { IfOk result (IsCoverOf (record { axis = axis; grid = grid; lo = lo; hi = hi; root = root; told = T.told teller.now })) }
+/// The cover of a view, by what is told.
+pub fn draw_cover<T: Teller>(alloc: Global, teller: &T, scope: &Scope) -> Result<Bitmap, NoMemory>
+    requires fit { T.fit teller.now }
+    requires proper { IsProperIfAny scope.now.root }
+    ensures { IfOk result (IsCoverOf (scene_of scope.now (T.told teller.now))) }
 {
-    let scope = Scope::of(axis, grid, lo, hi, root);
-    let mut bitmap = Bitmap::new(alloc, grid.w(), grid.h())?;
+    let mut bitmap = Bitmap::new(alloc, scope.grid.w(), scope.grid.h())?;
     what_is_known();
-    draw_below(teller, &scope, top_key(axis.slots), root, None, &mut bitmap);
+    let top = top_key(scope.axis.slots);
+    draw_below(teller, scope, top, scope.root, None, &mut bitmap);
     Ok(bitmap)
 }
 
@@ -56,6 +46,7 @@ fn draw_below<T: Teller>(
     requires last { IsLastBefore (scene_of scope.now (T.told teller.now)) (first_slot key) last }
     requires proper { IsProperIfAny scope.now.root }
     requires wide { bitmap.old.w ≡ scope.now.grid.w }
+    requires fit { T.fit teller.now }
     ensures last { IsLastBefore (scene_of scope.now (T.told teller.now)) (end_slot key) result }
     ensures drawn { Adds (λ x y. InPart (scene_of scope.now (T.told teller.now)) (first_slot key) (end_slot key) x (pos y)) bitmap.old bitmap.new }
 {
@@ -85,7 +76,8 @@ fn halves_of<T: Teller>(
     key: Key,
     span: Span,
 ) -> Option<(Option<Span>, Option<Span>)>
-    requires { IsReached (scene_of scope.now (T.told teller.now)) key (Some span) }
+    requires reached { IsReached (scene_of scope.now (T.told teller.now)) key (Some span) }
+    requires fit { T.fit teller.now }
     ensures low { IfSome result (λ halves. 1 ≤ key.level) }
     ensures left { IfSome result (λ halves. IsReached (scene_of scope.now (T.told teller.now)) (left_of key) halves.0) }
     ensures right { IfSome result (λ halves. IsReached (scene_of scope.now (T.told teller.now)) (right_of key) halves.1) }

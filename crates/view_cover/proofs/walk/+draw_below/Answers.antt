@@ -68,8 +68,8 @@ returns-in_default-columns_of-clause-drawn g t c =
     }) in
     part-free (scene_of c.args.scope.now (g.T.Teller.told c.args.teller.now)) (first_slot c.args.key) (end_slot c.args.key) c.args.bitmap.now (undrawn-free by (scene_of c.args.scope.now (g.T.Teller.told c.args.teller.now)) c.args.key c.args.span c.requires.reached c.in_default-columns_of.ensures.none)
 
-pub halves_of-requires : goal.halves_of-requires
-halves_of-requires g t c = reached-as (scene_of c.args.scope.now (g.T.Teller.told c.args.teller.now)) c.args.key c.args.span (Some c.in-Some.span) c.in-Some.is c.requires.reached
+pub halves_of-requires-clause-reached : goal.halves_of-requires-clause-reached
+halves_of-requires-clause-reached g t c = reached-as (scene_of c.args.scope.now (g.T.Teller.told c.args.teller.now)) c.args.key c.args.span (Some c.in-Some.span) c.in-Some.is c.requires.reached
 
 pub add-requires-clause-columns : goal.add-requires-clause-columns
 add-requires-clause-columns g t c =
@@ -127,7 +127,7 @@ draw_below-middle-requires g t c κs within =
         search rules,
         (
           reached-at (scene_of c.args.scope.now (g.T.Teller.told c.args.teller.now)) (left_of c.args.key) c.left.result c.in-Some-halves_of.first c.left.ensures c.in-Some-halves_of.ensures.left,
-          (last-at (scene_of c.args.scope.now (g.T.Teller.told c.args.teller.now)) (first_slot c.args.key) (first_slot c.left.result) c.args.last start c.requires.last, (c.requires.proper, c.requires.wide)),
+          (last-at (scene_of c.args.scope.now (g.T.Teller.told c.args.teller.now)) (first_slot c.args.key) (first_slot c.left.result) c.args.last start c.requires.last, (c.requires.proper, (c.requires.wide, c.requires.fit))),
         ),
       ),
     )
@@ -143,7 +143,7 @@ draw_below-requires g t c κs within =
           reached-at (scene_of c.args.scope.now (g.T.Teller.told c.args.teller.now)) (right_of c.args.key) c.right.result c.in-Some-halves_of.second c.right.ensures c.in-Some-halves_of.ensures.right,
           (
             last-at (scene_of c.args.scope.now (g.T.Teller.told c.args.teller.now)) (end_slot c.left.result) (first_slot c.right.result) c.draw_below-middle.result start c.draw_below-middle.ensures.last,
-            (c.requires.proper, c.draw_below-middle.ensures.drawn.width ∙ c.requires.wide),
+            (c.requires.proper, (c.draw_below-middle.ensures.drawn.width ∙ c.requires.wide, c.requires.fit)),
           ),
         ),
       ),

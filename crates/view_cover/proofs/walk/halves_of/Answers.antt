@@ -6,8 +6,8 @@ use Rattle.view_cover.proofs.Spans.{Basis}
 use Rattle.view_cover.proofs.Steps.{reached-left, reached-right}
 use Rattle.view_cover.proofs.walk.halves_of.Goals as goal
 
-pub coef-requires : goal.coef-requires
-coef-requires g c = key_small c.args.scope.now.axis.slots c.args.key c.requires.key
+pub coef-requires-clause-key : goal.coef-requires-clause-key
+coef-requires-clause-key g c = key_small c.args.scope.now.axis.slots c.args.key c.requires.reached.key
 
 pub returns-clause-left : goal.returns-clause-left
 returns-clause-left g c =
@@ -20,7 +20,7 @@ returns-clause-left g c =
       first = c.ranges_hold_those_below.ensures.first;
       last = c.ranges_hold_those_below.ensures.end;
     }) in
-    reached-left by (scene_of c.args.scope.now (g.T.Teller.told c.args.teller.now)) c.args.key c.args.span _ _ (omega (arith, c.if-key-eq0.false)) c.requires
+    reached-left by (scene_of c.args.scope.now (g.T.Teller.told c.args.teller.now)) c.args.key c.args.span _ _ (omega (arith, c.if-key-eq0.false)) c.requires.reached
     (sym c.coef.ensures ∙ c.in-Some.is) c.in-Ok.ensures.parts
 
 pub returns-clause-right : goal.returns-clause-right
@@ -34,5 +34,5 @@ returns-clause-right g c =
       first = c.ranges_hold_those_below.ensures.first;
       last = c.ranges_hold_those_below.ensures.end;
     }) in
-    reached-right by (scene_of c.args.scope.now (g.T.Teller.told c.args.teller.now)) c.args.key c.args.span _ _ (omega (arith, c.if-key-eq0.false)) c.requires
+    reached-right by (scene_of c.args.scope.now (g.T.Teller.told c.args.teller.now)) c.args.key c.args.span _ _ (omega (arith, c.if-key-eq0.false)) c.requires.reached
     (sym c.coef.ensures ∙ c.in-Some.is) c.in-Ok.ensures.parts

@@ -1,0 +1,3 @@
+mod Standing
+mod Used
+mod Later

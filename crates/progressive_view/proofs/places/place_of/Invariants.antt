@@ -1,0 +1,9 @@
+use Rattle.std.proofs.Common.{◌-◌}
+use Rattle.progressive_view.proofs.Standing.{Narrowed}
+use Rattle.progressive_view.proofs.places.place_of.Given as goal
+
+abbrev pub invariant-loop-from : goal.invariant-loop-from
+invariant-loop-from l = Narrowed l.list l.key l.from l.to
+
+abbrev pub decreases-loop-from : goal.decreases-loop-from
+decreases-loop-from l = l.to - l.from

@@ -1,0 +1,4 @@
+pub mod Used
+pub mod Covers
+pub mod Places
+pub mod Telling
