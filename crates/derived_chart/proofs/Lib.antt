@@ -2,3 +2,8 @@ pub mod ProductLemmas
 pub mod SumLemmas
 pub mod BestLemmas
 pub mod EndLemmas
+pub mod ListLemmas
+pub mod PointLemmas
+pub mod TimeLemmas
+pub mod FoundLemmas
+pub mod RowLemmas

@@ -5,6 +5,7 @@ use Rattle.om3_coeff.specs.Spans.{Holds, IsClear, IsStored}
 use Rattle.derived_chart.specs.declared.searches.Best.{Best}
 use Rattle.derived_chart.specs.declared.searches.Best.TheVariants.{Least, Greatest}
 use Rattle.derived_chart.specs.declared.ends.Side.{Side}
+use Rattle.derived_chart.specs.Bounds.{AreBetween, IsValueOf}
 use Rattle.derived_chart.specs.declared.ends.Side.TheVariants.{First, Last}
 
 -- m is at least as good as v, where the least or the greatest is looked for
@@ -21,6 +22,11 @@ IsBestWith best list p q before (Some m) = ((before ≡ Some m) ⊎ IsStored lis
 abbrev pub IsBestOf : Best → List (Option ℤ) → ℕ → ℕ → Option ℤ → Type 0
 IsBestOf best list p q None = IsClear list p q
 IsBestOf best list p q (Some m) = IsStored list p q m × ((i : ℕ) (v : ℤ) → p ≤ i → i < q → Holds list i v → Beats best m v)
+
+-- the values of the slots from p on and below q lie between these two numbers, which are the value where it is a single slot
+pub record IsRangeOf (list : List (Option ℤ)) (p q : ℕ) (b : Option (ℤ × ℤ)) : Type 0 where
+  pub between : AreBetween list p q b
+  pub one : q ≡ p + 1 → IsValueOf list p b
 
 -- no value between these two numbers is better than what was found before
 abbrev pub IsNoBetter : Best → Option ℤ → ℤ × ℤ → Type 0

@@ -1,26 +1,73 @@
-use Rattle.std.proofs.Common.{arith, ◌+◌, ◌-◌, ◌/◌}
+use Rattle.std.proofs.Common.{rules, arith, false, ◌+◌, ◌-◌, ◌/◌}
 use Rattle.std.proofs.lemmas.Result.{IfOk-weaker, IfErr-weaker}
 use Rattle.derived_chart.specs.Searches.{IsBestWith}
-use Rattle.derived_chart.proofs.SumLemmas.{value_between}
-use Rattle.derived_chart.proofs.BestLemmas.{best_kept, best_both}
+use Rattle.derived_chart.proofs.BestLemmas.{best_worse, best_left, best_right}
 use Rattle.derived_chart.proofs.searches.+best_from.Goals as goal
 
 pub returns-then-is_no_better-clause-best : goal.returns-then-is_no_better-clause-best
-returns-then-is_no_better-clause-best g t c = λ xs ys sums trees are.
-    best_kept c.args.best sums c.args.p c.args.q c.args.found.now c.in-Some.range (c.is_no_better.ensures.yes c.if-is_no_better.true) (value_between sums c.args.p c.args.q c.in_ok-range.field-0 c.in-Some.range c.in-Some.is (c.in_ok-range.ensures.between xs ys sums trees are))
+returns-then-is_no_better-clause-best g t c = λ xs ys sums trees are range.
+    best_worse c.args.best sums c.args.p c.args.q c.args.found.now c.args.range.now _ c.in-Some.is (c.is_no_better.ensures.yes c.if-is_no_better.true) range
+
+pub best_from-requires-then-is_second_better : goal.best_from-requires-then-is_second_better
+best_from-requires-then-is_second_better g t c κs within =
+    let one = g.met.T.TwoTrees.still_count false _ _ c.in_ok-left.ensures.goes in
+    let two = g.met.T.TwoTrees.still_count false _ _ c.in_ok-right.ensures.goes in
+    let three = g.met.T.TwoTrees.still_count false _ _ c.in_ok-first.ensures.goes in (
+      omega (arith, c.requires.some, c.if-q-p-eq1.false),
+      (
+        search rules,
+        (c.in_ok-first.ensures.fit, (omega (arith, c.requires.some, c.if-q-p-eq1.false), (omega (arith, c.requires.some, c.requires.within, one, two, three), (omega (arith, c.requires.some, c.requires.few), c.requires.small)))),
+      ),
+    )
+
+pub returns-then-is_second_better-clause-best : goal.returns-then-is_second_better-clause-best
+returns-then-is_second_better-clause-best g t c = λ xs ys sums trees are range.
+    let middle = c.args.p + (c.args.q - c.args.p) / 2 in
+    let one = g.met.T.TwoTrees.still_are _ _ xs ys c.in_ok-left.ensures.goes trees in
+    let two = g.met.T.TwoTrees.still_are _ _ xs ys c.in_ok-right.ensures.goes one in
+    let three = g.met.T.TwoTrees.still_are _ _ xs ys c.in_ok-first.ensures.goes two in
+    IfOk-weaker c.best_from-then-is_second_better.result (IsBestWith c.args.best sums c.args.p middle c.in_ok-first.first) (IsBestWith c.args.best sums c.args.p c.args.q c.args.found.now)
+    (λ found. best_right c.args.best sums c.args.p middle c.args.q c.args.found.now c.in_ok-first.first found (omega arith) (omega (arith, c.requires.some))
+    (c.in_ok-first.ensures.best xs ys sums two are (record { between = c.in_ok-right.ensures.between xs ys sums one are; one = c.in_ok-right.ensures.one xs ys sums one are })))
+    (c.best_from-then-is_second_better.ensures.best xs ys sums three are (record { between = c.in_ok-left.ensures.between xs ys sums trees are; one = c.in_ok-left.ensures.one xs ys sums trees are }))
+
+pub returns-then-is_second_better-clause-goes : goal.returns-then-is_second_better-clause-goes
+returns-then-is_second_better-clause-goes g t c =
+    g.met.T.TwoTrees.goes_on _ _ _ c.in_ok-left.ensures.goes (g.met.T.TwoTrees.goes_on _ _ _ c.in_ok-right.ensures.goes (g.met.T.TwoTrees.goes_on _ _ _ c.in_ok-first.ensures.goes c.best_from-then-is_second_better.ensures.goes))
+
+pub returns-then-is_second_better-clause-cause : goal.returns-then-is_second_better-clause-cause
+returns-then-is_second_better-clause-cause g t c =
+    IfErr-weaker c.best_from-then-is_second_better.result (g.T.TwoTrees.causes c.best_from.new.trees c.best_from-then-is_second_better.new.trees) (g.T.TwoTrees.causes c.args.trees.now c.best_from-then-is_second_better.new.trees)
+    (λ e. g.met.T.TwoTrees.causes_behind _ _ _ e (g.met.T.TwoTrees.goes_on _ _ _ c.in_ok-left.ensures.goes (g.met.T.TwoTrees.goes_on _ _ _ c.in_ok-right.ensures.goes c.in_ok-first.ensures.goes))) c.best_from-then-is_second_better.ensures.cause
+
+pub best_from-requires-3 : goal.best_from-requires-3
+best_from-requires-3 g t c κs within =
+    let one = g.met.T.TwoTrees.still_count false _ _ c.in_ok-left.ensures.goes in
+    let two = g.met.T.TwoTrees.still_count false _ _ c.in_ok-right.ensures.goes in
+    let three = g.met.T.TwoTrees.still_count false _ _ c.in_ok-first-2.ensures.goes in (
+      omega (arith, c.requires.some, c.if-q-p-eq1.false),
+      (
+        search rules,
+        (c.in_ok-first-2.ensures.fit, (omega (arith, c.requires.some, c.if-q-p-eq1.false), (omega (arith, c.requires.within, one, two, three), (c.requires.few, c.requires.small)))),
+      ),
+    )
 
 pub returns-clause-best : goal.returns-clause-best
-returns-clause-best g t c = λ xs ys sums trees are.
+returns-clause-best g t c = λ xs ys sums trees are range.
     let middle = c.args.p + (c.args.q - c.args.p) / 2 in
-    let now = g.met.T.TwoTrees.still_are _ _ xs ys c.in_ok-range.ensures.goes trees in
-    let then = g.met.T.TwoTrees.still_are _ _ xs ys c.in_ok-first.ensures.goes now in
-    IfOk-weaker c.best_from-2.result (IsBestWith c.args.best sums middle c.args.q c.in_ok-first.first) (IsBestWith c.args.best sums c.args.p c.args.q c.args.found.now)
-    (λ found. best_both c.args.best sums c.args.p middle c.args.q c.args.found.now c.in_ok-first.first found (omega arith) (omega (arith, c.requires.order)) (c.in_ok-first.ensures.best xs ys sums now are))
-    (c.best_from-2.ensures.best xs ys sums then are)
+    let one = g.met.T.TwoTrees.still_are _ _ xs ys c.in_ok-left.ensures.goes trees in
+    let two = g.met.T.TwoTrees.still_are _ _ xs ys c.in_ok-right.ensures.goes one in
+    let three = g.met.T.TwoTrees.still_are _ _ xs ys c.in_ok-first-2.ensures.goes two in
+    IfOk-weaker c.best_from-3.result (IsBestWith c.args.best sums middle c.args.q c.in_ok-first-2.first) (IsBestWith c.args.best sums c.args.p c.args.q c.args.found.now)
+    (λ found. best_left c.args.best sums c.args.p middle c.args.q c.args.found.now c.in_ok-first-2.first found (omega arith) (omega (arith, c.requires.some))
+    (c.in_ok-first-2.ensures.best xs ys sums two are (record { between = c.in_ok-left.ensures.between xs ys sums trees are; one = c.in_ok-left.ensures.one xs ys sums trees are })))
+    (c.best_from-3.ensures.best xs ys sums three are (record { between = c.in_ok-right.ensures.between xs ys sums one are; one = c.in_ok-right.ensures.one xs ys sums one are }))
 
 pub returns-clause-goes : goal.returns-clause-goes
-returns-clause-goes g t c = g.met.T.TwoTrees.goes_on _ _ _ c.in_ok-range.ensures.goes (g.met.T.TwoTrees.goes_on _ _ _ c.in_ok-first.ensures.goes c.best_from-2.ensures.goes)
+returns-clause-goes g t c =
+    g.met.T.TwoTrees.goes_on _ _ _ c.in_ok-left.ensures.goes (g.met.T.TwoTrees.goes_on _ _ _ c.in_ok-right.ensures.goes (g.met.T.TwoTrees.goes_on _ _ _ c.in_ok-first-2.ensures.goes c.best_from-3.ensures.goes))
 
 pub returns-clause-cause : goal.returns-clause-cause
-returns-clause-cause g t c = IfErr-weaker c.best_from-2.result (g.T.TwoTrees.causes c.best_from.new.trees c.best_from-2.new.trees) (g.T.TwoTrees.causes c.args.trees.now c.best_from-2.new.trees)
-    (λ e. g.met.T.TwoTrees.causes_behind _ _ _ e (g.met.T.TwoTrees.goes_on _ _ _ c.in_ok-range.ensures.goes c.in_ok-first.ensures.goes)) c.best_from-2.ensures.cause
+returns-clause-cause g t c =
+    IfErr-weaker c.best_from-3.result (g.T.TwoTrees.causes c.best_from-2.new.trees c.best_from-3.new.trees) (g.T.TwoTrees.causes c.args.trees.now c.best_from-3.new.trees)
+    (λ e. g.met.T.TwoTrees.causes_behind _ _ _ e (g.met.T.TwoTrees.goes_on _ _ _ c.in_ok-left.ensures.goes (g.met.T.TwoTrees.goes_on _ _ _ c.in_ok-right.ensures.goes c.in_ok-first-2.ensures.goes))) c.best_from-3.ensures.cause

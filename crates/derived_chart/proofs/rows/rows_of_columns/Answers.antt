@@ -1,0 +1,27 @@
+use Rattle.std.proofs.Common.{ℕ, ℤ, ◌≡◌, List, sym, subst, arith}
+use Rattle.m4_groups.specs.declared.row.Row.{Row}
+use Rattle.derived_chart.specs.Rows.{AreShown, AreRowsBelow}
+use Rattle.derived_chart.proofs.RowLemmas.{none_below, none_shown}
+use Rattle.derived_chart.proofs.rows.rows_of_columns.Goals as goal
+
+pub loop-column-init : goal.loop-column-init
+loop-column-init g c = record {
+  fit = c.requires.fit;
+  goes = g.met.T.TwoTrees.goes_nowhere c.args.trees.now;
+  shown = (let P : List Row → Type 0 = λ rows. AreShown c.args.grid.w 0 rows in subst P (sym c.in_ok-rows.ensures.items) (none_shown c.args.grid.w));
+  rows = λ xs ys sums trees are small. (let P : List Row → Type 0 = λ rows. AreRowsBelow c.args.axis c.args.grid sums 0 rows in subst P (sym c.in_ok-rows.ensures.items) (none_below c.args.axis c.args.grid sums));
+}
+
+pub loop-column-preserved : goal.loop-column-preserved
+loop-column-preserved g c = record {
+  fit = c.in_ok-add_column.ensures.fit;
+  goes = g.met.T.TwoTrees.goes_on _ _ _ c.loop-column.invariant.goes c.in_ok-add_column.ensures.goes;
+  shown = c.in_ok-add_column.ensures.shown c.loop-column.invariant.shown;
+  rows = λ xs ys sums trees are small. c.in_ok-add_column.ensures.rows xs ys sums (g.met.T.TwoTrees.still_are _ _ xs ys c.loop-column.invariant.goes trees) are small (c.loop-column.invariant.rows xs ys sums trees are small);
+}
+
+pub returns-clause-rows : goal.returns-clause-rows
+returns-clause-rows g c = λ xs ys sums trees are small.
+    let last : c.loop-column.column ≡ c.args.grid.w = omega (arith, c.loop-column-test.false, c.loop-column.auto.column-end, c.w-column-end.ensures.value) in
+    let P : ℕ → Type 0 = λ n. AreRowsBelow c.args.axis c.args.grid sums n c.loop-column.rows.items in
+    subst P last (c.loop-column.invariant.rows xs ys sums trees are small)

@@ -1,0 +1,103 @@
+//! The row of a column.
+ghost use Rattle.std.specs.Prelude.{◌≡◌, ℤ, ◌+◌, ◌<◌, ◌≤◌, ◌^◌, List, Option, Some, IfOk, IfErr, IfSome, ℕ, false, ◌≤ℤ◌};
+ghost use Rattle.whole_number.specs.Range.{IsValue};
+ghost use Rattle.om3_coeff.specs.Walks.{IsFirstStored, IsLastStored};
+ghost use Rattle.m4_groups.specs.Heights.{IsDrawable};
+ghost use Rattle.derived_chart.specs.Rows.{AreValues, IsRowIn, IsRowIfAny};
+ghost use Rattle.derived_chart.specs.Searches.{IsBestOf};
+ghost use Rattle.derived_chart.specs.Sums.{AreSums, IsSmall};
+ghost use Rattle.derived_chart.specs.declared.searches.Best.TheVariants.{Least, Greatest};
+
+use crate::ends::{first_sum, last_sum};
+use crate::searches::{Best, best_sum};
+use crate::sum::Sum;
+use crate::times::value_of;
+use crate::trees::TwoTrees;
+use m4_groups::Row;
+use om3_coeff::NodeError;
+
+/// The row of a column that shows the slots from `p` on and below `q` of the first series, or nothing where no sum stands there.
+pub(crate) fn row_of_column<T: TwoTrees>(
+    trees: &mut T,
+    sum: Sum,
+    column: u16,
+    p: u64,
+    q: u64,
+) -> Result<Option<Row>, NodeError>
+    requires fit { (T.view trees.old).fit }
+    requires order { p ≤ q }
+    requires within { q ≤ T.count false trees.old }
+    requires few { q ≤ 2 ^ 35 }
+    requires small { IsSmall sum }
+    ensures row { (xs ys sums : List (Option ℤ)) → T.are trees.old xs ys → AreSums sum xs ys sums → AreValues sums p q → IfOk result (IsRowIfAny sums p q) }
+    ensures column { IfOk result (λ row. IfSome row (λ r. r.column ≡ column)) }
+    ensures drawable { IfOk result (λ row. IfSome row (IsDrawable (column + 1))) }
+    ensures fit { (T.view trees.new).fit }
+    ensures goes { T.goes trees.old trees.new }
+    ensures cause { IfErr result (T.causes trees.old trees.new) }
+{
+    let Some(first) = first_sum(trees, sum, p, q)? else {
+        return Ok(None);
+    };
+    let last = last_sum(trees, sum, p, q)?;
+    let least = best_sum(trees, sum, p, q, Best::Least)?;
+    let greatest = best_sum(trees, sum, p, q, Best::Greatest)?;
+    Ok(Some(row_of(column, &first, &last, &least, &greatest)))
+}
+
+/// The row by what was found of a column: its first sum with its slot, the last one, the least and the greatest, which are
+/// there where the first one is.
+fn row_of(
+    column: u16,
+    first: &(u64, i128),
+    last: &Option<(u64, i128)>,
+    least: &Option<i128>,
+    greatest: &Option<i128>,
+) -> Row
+    ensures column { result.column ≡ column }
+    ensures drawable { IsDrawable (column + 1) result }
+    ensures row { (sums : List (Option ℤ)) (p q : ℕ) → AreValues sums p q → IsFirstStored sums p q (Some first.now) → IsLastStored sums p q last.now → IsBestOf Least sums p q least.now → IsBestOf Greatest sums p q greatest.now → IsRowIn sums p q result }
+{
+    let low = sum_or(least, &first.1);
+    let high = sum_or(greatest, &first.1);
+    Row {
+        column,
+        first: value_of(&first.1),
+        least: low,
+        greatest: at_least(&high, &low),
+        last: last_or(last, &first.1),
+    }
+}
+
+/// The sum that was found, or the other one.
+fn sum_or(found: &Option<i128>, other: &i128) -> i64
+    ensures same { IfSome found.now (λ v. IsValue v → result ≡ v) }
+    ensures value { IsValue result }
+{
+    match found {
+        Some(sum) => value_of(sum),
+        None => value_of(other),
+    }
+}
+
+/// The sum of the slot that was found, or the other one.
+fn last_or(found: &Option<(u64, i128)>, other: &i128) -> i64
+    ensures same { IfSome found.now (λ l. IsValue l.1 → result ≡ l.1) }
+    ensures value { IsValue result }
+{
+    match found {
+        Some(found) => value_of(&found.1),
+        None => value_of(other),
+    }
+}
+
+/// The value, or the low one where it is less than that.
+fn at_least(value: &i64, low: &i64) -> i64
+    requires value { IsValue value.now }
+    requires low { IsValue low.now }
+    ensures same { low.now ≤ℤ value.now → result ≡ value.now }
+    ensures order { low.now ≤ℤ result }
+    ensures value { IsValue result }
+{
+    if *value < *low { *low } else { *value }
+}

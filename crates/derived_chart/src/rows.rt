@@ -1,0 +1,120 @@
+//! The rows of a sum of two series.
+ghost use Rattle.std.specs.Prelude.{◌≡◌, ℤ, ◌+◌, ◌<◌, ◌≤◌, ◌^◌, List, Option, IfOk, IfErr, OnOk, All, false, length};
+ghost use Rattle.m4_groups.specs.Heights.{IsDrawable};
+ghost use Rattle.m4_groups.specs.Rows.{AreRising};
+ghost use Rattle.plain_chart.specs.Samples.{kept};
+ghost use Rattle.derived_chart.specs.Lists.{sums_of};
+ghost use Rattle.derived_chart.specs.Rows.{IsAnswer, IsCause, IsRowCause, AreShown, AreRowsBelow, AreColumnValues};
+ghost use Rattle.derived_chart.specs.Sums.{AreSums, IsSmall};
+
+use crate::column_row::row_of_column;
+use crate::derived_error::DerivedError;
+use crate::ends::first_large_sum;
+use crate::sum::Sum;
+use crate::times::{time_of, window_slots};
+use crate::trees::TwoTrees;
+use chart_grid::laws::columns_rise;
+use chart_grid::{Axis, Grid};
+use m4_groups::{Row, Rows};
+use std::alloc::Global;
+
+/// The rows of a sum of two series: for each column at whose times both store a value, the first, the least, the
+/// greatest and the last of the sums. It is refused as `TooLarge` where a sum in the window is more than 10^18 in
+/// size, with the first time of such a sum; `Node` is what the trees answered. The axis is that of the first series.
+pub fn derived_rows<T: TwoTrees>(
+    alloc: Global,
+    trees: &mut T,
+    axis: Axis,
+    sum: Sum,
+    grid: Grid,
+) -> Result<Rows, DerivedError>
+    requires fit { (T.view trees.old).fit }
+    requires slots { axis.slots ≡ T.count false trees.old }
+    requires few { axis.slots ≤ 2 ^ 35 }
+    requires step { 0 < axis.step }
+    requires small { IsSmall sum }
+    ensures rows { (xs ys : List (Option ℤ)) → T.are trees.old xs ys → IsAnswer grid (kept grid axis (sums_of sum xs ys)) result }
+    ensures rising { IfOk result AreRising }
+    ensures drawable { IfOk result (All (IsDrawable grid.w)) }
+    ensures fit { (T.view trees.new).fit }
+    ensures goes { T.goes trees.old trees.new }
+    ensures cause { IfErr result (IsCause (T.causes trees.old trees.new)) }
+{
+    columns_rise();
+    let _slots = slots_of_first(trees);
+    let (from, to) = window_slots(grid, axis);
+    let large = first_large_sum(trees, sum, from, to)?;
+    if let Some(found) = large {
+        let time = time_of(axis, found.0);
+        return Err(DerivedError::TooLarge { time });
+    }
+    let rows = rows_of_columns(alloc, trees, axis, sum, grid)?;
+    Ok(Rows::from_vec(rows))
+}
+
+/// How many slots the first tree has.
+fn slots_of_first<T: TwoTrees>(trees: &mut T) -> u64
+    requires fit { (T.view trees.old).fit }
+    ensures count { result ≡ T.count false trees.old }
+    ensures length { (xs ys : List (Option ℤ)) → T.are trees.old xs ys → result ≡ length xs }
+    ensures fit { (T.view trees.new).fit }
+    ensures goes { T.goes trees.old trees.new }
+{
+    trees.turn(false);
+    trees.slots()
+}
+
+/// The rows of all columns, where no sum of them is too large.
+fn rows_of_columns<T: TwoTrees>(
+    alloc: Global,
+    trees: &mut T,
+    axis: Axis,
+    sum: Sum,
+    grid: Grid,
+) -> Result<Vec<Row>, DerivedError>
+    requires fit { (T.view trees.old).fit }
+    requires slots { axis.slots ≡ T.count false trees.old }
+    requires few { axis.slots ≤ 2 ^ 35 }
+    requires step { 0 < axis.step }
+    requires small { IsSmall sum }
+    ensures rows { (xs ys sums : List (Option ℤ)) → T.are trees.old xs ys → AreSums sum xs ys sums → AreColumnValues axis grid sums → IfOk result (λ rows. AreRowsBelow axis grid sums grid.w rows.items) }
+    ensures shown { IfOk result (λ rows. AreShown grid.w grid.w rows.items) }
+    ensures fit { (T.view trees.new).fit }
+    ensures goes { T.goes trees.old trees.new }
+    ensures cause { IfErr result (IsRowCause (T.causes trees.old trees.new)) }
+{
+    let mut rows = Vec::with_capacity(alloc, usize::from(grid.w()))?;
+    for column in 0..grid.w() {
+        add_column(trees, axis, sum, grid, column, &mut rows)?;
+    }
+    Ok(rows)
+}
+
+/// The row of a column behind those of the columns before it, if it has one.
+fn add_column<T: TwoTrees>(
+    trees: &mut T,
+    axis: Axis,
+    sum: Sum,
+    grid: Grid,
+    column: u16,
+    rows: &mut Vec<Row>,
+) -> Result<(), DerivedError>
+    requires fit { (T.view trees.old).fit }
+    requires slots { axis.slots ≡ T.count false trees.old }
+    requires few { axis.slots ≤ 2 ^ 35 }
+    requires step { 0 < axis.step }
+    requires small { IsSmall sum }
+    requires drawn { column < grid.w }
+    ensures rows { (xs ys sums : List (Option ℤ)) → T.are trees.old xs ys → AreSums sum xs ys sums → AreColumnValues axis grid sums → AreRowsBelow axis grid sums column rows.old.items → OnOk result (AreRowsBelow axis grid sums (column + 1) rows.new.items) }
+    ensures shown { AreShown grid.w column rows.old.items → OnOk result (AreShown grid.w (column + 1) rows.new.items) }
+    ensures fit { (T.view trees.new).fit }
+    ensures goes { T.goes trees.old trees.new }
+    ensures cause { IfErr result (IsRowCause (T.causes trees.old trees.new)) }
+{
+    let (p, q) = grid.slot_range(axis, column);
+    let Some(row) = row_of_column(trees, sum, column, p, q)? else {
+        return Ok(());
+    };
+    rows.push(row)?;
+    Ok(())
+}
