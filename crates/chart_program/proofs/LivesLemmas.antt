@@ -8,7 +8,7 @@ use Rattle.disk_store.specs.Held.{HoldsBook}
 use Rattle.stored_book.specs.Standing.{StandsForBook, RecoversTo}
 use Rattle.series_load.specs.Sets.{IsNamed, Loads}
 use Rattle.program_words.specs.declared.words.Command.{Command}
-use Rattle.program_words.specs.declared.words.Command.TheVariants.{Plot, Load, Demo, Run, Serve, Draw, Init, Check, ListSeries, Export}
+use Rattle.program_words.specs.declared.words.Command.TheVariants.{Plot, Load, Demo, Run, Serve, Draw, Init, Check, ListSeries, Export, Retain}
 use Rattle.store_commands.specs.Books.{begun}
 use Rattle.store_commands.proofs.HoldsAgain.{series_there}
 use Rattle.store_commands.specs.Loaded.{IsAheadLoad}
@@ -17,6 +17,7 @@ use Rattle.demo_workload.specs.Workload.{workload}
 use Rattle.chart_program.specs.Lives.{Life, AreLives, IsLife, IsLived, BeginsOn, IsLeftAt, LeavesFrom, IsAfterLines, IsAfterSets, IsAfterRequests, Outlives, AreBooks, life_of}
 use Rattle.chart_program.specs.Ran.{Leaves, LeavesTold}
 use Rattle.chart_program.specs.Served.{Says, Spelled, AreTexts, IsAheadOn}
+use Rattle.retain_command.specs.Sweeping.{IsAhead as IsAheadBy}
 
 -- ---- a run is a life
 
@@ -48,6 +49,8 @@ run_lives Check input old new begins left at b leaves is = λ total book recover
 run_lives ListSeries input old new begins left at b leaves is = λ total book recovers.
     (leaves total book (begun_holds (page_count old.size) total book begins old b recovers)).here at left is.0 is.1.0 is.1.1
 run_lives (Export name window) input old new begins left at b leaves is = λ total book recovers.
+    (leaves total book (begun_holds (page_count old.size) total book begins old b recovers)).here at left is.0 is.1.0 is.1.1
+run_lives Retain input old new begins left at b leaves is = λ total book recovers.
     (leaves total book (begun_holds (page_count old.size) total book begins old b recovers)).here at left is.0 is.1.0 is.1.1
 
 -- where the input and what was sent are told
@@ -136,6 +139,14 @@ left_load one name input count total book from left sent leaves =
           (after.0, inl after.1, after.2)
     ]) refl
 
+-- some lines were swept, and some first clears of the next one done
+left_swept : (input : List ℕ) (count total : ℕ) (book : List Series) (from : ℕ) (left : Image) (sent : ℕ) → IsAheadBy (λ after. RecoversTo count left total after) total book input from sent
+    → (next : List Series) × IsAheadBy (λ after. next ≡ after) total book input from sent × RecoversTo count left total next
+left_swept input count total book from left sent is = elim is.state [
+  | inl here ↦ (_, record { first = is.first; state = inl (refl, here.1) }, here.0)
+  | inr next ↦ (_, record { first = is.first; state = inr (record { rule = next.rule; next = next.next; done = next.done; few = next.few; there = refl; low = next.low; high = next.high; all = next.all }) }, next.there)
+]
+
 left_by : OneBook → (command : Command) (input : List ℕ) (count total : ℕ) (book : List Series) (from : ℕ) (left : Image) (sent : ℕ) → LeavesFrom command input count total book from left sent → Left command input count total book from left sent
 left_by one (Plot w h) input count total book from left sent leaves = (book, refl, leaves)
 left_by one Draw input count total book from left sent leaves = (book, refl, leaves)
@@ -147,6 +158,7 @@ left_by one (Demo seed rounds) input count total book from left sent leaves = le
 left_by one Check input count total book from left sent leaves = (book, refl, leaves)
 left_by one ListSeries input count total book from left sent leaves = (book, refl, leaves)
 left_by one (Export name window) input count total book from left sent leaves = (book, refl, leaves)
+left_by one Retain input count total book from left sent leaves = left_swept input count total book from left sent leaves
 
 -- ---- lives in a row
 

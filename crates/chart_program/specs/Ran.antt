@@ -19,7 +19,7 @@ use Rattle.series_book.specs.declared.one_series.Series.{Series}
 use Rattle.disk_store.specs.Held.{HoldsBook}
 use Rattle.drawn_replies.specs.Pictures.{ArePictured, AreOwnPictured, NoneRejected, names}
 use Rattle.program_words.specs.declared.words.Command.{Command}
-use Rattle.program_words.specs.declared.words.Command.TheVariants.{Plot, Load, Demo, Run, Serve, Draw, Init, Check, ListSeries, Export}
+use Rattle.program_words.specs.declared.words.Command.TheVariants.{Plot, Load, Demo, Run, Serve, Draw, Init, Check, ListSeries, Export, Retain}
 use Rattle.chart_program.specs.declared.draw_end.DrawEnd.TheVariants as draw_end
 use Rattle.program_words.specs.CommandLine.{plain_words}
 use Rattle.program_words.specs.Words.{AreCommand, ByCommand, Spells}
@@ -42,6 +42,10 @@ use Rattle.series_load.specs.Ends.{IsAtBad, IsAtRefusal}
 use Rattle.series_load.specs.Sets.{IsNamed}
 use Rattle.series_book.specs.declared.refusals.Refusal.{Refusal}
 use Rattle.stored_book.specs.Damage.{IsBadForEdit, IsBadForRequest}
+use Rattle.chart_service.specs.Serving.{told}
+use Rattle.retention.specs.declared.rule.Rule.{Rule}
+use Rattle.retain_command.specs.Answers.{AreRules}
+use Rattle.retain_command.specs.Retained.{LeavesSwept, RetainsAll, RetainsLines, RetainsPart, RetainsSome, RetainsTaken, RetainsToBad, RetainsToUnknown, RetainsWithin}
 use Rattle.store_commands.specs.Damaged.{IsDamagedAtFirst, IsDamagedPlace}
 use Rattle.chart_program.specs.CommandStatuses.{codes_of, IsOverStore, TakesNone, Bars}
 use Rattle.chart_program.specs.Texts.{picture_bytes}
@@ -68,7 +72,7 @@ ForStreams words left sent old new IsSo = ByCommand words (λ command. IsSo comm
 
 -- the first words of the commands that send before they end
 abbrev pub stream_words : List (List ℕ)
-stream_words = codes "run" ∷ codes "serve" ∷ codes "draw" ∷ codes "export" ∷ []
+stream_words = codes "run" ∷ codes "serve" ∷ codes "draw" ∷ codes "export" ∷ codes "retain" ∷ []
 
 -- the words begin with one of these
 abbrev pub BeginStream : List (List ℕ) → Type 0
@@ -87,6 +91,7 @@ SendsAll (Demo seed rounds) old new input before now = FromBook (page_count old.
 SendsAll Check old new input before now = SendsCounts (page_count old.size) old before now
 SendsAll ListSeries old new input before now = SendsList (page_count old.size) old before now
 SendsAll (Export name window) old new input before now = ExportsAll name window (page_count old.size) old before now
+SendsAll Retain old new input before now = RetainsAll (page_count old.size) old new input before now
 
 -- the first bytes of the command's output for this input were sent
 abbrev pub SendsPart : Command → View → View → List ℕ → Option (List ℕ) → Option (List ℕ) → Type 0
@@ -100,6 +105,7 @@ SendsPart (Demo seed rounds) old new input before now = FromBook (page_count old
 SendsPart Check old new input before now = SendsCountsPart (page_count old.size) old before now
 SendsPart ListSeries old new input before now = SendsListPart (page_count old.size) old before now
 SendsPart (Export name window) old new input before now = ExportsPart name window (page_count old.size) old before now
+SendsPart Retain old new input before now = RetainsPart (page_count old.size) old new input before now
 
 -- A take failed, where these bytes were left. A plot has sent nothing, a serving command what answers the
 -- lines taken, and `draw` the pictures of the frames taken.
@@ -114,6 +120,7 @@ StopsBefore (Demo seed rounds) old new input before now bytes = ⊥
 StopsBefore Check old new input before now bytes = ⊥
 StopsBefore ListSeries old new input before now bytes = ⊥
 StopsBefore (Export name window) old new input before now bytes = ⊥
+StopsBefore Retain old new input before now bytes = RetainsTaken (page_count old.size) old new input (Some bytes) before now
 
 -- the same, where the bytes left are told
 abbrev pub StopsWith : Option (List ℕ) → Command → View → View → List ℕ → Option (List ℕ) → Option (List ℕ) → Type 0
@@ -132,6 +139,7 @@ IsCutShort (Demo seed rounds) old new input before now = FromBook (page_count ol
 IsCutShort Check old new input before now = now ≡ before
 IsCutShort ListSeries old new input before now = now ≡ before
 IsCutShort (Export name window) old new input before now = ExportsPart name window (page_count old.size) old before now
+IsCutShort Retain old new input before now = RetainsSome (page_count old.size) old new input before now
 
 -- A call of the disk failed. `init` has sent nothing, a serving command what answers some first lines, and an export a
 -- front of its text.
@@ -146,6 +154,7 @@ StopsAtDisk (Demo seed rounds) old input before now = now ≡ before
 StopsAtDisk Check old input before now = now ≡ before
 StopsAtDisk ListSeries old input before now = now ≡ before
 StopsAtDisk (Export name window) old input before now = ExportsPart name window (page_count old.size) old before now
+StopsAtDisk Retain old input before now = RetainsLines (page_count old.size) old input before now
 
 -- The line or the field at this place is the first that isn't in the command's grammar, or the input ends there
 -- within a frame; a serving command answers each line. `draw` has sent the pictures of the frames before.
@@ -160,6 +169,7 @@ IsBadInput (Demo seed rounds) old new input place before now = ⊥
 IsBadInput Check old new input place before now = ⊥
 IsBadInput ListSeries old new input place before now = ⊥
 IsBadInput (Export name window) old new input place before now = ⊥
+IsBadInput Retain old new input place before now = RetainsToBad (page_count old.size) old new input place before now
 
 -- A frame's first wanted key that can't be used has no coefficient. That never comes for a `run` whose disk holds a book.
 abbrev pub Lacks : Command → View → List ℕ → ℕ → Option (List ℕ) → Option (List ℕ) → Type 0
@@ -200,6 +210,7 @@ LeavesDisk (Demo seed rounds) old new = GoesOn old new
 LeavesDisk Check old new = GoesOn old new
 LeavesDisk ListSeries old new = GoesOn old new
 LeavesDisk (Export name window) old new = GoesOn old new
+LeavesDisk Retain old new = GoesOn old new
 
 -- What a crash leaves at each moment of a serving command: a book with each edit whose answer was sent whole by then, and
 -- with at most 64 edits more. `init`, `check`, `plot` and `draw` leave the book as it is.
@@ -211,6 +222,7 @@ Leaves (Demo seed rounds) input old new = LeavesDemo (workload seed rounds) (pag
 Leaves Check input old new = LeavesSame (page_count old.size) old new
 Leaves ListSeries input old new = LeavesSame (page_count old.size) old new
 Leaves (Export name window) input old new = LeavesSame (page_count old.size) old new
+Leaves Retain input old new = LeavesSwept (page_count old.size) input old new
 Leaves (Plot w h) input old new = LeavesSame (page_count old.size) old new
 Leaves Draw input old new = LeavesSame (page_count old.size) old new
 Leaves Init input old new = LeavesSame (page_count old.size) old new
@@ -232,6 +244,7 @@ IsDamaged (Demo seed rounds) old new place = IsDamagedPlace IsBadForRequest old 
 IsDamaged Check old new place = IsDamagedPlace IsBadForCheck old old place
 IsDamaged ListSeries old new place = IsDamagedAtFirst old place
 IsDamaged (Export name window) old new place = IsDamagedAtFirst old place ⊎ IsBadInTree (page_count old.size) old place
+IsDamaged Retain old new place = IsDamagedPlace IsBadForRequest old new place
 IsDamaged command old new place = ⊥
 
 -- which never comes where the disk of a serving command holds a book
@@ -243,6 +256,7 @@ IsUndamaged (Demo seed rounds) old = Never (page_count old.size) old
 IsUndamaged Check old = Never (page_count old.size) old
 IsUndamaged ListSeries old = Never (page_count old.size) old
 IsUndamaged (Export name window) old = Never (page_count old.size) old
+IsUndamaged Retain old = Never (page_count old.size) old
 IsUndamaged command old = ⊥
 
 -- an empty store was made where none was, and a crash now leaves it
@@ -267,6 +281,7 @@ IsTooSmall (Demo seed rounds) old place = (place ≡ old.size) × (old.size < 12
 IsTooSmall Check old place = (place ≡ old.size) × (old.size < 128)
 IsTooSmall ListSeries old place = (place ≡ old.size) × (old.size < 128)
 IsTooSmall (Export name window) old place = (place ≡ old.size) × (old.size < 128)
+IsTooSmall Retain old place = (place ≡ old.size) × (old.size < 128)
 IsTooSmall command old place = ⊥
 
 -- there is a store already, in whose page 0 this block is
@@ -290,6 +305,12 @@ IsTooMuch (Demo seed rounds) old new input place before now = ⊥
 IsTooMuch Check old new input place before now = ⊥
 IsTooMuch ListSeries old new input place before now = ⊥
 IsTooMuch (Export name window) old new input place before now = ⊥
+IsTooMuch Retain old new input place before now = (place ≡ 2 ^ 32) × RetainsWithin (page_count old.size) old new input before now
+
+-- A line, which begins at this place, names a series that isn't there. The lines before it were swept and answered.
+abbrev pub IsUnknown : Command → View → View → List ℕ → ℕ → Option (List ℕ) → Option (List ℕ) → Type 0
+IsUnknown Retain old new input place before now = RetainsToUnknown (page_count old.size) old new input place before now
+IsUnknown command old new input place before now = ⊥
 
 -- a set is refused, or there is no series of the name: then no input was taken and the book stays
 abbrev pub IsRefused : Command → View → View → List ℕ → Option (List ℕ) → ℕ → Type 0
@@ -354,6 +375,7 @@ IsWithin (Demo seed rounds) input = ⊤
 IsWithin Check input = ⊤
 IsWithin ListSeries input = ⊤
 IsWithin (Export name window) input = ⊤
+IsWithin Retain input = length input ≤ 2 ^ 32
 
 -- the lines are no more than a serving command takes, its disk holds a book, and no call of the disk failed
 pub record AreLines (old new : View) (input : List ℕ) : Type 0 where
@@ -392,6 +414,17 @@ pub record HoldsNamed (name : List ℕ) (old new : View) : Type 0 where
   pub named : IsNamed book name series
   pub whole : HasRisen old.faults new.faults → ⊥
 
+-- The lines are no more than `retain` takes, the disk holds a book, each line that isn't empty is a rule, a series that it
+-- names is there, and no call of the disk failed.
+pub record AreRetained (old new : View) (input : List ℕ) : Type 0 where
+  pub short : length input ≤ 2 ^ 32
+  pub total : ℕ
+  pub book : List Series
+  pub holds : HoldsBook (page_count old.size) total book old
+  pub rules : List Rule
+  pub are : AreRules total book (told input) rules
+  pub whole : HasRisen old.faults new.faults → ⊥
+
 -- the input is in the grammar of a command that takes one, and no more than it takes
 abbrev pub IsInput : Command → View → View → List ℕ → Type 0
 IsInput (Plot w h) old new input = IsSlots input
@@ -404,6 +437,7 @@ IsInput (Demo seed rounds) old new input = StandsOn old new
 IsInput Check old new input = StandsOn old new
 IsInput ListSeries old new input = StandsOn old new
 IsInput (Export name window) old new input = HoldsNamed name old new
+IsInput Retain old new input = AreRetained old new input
 
 -- The words are those of a command, the input is told, and it is good for each command whose words they are.
 pub record HasGoodInput {Z : Type 0} (words : List (String Z)) (left : Option (List ℕ)) (IsGood : Command → List ℕ → Type 0) : Type 0 where
@@ -464,6 +498,7 @@ IsStreaming Run = ⊤
 IsStreaming Serve = ⊤
 IsStreaming Draw = ⊤
 IsStreaming (Export name window) = ⊤
+IsStreaming Retain = ⊤
 IsStreaming command = ⊥
 
 -- the operands of a command are in their ranges
@@ -474,7 +509,7 @@ HasOperands command = ⊤
 
 -- What a command did, sent and left, and why it ended, by the status: the clauses of the program's call, of one command.
 pub record CommandEnds (command : Command) (old new : View) (left left' before now : Option (List ℕ)) (faults : Faults) (code place : ℕ) : Type 0 where
-  pub codes : Contains (0 ∷ 3 ∷ 4 ∷ 5 ∷ 6 ∷ 7 ∷ 8 ∷ 9 ∷ 10 ∷ 11 ∷ 12 ∷ 13 ∷ 14 ∷ 15 ∷ []) code
+  pub codes : Contains (0 ∷ 3 ∷ 4 ∷ 5 ∷ 6 ∷ 7 ∷ 8 ∷ 9 ∷ 10 ∷ 11 ∷ 12 ∷ 13 ∷ 14 ∷ 15 ∷ 17 ∷ []) code
   pub own : Contains (codes_of command) code
   pub away : IsOverStore command → old.size < 128 → IsTurnedAway left left' before now code
   pub untaken : TakesNone command → left' ≡ left
@@ -501,6 +536,7 @@ pub record CommandEnds (command : Command) (old new : View) (left left' before n
   pub there : code ≡ 13 → IsThere command old place
   pub refused : code ≡ 14 → IfSome left (λ input. IsRefused command old new input left' place)
   pub unnamed : TellsUnnamed command old code
+  pub unknown : code ≡ 17 → IfSome left (λ input. IsUnknown command old new input place before now)
   pub zero_place : Contains (0 ∷ 3 ∷ 4 ∷ 5 ∷ 6 ∷ []) code → place ≡ 0
   pub done : code ≡ 0 → IfSome left (λ input. SendsAll command old new input before now)
   pub part : code ≡ 5 → IfSome left (λ input. SendsPart command old new input before now)

@@ -25,6 +25,7 @@ use drawn_replies::laws::{
 };
 use empty_store::{InitCause, make_store};
 use program_words::Command;
+use retain_command::retain;
 use std::alloc::Global;
 use store_commands::status::{
     BAD_COEFFICIENT, BAD_INPUT, DISK_FAULT, DONE, FIRST_PAGE, IS_STORE, MISSING, MOST_BYTES,
@@ -60,6 +61,7 @@ pub(crate) fn status_of_command<W: World>(
         Command::Check => check_store(alloc, world),
         Command::ListSeries => list_series(alloc, world),
         Command::Export { name, window } => export_values(alloc, &name, window, world),
+        Command::Retain => retain(alloc, world),
     }
 }
 

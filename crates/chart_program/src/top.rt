@@ -7,14 +7,14 @@ ghost use Rattle.program_words.specs.Words.{AreCommand, AreWordsOf, ByCommand, S
 ghost use Rattle.store_commands.specs.Status.{status_codes};
 ghost use Rattle.chart_program.specs.CommandStatuses.{codes_of, TakesNone, BarsBy};
 ghost use Rattle.chart_program.specs.Lives.{IsLived};
-ghost use Rattle.chart_program.specs.Ran.{ForCommand, ForStreams, IsUnread, IsAwayFor, SendsAll, SendsPart, StopsWith, StopsAtDisk, IsBadInput, IsTooMuch, IsCutShort, IsInput, HasGoodInput, IsFree, IsWithin, LeavesDisk, LeavesTold, HoldsNow, IsDamaged, IsUndamaged, IsMade, IsTooSmall, IsThere, IsRefusedWith, TellsUnnamed, ReadsFew, ReadsByInput, SyncsByInput, Lacks, Misfits, NamesUnopened, DrawsReplies, IsOfReplies, BeginStream};
+ghost use Rattle.chart_program.specs.Ran.{ForCommand, ForStreams, IsUnread, IsAwayFor, SendsAll, SendsPart, StopsWith, StopsAtDisk, IsBadInput, IsTooMuch, IsCutShort, IsInput, HasGoodInput, IsFree, IsWithin, LeavesDisk, LeavesTold, HoldsNow, IsDamaged, IsUndamaged, IsMade, IsTooSmall, IsThere, IsRefusedWith, IsUnknown, TellsUnnamed, ReadsFew, ReadsByInput, SyncsByInput, Lacks, Misfits, NamesUnopened, DrawsReplies, IsOfReplies, BeginStream};
 
 use crate::commands::status_of_command;
 use block_disk::World;
 use program_words::{WordsEnd, command_of};
 use std::alloc::Global;
 use store_commands::status::{
-    BAD_COEFFICIENT, BAD_INPUT, DAMAGED, DISK_FAULT, DONE, IS_STORE, MISSING, NO_MEMORY,
+    BAD_COEFFICIENT, BAD_INPUT, DAMAGED, DISK_FAULT, DONE, IS_STORE, MISSING, NO_MEMORY, NO_SERIES,
     READ_FAULT, REFUSED, SEND_FAULT, TOO_MUCH, TOO_SMALL, UNKNOWN_SESSION, WRONG_WORDS,
 };
 use store_commands::{Status, ended};
@@ -47,6 +47,7 @@ pub fn chart<W: World>(alloc: Global, words: &[String], world: W) -> (Status, W)
     ensures bars { result.0.code ≡ DAMAGED → ForStreams words.now W.left W.sent world result.1 (BarsBy (W.view world) (W.view result.1) result.0) }
     ensures there { result.0.code ≡ IS_STORE → ByCommand words.now (λ command. IsThere command (W.view world) result.0.place) }
     ensures refused { result.0.code ≡ REFUSED → ForCommand words.now W.view W.left W.sent world result.1 (IsRefusedWith (W.left result.1) result.0.place) }
+    ensures unknown { result.0.code ≡ NO_SERIES → ForCommand words.now W.view W.left W.sent world result.1 (λ command old new input. IsUnknown command old new input result.0.place) }
     ensures unnamed { result.0.code ≢ WRONG_WORDS → IsUnread result.0 world result.1 ⊎ ByCommand words.now (λ command. TellsUnnamed command (W.view world) result.0.code) }
     ensures place { Contains (DONE ∷ NO_MEMORY ∷ READ_FAULT ∷ SEND_FAULT ∷ DISK_FAULT ∷ []) result.0.code → result.0.place ≡ 0 }
 

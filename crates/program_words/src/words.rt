@@ -38,6 +38,8 @@ pub enum Command {
     ListSeries,
     /// The stored values of the series of this name, or those in a window of times, as lines that a load reads.
     Export { name: Name, window: Option<Window> },
+    /// The answers to the input's lines, each a rule by which old slots of the store are dropped.
+    Retain,
 }
 
 /// Why the words aren't taken for a command.
@@ -129,6 +131,8 @@ fn single_word(words: &[&str]) -> Result<Command, u64>
         Ok(Command::Check)
     } else if is_word(words, 0, "list") {
         Ok(Command::ListSeries)
+    } else if is_word(words, 0, "retain") {
+        Ok(Command::Retain)
     } else {
         Err(0)
     }

@@ -5,7 +5,7 @@
 //! of 4,096 slots, or one a page. Each is an edit of its own, so that at each moment a crash leaves the book
 //! behind some first of them.
 //!
-//! No command uses this crate yet. Words of a command line, its answers and its codes are left to the layer above.
+//! Lines, their answers and the codes of a command are left to the layer above.
 #![tactic(auto)]
 
 mod asking;

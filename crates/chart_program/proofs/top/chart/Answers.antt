@@ -457,3 +457,14 @@ returns-in-Err-Wrong-clause-life g c = λ other. absurd (other c.ended.ensures.c
 
 pub returns-in-Err-NoMemory-clause-life : goal.returns-in-Err-NoMemory-clause-life
 returns-in-Err-NoMemory-clause-life g c = λ other. inl (c.ended-in-Err-NoMemory.ensures.code, refl)
+
+pub returns-in-Ok-clause-unknown : goal.returns-in-Ok-clause-unknown
+returns-in-Ok-clause-unknown g c =
+    let e = c.status_of_command.ensures in
+    λ is. of_command _ c.in-Ok.command c.in-Ok.command _ refl c.in-Ok.ensures.command (e.unknown is)
+
+pub returns-in-Err-Wrong-clause-unknown : goal.returns-in-Err-Wrong-clause-unknown
+returns-in-Err-Wrong-clause-unknown g c = λ is. apart (sym c.ended.ensures.code ∙ is) refl
+
+pub returns-in-Err-NoMemory-clause-unknown : goal.returns-in-Err-NoMemory-clause-unknown
+returns-in-Err-NoMemory-clause-unknown g c = λ is. apart (sym c.ended-in-Err-NoMemory.ensures.code ∙ is) refl

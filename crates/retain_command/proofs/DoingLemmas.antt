@@ -1,0 +1,252 @@
+-- One rule is swept and answered, and one line.
+use Rattle.std.proofs.Common.{◌≡◌, ◌≢◌, ◌∙◌, ◌↔◌, ℕ, ◌+◌, ◌<◌, ◌≤◌, List, [], length, take, Option, Some, None, Result, Ok, Err, IfSome, refl, ap, sym, subst, arith, inl, inr}
+use Rattle.std.specs.Prelude.{OnOk, IfErr}
+use Rattle.std.proofs.lemmas.List.{take_all}
+use Rattle.block_disk.specs.Counts.{HasRisen}
+use Rattle.block_disk.specs.Streams.{sent_after}
+use Rattle.block_disk.specs.View.{Image, View, Beside, DiskKept, Now, Only, Passes, sent_now}
+use Rattle.chart_service.specs.MomentLaws.{through_none, through_by, through_so, through_then}
+use Rattle.chart_service.specs.Moments.{Through}
+use Rattle.gate_pages.proofs.Moving.{sent_same}
+use Rattle.gate_pages.specs.GateLaws.{goes_none, goes_then as goes_on_then}
+use Rattle.gate_pages.specs.Pages.{GoesOn, Quiet}
+use Rattle.series_book.specs.declared.one_series.Series.{Series}
+use Rattle.series_book.specs.EditLists.{after_edits}
+use Rattle.series_book.specs.Pages.{pages_of}
+use Rattle.stored_book.specs.Standing.{StandsForBook}
+use Rattle.retention.specs.Drops.{book_swept}
+use Rattle.retention.specs.Moving.{Carries}
+use Rattle.retention.specs.Sweeping.{IsAfterSome, IsSwept, StopsSo}
+use Rattle.retention.specs.Sweeps.{NamesNone, sweeps}
+use Rattle.retention.specs.declared.rule.Rule.{Rule}
+use Rattle.retention.specs.declared.sweep_error.SweepError.{SweepError}
+use Rattle.retention.specs.declared.sweep_error.SweepError.TheVariants as sweep
+use Rattle.retention.specs.declared.swept.Swept.{Swept}
+use Rattle.retain_command.specs.Answers.{answer, swept_text}
+use Rattle.retain_command.specs.Doing.{DoesLine, DoesRule, Goes, IsCause, LineDone, LineMoment, LineStops, RuleDone, RuleMoment, RuleStops, Side, TextStops, Untouched, end_at}
+use Rattle.retain_command.specs.Rules.{Spells, SaysNone}
+use Rattle.retain_command.specs.declared.retain_end.RetainEnd.{RetainEnd}
+use Rattle.retain_command.specs.declared.retain_end.RetainEnd.TheVariants.{BadLine, UnknownSeries, ReadFault, SendFault, InputTooLong, DiskFault, Damaged, NoMemory}
+
+abbrev failed : SweepError → Result Swept SweepError
+failed error = Err error
+
+abbrev made : Swept → Result Swept SweepError
+made swept = Ok swept
+
+same_error : (one other : SweepError) → failed one ≡ failed other → one ≡ other
+same_error one other is = cc
+
+-- a sweep that came to another end names a series that is there
+there_ok : (book : List Series) (rule : Rule) (swept : Swept) → (made swept ≡ failed sweep.UnknownSeries) ↔ NamesNone book rule → NamesNone book rule → ⊥
+there_ok book rule swept unknown none = let is = unknown.1 none in cc
+
+there_err : (book : List Series) (rule : Rule) (error : SweepError) → (failed error ≡ failed sweep.UnknownSeries) ↔ NamesNone book rule → error ≢ sweep.UnknownSeries → NamesNone book rule → ⊥
+there_err book rule error unknown other none = other (same_error error sweep.UnknownSeries (unknown.1 none))
+
+-- ---- the clears
+
+-- while clears are done, and no byte is sent
+clears_moments : (total : ℕ) (book : List Series) (rule : Rule) (old new : View) → (NamesNone book rule → ⊥) → Passes old new (IsAfterSome total book rule) (Quiet old) → Through old new (RuleMoment total book rule (sent_now old))
+clears_moments total book rule old new there passes = through_by old new (IsAfterSome total book rule) (Quiet old) (RuleMoment total book rule (sent_now old)) passes (λ image count some quiet. record {
+  there = there;
+  done = some.done;
+  few = some.few;
+  stands = some.stands;
+  low = omega (arith, quiet);
+  high = omega (arith, quiet);
+  all = λ more. absurd (omega (arith, more, quiet));
+})
+
+still : (total : ℕ) (book : List Series) (rule : Rule) (old new : View) → new ≡ old → Through old new (RuleMoment total book rule (sent_now old))
+still total book rule old new same = let P : View → Type 0 = λ v. Through old v (RuleMoment total book rule (sent_now old)) in subst P (sym same) (through_none old (RuleMoment total book rule (sent_now old)))
+
+-- a sweep that wasn't done to its end
+module _ (total : ℕ) (book : List Series) (rule : Rule) (at : ℕ) (old new : View) (before now : Option (List ℕ)) where
+  stop_moments : (error : SweepError) → (failed error ≡ failed sweep.UnknownSeries) ↔ NamesNone book rule → (failed error ≡ failed sweep.UnknownSeries → new ≡ old) → Passes old new (IsAfterSome total book rule) (Quiet old) → Through old new (RuleMoment total book rule (sent_now old))
+  stop_moments sweep.UnknownSeries unknown same passes = still total book rule old new (same refl)
+  stop_moments sweep.DiskFault unknown same passes = clears_moments total book rule old new (there_err book rule sweep.DiskFault unknown (λ is. cc)) passes
+  stop_moments (sweep.Damaged page) unknown same passes = clears_moments total book rule old new (there_err book rule (sweep.Damaged page) unknown (λ is. cc)) passes
+  stop_moments sweep.NoMemory unknown same passes = clears_moments total book rule old new (there_err book rule sweep.NoMemory unknown (λ is. cc)) passes
+
+  stop_so : (error : SweepError) → (failed error ≡ failed sweep.UnknownSeries) ↔ NamesNone book rule → (failed error ≡ failed sweep.UnknownSeries → new ≡ old) → StandsForBook old.image total book → now ≡ before → StopsSo total book rule new.image error → RuleStops total book rule at new.image before now (end_at at error)
+  stop_so sweep.UnknownSeries unknown same stands unsent stops =
+      let P : View → Type 0 = λ v. StandsForBook v.image total book in
+      (refl, record { none = stops; stands = subst P (sym (same refl)) stands; unsent = unsent })
+  stop_so sweep.DiskFault unknown same stands unsent stops = unsent
+  stop_so (sweep.Damaged page) unknown same stands unsent stops = absurd stops
+  stop_so sweep.NoMemory unknown same stands unsent stops = record { there = there_err book rule sweep.NoMemory unknown (λ is. cc); some = stops; unsent = unsent }
+
+  pub rule_stopped : {T : Type 0} (error : SweepError) (end : RetainEnd) → end ≡ end_at at error → (failed error ≡ failed sweep.UnknownSeries) ↔ NamesNone book rule → (failed error ≡ failed sweep.UnknownSeries → new ≡ old) → StandsForBook old.image total book → now ≡ before → StopsSo total book rule new.image error → Passes old new (IsAfterSome total book rule) (Quiet old)
+      → DoesRule {T = T} total book rule at (Err end) old new before now
+  rule_stopped {T} error end is unknown same stands unsent stops passes =
+      let P : RetainEnd → Type 0 = λ e. RuleStops total book rule at new.image before now e in
+      let M : (b : Option (List ℕ)) → IfSome b (λ bytes. Through old new (RuleMoment total book rule (sent_now old))) = told_any (stop_moments error unknown same passes) in
+      record { done = tt; stops = subst P (sym is) (stop_so error unknown same stands unsent stops); moments = M before }
+    where
+      told_any : {Q : Type 0} → Q → (b : Option (List ℕ)) → IfSome b (λ bytes. Q)
+      told_any {Q} is None = tt
+      told_any {Q} is (Some bytes) = is
+
+-- ---- the answer
+
+-- what is said of a sweep that was done is the answer
+said_so : (total : ℕ) (book : List Series) (rule : Rule) (swept : Swept) (image : Image) → IsSwept total book rule swept image → swept_text swept.clears swept.used ≡ answer total book rule
+said_so total book rule swept image done = (λ i. swept_text (done.clears i) (done.used i))
+
+pub any_told : {Q : Type 0} → Q → (b : Option (List ℕ)) → IfSome b (λ bytes. Q)
+any_told {Q} is None = tt
+any_told {Q} is (Some bytes) = is
+
+module _ (total : ℕ) (book : List Series) (rule : Rule) (at : ℕ) (swept : Swept) (old mid new : View) (before between now : Option (List ℕ)) (there : NamesNone book rule → ⊥) (done : IsSwept total book rule swept mid.image) (passes : Passes old mid (IsAfterSome total book rule) (Quiet old)) (unsent : between ≡ before) (kept : DiskKept mid new) where
+  stands_still : StandsForBook new.image total (book_swept total book rule)
+  stands_still = let P : Image → Type 0 = λ i. StandsForBook i total (book_swept total book rule) in subst P (sym kept.image) done.stands
+
+  sent_moments : (text : List ℕ) → text ≡ answer total book rule → Only mid.image (Now mid) → Passes mid new (Now mid) (λ count. (sent_now mid ≤ count) × (count ≤ sent_now new)) → sent_now new ≤ sent_now mid + length text → Through old new (RuleMoment total book rule (sent_now old))
+  sent_moments text is only sends most =
+      let quiet : sent_now mid ≡ sent_now old = sent_same old mid (IsAfterSome total book rule) passes in
+      let all : take (length (sweeps total book rule)) (sweeps total book rule) ≡ sweeps total book rule = take_all (length (sweeps total book rule)) (sweeps total book rule) (omega arith) in
+      let P : Image → Type 0 = λ i. StandsForBook i total (after_edits total book (take (length (sweeps total book rule)) (sweeps total book rule))) in
+      let Q : Image → Type 0 = λ i. StandsForBook i total (book_swept total book rule) in
+      through_then old mid new (RuleMoment total book rule (sent_now old)) (clears_moments total book rule old mid there passes)
+      (through_by mid new (Now mid) (λ count. (sent_now mid ≤ count) × (count ≤ sent_now new)) (RuleMoment total book rule (sent_now old)) sends (λ image count left sent. record {
+        there = there;
+        done = length (sweeps total book rule);
+        few = omega arith;
+        stands = let S : List _ → Type 0 = λ edits. StandsForBook image total (after_edits total book edits) in subst S (sym all) (subst Q (sym (only image left)) done.stands);
+        low = omega (arith, sent.0, quiet);
+        high = omega (arith, sent.1, most, quiet, ap length is);
+        all = λ more. refl;
+      }))
+
+  text_stops : (text : List ℕ) → text ≡ answer total book rule → (end : RetainEnd) → TextStops text between now end → RuleStops total book rule at new.image before now end
+  text_stops text is (BadLine place) stops = absurd stops
+  text_stops text is (UnknownSeries place) stops = absurd stops
+  text_stops text is ReadFault stops = absurd stops
+  text_stops text is SendFault stops =
+      let P : List ℕ → Type 0 = λ t. Rattle.block_disk.specs.Streams.PartSent t before now in
+      let B : Option (List ℕ) → Type 0 = λ b. Rattle.block_disk.specs.Streams.PartSent text b now in
+      record { there = there; stands = stands_still; part = subst P is (subst B unsent stops) }
+  text_stops text is InputTooLong stops = absurd stops
+  text_stops text is DiskFault stops = absurd stops
+  text_stops text is (Damaged page) stops = absurd stops
+  text_stops text is NoMemory stops =
+      let all : take (length (sweeps total book rule)) (sweeps total book rule) ≡ sweeps total book rule = take_all (length (sweeps total book rule)) (sweeps total book rule) (omega arith) in
+      let S : List _ → Type 0 = λ edits. StandsForBook new.image total (after_edits total book edits) in
+      record { there = there; some = record { done = length (sweeps total book rule); few = omega arith; stands = subst S (sym all) stands_still }; unsent = stops ∙ unsent }
+
+  pub rule_answered : {T : Type 0} (result : Result T RetainEnd) → OnOk result (now ≡ sent_after (swept_text swept.clears swept.used) between) → IfErr result (TextStops (swept_text swept.clears swept.used) between now) → Only mid.image (Now mid) → Passes mid new (Now mid) (λ count. (sent_now mid ≤ count) × (count ≤ sent_now new)) → sent_now new ≤ sent_now mid + length (swept_text swept.clears swept.used)
+      → DoesRule total book rule at result old new before now
+  rule_answered {T} (Ok v) whole stops only sends most =
+      let is = said_so total book rule swept mid.image done in
+      record {
+        done = record { there = there; stands = stands_still; sent = whole ∙ ap (λ t. sent_after t between) is ∙ ap (sent_after (answer total book rule)) unsent };
+        stops = tt;
+        moments = any_told (sent_moments (swept_text swept.clears swept.used) is only sends most) before;
+      }
+  rule_answered {T} (Err end) whole stops only sends most =
+      let is = said_so total book rule swept mid.image done in
+      record {
+        done = tt;
+        stops = text_stops (swept_text swept.clears swept.used) is end stops;
+        moments = any_told (sent_moments (swept_text swept.clears swept.used) is only sends most) before;
+      }
+
+-- the same by the clause of the sweep
+pub swept_there : (book : List Series) (rule : Rule) (swept : Swept) → (made swept ≡ failed sweep.UnknownSeries) ↔ NamesNone book rule → NamesNone book rule → ⊥
+swept_there = there_ok
+
+-- ---- a line
+
+module _ (total : ℕ) (book : List Series) (text : List ℕ) (at : ℕ) (old new : View) (before now : Option (List ℕ)) where
+  -- that is a rule
+  rule_stops_line : (rule : Rule) → Spells rule text → (end : RetainEnd) → RuleStops total book rule at new.image before now end → LineStops total book text at new.image before now end
+  rule_stops_line rule spells (BadLine place) stops = absurd stops
+  rule_stops_line rule spells (UnknownSeries place) stops = (rule, spells, stops)
+  rule_stops_line rule spells ReadFault stops = absurd stops
+  rule_stops_line rule spells SendFault stops = (rule, spells, stops)
+  rule_stops_line rule spells InputTooLong stops = absurd stops
+  rule_stops_line rule spells DiskFault stops = stops
+  rule_stops_line rule spells (Damaged page) stops = absurd stops
+  rule_stops_line rule spells NoMemory stops = inr (rule, spells, stops)
+
+  line_moments : (rule : Rule) → Spells rule text → (b : Option (List ℕ)) → IfSome b (λ bytes. Through old new (RuleMoment total book rule (sent_now old))) → IfSome b (λ bytes. Through old new (LineMoment total book text (sent_now old)))
+  line_moments rule spells None through = tt
+  line_moments rule spells (Some bytes) through = through_so old new (RuleMoment total book rule (sent_now old)) (LineMoment total book text (sent_now old)) (λ image count is. (rule, spells, is)) through
+
+  pub line_of_rule : {T : Type 0} (result : Result T RetainEnd) (rule : Rule) → Spells rule text → DoesRule total book rule at result old new before now → DoesLine total book text at result old new before now
+  line_of_rule {T} (Ok v) rule spells does = record { done = inr (rule, spells, does.done); stops = tt; moments = line_moments rule spells before does.moments }
+  line_of_rule {T} (Err end) rule spells does = record { done = tt; stops = rule_stops_line rule spells end does.stops; moments = line_moments rule spells before does.moments }
+
+module _ (total : ℕ) (book : List Series) (text : List ℕ) (at : ℕ) (old : View) (before : Option (List ℕ)) (stands : StandsForBook old.image total book) where
+  rests : Untouched total book old.image before before
+  rests = record { stands = stands; unsent = refl }
+
+  no_moments : IfSome before (λ bytes. Through old old (LineMoment total book text (sent_now old)))
+  no_moments = any_told (through_none old (LineMoment total book text (sent_now old))) before
+
+  -- that is empty
+  pub line_empty : {T : Type 0} (v : T) → text ≡ [] → DoesLine {T = T} total book text at (Ok v) old old before before
+  line_empty {T} v none = record { done = inl (none, rests); stops = tt; moments = no_moments }
+
+  -- that is no rule
+  pub line_bad : {T : Type 0} → 0 < length text → SaysNone (Some text) → DoesLine {T = T} total book text at (Err (BadLine at)) old old before before
+  line_bad {T} some none = record { done = tt; stops = record { place_is = refl; some = some; none = none; stays = rests }; moments = no_moments }
+
+  -- for which there was no memory
+  pub line_no_memory : {T : Type 0} → DoesLine {T = T} total book text at (Err NoMemory) old old before before
+  line_no_memory {T} = record { done = tt; stops = inl rests; moments = no_moments }
+
+-- ---- what calls move
+
+pub goes_nowhere : (at : Side) → Goes at at
+goes_nowhere at = record { is_told = λ t. t; was_told = λ t. t; size = refl; faults = omega arith; goes_on = goes_none at.under; total_is = refl; reads = omega arith; sends = omega arith }
+
+pub goes_further : (old mid new : Side) → Goes old mid → Goes mid new → Goes old new
+goes_further old mid new first second = record {
+  is_told = λ t. second.is_told (first.is_told t);
+  was_told = λ t. first.was_told (second.was_told t);
+  size = second.size ∙ first.size;
+  faults = omega (arith, first.faults, second.faults);
+  goes_on = goes_on_then old.under mid.under new.under first.goes_on second.goes_on;
+  total_is = second.total_is ∙ first.total_is;
+  reads = omega (arith, first.reads, second.reads);
+  sends = omega (arith, first.sends, second.sends);
+}
+
+-- what stands beside the pages are the streams
+pub record AreBeside (at : Side) : Type 0 where
+  pub reads_are : at.view.beside.read_faults ≡ at.read_faults
+  pub sends_are : at.view.beside.send_faults ≡ at.send_faults
+
+-- a sweep
+pub goes_call : (old new : Side) (count count' : ℕ) → AreBeside old → AreBeside new → Carries old.told new.told old.view new.view old.under new.under old.total new.total count count' → Goes old new
+goes_call old new count count' was are carries = record {
+  is_told = carries.told;
+  was_told = carries.was_told;
+  size = carries.size;
+  faults = carries.faults;
+  goes_on = carries.goes_on;
+  total_is = carries.total_is;
+  reads = omega (arith, sym are.reads_are ∙ ap (λ (b : Beside). b.read_faults) carries.beside ∙ was.reads_are);
+  sends = omega (arith, sym are.sends_are ∙ ap (λ (b : Beside). b.send_faults) carries.beside ∙ was.sends_are);
+}
+
+-- takes and sends
+pub goes_streams : (old new : Side) → DiskKept old.view new.view → (old.told → new.told) → (new.told → old.told) → GoesOn old.under new.under → new.total ≡ old.total → old.read_faults ≤ new.read_faults → old.send_faults ≤ new.send_faults → Goes old new
+goes_streams old new kept told was_told on total_is reads sends = record { is_told = told; was_told = was_told; size = kept.size; faults = omega (arith, kept.faults); goes_on = on; total_is = total_is; reads = reads; sends = sends }
+
+risen_since : (old mid new : ℕ) → old ≤ mid → HasRisen mid new → HasRisen old new
+risen_since old mid new low (inl more) = inl (omega (arith, low, more))
+risen_since old mid new low (inr most) = inr most
+
+-- why a later call ended is why all ended
+pub cause_later : (old mid new : Side) (end : RetainEnd) → Goes old mid → IsCause end mid new → IsCause end old new
+cause_later old mid new (BadLine at) goes is = tt
+cause_later old mid new (UnknownSeries at) goes is = tt
+cause_later old mid new ReadFault goes is = risen_since old.read_faults mid.read_faults new.read_faults goes.reads is
+cause_later old mid new SendFault goes is = risen_since old.send_faults mid.send_faults new.send_faults goes.sends is
+cause_later old mid new InputTooLong goes is = tt
+cause_later old mid new DiskFault goes is = risen_since old.view.faults mid.view.faults new.view.faults goes.faults is
+cause_later old mid new (Damaged page) goes is = (omega (arith, is.0, goes.total_is), is.1)
+cause_later old mid new NoMemory goes is = tt

@@ -1,0 +1,112 @@
+-- The tokens of a line that is a rule.
+use Rattle.std.proofs.Common.{◌≡◌, ◌∙◌, ℕ, ℤ, ◌+◌, ◌-◌, ◌<◌, ◌≤◌, Bool, true, false, List, [], ◌∷◌, length, take, drop, Option, Some, None, IfSome, IsTrue, refl, ap, sym, subst, arith}
+use Rattle.std.specs.List.{slice_split, before_first, after_first, position_or_len}
+use Rattle.std.specs.Prelude.{position, is_some, slice_index}
+use Rattle.std.specs.Str.{bytes_eq}
+use Rattle.std.proofs.lemmas.Slice.Eq.{bytes_eq-Decides}
+use lib.Chars.{codes}
+use Rattle.std.proofs.lemmas.List.{length-drop, take_all}
+use Rattle.std.proofs.lemmas.List.Splits.{length-slice_split, slice_split_first, slice_split_none}
+use Rattle.std.proofs.lemmas.List.Sums.{fails_before_first}
+use Rattle.request_lines.proofs.TokenLemmas.{place_found, place_missing}
+use Rattle.request_lines.specs.Tokens.{is_space, tokens}
+use Rattle.series_book.specs.Names.{is_name}
+use Rattle.whole_number.proofs.Digits.{one_natural, one_integer}
+use Rattle.whole_number.specs.Spelling.{SpellsInteger, SpellsNatural}
+use Rattle.retention.specs.declared.rule.Rule.{Rule}
+use Rattle.retention.specs.declared.rule.Rule.TheVariants.{Before, Last, Free}
+use Rattle.retain_command.specs.Rules.{Spells, SpellsWords}
+
+-- a space ends the first token
+pub cut_found : (line : List ℕ) (place : ℕ) → position_or_len is_space line ≡ place → place < length line → tokens line ≡ take place line ∷ tokens (drop (place + 1) line)
+cut_found line place is within =
+    let P : ℕ → Type 0 = λ n. tokens line ≡ take n line ∷ tokens (drop (n + 1) line) in
+    subst P is (slice_split_first is_space line 0 (omega (arith, is, within)))
+
+-- where there is none, the line is one token
+pub cut_none : (line : List ℕ) → length line ≤ position_or_len is_space line → tokens line ≡ line ∷ []
+cut_none line none = slice_split_none is_space line (λ k d below. fails_before_first is_space line k d (omega (arith, none, below)))
+
+first_same : (one other : List ℕ) (ones others : List (List ℕ)) → one ∷ ones ≡ other ∷ others → one ≡ other
+first_same one other ones others is = cc
+
+rest_same : (one other : List ℕ) (ones others : List (List ℕ)) → one ∷ ones ≡ other ∷ others → ones ≡ others
+rest_same one other ones others is = cc
+
+-- the words of a rule are no other rule's
+words_one : (words : List (List ℕ)) (first second : Rule) → SpellsWords first words → SpellsWords second words → first ≡ second
+words_one words (Before name time) (Before other when) one two =
+    let both = sym one.1 ∙ two.1 in
+    let behind = rest_same _ _ _ _ both in
+    let names : name ≡ other = first_same _ _ _ _ behind in
+    let numbers : one.0 ≡ two.0 = first_same _ _ _ _ (rest_same _ _ _ _ behind) in
+    let P : List ℕ → Type 0 = λ n. SpellsInteger n when in
+    let times : time ≡ when = one_integer one.0 time when one.3 (subst P (sym numbers) two.3) in
+    (λ i. Before (names i) (times i))
+words_one words (Last name count) (Last other many) one two =
+    let both = sym one.1 ∙ two.1 in
+    let behind = rest_same _ _ _ _ both in
+    let names : name ≡ other = first_same _ _ _ _ behind in
+    let numbers : one.0 ≡ two.0 = first_same _ _ _ _ (rest_same _ _ _ _ behind) in
+    let P : List ℕ → Type 0 = λ n. SpellsNatural n many in
+    let counts : count ≡ many = one_natural one.0 count many one.3 (subst P (sym numbers) two.3) in
+    (λ i. Last (names i) (counts i))
+words_one words (Free pages) (Free many) one two =
+    let both = sym one.1 ∙ two.1 in
+    let numbers : one.0 ≡ two.0 = first_same _ _ _ _ (rest_same _ _ _ _ both) in
+    let P : List ℕ → Type 0 = λ n. SpellsNatural n many in
+    ap Free (one_natural one.0 pages many one.2 (subst P (sym numbers) two.2))
+words_one words (Before name time) (Last other many) one two = let same : codes "before" ≡ codes "last" = first_same _ _ _ _ (sym one.1 ∙ two.1) in absurd (omega (arith, ap length same))
+words_one words (Last name count) (Before other when) one two = let same : codes "last" ≡ codes "before" = first_same _ _ _ _ (sym one.1 ∙ two.1) in absurd (omega (arith, ap length same))
+words_one words (Before name time) (Free many) one two = absurd (omega (arith, ap length (sym one.1 ∙ two.1)))
+words_one words (Free pages) (Before other when) one two = absurd (omega (arith, ap length (sym one.1 ∙ two.1)))
+words_one words (Last name count) (Free many) one two = absurd (omega (arith, ap length (sym one.1 ∙ two.1)))
+words_one words (Free pages) (Last other many) one two = absurd (omega (arith, ap length (sym one.1 ∙ two.1)))
+
+pub one_rule : (line : List ℕ) (first second : Rule) → Spells first line → Spells second line → first ≡ second
+one_rule line first second one two = words_one (tokens line) first second one two
+
+-- ---- lines that are no rule
+
+-- tokens that are two aren't more
+two_one : (bytes first : List ℕ) (rest : List (List ℕ)) (name number : List ℕ) → tokens bytes ≡ name ∷ number ∷ [] → tokens bytes ≡ first ∷ rest → rest ≡ number ∷ []
+two_one bytes first rest name number two is = rest_same _ _ _ _ (sym is ∙ two)
+
+-- the tokens of bytes are one at least
+some_token : (bytes : List ℕ) → 0 < length (tokens bytes)
+some_token bytes = omega (arith, length-slice_split is_space bytes)
+
+-- the second of two tokens has no space
+pub no_third : (bytes first number parts_first parts_rest : List ℕ) (name last : List ℕ) → tokens bytes ≡ first ∷ tokens number → tokens number ≡ parts_first ∷ tokens parts_rest → tokens bytes ≡ name ∷ last ∷ [] → ⊥
+no_third bytes first number parts_first parts_rest name last is more two =
+    absurd (omega (arith, some_token parts_rest, ap length (sym is ∙ two), ap length more))
+
+pub no_second : (bytes parts_first parts_rest : List ℕ) (number : List ℕ) → tokens bytes ≡ parts_first ∷ tokens parts_rest → tokens bytes ≡ number ∷ [] → ⊥
+no_second bytes parts_first parts_rest number more one = absurd (omega (arith, some_token parts_rest, ap length (sym more ∙ one)))
+
+-- a line whose first token is `before` is no other rule
+pub none_before : (line word rest : List ℕ) → tokens line ≡ word ∷ tokens rest → word ≡ codes "before" → ((name number : List ℕ) (time : ℤ) → tokens rest ≡ name ∷ number ∷ [] → IsTrue (is_name name) → SpellsInteger number time → ⊥) → (rule : Rule) → Spells rule line → ⊥
+none_before line word rest is same none (Before name time) spells = none name spells.0 time (rest_same _ _ _ _ (sym is ∙ spells.1)) spells.2 spells.3
+none_before line word rest is same none (Last name count) spells = let other : codes "last" ≡ codes "before" = sym (first_same _ _ _ _ (sym is ∙ spells.1)) ∙ same in absurd (omega (arith, ap length other))
+none_before line word rest is same none (Free pages) spells = let other : codes "free" ≡ codes "before" = sym (first_same _ _ _ _ (sym is ∙ spells.1)) ∙ same in absurd (omega (arith, ap length other))
+
+pub none_last : (line word rest : List ℕ) → tokens line ≡ word ∷ tokens rest → word ≡ codes "last" → ((name number : List ℕ) (count : ℕ) → tokens rest ≡ name ∷ number ∷ [] → IsTrue (is_name name) → SpellsNatural number count → ⊥) → (rule : Rule) → Spells rule line → ⊥
+none_last line word rest is same none (Before name time) spells = let other : codes "before" ≡ codes "last" = sym (first_same _ _ _ _ (sym is ∙ spells.1)) ∙ same in absurd (omega (arith, ap length other))
+none_last line word rest is same none (Last name count) spells = none name spells.0 count (rest_same _ _ _ _ (sym is ∙ spells.1)) spells.2 spells.3
+none_last line word rest is same none (Free pages) spells =
+    let other : codes "free" ≡ codes "last" = sym (first_same _ _ _ _ (sym is ∙ spells.1)) ∙ same in
+    let byte : 102 ≡ 108 = ap (λ (l : List ℕ). slice_index l 0) other in
+    absurd (omega (arith, byte))
+
+-- what holds of what is there
+pub of_some : {T : Type 0} (o : Option T) (P : T → Type 0) (X : Type 0) → is_some o ≡ true → IfSome o P → ((t : T) → P t → X) → X
+of_some {T} None P X some is more = cc
+of_some {T} (Some t) P X some is more = more t is
+
+-- the word is this text, which was compared with it
+pub word_is : (word text spelled : List ℕ) (same : Bool) → same ≡ bytes_eq word text → same ≡ true → text ≡ spelled → word ≡ spelled
+word_is word text spelled same compared holds is = (bytes_eq-Decides word text).0 (sym compared ∙ holds) ∙ is
+
+-- all that stands behind a place
+pub whole_rest : (bytes : List ℕ) (place : ℕ) → drop place bytes ≡ take (length bytes - place) (drop place bytes)
+whole_rest bytes place = sym (take_all (length bytes - place) (drop place bytes) (omega (arith, length-drop place bytes)))

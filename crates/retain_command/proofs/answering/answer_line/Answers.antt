@@ -1,0 +1,11 @@
+use Rattle.series_store.specs.Shown as shown
+use Rattle.retain_command.proofs.DoingLemmas.{line_of_rule}
+use Rattle.retain_command.proofs.answering.answer_line.Goals as goal
+
+pub returns-in-Ok-clause-does : goal.returns-in-Ok-clause-does
+returns-in-Ok-clause-does g c = λ total book told stands.
+    let view = g.P.Pages.view in
+    let sent = g.P.Streams.sent in
+    let pages = shown.pages c.args.store.now in
+    let pages' = shown.pages c.answer_rule.new.store in
+    line_of_rule total book c.args.line.now c.args.at (view pages) (view pages') (sent pages) (sent pages') c.answer_rule.result c.in-Ok.rule c.in-Ok.ensures.spelt (c.answer_rule.ensures.does total book told stands)

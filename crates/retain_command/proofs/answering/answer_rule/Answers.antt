@@ -1,0 +1,33 @@
+use Rattle.std.proofs.Common.{◌∙◌, length, ap, sym}
+use Rattle.block_disk.specs.View.{Beside}
+use Rattle.series_store.specs.Shown as shown
+use Rattle.retain_command.specs.Answers.{swept_text}
+use Rattle.retain_command.proofs.DoingLemmas.{rule_answered, rule_stopped, swept_there}
+use Rattle.retain_command.proofs.answering.answer_rule.Goals as goal
+
+pub returns-in-Ok-clause-does : goal.returns-in-Ok-clause-does
+returns-in-Ok-clause-does g c = λ total book told stands.
+    let view = g.P.Pages.view in
+    let sent = g.P.Streams.sent in
+    let w = g.met.P.PageWorld in
+    let pages = shown.pages c.args.store.now in
+    let mid = shown.pages c.sweep.new.store in
+    let pages' = shown.pages c.send_swept.new.store in
+    let swept = c.in-Ok.swept in
+    let e = c.in-Ok.ensures in
+    let made = c.send_swept.ensures in
+    let n = length (swept_text swept.clears swept.used) in
+    let sends = made.beside.pages_are in
+    rule_answered total book c.args.rule.now c.args.at swept (view pages) (view mid) (view pages') (sent pages) (sent mid) (sent pages') (swept_there book c.args.rule.now swept (e.unknown total book told stands)) (e.done total book told stands) (e.moments total book told stands)
+    (sym (w.beside_sent mid) ∙ ap (λ (b : Beside). b.sent) e.carries.beside ∙ w.beside_sent pages) (w.send_keeps n mid pages' sends) c.send_swept.result made.whole made.stops (g.met.P.Pages.rests mid e.sound) (w.send_passes n mid pages' sends) (w.send_counts n mid pages' sends)
+
+pub returns-in-Err-clause-does : goal.returns-in-Err-clause-does
+returns-in-Err-clause-does g c = λ total book told stands.
+    let view = g.P.Pages.view in
+    let sent = g.P.Streams.sent in
+    let w = g.met.P.PageWorld in
+    let pages = shown.pages c.args.store.now in
+    let mid = shown.pages c.sweep.new.store in
+    let e = c.in-Err.ensures in
+    rule_stopped total book c.args.rule.now c.args.at (view pages) (view mid) (sent pages) (sent mid) c.in-Err.error c.end_at.result c.end_at.ensures (e.unknown total book told stands) (λ is. ap (λ s. shown.view s) (e.untouched is)) stands
+    (sym (w.beside_sent mid) ∙ ap (λ (b : Beside). b.sent) e.carries.beside ∙ w.beside_sent pages) (e.stops total book told stands) (e.moments total book told stands)

@@ -1,0 +1,190 @@
+-- What is done of one line, and what calls move. Private contracts are stated by these words.
+use Rattle.std.specs.Prelude.{◌≡◌, ◌≢◌, ℕ, ◌+◌, ◌<◌, ◌≤◌, ◌⊎◌, List, [], length, take, Option, Some, Result, Err, IfErr, IfSome, OnOk, ⊤}
+use Rattle.block_disk.specs.Counts.{HasRisen}
+use Rattle.block_disk.specs.Streams.{sent_after, PartSent}
+use Rattle.block_disk.specs.View.{Image, View, sent_now}
+use Rattle.block_disk.specs.declared.streams.Streams as streams
+use Rattle.chart_service.specs.Moments.{Through}
+use Rattle.chart_world.specs.declared.line_answer.LineFault.{LineFault}
+use Rattle.chart_world.specs.declared.line_answer.LineFault.TheVariants as fault
+use Rattle.gate_pages.specs.Pages.{GoesOn}
+use Rattle.gate_pages.specs.declared.pages.Pages.{Ghosts}
+use Rattle.series_book.specs.declared.one_series.Series.{Series}
+use Rattle.series_book.specs.EditLists.{after_edits}
+use Rattle.series_store.specs.Shown as shown
+use Rattle.series_store.specs.declared.store.Store.{Store}
+use Rattle.stored_book.specs.Damage.{IsBadForRequest}
+use Rattle.stored_book.specs.Standing.{StandsForBook}
+use Rattle.retention.specs.Drops.{book_swept}
+use Rattle.retention.specs.Sweeping.{IsAfterSome}
+use Rattle.retention.specs.Sweeps.{NamesNone, sweeps}
+use Rattle.retention.specs.declared.rule.Rule.{Rule}
+use Rattle.retention.specs.declared.sweep_error.SweepError.{SweepError}
+use Rattle.retention.specs.declared.sweep_error.SweepError.TheVariants as sweep
+use Rattle.retain_command.specs.Answers.{answer}
+use Rattle.retain_command.specs.Rules.{Spells, SaysNone}
+use Rattle.retain_command.specs.declared.retain_end.RetainEnd.{RetainEnd}
+use Rattle.retain_command.specs.declared.retain_end.RetainEnd.TheVariants.{BadLine, UnknownSeries, ReadFault, SendFault, InputTooLong, DiskFault, Damaged, NoMemory}
+
+-- what an error of a sweep is for the line at this offset
+abbrev pub end_at : ℕ → SweepError → RetainEnd
+end_at at sweep.UnknownSeries = UnknownSeries at
+end_at at sweep.DiskFault = DiskFault
+end_at at (sweep.Damaged page) = Damaged page
+end_at at sweep.NoMemory = NoMemory
+
+-- and what a fault of the lines is
+abbrev pub end_of : LineFault → RetainEnd
+end_of fault.ReadFault = ReadFault
+end_of fault.InputTooLong = InputTooLong
+
+-- the text of an answer wasn't sent, or not all of it
+abbrev pub TextStops : List ℕ → Option (List ℕ) → Option (List ℕ) → RetainEnd → Type 0
+TextStops text before now (BadLine at) = ⊥
+TextStops text before now (UnknownSeries at) = ⊥
+TextStops text before now ReadFault = ⊥
+TextStops text before now SendFault = PartSent text before now
+TextStops text before now InputTooLong = ⊥
+TextStops text before now DiskFault = ⊥
+TextStops text before now (Damaged page) = ⊥
+TextStops text before now NoMemory = now ≡ before
+
+-- ---- one rule
+
+-- the rule was swept, and its answer was sent
+pub record RuleDone (total : ℕ) (book : List Series) (rule : Rule) (image : Image) (before now : Option (List ℕ)) : Type 0 where
+  pub there : NamesNone book rule → ⊥
+  pub stands : StandsForBook image total (book_swept total book rule)
+  pub sent : now ≡ sent_after (answer total book rule) before
+
+-- it was swept, and a part of its answer was sent
+pub record RuleCut (total : ℕ) (book : List Series) (rule : Rule) (image : Image) (before now : Option (List ℕ)) : Type 0 where
+  pub there : NamesNone book rule → ⊥
+  pub stands : StandsForBook image total (book_swept total book rule)
+  pub part : PartSent (answer total book rule) before now
+
+-- some first clears of it were done
+pub record RuleSome (total : ℕ) (book : List Series) (rule : Rule) (image : Image) (before now : Option (List ℕ)) : Type 0 where
+  pub there : NamesNone book rule → ⊥
+  pub some : IsAfterSome total book rule image
+  pub unsent : now ≡ before
+
+-- its series isn't there
+pub record RuleUnknown (total : ℕ) (book : List Series) (rule : Rule) (image : Image) (before now : Option (List ℕ)) : Type 0 where
+  pub none : NamesNone book rule
+  pub stands : StandsForBook image total book
+  pub unsent : now ≡ before
+
+-- why it wasn't answered
+abbrev pub RuleStops : ℕ → List Series → Rule → ℕ → Image → Option (List ℕ) → Option (List ℕ) → RetainEnd → Type 0
+RuleStops total book rule at image before now (BadLine place) = ⊥
+RuleStops total book rule at image before now (UnknownSeries place) = (place ≡ at) × RuleUnknown total book rule image before now
+RuleStops total book rule at image before now ReadFault = ⊥
+RuleStops total book rule at image before now SendFault = RuleCut total book rule image before now
+RuleStops total book rule at image before now InputTooLong = ⊥
+RuleStops total book rule at image before now DiskFault = now ≡ before
+RuleStops total book rule at image before now (Damaged page) = ⊥
+RuleStops total book rule at image before now NoMemory = RuleSome total book rule image before now
+
+-- what a crash leaves meanwhile, and how many bytes were sent
+pub record RuleMoment (total : ℕ) (book : List Series) (rule : Rule) (from : ℕ) (image : Image) (sent : ℕ) : Type 0 where
+  pub there : NamesNone book rule → ⊥
+  pub done : ℕ
+  pub few : done ≤ length (sweeps total book rule)
+  pub stands : StandsForBook image total (after_edits total book (take done (sweeps total book rule)))
+  pub low : from ≤ sent
+  pub high : sent ≤ from + length (answer total book rule)
+  pub all : from < sent → done ≡ length (sweeps total book rule)
+
+-- what a call does that answers a rule
+pub record DoesRule {T : Type 0} (total : ℕ) (book : List Series) (rule : Rule) (at : ℕ) (result : Result T RetainEnd) (old new : View) (before now : Option (List ℕ)) : Type 0 where
+  pub done : OnOk result (RuleDone total book rule new.image before now)
+  pub stops : IfErr result (RuleStops total book rule at new.image before now)
+  pub moments : IfSome before (λ bytes. Through old new (RuleMoment total book rule (sent_now old)))
+
+-- ---- one line
+
+-- nothing was done, and nothing was sent
+pub record Untouched (total : ℕ) (book : List Series) (image : Image) (before now : Option (List ℕ)) : Type 0 where
+  pub stands : StandsForBook image total book
+  pub unsent : now ≡ before
+
+-- the line is empty, or a rule that was answered
+abbrev pub LineDone : ℕ → List Series → List ℕ → Image → Option (List ℕ) → Option (List ℕ) → Type 0
+LineDone total book text image before now =
+    ((text ≡ []) × Untouched total book image before now) ⊎ ((rule : Rule) × Spells rule text × RuleDone total book rule image before now)
+
+-- it isn't empty and says no rule
+pub record LineBad (total : ℕ) (book : List Series) (text : List ℕ) (at place : ℕ) (image : Image) (before now : Option (List ℕ)) : Type 0 where
+  pub place_is : place ≡ at
+  pub some : 0 < length text
+  pub none : SaysNone (Some text)
+  pub stays : Untouched total book image before now
+
+-- it is a rule that wasn't answered for this reason
+abbrev pub SpelledStops : ℕ → List Series → List ℕ → ℕ → Image → Option (List ℕ) → Option (List ℕ) → RetainEnd → Type 0
+SpelledStops total book text at image before now end = (rule : Rule) × Spells rule text × RuleStops total book rule at image before now end
+
+abbrev pub LineStops : ℕ → List Series → List ℕ → ℕ → Image → Option (List ℕ) → Option (List ℕ) → RetainEnd → Type 0
+LineStops total book text at image before now (BadLine place) = LineBad total book text at place image before now
+LineStops total book text at image before now (UnknownSeries place) = SpelledStops total book text at image before now (UnknownSeries place)
+LineStops total book text at image before now ReadFault = ⊥
+LineStops total book text at image before now SendFault = SpelledStops total book text at image before now SendFault
+LineStops total book text at image before now InputTooLong = ⊥
+LineStops total book text at image before now DiskFault = now ≡ before
+LineStops total book text at image before now (Damaged page) = ⊥
+LineStops total book text at image before now NoMemory = Untouched total book image before now ⊎ SpelledStops total book text at image before now NoMemory
+
+-- what a crash leaves meanwhile
+abbrev pub LineMoment : ℕ → List Series → List ℕ → ℕ → Image → ℕ → Type 0
+LineMoment total book text from image sent = (rule : Rule) × Spells rule text × RuleMoment total book rule from image sent
+
+-- what a call does that answers a line
+pub record DoesLine {T : Type 0} (total : ℕ) (book : List Series) (text : List ℕ) (at : ℕ) (result : Result T RetainEnd) (old new : View) (before now : Option (List ℕ)) : Type 0 where
+  pub done : OnOk result (LineDone total book text new.image before now)
+  pub stops : IfErr result (LineStops total book text at new.image before now)
+  pub moments : IfSome before (λ bytes. Through old new (LineMoment total book text (sent_now old)))
+
+-- ---- what calls move, whatever the pages are
+
+-- pages with their streams, and the numbers of a store on them
+pub record Side : Type 1 where
+  pub told : Type 0
+  pub view : View
+  pub under : View
+  pub total : ℕ
+  pub read_faults : ℕ
+  pub send_faults : ℕ
+
+-- no count falls
+pub record Goes (old new : Side) : Type 0 where
+  pub is_told : old.told → new.told
+  pub was_told : new.told → old.told
+  pub size : new.view.size ≡ old.view.size
+  pub faults : old.view.faults ≤ new.view.faults
+  pub goes_on : GoesOn old.under new.under
+  pub total_is : new.total ≡ old.total
+  pub reads : old.read_faults ≤ new.read_faults
+  pub sends : old.send_faults ≤ new.send_faults
+
+-- why lines weren't swept. A page that is called damaged is one of the store's, and is so where reads give what the pages are.
+abbrev pub IsCause : RetainEnd → Side → Side → Type 0
+IsCause (BadLine at) old new = ⊤
+IsCause (UnknownSeries at) old new = ⊤
+IsCause ReadFault old new = HasRisen old.read_faults new.read_faults
+IsCause SendFault old new = HasRisen old.send_faults new.send_faults
+IsCause InputTooLong old new = ⊤
+IsCause DiskFault old new = HasRisen old.view.faults new.view.faults
+IsCause (Damaged page) old new = (page < old.total) × (new.told → IsBadForRequest new.view.size new.view.image page)
+IsCause NoMemory old new = ⊤
+
+module _ {P : Type 0} {g : Ghosts P} where
+  abbrev pub side_of : streams.Ghosts P → Store P g → Side
+  side_of beside it = record {
+    told = shown.IsTold it;
+    view = shown.view it;
+    under = shown.under it;
+    total = shown.total it;
+    read_faults = beside.read_faults (shown.pages it);
+    send_faults = beside.send_faults (shown.pages it);
+  }

@@ -1,0 +1,65 @@
+//! The command `retain`: the rules of the input are swept over the store of a disk, and each is answered.
+ghost use Rattle.std.specs.Prelude.{◌≡◌, IsTrue};
+ghost use Rattle.block_disk.specs.View.{View};
+ghost use Rattle.series_store.specs.Shown as shown;
+ghost use Rattle.store_commands.specs.Away.{TurnsAway};
+ghost use Rattle.store_commands.specs.Traffic.{traffic};
+ghost use Rattle.retain_command.specs.Retained.{EndsRetain};
+ghost use Rattle.retain_command.specs.Retaining.{SweptOn, answer_status};
+
+use crate::retain_end::RetainEnd;
+use crate::sweeping::sweep_lines;
+use block_disk::{Back, World};
+use disk_store::{disk_of, open_store};
+use gate_pages::GatePages;
+use series_store::Store;
+use std::alloc::Global;
+use store_commands::status::{
+    BAD_INPUT, DAMAGED, DISK_FAULT, DONE, FIRST_PAGE, MOST_BYTES, NO_MEMORY, NO_SERIES, READ_FAULT,
+    SEND_FAULT, TOO_MUCH,
+};
+use store_commands::{Status, ended, opening_status};
+
+/// Sweeps the rule of each line of the input over the store of the world's disk, sends `swept CLEARS USED` for each, and
+/// says how that ended.
+pub fn retain<W: World>(alloc: Global, world: W) -> (Status, W)
+    ensures ends { EndsRetain (W.view world) (W.view result.1) (traffic W.left W.sent W.read_faults W.send_faults world result.1) result.0 }
+    ensures away { TurnsAway (W.view world) (traffic W.left W.sent W.read_faults W.send_faults world result.1) result.0 }
+{
+    match open_store(alloc, world) {
+        Ok(store) => {
+            let (answer, world) = sweep_store(alloc, store);
+            (answer_status(answer), world)
+        }
+        Err(Back { value, cause }) => (opening_status(cause), value),
+    }
+}
+
+/// The same over a store that is open: what that answers, and the disk.
+fn sweep_store<W: World>(
+    alloc: Global,
+    mut store: Store<GatePages<W>>,
+) -> (Result<(), RetainEnd>, W)
+    requires { IsTrue (shown.pages store).sound }
+    ensures { let pages = shown.pages store in SweptOn pages.count (W.view pages.disk) (W.view result.1) (traffic W.left W.sent W.read_faults W.send_faults pages.disk result.1) result.0 }
+{
+    let answer = sweep_lines(alloc, &mut store);
+    (answer, disk_of(store))
+}
+
+/// The status of what sweeping the lines answers.
+fn answer_status(answer: Result<(), RetainEnd>) -> Status
+    ensures { result ≡ answer_status answer }
+{
+    match answer {
+        Ok(()) => ended(DONE, 0),
+        Err(RetainEnd::BadLine { at }) => ended(BAD_INPUT, u64::from(at)),
+        Err(RetainEnd::UnknownSeries { at }) => ended(NO_SERIES, u64::from(at)),
+        Err(RetainEnd::ReadFault) => ended(READ_FAULT, 0),
+        Err(RetainEnd::SendFault) => ended(SEND_FAULT, 0),
+        Err(RetainEnd::InputTooLong) => ended(TOO_MUCH, MOST_BYTES),
+        Err(RetainEnd::DiskFault) => ended(DISK_FAULT, 0),
+        Err(RetainEnd::Damaged { page }) => ended(DAMAGED, FIRST_PAGE + u64::from(page)),
+        Err(RetainEnd::NoMemory) => ended(NO_MEMORY, 0),
+    }
+}

@@ -1,0 +1,14 @@
+//! Why a line gives no rule.
+use series_book::NoMemory;
+use thiserror::Error;
+
+/// Why a line gives no rule.
+#[derive(Clone, Copy, Debug, PartialEq, Eq, Error)]
+pub enum RuleError {
+    /// The line spells none.
+    #[error("the line is no rule")]
+    NoRule,
+    /// There was no memory.
+    #[error("out of memory")]
+    NoMemory,
+}

@@ -1,0 +1,89 @@
+//! The lines of a store's streams are swept and answered.
+ghost use Rattle.std.specs.Prelude.{◌≡◌, ◌≢◌, ◌≤◌, ◌<◌, ◌^◌, Err, length, IfErr, IfOk, IfSome, OnOk};
+ghost use Rattle.block_disk.specs.View.{sent_now};
+ghost use Rattle.chart_service.specs.Moments.{Since};
+ghost use Rattle.chart_world.specs.Reading.{unread_input};
+ghost use Rattle.series_store.specs.Shown as shown;
+ghost use Rattle.retain_command.specs.Doing.{Goes, IsCause, end_of, side_of};
+ghost use Rattle.retain_command.specs.Shown.{AreSwept, LastsFor, StopSo};
+
+use crate::answering::answer_line;
+use crate::retain_end::RetainEnd;
+use chart_world::{LineAnswer, LineFault, Lines};
+use gate_pages::PageWorld;
+use series_store::Store;
+use std::alloc::Global;
+
+/// What a fault of the lines is.
+fn end_of(fault: LineFault) -> RetainEnd
+    ensures { result ≡ end_of fault }
+{
+    match fault {
+        LineFault::ReadFault => RetainEnd::ReadFault,
+        LineFault::InputTooLong => RetainEnd::InputTooLong,
+    }
+}
+
+/// The offset of the line that was given last, which begins among the first 2^32 bytes of the input.
+fn offset_of(lines: &Lines) -> u32
+    requires { lines.now.offset < 2 ^ 32 }
+    ensures { result ≡ lines.now.offset }
+{
+    lines.offset() as u32
+}
+
+/// Sweeps the rule of each line of the input that isn't empty, in order, and sends `swept CLEARS USED` for it once it
+/// is done. After `Ok` the input was read to its end.
+pub fn sweep_lines<P: PageWorld>(alloc: Global, store: &mut Store<P>) -> Result<(), RetainEnd>
+    requires sound { shown.IsSound store.old }
+    ensures done { shown.ForBook store.old (λ total book. OnOk result (AreSwept P.Streams total book store.old store.new)) }
+    ensures within { OnOk result (IfSome (P.left (shown.pages store.old)) (λ input. length input ≤ 2 ^ 32)) }
+    ensures stops { shown.ForBook store.old (λ total book. IfErr result (StopSo P.Streams total book store.old store.new)) }
+    // at each moment a crash leaves the book with each line whose answer was sent by then, and some first clears more
+    ensures crash { shown.ForBook store.old (λ total book. LastsFor P.Streams total book store.old store.new) }
+    // whatever the pages are
+    ensures goes { Goes (side_of P.Streams store.old) (side_of P.Streams store.new) }
+    ensures cause { IfErr result (λ e. IsCause e (side_of P.Streams store.old) (side_of P.Streams store.new)) }
+    ensures sound { result ≢ Err RetainEnd.DiskFault → shown.IsSound store.new }
+{
+    let Ok(mut lines) = Lines::new(alloc) else {
+        return Err(RetainEnd::NoMemory);
+    };
+    answer_lines(alloc, store, &mut lines)
+}
+
+/// The same by a reader of lines that has given none.
+fn answer_lines<P: PageWorld>(
+    alloc: Global,
+    store: &mut Store<P>,
+    lines: &mut Lines,
+) -> Result<(), RetainEnd>
+    requires sound { shown.IsSound store.old }
+    requires fresh { lines.old ≡ unread_input }
+    ensures done { shown.ForBook store.old (λ total book. OnOk result (AreSwept P.Streams total book store.old store.new)) }
+    ensures within { OnOk result (IfSome (P.left (shown.pages store.old)) (λ input. length input ≤ 2 ^ 32)) }
+    ensures stops { shown.ForBook store.old (λ total book. IfErr result (StopSo P.Streams total book store.old store.new)) }
+    ensures crash { shown.ForBook store.old (λ total book. LastsFor P.Streams total book store.old store.new) }
+    ensures goes { Goes (side_of P.Streams store.old) (side_of P.Streams store.new) }
+    ensures cause { IfErr result (λ e. IsCause e (side_of P.Streams store.old) (side_of P.Streams store.new)) }
+    ensures sound { result ≢ Err RetainEnd.DiskFault → shown.IsSound store.new }
+{
+    'lines: loop {
+        let answer = match lines.next(store) {
+            Ok(answer) => answer,
+            Err(fault) => return Err(end_of(fault)),
+        };
+        match answer {
+            LineAnswer::End => return Ok(()),
+            LineAnswer::TooLong => {
+                return Err(RetainEnd::BadLine {
+                    at: offset_of(lines),
+                });
+            }
+            LineAnswer::Line => match answer_line(alloc, store, offset_of(lines), lines.line()) {
+                Ok(()) => {}
+                Err(end) => return Err(end),
+            },
+        }
+    }
+}
