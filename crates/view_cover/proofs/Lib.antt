@@ -2,6 +2,7 @@ mod Spans
 mod Trees
 mod Fronts
 mod Shrinking
+mod Holding
 mod Parts
 mod Drawn
 mod Steps

@@ -31,7 +31,7 @@ lowest-front scene k s c low drawn = record { lowest = low; column = c; drawn = 
 pub drawn-above : (axis : Axis) (grid : Grid) (w k : Key) (c : ℕ) → IsAtOrAbove w k → IsDrawnIn axis grid k c → IsDrawnIn axis grid w c
 drawn-above axis grid w k c above d = record { slot = d.slot; in_range = above-in_range w k d.slot above d.in_range; in_column = d.in_column }
 
-times-between : (start : ℤ) (step i j : ℕ) → i ≤ j → (start +ℤ pos (i * step)) ≤ℤ (start +ℤ pos (j * step))
+pub times-between : (start : ℤ) (step i j : ℕ) → i ≤ j → (start +ℤ pos (i * step)) ≤ℤ (start +ℤ pos (j * step))
 times-between start step i j low =
     let m : i * step ≤ j * step = mul-le-mul_right step low in
     omega (arith, ints, m)

@@ -1,13 +1,17 @@
 //! What follows from the definitions. The functions do nothing: their contracts are the laws.
 
-ghost use Rattle.std.specs.Prelude.{ℕ, ℤ, Option};
+ghost use Rattle.std.specs.Prelude.{ℕ, ℤ, ◌^◌, ◌≤◌, List, length, Option};
 ghost use Rattle.om3_coeff.specs.declared.key.Key.{Key};
 ghost use Rattle.om3_coeff.specs.declared.coef.Coef.{Coef};
 ghost use Rattle.view_cover.specs.Scene.{Scene, with_told, IsToldBy};
 ghost use Rattle.view_cover.specs.Cover.{InCover};
+ghost use Rattle.view_cover.specs.Chart.{InChart, IsToldOf};
 
-use chart_grid::laws::heights_rise;
-use om3_coeff::laws::{ranges_hold_those_below, split_and_join_undo_each_other, what_is_known};
+use chart_grid::laws::{columns_rise, heights_rise};
+use om3_coeff::laws::{
+    ranges_hold_those_below, spans_add_up, spans_are_the_extremes, split_and_join_undo_each_other,
+    what_is_known,
+};
 
 /// With more coefficients the cover of a view lies within the cover of before.
 pub fn covers_shrink()
@@ -16,6 +20,20 @@ pub fn covers_shrink()
 {
     heights_rise();
     ranges_hold_those_below();
+    split_and_join_undo_each_other();
+    what_is_known();
+}
+
+/// Where all that is told is told of a list of slots, the cover holds the list's chart.
+pub fn covers_hold_the_chart()
+    ensures { (list : List (Option ℤ)) (scene : Scene) (x : ℕ) (y : ℤ) → IsToldOf list scene → length list ≤ 2 ^ 35 →
+        InChart list scene x y → InCover scene x y }
+{
+    columns_rise();
+    heights_rise();
+    ranges_hold_those_below();
+    spans_are_the_extremes();
+    spans_add_up();
     split_and_join_undo_each_other();
     what_is_known();
 }
