@@ -14,6 +14,10 @@ use Rattle.store_commands.specs.Exported.{IsDamagedForExport}
 use Rattle.chart_program.specs.declared.lines_end.LinesEnd.{LinesEnd}
 use Rattle.chart_program.specs.declared.lines_end.LinesEnd.TheVariants as lines_end
 
+-- the codes of all statuses
+abbrev pub all_codes : List ℕ
+all_codes = 0 ∷ 2 ∷ 3 ∷ 4 ∷ 5 ∷ 6 ∷ 7 ∷ 8 ∷ 9 ∷ 10 ∷ 11 ∷ 12 ∷ 13 ∷ 14 ∷ 15 ∷ 17 ∷ []
+
 -- the codes of the statuses that a command has, once its words were read
 abbrev pub codes_of : Command → List ℕ
 codes_of (Plot w h) = 0 ∷ 3 ∷ 4 ∷ 5 ∷ 8 ∷ 9 ∷ []

@@ -4,17 +4,17 @@ ghost use Rattle.block_disk.specs.View.{View};
 ghost use Rattle.program_words.specs.CommandLine.{plain_words};
 ghost use Rattle.program_words.specs.declared.words.Command.TheVariants.{Draw, Init};
 ghost use Rattle.program_words.specs.Words.{AreCommand, AreWordsOf, ByCommand, Spells, IsWrong};
-ghost use Rattle.store_commands.specs.Status.{status_codes};
-ghost use Rattle.chart_program.specs.CommandStatuses.{codes_of, TakesNone, BarsBy};
+ghost use Rattle.chart_program.specs.CommandStatuses.{all_codes, codes_of, TakesNone, BarsBy};
 ghost use Rattle.chart_program.specs.Lives.{IsLived};
 ghost use Rattle.chart_program.specs.Ran.{ForCommand, ForStreams, IsUnread, IsAwayFor, SendsAll, SendsPart, StopsWith, StopsAtDisk, IsBadInput, IsTooMuch, IsCutShort, IsInput, HasGoodInput, IsFree, IsWithin, LeavesDisk, LeavesTold, HoldsNow, IsDamaged, IsUndamaged, IsMade, IsTooSmall, IsThere, IsRefusedWith, IsUnknown, TellsUnnamed, ReadsFew, ReadsByInput, SyncsByInput, Lacks, Misfits, NamesUnopened, DrawsReplies, IsOfReplies, BeginStream};
 
 use crate::commands::status_of_command;
 use block_disk::World;
 use program_words::{WordsEnd, command_of};
+use retain_command::NO_SERIES;
 use std::alloc::Global;
 use store_commands::status::{
-    BAD_COEFFICIENT, BAD_INPUT, DAMAGED, DISK_FAULT, DONE, IS_STORE, MISSING, NO_MEMORY, NO_SERIES,
+    BAD_COEFFICIENT, BAD_INPUT, DAMAGED, DISK_FAULT, DONE, IS_STORE, MISSING, NO_MEMORY,
     READ_FAULT, REFUSED, SEND_FAULT, TOO_MUCH, TOO_SMALL, UNKNOWN_SESSION, WRONG_WORDS,
 };
 use store_commands::{Status, ended};
@@ -24,7 +24,7 @@ use store_commands::{Status, ended};
 /// Only the input that is told is spoken of: a real stream tells none.
 pub fn chart<W: World>(alloc: Global, words: &[String], world: W) -> (Status, W)
     // each status comes exactly for its cause
-    ensures codes { Contains status_codes result.0.code }
+    ensures codes { Contains all_codes result.0.code }
     ensures statuses { result.0.code ≢ WRONG_WORDS → result.0.code ≢ NO_MEMORY → ByCommand words.now (λ command. Contains (codes_of command) result.0.code) }
     ensures wrong { result.0.code ≡ WRONG_WORDS → IsWrong result.0.place (map string_bytes words.now) }
     ensures command { result.0.code ≢ WRONG_WORDS → result.0.code ≢ NO_MEMORY → AreCommand words.now }

@@ -15,10 +15,13 @@ use gate_pages::GatePages;
 use series_store::Store;
 use std::alloc::Global;
 use store_commands::status::{
-    BAD_INPUT, DAMAGED, DISK_FAULT, DONE, FIRST_PAGE, MOST_BYTES, NO_MEMORY, NO_SERIES, READ_FAULT,
-    SEND_FAULT, TOO_MUCH,
+    BAD_INPUT, DAMAGED, DISK_FAULT, DONE, FIRST_PAGE, MOST_BYTES, NO_MEMORY, READ_FAULT, SEND_FAULT,
+    TOO_MUCH,
 };
 use store_commands::{Status, ended, opening_status};
+
+/// The status where a line names a series that isn't there. The place is the offset of the line.
+pub const NO_SERIES: u8 = 17;
 
 /// Sweeps the rule of each line of the input over the store of the world's disk, sends `swept CLEARS USED` for each, and
 /// says how that ended.

@@ -6,7 +6,7 @@ use Rattle.store_commands.specs.declared.status.Status.{Status}
 
 -- the codes of all statuses
 abbrev pub status_codes : List ℕ
-status_codes = 0 ∷ 2 ∷ 3 ∷ 4 ∷ 5 ∷ 6 ∷ 7 ∷ 8 ∷ 9 ∷ 10 ∷ 11 ∷ 12 ∷ 13 ∷ 14 ∷ 15 ∷ 17 ∷ []
+status_codes = 0 ∷ 2 ∷ 3 ∷ 4 ∷ 5 ∷ 6 ∷ 7 ∷ 8 ∷ 9 ∷ 10 ∷ 11 ∷ 12 ∷ 13 ∷ 14 ∷ 15 ∷ []
 
 abbrev pub status : ℕ → ℕ → Status
 status code place = record { code = code; place = place }

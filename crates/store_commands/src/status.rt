@@ -67,9 +67,6 @@ pub const UNKNOWN_SERIES: u64 = 8;
 /// A frame names a session that isn't open. The place is the session's number.
 pub const UNKNOWN_SESSION: u8 = 15;
 
-/// A line names a series that isn't there. The place is the offset of the line.
-pub const NO_SERIES: u8 = 17;
-
 /// The first block of a store's pages: page p is block 66 + p.
 pub const FIRST_PAGE: u64 = 66;
 
