@@ -3,6 +3,7 @@
 A series is a tuple of a name, a start, a step, a scale and a list of slots, each a whole number or None; a book is a list
 of series. A span is a pair of the least and the greatest stored value, or None where nothing is stored.
 """
+import functools
 import struct
 
 BLOCK = 4096
@@ -174,13 +175,9 @@ class Store:
         self.use(number)
         page = self.page(number)
         require(page[:2] == bytes((2, level)), f"page {number} of a tree")
-        flags = int.from_bytes(page[FLAGS : FLAGS + 32], "little")
         children = struct.unpack_from(f">{CHILDREN}I", page, CHILD_PAGES)
-        spans = [span]
-        for node in range(CHILDREN - 1):
-            spans += self.halves(page, node, flags >> 2 * node & 3, spans[node])
         size = CHILDREN ** (level - 1)
-        for at, (child, part) in enumerate(zip(children, spans[CHILDREN - 1 :])):
+        for at, (child, part) in enumerate(zip(children, parts_of(page, span))):
             require((child != 0) == (level > 1 and part is not None), f"the children of page {number}")
             if child:
                 self.read_tree(child, level - 1, first + size * at, part, found)
@@ -188,16 +185,26 @@ class Store:
                 require(part[0] == part[1], f"a slot of page {number}")
                 found[first + at] = part[0]
 
-    def halves(self, page, node, flags, span):
-        require((flags == 0) == (span is None), f"a flag of node {node}")
-        dmin, dmax = struct.unpack_from(">2q", page, DIFFERENCES + 16 * node)
-        if flags < 3:
-            require(dmin == dmax == 0, f"a difference of node {node}")
-            return span if flags == 1 else None, span if flags == 2 else None
-        least, greatest = span
-        halves = (least + max(dmin, 0), greatest + min(dmax, 0)), (least + max(-dmin, 0), greatest + min(-dmax, 0))
-        require(all(low <= high for low, high in halves), f"the coefficient of node {node}")
-        return halves
+
+@functools.lru_cache(64)
+def parts_of(page, span):
+    """The spans of the 128 parts of a tree page that has this span."""
+    flags, spans = int.from_bytes(page[FLAGS : FLAGS + 32], "little"), [span]
+    for node in range(CHILDREN - 1):
+        spans += halves_of(page, node, flags >> 2 * node & 3, spans[node])
+    return spans[CHILDREN - 1 :]
+
+
+def halves_of(page, node, flags, span):
+    require((flags == 0) == (span is None), f"a flag of node {node}")
+    dmin, dmax = struct.unpack_from(">2q", page, DIFFERENCES + 16 * node)
+    if flags < 3:
+        require(dmin == dmax == 0, f"a difference of node {node}")
+        return span if flags == 1 else None, span if flags == 2 else None
+    least, greatest = span
+    halves = (least + max(dmin, 0), greatest + min(dmax, 0)), (least + max(-dmin, 0), greatest + min(-dmax, 0))
+    require(all(low <= high for low, high in halves), f"the coefficient of node {node}")
+    return halves
 
 
 def book_of(data):

@@ -3,12 +3,14 @@
 scripts/store_format.py reads stores that are whole. This reader takes any bytes. It says which blocks break their layout or don't
 fit their place, and what the others tell. A tree's key is a pair of level and index, and its span a pair of the least and the greatest value.
 """
+import collections
 import functools
 import struct
 
 from store_format import BLOCK, CHILDREN, FIRST_PAGE, FIRST_TREE_PAGE, RECORD, RECORD_SIZE, RECORDS, page_levels
 
 MOST = 10**18  # the greatest size of a value
+KEPT, LOOKS = 256, 16  # how many records are kept with what was found in their trees, and how many finds of each
 CATALOG = range(1, FIRST_TREE_PAGE)
 LETTERS = frozenset(b"ABCDEFGHIJKLMNOPQRSTUVWXYZabcdefghijklmnopqrstuvwxyz0123456789_.-")
 
@@ -23,6 +25,10 @@ class Bad(Exception):
 
 def block_of(data, number):
     return data[BLOCK * number : BLOCK * (number + 1)]
+
+
+def are_zero(part):
+    return not part.strip(b"\0")
 
 
 def opened(data):
@@ -49,7 +55,7 @@ def tree_page(page):
     level, flags = page[1], int.from_bytes(page[8:40], "little")
     differences = list(struct.iter_unpack(">2q", page[40:2072]))
     children = struct.unpack_from(f">{CHILDREN}I", page, 2072)
-    if page[0] != 2 or not 1 <= level <= 5 or any(page[2:8]) or any(page[2584:]) or flags >> 254:
+    if page[0] != 2 or not 1 <= level <= 5 or any(page[2:8]) or not are_zero(page[2584:]) or flags >> 254:
         return None
     of_node = [flags >> 2 * node & 3 for node in range(127)]
     if not of_node[0] or any((of_node[node] != 0) != (flags >> node - 1 & 1) for node in range(1, 127)):
@@ -71,8 +77,10 @@ def halves_of(span, flags, differences):
 
 
 class Series:
+    found = {}  # what was found in trees, by what was looked for, the record and the total, with the pages that it was read of
+
     def __init__(self, store, record):
-        self.store, self.read = store, {}
+        self.store, self.record, self.read, self.taken = store, record, {}, set()
         used, length, self.scale, zero, name, zero_too = struct.unpack_from(">4B31sB", record)
         self.step, self.start, self.slots, self.root, rest, least, greatest = struct.unpack_from(">IqQIIqq", record, 36)
         self.name = name[:length].decode("latin-1")
@@ -87,10 +95,24 @@ class Series:
         self.levels = page_levels(self.slots) if self.slots <= 2**28 else 0
         self.top = 7 * self.levels, 0
 
+    def remember(self, sought, look):
+        """What `look` finds in the tree, where `sought` is what it looks for: looked up, where it was found before in the same pages."""
+        if len(self.found) > KEPT:
+            self.found.clear()
+        finds = self.found.setdefault((sought, self.record, self.store.total), collections.deque(maxlen=LOOKS))
+        for pages, answer in finds:
+            if all(self.store.page(number) == page for number, page in pages):
+                return answer
+        self.taken = set()
+        answer = look()
+        finds.appendleft(([(number, self.store.page(number)) for number in self.taken], answer))
+        return answer
+
     def page(self, level, index):
         """The number of the page of this page level and index and what it says; or Bad, where the way to it is damaged."""
         if (level, index) not in self.read:
             self.read[level, index] = self.read_page(level, index)
+        self.taken.add(self.read[level, index][0])
         return self.read[level, index]
 
     def read_page(self, level, index):
@@ -101,6 +123,7 @@ class Series:
             number = children[index % CHILDREN]
             if number >= self.store.total:
                 raise Bad(FIRST_PAGE + above)
+        self.taken.add(number)
         said = tree_page(self.store.page(number))
         if not said or said[0] != level:
             raise Bad(FIRST_PAGE + number)
@@ -120,6 +143,9 @@ class Series:
         return (flags[node], *differences[node]), parts
 
     def look(self):
+        return self.remember("values", self.count)
+
+    def count(self):
         """How many values the tree has, and the blocks of its pages that are bad for their place: one of which a slot holds two values, too,
         or that has a value behind the series' last slot."""
         values, bad, found = 0, set(), [(self.top, self.span)] if self.span else []
@@ -147,7 +173,7 @@ class Store:
         first = self.page(0)
         self.total, self.fresh, self.head, self.chain, series = struct.unpack_from(">5I", first, 8)
         if not (
-            first[:8] == b"CHARTST1" and not any(first[28:]) and 62 <= self.total <= count and FIRST_TREE_PAGE <= self.fresh <= self.total
+            first[:8] == b"CHARTST1" and are_zero(first[28:]) and 62 <= self.total <= count and FIRST_TREE_PAGE <= self.fresh <= self.total
             and (self.head == 0) == (self.chain == 0) and (self.head == 0 or FIRST_TREE_PAGE <= self.head < self.fresh)
             and self.chain <= self.fresh - FIRST_TREE_PAGE and series <= 512
         ):
@@ -167,7 +193,7 @@ class Store:
         own = [Series(self, page[at : at + RECORD_SIZE]) for at in range(RECORD, behind, RECORD_SIZE)]
         self.series += own
         names = [series.name for series in self.series]
-        whole = page[0] == 3 and not any(page[1:RECORD]) and not any(page[behind:]) and all(series.fits for series in own)
+        whole = page[0] == 3 and not any(page[1:RECORD]) and are_zero(page[behind:]) and all(series.fits for series in own)
         repeated = any(names.index(name) < at for at, name in enumerate(names) if at >= len(names) - len(own))
         return set() if whole and not repeated else {FIRST_PAGE + number}
 
@@ -181,7 +207,7 @@ class Store:
             page = self.page(number)
             (behind,) = struct.unpack_from(">I", page, 4)
             follows = FIRST_TREE_PAGE <= behind < self.fresh if left else behind == 0
-            if page[:4] != b"\1\0\0\0" or any(page[8:]) or not follows:
+            if page[:4] != b"\1\0\0\0" or not are_zero(page[8:]) or not follows:
                 return {FIRST_PAGE + number}
             number = behind
         return set()
