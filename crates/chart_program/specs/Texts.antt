@@ -1,15 +1,20 @@
 -- The text of what a frame shows: a line, and behind that the picture, where there is one.
-use Rattle.std.specs.Prelude.{ℕ, List, [], ◌∷◌, ◌++◌, length, Option, None, Some, codes}
+use Rattle.std.specs.Prelude.{ℕ, Bool, true, false, List, [], ◌∷◌, ◌++◌, length, Option, None, Some, codes}
 use Rattle.std.specs.Fmt.{decimal}
 use Rattle.line_raster.specs.Canvas.{Canvas}
 use Rattle.pbm_writer.specs.Picture.{picture}
 use Rattle.chart_frames.specs.declared.frame.Frame.{Frame}
-use Rattle.chart_frames.specs.declared.frame.Frame.TheVariants.{Done, Refused, Opened, Closed, View, Rows}
+use Rattle.chart_frames.specs.declared.frame.Frame.TheVariants.{Done, Refused, Opened, Closed, View, Rows, Live}
 use Rattle.chart_frames.specs.Frames.{spelling}
 
 -- the line of a view of a session, whose frame has so many bytes
 abbrev pub view_line : ℕ → ℕ → List ℕ
 view_line session sent = codes "view " ++ (decimal session ++ (codes " sent " ++ (decimal sent ++ codes "\n")))
+
+-- the line that tells whether a session follows its view from now on
+abbrev pub live_line : ℕ → Bool → List ℕ
+live_line session true = codes "live " ++ (decimal session ++ codes " on\n")
+live_line session false = codes "live " ++ (decimal session ++ codes " off\n")
 
 -- the line of a frame of so many bytes
 unfoldable pub line_of : Frame → ℕ → List ℕ
@@ -20,6 +25,7 @@ line_of (Opened session cache) sent = codes "opened " ++ (decimal session ++ (co
 line_of (Closed session) sent = codes "closed " ++ (decimal session ++ codes "\n")
 line_of (View view) sent = view_line view.session sent
 line_of (Rows rows) sent = view_line rows.session sent
+line_of (Live session on) sent = live_line session on
 
 -- the bytes of the picture of a drawing
 abbrev pub picture_bytes : Option Canvas → List ℕ

@@ -2,7 +2,7 @@ ghost use Rattle.std.specs.Prelude.{◌≡◌, ◌++◌, IfOk, IfErr, OnOk, code
 ghost use Rattle.std.specs.Fmt.{decimal};
 ghost use Rattle.chart_service.specs.declared.failure.ServeEnd.TheVariants.{NoMemory};
 ghost use Rattle.chart_program.specs.declared.run_end.RunEnd.TheVariants.{Serve};
-ghost use Rattle.chart_program.specs.Texts.{line_of, picture_bytes, text_of};
+ghost use Rattle.chart_program.specs.Texts.{line_of, live_line, picture_bytes, text_of};
 
 use crate::run_end::RunEnd;
 use chart_client::Shown;
@@ -48,6 +48,7 @@ fn line_of(alloc: Global, frame: &Frame, sent: usize) -> Result<Vec<u8>, RunEnd>
         Frame::Closed { session } => closed_line(alloc, *session),
         Frame::View(view) => view_line(alloc, view.session, sent),
         Frame::Rows(rows) => view_line(alloc, rows.session, sent),
+        Frame::Live { session, on } => live_line(alloc, *session, *on),
     }
 }
 
@@ -80,6 +81,33 @@ fn closed_line(alloc: Global, session: u32) -> Result<Vec<u8>, RunEnd>
     ensures memory { IfErr result (λ end. end ≡ Serve NoMemory) }
 {
     let line = format!(in alloc; "closed {session}\n")?;
+    Ok(Vec::from_slice(alloc, line.as_bytes())?)
+}
+
+fn live_line(alloc: Global, session: u32, on: bool) -> Result<Vec<u8>, RunEnd>
+    ensures line { IfOk result (λ text. text.items ≡ live_line session on) }
+    ensures memory { IfErr result (λ end. end ≡ Serve NoMemory) }
+{
+    if on {
+        on_line(alloc, session)
+    } else {
+        off_line(alloc, session)
+    }
+}
+
+fn on_line(alloc: Global, session: u32) -> Result<Vec<u8>, RunEnd>
+    ensures line { IfOk result (λ text. text.items ≡ codes "live " ++ (decimal session ++ codes " on\n")) }
+    ensures memory { IfErr result (λ end. end ≡ Serve NoMemory) }
+{
+    let line = format!(in alloc; "live {session} on\n")?;
+    Ok(Vec::from_slice(alloc, line.as_bytes())?)
+}
+
+fn off_line(alloc: Global, session: u32) -> Result<Vec<u8>, RunEnd>
+    ensures line { IfOk result (λ text. text.items ≡ codes "live " ++ (decimal session ++ codes " off\n")) }
+    ensures memory { IfErr result (λ end. end ≡ Serve NoMemory) }
+{
+    let line = format!(in alloc; "live {session} off\n")?;
     Ok(Vec::from_slice(alloc, line.as_bytes())?)
 }
 

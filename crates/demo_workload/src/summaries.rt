@@ -60,6 +60,7 @@ impl Summary {
             Frame::Refused { .. } => self.refused += 1,
             Frame::Opened { .. } => {}
             Frame::Closed { .. } => {}
+            Frame::Live { .. } => {}
             Frame::View(_) => self.add_view(bytes),
             Frame::Rows(_) => self.add_view(bytes),
         }

@@ -34,3 +34,8 @@ pub returns-in-Rows-clause-summary : goal.returns-in-Rows-clause-summary
 returns-in-Rows-clause-summary c = λ frames pictures is.
     let now : Summary = c.args.self.now in
     c.add_view-in-Rows.ensures ∙ added_so frames pictures c.args.frame.now c.args.picture.now _ now now.done now.refused (now.views + 1) (now.sent + c.args.bytes) c.black.result is c.in-Rows.is (sym (add-zero now.done)) (sym (add-zero now.refused)) refl (ap (λ n. now.sent + n) (c.requires.spelled ∙ ap (λ (f : Frame). length (spelling f)) c.in-Rows.is)) c.black.ensures.pixels
+
+pub returns-in-Live-clause-summary : goal.returns-in-Live-clause-summary
+returns-in-Live-clause-summary c = λ frames pictures is.
+    let now : Summary = c.args.self.now in
+    added_so frames pictures c.args.frame.now c.args.picture.now _ now now.done now.refused now.views now.sent c.black.result is c.in-Live.is (sym (add-zero now.done)) (sym (add-zero now.refused)) (sym (add-zero now.views)) (sym (add-zero now.sent)) c.black.ensures.pixels
