@@ -15,6 +15,18 @@ const Y: [Option<i64>; 4] = [Some(1), Some(1), None, Some(5)];
 
 const FAR: [Option<i64>; 2] = [Some(0), Some(1_000_000_000_000_000_000)];
 
+const EARLY: Axis = Axis {
+    start: 0,
+    step: 2,
+    slots: 4,
+};
+
+const LATE: Axis = Axis {
+    start: 6,
+    step: 2,
+    slots: 4,
+};
+
 /// The difference of X and Y in two columns of two slots.
 const ROWS: [Row; 1] = [Row {
     column: 0,
@@ -66,8 +78,8 @@ fn a_sum_may_be_too_large(rt: HostRuntime) -> Result<(), Fail> {
 
 #[test]
 fn series_are_on_one_grid(rt: HostRuntime) -> Result<(), Fail> {
-    assert!(rt; shift_between(axis(0, 4), axis(3, 4)) == Some(-3));
-    assert!(rt; shift_between(axis(3, 4), axis(0, 4)) == Some(3));
+    assert!(rt; shift_between(EARLY, LATE) == Some(-3));
+    assert!(rt; shift_between(LATE, EARLY) == Some(3));
     Ok(())
 }
 
