@@ -10,12 +10,12 @@ ghost use Rattle.chart_frames.specs.Places.{Opens};
 use crate::fields::{Stop, byte_at, long_at, word_at};
 use crate::frame::{Frame, RowsFrame, ViewFrame};
 use crate::heads::{
-    Axis, Stored, axis_at, count_at, flag_at, range_at, row_count_at, series_at, session_at, sides_at,
-    stored_at, window_at,
+    Axis, Stored, axis_at, count_at, flag_at, range_at, row_count_at, series_at, session_at,
+    sides_at, stored_at, window_at,
 };
 use crate::limits::{
-    EIGHT_LENGTH, LIVE_LENGTH, MOST_COEFS, MOST_ROWS, MOST_SLOTS, REFUSED_LENGTH, ROWS_LENGTH, SESSION_LENGTH,
-    VIEW_LENGTH,
+    EIGHT_LENGTH, LIVE_LENGTH, MOST_COEFS, MOST_ROWS, MOST_SLOTS, REFUSED_LENGTH, ROWS_LENGTH,
+    SESSION_LENGTH, VIEW_LENGTH,
 };
 use m4_groups::Rows;
 use om3_coeff::Coefs;

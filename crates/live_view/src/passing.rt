@@ -41,7 +41,11 @@ pub(crate) fn changed<S: Stepper>(stepper: &S, meaning: &Meaning, frame: &Frame)
 }
 
 /// Of the followed sessions, those whose last view is one of a series.
-pub(crate) fn followers<S: Stepper>(stepper: &S, series: Option<u16>, mut followed: Vec<u32>) -> Vec<u32>
+pub(crate) fn followers<S: Stepper>(
+    stepper: &S,
+    series: Option<u16>,
+    mut followed: Vec<u32>,
+) -> Vec<u32>
     ensures { result.items ≡ followers series (S.sessions stepper.now) followed.items }
 {
     let Some(series) = series else {
