@@ -49,7 +49,7 @@ fn sums_are_of_times_with_both_values(rt: HostRuntime) -> Result<(), Fail> {
     Ok(())
 }
 
-/// A sum of 10^18 can be held, and one more can't.
+/// A sum of more than 10^18 is too large, at its time.
 #[test]
 fn a_sum_may_be_too_large(rt: HostRuntime) -> Result<(), Fail> {
     let mut pair = ListPair::new(&FAR, &FAR);
