@@ -4,7 +4,7 @@ ghost use Rattle.om3_coeff.specs.Spans.{AreSlots};
 ghost use Rattle.whole_number.specs.Range.{IsValue};
 
 use chart_grid::{Axis, Grid};
-use derived_chart::{DerivedError, ListPair, Sum, derived_rows, shift_between};
+use derived_chart::{DerivedError, ListPair, Sum, derived_rows};
 use m4_groups::Row;
 use std::alloc::Global;
 use std::test::Fail;
@@ -14,18 +14,6 @@ const X: [Option<i64>; 4] = [Some(4), Some(7), Some(2), None];
 const Y: [Option<i64>; 4] = [Some(1), Some(1), None, Some(5)];
 
 const FAR: [Option<i64>; 2] = [Some(0), Some(1_000_000_000_000_000_000)];
-
-const EARLY: Axis = Axis {
-    start: 0,
-    step: 2,
-    slots: 4,
-};
-
-const LATE: Axis = Axis {
-    start: 6,
-    step: 2,
-    slots: 4,
-};
 
 /// The difference of X and Y in two columns of two slots.
 const ROWS: [Row; 1] = [Row {
@@ -61,7 +49,7 @@ fn sums_are_of_times_with_both_values(rt: HostRuntime) -> Result<(), Fail> {
     Ok(())
 }
 
-/// A sum of 10^18 can be held, and one more can't.
+/// A sum of more than 10^18 is too large, at its time.
 #[test]
 fn a_sum_may_be_too_large(rt: HostRuntime) -> Result<(), Fail> {
     let mut pair = ListPair::new(&FAR, &FAR);
@@ -73,13 +61,6 @@ fn a_sum_may_be_too_large(rt: HostRuntime) -> Result<(), Fail> {
     let grid = Grid::new(-5, 5, 1, 1)?;
     let answer = derived_rows(rt.alloc(), &mut pair, axis(0, 2), sum, grid);
     assert!(rt; answer.err() == Some(DerivedError::TooLarge { time: 1 }));
-    Ok(())
-}
-
-#[test]
-fn series_are_on_one_grid(rt: HostRuntime) -> Result<(), Fail> {
-    assert!(rt; shift_between(EARLY, LATE) == Some(-3));
-    assert!(rt; shift_between(LATE, EARLY) == Some(3));
     Ok(())
 }
 
