@@ -1,5 +1,5 @@
 -- The test of a key that lies across the end of a column.
-use Rattle.std.proofs.Common.{ℕ, suc, ap₂, subst, ◌≡◌, ◌+◌, ◌-◌, ◌*◌, ◌<◌, ◌≤◌, ◌⊎◌, ◌↔◌, inl, inr, Bool, true, false, IsTrue, max, refl, sym, ap, ◌∙◌, arith}
+use Rattle.std.proofs.Common.{ℕ, ap₂, subst, ◌≡◌, ◌-◌, ◌<◌, ◌≤◌, ◌⊎◌, ◌↔◌, inl, inr, Bool, true, false, IsTrue, refl, sym, ap, ◌∙◌, arith}
 use Rattle.std.specs.Prelude.{not, ◌==◌, nat_lt}
 use Rattle.std.proofs.lemmas.Bool.{cases_lt, cases_eq}
 use Rattle.std.proofs.lemmas.Bool.Decides.{nat_tests}
@@ -7,7 +7,6 @@ use Rattle.chart_grid.specs.Projection.{column}
 use Rattle.chart_grid.specs.Slots.{slot_time, IsInColumn}
 use Rattle.om3_coeff.specs.declared.key.Key.{Key}
 use Rattle.om3_coeff.specs.Keys.{first_slot, end_slot}
-use Rattle.view_keys.specs.Ranges.{IsInRange, IsCut}
 use Rattle.view_keys.proofs.Ranging.{first-in_range, last-in_range}
 use Rattle.view_cover.specs.declared.scope.Scope.{Scope}
 use Rattle.view_cover.specs.Across.{IsAcross, is_across}

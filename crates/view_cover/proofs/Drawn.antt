@@ -9,9 +9,7 @@ use Rattle.chart_grid.specs.Slots.{slot_time, IsInColumn}
 use Rattle.chart_grid.proofs.Rising.{column-rising}
 use Rattle.om3_coeff.specs.declared.key.Key.{Key}
 use Rattle.om3_coeff.specs.Keys.{first_slot, end_slot}
-use Rattle.view_keys.specs.Ranges.{IsInRange}
 use Rattle.view_cover.specs.declared.scope.Scope.{Scope}
-use Rattle.view_cover.specs.Scene.{IsDrawnIn}
 use Rattle.view_cover.specs.Walk.{AreColumnsIn}
 
 -- a number that is little after a first one of 64 bits

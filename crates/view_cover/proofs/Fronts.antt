@@ -2,7 +2,6 @@
 use Rattle.std.proofs.Common.{ℕ, zero, suc, ◌≡◌, ◌+◌, ◌-◌, ◌*◌, ◌/◌, ◌^◌, ◌<◌, ◌≤◌, ◌⊎◌, inl, inr, Option, None, Some, refl, sym, ap, ◌∙◌, subst, arith}
 use Rattle.std.specs.Option.{option_map}
 use Rattle.std.proofs.lemmas.Bool.{cases_lt}
-use Rattle.chart_grid.specs.Slots.{IsInColumn}
 use Rattle.om3_coeff.specs.declared.key.Key.{Key}
 use Rattle.om3_coeff.specs.declared.span.Span.{Span}
 use Rattle.om3_coeff.specs.declared.coef.Coef.{Coef}
@@ -11,11 +10,11 @@ use Rattle.om3_coeff.specs.Coefs.{parts}
 use Rattle.om3_coeff.specs.Spans.{hull}
 use Rattle.om3_coeff.specs.Known.{half, known_below}
 use Rattle.view_keys.specs.Ranges.{IsInRange}
-use Rattle.view_keys.proofs.Ranging.{above-in_range, shared-above, parent-above, first-in_range}
-use Rattle.view_cover.specs.Scene.{Scene, with_told, IsToldBy, known_in, IsSeen, IsDrawnIn}
+use Rattle.view_keys.proofs.Ranging.{shared-above, parent-above}
+use Rattle.view_cover.specs.Scene.{Scene, with_told, IsToldBy, known_in, IsSeen}
 use Rattle.view_cover.specs.Front.{IsLowest}
-use Rattle.view_cover.proofs.Spans.{Basis, IsPart, part-same, part-trans, known-top, inner, not-known, not-empty, left-half, right-half}
-use Rattle.view_cover.proofs.Trees.{peak, above-trans, above-same, above-both, level-same, parent-key, left-key, right-key, left-parent, right-parent, left-above, right-above, known-under, seen-more, seen-parent, seen-above, ranges-apart}
+use Rattle.view_cover.proofs.Spans.{Basis, IsPart, part-same, part-trans, known-top, not-known, left-half, right-half}
+use Rattle.view_cover.proofs.Trees.{peak, above-trans, above-same, above-both, level-same, left-key, right-key, left-parent, right-parent, left-above, right-above, known-under, seen-more, seen-parent, seen-above, ranges-apart}
 
 -- a seen key whose coefficient shows nothing is one of them
 untold : (index : ℕ) (s t : Span) → known_below index (Some (Some s)) None ≡ Some (Some t) → ⊥

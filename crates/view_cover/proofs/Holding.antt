@@ -1,5 +1,5 @@
 -- A cover holds the chart of each list of which all that is told is told.
-use Rattle.std.proofs.Common.{ℕ, ℤ, zero, suc, pos, ◌≡◌, ◌+◌, ◌-◌, ◌*◌, ◌/◌, ◌%◌, ◌^◌, ◌<◌, ◌≤◌, ◌≤ℤ◌, ◌-ℤ◌, unsigned_abs, ◌⊎◌, inl, inr, List, length, Option, None, Some, refl, sym, ap, ◌∙◌, subst, arith}
+use Rattle.std.proofs.Common.{ℕ, ℤ, zero, suc, ◌≡◌, ◌+◌, ◌-◌, ◌%◌, ◌^◌, ◌<◌, ◌≤◌, ◌≤ℤ◌, ◌-ℤ◌, unsigned_abs, ◌⊎◌, inl, inr, List, length, Option, None, Some, refl, sym, ap, ◌∙◌, subst, arith}
 use Rattle.std.specs.Option.{option_map}
 use Rattle.std.specs.Int.{int_min, int_max}
 use Rattle.std.proofs.lemmas.Bool.{cases_lt, cases_eq}
@@ -12,20 +12,20 @@ use Rattle.line_raster.proofs.SegmentLemmas.{share-le}
 use Rattle.om3_coeff.specs.declared.key.Key.{Key}
 use Rattle.om3_coeff.specs.declared.span.Span.{Span}
 use Rattle.om3_coeff.specs.declared.coef.Coef.{Coef}
-use Rattle.om3_coeff.specs.Keys.{first_slot, end_slot, left_of, right_of, parent_of, top_key, height as height_of, IsKey, IsAtOrAbove}
+use Rattle.om3_coeff.specs.Keys.{first_slot, end_slot, left_of, right_of, parent_of, top_key, height as height_of, IsKey}
 use Rattle.om3_coeff.specs.Spans.{AreSlots, IsProperIfAny, IsSpanOf, AreExtremes, Holds, hull, span, span_over}
 use Rattle.om3_coeff.specs.Coefs.{parts, coef, coef_of}
 use Rattle.om3_coeff.specs.Known.{half, known_below}
 use Rattle.om3_coeff.proofs.KeyLemmas.{even_half, odd_half, left_first, right_end, height_covers}
 use Rattle.view_keys.specs.Ranges.{IsInRange}
-use Rattle.view_keys.proofs.Ranging.{key-same, parent-above, first-in_range, power-some}
-use Rattle.view_cover.specs.Scene.{Scene, known_in, IsSeen, IsDrawnIn}
+use Rattle.view_keys.proofs.Ranging.{key-same, power-some}
+use Rattle.view_cover.specs.Scene.{Scene, IsSeen, IsDrawnIn}
 use Rattle.view_cover.specs.Front.{IsLowest, IsInFront}
-use Rattle.view_cover.specs.Cover.{bottom, top, InRectangle, InBox, InCover}
+use Rattle.view_cover.specs.Cover.{bottom, top, InRectangle, InCover}
 use Rattle.view_cover.specs.Chart.{IsSample, IsOfSample, IsOfSegment, InChart, IsToldOf}
-use Rattle.view_cover.proofs.Spans.{Basis, IsPart, known-top, inner, not-known, not-empty, left-half, right-half}
+use Rattle.view_cover.proofs.Spans.{Basis, known-top, inner, not-known, left-half, right-half}
 use Rattle.view_cover.proofs.Trees.{peak, known-under, seen-parent, seen-one}
-use Rattle.view_cover.proofs.Fronts.{lowest-untold, lowest-unsplit, lowest-slot, lowest-apart, seen-left, seen-right}
+use Rattle.view_cover.proofs.Fronts.{lowest-untold, lowest-slot, lowest-apart, seen-left, seen-right}
 use Rattle.chart_grid.specs.declared.grid.Grid.{Grid}
 use Rattle.view_cover.proofs.Shrinking.{lowest-front, times-between}
 

@@ -1,6 +1,5 @@
 -- What the parts of a walk add to the cover.
-use Rattle.std.proofs.Common.{ℕ, ℤ, zero, suc, pos, ◌≡◌, ◌+◌, ◌-◌, ◌*◌, ◌/◌, ◌^◌, ◌<◌, ◌≤◌, ◌≤ℤ◌, ◌↔◌, ◌⊎◌, inl, inr, Option, None, Some, min, max, refl, sym, ap, ◌∙◌, subst, arith}
-use Rattle.std.specs.Prelude.{IfSome}
+use Rattle.std.proofs.Common.{ℕ, ℤ, zero, suc, pos, ◌≡◌, ◌+◌, ◌-◌, ◌/◌, ◌^◌, ◌<◌, ◌≤◌, ◌≤ℤ◌, ◌⊎◌, inl, inr, Option, None, Some, min, max, refl, sym, ap, ◌∙◌, subst, arith}
 use Rattle.std.specs.Int.{int_min, int_max}
 use Rattle.std.specs.Option.{option_map}
 use Rattle.std.proofs.lemmas.Int.{ints}
@@ -10,21 +9,20 @@ use Rattle.line_raster.proofs.Drawn.{both, alike, none}
 use Rattle.om3_coeff.specs.declared.key.Key.{Key}
 use Rattle.om3_coeff.specs.declared.span.Span.{Span}
 use Rattle.om3_coeff.specs.declared.coef.Coef.{Coef}
-use Rattle.om3_coeff.specs.Keys.{first_slot, end_slot, left_of, right_of, parent_of, height, IsKey, IsAtOrAbove}
+use Rattle.om3_coeff.specs.Keys.{first_slot, end_slot, left_of, right_of, parent_of, IsAtOrAbove}
 use Rattle.om3_coeff.specs.Coefs.{parts}
 use Rattle.om3_coeff.specs.Spans.{hull}
-use Rattle.om3_coeff.specs.Known.{half, known_below, known}
+use Rattle.om3_coeff.specs.Known.{half, known_below}
 use Rattle.om3_coeff.proofs.KeyLemmas.{left_first, right_end}
-use Rattle.view_keys.specs.Ranges.{IsInRange}
 use Rattle.view_keys.proofs.Ranging.{shared-above, parent-above, first-in_range}
 use Rattle.view_cover.specs.declared.area.Area.{Area}
 use Rattle.view_cover.specs.Area.{InArea, both_areas, with_last}
 use Rattle.view_cover.specs.Scene.{Scene, known_in, IsSeen, IsDrawnIn}
 use Rattle.view_cover.specs.Front.{IsLowest, IsInFront, IsFreeBetween, AreConsecutive}
-use Rattle.view_cover.specs.Cover.{bottom, top, InRectangle, InBox, InSomeBox, InSomeJoin, InCover}
-use Rattle.view_cover.specs.Walk.{IsReached, AreColumnsIn, IsAreaOf, IsLastBefore, InBoxBetween, InJoinBetween, InPart}
-use Rattle.view_cover.proofs.Spans.{Basis, inner, not-known}
-use Rattle.view_cover.proofs.Trees.{peak, above-trans, above-both, level-same, known-under, seen-one, ranges-apart, left-above, right-above, left-key, right-key, left-parent, right-parent}
+use Rattle.view_cover.specs.Cover.{bottom, top, InRectangle, InBox}
+use Rattle.view_cover.specs.Walk.{IsReached, AreColumnsIn, IsAreaOf, IsLastBefore, InPart}
+use Rattle.view_cover.proofs.Spans.{Basis, not-known}
+use Rattle.view_cover.proofs.Trees.{peak, above-trans, above-both, level-same, known-under, seen-one, ranges-apart, left-parent, right-parent}
 use Rattle.view_cover.proofs.Fronts.{lowest-apart, seen-left, seen-right}
 use Rattle.view_cover.proofs.Shrinking.{drawn-above}
 

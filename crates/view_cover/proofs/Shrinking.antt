@@ -1,22 +1,20 @@
 -- With more coefficients the cover shrinks.
-use Rattle.std.proofs.Common.{ℕ, ℤ, pos, ◌≡◌, ◌+◌, ◌-◌, ◌*◌, ◌<◌, ◌≤◌, ◌≤ℤ◌, ◌<ℤ◌, ◌+ℤ◌, ◌⊎◌, inl, inr, Option, None, Some, refl, sym, ap, ◌∙◌, subst, arith}
+use Rattle.std.proofs.Common.{ℕ, ℤ, pos, ◌≡◌, ◌*◌, ◌≤◌, ◌≤ℤ◌, ◌+ℤ◌, ◌⊎◌, inl, inr, Option, None, Some, refl, sym, subst, arith}
 use Rattle.std.proofs.lemmas.Int.{ints}
 use Rattle.std.proofs.Math.Nat.{mul-le-mul_right}
 use Rattle.std.specs.Int.{int_min, int_max}
 use Rattle.chart_grid.specs.declared.axis.Axis.{Axis}
 use Rattle.chart_grid.specs.declared.grid.Grid.{Grid}
-use Rattle.chart_grid.specs.Projection.{height, column}
+use Rattle.chart_grid.specs.Projection.{column}
 use Rattle.chart_grid.specs.Slots.{IsInColumn, slot_time}
 use Rattle.om3_coeff.specs.declared.key.Key.{Key}
 use Rattle.om3_coeff.specs.declared.span.Span.{Span}
 use Rattle.om3_coeff.specs.declared.coef.Coef.{Coef}
-use Rattle.om3_coeff.specs.Keys.{first_slot, end_slot, parent_of, IsAtOrAbove}
-use Rattle.om3_coeff.specs.Spans.{hull}
-use Rattle.view_keys.specs.Ranges.{IsInRange}
+use Rattle.om3_coeff.specs.Keys.{first_slot, end_slot, IsAtOrAbove}
 use Rattle.view_keys.proofs.Ranging.{above-in_range, first-in_range}
 use Rattle.view_cover.specs.Scene.{Scene, with_told, IsToldBy, IsSeen, IsDrawnIn}
 use Rattle.view_cover.specs.Front.{IsLowest, IsInFront, AreConsecutive}
-use Rattle.view_cover.specs.Cover.{bottom, top, IsBetweenColumns, InRectangle, InBox, InSomeBox, InSomeJoin, InCover}
+use Rattle.view_cover.specs.Cover.{bottom, top, InRectangle, InSomeBox, InSomeJoin, InCover}
 use Rattle.view_cover.proofs.Spans.{Basis, IsPart}
 use Rattle.view_cover.proofs.Trees.{seen-more, seen-one}
 use Rattle.view_cover.proofs.Fronts.{IsInherited, lowest-above, lowest-apart, lowest-below}

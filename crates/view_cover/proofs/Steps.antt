@@ -1,17 +1,16 @@
 -- The steps of the walk.
-use Rattle.std.proofs.Common.{ℕ, ℤ, pos, ◌≡◌, ◌+◌, ◌-◌, ◌*◌, ◌^◌, ◌<◌, ◌≤◌, ◌≤ℤ◌, inl, inr, Option, None, Some, Bool, true, false, IsTrue, refl, sym, ap, ◌∙◌, subst, arith}
+use Rattle.std.proofs.Common.{ℕ, ℤ, pos, ◌≡◌, ◌+◌, ◌-◌, ◌*◌, ◌^◌, ◌<◌, ◌≤◌, ◌≤ℤ◌, inl, inr, Option, None, Some, true, false, IsTrue, sym, ap, ◌∙◌, subst, arith}
 use Rattle.std.specs.Prelude.{IfSome}
 use Rattle.std.proofs.lemmas.Int.{ints}
 use Rattle.chart_grid.specs.declared.axis.Axis.{Axis}
 use Rattle.chart_grid.specs.declared.grid.Grid.{Grid}
-use Rattle.chart_grid.specs.Projection.{height}
 use Rattle.chart_grid.proofs.Rising.{column-below}
 use Rattle.chart_grid.specs.Slots.{slot_time}
 use Rattle.line_raster.specs.Canvas.{Canvas, Adds, IsBlank, black_at}
 use Rattle.om3_coeff.specs.declared.key.Key.{Key}
 use Rattle.om3_coeff.specs.declared.span.Span.{Span}
 use Rattle.om3_coeff.specs.declared.coef.Coef.{Coef}
-use Rattle.om3_coeff.specs.Keys.{first_slot, end_slot, left_of, right_of, parent_of, top_key, height as height_of, IsKey, IsNode, IsAtOrAbove}
+use Rattle.om3_coeff.specs.Keys.{first_slot, end_slot, left_of, right_of, top_key, height as height_of}
 use Rattle.om3_coeff.specs.Spans.{IsProper, IsProperIfAny}
 use Rattle.om3_coeff.specs.Coefs.{parts}
 use Rattle.std.specs.Option.{option_map}
@@ -19,11 +18,10 @@ use Rattle.om3_coeff.specs.Known.{half, known_below, known}
 use Rattle.om3_coeff.proofs.KeyLemmas.{end_within}
 use Rattle.view_keys.proofs.Ranging.{first-in_range}
 use Rattle.view_cover.specs.declared.area.Area.{Area}
-use Rattle.view_cover.specs.declared.scope.Scope.{Scope}
-use Rattle.view_cover.specs.Scene.{Scene, IsDrawnIn, IsSeen, known_in}
-use Rattle.view_cover.specs.Front.{IsLowest, IsInFront, IsFreeBetween}
+use Rattle.view_cover.specs.Scene.{Scene, IsDrawnIn, known_in}
+use Rattle.view_cover.specs.Front.{IsLowest, IsInFront}
 use Rattle.view_cover.specs.Cover.{InCover, bottom, top}
-use Rattle.view_cover.specs.Walk.{IsCoverOf, scene_of, IsReached, AreColumnsIn, IsAreaOf, IsLastBefore, InPart}
+use Rattle.view_cover.specs.Walk.{IsCoverOf, IsReached, AreColumnsIn, IsAreaOf, IsLastBefore, InPart}
 use Rattle.view_cover.proofs.Spans.{Basis, left-half, right-half}
 use Rattle.view_cover.proofs.Trees.{peak, left-key, right-key, left-parent, right-parent, known-under}
 

@@ -1,19 +1,16 @@
 -- Keys that are seen, and those above and below them.
-use Rattle.std.proofs.Common.{ℕ, zero, suc, ◌≡◌, ◌+◌, ◌-◌, ◌*◌, ◌/◌, ◌^◌, ◌<◌, ◌≤◌, ◌⊎◌, inl, inr, Option, None, Some, refl, sym, ap, ◌∙◌, subst, arith}
-use Rattle.std.specs.Option.{option_map}
+use Rattle.std.proofs.Common.{ℕ, zero, suc, ◌≡◌, ◌+◌, ◌-◌, ◌*◌, ◌/◌, ◌^◌, ◌<◌, ◌≤◌, ◌⊎◌, inl, inr, Option, Some, refl, sym, ap, ◌∙◌, subst, arith}
 use Rattle.std.proofs.lemmas.Bool.{cases_lt}
 use Rattle.std.proofs.lemmas.Nat.{pow-add}
 use Rattle.om3_coeff.specs.declared.key.Key.{Key}
 use Rattle.om3_coeff.specs.declared.span.Span.{Span}
 use Rattle.om3_coeff.specs.declared.coef.Coef.{Coef}
 use Rattle.om3_coeff.specs.Keys.{first_slot, end_slot, left_of, right_of, parent_of, height, IsKey, IsAtOrAbove}
-use Rattle.om3_coeff.specs.Coefs.{parts}
-use Rattle.om3_coeff.specs.Spans.{hull}
-use Rattle.om3_coeff.specs.Known.{half, known_below, known}
+use Rattle.om3_coeff.specs.Known.{known_below}
 use Rattle.view_keys.specs.Ranges.{IsInRange}
-use Rattle.view_keys.proofs.Ranging.{power-some, above-in_range, shared-above, key-same, parent-above, first-in_range}
+use Rattle.view_keys.proofs.Ranging.{above-in_range, shared-above, key-same, parent-above, first-in_range}
 use Rattle.view_cover.specs.Scene.{Scene, with_told, IsToldBy, known_in, IsSeen}
-use Rattle.view_cover.proofs.Spans.{Basis, IsPart, part-same, part-trans, parent-seen, known-more, known-top, inner, one-span, not-known, not-empty, left-half, right-half}
+use Rattle.view_cover.proofs.Spans.{Basis, IsPart, part-same, part-trans, parent-seen, known-more, one-span}
 
 -- the highest level of the tree
 abbrev pub peak : Scene → ℕ

@@ -1,5 +1,5 @@
 -- The cover: the pixels that may be black, by what is seen.
-use Rattle.std.specs.Prelude.{ℕ, ℤ, ◌≡◌, ◌≤◌, ◌≤ℤ◌, ◌⊎◌}
+use Rattle.std.specs.Prelude.{ℕ, ℤ, ◌≤◌, ◌≤ℤ◌, ◌⊎◌}
 use Rattle.std.specs.Int.{int_min, int_max}
 use Rattle.chart_grid.specs.declared.axis.Axis.{Axis}
 use Rattle.chart_grid.specs.declared.grid.Grid.{Grid}

@@ -1,7 +1,7 @@
-use Rattle.std.proofs.Common.{ℕ, ℤ, pos, ◌≡◌, ◌+◌, ◌<◌, ◌≤◌, ◌≤ℤ◌, ◌↔◌, sym, subst₂, rules, arith}
+use Rattle.std.proofs.Common.{ℕ, ℤ, pos, ◌≡◌, ◌+◌, ◌≤◌, ◌≤ℤ◌, ◌↔◌, sym, subst₂, rules, arith}
 use Rattle.std.specs.Int.{w128}
-use Rattle.std.proofs.lemmas.Int.{ints, to_z-of_z}
-use Rattle.line_raster.specs.Canvas.{Canvas, Adds}
+use Rattle.std.proofs.lemmas.Int.{to_z-of_z}
+use Rattle.line_raster.specs.Canvas.{Adds}
 use Rattle.line_raster.specs.Segment.{InFill}
 use Rattle.line_raster.proofs.Drawn.{no_column, next_column, last_column}
 use Rattle.view_cover.specs.declared.area.Area.{Area}

@@ -1,5 +1,4 @@
-use Rattle.view_cover.proofs.Spans.{Basis}
-use Rattle.view_cover.proofs.Holding.{Sums, holds-chart}
+use Rattle.view_cover.proofs.Holding.{holds-chart}
 use Rattle.view_cover.proofs.laws.covers_hold_the_chart.Goals as goal
 
 pub returns : goal.returns

@@ -1,11 +1,11 @@
-use Rattle.std.proofs.Common.{ℕ, ◌≡◌, ◌<◌, ◌≤◌, ◌^◌, ◌∙◌, sym, ap, subst, rules, arith}
-use Rattle.std.specs.Prelude.{Option, Some, None}
+use Rattle.std.proofs.Common.{◌≡◌, ◌≤◌, ◌∙◌, sym, ap, rules, arith}
+use Rattle.std.specs.Prelude.{Some, None}
 use Rattle.om3_coeff.specs.declared.span.Span.{Span}
 use Rattle.om3_coeff.specs.Keys.{first_slot, end_slot, left_of, right_of}
 use Rattle.om3_coeff.proofs.KeyLemmas.{left_first, right_end}
 use Rattle.om3_coeff.proofs.WalkLemmas.{key_small}
-use Rattle.view_cover.specs.Front.{IsInFront, IsFreeBetween}
-use Rattle.view_cover.specs.Walk.{scene_of, IsReached, IsAreaOf, IsLastBefore}
+use Rattle.view_cover.specs.Front.{IsInFront}
+use Rattle.view_cover.specs.Walk.{scene_of, IsReached, IsAreaOf}
 use Rattle.view_cover.proofs.Spans.{Basis}
 use Rattle.view_cover.proofs.Parts.{empty-free, undrawn-free, last-free, part-free, part-halves, part-lowest, last-lowest}
 use Rattle.view_cover.proofs.Steps.{reached-as, reached-at, reached-order, last-at, low-high, drawn-below, last-within, area-is, front-is}

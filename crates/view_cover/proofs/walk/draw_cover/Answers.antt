@@ -1,4 +1,4 @@
-use Rattle.std.proofs.Common.{◌≡◌, ◌∙◌, sym, ap}
+use Rattle.std.proofs.Common.{◌∙◌, sym, ap}
 use Rattle.std.specs.Prelude.{None}
 use Rattle.om3_coeff.specs.Keys.{first_slot, top_key}
 use Rattle.view_cover.specs.Walk.{scene_of}

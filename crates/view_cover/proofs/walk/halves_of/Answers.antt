@@ -1,5 +1,4 @@
-use Rattle.std.proofs.Common.{◌≡◌, ◌<◌, ◌≤◌, ◌^◌, ◌∙◌, sym, ap, arith}
-use Rattle.std.specs.Prelude.{Option, Some}
+use Rattle.std.proofs.Common.{◌∙◌, sym, arith}
 use Rattle.om3_coeff.proofs.WalkLemmas.{key_small}
 use Rattle.view_cover.specs.Walk.{scene_of}
 use Rattle.view_cover.proofs.Spans.{Basis}
