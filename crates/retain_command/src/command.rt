@@ -15,8 +15,8 @@ use gate_pages::GatePages;
 use series_store::Store;
 use std::alloc::Global;
 use store_commands::status::{
-    BAD_INPUT, DAMAGED, DISK_FAULT, DONE, FIRST_PAGE, MOST_BYTES, NO_MEMORY, READ_FAULT, SEND_FAULT,
-    TOO_MUCH,
+    BAD_INPUT, DAMAGED, DISK_FAULT, DONE, FIRST_PAGE, MOST_BYTES, NO_MEMORY, READ_FAULT,
+    SEND_FAULT, TOO_MUCH,
 };
 use store_commands::{Status, ended, opening_status};
 
