@@ -134,7 +134,7 @@ fn made<D: Disk>(alloc: Global, disk: D) -> (bool, D) {
 }
 
 /// A disk of these bytes, which fails the calls of these numbers, and all behind the first so many.
-fn fused(
+pub fn fused(
     alloc: Global,
     image: &[u8],
     calls: u64,

@@ -14,3 +14,5 @@ mod fakes;
 mod rows;
 #[cfg(test)]
 mod stops;
+#[cfg(test)]
+mod sweeps;

@@ -8,7 +8,7 @@ use std::alloc::Global;
 use std::test::Fail;
 
 /// The bytes of the pages that a disk stands for, once its journal is replayed.
-fn pages_of(alloc: Global, disk: MemDisk) -> Result<Vec<u8>, Fail> {
+pub fn pages_of(alloc: Global, disk: MemDisk) -> Result<Vec<u8>, Fail> {
     let Ok(pages) = GatePages::open(alloc, disk) else {
         return Err(Fail::new("no pages"));
     };
@@ -100,7 +100,7 @@ const FREEING: Deed = Deed::Clear(128, 1);
 const GROUP: Deed = Deed::Group(128, 5);
 
 /// Each way to tear what is pending, and how many pending opened gates it keeps. Other bytes close a gate or open it.
-const TEARS: [(Tear, u64); 5] = [
+pub const TEARS: [(Tear, u64); 5] = [
     (Tear::Old, 0),
     (Tear::New, 1),
     (Tear::Half, 1),
