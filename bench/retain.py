@@ -1,63 +1,83 @@
-"""What it costs to drop old slots, beside sqlite's delete of as many rows. See bench/run."""
+"""What it costs to drop old slots: `retain` beside sqlite, at the same commits and in one. See bench/run."""
 import os
 import shutil
-import subprocess
+import sqlite3
+import sys
 
-from load import SETTING, SYNCS
 from measuring import PROGRAM, build_store, counted_calls, least_seconds, lines_of_series, measure, walk
 
-OLD = {10**5: 2048, 10**6: 16384}  # old slots, and the blocks of a store that has room for them
-YOUNG, ROUNDS = 1000, 3  # slots that stay; rounds
-BY_RETAIN, BY_DELETE = "retain", "sqlite3 delete"
+SYNCS = ("fsync", "fdatasync", "msync", "sync_file_range")
+SERIES = {10**5: 2048, 10**6: 16384}  # slots, and the blocks of a store that has room for them
+RANGE = 4096  # slots of a clear
+LEFT = 1000  # slots that aren't old
+ROUNDS = 3
 
 
-def fill(old):
-    """Makes a store and, where sqlite3 is installed, a database of so many old values and some that stay."""
-    values = list(walk(old + YOUNG))
-    build_store(f"filled{old}.store", OLD[old], lines_of_series(values))
-    with open(f"before{old}", "w") as file:
-        file.write(f"before s {old}\n")
-    if shutil.which("sqlite3"):
-        with open(f"filled{old}.csv", "w") as file:
-            file.writelines(f"{time},{value}\n" for time, value in enumerate(values))
-        subprocess.run(["sqlite3", f"filled{old}.sqlite", SETTING, ".mode csv", f".import filled{old}.csv points", "pragma wal_checkpoint(truncate);"],
-                       stdout=subprocess.DEVNULL, check=True)  # fmt: skip
+def make_database(path, slots):
+    database = sqlite3.connect(path, isolation_level=None)
+    database.execute("pragma journal_mode = wal")
+    database.execute("pragma synchronous = full")
+    database.execute("create table points (series integer, slot integer, value integer, primary key (series, slot)) without rowid")
+    database.execute("begin")
+    database.executemany("insert into points values (0, ?, ?)", enumerate(walk(slots)))
+    database.execute("commit")
+    database.execute("pragma wal_checkpoint(truncate)")
+    database.close()
 
 
-def refill(old):
-    for name in ("retain.sqlite", "retain.sqlite-wal", "retain.sqlite-shm"):
-        if os.path.exists(name):
-            os.remove(name)
-    subprocess.run(["cp", "--sparse=always", f"filled{old}.store", "retain.store"], check=True)
-    if os.path.exists(f"filled{old}.sqlite"):
-        shutil.copy(f"filled{old}.sqlite", "retain.sqlite")
-    os.sync()
-
-
-def measure_old(old):
-    """The runs of each program, and its syncs; and the clears that `retain` tells."""
-    fill(old)
-    programs = {BY_RETAIN: [PROGRAM, "retain.store", "retain"]}
-    if shutil.which("sqlite3"):
-        programs[BY_DELETE] = ["sqlite3", "retain.sqlite", "pragma synchronous = full;", f"delete from points where time < {old};"]
-    runs, syncs = {name: [] for name in programs}, {}
-    for _ in range(ROUNDS):
-        for name, words in programs.items():
-            refill(old)
-            runs[name].append(measure(words, f"before{old}"))
-    for name, words in programs.items():
-        refill(old)
-        syncs[name] = counted_calls(words, f"before{old}", SYNCS)
-    return runs, syncs, int(runs[BY_RETAIN][0][2].split()[1])
+def deletes(path, old, at_once):
+    """Deletes the old slots of a database with a full sync, so many in one transaction."""
+    database = sqlite3.connect(path, isolation_level=None)
+    database.execute("pragma synchronous = full")
+    for begin in range(0, old, at_once):
+        database.execute("delete from points where series = 0 and slot >= ? and slot < ?", (begin, min(begin + at_once, old)))
+    database.close()
 
 
 def measure_retain():
-    print(f"old slots of one series dropped, and {YOUNG} that stay; the least of {ROUNDS} rounds")
-    print(f"{'program':16}{'old slots':>10}{'commits':>9}{'seconds':>9}{'syncs':>7}{'peak MiB':>10}{'time, over sqlite':>19}")
-    for old in OLD:
-        runs, syncs, clears = measure_old(old)
+    print(f"all slots of a series but the last {LEFT}, dropped: the least of {ROUNDS} rounds. `retain`, and sqlite {sqlite3.sqlite_version} with write-ahead log and")
+    print(f"full sync, from Python: {RANGE} slots in one delete, or all")
+    print(f"{'program':14}{'old slots':>11}{'commits':>9}{'syncs':>7}{'seconds':>9}{'peak MiB':>10}")
+    by = [sys.executable, os.path.realpath(__file__)]
+    for slots, blocks in SERIES.items():
+        old = slots - LEFT
+        build_store("full.store", blocks, lines_of_series(list(walk(slots))))
+        make_database("full.sqlite", slots)
+        with open("rules", "w") as file:
+            file.write(f"before s {old}\n")
+        clears = -(-old // RANGE)
+        programs = {
+            "retain": ([PROGRAM, "old.store", "retain"], clears),
+            "sqlite": ([*by, "old.sqlite", str(old), str(RANGE)], clears),
+            "sqlite, all": ([*by, "old.sqlite", str(old), str(old)], 1),
+        }
+
+        def renew():
+            for name in ("old.sqlite-wal", "old.sqlite-shm"):
+                if os.path.exists(name):
+                    os.remove(name)
+            shutil.copy("full.store", "old.store")
+            shutil.copy("full.sqlite", "old.sqlite")
+            os.sync()
+
+        runs, syncs = {name: [] for name in programs}, {}
+        for _ in range(ROUNDS):
+            for name, (words, _) in programs.items():
+                renew()
+                runs[name].append(measure(words, "rules"))
+        for name, (words, _) in programs.items():
+            renew()
+            syncs[name] = counted_calls(words, "rules", SYNCS)
+        if any(not run[2].startswith(b"swept %d " % clears) for run in runs["retain"]):
+            sys.exit("bench: a rule isn't answered by its clears")
         least = least_seconds(runs)
-        for name in runs:
-            commits, count = clears if name == BY_RETAIN else 1, "-" if syncs[name] is None else syncs[name]
-            ratio = f"{least[name] / least[BY_DELETE]:.2f}" if BY_DELETE in least else "-"
-            print(f"{name:16}{old:10}{commits:9}{least[name]:9.2f}{count:>7}{max(run[1] for run in runs[name]):10.1f}{ratio:>19}")
+        for name, (_, commits) in programs.items():
+            peak = max(run[1] for run in runs[name])
+            print(f"{name:14}{old:11}{commits:9}{'-' if syncs[name] is None else syncs[name]:>7}{least[name]:9.3f}{peak:10.1f}")
+        for name in ("full.store", "old.store", "full.sqlite", "old.sqlite"):
+            os.remove(name)
+
+
+if __name__ == "__main__":
+    path, old, at_once = sys.argv[1:]
+    deletes(path, int(old), int(at_once))
