@@ -32,7 +32,7 @@ const ROWS: &str =
 /// Changes of a frame: the place of a byte and its new value, and from where to where the field stands that breaks its rule.
 const BAD_DONE: &str = "4 2 4 5  9 17 5 13";
 
-const BAD_REFUSED: &str = "5 0 5 6  5 22 5 6  5 1 6 14  5 2 14 22";
+const BAD_REFUSED: &str = "5 0 5 6  5 23 5 6  5 1 6 14  5 2 14 22";
 
 const BAD_OPENED: &str = "8 0 5 9  10 0 9 13  10 3 9 13";
 
@@ -139,7 +139,7 @@ fn bad_fields_are_refused_at_their_last_byte(rt: HostRuntime) -> Result<(), Fail
     are_refused(alloc, ROWS, BAD_ROWS)
 }
 
-const GOOD_LENGTHS: [u32; 7] = [5, 9, 18, 27, 84, 139_291, 3_276_884];
+const GOOD_LENGTHS: [u32; 8] = [5, 6, 9, 18, 27, 84, 139_291, 3_276_884];
 
 const BAD_LENGTHS: [u32; 7] = [0, 1, 85, 139_325, 3_276_909, 4_194_305, u32::MAX];
 
