@@ -14,14 +14,14 @@ use Rattle.page_space.specs.declared.txn.Txn.{Txn}
 use Rattle.page_space.specs.Transactions.{left_by}
 use Rattle.tree_walk.specs.Trees.{top_of_page}
 use Rattle.path_repair.specs.Changes.{value_of, slot_at, given, IsChanged}
-use Rattle.path_repair.specs.Costs.{touch, is_new_root, IsSettled, IsUnsettled}
+use Rattle.path_repair.specs.Costs.{touch, is_touched, is_new_root, IsSettled, IsUnsettled}
 use Rattle.path_repair.specs.Sums.{sum_below}
 use Rattle.path_repair.specs.TreePages.{tree_pages, low, page_count, is_stored, IsRooted}
 use Rattle.path_repair.specs.Standing.{AreTold, AreLists, Moved, IsSeen}
 use Rattle.path_repair.proofs.SumLemmas.{sum_none, sum_suc, sum_swap, sum_same, sum_upto, length_join}
 use Rattle.path_repair.proofs.TreeLemmas.{no_pages, no_slots, own_pages, low_fits}
 use Rattle.path_repair.proofs.ListLemmas.{tree_same}
-use Rattle.path_repair.proofs.StayLemmas.{value_none, slot_before, slot_behind, slot_in, value_there, rooted_none, rooted_whole, still_none, untouched}
+use Rattle.path_repair.proofs.StayLemmas.{value_none, slot_before, slot_behind, slot_in, value_there, rooted_none, rooted_whole, still_none, untouched, apart_settles}
 use Rattle.path_repair.proofs.CountLemmas.{count_one, count_slots, truth, none_of, none_is, stored_is, pages_length, count_no, lower_up}
 use Rattle.path_repair.proofs.OpenLemmas.{IsFirst, there, child_below, first_none, first_lower, lower_of, root_above, none_rooted}
 use Rattle.path_repair.proofs.MoveLemmas.{moved_then, moved_more, told_on}
@@ -284,6 +284,13 @@ pub slots_count : (image : Image) (list' : List (Option ℤ)) (height level inde
 slots_count image list' height level index page is =
     let G : ℕ → Type 0 = λ l. 0 + length (tree_pages image (low height l) page) ≡ page_count list' l index in
     subst G (sym is) (omega (arith, ap (λ l. length (tree_pages image l page)) (low_fits height 0 (omega arith)), ap (λ l. length l) (no_slots image page), count_slots (is_stored list') index))
+
+-- a place that no slot of the change is in, and that gets no new root, has its pages already
+pub apart_count : (image : Image) (total first end : ℕ) (values list list' : List (Option ℤ)) (height level index page : ℕ) → AreLists first end values list list' → IsRooted image total list height level index page
+    → is_touched first end level index ≡ false → is_new_root height level index ≡ false → 0 + length (tree_pages image (low height level) page) ≡ page_count list' level index
+apart_count image total first end values list list' height zero index page lists rooted untouched no_root = slots_count image list' height 0 index page refl
+apart_count image total first end values list list' height (suc below) index page lists rooted untouched no_root =
+    omega (arith, settled_count image total first end values list list' height (suc below) below index page refl lists rooted (apart_settles page first end values height (suc below) index untouched no_root))
 
 -- a count of a child failed
 pub count_moved : (told told' told'' : Type 0) (old mid new under under' under'' : View) (s s' s'' : Superblock) (t : Txn) (first end : ℕ) (values : List (Option ℤ)) (height level below index page : ℕ) (bytes : List ℕ) (start pages i child_height child_level child_index child_page : ℕ)

@@ -1,5 +1,5 @@
 -- Pages that stay as they are, and slots.
-use Rattle.std.proofs.Common.{◌≡◌, ◌≢◌, ℕ, ℤ, suc, ◌+◌, ◌-◌, ◌*◌, ◌^◌, ◌<◌, ◌≤◌, ◌&&◌, ◌++◌, Bool, true, false, cond, eqb, ltb, List, slice_get, Option, None, Some, refl, sym, ap, ap₂, subst, arith, inl, inr, ◌∙◌}
+use Rattle.std.proofs.Common.{◌≡◌, ◌≢◌, ℕ, ℤ, zero, suc, ◌+◌, ◌-◌, ◌*◌, ◌^◌, ◌<◌, ◌≤◌, ◌&&◌, ◌++◌, Bool, true, false, cond, eqb, ltb, List, slice_get, Option, None, Some, refl, sym, ap, ap₂, subst, arith, inl, inr, ◌∙◌}
 use Rattle.std.proofs.lemmas.Bool.{cases_lt, lt-ltb, le-ltb, le-leb, lt-leb, eq-eqb}
 use Rattle.std.proofs.lemmas.Bool.Decides.{eqb_tells}
 use Rattle.block_disk.specs.View.{Image}
@@ -178,6 +178,40 @@ settled_at count image s first end values list list' height level below index pa
     let S : ℕ → Type 0 = λ l. IsSettled page first end values height l index in
     let R : ℕ → Type 0 = λ l. IsRepaired count image image s list' l index page top others in
     subst R (sym is) (settled count image s first end values list list' height below index page top others lists (subst P is placed) (subst S is stays))
+
+-- a slot that is in no changed range
+slot_apart : (first end : ℕ) (values : List (Option ℤ)) (i : ℕ) (old : Option ℤ) → is_touched first end 0 i ≡ false → new_slot first end values i old ≡ old
+slot_apart first end values i old apart = elim (cases_lt i first) [
+  | inl before ↦ slot_before first end values i old before
+  | inr from ↦ elim (cases_lt i end) [
+    | inl to ↦ absurd (both (is_touched first end 0 i) (touched_at first end 0 i i from to (omega arith) (omega arith)) apart)
+    | inr behind ↦ slot_behind first end values i old from behind
+  ]
+]
+
+-- a slot has no page
+rooted_slot : (image : Image) (total : ℕ) (list : List (Option ℤ)) (height index page : ℕ) → IsRooted image total list height 0 index page → page ≡ 0
+rooted_slot image total list height index page (inl whole) = whole.tree
+rooted_slot image total list height index page (inr lower) = absurd (omega (arith, lower.above))
+
+-- a range that no changed slot is in, and that gets no new root, settles whatever its page is
+pub apart_settles : (page first end : ℕ) (values : List (Option ℤ)) (height level index : ℕ) → is_touched first end level index ≡ false → is_new_root height level index ≡ false → IsSettled page first end values height level index
+apart_settles page first end values height level index untouched no_root = record {
+  nothing = λ none new. both (is_touched first end level index) (new_touched first end values level index new) untouched;
+  untouched = λ some. untouched;
+  no_root = λ some. no_root;
+}
+
+-- and stays as it is, a slot too
+pub apart_repaired : (count : ℕ) (image : Image) (s : Superblock) (first end : ℕ) (values list list' : List (Option ℤ)) (height level index page : ℕ) (top : Option Span) (others : List ℕ) → AreLists first end values list list'
+    → is_touched first end level index ≡ false → is_new_root height level index ≡ false
+    → IsPlaced count image s list list' height level index page top others → IsRepaired count image image s list' level index page top others
+apart_repaired count image s first end values list list' height zero index page top others lists untouched no_root placed =
+    let R : ℕ → Type 0 = λ p. IsRepaired count image image s list' 0 index p top others in
+    subst R (sym (rooted_slot image s.total list height index page placed.rooted))
+    (slot_repaired count image s first end values list list' height index page top top others lists placed (λ old is. is ∙ ap (λ x. span_of_slot x) (sym (slot_apart first end values index old untouched))))
+apart_repaired count image s first end values list list' height (suc level) index page top others lists untouched no_root placed =
+    settled count image s first end values list list' height level index page top others lists placed (apart_settles page first end values height (suc level) index untouched no_root)
 
 pub slot_repaired_at : (count : ℕ) (image : Image) (s : Superblock) (first end : ℕ) (values list list' : List (Option ℤ)) (height level index page : ℕ) (top top' : Option Span) (others : List ℕ) → level ≡ 0 → AreLists first end values list list'
     → IsPlaced count image s list list' height level index page top others → ((old : Option ℤ) → top ≡ span_of_slot old → top' ≡ span_of_slot (new_slot first end values index old))

@@ -33,7 +33,7 @@ pub(crate) struct Root {
 }
 
 impl Place {
-    ghost use Rattle.std.specs.Prelude.{◌≡◌, ◌+◌, ◌*◌, ◌^◌, ◌<◌, ◌≤◌, IsTrue, false, ◌||◌};
+    ghost use Rattle.std.specs.Prelude.{◌≡◌, ◌+◌, ◌*◌, ◌^◌, ◌<◌, ◌≤◌, IsTrue, true, false, ◌||◌};
 
     /// The place of a child, 0 to 127, of the page here.
     pub(crate) fn child(self, child: u8) -> Place
@@ -80,6 +80,17 @@ impl Place {
         self.index == 0 && self.height < self.level
     }
 
+    /// Whether none of the slots is in its range, and the tree gets no new root here.
+    pub(crate) fn is_apart(self, slots: Slots) -> bool
+        requires level { self.level ≤ 5 }
+        requires small { end_slot (top_of_page self.level self.index) < 2 ^ 63 }
+        ensures untouched { IsTrue result → is_touched slots.first slots.end self.level self.index ≡ false }
+        ensures no_root { IsTrue result → is_new_root self.height self.level self.index ≡ false }
+        ensures passed { result ≡ false → (is_touched slots.first slots.end self.level self.index || is_new_root self.height self.level self.index) ≡ true }
+    {
+        !self.is_touched(slots) && !self.is_new_root()
+    }
+
     /// Whether a slot of its range is given a value.
     fn has_new(self, slots: Slots, values: &[Option<i64>]) -> bool
         requires level { self.level ≤ 5 }
@@ -108,7 +119,7 @@ impl Place {
         if page == 0 {
             return !self.has_new(slots, values);
         }
-        !self.is_touched(slots) && !self.is_new_root()
+        self.is_apart(slots)
     }
 }
 

@@ -93,8 +93,11 @@ pub(crate) fn new_pages<P: Pages>(
     let mut bytes = [0; BLOCK];
     let mut pages = look(space, txn, at, page, &mut bytes)?;
     for child in 0..128 {
-        let below = child_of(&bytes, child);
-        let more = new_pages(space, txn, at.child(child), below, slots, values)?;
+        let below = at.child(child);
+        if below.is_apart(slots) {
+            continue;
+        }
+        let more = new_pages(space, txn, below, child_of(&bytes, child), slots, values)?;
         pages += more;
     }
     Ok(pages)

@@ -106,8 +106,12 @@ pub(crate) fn repair<P: Pages>(
     let mut spans = PageSpans::new();
     let number = open_page(space, txn, at, root, &mut bytes, &mut spans)?;
     for child in 0..128 {
+        let below = at.child(child);
+        if below.is_apart(slots) {
+            continue;
+        }
         let old = child_root(&bytes, &spans, child);
-        let next = repair(space, txn, at.child(child), old, slots, values)?;
+        let next = repair(space, txn, below, old, slots, values)?;
         set_root(&mut bytes, &mut spans, child, next);
     }
     Ok(close_page(space, txn, at, number, &mut bytes, &mut spans))

@@ -1,10 +1,11 @@
 use Rattle.std.proofs.Common.{rules, ◌≡◌, ◌+◌, ◌-◌, ◌^◌, ℕ, suc, refl, sym, ap, subst, arith, ◌∙◌}
 use Rattle.page_space.specs.declared.superblock.Superblock.{Superblock}
 use Rattle.page_space.specs.Transactions.{left_by}
+use Rattle.node_page.specs.Fields.{child_at}
 use Rattle.tree_walk.proofs.StepLemmas.{error_so}
-use Rattle.path_repair.proofs.MoveLemmas.{moved_more, told_on, touch_level, child_small}
+use Rattle.path_repair.proofs.MoveLemmas.{moved_more, moved_none, told_on, touch_level, child_small}
 use Rattle.path_repair.proofs.RepairLemmas.{passed_below}
-use Rattle.path_repair.proofs.SeenLemmas.{slots_count, settled_count, passed_stored, count_start, count_on, count_child, count_end, count_moved, count_room}
+use Rattle.path_repair.proofs.SeenLemmas.{IsCounting, slots_count, settled_count, apart_count, passed_stored, count_start, count_on, count_child, count_end, count_moved, count_room}
 use Rattle.path_repair.specs.declared.errors.RepairError.{RepairError}
 use Rattle.path_repair.specs.Damage.{IsUnfitBelow}
 use Rattle.path_repair.specs.Keeping.{look_most, count_most, root_level}
@@ -49,20 +50,20 @@ pub new_pages-requires : goal.new_pages-requires
 new_pages-requires g t c κs within =
     let depth : (c.args.at.level - 1) + 1 ≡ c.args.at.level = omega (arith, c.if-at-eq0.false) in
     let whole = touch_level c.args.slots.first c.args.slots.end c.args.at.height c.args.at.level (c.args.at.level - 1) c.args.at.index depth (c.if-is_settled.ensures.unsettled refl).passed in
-    let child_level : c.child.result.level ≡ c.args.at.level - 1 = omega (arith, c.child.ensures.level) in
+    let child_level : c.child-below.result.level ≡ c.args.at.level - 1 = omega (arith, c.child-below.ensures.level) in
     let way = c.loop-child.invariant in (
-      omega (arith, c.child.ensures.level),
+      omega (arith, c.child-below.ensures.level),
       (
         search rules,
         (
           way.moved.reads.fit c.requires.sound,
           (
-            omega (arith, c.child.ensures.level, c.requires.level),
+            omega (arith, c.child-below.ensures.level, c.requires.level),
             (
-              child_small c.args.at.level c.child.result.level c.args.at.index c.loop-child.child c.child.result.index (2 ^ 35) c.child.ensures.level c.child.ensures.index c.loop-child-test.true c.requires.small,
+              child_small c.args.at.level c.child-below.result.level c.args.at.index c.loop-child.child c.child-below.result.index (2 ^ 35) c.child-below.ensures.level c.child-below.ensures.index c.loop-child-test.true c.requires.small,
               (
-                omega (arith, c.child_of-below.ensures, c.in_ok-pages.ensures.form.below c.loop-child.child c.loop-child-test.true, ap (λ (s : Superblock). s.total) way.moved.over.superblock),
-                omega (arith, count_room c.args.slots.first c.args.slots.end c.args.at.height c.args.at.level (c.args.at.level - 1) c.args.at.index c.loop-child.child c.child.result.height c.child.result.level c.child.result.index c.loop-child-test.true c.child.ensures.height child_level c.child.ensures.index whole c.requires.room),
+                omega (arith, c.child_of.ensures, c.in_ok-pages.ensures.form.below c.loop-child.child c.loop-child-test.true, ap (λ (s : Superblock). s.total) way.moved.over.superblock),
+                omega (arith, count_room c.args.slots.first c.args.slots.end c.args.at.height c.args.at.level (c.args.at.level - 1) c.args.at.index c.loop-child.child c.child-below.result.height c.child-below.result.level c.child-below.result.index c.loop-child-test.true c.child-below.ensures.height child_level c.child-below.ensures.index whole c.requires.room),
               ),
             ),
           ),
@@ -73,23 +74,23 @@ new_pages-requires g t c κs within =
 pub returns-in_err-more-clause-moved : goal.returns-in_err-more-clause-moved
 returns-in_err-more-clause-moved g t c =
     let is : c.args.at.level ≡ suc (c.args.at.level - 1) = omega (arith, c.if-at-eq0.false) in
-    let child_level : c.child.result.level ≡ c.args.at.level - 1 = omega (arith, c.child.ensures.level) in
+    let child_level : c.child-below.result.level ≡ c.args.at.level - 1 = omega (arith, c.child-below.ensures.level) in
     let most = look_children c.args.slots.first c.args.slots.end c.args.at.height c.args.at.level (c.args.at.level - 1) c.args.at.index c.args.page c.look.new.bytes is (c.if-is_settled.ensures.unsettled refl).passed c.in_ok-pages.ensures.opened in
-    count_moved (shown.IsTold c.args.space.now) (shown.IsTold c.loop-child.space) (shown.IsTold c.new_pages.new.space) (shown.view c.args.space.now) (shown.view c.loop-child.space) (shown.view c.new_pages.new.space) (shown.under c.args.space.now) (shown.under c.loop-child.space) (shown.under c.new_pages.new.space) (shown.numbers c.args.space.now) (shown.numbers c.loop-child.space) (shown.numbers c.new_pages.new.space) c.args.txn.now c.args.slots.first c.args.slots.end c.args.values.now c.args.at.height c.args.at.level (c.args.at.level - 1) c.args.at.index c.args.page c.look.new.bytes c.in_ok-pages.pages c.loop-child.pages c.loop-child.child c.child.result.height c.child.result.level c.child.result.index c.child_of-below.result
-    c.loop-child.invariant c.loop-child-test.true c.child.ensures.height child_level c.child.ensures.index c.child_of-below.ensures c.new_pages.ensures.moved most
+    count_moved (shown.IsTold c.args.space.now) (shown.IsTold c.loop-child.space) (shown.IsTold c.new_pages.new.space) (shown.view c.args.space.now) (shown.view c.loop-child.space) (shown.view c.new_pages.new.space) (shown.under c.args.space.now) (shown.under c.loop-child.space) (shown.under c.new_pages.new.space) (shown.numbers c.args.space.now) (shown.numbers c.loop-child.space) (shown.numbers c.new_pages.new.space) c.args.txn.now c.args.slots.first c.args.slots.end c.args.values.now c.args.at.height c.args.at.level (c.args.at.level - 1) c.args.at.index c.args.page c.look.new.bytes c.in_ok-pages.pages c.loop-child.pages c.loop-child.child c.child-below.result.height c.child-below.result.level c.child-below.result.index c.child_of.result
+    c.loop-child.invariant c.loop-child-test.true c.child-below.ensures.height child_level c.child-below.ensures.index c.child_of.ensures c.new_pages.ensures.moved most
 
 pub returns-in_err-more-clause-unfit : goal.returns-in_err-more-clause-unfit
 returns-in_err-more-clause-unfit g t c = λ base told.
     let is : c.args.at.level ≡ suc (c.args.at.level - 1) = omega (arith, c.if-at-eq0.false) in
-    let child_level : c.child.result.level ≡ c.args.at.level - 1 = omega (arith, c.child.ensures.level) in
+    let child_level : c.child-below.result.level ≡ c.args.at.level - 1 = omega (arith, c.child-below.ensures.level) in
     let way = c.loop-child.invariant in
     let image = left_by c.args.txn.now base in
     let total_is : (shown.total c.loop-child.space) ≡ (shown.total c.args.space.now) = ap (λ (s : Superblock). s.total) way.moved.over.superblock in
-    let T : ℕ → Type 0 = λ n. IsUnfitBelow image c.args.txn.now.superblock.fresh n (root_level c.child.result.height c.child.result.level c.child.result.index) c.child_of-below.result c.in_err-more.field-0.0 in
+    let T : ℕ → Type 0 = λ n. IsUnfitBelow image c.args.txn.now.superblock.fresh n (root_level c.child-below.result.height c.child-below.result.level c.child-below.result.index) c.child_of.result c.in_err-more.field-0.0 in
     let U : RepairError → Type 0 = λ e. IsUnfitBelow image c.args.txn.now.superblock.fresh (shown.total c.args.space.now) (root_level c.args.at.height c.args.at.level c.args.at.index) c.args.page e in
     error_so _ U c.from_residual-in_err-more.result c.from_residual-in_err-more.ensures.1
     (λ e same. subst U (sym same)
-    (unfit_up image c.args.txn.now.superblock.fresh (shown.total c.args.space.now) c.args.at.height c.args.at.level (c.args.at.level - 1) c.args.at.index c.loop-child.child c.child.result.height c.child.result.level c.child.result.index c.args.page c.child_of-below.result c.look.new.bytes c.in_err-more.field-0.0 is c.loop-child-test.true c.child.ensures.height child_level c.child.ensures.index c.child_of-below.ensures
+    (unfit_up image c.args.txn.now.superblock.fresh (shown.total c.args.space.now) c.args.at.height c.args.at.level (c.args.at.level - 1) c.args.at.index c.loop-child.child c.child-below.result.height c.child-below.result.level c.child-below.result.index c.args.page c.child_of.result c.look.new.bytes c.in_err-more.field-0.0 is c.loop-child-test.true c.child-below.ensures.height child_level c.child-below.ensures.index c.child_of.ensures
     c.in_ok-pages.ensures.opened (c.in_ok-pages.ensures.as_told base told)
     (subst T total_is (c.in_err-more.ensures.unfit base
     (told_on (look_most c.args.at.height c.args.at.level c.args.at.index c.args.page + counted_below c.look.new.bytes c.args.slots.first c.args.slots.end c.args.at.height (c.args.at.level - 1) c.args.at.index c.loop-child.child) (shown.IsTold c.args.space.now) (shown.IsTold c.loop-child.space) (shown.view c.args.space.now) (shown.view c.loop-child.space) base way.moved.reads told)))))
@@ -97,19 +98,42 @@ returns-in_err-more-clause-unfit g t c = λ base told.
 pub returns-in_err-more-clause-only_faults : goal.returns-in_err-more-clause-only_faults
 returns-in_err-more-clause-only_faults g t c = λ base list list' told lists fills rooted.
     let is : c.args.at.level ≡ suc (c.args.at.level - 1) = omega (arith, c.if-at-eq0.false) in
-    let child_level : c.child.result.level ≡ c.args.at.level - 1 = omega (arith, c.child.ensures.level) in
+    let child_level : c.child-below.result.level ≡ c.args.at.level - 1 = omega (arith, c.child-below.ensures.level) in
     let way = c.loop-child.invariant in
     error_so _ _ c.from_residual-in_err-more.result c.from_residual-in_err-more.ensures.1
     (λ e same. same ∙ c.in_err-more.ensures.only_faults base list list'
     (told_on (look_most c.args.at.height c.args.at.level c.args.at.index c.args.page + counted_below c.look.new.bytes c.args.slots.first c.args.slots.end c.args.at.height (c.args.at.level - 1) c.args.at.index c.loop-child.child) (shown.IsTold c.args.space.now) (shown.IsTold c.loop-child.space) (shown.view c.args.space.now) (shown.view c.loop-child.space) base way.moved.reads told) lists fills
-    (count_child (shown.IsTold c.args.space.now) (shown.IsTold c.loop-child.space) (shown.view c.args.space.now) (shown.view c.loop-child.space) (shown.under c.args.space.now) (shown.under c.loop-child.space) (shown.numbers c.args.space.now) (shown.numbers c.loop-child.space) c.args.txn.now c.args.slots.first c.args.slots.end c.args.values.now c.args.at.height c.args.at.level (c.args.at.level - 1) c.args.at.index c.args.page c.look.new.bytes c.in_ok-pages.pages c.loop-child.pages c.loop-child.child c.child.result.height c.child.result.level c.child.result.index c.child_of-below.result way c.loop-child-test.true c.child.ensures.height child_level c.child.ensures.index c.child_of-below.ensures base list (c.in_ok-pages.ensures.seen base list (c.args.at.level - 1) told is rooted)))
+    (count_child (shown.IsTold c.args.space.now) (shown.IsTold c.loop-child.space) (shown.view c.args.space.now) (shown.view c.loop-child.space) (shown.under c.args.space.now) (shown.under c.loop-child.space) (shown.numbers c.args.space.now) (shown.numbers c.loop-child.space) c.args.txn.now c.args.slots.first c.args.slots.end c.args.values.now c.args.at.height c.args.at.level (c.args.at.level - 1) c.args.at.index c.args.page c.look.new.bytes c.in_ok-pages.pages c.loop-child.pages c.loop-child.child c.child-below.result.height c.child-below.result.level c.child-below.result.index c.child_of.result way c.loop-child-test.true c.child-below.ensures.height child_level c.child-below.ensures.index c.child_of.ensures base list (c.in_ok-pages.ensures.seen base list (c.args.at.level - 1) told is rooted)))
+
+pub is_apart-requires-clause-small : goal.is_apart-requires-clause-small
+is_apart-requires-clause-small g t c =
+    omega (arith, child_small c.args.at.level c.child-below.result.level c.args.at.index c.loop-child.child c.child-below.result.index (2 ^ 35) c.child-below.ensures.level c.child-below.ensures.index c.loop-child-test.true c.requires.small)
+
+pub loop-child-preserved-then-is_apart : goal.loop-child-preserved-then-is_apart
+loop-child-preserved-then-is_apart g t c =
+    let is : c.args.at.level ≡ suc (c.args.at.level - 1) = omega (arith, c.if-at-eq0.false) in
+    let child_level : c.child-below.result.level ≡ c.args.at.level - 1 = omega (arith, c.child-below.ensures.level) in
+    let untouched = c.if-is_apart.ensures.untouched refl in
+    let no_root = c.if-is_apart.ensures.no_root refl in
+    let page = child_at c.look.new.bytes c.loop-child.child in
+    let most = count_most page c.args.slots.first c.args.slots.end c.child-below.result.height c.child-below.result.level c.child-below.result.index in
+    let N : ℕ → Type 0 = λ n. IsCounting (shown.IsTold c.args.space.now) (shown.IsTold c.loop-child.space) (shown.view c.args.space.now) (shown.view c.loop-child.space) (shown.under c.args.space.now) (shown.under c.loop-child.space) (shown.numbers c.args.space.now) (shown.numbers c.loop-child.space) c.args.txn.now c.args.slots.first c.args.slots.end c.args.values.now c.args.at.height c.args.at.level (c.args.at.level - 1) c.args.at.index c.args.page c.look.new.bytes c.in_ok-pages.pages n (c.loop-child.child + 1) in
+    let none : c.loop-child.pages + 0 ≡ c.loop-child.pages = omega arith in
+    subst N none
+    (count_on (shown.IsTold c.args.space.now) (shown.IsTold c.loop-child.space) (shown.IsTold c.loop-child.space) (shown.view c.args.space.now) (shown.view c.loop-child.space) (shown.view c.loop-child.space) (shown.under c.args.space.now) (shown.under c.loop-child.space) (shown.under c.loop-child.space) (shown.numbers c.args.space.now) (shown.numbers c.loop-child.space) (shown.numbers c.loop-child.space) c.args.txn.now c.args.slots.first c.args.slots.end c.args.values.now c.args.at.height c.args.at.level (c.args.at.level - 1) c.args.at.index c.args.page c.look.new.bytes c.in_ok-pages.pages c.loop-child.pages 0 c.loop-child.child c.child-below.result.height c.child-below.result.level c.child-below.result.index page
+    c.loop-child.invariant c.loop-child-test.true c.child-below.ensures.height child_level c.child-below.ensures.index refl
+    (moved_more 0 most 0 0 (shown.IsTold c.loop-child.space) (shown.IsTold c.loop-child.space) (shown.view c.loop-child.space) (shown.view c.loop-child.space) (shown.under c.loop-child.space) (shown.under c.loop-child.space) (shown.numbers c.loop-child.space) (shown.numbers c.loop-child.space) c.args.txn.now c.args.txn.now (omega arith) (omega arith)
+    (moved_none (shown.IsTold c.loop-child.space) (shown.view c.loop-child.space) (shown.under c.loop-child.space) (shown.numbers c.loop-child.space) c.args.txn.now))
+    (omega arith)
+    (λ base list list' told lists fills rooted. apart_count (left_by c.args.txn.now base) (shown.total c.loop-child.space) c.args.slots.first c.args.slots.end c.args.values.now list list' c.child-below.result.height c.child-below.result.level c.child-below.result.index page lists rooted untouched no_root)
+    (λ base list told rooted. c.in_ok-pages.ensures.seen base list (c.args.at.level - 1) told is rooted))
 
 pub loop-child-preserved : goal.loop-child-preserved
 loop-child-preserved g t c =
     let is : c.args.at.level ≡ suc (c.args.at.level - 1) = omega (arith, c.if-at-eq0.false) in
-    let child_level : c.child.result.level ≡ c.args.at.level - 1 = omega (arith, c.child.ensures.level) in
-    count_on (shown.IsTold c.args.space.now) (shown.IsTold c.loop-child.space) (shown.IsTold c.new_pages.new.space) (shown.view c.args.space.now) (shown.view c.loop-child.space) (shown.view c.new_pages.new.space) (shown.under c.args.space.now) (shown.under c.loop-child.space) (shown.under c.new_pages.new.space) (shown.numbers c.args.space.now) (shown.numbers c.loop-child.space) (shown.numbers c.new_pages.new.space) c.args.txn.now c.args.slots.first c.args.slots.end c.args.values.now c.args.at.height c.args.at.level (c.args.at.level - 1) c.args.at.index c.args.page c.look.new.bytes c.in_ok-pages.pages c.loop-child.pages c.in_ok-more.more c.loop-child.child c.child.result.height c.child.result.level c.child.result.index c.child_of-below.result
-    c.loop-child.invariant c.loop-child-test.true c.child.ensures.height child_level c.child.ensures.index c.child_of-below.ensures c.new_pages.ensures.moved c.in_ok-more.ensures.few
+    let child_level : c.child-below.result.level ≡ c.args.at.level - 1 = omega (arith, c.child-below.ensures.level) in
+    count_on (shown.IsTold c.args.space.now) (shown.IsTold c.loop-child.space) (shown.IsTold c.new_pages.new.space) (shown.view c.args.space.now) (shown.view c.loop-child.space) (shown.view c.new_pages.new.space) (shown.under c.args.space.now) (shown.under c.loop-child.space) (shown.under c.new_pages.new.space) (shown.numbers c.args.space.now) (shown.numbers c.loop-child.space) (shown.numbers c.new_pages.new.space) c.args.txn.now c.args.slots.first c.args.slots.end c.args.values.now c.args.at.height c.args.at.level (c.args.at.level - 1) c.args.at.index c.args.page c.look.new.bytes c.in_ok-pages.pages c.loop-child.pages c.in_ok-more.more c.loop-child.child c.child-below.result.height c.child-below.result.level c.child-below.result.index c.child_of.result
+    c.loop-child.invariant c.loop-child-test.true c.child-below.ensures.height child_level c.child-below.ensures.index c.child_of.ensures c.new_pages.ensures.moved c.in_ok-more.ensures.few
     (λ base list list' told lists fills rooted. c.in_ok-more.ensures.counts base list list' told lists fills rooted)
     (λ base list told rooted. c.in_ok-pages.ensures.seen base list (c.args.at.level - 1) told is rooted)
 
@@ -140,5 +164,5 @@ pub overflow_add-pages : goal.overflow_add-pages
 overflow_add-pages g t c =
     let depth : (c.args.at.level - 1) + 1 ≡ c.args.at.level = omega (arith, c.if-at-eq0.false) in
     let whole = touch_level c.args.slots.first c.args.slots.end c.args.at.height c.args.at.level (c.args.at.level - 1) c.args.at.index depth (c.if-is_settled.ensures.unsettled refl).passed in
-    let child_level : c.child.result.level ≡ c.args.at.level - 1 = omega (arith, c.child.ensures.level) in
-    omega (arith, c.loop-child.invariant.few, c.in_ok-more.ensures.few, count_room c.args.slots.first c.args.slots.end c.args.at.height c.args.at.level (c.args.at.level - 1) c.args.at.index c.loop-child.child c.child.result.height c.child.result.level c.child.result.index c.loop-child-test.true c.child.ensures.height child_level c.child.ensures.index whole c.requires.room)
+    let child_level : c.child-below.result.level ≡ c.args.at.level - 1 = omega (arith, c.child-below.ensures.level) in
+    omega (arith, c.loop-child.invariant.few, c.in_ok-more.ensures.few, count_room c.args.slots.first c.args.slots.end c.args.at.height c.args.at.level (c.args.at.level - 1) c.args.at.index c.loop-child.child c.child-below.result.height c.child-below.result.level c.child-below.result.index c.loop-child-test.true c.child-below.ensures.height child_level c.child-below.ensures.index whole c.requires.room)

@@ -6,8 +6,8 @@ use Rattle.page_spans.specs.Heaps.{span_at}
 use Rattle.tree_walk.proofs.StepLemmas.{error_so}
 use Rattle.path_repair.specs.Costs.{touch}
 use Rattle.path_repair.specs.Standing.{IsPartWay}
-use Rattle.path_repair.proofs.StayLemmas.{settled_at, slot_repaired_at}
-use Rattle.path_repair.proofs.MoveLemmas.{moved_more, told_on, touch_level, child_small}
+use Rattle.path_repair.proofs.StayLemmas.{settled_at, slot_repaired_at, apart_repaired}
+use Rattle.path_repair.proofs.MoveLemmas.{moved_more, moved_none, told_on, touch_level, child_small}
 use Rattle.path_repair.proofs.PartLemmas.{rest}
 use Rattle.path_repair.proofs.RepairLemmas.{way_start, way_child, way_on, way_moved, way_room, way_end, way_last, gives, passed_below}
 use Rattle.path_repair.specs.declared.errors.RepairError.{RepairError}
@@ -61,9 +61,9 @@ pub repair-requires : goal.repair-requires
 repair-requires g t c κs within =
     let depth : (c.args.at.level - 1) + 1 ≡ c.args.at.level = omega (arith, c.if-at-eq0.false) in
     let whole = touch_level c.args.slots.first c.args.slots.end c.args.at.height c.args.at.level (c.args.at.level - 1) c.args.at.index depth (c.if-is_settled.ensures.unsettled refl).passed in
-    let child_level : c.child.result.level ≡ c.args.at.level - 1 = omega (arith, c.child.ensures.level) in
+    let child_level : c.child-below.result.level ≡ c.args.at.level - 1 = omega (arith, c.child-below.ensures.level) in
     let way = c.loop-child.invariant.0 in (
-      omega (arith, c.child.ensures.level),
+      omega (arith, c.child-below.ensures.level),
       (
         search rules,
         (
@@ -71,17 +71,17 @@ repair-requires g t c κs within =
           (
             omega (arith, way.moved.total, c.requires.total, ap (λ (s : Superblock). s.total) way.moved.over.superblock),
             (
-              omega (arith, c.child.ensures.level, c.requires.level),
+              omega (arith, c.child-below.ensures.level, c.requires.level),
               (
-                child_small c.args.at.level c.child.result.level c.args.at.index c.loop-child.child c.child.result.index (2 ^ 35) c.child.ensures.level c.child.ensures.index c.loop-child-test.true c.requires.small,
+                child_small c.args.at.level c.child-below.result.level c.args.at.index c.loop-child.child c.child-below.result.index (2 ^ 35) c.child-below.ensures.level c.child-below.ensures.index c.loop-child-test.true c.requires.small,
                 (
                   omega (arith, c.child_root-old.ensures.page, way.form.below c.loop-child.child c.loop-child-test.true, ap (λ (s : Superblock). s.total) way.moved.over.superblock),
                   (
                     c.child_root-old.ensures.proper,
                     (
                       c.requires.values,
-                      way_room (shown.IsTold c.args.space.now) (shown.IsTold c.loop-child.space) (shown.view c.args.space.now) (shown.view c.loop-child.space) (shown.under c.args.space.now) (shown.under c.loop-child.space) (shown.numbers c.args.space.now) (shown.numbers c.loop-child.space) c.args.txn.now c.loop-child.txn c.args.slots.first c.args.slots.end c.args.values.now c.args.at.height c.args.at.level (c.args.at.level - 1) c.args.at.index c.args.root.page c.args.root.span c.in_ok-number.number c.loop-child.bytes (span_at c.loop-child.spans) c.loop-child.child c.child.result.height c.child.result.level c.child.result.index
-                          way c.loop-child-test.true c.child.ensures.height child_level c.child.ensures.index whole c.requires.room,
+                      way_room (shown.IsTold c.args.space.now) (shown.IsTold c.loop-child.space) (shown.view c.args.space.now) (shown.view c.loop-child.space) (shown.under c.args.space.now) (shown.under c.loop-child.space) (shown.numbers c.args.space.now) (shown.numbers c.loop-child.space) c.args.txn.now c.loop-child.txn c.args.slots.first c.args.slots.end c.args.values.now c.args.at.height c.args.at.level (c.args.at.level - 1) c.args.at.index c.args.root.page c.args.root.span c.in_ok-number.number c.loop-child.bytes (span_at c.loop-child.spans) c.loop-child.child c.child-below.result.height c.child-below.result.level c.child-below.result.index
+                          way c.loop-child-test.true c.child-below.ensures.height child_level c.child-below.ensures.index whole c.requires.room,
                     ),
                   ),
                 ),
@@ -96,37 +96,65 @@ pub returns-in_err-next-clause-moved : goal.returns-in_err-next-clause-moved
 returns-in_err-next-clause-moved g t c =
     let depth : (c.args.at.level - 1) + 1 ≡ c.args.at.level = omega (arith, c.if-at-eq0.false) in
     let whole = touch_level c.args.slots.first c.args.slots.end c.args.at.height c.args.at.level (c.args.at.level - 1) c.args.at.index depth (c.if-is_settled.ensures.unsettled refl).passed in
-    let child_level : c.child.result.level ≡ c.args.at.level - 1 = omega (arith, c.child.ensures.level) in
-    way_moved (shown.IsTold c.args.space.now) (shown.IsTold c.loop-child.space) (shown.IsTold c.repair.new.space) (shown.view c.args.space.now) (shown.view c.loop-child.space) (shown.view c.repair.new.space) (shown.under c.args.space.now) (shown.under c.loop-child.space) (shown.under c.repair.new.space) (shown.numbers c.args.space.now) (shown.numbers c.loop-child.space) (shown.numbers c.repair.new.space) c.args.txn.now c.loop-child.txn c.repair.new.txn c.args.slots.first c.args.slots.end c.args.values.now c.args.at.height c.args.at.level (c.args.at.level - 1) c.args.at.index c.args.root.page c.args.root.span c.in_ok-number.number c.loop-child.bytes (span_at c.loop-child.spans) c.loop-child.child c.child.result.height c.child.result.level c.child.result.index
-    c.loop-child.invariant.0 c.loop-child-test.true c.child.ensures.height child_level c.child.ensures.index c.repair.ensures.moved whole
+    let child_level : c.child-below.result.level ≡ c.args.at.level - 1 = omega (arith, c.child-below.ensures.level) in
+    way_moved (shown.IsTold c.args.space.now) (shown.IsTold c.loop-child.space) (shown.IsTold c.repair.new.space) (shown.view c.args.space.now) (shown.view c.loop-child.space) (shown.view c.repair.new.space) (shown.under c.args.space.now) (shown.under c.loop-child.space) (shown.under c.repair.new.space) (shown.numbers c.args.space.now) (shown.numbers c.loop-child.space) (shown.numbers c.repair.new.space) c.args.txn.now c.loop-child.txn c.repair.new.txn c.args.slots.first c.args.slots.end c.args.values.now c.args.at.height c.args.at.level (c.args.at.level - 1) c.args.at.index c.args.root.page c.args.root.span c.in_ok-number.number c.loop-child.bytes (span_at c.loop-child.spans) c.loop-child.child c.child-below.result.height c.child-below.result.level c.child-below.result.index
+    c.loop-child.invariant.0 c.loop-child-test.true c.child-below.ensures.height child_level c.child-below.ensures.index c.repair.ensures.moved whole
 
 pub returns-in_err-next-clause-only_faults : goal.returns-in_err-next-clause-only_faults
 returns-in_err-next-clause-only_faults g t c = λ base count list list' others told lists placed.
-    let child_level : c.child.result.level ≡ c.args.at.level - 1 = omega (arith, c.child.ensures.level) in
+    let child_level : c.child-below.result.level ≡ c.args.at.level - 1 = omega (arith, c.child-below.ensures.level) in
     let way = c.loop-child.invariant.0 in
     error_so _ _ c.from_residual-in_err-next.result c.from_residual-in_err-next.ensures.1
     (λ e same. same ∙ c.in_err-next.ensures.only_faults base count list list' (c.in_ok-number.number ∷ (rest (left_by c.loop-child.txn base) c.args.at.height (c.args.at.level - 1) c.loop-child.bytes c.loop-child.child ++ others))
     (told_on (1 + passed_below c.args.slots.first c.args.slots.end c.args.at.height (c.args.at.level - 1) c.args.at.index c.loop-child.child) (shown.IsTold c.args.space.now) (shown.IsTold c.loop-child.space) (shown.view c.args.space.now) (shown.view c.loop-child.space) base way.moved.reads told) lists
-    (way_child (shown.IsTold c.args.space.now) (shown.IsTold c.loop-child.space) (shown.view c.args.space.now) (shown.view c.loop-child.space) (shown.under c.args.space.now) (shown.under c.loop-child.space) (shown.numbers c.args.space.now) (shown.numbers c.loop-child.space) c.args.txn.now c.loop-child.txn c.args.slots.first c.args.slots.end c.args.values.now c.args.at.height c.args.at.level (c.args.at.level - 1) c.args.at.index c.args.root.page c.args.root.span c.in_ok-number.number c.loop-child.bytes (span_at c.loop-child.spans) c.loop-child.child c.child.result.height c.child.result.level c.child.result.index c.child_root-old.result.page c.child_root-old.result.span
-    way c.loop-child-test.true c.child.ensures.height child_level c.child.ensures.index c.child_root-old.ensures.page c.child_root-old.ensures.span base count list list' others told lists placed))
+    (way_child (shown.IsTold c.args.space.now) (shown.IsTold c.loop-child.space) (shown.view c.args.space.now) (shown.view c.loop-child.space) (shown.under c.args.space.now) (shown.under c.loop-child.space) (shown.numbers c.args.space.now) (shown.numbers c.loop-child.space) c.args.txn.now c.loop-child.txn c.args.slots.first c.args.slots.end c.args.values.now c.args.at.height c.args.at.level (c.args.at.level - 1) c.args.at.index c.args.root.page c.args.root.span c.in_ok-number.number c.loop-child.bytes (span_at c.loop-child.spans) c.loop-child.child c.child-below.result.height c.child-below.result.level c.child-below.result.index c.child_root-old.result.page c.child_root-old.result.span
+    way c.loop-child-test.true c.child-below.ensures.height child_level c.child-below.ensures.index c.child_root-old.ensures.page c.child_root-old.ensures.span base count list list' others told lists placed))
+
+pub is_apart-requires-clause-small : goal.is_apart-requires-clause-small
+is_apart-requires-clause-small g t c =
+    omega (arith, child_small c.args.at.level c.child-below.result.level c.args.at.index c.loop-child.child c.child-below.result.index (2 ^ 35) c.child-below.ensures.level c.child-below.ensures.index c.loop-child-test.true c.requires.small)
+
+pub loop-child-preserved-then-is_apart : goal.loop-child-preserved-then-is_apart
+loop-child-preserved-then-is_apart g t c =
+    let child_level : c.child-below.result.level ≡ c.args.at.level - 1 = omega (arith, c.child-below.ensures.level) in
+    let untouched = c.if-is_apart.ensures.untouched refl in
+    let no_root = c.if-is_apart.ensures.no_root refl in
+    let page = child_at c.loop-child.bytes c.loop-child.child in
+    let top = span_at c.loop-child.spans (127 + c.loop-child.child) in
+    let cost = touch c.args.slots.first c.args.slots.end c.child-below.result.height c.child-below.result.level c.child-below.result.index in
+    let page_is : child_at c.loop-child.bytes c.loop-child.child ≡ child_at c.open_page.new.bytes c.loop-child.child = c.loop-child.invariant.1.0.children c.loop-child.child (omega arith) in (
+      way_on (shown.IsTold c.args.space.now) (shown.IsTold c.loop-child.space) (shown.IsTold c.loop-child.space) (shown.view c.args.space.now) (shown.view c.loop-child.space) (shown.view c.loop-child.space) (shown.under c.args.space.now) (shown.under c.loop-child.space) (shown.under c.loop-child.space) (shown.numbers c.args.space.now) (shown.numbers c.loop-child.space) (shown.numbers c.loop-child.space) c.args.txn.now c.loop-child.txn c.loop-child.txn c.args.slots.first c.args.slots.end c.args.values.now c.args.at.height c.args.at.level (c.args.at.level - 1) c.args.at.index c.args.root.page c.args.root.span c.in_ok-number.number c.loop-child.bytes c.loop-child.bytes (span_at c.loop-child.spans) (span_at c.loop-child.spans) c.loop-child.child c.child-below.result.height c.child-below.result.level c.child-below.result.index page page top top
+          c.loop-child.invariant.0 c.loop-child-test.true c.child-below.ensures.height child_level c.child-below.ensures.index refl refl
+          (moved_more 0 cost 0 cost (shown.IsTold c.loop-child.space) (shown.IsTold c.loop-child.space) (shown.view c.loop-child.space) (shown.view c.loop-child.space) (shown.under c.loop-child.space) (shown.under c.loop-child.space) (shown.numbers c.loop-child.space) (shown.numbers c.loop-child.space) c.loop-child.txn c.loop-child.txn (omega arith) (omega arith)
+          (moved_none (shown.IsTold c.loop-child.space) (shown.view c.loop-child.space) (shown.under c.loop-child.space) (shown.numbers c.loop-child.space) c.loop-child.txn))
+          (λ base count list list' others told lists placed. apart_repaired count (left_by c.loop-child.txn base) c.loop-child.txn.superblock c.args.slots.first c.args.slots.end c.args.values.now list list' c.child-below.result.height c.child-below.result.level c.child-below.result.index page top others lists untouched no_root placed)
+          c.loop-child.invariant.0.form refl (λ n other. refl) refl (λ n other. refl),
+      (
+        spare_on (shown.IsTold c.args.space.now) (shown.view c.args.space.now) c.args.txn.now c.open_page.new.txn c.loop-child.txn c.loop-child.txn (c.args.at.level - 1) c.child-below.result.level c.open_page.new.bytes c.loop-child.bytes c.loop-child.bytes (span_at c.open_page.new.spans) (span_at c.loop-child.spans) (span_at c.loop-child.spans) c.loop-child.child c.loop-child.invariant.1.0 child_level c.loop-child.invariant.0.moved.fresh (omega arith)
+            (λ base at. none_spares c.loop-child.txn base c.child-below.result.level) (λ n other. refl) (λ n other. refl),
+        λ base fits stored from mine kept at apart. apart_settled stored (left_by c.loop-child.txn base) from c.loop-child.txn.superblock c.child-below.result.height c.child-below.result.level c.child-below.result.index page (and_page c.in_ok-number.number mine) (and_children fits stored c.args.at.height (c.args.at.level - 1) c.args.at.index c.open_page.new.bytes (c.loop-child.child + 1) kept)
+            (apart_child stored (left_by c.loop-child.txn base) from c.loop-child.txn.superblock c.args.at.height (c.args.at.level - 1) c.args.at.index c.loop-child.child c.child-below.result.height c.child-below.result.level c.child-below.result.index page c.open_page.new.bytes (and_page c.in_ok-number.number mine) kept
+            c.loop-child-test.true c.child-below.ensures.height child_level c.child-below.ensures.index page_is (c.loop-child.invariant.1.1 base fits stored from mine kept at apart)),
+      ),
+    )
 
 pub loop-child-preserved : goal.loop-child-preserved
 loop-child-preserved g t c =
-    let child_level : c.child.result.level ≡ c.args.at.level - 1 = omega (arith, c.child.ensures.level) in
+    let child_level : c.child-below.result.level ≡ c.args.at.level - 1 = omega (arith, c.child-below.ensures.level) in
     let page_is : c.child_root-old.result.page ≡ child_at c.open_page.new.bytes c.loop-child.child = c.child_root-old.ensures.page ∙ c.loop-child.invariant.1.0.children c.loop-child.child (omega arith) in (
-      way_on (shown.IsTold c.args.space.now) (shown.IsTold c.loop-child.space) (shown.IsTold c.repair.new.space) (shown.view c.args.space.now) (shown.view c.loop-child.space) (shown.view c.repair.new.space) (shown.under c.args.space.now) (shown.under c.loop-child.space) (shown.under c.repair.new.space) (shown.numbers c.args.space.now) (shown.numbers c.loop-child.space) (shown.numbers c.repair.new.space) c.args.txn.now c.loop-child.txn c.repair.new.txn c.args.slots.first c.args.slots.end c.args.values.now c.args.at.height c.args.at.level (c.args.at.level - 1) c.args.at.index c.args.root.page c.args.root.span c.in_ok-number.number c.loop-child.bytes c.set_root.new.bytes (span_at c.loop-child.spans) (span_at c.set_root.new.spans) c.loop-child.child c.child.result.height c.child.result.level c.child.result.index c.child_root-old.result.page c.in_ok-next.next.page c.child_root-old.result.span c.in_ok-next.next.span
-          c.loop-child.invariant.0 c.loop-child-test.true c.child.ensures.height child_level c.child.ensures.index c.child_root-old.ensures.page c.child_root-old.ensures.span c.repair.ensures.moved
+      way_on (shown.IsTold c.args.space.now) (shown.IsTold c.loop-child.space) (shown.IsTold c.repair.new.space) (shown.view c.args.space.now) (shown.view c.loop-child.space) (shown.view c.repair.new.space) (shown.under c.args.space.now) (shown.under c.loop-child.space) (shown.under c.repair.new.space) (shown.numbers c.args.space.now) (shown.numbers c.loop-child.space) (shown.numbers c.repair.new.space) c.args.txn.now c.loop-child.txn c.repair.new.txn c.args.slots.first c.args.slots.end c.args.values.now c.args.at.height c.args.at.level (c.args.at.level - 1) c.args.at.index c.args.root.page c.args.root.span c.in_ok-number.number c.loop-child.bytes c.set_root.new.bytes (span_at c.loop-child.spans) (span_at c.set_root.new.spans) c.loop-child.child c.child-below.result.height c.child-below.result.level c.child-below.result.index c.child_root-old.result.page c.in_ok-next.next.page c.child_root-old.result.span c.in_ok-next.next.span
+          c.loop-child.invariant.0 c.loop-child-test.true c.child-below.ensures.height child_level c.child-below.ensures.index c.child_root-old.ensures.page c.child_root-old.ensures.span c.repair.ensures.moved
           (λ base count list list' others told lists placed. c.in_ok-next.ensures.repaired base count list list' others told lists placed)
           (c.set_root.ensures.form c.args.at.level (shown.total c.args.space.now) c.loop-child.invariant.0.form (let page : c.in_ok-next.next.page < (shown.total c.loop-child.space) = c.in_ok-next.ensures.page in omega (arith, page, ap (λ (s : Superblock). s.total) c.loop-child.invariant.0.moved.over.superblock)))
           c.set_root.ensures.page c.set_root.ensures.pages c.set_root.ensures.span c.set_root.ensures.spans,
       (
-        spare_on (shown.IsTold c.args.space.now) (shown.view c.args.space.now) c.args.txn.now c.open_page.new.txn c.loop-child.txn c.repair.new.txn (c.args.at.level - 1) c.child.result.level c.open_page.new.bytes c.loop-child.bytes c.set_root.new.bytes (span_at c.open_page.new.spans) (span_at c.loop-child.spans) (span_at c.set_root.new.spans) c.loop-child.child c.loop-child.invariant.1.0 child_level c.loop-child.invariant.0.moved.fresh c.repair.ensures.moved.fresh
+        spare_on (shown.IsTold c.args.space.now) (shown.view c.args.space.now) c.args.txn.now c.open_page.new.txn c.loop-child.txn c.repair.new.txn (c.args.at.level - 1) c.child-below.result.level c.open_page.new.bytes c.loop-child.bytes c.set_root.new.bytes (span_at c.open_page.new.spans) (span_at c.loop-child.spans) (span_at c.set_root.new.spans) c.loop-child.child c.loop-child.invariant.1.0 child_level c.loop-child.invariant.0.moved.fresh c.repair.ensures.moved.fresh
             (λ base at. c.repair.ensures.spares base (told_on (1 + passed_below c.args.slots.first c.args.slots.end c.args.at.height (c.args.at.level - 1) c.args.at.index c.loop-child.child) (shown.IsTold c.args.space.now) (shown.IsTold c.loop-child.space) (shown.view c.args.space.now) (shown.view c.loop-child.space) base c.loop-child.invariant.0.moved.reads at))
             c.set_root.ensures.pages c.set_root.ensures.spans,
         λ base fits stored from mine kept at apart. c.in_ok-next.ensures.apart base fits stored from (and_page c.in_ok-number.number mine) (and_children fits stored c.args.at.height (c.args.at.level - 1) c.args.at.index c.open_page.new.bytes (c.loop-child.child + 1) kept)
             (told_on (1 + passed_below c.args.slots.first c.args.slots.end c.args.at.height (c.args.at.level - 1) c.args.at.index c.loop-child.child) (shown.IsTold c.args.space.now) (shown.IsTold c.loop-child.space) (shown.view c.args.space.now) (shown.view c.loop-child.space) base c.loop-child.invariant.0.moved.reads at)
-            (apart_child stored (left_by c.loop-child.txn base) from c.loop-child.txn.superblock c.args.at.height (c.args.at.level - 1) c.args.at.index c.loop-child.child c.child.result.height c.child.result.level c.child.result.index c.child_root-old.result.page c.open_page.new.bytes (and_page c.in_ok-number.number mine) kept
-            c.loop-child-test.true c.child.ensures.height child_level c.child.ensures.index page_is (c.loop-child.invariant.1.1 base fits stored from mine kept at apart)),
+            (apart_child stored (left_by c.loop-child.txn base) from c.loop-child.txn.superblock c.args.at.height (c.args.at.level - 1) c.args.at.index c.loop-child.child c.child-below.result.height c.child-below.result.level c.child-below.result.index c.child_root-old.result.page c.open_page.new.bytes (and_page c.in_ok-number.number mine) kept
+            c.loop-child-test.true c.child-below.ensures.height child_level c.child-below.ensures.index page_is (c.loop-child.invariant.1.1 base fits stored from mine kept at apart)),
       ),
     )
 
@@ -167,21 +195,21 @@ returns-in_err-number-clause-damaged g t c = λ base at.
 
 pub returns-in_err-next-clause-spares : goal.returns-in_err-next-clause-spares
 returns-in_err-next-clause-spares g t c = λ base at.
-    let child_level : c.child.result.level ≡ c.args.at.level - 1 = omega (arith, c.child.ensures.level) in
+    let child_level : c.child-below.result.level ≡ c.args.at.level - 1 = omega (arith, c.child-below.ensures.level) in
     spares_up (c.args.at.level - 1) c.args.at.level c.args.txn.now.superblock.fresh c.repair.new.txn.superblock.fresh (left_by c.args.txn.now base) (left_by c.repair.new.txn base) (omega arith)
-    (spare_child (shown.IsTold c.args.space.now) (shown.view c.args.space.now) c.args.txn.now c.open_page.new.txn c.loop-child.txn c.repair.new.txn (c.args.at.level - 1) c.child.result.level c.open_page.new.bytes c.loop-child.bytes (span_at c.open_page.new.spans) (span_at c.loop-child.spans) c.loop-child.child c.loop-child.invariant.1.0 child_level c.loop-child.invariant.0.moved.fresh c.repair.ensures.moved.fresh base at
+    (spare_child (shown.IsTold c.args.space.now) (shown.view c.args.space.now) c.args.txn.now c.open_page.new.txn c.loop-child.txn c.repair.new.txn (c.args.at.level - 1) c.child-below.result.level c.open_page.new.bytes c.loop-child.bytes (span_at c.open_page.new.spans) (span_at c.loop-child.spans) c.loop-child.child c.loop-child.invariant.1.0 child_level c.loop-child.invariant.0.moved.fresh c.repair.ensures.moved.fresh base at
     (c.repair.ensures.spares base (told_on (1 + passed_below c.args.slots.first c.args.slots.end c.args.at.height (c.args.at.level - 1) c.args.at.index c.loop-child.child) (shown.IsTold c.args.space.now) (shown.IsTold c.loop-child.space) (shown.view c.args.space.now) (shown.view c.loop-child.space) base c.loop-child.invariant.0.moved.reads at)))
 
 pub returns-in_err-next-clause-damaged : goal.returns-in_err-next-clause-damaged
 returns-in_err-next-clause-damaged g t c = λ base at.
     let is : c.args.at.level ≡ suc (c.args.at.level - 1) = omega (arith, c.if-at-eq0.false) in
-    let child_level : c.child.result.level ≡ c.args.at.level - 1 = omega (arith, c.child.ensures.level) in
+    let child_level : c.child-below.result.level ≡ c.args.at.level - 1 = omega (arith, c.child-below.ensures.level) in
     let told = told_on (1 + passed_below c.args.slots.first c.args.slots.end c.args.at.height (c.args.at.level - 1) c.args.at.index c.loop-child.child) (shown.IsTold c.args.space.now) (shown.IsTold c.loop-child.space) (shown.view c.args.space.now) (shown.view c.loop-child.space) base c.loop-child.invariant.0.moved.reads at in
     let D : RepairError → Type 0 = λ e. IsDamage (left_by c.repair.new.txn base) c.args.txn.now.superblock.fresh c.repair.new.txn.superblock (root_level c.args.at.height c.args.at.level c.args.at.index) c.args.root.page c.args.root.span e in
     error_so _ D c.from_residual-in_err-next.result c.from_residual-in_err-next.ensures.1
     (λ e same. subst D (sym same)
-    (spare_damage (shown.IsTold c.args.space.now) (shown.view c.args.space.now) c.args.txn.now c.open_page.new.txn c.loop-child.txn c.repair.new.txn c.args.at.height c.args.at.level (c.args.at.level - 1) c.args.at.index c.args.root.page c.child.result.height c.child.result.level c.child.result.index c.child_root-old.result.page c.args.root.span c.child_root-old.result.span c.open_page.new.bytes c.loop-child.bytes (span_at c.open_page.new.spans) (span_at c.loop-child.spans) c.loop-child.child c.in_err-next.field-0.0
-    c.loop-child.invariant.1.0 is c.loop-child-test.true c.child.ensures.height child_level c.child.ensures.index c.child_root-old.ensures.page c.child_root-old.ensures.span c.loop-child.invariant.0.moved.fresh c.repair.ensures.moved.fresh
+    (spare_damage (shown.IsTold c.args.space.now) (shown.view c.args.space.now) c.args.txn.now c.open_page.new.txn c.loop-child.txn c.repair.new.txn c.args.at.height c.args.at.level (c.args.at.level - 1) c.args.at.index c.args.root.page c.child-below.result.height c.child-below.result.level c.child-below.result.index c.child_root-old.result.page c.args.root.span c.child_root-old.result.span c.open_page.new.bytes c.loop-child.bytes (span_at c.open_page.new.spans) (span_at c.loop-child.spans) c.loop-child.child c.in_err-next.field-0.0
+    c.loop-child.invariant.1.0 is c.loop-child-test.true c.child-below.ensures.height child_level c.child-below.ensures.index c.child_root-old.ensures.page c.child_root-old.ensures.span c.loop-child.invariant.0.moved.fresh c.repair.ensures.moved.fresh
     c.in_ok-number.ensures.opened base at (c.in_ok-number.ensures.as_told base at) (c.repair.ensures.spares base told) (c.in_err-next.ensures.damaged base told)))
 
 pub returns-clause-root : goal.returns-clause-root
@@ -213,20 +241,20 @@ returns-in_err-number-clause-broken g t c = λ base fits stored from mine kept a
 pub returns-in_err-next-clause-broken : goal.returns-in_err-next-clause-broken
 returns-in_err-next-clause-broken g t c = λ base fits stored from mine kept at apart.
     let is : c.args.at.level ≡ suc (c.args.at.level - 1) = omega (arith, c.if-at-eq0.false) in
-    let child_level : c.child.result.level ≡ c.args.at.level - 1 = omega (arith, c.child.ensures.level) in
+    let child_level : c.child-below.result.level ≡ c.args.at.level - 1 = omega (arith, c.child-below.ensures.level) in
     let page_is : c.child_root-old.result.page ≡ child_at c.open_page.new.bytes c.loop-child.child = c.child_root-old.ensures.page ∙ c.loop-child.invariant.1.0.children c.loop-child.child (omega arith) in
     let top_is : c.child_root-old.result.span ≡ span_at c.open_page.new.spans (127 + c.loop-child.child) = c.child_root-old.ensures.span ∙ c.loop-child.invariant.1.0.tops c.loop-child.child (omega arith) in
     let told = told_on (1 + passed_below c.args.slots.first c.args.slots.end c.args.at.height (c.args.at.level - 1) c.args.at.index c.loop-child.child) (shown.IsTold c.args.space.now) (shown.IsTold c.loop-child.space) (shown.view c.args.space.now) (shown.view c.loop-child.space) base c.loop-child.invariant.0.moved.reads at in
     let D : RepairError → Type 0 = λ e. NamesDamaged stored from (shown.total c.args.space.now) (root_level c.args.at.height c.args.at.level c.args.at.index) c.args.root.page c.args.root.span e in
-    let T : ℕ → Type 0 = λ n. NamesDamaged stored from n (root_level c.child.result.height c.child.result.level c.child.result.index) c.child_root-old.result.page c.child_root-old.result.span c.in_err-next.field-0.0 in
+    let T : ℕ → Type 0 = λ n. NamesDamaged stored from n (root_level c.child-below.result.height c.child-below.result.level c.child-below.result.index) c.child_root-old.result.page c.child_root-old.result.span c.in_err-next.field-0.0 in
     let total_is : shown.total c.loop-child.space ≡ shown.total c.args.space.now = ap (λ (s : Superblock). s.total) c.loop-child.invariant.0.moved.over.superblock in
     let bad = c.in_err-next.ensures.broken base fits stored from (and_page c.in_ok-number.number mine) (and_children fits stored c.args.at.height (c.args.at.level - 1) c.args.at.index c.open_page.new.bytes (c.loop-child.child + 1) kept) told
-    (apart_child stored (left_by c.loop-child.txn base) from c.loop-child.txn.superblock c.args.at.height (c.args.at.level - 1) c.args.at.index c.loop-child.child c.child.result.height c.child.result.level c.child.result.index c.child_root-old.result.page c.open_page.new.bytes (and_page c.in_ok-number.number mine) kept
-    c.loop-child-test.true c.child.ensures.height child_level c.child.ensures.index page_is (c.loop-child.invariant.1.1 base fits stored from mine kept at apart)) in
+    (apart_child stored (left_by c.loop-child.txn base) from c.loop-child.txn.superblock c.args.at.height (c.args.at.level - 1) c.args.at.index c.loop-child.child c.child-below.result.height c.child-below.result.level c.child-below.result.index c.child_root-old.result.page c.open_page.new.bytes (and_page c.in_ok-number.number mine) kept
+    c.loop-child-test.true c.child-below.ensures.height child_level c.child-below.ensures.index page_is (c.loop-child.invariant.1.1 base fits stored from mine kept at apart)) in
     error_so _ D c.from_residual-in_err-next.result c.from_residual-in_err-next.ensures.1
     (λ e same. subst D (sym same)
-    (stored_up stored (left_by c.args.txn.now base) from c.args.txn.now.superblock (shown.total c.args.space.now) c.args.at.height c.args.at.level (c.args.at.level - 1) c.args.at.index c.loop-child.child c.child.result.height c.child.result.level c.child.result.index c.args.root.page c.child_root-old.result.page c.args.root.span c.child_root-old.result.span c.open_page.new.bytes (span_at c.open_page.new.spans) mine kept c.in_err-next.field-0.0
-    is c.loop-child-test.true c.child.ensures.height child_level c.child.ensures.index page_is top_is
+    (stored_up stored (left_by c.args.txn.now base) from c.args.txn.now.superblock (shown.total c.args.space.now) c.args.at.height c.args.at.level (c.args.at.level - 1) c.args.at.index c.loop-child.child c.child-below.result.height c.child-below.result.level c.child-below.result.index c.args.root.page c.child_root-old.result.page c.args.root.span c.child_root-old.result.span c.open_page.new.bytes (span_at c.open_page.new.spans) mine kept c.in_err-next.field-0.0
+    is c.loop-child-test.true c.child-below.ensures.height child_level c.child-below.ensures.index page_is top_is
     c.in_ok-number.ensures.opened (c.in_ok-number.ensures.as_told base at) apart (subst T total_is bad)))
 
 pub returns-clause-apart : goal.returns-clause-apart
