@@ -1,9 +1,11 @@
 -- The differences of all nodes, by their places and by the bytes of the flags.
-use Rattle.std.proofs.Common.{◌≡◌, ℕ, zero, suc, ◌+◌, ◌*◌, ◌/◌, ◌%◌, ◌<◌, ◌≤◌, Bool, true, false, ◌&&◌, ◌==◌, List, get_or, refl, ap, subst, ◌∙◌, arith}
+use Rattle.std.proofs.Common.{◌≡◌, ℕ, zero, suc, ◌+◌, ◌*◌, ◌/◌, ◌%◌, ◌<◌, ◌≤◌, Bool, true, false, cond, ◌&&◌, ◌==◌, List, get_or, refl, ap, subst, inl, inr, ◌∙◌, arith}
+use Rattle.std.proofs.lemmas.Bool.{eq-eqb, ne_eqb}
+use Rattle.std.proofs.lemmas.Bool.Decides.{eqb_tells}
 use Rattle.std.specs.Int.{bit_at}
 use Rattle.whole_number.specs.Range.{IsTime}
 use Rattle.node_page.specs.Fields.{signed_at, flag_at, coef_at}
-use Rattle.node_page.specs.Layout.{HasDifferences, AreDifferences, AreSmall, IsFullOrFlat}
+use Rattle.node_page.specs.Layout.{HasDifferences, AreDifferences, AreSmall, IsFullOrFlat, has_child}
 
 bit_of_full : (i : ℕ) → i < 8 → (bit_at 255 i == 1) ≡ true
 bit_of_full zero few = refl
@@ -57,3 +59,16 @@ halves page n (suc (suc rest)) place is few has = absurd (omega (arith, few))
 
 pub small_of : (page : List ℕ) → AreDifferences page → AreSmall page
 small_of page differences place few = halves page (place / 2) (place % 2) place (omega arith) (omega arith) (differences (place / 2) (omega (arith, few)))
+
+-- a child's flag is the one of its number behind those of the nodes above the lowest
+pub flag_of_child : (page : List ℕ) (child : ℕ) → has_child page child ≡ flag_at page (126 + child)
+unfolding coef_at
+flag_of_child page child = elim (eqb_tells (child % 2) 0) [
+  | inl even ↦
+      let at : 2 * (63 + child / 2) ≡ 126 + child = omega (arith, even.1) in
+      ap (λ b. cond b (flag_at page (2 * (63 + child / 2))) (flag_at page (2 * (63 + child / 2) + 1))) (eq-eqb (child % 2) 0 even.1) ∙ ap (λ n. flag_at page n) at
+  | inr odd ↦
+      let rest : child % 2 ≡ 1 = omega (arith, odd.1) in
+      let at : 2 * (63 + child / 2) + 1 ≡ 126 + child = omega (arith, rest) in
+      ap (λ b. cond b (flag_at page (2 * (63 + child / 2))) (flag_at page (2 * (63 + child / 2) + 1))) (ne_eqb (child % 2) 0 odd.1) ∙ ap (λ n. flag_at page n) at
+]

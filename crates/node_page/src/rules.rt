@@ -1,14 +1,12 @@
 //! The rules of the fields, each as a test.
 ghost use Rattle.std.specs.Prelude.{◌≡◌, ◌<◌, ◌≤◌, ◌+◌, ◌*◌, ◌↔◌, ℕ, IsTrue, length, slice_index};
 ghost use Rattle.block_disk.specs.Blocks.{IsBlock};
-ghost use Rattle.om3_coeff.specs.declared.coef.Coef.{Coef};
 ghost use Rattle.node_page.specs.Fields.{level_at, coef_at};
-ghost use Rattle.node_page.specs.Layout.{IsLevel, IsReserved, AreFlags, AreDifferences, AreSmall, IsFullOrFlat, IsChild, AreChildren, has_value, side_of};
+ghost use Rattle.node_page.specs.Layout.{IsLevel, IsReserved, AreFlags, AreDifferences, AreSmall, IsFullOrFlat, IsChild, AreChildren, has_child, has_value};
 
 use crate::byte_fields::are_zero;
-use crate::fields::{child_of, coef_of, difference_at, is_set};
+use crate::fields::{child_of, difference_at, is_set};
 use crate::layout::{CHILDREN, DIFFERENCES, END, FLAGS, GREATEST_DIFFERENCE, MOST_LEVELS};
-use om3_coeff::Coef;
 
 /// Whether the page level is in range.
 #[tactic(auto, unfolding(crate::specs::Fields::level_at))]
@@ -136,15 +134,14 @@ pub(crate) fn are_differences(page: &[u8]) -> bool
     are_small(page) && are_full_or_flat(page)
 }
 
-/// Whether the range of a child has a stored value.
-fn side(coef: Coef, child: u8) -> bool
-    ensures { result ≡ side_of coef child }
+/// Whether the range of a child has a stored value: by its flag, which its parent node has.
+#[tactic(auto, using(crate::proofs::Differences::flag_of_child))]
+fn has_child(page: &[u8], child: u8) -> bool
+    requires whole { IsBlock page.now }
+    requires child { child < 128 }
+    ensures { result ≡ has_child page.now child }
 {
-    if child % 2 == 0 {
-        coef.left
-    } else {
-        coef.right
-    }
+    is_set(page, 126 + child)
 }
 
 /// Whether a child of a page above level 1 is there exactly where it has to be.
@@ -154,7 +151,7 @@ fn is_child(page: &[u8], child: u8) -> bool
     requires above { 1 < level_at page.now }
     ensures { IsTrue result ↔ IsChild page.now child }
 {
-    (child_of(page, child) != 0) == side(coef_of(page, 63 + child / 2), child)
+    (child_of(page, child) != 0) == has_child(page, child)
 }
 
 /// Whether all children are there exactly where they have to be: none on page level 1.
