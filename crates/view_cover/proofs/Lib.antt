@@ -2,6 +2,8 @@ mod Spans
 mod Trees
 mod Fronts
 mod Shrinking
+mod Listed
+mod Filling
 mod Holding
 mod Parts
 mod Drawn

@@ -10,6 +10,7 @@ use Rattle.om3_coeff.specs.declared.coef.Coef.{Coef}
 use Rattle.om3_coeff.specs.Keys.{top_key}
 use Rattle.om3_coeff.specs.Spans.{AreSlots, Holds, span}
 use Rattle.om3_coeff.specs.Coefs.{coef}
+use Rattle.view_keys.specs.Needed.{IsNeeded}
 use Rattle.view_cover.specs.Scene.{Scene}
 
 -- slot i holds a value, and is drawn at the pixel p
@@ -42,9 +43,10 @@ pub record IsOfSegment (list : List (Option ℤ)) (scene : Scene) (x : ℕ) (y :
 abbrev pub InChart : List (Option ℤ) → Scene → ℕ → ℤ → Type 0
 InChart list scene x y = IsOfSample list scene x y ⊎ IsOfSegment list scene x y
 
--- what is told is told of this list: it has as many slots and the root's span, and each told coefficient is its own
+-- What is told is told of this list: it has as many slots and the root's span, and each coefficient that is told of
+-- a key that the view needs is its own. Those of other keys may be any.
 pub record IsToldOf (list : List (Option ℤ)) (scene : Scene) : Type 0 where
   pub values : AreSlots list
   pub slots : scene.axis.slots ≡ length list
   pub root : scene.root ≡ span list (top_key (length list))
-  pub told : (k : Key) (c : Coef) → scene.told k ≡ Some c → c ≡ coef list k
+  pub told : (k : Key) (c : Coef) → IsNeeded list scene.axis scene.grid scene.lo scene.hi k → scene.told k ≡ Some c → c ≡ coef list k

@@ -16,4 +16,4 @@ returns c list scene x y of few is =
       halves = c.spans_add_up.ensures.halves;
       proper = c.spans_add_up.ensures.proper;
       split = c.split_and_join_undo_each_other.ensures.split;
-    }) c.columns_rise.ensures.rise list scene x y of few is
+    }) c.what_is_known.ensures.proper c.columns_rise.ensures.rise list scene x y of few is
