@@ -24,12 +24,13 @@ use Rattle.view_keys.proofs.Ranging.{above-in_range, shared-above, parent-above,
 use Rattle.view_cover.specs.Scene.{Scene, with_told, IsSeen, IsDrawnIn}
 use Rattle.view_cover.specs.Front.{IsLowest, IsInFront, AreConsecutive}
 use Rattle.view_cover.specs.Cover.{bottom, top, InRectangle, InCover}
-use Rattle.view_cover.specs.Chart.{IsSample, IsOfSample, IsOfSegment, InChart, IsToldOf}
+use Rattle.view_cover.specs.Chart.{InChart, IsToldOf}
 use Rattle.view_cover.proofs.Spans.{Basis, IsPart}
 use Rattle.view_cover.proofs.Trees.{peak, above-same, above-trans, above-both, level-same, seen-one, seen-parent, seen-above, ranges-apart}
 use Rattle.view_cover.proofs.Fronts.{IsInherited, lowest-below, lowest-ends}
 use Rattle.view_cover.proofs.Shrinking.{lowest-front, times-between, shrinks}
 use Rattle.view_cover.proofs.Steps.{reached-order}
+use Rattle.view_cover.proofs.Samples.{IsSample, IsOfSample, IsOfSegment, charted}
 use Rattle.view_cover.proofs.Listed.{Sums, Tells, Listed, Found, IsLevel, IsEnd, filled, filled-more, filled-tells, extremes-of, half-listed, top-listed, column-between, blocked, anchored}
 use Rattle.view_cover.proofs.Filling.{HasLast, HasFirst, last-of, first-of, AreOrdered, Reach, Drawn, fills-column, some-slots}
 
@@ -399,10 +400,6 @@ columns-rise : ((g : Grid) (s t : ℤ) → InWindow g s → InWindow g t → s �
 columns-rise rise scene c d i j low a b =
     omega (arith, a.place, b.place, rise scene.grid (slot_time scene.axis i) (slot_time scene.axis j) a.shown b.shown (times-between scene.axis.start scene.axis.step i j low))
 
--- which pixels a chart has isn't a matter of what is told
-sample-more : (list : List (Option ℤ)) (scene : Scene) (more : Key → Option Coef) (i : ℕ) (p : Point) → IsSample list scene i p → IsSample list (with_told scene more) i p
-sample-more list scene more i p s = record { value = s.value; stored = s.stored; column = s.column; row = s.row }
-
 -- what is known of each key is proper where the root is
 abbrev pub AreProper : Type 0
 AreProper = (root : Option Span) (told : Key → Option Coef) (n : ℕ) (k : Key) → IsProperIfAny root → IfSome (known root told n k) IsProperIfAny
@@ -422,23 +419,12 @@ told-all by sums proper list scene of few =
 
 pub holds-chart : Basis → Sums → AreProper → ((g : Grid) (s t : ℤ) → InWindow g s → InWindow g t → s ≤ℤ t → column g s ≤ column g t)
     → (list : List (Option ℤ)) (scene : Scene) (x : ℕ) (y : ℤ) → IsToldOf list scene → length list ≤ 2 ^ 35 → InChart list scene x y → InCover scene x y
-holds-chart by sums proper rise list scene x y of few (inl h) =
+holds-chart by sums proper rise list scene x y of few h =
     let more = filled list scene.told in
+    let full : Scene = with_told scene more in
+    let all = told-all by sums proper list scene of few in
     shrinks by scene more x y (filled-more list scene.told)
-    (sample-in list (with_told scene more) (told-all by sums proper list scene of few) x y
-    (record { slot = h.slot; point = h.point; sample = sample-more list scene more h.slot h.point h.sample; pixel = h.pixel }))
-holds-chart by sums proper rise list scene x y of few (inr h) =
-    let more = filled list scene.told in
-    shrinks by scene more x y (filled-more list scene.told)
-    (segment-in list (with_told scene more) (told-all by sums proper list scene of few) (λ c d i j low a b. columns-rise rise (with_told scene more) c d i j low a b) x y
-    (record {
-      slot = h.slot;
-      point = h.point;
-      sample = sample-more list scene more h.slot h.point h.sample;
-      next = h.next;
-      next_point = h.next_point;
-      next_sample = sample-more list scene more h.next h.next_point h.next_sample;
-      order = h.order;
-      none_between = h.none_between;
-      pixel = h.pixel;
-    }))
+    (elim (charted list full of.slots x y h) [
+      | inl sample ↦ sample-in list full all x y sample
+      | inr segment ↦ segment-in list full all (λ c d i j low a b. columns-rise rise full c d i j low a b) x y segment
+    ])

@@ -2,6 +2,7 @@ mod Spans
 mod Trees
 mod Fronts
 mod Shrinking
+mod Samples
 mod Listed
 mod Filling
 mod Holding
