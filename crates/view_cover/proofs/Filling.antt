@@ -1,11 +1,10 @@
 -- The boxes of the lowest keys drawn in a column, with those of the rectangles of each two consecutive ones, fill it from
 -- the least to the greatest of them.
-use Rattle.std.proofs.Common.{ℕ, ℤ, zero, suc, ◌≡◌, ◌+◌, ◌-◌, ◌*◌, ◌%◌, ◌^◌, ◌<◌, ◌≤◌, ◌≤ℤ◌, ◌<ℤ◌, ◌⊎◌, inl, inr, Option, None, Some, refl, sym, ap, ◌∙◌, subst, arith}
+use Rattle.std.proofs.Common.{ℕ, ℤ, zero, suc, ◌≡◌, ◌%◌, ◌<◌, ◌≤◌, ◌≤ℤ◌, ◌<ℤ◌, ◌⊎◌, inl, inr, Option, None, Some, refl, sym, ap, ◌∙◌, subst, arith}
 use Rattle.std.specs.Int.{int_min, int_max}
 use Rattle.std.proofs.lemmas.Bool.{cases_lt, cases_eq}
 use Rattle.std.proofs.lemmas.Int.{ints, by_lt_z}
 use Rattle.chart_grid.specs.Projection.{height}
-use Rattle.chart_grid.specs.Slots.{IsInColumn}
 use Rattle.om3_coeff.specs.declared.key.Key.{Key}
 use Rattle.om3_coeff.specs.declared.span.Span.{Span}
 use Rattle.om3_coeff.specs.Keys.{first_slot, end_slot, left_of, right_of, parent_of, IsKey, IsAtOrAbove}
@@ -13,10 +12,10 @@ use Rattle.om3_coeff.proofs.KeyLemmas.{left_first, right_end, even_half, odd_hal
 use Rattle.view_keys.specs.Ranges.{IsInRange}
 use Rattle.view_keys.proofs.Ranging.{above-in_range, shared-above, first-in_range}
 use Rattle.view_cover.specs.Scene.{Scene, known_in, IsSeen, IsDrawnIn}
-use Rattle.view_cover.specs.Front.{IsLowest, IsInFront, IsFreeBetween, AreConsecutive}
+use Rattle.view_cover.specs.Front.{IsLowest, AreConsecutive}
 use Rattle.view_cover.specs.Cover.{bottom, top, InRectangle, InCover}
 use Rattle.view_cover.proofs.Spans.{Basis, not-known, not-empty}
-use Rattle.view_cover.proofs.Trees.{peak, above-same, above-trans, level-same, seen-one, seen-above, ranges-apart, left-key, right-key, left-parent, right-parent, left-above, right-above}
+use Rattle.view_cover.proofs.Trees.{peak, above-same, above-trans, level-same, seen-one, seen-above, left-key, right-key, left-parent, right-parent, left-above, right-above}
 use Rattle.view_cover.proofs.Fronts.{lowest-slot, lowest-ends, lowest-apart}
 use Rattle.view_cover.proofs.Shrinking.{lowest-front}
 use Rattle.view_cover.proofs.Listed.{column-between}
@@ -253,9 +252,9 @@ halves-meet by scene k s low seen f g = record {
         | inr over ↦ elim (in-halves scene k m u front.lowest (shared-above k m (first_slot m) over inside (first-in_range m)) (left_of k)
             (seen-above by scene (left_of k) f.key f.span (omega (arith, seen.key.high)) f.above f.lowest.seen).0 (left-parent k low)
             (seen-above by scene (left_of k) f.key f.span (omega (arith, seen.key.high)) f.above f.lowest.seen).1) [
-          | inl left ↦ f.none m u front.lowest left from
-          | inr right ↦ g.none m u front.lowest right to
-        ]
+              | inl left ↦ f.none m u front.lowest left from
+              | inr right ↦ g.none m u front.lowest right to
+            ]
       ];
 }
 

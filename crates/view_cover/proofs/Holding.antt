@@ -1,5 +1,5 @@
 -- A cover holds the chart of each list of which what is told is told.
-use Rattle.std.proofs.Common.{ℕ, ℤ, zero, suc, ◌≡◌, ◌+◌, ◌-◌, ◌/◌, ◌^◌, ◌<◌, ◌≤◌, ◌≤ℤ◌, ◌<ℤ◌, ◌-ℤ◌, unsigned_abs, ◌⊎◌, inl, inr, List, length, Option, None, Some, refl, sym, ap, ◌∙◌, subst, arith}
+use Rattle.std.proofs.Common.{ℕ, ℤ, zero, suc, ◌≡◌, ◌+◌, ◌-◌, ◌^◌, ◌<◌, ◌≤◌, ◌≤ℤ◌, ◌<ℤ◌, ◌-ℤ◌, unsigned_abs, ◌⊎◌, inl, inr, List, length, Option, None, Some, refl, sym, ap, ◌∙◌, subst, arith}
 use Rattle.std.specs.Prelude.{IfSome}
 use Rattle.std.specs.Int.{int_min, int_max}
 use Rattle.std.proofs.lemmas.Bool.{cases_lt}
@@ -8,31 +8,29 @@ use Rattle.chart_grid.specs.declared.grid.Grid.{Grid}
 use Rattle.chart_grid.specs.Projection.{height, column, InWindow}
 use Rattle.chart_grid.specs.Slots.{IsInColumn, slot_time}
 use Rattle.line_raster.specs.declared.position.Point.{Point}
-use Rattle.line_raster.specs.Raster.{IsAt}
 use Rattle.line_raster.specs.Segment.{On, columns, rows, share, towards}
 use Rattle.line_raster.proofs.SegmentLemmas.{share-le}
 use Rattle.om3_coeff.specs.declared.key.Key.{Key}
 use Rattle.om3_coeff.specs.declared.span.Span.{Span}
 use Rattle.om3_coeff.specs.declared.coef.Coef.{Coef}
 use Rattle.om3_coeff.specs.Keys.{first_slot, end_slot, parent_of, top_key, IsAtOrAbove}
-use Rattle.om3_coeff.specs.Spans.{IsProperIfAny, Holds, hull, span}
+use Rattle.om3_coeff.specs.Spans.{IsProperIfAny, Holds}
 use Rattle.om3_coeff.specs.Coefs.{coef}
 use Rattle.om3_coeff.specs.Known.{known}
 use Rattle.view_keys.specs.Ranges.{IsInRange, IsWithin}
-use Rattle.view_keys.specs.Flat.{IsFlat}
 use Rattle.view_keys.proofs.Ranging.{above-in_range, shared-above, parent-above, first-in_range, index-of, power-some}
 use Rattle.view_cover.specs.Scene.{Scene, with_told, IsSeen, IsDrawnIn}
-use Rattle.view_cover.specs.Front.{IsLowest, IsInFront, AreConsecutive}
-use Rattle.view_cover.specs.Cover.{bottom, top, InRectangle, InCover}
+use Rattle.view_cover.specs.Front.{IsLowest, AreConsecutive}
+use Rattle.view_cover.specs.Cover.{bottom, top, InCover}
 use Rattle.view_cover.specs.Chart.{InChart, IsToldOf}
 use Rattle.view_cover.proofs.Spans.{Basis, IsPart}
-use Rattle.view_cover.proofs.Trees.{peak, above-same, above-trans, above-both, level-same, seen-one, seen-parent, seen-above, ranges-apart}
+use Rattle.view_cover.proofs.Trees.{peak, seen-one, seen-parent, seen-above, ranges-apart}
 use Rattle.view_cover.proofs.Fronts.{IsInherited, lowest-below, lowest-ends}
 use Rattle.view_cover.proofs.Shrinking.{lowest-front, times-between, shrinks}
 use Rattle.view_cover.proofs.Steps.{reached-order}
 use Rattle.view_cover.proofs.Samples.{IsSample, IsOfSample, IsOfSegment, charted}
 use Rattle.view_cover.proofs.Listed.{Sums, Tells, Listed, Found, IsLevel, IsEnd, filled, filled-more, filled-tells, extremes-of, half-listed, top-listed, column-between, blocked, anchored}
-use Rattle.view_cover.proofs.Filling.{HasLast, HasFirst, last-of, first-of, AreOrdered, Reach, Drawn, fills-column, some-slots}
+use Rattle.view_cover.proofs.Filling.{HasLast, HasFirst, last-of, first-of, AreOrdered, Drawn, fills-column, some-slots}
 
 -- a span's low end is that of one of its halves, and so is its high end
 none-span : {u : Span} → ◌≡◌ {A = Option Span} None (Some u) → ⊥

@@ -1,5 +1,5 @@
 -- The keys of which what is told is a list's, from the top down.
-use Rattle.std.proofs.Common.{ℕ, ℤ, zero, suc, ◌≡◌, ◌+◌, ◌-◌, ◌*◌, ◌/◌, ◌%◌, ◌^◌, ◌<◌, ◌≤◌, ◌≤ℤ◌, ◌<ℤ◌, ◌⊎◌, inl, inr, List, length, Option, None, Some, IsSome, refl, sym, ap, ◌∙◌, subst, arith}
+use Rattle.std.proofs.Common.{ℕ, ℤ, zero, suc, ◌≡◌, ◌-◌, ◌%◌, ◌^◌, ◌<◌, ◌≤◌, ◌≤ℤ◌, ◌<ℤ◌, ◌⊎◌, inl, inr, List, length, Option, None, Some, IsSome, refl, sym, ap, ◌∙◌, subst, arith}
 use Rattle.std.specs.Option.{option_map, is_some}
 use Rattle.std.proofs.lemmas.Bool.{cases_lt, cases_eq}
 use Rattle.std.proofs.lemmas.Int.{ints, by_lt_z}
@@ -16,15 +16,15 @@ use Rattle.om3_coeff.specs.Spans.{AreSlots, IsProperIfAny, IsSpanOf, AreExtremes
 use Rattle.om3_coeff.specs.Coefs.{parts, coef, coef_of}
 use Rattle.om3_coeff.specs.Known.{half, known_below}
 use Rattle.om3_coeff.proofs.KeyLemmas.{even_half, odd_half, slot_first, slot_end, left_first, right_end, height_covers}
-use Rattle.view_keys.specs.Ranges.{IsInRange, IsWithin, IsCut}
+use Rattle.view_keys.specs.Ranges.{IsInRange, IsWithin}
 use Rattle.view_keys.specs.Flat.{IsFlat}
-use Rattle.view_keys.specs.Needed.{IsFirstStored, IsLastStored, HoldsEnd, IsUneven, IsNeeded}
-use Rattle.view_keys.proofs.Ranging.{above-in_range, shared-above, key-same, power-some, first-in_range, last-in_range}
+use Rattle.view_keys.specs.Needed.{IsFirstStored, IsLastStored, IsNeeded}
+use Rattle.view_keys.proofs.Ranging.{shared-above, key-same, power-some, first-in_range, last-in_range}
 use Rattle.view_cover.specs.Scene.{Scene, with_told, IsToldBy, IsSeen}
 use Rattle.view_cover.specs.Across.{IsAcross}
 use Rattle.view_cover.specs.Chart.{IsToldOf}
-use Rattle.view_cover.proofs.Spans.{Basis, known-top, inner, not-known, left-half, right-half}
-use Rattle.view_cover.proofs.Trees.{peak, above-same, above-both, level-same, known-under, seen-parent, left-parent, right-parent}
+use Rattle.view_cover.proofs.Spans.{Basis, known-top, inner, left-half, right-half}
+use Rattle.view_cover.proofs.Trees.{peak, above-both, level-same, known-under, left-parent, right-parent}
 use Rattle.view_cover.proofs.Fronts.{seen-left, seen-right}
 use Rattle.view_cover.proofs.Shrinking.{times-between}
 

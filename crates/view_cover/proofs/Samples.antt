@@ -1,12 +1,11 @@
 -- The pixels of a list's chart, by the list's slots.
-use Rattle.std.proofs.Common.{ℕ, ℤ, zero, suc, ◌≡◌, ◌+◌, ◌<◌, ◌≤◌, ◌≤ℤ◌, ◌⊎◌, inl, inr, Bool, true, false, cond, List, [], ◌∷◌, length, map, Option, None, Some, refl, sym, ap, ◌∙◌, subst, arith}
+use Rattle.std.proofs.Common.{ℕ, ℤ, suc, ◌≡◌, ◌+◌, ◌<◌, ◌≤◌, ◌⊎◌, inl, inr, Bool, true, false, cond, List, [], ◌∷◌, length, Option, None, Some, refl, sym, ap, ◌∙◌, subst, arith}
 use Rattle.std.specs.Prelude.{slice_get, int_le, int_lt}
 use Rattle.std.specs.List.{enumerate_from, filter_map, cons_option}
 use Rattle.std.proofs.lemmas.Bool.{and_parts, and_from, cases_lt}
 use Rattle.std.proofs.lemmas.Bool.Decides.{nat_tests}
 use Rattle.std.proofs.lemmas.Int.{ints}
 use Rattle.std.proofs.lemmas.Option.{slice_get_within}
-use Rattle.chart_grid.specs.declared.axis.Axis.{Axis}
 use Rattle.chart_grid.specs.declared.grid.Grid.{Grid}
 use Rattle.chart_grid.specs.Projection.{height, column, InWindow}
 use Rattle.chart_grid.specs.Slots.{IsInColumn, slot_time}
@@ -16,7 +15,7 @@ use Rattle.line_raster.specs.Raster.{IsAt, OnNext, AlongPoints}
 use Rattle.line_raster.proofs.RasterLemmas.{InRaster-along}
 use Rattle.plain_chart.specs.declared.sample.Sample.{Sample}
 use Rattle.plain_chart.specs.Samples.{kept_at, in_window}
-use Rattle.plain_chart.specs.Chart.{place, places}
+use Rattle.plain_chart.specs.Chart.{places}
 use Rattle.om3_coeff.specs.Spans.{Holds}
 use Rattle.view_cover.specs.Scene.{Scene}
 use Rattle.view_cover.specs.Chart.{InChart}
