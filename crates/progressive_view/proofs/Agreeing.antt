@@ -1,5 +1,5 @@
 -- What counts at a stage is told by the whole frame and what is held, so it is told of each list that agrees.
-use Rattle.std.proofs.Common.{ℕ, ℤ, pos, suc, zero, ◌≡◌, ◌^◌, ◌<◌, ◌≤◌, ◌⊎◌, ◌↔◌, inl, inr, Bool, true, false, cond, IsTrue, List, [], ◌∷◌, ◌++◌, length, get_or, Option, None, Some, refl, sym, ap, ◌∙◌, subst, arith}
+use Rattle.std.proofs.Common.{ℕ, ℤ, pos, suc, ◌≡◌, ◌^◌, ◌<◌, ◌≤◌, ◌⊎◌, ◌↔◌, inl, inr, Bool, true, false, cond, IsTrue, List, [], ◌∷◌, length, get_or, Option, None, Some, refl, sym, ap, ◌∙◌, subst, arith}
 use Rattle.std.specs.Prelude.{AllPairs, slice_get}
 use Rattle.std.proofs.lemmas.Option.{slice_get_within, get_or_from_slice_get}
 use Rattle.line_raster.specs.Canvas.{Canvas, black_at}
@@ -17,19 +17,21 @@ use Rattle.coefficient_cache.specs.Pairs.{series_key, key_eq, in_series, coeffic
 use Rattle.coefficient_cache.proofs.Keys.{key_from, key_exact}
 use Rattle.coefficient_cache.proofs.Finds.{or_else, lookup-append}
 use Rattle.coefficient_cache.proofs.Given.{found-needed}
+use Rattle.chart_frames.specs.declared.frame.Frame.TheVariants.{View}
 use Rattle.chart_frames.specs.declared.frame.ViewFrame.{ViewFrame}
 use Rattle.chart_frames.specs.Frames.{Precedes, FitsView}
 use Rattle.chart_client.specs.declared.holding.Holding.{Holding}
 use Rattle.chart_client.specs.HeldNodes.{sent_for}
-use Rattle.chart_client.specs.Holdings.{told_by, root_of, axis_of, seen_by}
+use Rattle.chart_client.specs.Holdings.{told_by, axis_of, seen_by}
 use Rattle.chart_client.specs.Agreeing.{Agrees}
-use Rattle.chart_client.specs.Accepting.{AcceptsView}
+use Rattle.chart_client.specs.Accepting.{Accepts, AcceptsView}
 use Rattle.chart_client.proofs.Entries.{distinct_in_order}
 use Rattle.chart_client.proofs.Grids.{grid_one}
 use Rattle.view_cover.specs.Scene.{Scene}
 use Rattle.view_cover.specs.Chart.{InChart, HoldsChart, IsToldOf}
+use Rattle.progressive_view.proofs.Later.{one-holding}
 use Rattle.progressive_view.specs.Used.{IsTaken, IsUnsent, IsHeldFor}
-use Rattle.progressive_view.specs.Covers.{Stage, scene_by, IsUsable, IsPictureWithin}
+use Rattle.progressive_view.specs.Covers.{Taking, Stage, DrawsCover, scene_by, IsUsable, IsWithinCover}
 
 -- what is sent for a key is told
 told-sent : (view : ViewFrame) (cache : Cache) (k : Key) (c : Coef) → sent_for view.series view.coefs k ≡ Some c → told_by view cache k ≡ Some c
@@ -104,23 +106,32 @@ pub agreeing-held : CoversHold → WantedAreNeeded → (view : ViewFrame) (holdi
 agreeing-held hold needed view holdings i stage list fits usable agrees =
     hold list (scene_by view stage.grid stage.told) (told-of needed view holdings i stage list fits usable agrees) (few-slots view list fits agrees.slots)
 
--- the picture of an accepted frame
-picture-on : CoversHold → WantedAreNeeded → (view : ViewFrame) (holdings new : List Holding) (i : ℕ) (stage : Stage view holdings i) (picture : Canvas) (list : List (Option ℤ)) → FitsView view
+-- the picture of an accepted frame is the list's chart
+picture-is : (view : ViewFrame) (holdings new : List Holding) (i : ℕ) (stage : Stage view holdings i) (picture : Canvas) (list : List (Option ℤ))
     → (accepted : AcceptsView view stage.holding.cache picture holdings new) → accepted.grid ≡ stage.grid → Agrees view stage.holding.cache stage.grid list
-    → IsPictureWithin list (scene_by view stage.grid stage.told) picture
-picture-on hold needed view holdings new i stage picture list fits accepted same agrees =
-    let scene : Scene = scene_by view stage.grid stage.told in
-    let usable : IsUsable view stage.holding stage.grid = subst (λ (g : Grid). IsUsable view stage.holding g) same accepted.usable in
+    → (x y : ℕ) → x < stage.grid.w → y < stage.grid.h → IsTrue (black_at picture x y) ↔ InChart list (scene_by view stage.grid stage.told) x (pos y)
+picture-is view holdings new i stage picture list accepted same agrees =
     let other : Agrees view stage.holding.cache accepted.grid list = subst (λ (g : Grid). Agrees view stage.holding.cache g list) (sym same) agrees in
-    let pixels : (x y : ℕ) → x < stage.grid.w → y < stage.grid.h → IsTrue (black_at picture x y) ↔ InChart list scene x (pos y) =
     subst (λ (g : Grid). (x y : ℕ) → x < g.w → y < g.h → IsTrue (black_at picture x y) ↔ InChart list (scene_by view g stage.told) x (pos y)) same
-    (accepted.draws list other).pixels in
+    (accepted.draws list other).pixels
+
+picture-in : CoversHold → WantedAreNeeded → (s : Taking) (cover picture : Canvas) (new : List Holding) (drawn : DrawsCover s cover) (list : List (Option ℤ)) → FitsView s.view
+    → AcceptsView s.view drawn.stage.holding.cache picture s.holdings new → Agrees s.view drawn.stage.holding.cache drawn.stage.grid list
+    → IsWithinCover list (scene_by s.view drawn.stage.grid drawn.stage.told) cover picture
+picture-in hold needed s cover picture new drawn list fits accepted agrees =
+    let stage : Stage s.view s.holdings s.taken = drawn.stage in
+    let same : accepted.grid ≡ stage.grid = grid_one s.view accepted.grid stage.grid accepted.grid_is stage.grid_is in
+    let usable : IsUsable s.view stage.holding stage.grid = subst (λ (g : Grid). IsUsable s.view stage.holding g) same accepted.usable in
+    let pixels = picture-is s.view s.holdings new s.taken stage picture list accepted same agrees in
     record {
       chart = pixels;
-      within = λ x y wide high black. agreeing-held hold needed view holdings i stage list fits usable agrees x (pos y) ((pixels x y wide high).0 black);
+      within = λ x y wide high black. (drawn.cover.pixels x y wide high).1
+          (agreeing-held hold needed s.view s.holdings s.taken stage list fits usable agrees x (pos y) ((pixels x y wide high).0 black));
     }
 
-pub picture-within : CoversHold → WantedAreNeeded → (view : ViewFrame) (holdings new : List Holding) (i : ℕ) (stage : Stage view holdings i) (picture : Canvas) (list : List (Option ℤ)) → FitsView view
-    → AcceptsView view stage.holding.cache picture holdings new → Agrees view stage.holding.cache stage.grid list → IsPictureWithin list (scene_by view stage.grid stage.told) picture
-picture-within hold needed view holdings new i stage picture list fits accepted agrees =
-    picture-on hold needed view holdings new i stage picture list fits accepted (grid_one view accepted.grid stage.grid accepted.grid_is stage.grid_is) agrees
+pub picture-within : CoversHold → WantedAreNeeded → (s : Taking) (cover picture : Canvas) (new : List Holding) (drawn : DrawsCover s cover) (list : List (Option ℤ)) → FitsView s.view
+    → Accepts (View s.view) (Some picture) s.holdings new → Agrees s.view drawn.stage.holding.cache drawn.stage.grid list
+    → IsWithinCover list (scene_by s.view drawn.stage.grid drawn.stage.told) cover picture
+picture-within hold needed s cover picture new drawn list fits (holding, is, accepted) agrees =
+    let same : holding ≡ drawn.stage.holding = one-holding (sym is ∙ drawn.stage.holding_is) in
+    picture-in hold needed s cover picture new drawn list fits (subst (λ (h : Holding). AcceptsView s.view h.cache picture s.holdings new) same accepted) agrees

@@ -5,14 +5,13 @@ use Rattle.chart_grid.specs.declared.grid.Grid.{Grid}
 use Rattle.om3_coeff.specs.declared.key.Key.{Key}
 use Rattle.om3_coeff.specs.declared.coef.Coef.{Coef}
 use Rattle.view_cover.specs.Scene.{Scene}
-use Rattle.view_cover.specs.Cover.{InCover}
 use Rattle.view_cover.specs.Chart.{InChart}
 use Rattle.view_cover.specs.Walk.{IsCoverOf}
 use Rattle.chart_frames.specs.declared.frame.ViewFrame.{ViewFrame}
 use Rattle.chart_frames.specs.Frames.{FitsView}
 use Rattle.chart_client.specs.declared.holding.Holding.{Holding}
 use Rattle.chart_client.specs.Holdings.{holding_of, root_of, axis_of, seen_by}
-use Rattle.chart_client.specs.Agreeing.{IsGridOf, Agrees}
+use Rattle.chart_client.specs.Agreeing.{IsGridOf}
 use Rattle.chart_client.specs.Failing.{NoneFails}
 use Rattle.progressive_view.specs.Used.{AreUsed}
 
@@ -51,11 +50,7 @@ pub record DrawsCover (s : Taking) (drawing : Canvas) : Type 0 where
 abbrev pub IsUsable : ViewFrame → Holding → Grid → Type 0
 IsUsable view holding grid = NoneFails (seen_by view holding.cache) (axis_of view) grid view.lo view.hi
 
--- the list agrees with the whole frame and what its session holds
-abbrev pub AgreesWith : ViewFrame → Holding → Grid → List (Option ℤ) → Type 0
-AgreesWith view holding grid list = Agrees view holding.cache grid list
-
--- the picture is the list's chart, and each of its black pixels lies in the cover
-pub record IsPictureWithin (list : List (Option ℤ)) (scene : Scene) (picture : Canvas) : Type 0 where
+-- the picture is the list's chart, and black only where the cover is
+pub record IsWithinCover (list : List (Option ℤ)) (scene : Scene) (cover picture : Canvas) : Type 0 where
   pub chart : (x y : ℕ) → x < scene.grid.w → y < scene.grid.h → IsTrue (black_at picture x y) ↔ InChart list scene x (pos y)
-  pub within : (x y : ℕ) → x < scene.grid.w → y < scene.grid.h → IsTrue (black_at picture x y) → InCover scene x (pos y)
+  pub within : (x y : ℕ) → x < scene.grid.w → y < scene.grid.h → IsTrue (black_at picture x y) → IsTrue (black_at cover x y)

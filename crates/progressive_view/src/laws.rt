@@ -1,14 +1,16 @@
 //! What follows from the definitions. The functions do nothing: their contracts are the laws.
 
-ghost use Rattle.std.specs.Prelude.{ℕ, ℤ, ◌≤◌, List, Option};
+ghost use Rattle.std.specs.Prelude.{ℕ, ℤ, ◌≤◌, List, Option, Some};
 ghost use Rattle.line_raster.specs.Canvas.{Canvas};
 ghost use Rattle.view_cover.specs.Cover.{InCover};
 ghost use Rattle.view_cover.specs.Chart.{HoldsChart};
+ghost use Rattle.chart_frames.specs.declared.frame.Frame.TheVariants.{View};
 ghost use Rattle.chart_frames.specs.declared.frame.ViewFrame.{ViewFrame};
 ghost use Rattle.chart_frames.specs.Frames.{FitsView};
 ghost use Rattle.chart_client.specs.declared.holding.Holding.{Holding};
-ghost use Rattle.chart_client.specs.Accepting.{AcceptsView};
-ghost use Rattle.progressive_view.specs.Covers.{Stage, scene_by, IsUsable, AgreesWith, IsPictureWithin};
+ghost use Rattle.chart_client.specs.Agreeing.{Agrees};
+ghost use Rattle.chart_client.specs.Accepting.{Accepts};
+ghost use Rattle.progressive_view.specs.Covers.{Taking, Stage, DrawsCover, scene_by, IsUsable, IsWithinCover};
 
 use view_cover::laws::{covers_hold_the_chart, covers_shrink};
 use view_keys::laws::wanted_keys_are_needed;
@@ -25,7 +27,7 @@ pub fn later_covers_lie_within()
 /// that agrees with the whole frame.
 pub fn covers_hold_agreeing_charts()
     ensures { (view : ViewFrame) (holdings : List Holding) (i : ℕ) (stage : Stage view holdings i) (list : List (Option ℤ)) →
-        FitsView view → IsUsable view stage.holding stage.grid → AgreesWith view stage.holding stage.grid list →
+        FitsView view → IsUsable view stage.holding stage.grid → Agrees view stage.holding.cache stage.grid list →
         HoldsChart list (scene_by view stage.grid stage.told) }
 {
     covers_hold_the_chart();
@@ -33,11 +35,11 @@ pub fn covers_hold_agreeing_charts()
 }
 
 /// Where a client accepts a view's frame, its picture is the chart of each list that agrees with the
-/// frame, and lies within the cover of each stage.
+/// frame, and black only where each cover of the view is.
 pub fn pictures_lie_within_covers()
-    ensures { (view : ViewFrame) (holdings new : List Holding) (i : ℕ) (stage : Stage view holdings i) (picture : Canvas) (list : List (Option ℤ)) →
-        FitsView view → AcceptsView view stage.holding.cache picture holdings new → AgreesWith view stage.holding stage.grid list →
-        IsPictureWithin list (scene_by view stage.grid stage.told) picture }
+    ensures { (s : Taking) (cover picture : Canvas) (new : List Holding) (drawn : DrawsCover s cover) (list : List (Option ℤ)) →
+        FitsView s.view → Accepts (View s.view) (Some picture) s.holdings new → Agrees s.view drawn.stage.holding.cache drawn.stage.grid list →
+        IsWithinCover list (scene_by s.view drawn.stage.grid drawn.stage.told) cover picture }
 {
     covers_hold_the_chart();
     wanted_keys_are_needed();
