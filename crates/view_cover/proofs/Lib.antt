@@ -4,7 +4,9 @@ mod Fronts
 mod Shrinking
 mod Samples
 mod Listed
+mod Ends
 mod Filling
+mod Gaps
 mod Holding
 mod Parts
 mod Drawn
