@@ -1,5 +1,5 @@
 -- From one column to the next that has a stored slot: the keys at both ends are consecutive.
-use Rattle.std.proofs.Common.{ℕ, ℤ, zero, suc, ◌≡◌, ◌+◌, ◌^◌, ◌<◌, ◌≤◌, ◌≤ℤ◌, ◌⊎◌, inl, inr, List, Option, Some, subst, arith}
+use Rattle.std.proofs.Common.{ℕ, ℤ, zero, suc, ◌≡◌, ◌+◌, ◌^◌, ◌<◌, ◌≤◌, ◌≤ℤ◌, inl, inr, List, Option, Some, subst, arith}
 use Rattle.std.proofs.lemmas.Bool.{cases_lt}
 use Rattle.std.proofs.lemmas.Int.{ints}
 use Rattle.chart_grid.specs.Projection.{height}
@@ -11,13 +11,14 @@ use Rattle.om3_coeff.specs.Coefs.{coef}
 use Rattle.view_keys.specs.Ranges.{IsInRange}
 use Rattle.view_keys.proofs.Ranging.{above-in_range, shared-above, parent-above, first-in_range}
 use Rattle.view_cover.specs.Scene.{Scene, IsSeen}
-use Rattle.view_cover.specs.Front.{IsLowest, AreConsecutive}
+use Rattle.view_cover.specs.Front.{AreConsecutive}
 use Rattle.view_cover.specs.Cover.{bottom, top}
 use Rattle.view_cover.proofs.Spans.{Basis, IsPart}
 use Rattle.view_cover.proofs.Trees.{peak, seen-one, seen-parent, seen-above, ranges-apart}
-use Rattle.view_cover.proofs.Fronts.{lowest-ends}
 use Rattle.view_cover.proofs.Listed.{Sums, Tells, Listed, Found, IsLevel, extremes-of, half-listed, top-listed}
 use Rattle.view_cover.proofs.Filling.{AreOrdered}
+use Rattle.view_cover.proofs.Parts.{places}
+use Rattle.view_cover.proofs.Steps.{seen-reached}
 use Rattle.view_cover.proofs.Ends.{HasLast, HasFirst, some-slots}
 
 -- a view, all of whose needed keys are told of a list, and what that rests on
@@ -91,17 +92,6 @@ none-seen list scene of i j c d g m u seen from to =
     let least = (extremes-of of.sums list m listed.span listed.is).least in
     g.none least.slot listed.span.min (omega (arith, g.left.in_range.to, from, least.low)) (omega (arith, least.high, to, g.right.in_range.from)) least.holds
 
--- a lowest key lies at or below a seen one, or apart from it
-lowest-placed : Basis → (scene : Scene) (k m : Key) (s u : Span) → IsSeen scene k s → IsLowest scene m u → IsAtOrAbove k m ⊎ ((end_slot k ≤ first_slot m) ⊎ (end_slot m ≤ first_slot k))
-lowest-placed by scene k m s u seen low =
-    elim (ranges-apart k m) [
-      | inr apart ↦ inr apart
-      | inl shared ↦ elim (cases_lt k.level m.level) [
-        | inl under ↦ absurd (lowest-ends by scene m k u s low seen (shared-above m k shared.0 (omega (arith, under)) shared.2 shared.1) under)
-        | inr over ↦ inl (shared-above k m shared.0 over shared.1 shared.2)
-      ]
-    ]
-
 -- the last lowest key of the left end and the first one of the right end are consecutive
 pub gap-crossed : (list : List (Option ℤ)) (scene : Scene) → Told list scene → (i j c d : ℕ) (g : Gap list scene i j c d) (f : HasLast scene g.left.key) (h : HasFirst scene g.right.key)
     → AreConsecutive scene f.key h.key
@@ -113,15 +103,15 @@ gap-crossed list scene of i j c d g f h =
     record {
       order = omega (arith, left_end, right_start, ends-apart list scene i j c d g);
       none_between = λ m u front from to.
-          elim (lowest-placed of.by scene g.left.key m g.left.listed.span u g.left.listed.seen front.lowest) [
+          elim (places of.by scene g.left.key (Some g.left.listed.span) (seen-reached scene g.left.key g.left.listed.span g.left.listed.seen) m u front.lowest) [
             | inl above ↦ f.none m u front.lowest above from
             | inr apart ↦ elim apart [
-              | inr before ↦ absurd (omega (arith, before, some-slots m, some-slots f.key, left_start, from))
-              | inl behind ↦ elim (lowest-placed of.by scene g.right.key m g.right.listed.span u g.right.listed.seen front.lowest) [
+              | inl before ↦ absurd (omega (arith, before, some-slots m, some-slots f.key, left_start, from))
+              | inr behind ↦ elim (places of.by scene g.right.key (Some g.right.listed.span) (seen-reached scene g.right.key g.right.listed.span g.right.listed.seen) m u front.lowest) [
                 | inl over ↦ h.none m u front.lowest over to
                 | inr aside ↦ elim aside [
-                  | inl past ↦ absurd (omega (arith, past, some-slots m, some-slots h.key, right_end, to))
-                  | inr short ↦ none-seen list scene of i j c d g m u front.lowest.seen behind short
+                  | inr past ↦ absurd (omega (arith, past, some-slots m, some-slots h.key, right_end, to))
+                  | inl short ↦ none-seen list scene of i j c d g m u front.lowest.seen behind short
                 ]
               ]
             ]

@@ -25,7 +25,7 @@ use Rattle.view_cover.proofs.Spans.{Basis}
 use Rattle.view_cover.proofs.Trees.{peak, seen-above}
 use Rattle.view_cover.proofs.Fronts.{IsInherited, lowest-below}
 use Rattle.view_cover.proofs.Shrinking.{lowest-front, times-between, shrinks}
-use Rattle.view_cover.proofs.Steps.{reached-order}
+use Rattle.view_cover.proofs.Steps.{reached-order, seen-reached}
 use Rattle.view_cover.proofs.Samples.{IsSample, IsOfSample, IsOfSegment, charted}
 use Rattle.view_cover.proofs.Listed.{Sums, IsEnd, filled, filled-more, filled-tells, extremes-of, column-between, blocked, anchored}
 use Rattle.view_cover.proofs.Filling.{Drawn, fills-column}
@@ -284,7 +284,7 @@ told-all by sums proper list scene of few =
       sums = sums;
       tells = filled-tells list scene of;
       few = omega (arith, few, of.slots);
-      ordered = λ k s seen. reached-order proper full k s root (record { key = seen.key; known_so = seen.span });
+      ordered = λ k s seen. reached-order proper full k s root (seen-reached full k s seen);
     }
 
 pub holds-chart : Basis → Sums → AreProper → ((g : Grid) (s t : ℤ) → InWindow g s → InWindow g t → s ≤ℤ t → column g s ≤ column g t)
