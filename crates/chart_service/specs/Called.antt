@@ -12,10 +12,10 @@ use Rattle.zoom_session.specs.declared.session.Session.{Session}
 use Rattle.zoom_session.specs.declared.view_spec.ViewSpec.{ViewSpec}
 use Rattle.chart_service.specs.ReadingBlocks.{ReadsLine}
 use Rattle.chart_service.specs.Looking.{Looks, Looked, Replying, ReadsBy, ReadsByText}
-use Rattle.chart_service.specs.Replies.{AnswersBy, AnswersView, RepliesToView, RepliesByText, MovesIn, Opens}
+use Rattle.chart_service.specs.Replies.{AnswersBy, AnswersView, RepliesToView, RepliesByText, MovesIn, Opens, own_zoom}
 use Rattle.chart_service.specs.Shown as shown
 use Rattle.chart_service.specs.State.{State}
-use Rattle.chart_service.specs.Stepping.{IsStepCause, IsLineCause, IsUnchangedBy, IsUnchangedFor, ReadsFor, ReadsLast, series_at}
+use Rattle.chart_service.specs.Stepping.{IsStepCause, IsLineCause, IsUnchangedBy, IsUnchangedFor, ReadsFew, ReadsFor, ReadsLast, series_at}
 use Rattle.chart_service.specs.Viewing.{AnswersRows}
 use Rattle.chart_service.specs.declared.failure.ServiceError.{ServiceError}
 use Rattle.chart_service.specs.declared.service.Service.{Service}
@@ -38,6 +38,11 @@ module _ {P : Type 0} {g : Ghosts P} where
   -- so of the view that a session was answered last, if it had one
   abbrev pub ForLast : ℕ → Service P g → (ViewSpec → Type 0) → Type 0
   ForLast session it IsSo = IfSome (last_of (session_of session it.sessions)) IsSo
+
+  -- a repeat of a session's last view reads no more blocks than a zoom to the view's own window may
+  abbrev pub ReadsFewAgain : ℕ → Service P g → Service P g → Type 0
+  ReadsFewAgain session old new =
+      ForLast session old (λ last. shown.ForBook old (λ total book. ReadsFew (own_zoom session last) book old.sessions (shown.view old).reads (shown.view new).reads))
 
   -- why a request wasn't answered, and a line
   abbrev pub IsCause : Request → Service P g → Service P g → ServiceError → Type 0

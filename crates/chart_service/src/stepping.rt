@@ -13,7 +13,7 @@ ghost use Rattle.chart_service.specs.Opening.{OpensBy, LosesAtMost, StaysIn};
 ghost use Rattle.zoom_session.specs.Sessions.{session_of, last_of};
 ghost use Rattle.chart_service.specs.Replies.{Replied, line_text, own_zoom};
 ghost use Rattle.chart_service.specs.Stepping.{RepliedTo, NamesBad, IsOutside, Steps, ReadsFew};
-ghost use Rattle.chart_service.specs.Called.{AnswersSo, CommitsOnly, ForLast, IsCause, IsCauseOfLine, ReadsFewFor};
+ghost use Rattle.chart_service.specs.Called.{AnswersSo, CommitsOnly, ForLast, IsCause, IsCauseOfLine, ReadsFewAgain, ReadsFewFor};
 ghost use Rattle.chart_service.specs.Shown as shown;
 ghost use Rattle.chart_service.specs.Syncing.{edit_asked, edit_of};
 
@@ -109,7 +109,7 @@ impl<P: Pages> Service<P> {
         requires viewed { IsTrue (is_some (last_of (session_of session self.old.sessions))) }
         ensures reply { ForLast session self.old (λ last. shown.ForBook self.old (λ total book. IfOk result (AnswersSo (RepliedTo (own_zoom session last)) total book self.old self.new))) }
         ensures standing { shown.ForBook self.old (λ total book. IfErr result IsOutside) }
-        ensures reads { ForLast session self.old (λ last. shown.ForBook self.old (λ total book. ReadsFew (own_zoom session last) book self.old.sessions (shown.view self.old).reads (shown.view self.new).reads)) }
+        ensures reads { ReadsFewAgain session self.old self.new }
         // whatever the pages are
         ensures fits { IfOk result Fits }
         ensures opens { IfOk result (λ frame. OpensBy frame self.old.sessions self.new.sessions) }

@@ -1,40 +1,75 @@
 -- Copies of pages in their places.
-use Rattle.std.proofs.Common.{◌≡◌, ◌≢◌, ℕ, ◌<◌, arith, rules, subst, Bool, true, false, cond, eqb, List, length, set, get_or, Option, Some, None, is_some, refl, sym, ap, inl, inr, ◌∙◌, unwrap_or}
+use Rattle.std.proofs.Common.{◌≡◌, ◌≢◌, ℕ, zero, suc, ◌+◌, ◌<◌, ◌*◌, ◌++◌, arith, rules, Bool, true, false, cond, eqb, List, length, set, get_or, Option, Some, None, refl, sym, ap, inl, inr, ◌∙◌, unwrap_or}
 use Rattle.std.specs.Option.{option_map}
 use Rattle.std.specs.Prelude.{replicate}
-use Rattle.std.proofs.lemmas.Bool.{ne_eqb}
+use Rattle.std.proofs.lemmas.Bool.{cases_lt, eq-eqb, ne_eqb}
 use Rattle.std.proofs.lemmas.Bool.Decides.{eqb_tells}
-use Rattle.std.proofs.lemmas.List.{get_or-set_same, get_or-set_other, get_or-replicate}
+use Rattle.std.proofs.lemmas.List.{get_or-set_same, get_or-set_other}
 use Rattle.std.proofs.lemmas.Nat.{mod_below}
 use Rattle.std.proofs.lemmas.Option.{none-some, same_Some}
+use Rattle.block_disk.specs.Blocks.{block_size, IsBlock}
 use Rattle.block_disk.specs.MemDisk.{blocks_of, put}
 use Rattle.block_disk.specs.View.{Image}
 use Rattle.gate_pages.specs.Batch.{Entry, page_in, put_all}
-use Rattle.page_space.specs.Copies.{Copies, place, copy_of, copies_at, with_copy, renewed, AreCopiesOf}
+use Rattle.page_space.specs.Copies.{Copies, place, copy_of, copy_at, copies_at, with_copy, renewed, AreCopiesOf}
+use Rattle.page_space.specs.Places.{filled, AreKept}
+use Rattle.page_space.specs.declared.page_cache.Kept.{Kept}
+use Rattle.page_space.proofs.Placing.{block_added, block_kept}
 
 pub place_below : (p : ℕ) → place p < 1024
 place_below p = mod_below p 1024 (omega arith)
 
-same_number : (n : ℕ) → eqb n n ≡ true
-same_number n = elim (eqb_tells n n) [ inl is ↦ is.0 | inr not ↦ absurd (not.1 refl) ]
+-- what a place has once the copy of a page was written over that of another
+put_off : (places : List (Option Kept)) (bytes bytes' page : List ℕ) (at a : ℕ) (old : Kept) (place_now : Option Kept) → AreKept places → get_or places at None ≡ Some old → get_or places a None ≡ place_now → a ≢ at
+    → blocks_of bytes' ≡ put old.copy page (blocks_of bytes) → (q : ℕ) → copy_at place_now bytes' q ≡ copy_at place_now bytes q
+put_off places bytes bytes' page at a old None are some now other is q = refl
+put_off places bytes bytes' page at a old (Some one) are some now other is q =
+    let apart : one.copy ≢ old.copy = λ same. other (are.apart a at one old now some same) in
+    ap (λ l. copy_of one.page l q) (ap (λ (i : Image). i one.copy) is ∙ ap (λ b. cond b page (blocks_of bytes one.copy)) (ne_eqb one.copy old.copy apart))
 
--- a page is put in its place
-pub put_copy : (numbers : List (Option ℕ)) (bytes bytes' : List ℕ) (p : ℕ) (page : List ℕ) → length numbers ≡ 1024 → blocks_of bytes' ≡ put (place p) page (blocks_of bytes)
-    → (q : ℕ) → copies_at (set numbers (place p) (Some p)) bytes' q ≡ with_copy p page (copies_at numbers bytes) q
-put_copy numbers bytes bytes' p page room is q =
-    let numbers' = set numbers (place p) (Some p) in
-    let block : blocks_of bytes' (place q) ≡ cond (eqb (place q) (place p)) page (blocks_of bytes (place q)) = ap (λ (i : Image). i (place q)) is in
+-- a page is put in a place in which another one was
+pub put_over : (places : List (Option Kept)) (bytes bytes' page : List ℕ) (p : ℕ) (old kept : Kept) → length places ≡ 1024 → AreKept places → get_or places (place p) None ≡ Some old → kept.page ≡ p → kept.copy ≡ old.copy
+    → blocks_of bytes' ≡ put old.copy page (blocks_of bytes) → (q : ℕ) → copies_at (set places (place p) (Some kept)) bytes' q ≡ with_copy p page (copies_at places bytes) q
+put_over places bytes bytes' page p old kept room are some number same is q =
+    let places' = set places (place p) (Some kept) in
     elim (eqb_tells (place q) (place p)) [
-      | inl same ↦
-          let number : get_or numbers' (place q) None ≡ Some p =
-          ap (λ n. get_or numbers' n None) same.1 ∙ get_or-set_same numbers (place p) (Some p) None (omega (arith, place_below p, room)) in
-          ap (λ o. copy_of o (blocks_of bytes' (place q)) q) number
-          ∙ ap (λ l. copy_of (Some p) l q) (block ∙ ap (λ b. cond b page (blocks_of bytes (place q))) same.0)
-          ∙ sym (ap (λ b. cond b (copy_of (Some p) page q) (copies_at numbers bytes q)) same.0)
+      | inl here ↦
+          let now : get_or places' (place q) None ≡ Some kept = ap (λ n. get_or places' n None) here.1 ∙ get_or-set_same places (place p) (Some kept) None (omega (arith, place_below p, room)) in
+          let block : blocks_of bytes' kept.copy ≡ page = ap (λ (i : Image). i kept.copy) is ∙ ap (λ b. cond b page (blocks_of bytes kept.copy)) (eq-eqb kept.copy old.copy same) in
+          ap (λ o. copy_at o bytes' q) now
+          ∙ ap (λ l. copy_of kept.page l q) block
+          ∙ ap (λ n. copy_of n page q) number
+          ∙ sym (ap (λ b. cond b (copy_of p page q) (copies_at places bytes q)) here.0)
       | inr other ↦
-          ap (λ o. copy_of o (blocks_of bytes' (place q)) q) (get_or-set_other numbers (place p) (place q) (Some p) None other.1)
-          ∙ ap (λ l. copy_of (get_or numbers (place q) None) l q) (block ∙ ap (λ b. cond b page (blocks_of bytes (place q))) other.0)
-          ∙ sym (ap (λ b. cond b (copy_of (Some p) page q) (copies_at numbers bytes q)) other.0)
+          ap (λ o. copy_at o bytes' q) (get_or-set_other places (place p) (place q) (Some kept) None other.1)
+          ∙ put_off places bytes bytes' page (place p) (place q) old (get_or places (place q) None) are some refl other.1 is q
+          ∙ sym (ap (λ b. cond b (copy_of p page q) (copies_at places bytes q)) other.0)
+    ]
+
+-- what a place has once a copy came behind the others
+add_off : (places : List (Option Kept)) (bytes page : List ℕ) (a : ℕ) (place_now : Option Kept) → AreKept places → length bytes ≡ block_size * filled places → get_or places a None ≡ place_now
+    → (q : ℕ) → copy_at place_now (bytes ++ page) q ≡ copy_at place_now bytes q
+add_off places bytes page a None are many now q = refl
+add_off places bytes page a (Some one) are many now q = ap (λ l. copy_of one.page l q) (block_kept bytes page (filled places) one.copy many (are.within a one now))
+
+-- a page is put in an empty place
+pub put_first : (places : List (Option Kept)) (bytes page : List ℕ) (p : ℕ) (kept : Kept) → length places ≡ 1024 → AreKept places → length bytes ≡ block_size * filled places → IsBlock page → kept.page ≡ p → kept.copy ≡ filled places
+    → (q : ℕ) → copies_at (set places (place p) (Some kept)) (bytes ++ page) q ≡ with_copy p page (copies_at places bytes) q
+put_first places bytes page p kept room are many whole number last q =
+    let places' = set places (place p) (Some kept) in
+    let bytes' = bytes ++ page in
+    elim (eqb_tells (place q) (place p)) [
+      | inl here ↦
+          let now : get_or places' (place q) None ≡ Some kept = ap (λ n. get_or places' n None) here.1 ∙ get_or-set_same places (place p) (Some kept) None (omega (arith, place_below p, room)) in
+          let block : blocks_of bytes' kept.copy ≡ page = ap (λ n. blocks_of bytes' n) last ∙ block_added bytes page (filled places) many whole in
+          ap (λ o. copy_at o bytes' q) now
+          ∙ ap (λ l. copy_of kept.page l q) block
+          ∙ ap (λ n. copy_of n page q) number
+          ∙ sym (ap (λ b. cond b (copy_of p page q) (copies_at places bytes q)) here.0)
+      | inr other ↦
+          ap (λ o. copy_at o bytes' q) (get_or-set_other places (place p) (place q) (Some kept) None other.1)
+          ∙ add_off places bytes page (place q) (get_or places (place q) None) are many refl q
+          ∙ sym (ap (λ b. cond b (copy_of p page q) (copies_at places bytes q)) other.0)
     ]
 
 -- a page that was read is one of the pages, and the others still are
@@ -42,13 +77,13 @@ pub copies_with : (image : Image) (p : ℕ) (page : List ℕ) (copies : Copies) 
 copies_with image p page copies is are q bytes held = elim (eqb_tells (place q) (place p)) [
   | inl same ↦ elim (eqb_tells q p) [
     | inl this ↦
-        let some : Some page ≡ Some bytes = sym (ap (λ b. cond b (copy_of (Some p) page q) (copies q)) same.0 ∙ ap (λ b. cond b (Some page) None) this.0) ∙ held in
+        let some : Some page ≡ Some bytes = sym (ap (λ b. cond b (copy_of p page q) (copies q)) same.0 ∙ ap (λ b. cond b (Some page) None) this.0) ∙ held in
         sym (same_Some page bytes some) ∙ is ∙ ap image (sym this.1)
     | inr not ↦
-        let none : None ≡ Some bytes = sym (ap (λ b. cond b (copy_of (Some p) page q) (copies q)) same.0 ∙ ap (λ b. cond b (Some page) None) not.0) ∙ held in
+        let none : None ≡ Some bytes = sym (ap (λ b. cond b (copy_of p page q) (copies q)) same.0 ∙ ap (λ b. cond b (Some page) None) not.0) ∙ held in
         absurd (none-some bytes none)
   ]
-  | inr other ↦ are q bytes (sym (ap (λ b. cond b (copy_of (Some p) page q) (copies q)) other.0) ∙ held)
+  | inr other ↦ are q bytes (sym (ap (λ b. cond b (copy_of p page q) (copies q)) other.0) ∙ held)
 ]
 
 -- copies that are the same are of the same pages
@@ -69,13 +104,11 @@ copies_renewed image batch copies are p bytes = by (copies p) (page_in batch p) 
     by (Some old) (Some new) was = λ held. sym (same_Some new bytes held)
 
 -- a place that holds a page of the batch has its new bytes
-pub renewed_put : (batch : List Entry) (number : Option ℕ) (n : ℕ) (bytes page : List ℕ) (p : ℕ) → number ≡ Some n → page_in batch n ≡ Some page → copy_of number page p ≡ option_map (λ old. unwrap_or (page_in batch p) old) (copy_of number bytes p)
-renewed_put batch number n bytes page p is some =
-    let P : Option ℕ → Type 0 = λ o. copy_of o page p ≡ option_map (λ old. unwrap_or (page_in batch p) old) (copy_of o bytes p) in
-    subst P (sym is) (elim (eqb_tells p n) [
-      | inl this ↦ by (eqb p n) (page_in batch p) (λ same. ap (page_in batch) this.1 ∙ some)
-      | inr not ↦ by (eqb p n) (page_in batch p) (λ same. absurd (differ (eqb p n) not.0 same))
-    ])
+renewed_put : (batch : List Entry) (n : ℕ) (bytes page : List ℕ) (p : ℕ) → page_in batch n ≡ Some page → copy_of n page p ≡ option_map (λ old. unwrap_or (page_in batch p) old) (copy_of n bytes p)
+renewed_put batch n bytes page p some = elim (eqb_tells p n) [
+  | inl this ↦ by (eqb p n) (page_in batch p) (λ same. ap (page_in batch) this.1 ∙ some)
+  | inr not ↦ by (eqb p n) (page_in batch p) (λ same. absurd (differ (eqb p n) not.0 same))
+]
   where
     differ : (b : Bool) → b ≡ false → b ≡ true → ⊥
     differ true = λ nope is. search rules
@@ -85,35 +118,55 @@ renewed_put batch number n bytes page p is some =
     by false found some = refl
     by true found some = sym (ap (λ (o : Option (List ℕ)). Some (unwrap_or o bytes)) (some refl))
 
--- a block was put at a place: each page there is renewed
-pub renewed_here : (batch : List Entry) (numbers : List (Option ℕ)) (bytes bytes' : List ℕ) (at n : ℕ) (page : List ℕ) → get_or numbers at None ≡ Some n → page_in batch n ≡ Some page → blocks_of bytes' ≡ put at page (blocks_of bytes)
-    → (p : ℕ) → place p ≡ at → copies_at numbers bytes' p ≡ renewed batch (copies_at numbers bytes) p
-renewed_here batch numbers bytes bytes' at n page number some is p same =
-    let block : blocks_of bytes' (place p) ≡ page = ap (λ k. blocks_of bytes' k) same ∙ ap (λ (i : Image). i at) is ∙ ap (λ b. cond b page (blocks_of bytes at)) (same_number at) in
-    ap (λ l. copy_of (get_or numbers (place p) None) l p) block
-    ∙ renewed_put batch (get_or numbers (place p) None) n (blocks_of bytes (place p)) page p (ap (λ k. get_or numbers k None) same ∙ number) some
+-- a block was put for a place: each page there is renewed
+pub renewed_here : (batch : List Entry) (places : List (Option Kept)) (bytes bytes' : List ℕ) (at : ℕ) (kept : Kept) (page : List ℕ) → get_or places at None ≡ Some kept → page_in batch kept.page ≡ Some page → blocks_of bytes' ≡ put kept.copy page (blocks_of bytes)
+    → (p : ℕ) → place p ≡ at → copies_at places bytes' p ≡ renewed batch (copies_at places bytes) p
+renewed_here batch places bytes bytes' at kept page is some put_is p same =
+    let now : get_or places (place p) None ≡ Some kept = ap (λ k. get_or places k None) same ∙ is in
+    let block : blocks_of bytes' kept.copy ≡ page = ap (λ (i : Image). i kept.copy) put_is ∙ ap (λ b. cond b page (blocks_of bytes kept.copy)) (eq-eqb kept.copy kept.copy refl) in
+    ap (λ o. copy_at o bytes' p) now
+    ∙ ap (λ l. copy_of kept.page l p) block
+    ∙ renewed_put batch kept.page (blocks_of bytes kept.copy) page p some
+    ∙ sym (ap (λ o. option_map (λ old. unwrap_or (page_in batch p) old) (copy_at o bytes p)) now)
 
 -- and the others stay
-pub renewed_off : (numbers : List (Option ℕ)) (bytes bytes' : List ℕ) (at : ℕ) (page : List ℕ) → blocks_of bytes' ≡ put at page (blocks_of bytes) → (p : ℕ) → place p ≢ at → copies_at numbers bytes' p ≡ copies_at numbers bytes p
-renewed_off numbers bytes bytes' at page is p other =
-    ap (λ l. copy_of (get_or numbers (place p) None) l p) (ap (λ (i : Image). i (place p)) is ∙ ap (λ b. cond b page (blocks_of bytes (place p))) (ne_eqb (place p) at other))
+pub renewed_off : (places : List (Option Kept)) (bytes bytes' : List ℕ) (at : ℕ) (kept : Kept) (page : List ℕ) → AreKept places → get_or places at None ≡ Some kept → blocks_of bytes' ≡ put kept.copy page (blocks_of bytes)
+    → (p : ℕ) → place p ≢ at → copies_at places bytes' p ≡ copies_at places bytes p
+renewed_off places bytes bytes' at kept page are is put_is p other = put_off places bytes bytes' page at (place p) kept (get_or places (place p) None) are is refl other put_is p
 
 -- a page that a place holds has its bytes
-pub copy_found : (number : Option ℕ) (bytes : List ℕ) (p : ℕ) → is_some (copy_of number bytes p) ≡ true → Some bytes ≡ copy_of number bytes p
-copy_found None bytes p = λ nope. search rules
-copy_found (Some n) bytes p = by (eqb p n)
-  where
-    by : (b : Bool) → is_some (cond b (Some bytes) None) ≡ true → Some bytes ≡ cond b (Some bytes) None
-    by true = λ is. refl
-    by false = λ nope. search rules
+pub copy_found : (place_now : Option Kept) (bytes : List ℕ) (kept : Kept) (p : ℕ) → place_now ≡ Some kept → kept.page ≡ p → Some (blocks_of bytes kept.copy) ≡ copy_at place_now bytes p
+copy_found place_now bytes kept p is number =
+    sym (ap (λ o. copy_at o bytes p) is ∙ ap (λ b. cond b (Some (blocks_of bytes kept.copy)) None) (eq-eqb p kept.page (sym number)))
 
--- what goes with no number is none
-pub only_none : (Goes : Option ℕ → Type 0) → ((n : ℕ) → Goes (Some n) → ⊥) → (number : Option ℕ) → Goes number → number ≡ None
-only_none Goes never None goes = refl
-only_none Goes never (Some n) goes = absurd (never n goes)
+-- another page isn't there
+pub copy_missing : (place_now : Option Kept) (bytes : List ℕ) (kept : Kept) (p : ℕ) → place_now ≡ Some kept → kept.page ≢ p → None ≡ copy_at place_now bytes p
+copy_missing place_now bytes kept p is other =
+    sym (ap (λ o. copy_at o bytes p) is ∙ ap (λ b. cond b (Some (blocks_of bytes kept.copy)) None) (ne_eqb p kept.page (λ same. other (sym same))))
 
 -- empty places hold no page
-pub copies_none : (numbers : List (Option ℕ)) (bytes : List ℕ) → numbers ≡ replicate 1024 None → (p : ℕ) → copies_at numbers bytes p ≡ None
-copies_none numbers bytes is p =
-    let none : get_or numbers (place p) None ≡ None = ap (λ (l : List (Option ℕ)). get_or l (place p) None) is ∙ get_or-replicate 1024 (place p) None None (place_below p) in
-    ap (λ o. copy_of o (blocks_of bytes (place p)) p) none
+abbrev pub empties : ℕ → List (Option Kept)
+empties n = replicate n None
+
+empty_at : (n at : ℕ) → get_or (empties n) at None ≡ None
+empty_at zero at = refl
+empty_at (suc n) zero = refl
+empty_at (suc n) (suc at) = empty_at n at
+
+pub all_empty : (places : List (Option Kept)) → places ≡ replicate 1024 None → (at : ℕ) → get_or places at None ≡ None
+all_empty places is at = ap (λ (l : List (Option Kept)). get_or l at None) is ∙ empty_at 1024 at
+
+pub copies_none : (places : List (Option Kept)) (bytes : List ℕ) → places ≡ replicate 1024 None → (p : ℕ) → copies_at places bytes p ≡ None
+copies_none places bytes is p = ap (λ o. copy_at o bytes p) (all_empty places is (place p))
+
+-- what goes with no place is none
+pub only_none : (Goes : Option Kept → Type 0) → ((kept : Kept) → Goes (Some kept) → ⊥) → (place_now : Option Kept) → Goes place_now → place_now ≡ None
+only_none Goes never None goes = refl
+only_none Goes never (Some kept) goes = absurd (never kept goes)
+
+-- a number below the next one that isn't this one is below this one
+pub below : (n at : ℕ) → n < at + 1 → n ≢ at → n < at
+below n at low other = elim (cases_lt n at) [
+  | inl less ↦ less
+  | inr more ↦ absurd (other (omega (arith, low, more)))
+]

@@ -5,6 +5,7 @@ pub mod Spacing
 mod Writing
 mod Leaving
 mod Starting
+mod Placing
 mod Caching
 mod Taken
 mod Changing

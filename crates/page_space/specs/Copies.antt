@@ -4,6 +4,7 @@ use Rattle.std.specs.Option.{option_map}
 use Rattle.block_disk.specs.MemDisk.{blocks_of}
 use Rattle.block_disk.specs.View.{Image}
 use Rattle.gate_pages.specs.Batch.{Entry, page_in}
+use Rattle.page_space.specs.declared.page_cache.Kept.{Kept}
 use Rattle.page_space.specs.declared.page_cache.PageCache.{PageCache}
 
 -- of each page the copy that is held, if there is one
@@ -15,21 +16,25 @@ abbrev pub place : ℕ → ℕ
 place p = p % 1024
 
 -- what a place that holds the page of this number has of a page
-abbrev pub copy_of : Option ℕ → List ℕ → Copies
-copy_of None bytes p = None
-copy_of (Some number) bytes p = if p == number then Some bytes else None
+abbrev pub copy_of : ℕ → List ℕ → Copies
+copy_of number bytes p = if p == number then Some bytes else None
+
+-- what a place has of a page
+abbrev pub copy_at : Option Kept → List ℕ → Copies
+copy_at None bytes p = None
+copy_at (Some kept) bytes p = copy_of kept.page (blocks_of bytes kept.copy) p
 
 -- the copies in these places
-abbrev pub copies_at : List (Option ℕ) → List ℕ → Copies
-copies_at numbers bytes p = copy_of (slice_index_or numbers (place p) None) (blocks_of bytes (place p)) p
+abbrev pub copies_at : List (Option Kept) → List ℕ → Copies
+copies_at places bytes p = copy_at (slice_index_or places (place p) None) bytes p
 
 -- the copies that a cache holds
 abbrev pub copies_in : PageCache → Copies
-copies_in cache = copies_at cache.numbers.items cache.bytes.items
+copies_in cache = copies_at cache.places.items cache.bytes.items
 
 -- this page is held in its place, and the other places hold what they held
 abbrev pub with_copy : ℕ → List ℕ → Copies → Copies
-with_copy p bytes copies q = if place q == place p then copy_of (Some p) bytes q else copies q
+with_copy p bytes copies q = if place q == place p then copy_of p bytes q else copies q
 
 -- each page that is held has the bytes of the batch, where it has such
 abbrev pub renewed : List Entry → Copies → Copies

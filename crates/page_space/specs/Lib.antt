@@ -5,6 +5,7 @@ pub mod Transactions
 pub mod Causes
 pub mod Opened
 pub mod Firsts
+pub mod Places
 pub mod Copies
 pub mod Beside
 pub mod Shown

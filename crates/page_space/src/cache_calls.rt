@@ -1,5 +1,5 @@
 //! The calls of a cache of pages.
-ghost use Rattle.std.specs.Prelude.{◌≡◌, ◌≢◌, ◌≤◌, ◌<◌, ◌+◌, ◌*◌, ◌%◌, ℕ, List, None, Some, length, is_some, IfOk, IfSome};
+ghost use Rattle.std.specs.Prelude.{◌≡◌, ◌≢◌, ◌≤◌, ◌<◌, ◌+◌, ◌*◌, ◌%◌, ℕ, List, None, Some, length, is_some, slice_index_or, IfOk, IfSome, IsTrue};
 ghost use Rattle.std.specs.Option.{option_copied};
 ghost use Rattle.block_disk.specs.Blocks.{block_size, IsBlock};
 ghost use Rattle.block_disk.specs.MemDisk.{blocks_of, put};
@@ -8,7 +8,7 @@ ghost use Rattle.gate_pages.specs.Entries.{entries};
 ghost use Rattle.page_space.specs.Copies.{place as place_of, copies_in, with_copy, renewed};
 
 use crate::layout::PLACES;
-use crate::page_cache::PageCache;
+use crate::page_cache::{Kept, PageCache};
 use block_disk::BLOCK;
 use gate_pages::Batch;
 use std::alloc::{AllocError, Global};
@@ -37,17 +37,17 @@ impl PageCache {
     pub(crate) fn new(alloc: Global) -> Result<PageCache, AllocError>
         ensures { IfOk result (λ cache. (p : ℕ) → copies_in cache p ≡ None) }
     {
-        let numbers = vec![in alloc; None; PLACES]?;
-        let bytes = vec![in alloc; 0; BLOCK * PLACES]?;
-        Ok(PageCache { numbers, bytes })
+        let places = vec![in alloc; None; PLACES]?;
+        let bytes = Vec::with_capacity(alloc, BLOCK * PLACES)?;
+        Ok(PageCache { places, bytes })
     }
 
     /// Whether it holds a page.
     pub(crate) fn holds(&self, p: u32) -> bool
         ensures { result ≡ is_some (copies_in self.now p) }
     {
-        match self.numbers[place(p)] {
-            Some(number) => number == p,
+        match self.places[place(p)] {
+            Some(kept) => kept.page == p,
             None => false,
         }
     }
@@ -57,10 +57,11 @@ impl PageCache {
         ensures copy { option_copied result ≡ copies_in self.now p }
         ensures whole { IfSome result (λ bytes. IsBlock bytes.now) }
     {
-        if !self.holds(p) {
+        let kept = self.places[place(p)]?;
+        if kept.page != p {
             return None;
         }
-        let start = BLOCK * place(p);
+        let start = BLOCK * usize::from(kept.copy);
         let bytes = self.bytes.as_slice();
         Some(&bytes[start..start + BLOCK])
     }
@@ -71,8 +72,36 @@ impl PageCache {
         ensures { (q : ℕ) → copies_in self.new q ≡ with_copy p bytes.now (copies_in self.old) q }
     {
         let at = place(p);
-        self.numbers[at] = Some(p);
-        put_block(self.bytes.as_mut_slice(), at, bytes);
+        match self.places[at] {
+            Some(kept) => self.keep_over(at, kept.copy, p, bytes),
+            None => self.keep_first(at, p, bytes),
+        }
+    }
+
+    /// Holds a page in a place that holds one: the copy of that is written over.
+    fn keep_over(&mut self, at: usize, copy: u16, p: u32, bytes: &[u8])
+        requires whole { IsBlock bytes.now }
+        requires place { at ≡ place_of p }
+        requires kept { (old : Kept) → slice_index_or self.old.places.items at None ≡ Some old → old.copy ≡ copy }
+        requires some { IsTrue (is_some (slice_index_or self.old.places.items at None)) }
+        ensures { (q : ℕ) → copies_in self.new q ≡ with_copy p bytes.now (copies_in self.old) q }
+    {
+        put_block(self.bytes.as_mut_slice(), usize::from(copy), bytes);
+        self.places[at] = Some(Kept { page: p, copy });
+    }
+
+    /// Holds a page in a place that holds none: its copy comes behind the others.
+    fn keep_first(&mut self, at: usize, p: u32, bytes: &[u8])
+        requires whole { IsBlock bytes.now }
+        requires place { at ≡ place_of p }
+        requires none { slice_index_or self.old.places.items at None ≡ None }
+        ensures { (q : ℕ) → copies_in self.new q ≡ with_copy p bytes.now (copies_in self.old) q }
+    {
+        let copy = (self.bytes.len() / BLOCK) as u16;
+        let Ok(()) = self.bytes.extend_from_slice(bytes) else {
+            unreachable!()
+        };
+        self.places[at] = Some(Kept { page: p, copy });
     }
 
     /// Gives each page that it holds its new bytes, where the batch has such.
@@ -92,11 +121,11 @@ impl PageCache {
         ensures here { (p : ℕ) → place_of p ≡ at → copies_in self.new p ≡ renewed (entries batch.now) (copies_in self.old) p }
         ensures others { (p : ℕ) → place_of p ≢ at → copies_in self.new p ≡ copies_in self.old p }
     {
-        let Some(p) = self.numbers[at] else {
+        let Some(kept) = self.places[at] else {
             return;
         };
-        if let Some(bytes) = batch.get(p) {
-            put_block(self.bytes.as_mut_slice(), at, bytes);
+        if let Some(bytes) = batch.get(kept.page) {
+            put_block(self.bytes.as_mut_slice(), usize::from(kept.copy), bytes);
         }
     }
 }

@@ -1,14 +1,24 @@
 //! Copies of pages in memory.
-ghost use Rattle.std.specs.Prelude.{◌≡◌, ◌*◌, length};
+ghost use Rattle.std.specs.Prelude.{◌≡◌, ◌≤◌, ◌*◌, length, vec_capacity};
 ghost use Rattle.block_disk.specs.Blocks.{block_size};
+ghost use Rattle.page_space.specs.Places.{filled, AreKept};
+
+/// A page that a place holds: its number, and which of the copies is its.
+#[derive(Clone, Copy)]
+pub(crate) struct Kept {
+    pub(crate) page: u32,
+    pub(crate) copy: u16,
+}
 
 /// Copies of at most 1,024 pages. Page p has the place p mod 1,024.
 #[derive(Drop)]
 pub struct PageCache {
     /// The page that each place holds.
-    pub(crate) numbers: Vec<Option<u32>>,
-    /// The bytes of the places, one after another.
+    pub(crate) places: Vec<Option<Kept>>,
+    /// The copies, one after another, in the order in which their places were first filled.
     pub(crate) bytes: Vec<u8>,
-    ghost places: { length numbers.items ≡ 1024 },
-    ghost whole: { length bytes.items ≡ block_size * 1024 },
+    ghost many: { length places.items ≡ 1024 },
+    ghost room: { block_size * 1024 ≤ vec_capacity bytes },
+    ghost whole: { length bytes.items ≡ block_size * filled places.items },
+    ghost kept: { AreKept places.items },
 }
