@@ -1,24 +1,34 @@
 //! The chart of a sum of two series of a store.
-ghost use Rattle.std.specs.Prelude.{◌≡◌, ◌<◌, ◌≤◌, ◌^◌, ℕ, false, length, IfErr, IfSome};
+ghost use Rattle.std.specs.Prelude.{◌≡◌, ◌<◌, ◌≤◌, ◌^◌, ℕ, List, false, length, All, IfErr, IfSome};
 ghost use Rattle.block_disk.specs.View.{View};
+ghost use Rattle.chart_grid.specs.declared.grid.Grid.{Grid};
+ghost use Rattle.derived_chart.specs.Rows.{IsCause};
 ghost use Rattle.derived_chart.specs.Sums.{IsSmall};
+ghost use Rattle.m4_groups.specs.Heights.{IsDrawable};
+ghost use Rattle.m4_groups.specs.Rows.{AreRowsOf};
+ghost use Rattle.plain_chart.specs.Samples.{sample_points, values_of};
+ghost use Rattle.plain_chart.specs.declared.sample.Sample.{Sample};
+ghost use Rattle.retention.specs.Moving.{LooksOnly};
+ghost use Rattle.retention.specs.Sweeping.{IsOfPages};
 ghost use Rattle.series_store.specs.Shown as shown;
 ghost use Rattle.stored_book.specs.Standing.{StandsForBook};
-ghost use Rattle.retention.specs.Moving.{LooksOnly};
 ghost use Rattle.series_pair.specs.Asking.{GoesPair, count};
-ghost use Rattle.series_pair.specs.Derived.{AreShifted, IsChartAnswer, IsChartCause, MayShow, axis_of};
+ghost use Rattle.series_pair.specs.Derived.{AreShifted, IsChartAnswer, IsChartCause, MayShow, ShowsRange, axis_of};
+ghost use Rattle.series_pair.specs.Drawing.{error_of, node_error};
 
 use crate::store_pair::StorePair;
 use crate::sum_error::SumError;
 use chart_grid::{Axis, Grid};
+use derived_chart::laws::kept_sums_are_the_samples;
 use derived_chart::{DerivedError, Sum, TwoTrees, derived_rows};
 use gate_pages::Pages;
 use line_raster::Bitmap;
 use m4_groups::Rows;
-use om3_coeff::NodeError;
+use om3_coeff::{NodeError, Nodes};
 use plain_chart::ValueRange;
 use row_chart::{chart_of_rows, range_of_rows};
 use series_store::Store;
+use series_store::laws::sound_stores_are_fit;
 use std::alloc::Global;
 
 /// The times of the slots of the first series of a pair.
@@ -31,6 +41,7 @@ fn first_axis<P: Pages>(pair: &mut StorePair<P>) -> Axis
     ensures axis { shown.ForSeries pair.old.store pair.old.x (λ total book series. result ≡ axis_of series) }
     ensures goes { GoesPair pair.old pair.new }
 {
+    sound_stores_are_fit(&pair.store);
     let info = pair.store.info(pair.x);
     pair.turn(false);
     Axis {
@@ -40,8 +51,11 @@ fn first_axis<P: Pages>(pair: &mut StorePair<P>) -> Axis
     }
 }
 
-/// What an error of the rows is for a chart. Nodes over pages name no key.
-fn error_of(error: DerivedError) -> SumError {
+/// What an error of the rows is for a chart.
+fn error_of(error: DerivedError) -> SumError
+    requires { IsCause IsOfPages error }
+    ensures { result ≡ error_of error }
+{
     match error {
         DerivedError::TooLarge { time } => SumError::TooLarge { time },
         DerivedError::Node(error) => node_error(error),
@@ -49,16 +63,24 @@ fn error_of(error: DerivedError) -> SumError {
     }
 }
 
-fn node_error(error: NodeError) -> SumError {
+/// What an error of nodes is. Nodes over pages name no key.
+fn node_error(error: NodeError) -> SumError
+    requires { IsOfPages error }
+    ensures { result ≡ node_error error }
+{
     match error {
         NodeError::DiskFault => SumError::DiskFault,
         NodeError::Damaged { page } => SumError::Damaged { page },
-        NodeError::Missing { .. } | NodeError::BadCoefficient { .. } => SumError::NoMemory,
+        NodeError::Missing { .. } | NodeError::BadCoefficient { .. } => unreachable!(),
     }
 }
 
 /// The range that a chart of these rows shows: the one that is asked for, or from their least to their greatest value.
-fn shown_range(rows: &Rows, range: Option<ValueRange>) -> ValueRange {
+fn shown_range(rows: &Rows, range: Option<ValueRange>) -> ValueRange
+    requires { IfSome range MayShow }
+    ensures shows { (g : Grid) (samples : List Sample) → AreRowsOf g (sample_points samples) rows.now → ShowsRange range (values_of samples) result }
+    ensures may { (w : ℕ) → All (IsDrawable w) rows.now → MayShow result }
+{
     match range {
         Some(range) => range,
         None => range_of_rows(rows),
@@ -80,6 +102,7 @@ fn chart_of_pair<P: Pages>(
     ensures cause { IfErr result (λ e. IsChartCause e (shown.IsTold pair.new.store) (shown.total pair.old.store) (shown.view pair.old.store) (shown.view pair.new.store)) }
     ensures goes { GoesPair pair.old pair.new }
 {
+    kept_sums_are_the_samples();
     let axis = first_axis(pair);
     let rows = match derived_rows(alloc, pair, axis, sum, grid) {
         Ok(rows) => rows,

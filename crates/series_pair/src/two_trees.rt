@@ -1,8 +1,18 @@
 //! Two series of a store as two trees.
+ghost use Rattle.std.specs.Prelude.{◌≡◌};
+ghost use Rattle.series_pair.specs.Pairs.{side_of};
+
 use crate::store_pair::StorePair;
 use derived_chart::TwoTrees;
 use gate_pages::Pages;
 use om3_coeff::{Coef, Key, NodeError, Nodes, Span};
+
+/// Of two ids the one that is asked.
+fn id_of(second: bool, x: u16, y: u16) -> u16
+    ensures { result ≡ side_of second x y }
+{
+    if second { y } else { x }
+}
 
 impl<P: Pages> Nodes for StorePair<P> {
     ghost use Rattle.series_store.specs.Shown as shown;
@@ -50,7 +60,7 @@ impl<P: Pages> TwoTrees for StorePair<P> {
     ghost causes = { λ old new error. Causes old new error };
 
     fn turn(&mut self, second: bool) {
-        let id = if second { self.y } else { self.x };
+        let id = id_of(second, self.x, self.y);
         self.store.select(id);
         self.is_second = second;
     }
