@@ -60,14 +60,14 @@ true_same : (m n : ℕ) → (m == n) ≡ true → m ≡ n
 true_same m n h = grind (arith, nat_tests)
 
 -- an element of a list is its head or behind it
-head_or_rest : {X : Type 0} (t : X) (ts : List X) (s : X) → Contains (t ∷ ts) s → (t ≡ s) ⊎ Contains ts s
+pub head_or_rest : {X : Type 0} (t : X) (ts : List X) (s : X) → Contains (t ∷ ts) s → (t ≡ s) ⊎ Contains ts s
 head_or_rest t ts s (zero, less, is) = inl is
 head_or_rest t ts s (suc k, less, is) = inr (k, omega (arith, less), is)
 
-in_rest : {X : Type 0} (t : X) (ts : List X) (s : X) → Contains ts s → Contains (t ∷ ts) s
+pub in_rest : {X : Type 0} (t : X) (ts : List X) (s : X) → Contains ts s → Contains (t ∷ ts) s
 in_rest t ts s there = Contains-append_right (t ∷ []) ts s there
 
-at_head : {X : Type 0} (t : X) (ts : List X) → Contains (t ∷ ts) t
+pub at_head : {X : Type 0} (t : X) (ts : List X) → Contains (t ∷ ts) t
 at_head t ts = (0, omega arith, refl)
 
 -- what passes a test is among what passes it
@@ -107,10 +107,10 @@ passed {X} p (y ∷ ys) x there on =
     ]
 
 -- the earliest and the latest of samples in order of time
-heads_rest : (t : Sample) (ts : List Sample) → AllPairs IsEarlier (t ∷ ts) → All (IsEarlier t) ts
+pub heads_rest : (t : Sample) (ts : List Sample) → AllPairs IsEarlier (t ∷ ts) → All (IsEarlier t) ts
 heads_rest t ts rise = λ i d short. rise 0 (suc i) d (omega arith) (omega arith)
 
-rest_rise : (t : Sample) (ts : List Sample) → AllPairs IsEarlier (t ∷ ts) → AllPairs IsEarlier ts
+pub rest_rise : (t : Sample) (ts : List Sample) → AllPairs IsEarlier (t ∷ ts) → AllPairs IsEarlier ts
 rest_rise t ts rise = λ i j d less short. rise (suc i) (suc j) d (omega arith) (omega arith)
 
 first_of : (samples : List Sample) (s : Sample) → AllPairs IsEarlier samples → Contains samples s → ((t : Sample) → Contains samples t → s.time ≤ℤ t.time) → slice_get (values samples) 0 ≡ Some s.value

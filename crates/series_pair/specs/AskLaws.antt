@@ -106,8 +106,13 @@ module _ {P : Type 0} {g : Ghosts P} where
   still_counts true {old} {new} going = ap (λ (c : Catalog). slots_at (series_in c) new.y) going.looks.catalog_is ∙ ap (λ n. slots_at (series_in old.store.catalog) n) going.second
 
   -- the pages stand for a book with the numbers that the store has
-  own : (at : Store P g) (total : ℕ) (book : List Series) → shown.IsSound at → shown.IsTold at → StandsForBook (shown.image at) total book → IsStore (shown.image at) (shown.numbers at) book
+  pub own : (at : Store P g) (total : ℕ) (book : List Series) → shown.IsSound at → shown.IsTold at → StandsForBook (shown.image at) total book → IsStore (shown.image at) (shown.numbers at) book
   own at total book sound told stands = (asking.own_store (shown.view at).size total (shown.image at) book (shown.numbers at) at.space.rules at.small (at.space.spelled sound told) stands).0
+
+  -- and have a series for each of its catalog
+  pub book_there : (at : Store P g) (total : ℕ) (book : List Series) (id : ℕ) → shown.IsSound at → shown.IsTold at → StandsForBook (shown.image at) total book → id < length (shown.catalog at) → (series : Series) × (slice_get book id ≡ Some series)
+  book_there at total book id sound told stands low =
+      there book id (omega (arith, low, asking.as_many (shown.image at) (shown.numbers at) book (shown.catalog at) (own at total book sound told stands) at.count))
 
   agrees_at : (at : Store P g) (total : ℕ) (book : List Series) (id : ℕ) (series : Series) → shown.IsSound at → shown.IsTold at → StandsForBook (shown.image at) total book → id < length (shown.catalog at)
       → IsTreeAt (shown.catalog at) id at.tree → slice_get book id ≡ Some series → Agrees (shown.nodes at) series.slots
@@ -138,10 +143,8 @@ module _ {P : Type 0} {g : Ghosts P} where
   whole_at : (at : Store P g) (id page : ℕ) → shown.IsSound at → id < length (shown.catalog at) → IsTreeAt (shown.catalog at) id at.tree → (shown.nodes at).bad (Damaged page) → shown.ForBook at (λ total book. ⊥)
   whole_at at id page sound low selected bad = λ total book told stands.
       let one = there (shown.catalog at) id low in
-      let store = own at total book sound told stands in
-      let many = asking.as_many (shown.image at) (shown.numbers at) book (shown.catalog at) store at.count in
-      let two = there book id (omega (arith, low, many)) in
-      whole_in (shown.image at) (shown.numbers at) book (shown.catalog at) id one.0 two.0 at.tree page store (at.told sound told) one.1 two.1 (selected one.0 one.1) (bad.1 told)
+      let two = book_there at total book id sound told stands low in
+      whole_in (shown.image at) (shown.numbers at) book (shown.catalog at) id one.0 two.0 at.tree page (own at total book sound told stands) (at.told sound told) one.1 two.1 (selected one.0 one.1) (bad.1 told)
 
   pub asks_have_cause : (e : NodeError) {old new : StorePair P g} → KeepsPair old new → HasCause (shown.nodes old.store) (shown.nodes new.store) e → Causes old new e
   asks_have_cause DiskFault kept cause = λ sound. cause
@@ -155,16 +158,16 @@ module _ {P : Type 0} {g : Ghosts P} where
   asks_have_cause (Missing key) kept never = λ sound. never
   asks_have_cause (BadCoefficient key) kept never = λ sound. never
 
-  pub causes_later : (e : NodeError) {old mid new : StorePair P g} → GoesPair old mid → Causes mid new e → Causes old new e
-  causes_later DiskFault going cause = λ sound. elim (cause (going.looks.fit sound)) [
+  pub causes_later : (e : NodeError) (old mid new : StorePair P g) → GoesPair old mid → Causes mid new e → Causes old new e
+  causes_later DiskFault old mid new going cause = λ sound. elim (cause (going.looks.fit sound)) [
     | inl risen ↦ inl (omega (arith, going.looks.faults, risen))
     | inr full ↦ inr full
   ]
-  causes_later (Damaged page) {old} {mid} {new} going cause = λ sound.
+  causes_later (Damaged page) old mid new going cause = λ sound.
       let is = cause (going.looks.fit sound) in
       let N : Superblock → Type 0 = λ s. IsBadPage (shown.IsTold new.store) s.total (shown.view new.store) page in (
         subst N going.looks.superblock is.0,
         λ total book told stands. is.1 total book (going.looks.told told) (stands_later old.store mid.store total book going.looks told stands),
       )
-  causes_later (Missing key) going cause = λ sound. cause (going.looks.fit sound)
-  causes_later (BadCoefficient key) going cause = λ sound. cause (going.looks.fit sound)
+  causes_later (Missing key) old mid new going cause = λ sound. cause (going.looks.fit sound)
+  causes_later (BadCoefficient key) old mid new going cause = λ sound. cause (going.looks.fit sound)

@@ -1,15 +1,11 @@
-use Rattle.std.proofs.Common.{◌≡◌, ◌∙◌, ℕ, ℤ, List, Some, sym, ap, subst, arith}
+use Rattle.std.proofs.Common.{subst, arith}
 use Rattle.std.proofs.lemmas.List.Elements.{All-contains}
-use Rattle.std.specs.Prelude.{slice_get}
-use Rattle.std.specs.Option.{unwrap_or}
 use Rattle.derived_chart.specs.Points.{IsSumAt}
 use Rattle.series_book.specs.declared.one_series.Series.{Series}
 use Rattle.whole_number.specs.Range.{IsValue}
 use Rattle.series_pair.specs.Derived.{axis_of}
+use Rattle.series_pair.proofs.ChartLemmas.{same_series}
 use Rattle.series_pair.proofs.laws.large_sums_have_no_chart.Goals as goal
-
-same_series : (book : List Series) (id : ℕ) (one two : Series) → slice_get book id ≡ Some one → slice_get book id ≡ Some two → one ≡ two
-same_series book id one two first second = ap (λ found. unwrap_or found one) (sym first ∙ second)
 
 pub returns : goal.returns
 returns c = λ book x y a b g asked canvas time chart large.
