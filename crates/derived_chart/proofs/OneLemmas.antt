@@ -1,9 +1,9 @@
 -- There is one list of samples of a sum.
-use Rattle.std.proofs.Common.{◌≡◌, ◌∙◌, ℕ, ℤ, suc, ◌<ℤ◌, List, [], ◌∷◌, ◌⊎◌, inl, inr, Option, refl, sym, ap, subst, arith, get_or}
+use Rattle.std.proofs.Common.{◌≡◌, ◌∙◌, ℤ, ◌<ℤ◌, List, [], ◌∷◌, inl, inr, Option, refl, sym, ap, subst, arith, get_or}
 use Rattle.std.proofs.lemmas.Int.{ints}
 use Rattle.std.proofs.lemmas.List.{get_or-map, length-map}
 use Rattle.std.proofs.lemmas.List.Elements.{All-contains}
-use Rattle.std.specs.Prelude.{AllPairs, Contains, length}
+use Rattle.std.specs.Prelude.{AllPairs, Contains}
 use Rattle.chart_grid.specs.declared.axis.Axis.{Axis}
 use Rattle.chart_grid.specs.declared.grid.Grid.{Grid}
 use Rattle.plain_chart.specs.declared.sample.Sample.{Sample}

@@ -1,15 +1,15 @@
 -- The rows of sums are those of the samples.
-use Rattle.std.proofs.Common.{◌≡◌, ℕ, zero, suc, ℤ, ◌+◌, ◌-◌, ◌<◌, ◌≤◌, ◌^◌, pos, ◌*◌, ◌+ℤ◌, ◌≤ℤ◌, ◌<ℤ◌, ◌⊎◌, inl, inr, Bool, true, false, cond, List, [], ◌∷◌, ◌++◌, map, length, get_or, Option, None, Some, arith, refl, sym, ◌∙◌, ap, subst}
+use Rattle.std.proofs.Common.{◌≡◌, ℕ, zero, suc, ℤ, ◌+◌, ◌-◌, ◌<◌, ◌≤◌, pos, ◌*◌, ◌+ℤ◌, ◌≤ℤ◌, ◌<ℤ◌, ◌⊎◌, inl, inr, Bool, true, false, cond, List, [], ◌∷◌, ◌++◌, map, length, Option, None, Some, arith, refl, sym, ◌∙◌, ap, subst}
 use Rattle.std.proofs.lemmas.Bool.Decides.{nat_tests}
 use Rattle.std.proofs.lemmas.Bool.{cases_lt}
 use Rattle.std.proofs.lemmas.Int.{ints, by_lt_z}
 use Rattle.std.proofs.Math.Nat.{mul-le-mul_right}
 use Rattle.std.proofs.lemmas.List.{map-append}
-use Rattle.std.proofs.lemmas.List.Elements.{All-nil, All-cons, All-push, All-weaker, All-map, All-contains, Contains-append_left, Contains-append_right, Contains-append_cases, Contains-push}
+use Rattle.std.proofs.lemmas.List.Elements.{All-nil, All-cons, All-push, All-weaker, All-map, All-contains, Contains-append_left, Contains-append_right, Contains-push}
 use Rattle.std.proofs.lemmas.List.Kept.{AllPairs-filter}
 use Rattle.std.proofs.lemmas.List.Quantifiers.{all_pairs_push}
 use Rattle.std.proofs.lemmas.Option.{slice_get_within}
-use Rattle.std.specs.Prelude.{All, AllPairs, Contains, slice_get, filter, ◌==◌, unsigned_abs}
+use Rattle.std.specs.Prelude.{All, AllPairs, Contains, slice_get, filter, ◌==◌}
 use Rattle.chart_grid.specs.declared.axis.Axis.{Axis}
 use Rattle.chart_grid.specs.declared.grid.Grid.{Grid}
 use Rattle.chart_grid.specs.Projection.{InWindow, column}
@@ -18,9 +18,8 @@ use Rattle.line_raster.specs.declared.position.Point.{Point}
 use Rattle.m4_groups.specs.declared.row.Row.{Row}
 use Rattle.m4_groups.specs.Heights.{IsDrawable}
 use Rattle.m4_groups.specs.Points.{spots, values_in}
-use Rattle.m4_groups.specs.Rows.{Sums, AreRows, AreRowsOf, AreRising, columns_of, IsLeast, IsGreatest}
-use Rattle.om3_coeff.specs.Spans.{Holds, IsClear, IsStored}
-use Rattle.om3_coeff.specs.Walks.{IsFirstStored, IsLastStored}
+use Rattle.m4_groups.specs.Rows.{Sums, AreRowsOf, AreRising, columns_of}
+use Rattle.om3_coeff.specs.Spans.{Holds, IsClear}
 use Rattle.plain_chart.specs.declared.sample.Sample.{Sample}
 use Rattle.plain_chart.specs.Samples.{kept, sample_points}
 use Rattle.whole_number.specs.Range.{IsValue, IsTime}
@@ -28,7 +27,7 @@ use Rattle.std.specs.Prelude.{Result, Ok, Err, IfErr, IsErrAnd}
 use Rattle.om3_coeff.specs.declared.errors.NodeError.{NodeError}
 use Rattle.derived_chart.specs.declared.derived_error.DerivedError.{DerivedError}
 use Rattle.derived_chart.specs.declared.derived_error.DerivedError.TheVariants.{TooLarge, Node, NoMemory}
-use Rattle.derived_chart.specs.Rows.{IsAnswer, IsCause, IsRowCause, IsFirstTooLarge, AreValues, IsRowIn, IsRowIfAny, AreColumn, IsRowOf, AreShown, AreRowsBelow, AreColumnValues}
+use Rattle.derived_chart.specs.Rows.{IsAnswer, IsCause, IsRowCause, IsFirstTooLarge, IsRowIn, AreColumn, IsRowOf, AreShown, AreRowsBelow, AreColumnValues}
 use Rattle.derived_chart.specs.Searches.{IsFirstLarge}
 use Rattle.derived_chart.proofs.PointLemmas.{IsEarlier, IsKept, kept_rise, kept_slots, kept_slot, slot_kept}
 

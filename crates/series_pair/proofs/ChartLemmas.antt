@@ -13,7 +13,6 @@ use Rattle.derived_chart.specs.declared.sum.Sum.{Sum}
 use Rattle.derived_chart.specs.Sums.{one_of}
 use Rattle.gate_pages.specs.declared.pages.Pages.{Ghosts}
 use Rattle.line_raster.specs.Canvas.{Canvas}
-use Rattle.om3_coeff.specs.declared.errors.NodeError.{NodeError}
 use Rattle.om3_coeff.specs.declared.errors.NodeError.TheVariants as node
 use Rattle.page_space.specs.Shown as spaces
 use Rattle.page_space.specs.declared.space.Space.{Space}

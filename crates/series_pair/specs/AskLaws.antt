@@ -1,5 +1,5 @@
 -- Two series of a store as two trees: what asks and turns keep of them.
-use Rattle.std.proofs.Common.{◌≡◌, ◌∙◌, ℕ, ℤ, ◌<◌, ◌≤◌, Bool, false, true, List, length, Option, Some, refl, sym, ap, subst, inl, inr, arith}
+use Rattle.std.proofs.Common.{◌≡◌, ◌∙◌, ℕ, ℤ, ◌<◌, Bool, false, true, List, length, Option, Some, refl, sym, ap, subst, inl, inr, arith}
 use Rattle.std.specs.List.{slice_get}
 use Rattle.block_disk.specs.View.{Image}
 use Rattle.gate_pages.specs.declared.pages.Pages.{Ghosts}
@@ -20,7 +20,6 @@ use Rattle.series_store.specs.Asking.{store_keeps, store_keeps_on}
 use Rattle.series_store.specs.Shown as shown
 use Rattle.series_store.specs.declared.store.Store.{Store}
 use Rattle.stored_book.specs.Standing.{IsStore, StandsForBook}
-use Rattle.tree_walk.specs.Paths.{IsDamaged}
 use Rattle.tree_walk.specs.PagedNodes.{pages_stay}
 use Rattle.tree_walk.specs.declared.tree.Tree.{Tree}
 use Rattle.series_pair.specs.Asking.{ArePair, Causes, GoesPair, KeepsPair, count}

@@ -1,7 +1,6 @@
 -- What a pair of series means as two trees, and what asks and turns change.
 use Rattle.std.specs.Prelude.{ℕ, ℤ, ◌≡◌, ◌≤◌, Bool, List, slice_get, Option, Some}
 use Rattle.block_disk.specs.Counts.{HasRisen}
-use Rattle.block_disk.specs.View.{View}
 use Rattle.gate_pages.specs.declared.pages.Pages.{Ghosts}
 use Rattle.om3_coeff.specs.declared.errors.NodeError.{NodeError}
 use Rattle.om3_coeff.specs.declared.errors.NodeError.TheVariants.{DiskFault, Damaged, Missing, BadCoefficient}

@@ -1,5 +1,4 @@
 -- What the errors of rows are for a chart, and its samples as those of a list of sums.
-use Rattle.std.specs.Prelude.{◌≡◌}
 use Rattle.derived_chart.specs.declared.derived_error.DerivedError.{DerivedError}
 use Rattle.derived_chart.specs.declared.derived_error.DerivedError.TheVariants as derived
 use Rattle.om3_coeff.specs.declared.errors.NodeError.{NodeError}

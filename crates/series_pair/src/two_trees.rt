@@ -45,8 +45,15 @@ impl<P: Pages> Nodes for StorePair<P> {
 impl<P: Pages> TwoTrees for StorePair<P> {
     ghost use Rattle.series_pair.specs.Asking.{ArePair, Causes, GoesPair, count};
     ghost use Rattle.series_pair.specs.AskLaws.{
-        pair_goes_nowhere, pair_goes_on, asks_are_steps, still_are_pair, still_counts, pair_agrees,
-        pair_counts, asks_have_cause, causes_later,
+      pair_goes_nowhere,
+      pair_goes_on,
+      asks_are_steps,
+      still_are_pair,
+      still_counts,
+      pair_agrees,
+      pair_counts,
+      asks_have_cause,
+      causes_later,
     };
 
     ghost are = { λ pair xs ys. ArePair pair xs ys };

@@ -15,7 +15,7 @@ returns-in-Err-clause-answer g c = λ total book told stands on.
     let samples = kept c.args.grid axis (sums_of c.args.sum on.one.slots on.other.slots) in
     let are = still_are_pair c.first_axis-axis.ensures.goes (pair_is old total book c.args.sum.shift on c.requires.sound told stands) in
     let of = samples_are book old.x old.y c.args.sum c.args.grid axis on (λ x y xs ys. c.kept_sums_are_the_samples.ensures c.args.grid x y c.args.sum xs ys) c.first_axis-axis.ensures.step
-        (c.first_axis-axis.ensures.axis total book on.one told stands on.first) in
+    (c.first_axis-axis.ensures.axis total book on.one told stands on.first) in
     let cause = cause_later c.in-Err.error old c.first_axis-axis.new.pair c.derived_rows.new.trees c.first_axis-axis.ensures.goes c.in-Err.ensures.cause in
     let E : SumError → Type 0 = λ e. IsChartAnswer book old.x old.y c.args.sum.a c.args.sum.b c.args.grid c.args.range (Err e) in
     subst E (sym c.error_of.ensures)

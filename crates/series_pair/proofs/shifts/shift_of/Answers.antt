@@ -1,5 +1,4 @@
-use Rattle.std.proofs.Common.{◌≡◌, ◌∙◌}
-use Rattle.chart_grid.specs.declared.axis.Axis.{Axis}
+use Rattle.std.proofs.Common.{◌∙◌}
 use Rattle.series_pair.proofs.ChartLemmas.{axis_same, shift_so}
 use Rattle.series_pair.specs.AskLaws.{book_there}
 use Rattle.series_pair.proofs.shifts.shift_of.Goals as goal
