@@ -1,12 +1,12 @@
 -- The chart of a sum of two series of a book, and why there is none.
-use Rattle.std.specs.Prelude.{ℕ, ℤ, ◌≡◌, ⊤, List, length, slice_get, All, Option, None, Some, Result, Ok, Err}
+use Rattle.std.specs.Prelude.{ℕ, ℤ, ◌≡◌, ◌<◌, ◌↔◌, ⊤, IsTrue, List, length, slice_get, All, Option, None, Some, Result, Ok, Err}
 use Rattle.block_disk.specs.Counts.{HasRisen}
 use Rattle.block_disk.specs.View.{View}
 use Rattle.chart_grid.specs.declared.axis.Axis.{Axis}
 use Rattle.chart_grid.specs.declared.grid.Grid.{Grid}
 use Rattle.derived_chart.specs.Points.{IsShift, AreSumSamples}
 use Rattle.derived_chart.specs.Rows.{IsFirstTooLarge}
-use Rattle.line_raster.specs.Canvas.{Canvas}
+use Rattle.line_raster.specs.Canvas.{Canvas, black_at}
 use Rattle.plain_chart.specs.Chart.{IsChart, IsScale}
 use Rattle.plain_chart.specs.Samples.{values_of, IsRange}
 use Rattle.plain_chart.specs.declared.sample.Sample.{Sample}
@@ -56,6 +56,12 @@ pub record IsDerivedChart (book : List Series) (x y : ℕ) (a b : ℤ) (g : Grid
   pub range : ValueRange
   pub shows : ShowsRange asked (values_of samples) range
   pub chart : IsChart g range samples canvas
+
+-- two canvases of the same size with the same black pixels
+pub record AreAlike (one other : Canvas) : Type 0 where
+  pub width : other.w ≡ one.w
+  pub height : other.h ≡ one.h
+  pub pixels : (x y : ℕ) → x < one.w → y < one.h → IsTrue (black_at other x y) ↔ IsTrue (black_at one x y)
 
 -- the time is the first of the window at which this sum is more than 10^18 in size
 pub record HasLargeSum (book : List Series) (x y : ℕ) (a b : ℤ) (g : Grid) (time : ℤ) : Type 0 where

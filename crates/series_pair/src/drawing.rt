@@ -1,6 +1,5 @@
 //! The chart of a sum of two series of a store.
 ghost use Rattle.std.specs.Prelude.{◌≡◌, ◌<◌, ◌≤◌, ◌^◌, ℕ, List, false, length, All, IfErr, IfSome};
-ghost use Rattle.block_disk.specs.View.{View};
 ghost use Rattle.chart_grid.specs.declared.grid.Grid.{Grid};
 ghost use Rattle.derived_chart.specs.Rows.{IsCause};
 ghost use Rattle.derived_chart.specs.Sums.{IsSmall};
@@ -11,7 +10,6 @@ ghost use Rattle.plain_chart.specs.declared.sample.Sample.{Sample};
 ghost use Rattle.retention.specs.Moving.{LooksOnly};
 ghost use Rattle.retention.specs.Sweeping.{IsOfPages};
 ghost use Rattle.series_store.specs.Shown as shown;
-ghost use Rattle.stored_book.specs.Standing.{StandsForBook};
 ghost use Rattle.series_pair.specs.Asking.{GoesPair, count};
 ghost use Rattle.series_pair.specs.Derived.{AreShifted, IsChartAnswer, IsChartCause, MayShow, ShowsRange, axis_of};
 ghost use Rattle.series_pair.specs.Drawing.{error_of, node_error};
