@@ -67,6 +67,10 @@ impl<P: Pages> TwoTrees for StorePair<P> {
     ghost causes = { λ old new error. Causes old new error };
 
     fn turn(&mut self, second: bool) {
+        // A series that is asked again keeps the pages on the way.
+        if second == self.is_second {
+            return;
+        }
         let id = id_of(second, self.x, self.y);
         self.store.select(id);
         self.is_second = second;
