@@ -1,8 +1,8 @@
 use Rattle.std.proofs.Common.{◌≡◌, ◌+◌, ◌-◌, ◌^◌, ◌≤◌, length}
-use Rattle.chart_program.specs.Alone.{StaysAlone}
+use Rattle.draw_command.specs.Alone.{StaysAlone}
 use Rattle.chart_frames.specs.Stream.{IsPartial}
-use Rattle.chart_program.proofs.Drawing.{DrawnOf}
-use Rattle.chart_program.proofs.draw.draw_pieces.Given as goal
+use Rattle.draw_command.proofs.DrawnFrames.{DrawnOf}
+use Rattle.draw_command.proofs.drawing.draw_pieces.Given as goal
 
 -- the frames that end among the bytes taken are drawn
 abbrev pub invariant-pieces : goal.invariant-pieces
@@ -11,7 +11,7 @@ invariant-pieces g l = record {
   within : l.taken ≤ 2 ^ 32;
   counted : l.taken ≡ l.decoder.given + length l.decoder.rest;
   unended : IsPartial l.decoder;
-  drawn : DrawnOf (g.S.Streams.left l.initial.streams) (g.S.Streams.left l.streams) l.decoder l.client (g.S.Streams.sent l.initial.streams) (g.S.Streams.sent l.streams);
+  drawn : DrawnOf l.every (g.S.Streams.left l.initial.streams) (g.S.Streams.left l.streams) l.decoder l.client (g.S.Streams.sent l.initial.streams) (g.S.Streams.sent l.streams);
   read_faults : g.S.Streams.read_faults l.initial.streams ≤ g.S.Streams.read_faults l.streams;
   send_faults : g.S.Streams.send_faults l.initial.streams ≤ g.S.Streams.send_faults l.streams;
   disk : StaysAlone (g.S.Disk.view l.initial.streams) (g.S.Disk.view l.streams);

@@ -1,12 +1,11 @@
 use Rattle.std.proofs.Common.{◌≡◌, ◌^◌, IfSome, take, length, refl, sym, subst, ◌∙◌, arith}
 use Rattle.std.proofs.lemmas.List.{length-take}
-use Rattle.block_disk.specs.View.{sent_now}
-use Rattle.chart_program.specs.declared.draw_end.DrawEnd.{DrawEnd}
-use Rattle.chart_program.specs.Draws.{EndsDraw}
-use Rattle.chart_program.proofs.DiskKept.{stays_none, stays_by, stays_then}
-use Rattle.program_words.specs.Errors.{error_so}
-use Rattle.chart_program.proofs.Drawing.{drawn_start, start_partial, start_counted, if_err, on_ok, read_all, cut_so, stopped_so, within_so, drawn_piece, drawn_sent, counted_more}
-use Rattle.chart_program.proofs.draw.draw_pieces.Goals as goal
+use Rattle.draw_command.specs.declared.draw_end.DrawEnd.{DrawEnd}
+use Rattle.draw_command.specs.Draws.{EndsDraw}
+use Rattle.draw_command.proofs.DiskKept.{stays_none, stays_taken, stays_then}
+use Rattle.draw_command.proofs.Errors.{error_so, if_err, on_ok}
+use Rattle.draw_command.proofs.DrawnFrames.{drawn_start, start_partial, start_counted, read_all, cut_so, stopped_so, within_so, drawn_piece, drawn_sent, counted_more}
+use Rattle.draw_command.proofs.drawing.draw_pieces.Goals as goal
 
 pub pieces-init : goal.pieces-init
 pieces-init g c = record {
@@ -14,7 +13,7 @@ pieces-init g c = record {
   within = omega arith;
   counted = start_counted c.args.decoder.now c.requires.start;
   unended = start_partial c.more_bytes_mend_nothing.ensures.stays c.spellings_are_good.ensures c.args.decoder.now c.requires.start;
-  drawn = drawn_start (g.S.Streams.left c.args.streams.now) c.args.decoder.now c.args.client.now (g.S.Streams.sent c.args.streams.now) c.requires.start c.requires.client;
+  drawn = drawn_start c.args.every (g.S.Streams.left c.args.streams.now) c.args.decoder.now c.args.client.now (g.S.Streams.sent c.args.streams.now) c.requires.start c.requires.client;
   read_faults = omega arith;
   send_faults = omega arith;
   disk = stays_none (g.S.Disk.view c.args.streams.now);
@@ -26,7 +25,7 @@ returns-then-count-eq0-clause-within g c =
     let sent = g.S.Streams.sent in
     let inv = c.pieces.invariant in
     on_ok _ _ c.ended.result c.ended.ensures.done
-    (λ empty. read_all (left c.args.streams.now) (left c.pieces.streams) c.in_ok-count.count c.take_piece.new.buffer c.pieces.decoder c.pieces.client c.pieces.taken (2 ^ 32)
+    (λ empty. read_all c.args.every (left c.args.streams.now) (left c.pieces.streams) c.in_ok-count.count c.take_piece.new.buffer c.pieces.decoder c.pieces.client c.pieces.taken (2 ^ 32)
     (sent c.args.streams.now) (sent c.pieces.streams) c.in_ok-count.ensures.given c.if-count-eq0.true empty inv.counted inv.within inv.drawn)
 
 pub returns-then-count-eq0-clause-ends : goal.returns-then-count-eq0-clause-ends
@@ -36,9 +35,9 @@ returns-then-count-eq0-clause-ends g c =
     let inv = c.pieces.invariant in
     let taken = c.in_ok-count.ensures in
     if_err _ _ c.ended.result c.ended.ensures.cut
-    (λ e is. cut_so (left c.args.streams.now) (left c.pieces.streams) _ c.in_ok-count.count c.take_piece.new.buffer c.pieces.decoder c.pieces.client c.pieces.taken
+    (λ e is. cut_so c.args.every (left c.args.streams.now) (left c.pieces.streams) _ c.in_ok-count.count c.take_piece.new.buffer c.pieces.decoder c.pieces.client c.pieces.taken
     (sent c.args.streams.now) (sent c.take_piece.new.streams) e taken.given c.if-count-eq0.true is.0 is.1 inv.unended inv.counted inv.within
-    (drawn_sent (left c.args.streams.now) (left c.pieces.streams) c.pieces.decoder c.pieces.client (sent c.args.streams.now) (sent c.pieces.streams) (sent c.take_piece.new.streams) taken.sent inv.drawn))
+    (drawn_sent c.args.every (left c.args.streams.now) (left c.pieces.streams) c.pieces.decoder c.pieces.client (sent c.args.streams.now) (sent c.pieces.streams) (sent c.take_piece.new.streams) taken.sent inv.drawn))
 
 pub returns-in_err-draw_piece-clause-ends : goal.returns-in_err-draw_piece-clause-ends
 returns-in_err-draw_piece-clause-ends g c =
@@ -50,11 +49,11 @@ returns-in_err-draw_piece-clause-ends g c =
     let taken = c.in_ok-count.ensures in
     let f = c.in_err-draw_piece.field-0.0 in
     let sized : length (take c.min-fits.result c.take_piece.new.buffer) ≡ c.min-fits.result = omega (arith, length-take c.min-fits.result c.take_piece.new.buffer, taken.sized, taken.fits, c.min-fits.ensures) in
-    let drawn = drawn_sent o (left c.pieces.streams) c.pieces.decoder c.pieces.client before (sent c.pieces.streams) (sent c.take_piece.new.streams) taken.sent inv.drawn in
-    let stops = stopped_so c.more_bytes_mend_nothing.ensures.stays o (left c.pieces.streams) (left c.draw_piece.new.streams) c.min-fits.result c.in_ok-count.count
+    let drawn = drawn_sent c.args.every o (left c.pieces.streams) c.pieces.decoder c.pieces.client before (sent c.pieces.streams) (sent c.take_piece.new.streams) taken.sent inv.drawn in
+    let stops = stopped_so c.args.every c.more_bytes_mend_nothing.ensures.stays o (left c.pieces.streams) (left c.draw_piece.new.streams) c.min-fits.result c.in_ok-count.count
     c.take_piece.new.buffer (take c.min-fits.result c.take_piece.new.buffer) c.pieces.decoder c.pieces.client before (sent c.take_piece.new.streams) (sent c.draw_piece.new.streams) f
     taken.given (omega (arith, c.min-fits.ensures)) refl (omega (arith, sized, inv.counted, inv.within, c.min-fits.ensures)) c.in_err-draw_piece.ensures.stops drawn in
-    let E : DrawEnd → Type 0 = λ x. IfSome o (λ input. EndsDraw input (left c.draw_piece.new.streams) before (sent c.draw_piece.new.streams) x) in
+    let E : DrawEnd → Type 0 = λ x. IfSome o (λ input. EndsDraw c.args.every input (left c.draw_piece.new.streams) before (sent c.draw_piece.new.streams) x) in
     error_so _ E c.from_residual-in_err-draw_piece.result c.from_residual-in_err-draw_piece.ensures.1 (λ x is. subst E (sym is) stops)
 
 pub returns-then-count-room-clause-ends : goal.returns-then-count-room-clause-ends
@@ -66,11 +65,11 @@ returns-then-count-room-clause-ends g c =
     let inv = c.pieces.invariant in
     let taken = c.in_ok-count.ensures in
     let made = c.in_ok-draw_piece.ensures.done in
-    let drawn = drawn_sent o (left c.pieces.streams) c.pieces.decoder c.pieces.client before (sent c.pieces.streams) (sent c.take_piece.new.streams) taken.sent inv.drawn in
+    let drawn = drawn_sent c.args.every o (left c.pieces.streams) c.pieces.decoder c.pieces.client before (sent c.pieces.streams) (sent c.take_piece.new.streams) taken.sent inv.drawn in
     let sized : length (take c.min-fits.result c.take_piece.new.buffer) ≡ c.min-fits.result = omega (arith, length-take c.min-fits.result c.take_piece.new.buffer, taken.sized, taken.fits, c.min-fits.ensures) in
-    let counted = counted_more c.pieces.taken c.min-fits.result (take c.min-fits.result c.take_piece.new.buffer) c.pieces.decoder c.draw_piece.new.decoder
+    let counted = counted_more c.args.every c.pieces.taken c.min-fits.result (take c.min-fits.result c.take_piece.new.buffer) c.pieces.decoder c.draw_piece.new.decoder
     c.pieces.client c.draw_piece.new.client (sent c.take_piece.new.streams) (sent c.draw_piece.new.streams) inv.counted sized made.0 in
-    within_so o (left c.pieces.streams) (left c.draw_piece.new.streams) c.min-fits.result c.in_ok-count.count
+    within_so c.args.every o (left c.pieces.streams) (left c.draw_piece.new.streams) c.min-fits.result c.in_ok-count.count
     c.take_piece.new.buffer (take c.min-fits.result c.take_piece.new.buffer) c.pieces.decoder c.draw_piece.new.decoder c.pieces.client c.draw_piece.new.client
     before (sent c.take_piece.new.streams) (sent c.draw_piece.new.streams) _
     taken.given (omega (arith, c.min-fits.ensures, c.if-count-room.true)) refl (omega (arith, counted, c.min-fits.ensures, c.if-count-room.true, inv.within)) made.1 refl made.0 drawn
@@ -85,23 +84,23 @@ pieces-preserved g c =
     let inv = c.pieces.invariant in
     let taken = c.in_ok-count.ensures in
     let made = c.in_ok-draw_piece.ensures in
-    let drawn = drawn_sent o (left c.pieces.streams) c.pieces.decoder c.pieces.client before (sent c.pieces.streams) (sent c.take_piece.new.streams) taken.sent inv.drawn in
+    let drawn = drawn_sent c.args.every o (left c.pieces.streams) c.pieces.decoder c.pieces.client before (sent c.pieces.streams) (sent c.take_piece.new.streams) taken.sent inv.drawn in
     let sized : length (take c.min-fits.result c.take_piece.new.buffer) ≡ c.min-fits.result = omega (arith, length-take c.min-fits.result c.take_piece.new.buffer, taken.sized, taken.fits, c.min-fits.ensures) in
     let all : c.min-fits.result ≡ c.in_ok-count.count = omega (arith, c.min-fits.ensures, c.if-count-room.false) in
     record {
       sized = taken.sized;
       within = omega (arith, c.min-fits.ensures, inv.within);
-      counted = counted_more c.pieces.taken c.min-fits.result (take c.min-fits.result c.take_piece.new.buffer) c.pieces.decoder c.draw_piece.new.decoder
+      counted = counted_more c.args.every c.pieces.taken c.min-fits.result (take c.min-fits.result c.take_piece.new.buffer) c.pieces.decoder c.draw_piece.new.decoder
           c.pieces.client c.draw_piece.new.client (sent c.take_piece.new.streams) (sent c.draw_piece.new.streams) inv.counted sized made.done.0;
       unended = made.done.1;
-      drawn = drawn_piece o (left c.pieces.streams) (left c.draw_piece.new.streams) c.min-fits.result c.in_ok-count.count
+      drawn = drawn_piece c.args.every o (left c.pieces.streams) (left c.draw_piece.new.streams) c.min-fits.result c.in_ok-count.count
           c.take_piece.new.buffer (take c.min-fits.result c.take_piece.new.buffer) c.pieces.decoder c.draw_piece.new.decoder c.pieces.client c.draw_piece.new.client
           before (sent c.take_piece.new.streams) (sent c.draw_piece.new.streams) taken.given (made.left ∙ taken.left) all refl made.done.0 drawn;
       read_faults = omega (arith, inv.read_faults, taken.read_faults, made.read_faults);
       send_faults = omega (arith, inv.send_faults, taken.send_faults, made.send_faults);
       disk = stays_then (view c.args.streams.now) (view c.take_piece.new.streams) (view c.draw_piece.new.streams)
           (stays_then (view c.args.streams.now) (view c.pieces.streams) (view c.take_piece.new.streams) inv.disk
-          (stays_by (view c.pieces.streams) (view c.take_piece.new.streams) (λ count. count ≡ sent_now (view c.pieces.streams)) (g.met.S.World.take_keeps c.pieces.streams c.take_piece.new.streams taken.beside) (g.met.S.World.take_passes c.pieces.streams c.take_piece.new.streams taken.beside))) made.disk;
+          (stays_taken (view c.pieces.streams) (view c.take_piece.new.streams) (g.met.S.World.take_keeps c.pieces.streams c.take_piece.new.streams taken.beside) (g.met.S.World.take_passes c.pieces.streams c.take_piece.new.streams taken.beside))) made.disk;
     }
 
 pub returns-in_err-count-clause-disk : goal.returns-in_err-count-clause-disk
@@ -111,7 +110,7 @@ returns-in_err-count-clause-disk g c =
     let mid = c.take_piece.new.streams in
     let beside = c.in_err-count.ensures.beside in
     stays_then (view c.args.streams.now) (view at) (view mid) c.pieces.invariant.disk
-    (stays_by (view at) (view mid) (λ count. count ≡ sent_now (view at)) (g.met.S.World.take_keeps at mid beside) (g.met.S.World.take_passes at mid beside))
+    (stays_taken (view at) (view mid) (g.met.S.World.take_keeps at mid beside) (g.met.S.World.take_passes at mid beside))
 
 pub returns-then-count-eq0-clause-disk : goal.returns-then-count-eq0-clause-disk
 returns-then-count-eq0-clause-disk g c =
@@ -120,7 +119,7 @@ returns-then-count-eq0-clause-disk g c =
     let mid = c.take_piece.new.streams in
     let beside = c.in_ok-count.ensures.beside in
     stays_then (view c.args.streams.now) (view at) (view mid) c.pieces.invariant.disk
-    (stays_by (view at) (view mid) (λ count. count ≡ sent_now (view at)) (g.met.S.World.take_keeps at mid beside) (g.met.S.World.take_passes at mid beside))
+    (stays_taken (view at) (view mid) (g.met.S.World.take_keeps at mid beside) (g.met.S.World.take_passes at mid beside))
 
 pub returns-in_err-draw_piece-clause-disk : goal.returns-in_err-draw_piece-clause-disk
 returns-in_err-draw_piece-clause-disk g c =
@@ -130,7 +129,7 @@ returns-in_err-draw_piece-clause-disk g c =
     let beside = c.in_ok-count.ensures.beside in
     stays_then (view c.args.streams.now) (view mid) (view c.draw_piece.new.streams)
     (stays_then (view c.args.streams.now) (view at) (view mid) c.pieces.invariant.disk
-    (stays_by (view at) (view mid) (λ count. count ≡ sent_now (view at)) (g.met.S.World.take_keeps at mid beside) (g.met.S.World.take_passes at mid beside))) c.in_err-draw_piece.ensures.disk
+    (stays_taken (view at) (view mid) (g.met.S.World.take_keeps at mid beside) (g.met.S.World.take_passes at mid beside))) c.in_err-draw_piece.ensures.disk
 
 pub returns-then-count-room-clause-disk : goal.returns-then-count-room-clause-disk
 returns-then-count-room-clause-disk g c =
@@ -140,4 +139,4 @@ returns-then-count-room-clause-disk g c =
     let beside = c.in_ok-count.ensures.beside in
     stays_then (view c.args.streams.now) (view mid) (view c.draw_piece.new.streams)
     (stays_then (view c.args.streams.now) (view at) (view mid) c.pieces.invariant.disk
-    (stays_by (view at) (view mid) (λ count. count ≡ sent_now (view at)) (g.met.S.World.take_keeps at mid beside) (g.met.S.World.take_passes at mid beside))) c.in_ok-draw_piece.ensures.disk
+    (stays_taken (view at) (view mid) (g.met.S.World.take_keeps at mid beside) (g.met.S.World.take_passes at mid beside))) c.in_ok-draw_piece.ensures.disk

@@ -1,6 +1,6 @@
 ghost use Rattle.std.specs.Prelude.{◌≡◌};
-ghost use Rattle.chart_program.specs.declared.draw_end.DrawEnd.TheVariants.{NoMemory};
-ghost use Rattle.chart_program.specs.Draws.{client_end, frame_end};
+ghost use Rattle.draw_command.specs.declared.draw_end.DrawEnd.TheVariants.{NoMemory};
+ghost use Rattle.draw_command.specs.Draws.{client_end, frame_end};
 
 use chart_client::ClientError;
 use chart_frames::FrameFault;
@@ -8,7 +8,8 @@ use om3_coeff::Key;
 use std::alloc::{AllocError, AllocFailed};
 use thiserror::Error;
 
-/// Why not all frames of the input were drawn. The pictures of the frames before were sent.
+/// Why not all frames of the input were drawn. The pictures of the frames before were sent, and their covers where covers
+/// are asked for.
 #[derive(Clone, Copy, Debug, PartialEq, Eq, Error)]
 pub enum DrawEnd {
     /// There was no memory.
@@ -17,7 +18,7 @@ pub enum DrawEnd {
     /// A take failed.
     #[error("the input could not be read")]
     ReadFault,
-    /// A send failed. The first bytes of the picture were sent.
+    /// A send failed. The first bytes of the picture or of a cover were sent.
     #[error("the picture could not be sent")]
     SendFault,
     /// A byte past 2^32 was taken, and the bytes before it end within a frame or with one.
@@ -73,6 +74,14 @@ impl From<chart_frames::NoMemory> for DrawEnd {
     ghost from_gives = { λ _ end. end ≡ NoMemory };
 
     fn from(_error: chart_frames::NoMemory) -> DrawEnd {
+        DrawEnd::NoMemory
+    }
+}
+
+impl From<line_raster::NoMemory> for DrawEnd {
+    ghost from_gives = { λ _ end. end ≡ NoMemory };
+
+    fn from(_error: line_raster::NoMemory) -> DrawEnd {
         DrawEnd::NoMemory
     }
 }

@@ -1,0 +1,5 @@
+pub mod Errors
+pub mod DiskKept
+pub mod SendingLemmas
+pub mod CoverLemmas
+pub mod DrawnFrames
