@@ -57,8 +57,8 @@ class Frames(unittest.TestCase):
         fields, sessions = Fields(io.BytesIO(data)), {}
         accept(fields, sessions)
         _, picture = accept(fields, sessions, show)
-        self.assertEqual(covers, [b"P4\n4 4\n" + bytes.fromhex(rows) for rows in ("F0F0F0F0", "F0F0F070", "4040A020")])
-        self.assertEqual(picture.to_pbm(), covers[2])
+        self.assertEqual(covers, [b"P4\n4 4\n" + bytes.fromhex(rows) for rows in ("F0F0F0F0", "F0F0F070", "E0E0E060")])
+        self.assertEqual(picture.to_pbm(), b"P4\n4 4\n" + bytes.fromhex("4040A020"))
 
     def test_a_held_coefficient_of_a_key_within_a_column_is_not_shown(self):
         # The push sends (2, 0) alone; at 0 nothing is shown below the keys across columns before it.
