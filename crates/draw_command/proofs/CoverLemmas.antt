@@ -21,8 +21,8 @@ use Rattle.chart_client.specs.Holdings.{holding_of}
 use Rattle.progressive_view.specs.Covers.{Taking, DrawsCover}
 use Rattle.draw_command.specs.declared.draw_end.DrawEnd.{DrawEnd}
 use Rattle.draw_command.specs.declared.draw_end.DrawEnd.TheVariants.{NoMemory, ReadFault, SendFault, InputTooLong, BadFrame, Missing, BadCoefficient, UnknownSession}
-use Rattle.draw_command.specs.Covers.{picture_bytes, IsCoverAfter, AreFirstCovers, AreCovers, AreFirstCoversOf, AreCoversOf, SendsFrame}
-use Rattle.draw_command.specs.Draws.{CoversFirst, CoversFrame, CoversPart, DrawsPart, DrawsFrame, IsRejected, IsUnopened, PictureStops, CoversStop, FrameStops, client_end}
+use Rattle.draw_command.specs.Covers.{picture_bytes, IsCoverAfter, AreFirstCovers, AreFirstCoversOf, AreCoversOf}
+use Rattle.draw_command.specs.Draws.{CoversFirst, CoversFrame, DrawsFrame, PictureStops, CoversStop, FrameStops, client_end}
 use Rattle.draw_command.proofs.SendingLemmas.{sent_none, sent_more}
 
 some_eq : {n m : ℕ} → ◌≡◌ {A = Option ℕ} (Some n) (Some m) → n ≡ m

@@ -1,5 +1,5 @@
 -- Takes and sends in a row leave the disk.
-use Rattle.std.proofs.Common.{◌≡◌, ℕ, ◌∙◌, inl, inr, refl, ap, arith}
+use Rattle.std.proofs.Common.{◌≡◌, ◌∙◌, inl, inr, refl, ap, arith}
 use Rattle.std.proofs.lemmas.Bool.{cases_lt}
 use Rattle.block_disk.specs.View.{View, Now, sent_now, DiskKept, Passes}
 use Rattle.block_disk.proofs.Passing.{Between, passes_none, passes_weaker, sends_then_sends}

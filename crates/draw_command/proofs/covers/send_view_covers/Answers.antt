@@ -1,4 +1,4 @@
-use Rattle.std.proofs.Common.{◌≡◌, ◌<◌, length, ap, subst, sym, refl, ◌∙◌, arith}
+use Rattle.std.proofs.Common.{◌<◌, length, ap, subst, sym, refl, ◌∙◌, arith}
 use Rattle.progressive_view.specs.Covers.{Taking}
 use Rattle.chart_frames.specs.declared.frame.Frame.TheVariants.{View as AView}
 use Rattle.std.proofs.Common.{Some}
