@@ -162,8 +162,9 @@ covers_none every f h now none = record { covers = []; all = none; sent = sent_n
 pub frame_drawn : (every : Option ℕ) (f : Frame) (d : Option Canvas) (h h' : List Holding) (before now later : Option (List ℕ)) → CoversFrame every f h before now
     → Accepts f d h h' → later ≡ sent_after (picture_bytes d) now → DrawsFrame every f h h' before later
 frame_drawn every f d h h' before now later c accepts sends = (
+  d,
   flat_map picture c.covers ++ picture_bytes d,
-  record { covers = c.covers; covered = c.all; drawing = d; accepted = accepts; bytes_are = refl },
+  record { covers = c.covers; covered = c.all; accepted = accepts; bytes_are = refl },
   sent_more (flat_map picture c.covers) (picture_bytes d) before now later c.sent sends,
 )
 

@@ -5,6 +5,7 @@ use Rattle.std.proofs.lemmas.List.Elements.{All-nil, All-cons, All-append}
 use Rattle.std.proofs.lemmas.List.{take-take, take-append-drop, length-drop, append-nil}
 use Rattle.std.proofs.lemmas.Grind.{flat_map-append}
 use Rattle.std.proofs.Math.Seq.{take-append-add}
+use Rattle.line_raster.specs.Canvas.{Canvas}
 use Rattle.block_disk.specs.Streams.{Given, left_after}
 use Rattle.chart_frames.specs.declared.frame.Frame.{Frame}
 use Rattle.chart_frames.specs.declared.frame.Frame.TheVariants.{Done}
@@ -92,18 +93,20 @@ start_counted at is = let P : Pending → Type 0 = λ a. 0 ≡ a.given + length 
 
 module _ (every : Option ℕ) where
   -- frames in a row, and then others
-  sends_joined : (fs gs : List Frame) (old between new : List Holding) (xs ys : List ℕ)
-      → SendsFrames every fs old between xs → SendsFrames every gs between new ys → SendsFrames every (fs ++ gs) old new (xs ++ ys)
-  sends_joined [] gs old between new xs ys all more =
-      let P : List Holding → Type 0 = λ h. SendsFrames every gs h new ys in
-      let Q : List ℕ → Type 0 = λ l. SendsFrames every gs old new (l ++ ys) in
+  sends_joined : (fs gs : List Frame) (ds es : List (Option Canvas)) (old between new : List Holding) (xs ys : List ℕ)
+      → SendsFrames every fs ds old between xs → SendsFrames every gs es between new ys → SendsFrames every (fs ++ gs) (ds ++ es) old new (xs ++ ys)
+  sends_joined [] gs [] es old between new xs ys all more =
+      let P : List Holding → Type 0 = λ h. SendsFrames every gs es h new ys in
+      let Q : List ℕ → Type 0 = λ l. SendsFrames every gs es old new (l ++ ys) in
       subst Q (sym all.1) (subst P all.0 more)
-  sends_joined (f ∷ fs) gs old between new xs ys all more = (
+  sends_joined [] gs (d ∷ ds) es old between new xs ys all more = absurd all
+  sends_joined (f ∷ fs) gs [] es old between new xs ys all more = absurd all
+  sends_joined (f ∷ fs) gs (d ∷ ds) es old between new xs ys all more = (
     all.0,
     all.1,
     all.2 ++ ys,
     all.3,
-    sends_joined fs gs all.0 between new all.2 ys all.4 more,
+    sends_joined fs gs ds es all.0 between new all.2 ys all.4 more,
     ap (λ l. l ++ ys) all.5 ∙ append_assoc all.1 all.2 ys,
   )
 
@@ -114,6 +117,7 @@ module _ (every : Option ℕ) where
     fit = All-nil Fits;
     split = refl;
     given = omega arith;
+    drawings = [];
     bytes = [];
     sends = (refl, refl);
     sent = sent_none now;
@@ -127,9 +131,10 @@ module _ (every : Option ℕ) where
     fit = All-cons Fits f [] takes.fits (All-nil Fits);
     split = takes.front ∙ ap (λ l. l ++ new.rest) (sym (append-nil (spelling f)));
     given = omega (arith, takes.given, ap length (append-nil (spelling f)));
-    bytes = draws.0;
-    sends = (holdings', draws.0, [], draws.1, (refl, refl), sym (append-nil draws.0));
-    sent = draws.2;
+    drawings = draws.0 ∷ [];
+    bytes = draws.1;
+    sends = (holdings', draws.1, [], draws.2, (refl, refl), sym (append-nil draws.1));
+    sent = draws.3;
   }
 
   -- frames are drawn, and then more
@@ -143,8 +148,9 @@ module _ (every : Option ℕ) where
         ∙ sym (append_assoc (flat_map spelling a.frames) (flat_map spelling b.frames) new.rest)
         ∙ ap (λ l. l ++ new.rest) (sym (flat_map-append spelling a.frames b.frames));
     given = omega (arith, a.given, b.given, length-append (flat_map spelling a.frames) (flat_map spelling b.frames), ap length (flat_map-append spelling a.frames b.frames));
+    drawings = a.drawings ++ b.drawings;
     bytes = a.bytes ++ b.bytes;
-    sends = sends_joined a.frames b.frames h h' h'' a.bytes b.bytes a.sends b.sends;
+    sends = sends_joined a.frames b.frames a.drawings b.drawings h h' h'' a.bytes b.bytes a.sends b.sends;
     sent = sent_more a.bytes b.bytes before now later a.sent b.sent;
   }
 
@@ -156,6 +162,7 @@ module _ (every : Option ℕ) where
     fit = a.fit;
     split = ap (λ l. l ++ more) a.split ∙ append_assoc (flat_map spelling a.frames) new.rest more;
     given = a.given;
+    drawings = a.drawings;
     bytes = a.bytes;
     sends = a.sends;
     sent = a.sent;
@@ -392,6 +399,7 @@ module _ (every : Option ℕ) where
         fit = first.fit;
         split = narrow input (spelled ++ fed_bytes) (drop fits bytes) (2 ^ 32) split few ∙ append_assoc spelled fed_bytes (behind first.frames at piece bytes fits);
         given = first.given;
+        drawings = first.drawings;
         bytes = first.bytes;
         sends = first.sends;
         sent = first.sent;

@@ -41,17 +41,18 @@ AreCoversOf None frame holdings covers = covers ≡ []
 AreCoversOf (Some every) (View view) holdings covers = AreCovers every view holdings covers
 AreCoversOf (Some every) frame holdings covers = covers ≡ []
 
--- the client accepts a frame, for which these bytes are sent: its covers, and behind them its picture
-pub record SendsFrame (every : Option ℕ) (frame : Frame) (old new : List Holding) (bytes : List ℕ) : Type 0 where
+-- the client accepts a frame with this drawing, if any, and these bytes are sent for it: its covers, and behind them its picture
+pub record SendsFrame (every : Option ℕ) (frame : Frame) (drawing : Option Canvas) (old new : List Holding) (bytes : List ℕ) : Type 0 where
   pub covers : List Canvas
   pub covered : AreCoversOf every frame old covers
-  pub drawing : Option Canvas
   pub accepted : Accepts frame drawing old new
   pub bytes_are : bytes ≡ flat_map picture covers ++ picture_bytes drawing
 
 -- it accepts frames one after the other
-abbrev pub SendsFrames : Option ℕ → List Frame → List Holding → List Holding → List ℕ → Type 0
-SendsFrames every [] old new bytes = (new ≡ old) × (bytes ≡ [])
-SendsFrames every (frame ∷ frames) old new bytes =
-    (between : List Holding) × (first : List ℕ) × (later : List ℕ) × SendsFrame every frame old between first
-    × SendsFrames every frames between new later × (bytes ≡ first ++ later)
+abbrev pub SendsFrames : Option ℕ → List Frame → List (Option Canvas) → List Holding → List Holding → List ℕ → Type 0
+SendsFrames every [] [] old new bytes = (new ≡ old) × (bytes ≡ [])
+SendsFrames every [] (drawing ∷ drawings) old new bytes = ⊥
+SendsFrames every (frame ∷ frames) [] old new bytes = ⊥
+SendsFrames every (frame ∷ frames) (drawing ∷ drawings) old new bytes =
+    (between : List Holding) × (first : List ℕ) × (later : List ℕ) × SendsFrame every frame drawing old between first
+    × SendsFrames every frames drawings between new later × (bytes ≡ first ++ later)

@@ -39,8 +39,9 @@ pub record DrawsMore (every : Option ℕ) (old new : Pending) (holdings holdings
   pub fit : All Fits frames
   pub split : old.rest ≡ flat_map spelling frames ++ new.rest
   pub given : new.given ≡ old.given + length (flat_map spelling frames)
+  pub drawings : List (Option Canvas)
   pub bytes : List ℕ
-  pub sends : SendsFrames every frames holdings holdings' bytes
+  pub sends : SendsFrames every frames drawings holdings holdings' bytes
   pub sent : now ≡ sent_after bytes before
 
 -- the first frames of the input were drawn, and this stands behind them
@@ -49,7 +50,8 @@ DrawsFirst every input rest holdings before now = DrawsMore every (held 0 input)
 
 -- a frame is accepted, and its covers and its picture were sent
 abbrev pub DrawsFrame : Option ℕ → Frame → List Holding → List Holding → Option (List ℕ) → Option (List ℕ) → Type 0
-DrawsFrame every frame old new before now = (bytes : List ℕ) × SendsFrame every frame old new bytes × (now ≡ sent_after bytes before)
+DrawsFrame every frame old new before now =
+    (drawing : Option Canvas) × (bytes : List ℕ) × SendsFrame every frame drawing old new bytes × (now ≡ sent_after bytes before)
 
 -- some first covers of a frame were sent
 pub record CoversFirst (every : Option ℕ) (frame : Frame) (old : List Holding) (before now : Option (List ℕ)) : Type 0 where
