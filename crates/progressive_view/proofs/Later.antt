@@ -1,5 +1,5 @@
 -- What counts at a stage counts at each later one.
-use Rattle.std.proofs.Common.{ℕ, ℤ, ◌≡◌, ◌<◌, ◌≤◌, ◌⊎◌, inl, inr, List, length, get_or, Option, Some, sym, ap, ◌∙◌, subst, arith}
+use Rattle.std.proofs.Common.{ℕ, ℤ, ◌≡◌, ◌<◌, ◌≤◌, ◌⊎◌, inl, inr, List, length, get_or, Option, Some, sym, ◌∙◌, subst, arith}
 use Rattle.std.specs.Prelude.{AllPairs, slice_get}
 use Rattle.std.proofs.lemmas.Bool.{cases_lt}
 use Rattle.std.proofs.lemmas.Option.{slice_get_within, get_or_from_slice_get, slice_get-get_or}
@@ -39,7 +39,7 @@ used-later view holding grid i j k c order low (inl t) = inl (record { place = t
 used-later view holding grid i j k c order low (inr h) =
     inr (record { unsent = h.unsent; across = h.across; turn = turn-later view i j k order low h.turn; held = h.held })
 
-one-holding : {a b : Holding} → ◌≡◌ {A = Option Holding} (Some a) (Some b) → a ≡ b
+pub one-holding : {a b : Holding} → ◌≡◌ {A = Option Holding} (Some a) (Some b) → a ≡ b
 one-holding h = cc
 
 pub later-within : ((scene : Scene) (more : Key → Option Coef) (x : ℕ) (y : ℤ) → IsToldBy scene.told more → InCover (with_told scene more) x y → InCover scene x y)

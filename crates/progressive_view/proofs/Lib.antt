@@ -1,3 +1,4 @@
 mod Standing
 mod Used
 mod Later
+mod Agreeing

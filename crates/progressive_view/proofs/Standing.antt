@@ -1,5 +1,5 @@
 -- Where a key stands in a list in order.
-use Rattle.std.proofs.Common.{ℕ, zero, suc, pos, ◌≡◌, ◌+◌, ◌<◌, ◌≤◌, ◌⊎◌, inl, inr, Bool, true, false, cond, List, [], ◌∷◌, length, get_or, refl, sym, ap, ◌∙◌, subst, arith}
+use Rattle.std.proofs.Common.{ℕ, zero, suc, ◌≡◌, ◌+◌, ◌<◌, ◌≤◌, inl, inr, Bool, true, false, cond, List, [], ◌∷◌, length, get_or, sym, ap, ◌∙◌, subst, arith}
 use Rattle.std.proofs.lemmas.Bool.{cases_lt}
 use Rattle.std.proofs.lemmas.Bool.Decides.{nat_tests}
 use Rattle.std.proofs.lemmas.List.{get_or_default}
@@ -8,7 +8,7 @@ use Rattle.om3_coeff.specs.declared.key.Key.{Key}
 use Rattle.om3_coeff.specs.declared.coef.Coef.{Coef}
 use Rattle.chart_frames.specs.Frames.{Precedes}
 use Rattle.view_keys.specs.Listed.{ComesBefore}
-use Rattle.view_keys.proofs.Orders.{not_itself, before_on}
+use Rattle.view_keys.proofs.Orders.{before_on}
 use Rattle.progressive_view.specs.Places.{IsPlace, precedes, place_in}
 
 -- an entry that stands before another one comes before it

@@ -1,12 +1,11 @@
 -- The coefficients that count, and those that are told.
-use Rattle.std.proofs.Common.{ℕ, ℤ, zero, suc, ◌≡◌, ◌≢◌, ◌+◌, ◌<◌, ◌≤◌, ◌⊎◌, ◌↔◌, inl, inr, Bool, true, false, cond, List, [], ◌∷◌, length, get_or, Option, None, Some, refl, sym, ap, ◌∙◌, subst, arith}
+use Rattle.std.proofs.Common.{ℕ, ℤ, zero, suc, ◌≡◌, ◌<◌, ◌≤◌, ◌⊎◌, inl, inr, Bool, true, false, cond, List, [], ◌∷◌, length, get_or, Option, None, Some, refl, sym, ap, ◌∙◌, subst, arith}
 use Rattle.std.specs.Prelude.{AllPairs, slice_get, ◌&&◌, ◌==◌, nat_lt, nat_le, Result, Ok, Err, IfOk, IsSome}
 use Rattle.std.proofs.lemmas.Bool.{cases_lt, cases_eq}
 use Rattle.std.proofs.lemmas.Bool.Decides.{nat_tests}
 use Rattle.std.proofs.lemmas.Option.{slice_get_within, get_or_from_slice_get, slice_get-get_or}
 use Rattle.line_raster.specs.Canvas.{Canvas}
 use Rattle.chart_grid.specs.declared.axis.Axis.{Axis}
-use Rattle.chart_grid.specs.declared.grid.Grid.{Grid}
 use Rattle.om3_coeff.specs.declared.key.Key.{Key}
 use Rattle.om3_coeff.specs.declared.span.Span.{Span}
 use Rattle.om3_coeff.specs.declared.coef.Coef.{Coef}
@@ -18,7 +17,6 @@ use Rattle.view_cover.specs.Scene.{Scene}
 use Rattle.view_cover.specs.Across.{IsAcross, is_across}
 use Rattle.view_cover.specs.Walk.{IsCoverOf, scene_of}
 use Rattle.view_cover.proofs.Crossing.{decided}
-use Rattle.coefficient_cache.specs.Pairs.{series_key, coefficient_at}
 use Rattle.chart_frames.specs.declared.frame.ViewFrame.{ViewFrame}
 use Rattle.chart_frames.specs.Frames.{Precedes}
 use Rattle.chart_client.specs.declared.holding.Holding.{Holding}
@@ -29,7 +27,7 @@ use Rattle.chart_client.proofs.Entries.{same_or_apart}
 use Rattle.progressive_view.specs.Places.{IsPlace, place_in, coef_if, precedes}
 use Rattle.progressive_view.specs.Telling.{choice, told_in}
 use Rattle.progressive_view.specs.Used.{IsTaken, IsUnsent, IsBeforeNext, IsHeldFor, AreUsed}
-use Rattle.progressive_view.specs.Covers.{Taking, IsUnderWay, Stage, DrawsCover, scene_by}
+use Rattle.progressive_view.specs.Covers.{Taking, IsUnderWay, DrawsCover, scene_by}
 use Rattle.progressive_view.proofs.Standing.{in-order, precedes-is, precedes-not, cond-true, cond-false}
 
 -- whether a key comes before another one

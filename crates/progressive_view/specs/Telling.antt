@@ -1,10 +1,8 @@
 -- The coefficients that count, as they are looked up.
-use Rattle.std.specs.Prelude.{ℕ, Bool, ◌&&◌, nat_lt, nat_le, if◌then◌else◌, List, AllPairs, Option, None, Some, slice_get}
+use Rattle.std.specs.Prelude.{ℕ, Bool, ◌&&◌, nat_lt, nat_le, if◌then◌else◌, List, Option, None, Some, slice_get}
 use Rattle.om3_coeff.specs.declared.key.Key.{Key}
 use Rattle.om3_coeff.specs.declared.coef.Coef.{Coef}
-use Rattle.chart_frames.specs.Frames.{Precedes}
 use Rattle.chart_client.specs.declared.holding.Holding.{Holding}
-use Rattle.chart_client.specs.Holdings.{holding_of}
 use Rattle.chart_client.specs.Held.{held_by}
 use Rattle.view_cover.specs.declared.scope.Scope.{Scope}
 use Rattle.view_cover.specs.Across.{is_across}

@@ -138,9 +138,6 @@ abbrev pub IsInherited : (Span → Type 0) → Type 0
 IsInherited P = (l r : Option Span) (s : Span) → hull l r ≡ Some s → P s
     → ((a : Span) × (l ≡ Some a) × P a) ⊎ ((b : Span) × (r ≡ Some b) × P b)
 
-even-index : (n : ℕ) → 2 * n / 2 ≡ n
-even-index n = omega arith
-
 -- the halves by a coefficient that splits the span
 pub seen-left : Basis → (scene : Scene) (k : Key) (s : Span) (c : Coef) (l r : Option Span) (a : Span) → 1 ≤ k.level → IsSeen scene k s → scene.told k ≡ Some c
     → parts s c ≡ Some (l, r) → l ≡ Some a → IsSeen scene (left_of k) a

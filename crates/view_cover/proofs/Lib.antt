@@ -2,6 +2,11 @@ mod Spans
 mod Trees
 mod Fronts
 mod Shrinking
+mod Samples
+mod Listed
+mod Ends
+mod Filling
+mod Gaps
 mod Holding
 mod Parts
 mod Drawn

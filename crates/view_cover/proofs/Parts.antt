@@ -14,7 +14,7 @@ use Rattle.om3_coeff.specs.Coefs.{parts}
 use Rattle.om3_coeff.specs.Spans.{hull}
 use Rattle.om3_coeff.specs.Known.{half, known_below}
 use Rattle.om3_coeff.proofs.KeyLemmas.{left_first, right_end}
-use Rattle.view_keys.proofs.Ranging.{shared-above, parent-above, first-in_range}
+use Rattle.view_keys.proofs.Ranging.{shared-above, parent-above}
 use Rattle.view_cover.specs.declared.area.Area.{Area}
 use Rattle.view_cover.specs.Area.{InArea, both_areas, with_last}
 use Rattle.view_cover.specs.Scene.{Scene, known_in, IsSeen, IsDrawnIn}
@@ -25,6 +25,7 @@ use Rattle.view_cover.proofs.Spans.{Basis, not-known}
 use Rattle.view_cover.proofs.Trees.{peak, above-trans, above-both, level-same, known-under, seen-one, ranges-apart, left-parent, right-parent}
 use Rattle.view_cover.proofs.Fronts.{lowest-apart, seen-left, seen-right}
 use Rattle.view_cover.proofs.Shrinking.{drawn-above}
+use Rattle.view_cover.proofs.Ends.{some-slots}
 
 none-some : {u : Span} → ◌≡◌ {A = Option Span} None (Some u) → ⊥
 none-some h = cc
@@ -79,7 +80,7 @@ lowest-unknown by scene w k t o lowest above under is =
     (sym (known-under by scene part w (Some (Some t)) same lowest.seen.key.high lowest.seen.span) ∙ found.1)
 
 -- how a lowest key lies to one that a walk has come to
-places : Basis → (scene : Scene) (k : Key) (o : Option Span) → IsReached scene k o → (m : Key) (u : Span) → IsLowest scene m u
+pub places : Basis → (scene : Scene) (k : Key) (o : Option Span) → IsReached scene k o → (m : Key) (u : Span) → IsLowest scene m u
     → IsAtOrAbove k m ⊎ ((end_slot m ≤ first_slot k) ⊎ (end_slot k ≤ first_slot m))
 places by scene k o reached m u lowest =
     elim (ranges-apart k m) [
@@ -89,9 +90,6 @@ places by scene k o reached m u lowest =
         | inr over ↦ inl (shared-above k m shared.0 over shared.1 shared.2)
       ]
     ]
-
-some-slots : (k : Key) → first_slot k < end_slot k
-some-slots k = (first-in_range k).to
 
 -- where no key of the front lies at or below a key, none lies between its ends
 free-below : Basis → (scene : Scene) (k : Key) (o : Option Span) → IsReached scene k o → ((m : Key) (u : Span) → IsInFront scene m u → IsAtOrAbove k m → ⊥)

@@ -18,7 +18,7 @@ use Rattle.om3_coeff.specs.Known.{half, known_below, known}
 use Rattle.om3_coeff.proofs.KeyLemmas.{end_within}
 use Rattle.view_keys.proofs.Ranging.{first-in_range}
 use Rattle.view_cover.specs.declared.area.Area.{Area}
-use Rattle.view_cover.specs.Scene.{Scene, IsDrawnIn, known_in}
+use Rattle.view_cover.specs.Scene.{Scene, IsDrawnIn, IsSeen, known_in}
 use Rattle.view_cover.specs.Front.{IsLowest, IsInFront}
 use Rattle.view_cover.specs.Cover.{InCover, bottom, top}
 use Rattle.view_cover.specs.Walk.{IsCoverOf, IsReached, AreColumnsIn, IsAreaOf, IsLastBefore, InPart}
@@ -44,6 +44,10 @@ reached-right by scene k s c halves low reached is split = record {
       ∙ ap (option_map (half (2 * k.index + 1))) split
       ∙ ap (λ (o : Option Span). Some o) (right-half (2 * k.index + 1) halves.0 halves.1 (omega arith));
 }
+
+-- a seen key is reached
+pub seen-reached : (scene : Scene) (k : Key) (s : Span) → IsSeen scene k s → IsReached scene k (Some s)
+seen-reached scene k s seen = record { key = seen.key; known_so = seen.span }
 
 -- the key is reached with the span that it has
 pub reached-as : (scene : Scene) (k : Key) (o p : Option Span) → o ≡ p → IsReached scene k o → IsReached scene k p

@@ -5,7 +5,7 @@ ghost use Rattle.om3_coeff.specs.declared.key.Key.{Key};
 ghost use Rattle.om3_coeff.specs.declared.coef.Coef.{Coef};
 ghost use Rattle.view_cover.specs.Scene.{Scene, with_told, IsToldBy};
 ghost use Rattle.view_cover.specs.Cover.{InCover};
-ghost use Rattle.view_cover.specs.Chart.{InChart, IsToldOf};
+ghost use Rattle.view_cover.specs.Chart.{IsToldOf, HoldsChart};
 
 use chart_grid::laws::{columns_rise, heights_rise};
 use om3_coeff::laws::{
@@ -24,10 +24,10 @@ pub fn covers_shrink()
     what_is_known();
 }
 
-/// Where all that is told is told of a list of slots, the cover holds the list's chart.
+/// Where all that is told of the keys that a view needs is told of a list of slots, the cover holds the
+/// list's chart. What is told of other keys may be any.
 pub fn covers_hold_the_chart()
-    ensures { (list : List (Option ℤ)) (scene : Scene) (x : ℕ) (y : ℤ) → IsToldOf list scene → length list ≤ 2 ^ 35 →
-        InChart list scene x y → InCover scene x y }
+    ensures { (list : List (Option ℤ)) (scene : Scene) → IsToldOf list scene → length list ≤ 2 ^ 35 → HoldsChart list scene }
 {
     columns_rise();
     heights_rise();

@@ -4,7 +4,7 @@
 //! the lowest of these keys that meet a view's window. Each has a box: the columns of its range's slots,
 //! and the rows of its span. The cover has the pixels of the boxes, and of the least rectangles that
 //! hold the boxes of two neighbours of the front. With more coefficients a cover shrinks, and it holds
-//! the chart of each series of which all that is told is true.
+//! the chart of each series of which all is true that is told of the keys that the view needs.
 //!
 //! Between calls nothing is kept. Which coefficients are told is left to the layer above.
 #![tactic(auto)]

@@ -2,7 +2,7 @@ use Rattle.view_cover.proofs.Holding.{holds-chart}
 use Rattle.view_cover.proofs.laws.covers_hold_the_chart.Goals as goal
 
 pub returns : goal.returns
-returns c list scene x y of few is =
+returns c list scene of few x y is =
     holds-chart (record {
       heights = c.heights_rise.ensures;
       join = c.split_and_join_undo_each_other.ensures.whole;
@@ -16,4 +16,4 @@ returns c list scene x y of few is =
       halves = c.spans_add_up.ensures.halves;
       proper = c.spans_add_up.ensures.proper;
       split = c.split_and_join_undo_each_other.ensures.split;
-    }) c.columns_rise.ensures.rise list scene x y of few is
+    }) c.what_is_known.ensures.proper c.columns_rise.ensures.rise list scene x y of few is

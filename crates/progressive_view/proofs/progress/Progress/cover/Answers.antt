@@ -1,4 +1,4 @@
-use Rattle.std.proofs.Common.{◌≡◌, ◌∙◌, sym, subst}
+use Rattle.std.proofs.Common.{subst}
 use Rattle.line_raster.specs.Canvas.{Canvas}
 use Rattle.chart_client.specs.Holdings.{holding_of}
 use Rattle.view_cover.specs.Walk.{IsCoverOf, scene_of}

@@ -1,4 +1,4 @@
-use Rattle.std.proofs.Common.{ℕ, ◌≡◌, ◌≤◌, ◌∙◌, Bool, true, Option, None, sym, ap, arith}
+use Rattle.std.proofs.Common.{ℕ, ◌≡◌, ◌≤◌, ◌∙◌, true, Option, None, sym, ap, arith}
 use Rattle.std.specs.Prelude.{slice_get}
 use Rattle.om3_coeff.specs.declared.coef.Coef.{Coef}
 use Rattle.chart_client.specs.Holdings.{holding_of}
