@@ -1,12 +1,15 @@
 -- What is sent for a frame: the covers of a view, where covers are asked for, and the picture.
-use Rattle.std.specs.Prelude.{ℕ, ◌≡◌, ◌*◌, ◌<◌, ◌≤◌, ◌++◌, List, [], ◌∷◌, length, slice_get, flat_map, Option, None, Some}
-use Rattle.line_raster.specs.Canvas.{Canvas}
+use Rattle.std.specs.Prelude.{ℕ, ℤ, IsTrue, ◌≡◌, ◌*◌, ◌<◌, ◌≤◌, ◌++◌, List, [], ◌∷◌, length, slice_get, flat_map, Option, None, Some}
+use Rattle.line_raster.specs.Canvas.{Canvas, black_at}
 use Rattle.pbm_writer.specs.Picture.{picture}
 use Rattle.chart_frames.specs.declared.frame.Frame.{Frame}
 use Rattle.chart_frames.specs.declared.frame.Frame.TheVariants.{View}
 use Rattle.chart_frames.specs.declared.frame.ViewFrame.{ViewFrame}
 use Rattle.chart_client.specs.declared.holding.Holding.{Holding}
 use Rattle.chart_client.specs.Accepting.{Accepts}
+use Rattle.chart_client.specs.Agreeing.{Agrees, IsGridOf}
+use Rattle.chart_client.specs.Holdings.{holding_of}
+use Rattle.chart_grid.specs.declared.grid.Grid.{Grid}
 use Rattle.progressive_view.specs.Covers.{DrawsCover}
 
 -- the bytes of the picture of a drawing
@@ -56,3 +59,12 @@ SendsFrames every (frame ∷ frames) [] old new bytes = ⊥
 SendsFrames every (frame ∷ frames) (drawing ∷ drawings) old new bytes =
     (between : List Holding) × (first : List ℕ) × (later : List ℕ) × SendsFrame every frame drawing old between first
     × SendsFrames every frames drawings between new later × (bytes ≡ first ++ later)
+
+-- the list of slots agrees with a view's frame, and with what is held of its session
+abbrev pub AgreesWith : ViewFrame → List Holding → List (Option ℤ) → Type 0
+AgreesWith view holdings list =
+    (holding : Holding) (grid : Grid) → holding_of view.session holdings ≡ Some holding → IsGridOf view grid → Agrees view holding.cache grid list
+
+-- of two drawings of a view, the first is black only where the second is
+abbrev pub LiesWithin : ViewFrame → Canvas → Canvas → Type 0
+LiesWithin view inner outer = (x y : ℕ) → x < view.w → y < view.h → IsTrue (black_at inner x y) → IsTrue (black_at outer x y)

@@ -13,6 +13,7 @@
 mod covers;
 mod draw_end;
 mod drawing;
+pub mod laws;
 mod picture;
 
 pub use draw_end::DrawEnd;
