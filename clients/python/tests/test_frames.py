@@ -47,6 +47,29 @@ class Frames(unittest.TestCase):
         pictures = [picture.to_pbm() for _, picture in read if picture]
         self.assertEqual(pictures, [b"P4\n4 4\n" + bytes.fromhex("4040A020")] * 2)
 
+    def test_covers_come_before_the_picture(self):
+        covers = []
+
+        def show(view, session):
+            covers.extend(view.cover(session, taken).to_pbm() for taken in (0, 7, 8))
+
+        data = bytes.fromhex(OPENED + VIEW)
+        fields, sessions = Fields(io.BytesIO(data)), {}
+        accept(fields, sessions)
+        _, picture = accept(fields, sessions, show)
+        self.assertEqual(covers, [b"P4\n4 4\n" + bytes.fromhex(rows) for rows in ("F0F0F0F0", "F0F0F070", "E0E0E060")])
+        self.assertEqual(picture.to_pbm(), b"P4\n4 4\n" + bytes.fromhex("4040A020"))
+
+    def test_a_held_coefficient_of_a_key_within_a_column_is_not_shown(self):
+        # The push sends (2, 0) alone; at 0 nothing is shown below the keys across columns before it.
+        covers = []
+        data = bytes.fromhex(OPENED + VIEW + PUSH)
+        fields, sessions = Fields(io.BytesIO(data)), {}
+        accept(fields, sessions)
+        accept(fields, sessions)
+        accept(fields, sessions, lambda view, session: covers.append(view.cover(session, 0).to_pbm()))
+        self.assertEqual(covers, [b"P4\n4 4\n" + bytes.fromhex("F0F0F0F0")])
+
     def test_an_unfollowed_session_goes_on(self):
         self.assertEqual(read_all(OPENED, "00000006 07 00000001 00")[1], (Live(1, False), None))
 

@@ -1,9 +1,11 @@
 """From frames to pictures: what a client does with the bytes that a chart server sends.
 
 Its rules are those of docs/FORMATS.md: the tables of frames, and "From frames to pictures". `accept` reads one frame from
-a stream; whoever calls it keeps the open sessions between two calls.
+a stream; whoever calls it keeps the open sessions between two calls. A view can show its covers before it is drawn.
 """
+import contextlib
 from collections import OrderedDict, namedtuple
+from itertools import islice
 
 from .picture import Picture, height
 
@@ -63,7 +65,7 @@ class Session:
 
     def renew(self, series, wanted):
         """The list after a view: the wanted keys that it has come to the front, and then the others."""
-        keys = sorted(wanted, key=lambda key: (-key[0], key[1]))
+        keys = sorted(wanted, key=order)
         for key in sorted(keys, key=lambda key: (series, key) not in self.held):
             self.held[series, key] = wanted[key]
             self.held.move_to_end((series, key))
@@ -103,6 +105,8 @@ class View:
         fields.number(4, count, count)
         self.top = next(7 * k for k in range(1, 5) if 128**k >= self.slots)
         self.sent = dict(self.coefficients(fields, count))
+        self.first = max(0, -((self.start - self.t0) // self.step))  # the window's slots go from here to below behind
+        self.behind = min(self.slots, -((self.start - self.t1) // self.step))
 
     def coefficients(self, fields, count):
         before = (-self.top - 1, 0)
@@ -117,8 +121,6 @@ class View:
     def draw(self, session):
         self.held, self.wanted = session.held, {}
         self.pieces = {}  # for each column the keys that are left in it, with their spans
-        self.first = max(0, -((self.start - self.t0) // self.step))  # the window's slots go from here to below behind
-        self.behind = min(self.slots, -((self.start - self.t1) // self.step))
         if self.span:
             self.find_pieces((self.top, 0), self.span)
         rows = [self.row(column) for column in self.pieces]
@@ -127,6 +129,15 @@ class View:
 
     def column(self, slot):
         return (self.start + slot * self.step - self.t0) * self.w // (self.t1 - self.t0)
+
+    def is_outside(self, key):
+        """No slot of the key is in the window."""
+        return self.first >= min((key[1] + 1) << key[0], self.behind) or self.behind <= key[1] << key[0]
+
+    def is_in_a_column(self, key):
+        """All slots of the key are in one column."""
+        first, behind = key[1] << key[0], (key[1] + 1) << key[0]
+        return self.first <= first and behind <= self.behind and self.column(first) == self.column(behind - 1)
 
     def halves(self, key, span):
         """The halves of a wanted key that have a stored value, with their spans."""
@@ -139,11 +150,10 @@ class View:
 
     def find_pieces(self, key, span):
         """Splits a key until what is left of it lies within columns, from the left to the right."""
-        first, behind = key[1] << key[0], (key[1] + 1) << key[0]
-        if self.first >= min(behind, self.behind) or self.behind <= first:
+        if self.is_outside(key):
             return
-        if self.first <= first and behind <= self.behind and self.column(first) == self.column(behind - 1):
-            self.pieces.setdefault(self.column(first), []).append((key, span))
+        if self.is_in_a_column(key):
+            self.pieces.setdefault(self.column(key[1] << key[0]), []).append((key, span))
             return
         for half, part in self.halves(key, span):
             self.find_pieces(half, part)
@@ -158,6 +168,50 @@ class View:
         while key[0] > 0 and len({height(value, self.lo, self.hi, self.h) for value in span}) > 1:
             key, span = self.halves(key, span)[side]
         return span[0]
+
+
+    def cover(self, session, taken):
+        """Which pixels may be black by the first so many of the sent coefficients, and by those that the session holds of keys that
+        lie across the end of a column, as far as their turn has come. It is drawn before the view is."""
+        early = dict(islice(self.sent.items(), taken))
+        turn = next((order(key) for key in islice(self.sent, taken, None)), (1, 0))
+
+        def told(key):
+            if key in self.sent:
+                return early.get(key)
+            return session.held.get((self.series, key)) if order(key) < turn and not self.is_in_a_column(key) else None
+
+        picture, before = Picture(self.w, self.h, self.lo, self.hi, []), None
+        for key, span in self.front((self.top, 0), self.span, told) if self.span else ():
+            first, last = max(key[1] << key[0], self.first), min((key[1] + 1) << key[0], self.behind) - 1
+            box = [(self.column(first), self.column(last)), tuple(picture.height(value) for value in span)]
+            # With the box before, this one is covered too.
+            picture.fill_box(*(join(*ends) for ends in zip(box, before or box)))
+            before = box
+        return picture
+
+    def front(self, key, span, told):
+        """The keys that meet the window and show no half of theirs, from the left to the right, with their spans."""
+        if self.is_outside(key):
+            return
+        halves = ()
+        if key[0] and (coefficient := told(key)):
+            with contextlib.suppress(Stopped):
+                halves = [half for half in enumerate(split(span, coefficient), 2 * key[1]) if half[1]]
+        if not halves:
+            yield key, span
+        for half, part in halves:
+            yield from self.front((key[0] - 1, half), part, told)
+
+
+def order(key):
+    """Where a key stands among others: by falling level, then by rising index."""
+    return -key[0], key[1]
+
+
+def join(one, other):
+    """The least range that holds two."""
+    return min(one[0], other[0]), max(one[1], other[1])
 
 
 class Rows:
@@ -181,8 +235,9 @@ class Rows:
         return Picture(self.w, self.h, self.lo, self.hi, self.rows)
 
 
-def accept(fields, sessions):
-    """Reads a frame and changes the open sessions by it. Gives it with its picture, or with None where it has none."""
+def accept(fields, sessions, before_view=None):
+    """Reads a frame and changes the open sessions by it. Gives it with its picture, or with None where it has none. Before a view is
+    drawn, `before_view` is called with it and its session."""
     length = fields.number(4, 0, 2**32 - 1)
     counts = {}
     for kind, (own, item, most) in LENGTHS.items():
@@ -209,6 +264,8 @@ def accept(fields, sessions):
     if live:
         return live, None
     if chart:
+        if kind == VIEW and before_view:
+            before_view(chart, sessions[session])
         return chart, chart.draw(sessions[session])
     del sessions[session]
     return Closed(session), None

@@ -30,6 +30,11 @@ class Picture:
         if low <= high:
             self.pixels[low * self.w + x : high * self.w + x + 1 : self.w] = b"1" * (high - low + 1)
 
+    def fill_box(self, columns, heights):
+        """Blackens what the canvas has of a rectangle; each pair is the first and the last one."""
+        for x in range(columns[0], columns[1] + 1):
+            self.fill(x, *heights)
+
     def join(self, x1, y1, x2, y2):
         """The segment between two points. Of a steep one, column n has those rows for which the rule gives n."""
         dx, dy, way = x2 - x1, abs(y2 - y1), 1 if y1 <= y2 else -1

@@ -5,7 +5,6 @@ pub mod Apart
 pub mod Codes
 pub mod Counts
 pub mod DiskKept
-pub mod Drawing
 pub mod Running
 pub mod Telling
 pub mod Parsing

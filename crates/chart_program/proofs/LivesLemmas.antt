@@ -8,7 +8,7 @@ use Rattle.disk_store.specs.Held.{HoldsBook}
 use Rattle.stored_book.specs.Standing.{StandsForBook, RecoversTo}
 use Rattle.series_load.specs.Sets.{IsNamed, Loads}
 use Rattle.program_words.specs.declared.words.Command.{Command}
-use Rattle.program_words.specs.declared.words.Command.TheVariants.{Plot, Load, Demo, Run, Serve, Draw, Init, Check, ListSeries, Export, Retain}
+use Rattle.program_words.specs.declared.words.Command.TheVariants.{Plot, Load, Demo, Run, Serve, Draw, Init, Check, ListSeries, Export, Retain, Cover}
 use Rattle.store_commands.specs.Books.{begun}
 use Rattle.store_commands.proofs.HoldsAgain.{series_there}
 use Rattle.store_commands.specs.Loaded.{IsAheadLoad}
@@ -51,6 +51,8 @@ run_lives ListSeries input old new begins left at b leaves is = λ total book re
 run_lives (Export name window) input old new begins left at b leaves is = λ total book recovers.
     (leaves total book (begun_holds (page_count old.size) total book begins old b recovers)).here at left is.0 is.1.0 is.1.1
 run_lives Retain input old new begins left at b leaves is = λ total book recovers.
+    (leaves total book (begun_holds (page_count old.size) total book begins old b recovers)).here at left is.0 is.1.0 is.1.1
+run_lives (Cover every) input old new begins left at b leaves is = λ total book recovers.
     (leaves total book (begun_holds (page_count old.size) total book begins old b recovers)).here at left is.0 is.1.0 is.1.1
 
 -- where the input and what was sent are told
@@ -150,6 +152,7 @@ left_swept input count total book from left sent is = elim is.state [
 left_by : OneBook → (command : Command) (input : List ℕ) (count total : ℕ) (book : List Series) (from : ℕ) (left : Image) (sent : ℕ) → LeavesFrom command input count total book from left sent → Left command input count total book from left sent
 left_by one (Plot w h) input count total book from left sent leaves = (book, refl, leaves)
 left_by one Draw input count total book from left sent leaves = (book, refl, leaves)
+left_by one (Cover every) input count total book from left sent leaves = (book, refl, leaves)
 left_by one Init input count total book from left sent leaves = (book, refl, leaves)
 left_by one Run input count total book from left sent leaves = left_lines AreTexts input count total book from left sent leaves
 left_by one Serve input count total book from left sent leaves = left_lines Spelled input count total book from left sent leaves

@@ -21,11 +21,14 @@ use Rattle.chart_client.specs.declared.errors.ClientError.TheVariants as client
 use Rattle.chart_client.specs.Accepting.{Rejects}
 use Rattle.drawn_replies.specs.Mirrors.{mirrored, Mirrors}
 use Rattle.drawn_replies.specs.Pictures.{AcceptsAll, ArePictured, AreOwnPictured, NoneRejected, names}
-use Rattle.chart_program.specs.declared.draw_end.DrawEnd.{DrawEnd}
-use Rattle.chart_program.specs.declared.draw_end.DrawEnd.TheVariants as draw_end
-use Rattle.chart_program.specs.Draws.{DrawsMore, DrawsAll, FramesStop, StopsAtFrame, IsCut, DrawsWithin, IsFront, EndsDraw}
+use Rattle.draw_command.specs.declared.draw_end.DrawEnd.{DrawEnd}
+use Rattle.draw_command.specs.declared.draw_end.DrawEnd.TheVariants as draw_end
+use Rattle.draw_command.specs.Covers.{picture_bytes, SendsFrames}
+use Rattle.draw_command.specs.Draws.{DrawsMore, DrawsAll, FramesStop, StopsAtFrame, IsCut, DrawsWithin, IsFront, EndsDraw}
 use Rattle.chart_program.specs.Ran.{IsFrames, IsOfReplies, DrawsReplies}
-use Rattle.chart_program.proofs.Drawing.{Good, Stay}
+use Rattle.draw_command.proofs.DrawnFrames.{Good, Stay}
+use Rattle.pbm_writer.specs.Picture.{picture}
+use Rattle.block_disk.specs.Streams.{sent_after}
 
 abbrev pub OneFrame : Type 0
 OneFrame = (f g : Frame) (x y : List ℕ) → Fits f → Fits g → spelling f ++ x ≡ spelling g ++ y → (f ≡ g) × (x ≡ y)
@@ -93,81 +96,102 @@ next_rejected : Known → (all more : List Frame) (frames : List Frame) (drawing
 next_rejected k all more frames drawings holdings rest f behind e none split fit is accepted fits front rejects =
     not_rejected k all frames more holdings drawings f behind e none split fit accepted fits (sym is ∙ front) rejects
 
--- what is left of frames behind those that were drawn
-left_of : Known → (input : List ℕ) (good : IsFrames input) (rest : Pending) (holdings : List Holding) (before now : Option (List ℕ)) → (d : DrawsMore (held 0 input) rest [] holdings before now) → Begins d.frames good.frames rest.rest
-left_of k input good rest holdings before now d = begins k d.frames good.frames rest.rest d.fit good.fit (sym good.spelled ∙ d.split)
+-- a client accepts the frames that were drawn
+accepted_by : (every : Option ℕ) (frames : List Frame) (h h' : List Holding) (bytes : List ℕ) → SendsFrames every frames h h' bytes → (drawings : List (Option Canvas)) × AcceptsAll h frames drawings h'
+accepted_by every [] h h' bytes all = ([], all.0)
+accepted_by every (f ∷ fs) h h' bytes all =
+    let later = accepted_by every fs all.0 h' all.2 all.4 in
+    (all.3.drawing ∷ later.0, (all.0, all.3.accepted, later.1))
 
--- good input isn't cut off at 2^32 bytes
-whole_stop : (input : List ℕ) (before now : Option (List ℕ)) (end : DrawEnd) → IsFrames input → StopsAtFrame input before now end → FramesStop (held 0 input) [] before now end
-whole_stop input before now end good stop =
-    let P : List ℕ → Type 0 = λ l. FramesStop (held 0 l) [] before now end in
-    subst P (take_all (2 ^ 32) input good.short) stop
-
--- good input has no bad field
-pub no_bad_frame : Known → ((at : ℕ) → Breaks frame_fields [] at → ⊥) → (input : List ℕ) (at : ℕ) (before now : Option (List ℕ)) → IsFrames input
-    → IsCut input at before now ⊎ StopsAtFrame input before now (draw_end.BadFrame at) → ⊥
-no_bad_frame k none input at before now good (inl cut) =
-    let b = left_of k input good cut.rest cut.holdings before now cut.first in
-    no_front k b.more b.fit (omega (arith, cut.some, ap length b.behind)) (subst IsFront b.behind cut.unended)
-no_bad_frame k none input at before now good (inr some) =
-    let stop = whole_stop input before now (draw_end.BadFrame at) good some in
-    let b = left_of k input good stop.rest stop.client before stop.sent_first stop.first in
-    let P : List ℕ → Type 0 = λ l. Breaks frame_fields l stop.stops.1.0 in
-    no_break k b.more stop.stops.1.0 b.fit (subst P b.behind stop.stops.1.2) (none stop.stops.1.0)
-
--- and no frame that a client rejects
-pub no_missing : Known → (input : List ℕ) (key : Key) (before now : Option (List ℕ)) → IsFrames input → StopsAtFrame input before now (draw_end.Missing key) → ⊥
-no_missing k input key before now good some =
-    let stop = whole_stop input before now (draw_end.Missing key) good some in
-    let b = left_of k input good stop.rest stop.client before stop.sent_first stop.first in
-    let s = stop.stops in
-    let never : client.Missing key ≡ client.NoMemory = next_rejected k good.frames b.more stop.first.frames stop.first.drawings stop.client stop.rest.rest s.frame s.behind (client.Missing key) good.accepted b.split b.fit b.behind stop.first.accepted s.fits s.next s.stops.0 in
-    cc
-
-pub no_misfit : Known → (input : List ℕ) (key : Key) (before now : Option (List ℕ)) → IsFrames input → StopsAtFrame input before now (draw_end.BadCoefficient key) → ⊥
-no_misfit k input key before now good some =
-    let stop = whole_stop input before now (draw_end.BadCoefficient key) good some in
-    let b = left_of k input good stop.rest stop.client before stop.sent_first stop.first in
-    let s = stop.stops in
-    let never : client.BadCoefficient key ≡ client.NoMemory = next_rejected k good.frames b.more stop.first.frames stop.first.drawings stop.client stop.rest.rest s.frame s.behind (client.BadCoefficient key) good.accepted b.split b.fit b.behind stop.first.accepted s.fits s.next s.stops.0 in
-    cc
-
-pub no_unopened : Known → (input : List ℕ) (n : ℕ) (before now : Option (List ℕ)) → IsFrames input → StopsAtFrame input before now (draw_end.UnknownSession n) → ⊥
-no_unopened k input n before now good some =
-    let stop = whole_stop input before now (draw_end.UnknownSession n) good some in
-    let b = left_of k input good stop.rest stop.client before stop.sent_first stop.first in
-    let s = stop.stops in
-    let never : client.UnknownSession n ≡ client.NoMemory = next_rejected k good.frames b.more stop.first.frames stop.first.drawings stop.client stop.rest.rest s.frame s.behind (client.UnknownSession n) good.accepted b.split b.fit b.behind stop.first.accepted s.fits s.next s.stops.0 in
-    cc
-
--- nor too many bytes
-no_much_frames : (input : List ℕ) (before now : Option (List ℕ)) → IsFrames input → DrawsWithin input before now → ⊥
-no_much_frames input before now good within = omega (arith, good.short, within.past)
-
--- ---- so such an end never comes
+-- without covers their pictures alone were sent
+pictured_by : (frames : List Frame) (h h' : List Holding) (bytes : List ℕ) → SendsFrames None frames h h' bytes
+    → (drawings : List (Option Canvas)) × AcceptsAll h frames drawings h' × (bytes ≡ flat_map picture_bytes drawings)
+pictured_by [] h h' bytes all = ([], all.0, all.1)
+pictured_by (f ∷ fs) h h' bytes all =
+    let later = pictured_by fs all.0 h' all.2 all.4 in
+    let d = all.3.drawing in
+    let bare : all.1 ≡ picture_bytes d = all.3.bytes_are ∙ ap (λ cs. flat_map picture cs ++ picture_bytes d) all.3.covered in
+    (d ∷ later.0, (all.0, all.3.accepted, later.1), all.5 ∙ ap (λ l. l ++ all.2) bare ∙ ap (λ l. picture_bytes d ++ l) later.2)
 
 pub none_broken : Stay → Good → (at : ℕ) → Breaks frame_fields [] at → ⊥
 none_broken stay good at breaks = good (Done 0) [] at (omega arith) (stay [] (spelling (Done 0) ++ []) at breaks)
 
-pub bad_never : Known → Stay → (P : Type 0) (o left before now : Option (List ℕ)) (at : ℕ) → IfSome o (λ input. EndsDraw input left before now (draw_end.BadFrame at)) → IfSome o (λ input. IsFrames input → P)
-bad_never k stay P None left before now at ends = tt
-bad_never k stay P (Some input) left before now at ends = λ good. absurd (no_bad_frame k (none_broken stay k.good) input at before now good ends)
+module _ (every : Option ℕ) where
+  -- what is left of frames behind those that were drawn
+  left_of : Known → (input : List ℕ) (good : IsFrames input) (rest : Pending) (holdings : List Holding) (before now : Option (List ℕ)) → (d : DrawsMore every (held 0 input) rest [] holdings before now) → Begins d.frames good.frames rest.rest
+  left_of k input good rest holdings before now d = begins k d.frames good.frames rest.rest d.fit good.fit (sym good.spelled ∙ d.split)
 
-pub much_never : (P : Type 0) (o left before now : Option (List ℕ)) → IfSome o (λ input. EndsDraw input left before now draw_end.InputTooLong) → IfSome o (λ input. IsFrames input → P)
-much_never P None left before now ends = tt
-much_never P (Some input) left before now ends = λ good. absurd (no_much_frames input before now good ends)
+  -- good input isn't cut off at 2^32 bytes
+  whole_stop : (input : List ℕ) (before now : Option (List ℕ)) (end : DrawEnd) → IsFrames input → StopsAtFrame every input before now end → FramesStop every (held 0 input) [] before now end
+  whole_stop input before now end good stop =
+      let P : List ℕ → Type 0 = λ l. FramesStop every (held 0 l) [] before now end in
+      subst P (take_all (2 ^ 32) input good.short) stop
 
-pub missing_never : Known → (P : Type 0) (o left before now : Option (List ℕ)) (key : Key) → IfSome o (λ input. EndsDraw input left before now (draw_end.Missing key)) → IfSome o (λ input. IsFrames input → P)
-missing_never k P None left before now key ends = tt
-missing_never k P (Some input) left before now key ends = λ good. absurd (no_missing k input key before now good ends)
+  -- good input has no bad field
+  pub no_bad_frame : Known → ((at : ℕ) → Breaks frame_fields [] at → ⊥) → (input : List ℕ) (at : ℕ) (before now : Option (List ℕ)) → IsFrames input
+      → IsCut every input at before now ⊎ StopsAtFrame every input before now (draw_end.BadFrame at) → ⊥
+  no_bad_frame k none input at before now good (inl cut) =
+      let b = left_of k input good cut.rest cut.holdings before now cut.first in
+      no_front k b.more b.fit (omega (arith, cut.some, ap length b.behind)) (subst IsFront b.behind cut.unended)
+  no_bad_frame k none input at before now good (inr some) =
+      let stop = whole_stop input before now (draw_end.BadFrame at) good some in
+      let b = left_of k input good stop.rest stop.client before stop.sent_first stop.first in
+      let P : List ℕ → Type 0 = λ l. Breaks frame_fields l stop.stops.1.0 in
+      no_break k b.more stop.stops.1.0 b.fit (subst P b.behind stop.stops.1.2) (none stop.stops.1.0)
 
-pub misfit_never : Known → (P : Type 0) (o left before now : Option (List ℕ)) (key : Key) → IfSome o (λ input. EndsDraw input left before now (draw_end.BadCoefficient key)) → IfSome o (λ input. IsFrames input → P)
-misfit_never k P None left before now key ends = tt
-misfit_never k P (Some input) left before now key ends = λ good. absurd (no_misfit k input key before now good ends)
+  -- and no frame that a client rejects
+  pub no_missing : Known → (input : List ℕ) (key : Key) (before now : Option (List ℕ)) → IsFrames input → StopsAtFrame every input before now (draw_end.Missing key) → ⊥
+  no_missing k input key before now good some =
+      let stop = whole_stop input before now (draw_end.Missing key) good some in
+      let b = left_of k input good stop.rest stop.client before stop.sent_first stop.first in
+      let s = stop.stops in
+      let drawn = accepted_by every stop.first.frames [] stop.client stop.first.bytes stop.first.sends in
+      let never : client.Missing key ≡ client.NoMemory = next_rejected k good.frames b.more stop.first.frames drawn.0 stop.client stop.rest.rest s.frame s.behind (client.Missing key) good.accepted b.split b.fit b.behind drawn.1 s.fits s.next s.stops.0 in
+      cc
 
-pub unopened_never : Known → (P : Type 0) (o left before now : Option (List ℕ)) (n : ℕ) → IfSome o (λ input. EndsDraw input left before now (draw_end.UnknownSession n)) → IfSome o (λ input. IsFrames input → P)
-unopened_never k P None left before now n ends = tt
-unopened_never k P (Some input) left before now n ends = λ good. absurd (no_unopened k input n before now good ends)
+  pub no_misfit : Known → (input : List ℕ) (key : Key) (before now : Option (List ℕ)) → IsFrames input → StopsAtFrame every input before now (draw_end.BadCoefficient key) → ⊥
+  no_misfit k input key before now good some =
+      let stop = whole_stop input before now (draw_end.BadCoefficient key) good some in
+      let b = left_of k input good stop.rest stop.client before stop.sent_first stop.first in
+      let s = stop.stops in
+      let drawn = accepted_by every stop.first.frames [] stop.client stop.first.bytes stop.first.sends in
+      let never : client.BadCoefficient key ≡ client.NoMemory = next_rejected k good.frames b.more stop.first.frames drawn.0 stop.client stop.rest.rest s.frame s.behind (client.BadCoefficient key) good.accepted b.split b.fit b.behind drawn.1 s.fits s.next s.stops.0 in
+      cc
+
+  pub no_unopened : Known → (input : List ℕ) (n : ℕ) (before now : Option (List ℕ)) → IsFrames input → StopsAtFrame every input before now (draw_end.UnknownSession n) → ⊥
+  no_unopened k input n before now good some =
+      let stop = whole_stop input before now (draw_end.UnknownSession n) good some in
+      let b = left_of k input good stop.rest stop.client before stop.sent_first stop.first in
+      let s = stop.stops in
+      let drawn = accepted_by every stop.first.frames [] stop.client stop.first.bytes stop.first.sends in
+      let never : client.UnknownSession n ≡ client.NoMemory = next_rejected k good.frames b.more stop.first.frames drawn.0 stop.client stop.rest.rest s.frame s.behind (client.UnknownSession n) good.accepted b.split b.fit b.behind drawn.1 s.fits s.next s.stops.0 in
+      cc
+
+  -- nor too many bytes
+  no_much_frames : (input : List ℕ) (before now : Option (List ℕ)) → IsFrames input → DrawsWithin every input before now → ⊥
+  no_much_frames input before now good within = omega (arith, good.short, within.past)
+
+  -- ---- so such an end never comes
+
+  pub bad_never : Known → Stay → (P : Type 0) (o left before now : Option (List ℕ)) (at : ℕ) → IfSome o (λ input. EndsDraw every input left before now (draw_end.BadFrame at)) → IfSome o (λ input. IsFrames input → P)
+  bad_never k stay P None left before now at ends = tt
+  bad_never k stay P (Some input) left before now at ends = λ good. absurd (no_bad_frame k (none_broken stay k.good) input at before now good ends)
+
+  pub much_never : (P : Type 0) (o left before now : Option (List ℕ)) → IfSome o (λ input. EndsDraw every input left before now draw_end.InputTooLong) → IfSome o (λ input. IsFrames input → P)
+  much_never P None left before now ends = tt
+  much_never P (Some input) left before now ends = λ good. absurd (no_much_frames input before now good ends)
+
+  pub missing_never : Known → (P : Type 0) (o left before now : Option (List ℕ)) (key : Key) → IfSome o (λ input. EndsDraw every input left before now (draw_end.Missing key)) → IfSome o (λ input. IsFrames input → P)
+  missing_never k P None left before now key ends = tt
+  missing_never k P (Some input) left before now key ends = λ good. absurd (no_missing k input key before now good ends)
+
+  pub misfit_never : Known → (P : Type 0) (o left before now : Option (List ℕ)) (key : Key) → IfSome o (λ input. EndsDraw every input left before now (draw_end.BadCoefficient key)) → IfSome o (λ input. IsFrames input → P)
+  misfit_never k P None left before now key ends = tt
+  misfit_never k P (Some input) left before now key ends = λ good. absurd (no_misfit k input key before now good ends)
+
+  pub unopened_never : Known → (P : Type 0) (o left before now : Option (List ℕ)) (n : ℕ) → IfSome o (λ input. EndsDraw every input left before now (draw_end.UnknownSession n)) → IfSome o (λ input. IsFrames input → P)
+  unopened_never k P None left before now n ends = tt
+  unopened_never k P (Some input) left before now n ends = λ good. absurd (no_unopened k input n before now good ends)
 
 -- ---- the frames that answer lines
 
@@ -196,35 +220,37 @@ append_no_frame (f ∷ fs) = ap (λ l. f ∷ l) (append_no_frame fs)
 
 -- the frames that were drawn are all of them
 all_drawn : Known → (input : List ℕ) (frames : List Frame) (given : ℕ) (holdings : List Holding) (before now : Option (List ℕ)) → All Fits frames → input ≡ flat_map spelling frames
-    → (d : DrawsMore (held 0 input) (held given []) [] holdings before now) → d.frames ≡ frames
+    → (d : DrawsMore None (held 0 input) (held given []) [] holdings before now) → d.frames ≡ frames
 all_drawn k input frames given holdings before now fit spelled d =
     let b = begins k d.frames frames [] d.fit fit (sym spelled ∙ d.split) in
     sym (b.split ∙ ap (λ m. d.frames ++ m) (none_more k b.more b.fit b.behind) ∙ append_no_frame d.frames)
 
-replies_at : Known → AllDraw → OwnDraw → (input : List ℕ) (before now : Option (List ℕ)) → DrawsAll input before now → DrawsReplies input before now
+replies_at : Known → AllDraw → OwnDraw → (input : List ℕ) (before now : Option (List ℕ)) → DrawsAll None input before now → DrawsReplies input before now
 replies_at k draws own input before now all = record {
   all = λ old new lines frames r spelled.
       let d = all.2 in
       let same = all_drawn k input frames all.0 all.1 before now (replies_fit lines frames old new r.replied) spelled d in
-      let A : List Frame → Type 0 = λ fs. AcceptsAll [] fs d.drawings all.1 in
+      let p = pictured_by d.frames [] all.1 d.bytes d.sends in
+      let A : List Frame → Type 0 = λ fs. AcceptsAll [] fs p.0 all.1 in
       record {
-        drawings = d.drawings;
-        pictured = (draws lines frames d.drawings old new [] all.1 r.sound r.replied (ap (λ ss. map mirrored ss) (sym r.alone)) (subst A same d.accepted)).0;
-        sent = d.sent;
+        drawings = p.0;
+        pictured = (draws lines frames p.0 old new [] all.1 r.sound r.replied (ap (λ ss. map mirrored ss) (sym r.alone)) (subst A same p.1)).0;
+        sent = d.sent ∙ ap (λ l. sent_after l before) p.2;
       };
   own = λ n old new lines frames r spelled.
       let d = all.2 in
       let fit = All-filter (names n) Fits frames (replies_fit lines frames old new r.replied) in
       let same = all_drawn k input (filter (names n) frames) all.0 all.1 before now fit spelled d in
-      let A : List Frame → Type 0 = λ fs. AcceptsAll [] fs d.drawings all.1 in
+      let p = pictured_by d.frames [] all.1 d.bytes d.sends in
+      let A : List Frame → Type 0 = λ fs. AcceptsAll [] fs p.0 all.1 in
       record {
-        drawings = d.drawings;
-        pictured = (own n lines frames d.drawings old new [] all.1 r.sound r.replied (ap (λ ss. map mirrored (only n ss)) (sym r.alone)) (subst A same d.accepted)).0;
-        sent = d.sent;
+        drawings = p.0;
+        pictured = (own n lines frames p.0 old new [] all.1 r.sound r.replied (ap (λ ss. map mirrored (only n ss)) (sym r.alone)) (subst A same p.1)).0;
+        sent = d.sent ∙ ap (λ l. sent_after l before) p.2;
       };
 }
 
-pub replies_drawn : Known → AllDraw → OwnDraw → (o before now : Option (List ℕ)) → IfSome o (λ input. DrawsAll input before now) → IfSome o (λ input. DrawsReplies input before now)
+pub replies_drawn : Known → AllDraw → OwnDraw → (o before now : Option (List ℕ)) → IfSome o (λ input. DrawsAll None input before now) → IfSome o (λ input. DrawsReplies input before now)
 replies_drawn k draws own None before now all = tt
 replies_drawn k draws own (Some input) before now all = replies_at k draws own input before now all
 
@@ -241,7 +267,7 @@ AllAccepted = (lines : List (Option (List ℕ))) (frames : List Frame) (old new 
 abbrev pub OwnAccepted : Type 0
 OwnAccepted = (n : ℕ) (lines : List (Option (List ℕ))) (frames : List Frame) (old new : State) → IsSound old → old.sessions ≡ [] → RepliesToAll old lines frames new → NoneRejected (filter (names n) frames)
 
-replies_good : AllAccepted → OwnAccepted → (input : List ℕ) → IsOfReplies input → IsFrames input
+pub replies_good : AllAccepted → OwnAccepted → (input : List ℕ) → IsOfReplies input → IsFrames input
 replies_good all own input r =
     let fit = replies_fit r.lines r.frames r.old r.new r.replied.replied in
     elim r.spelled [

@@ -1,28 +1,29 @@
 -- What a plot and a drawing did, by the status of what they answer.
-use Rattle.std.proofs.Common.{◌≡◌, ◌≢◌, ◌≤◌, ◌^◌, ◌⊎◌, inl, inr, ℕ, List, [], ◌∷◌, length, Option, Result, Ok, Err, IfSome, IfErr, OnOk, refl, arith}
+use Rattle.std.proofs.Common.{◌≡◌, ◌≢◌, ◌≤◌, ◌^◌, ◌⊎◌, inl, inr, ℕ, List, [], ◌∷◌, length, Option, None, Some, Result, Ok, Err, IfSome, IfErr, OnOk, refl, arith}
 use Rattle.std.specs.Prelude.{Contains}
 use Rattle.block_disk.specs.Counts.{HasRisen}
 use Rattle.block_disk.specs.View.{View}
-use Rattle.chart_program.specs.Alone.{StaysAlone}
+use Rattle.draw_command.specs.Alone.{StaysAlone}
 use Rattle.chart_world.specs.LineLaws.{told_so}
 use Rattle.om3_coeff.specs.declared.key.Key.{Key}
 use Rattle.chart_frames.specs.Frames.{key_number}
-use Rattle.program_words.specs.declared.words.Command.TheVariants.{Plot, Draw}
-use Rattle.chart_program.specs.declared.draw_end.DrawEnd.{DrawEnd}
-use Rattle.chart_program.specs.declared.draw_end.DrawEnd.TheVariants as draw_end
-use Rattle.chart_program.specs.declared.draw_end.DrawEnd.TheVariants.{NoMemory, ReadFault, InputTooLong, BadFrame, Missing, BadCoefficient, UnknownSession}
+use Rattle.program_words.specs.declared.words.Command.TheVariants.{Plot, Draw, Cover}
+use Rattle.draw_command.specs.declared.draw_end.DrawEnd.{DrawEnd}
+use Rattle.draw_command.specs.declared.draw_end.DrawEnd.TheVariants as draw_end
+use Rattle.draw_command.specs.declared.draw_end.DrawEnd.TheVariants.{NoMemory, ReadFault, InputTooLong, BadFrame, Missing, BadCoefficient, UnknownSession}
 use Rattle.chart_program.specs.declared.input.InputEnd.TheVariants as input
 use Rattle.chart_program.specs.declared.plot.PlotEnd.{PlotEnd}
 use Rattle.chart_program.specs.declared.plot.PlotEnd.TheVariants.{Input, SendFault}
 use Rattle.chart_program.specs.Slots.{FirstBad, HasTooMany, IsTooLong, StoppedBefore, most_slots}
 use Rattle.chart_program.specs.Plotted.{SendsPlot, SendsFront, EndsPlot, plotting_status}
-use Rattle.chart_program.specs.Draws.{DrawsAll, DrawsTaken, DrawsWithin, IsCut, StopsAtFrame, EndsDraw, drawing_status}
+use Rattle.draw_command.specs.Draws.{DrawsAll, DrawsTaken, DrawsWithin, IsCut, StopsAtFrame, EndsDraw}
+use Rattle.chart_program.specs.CommandStatuses.{drawing_status}
 use Rattle.chart_program.specs.Served.{Faults}
 use Rattle.chart_program.specs.Ran.{CommandEnds, HasTooMuch, IsFrames}
 use Rattle.chart_program.proofs.Apart.{apart}
 use Rattle.chart_program.proofs.CommandCodes.{never, of_plot, of_draw}
-use Rattle.chart_program.proofs.CommandsEnd.{plot_ends, draw_ends}
-use Rattle.chart_program.proofs.Drawing.{Stay}
+use Rattle.chart_program.proofs.CommandsEnd.{plot_ends, draw_ends, cover_ends}
+use Rattle.draw_command.proofs.DrawnFrames.{Stay}
 use Rattle.chart_program.proofs.Parsing.{Known, AllDraw, OwnDraw, bad_never, much_never, missing_never, misfit_never, unopened_never, replies_drawn, good_so, AllAccepted, OwnAccepted, replies_end}
 
 -- ---- a plot
@@ -197,8 +198,8 @@ draw_much (Err (BadCoefficient key)) is = apart is refl
 draw_much (Err (UnknownSession n)) is = apart is refl
 
 -- the pictures that were sent, and why no more
-module _ {T : Type 0} (o left before now : Option (List ℕ)) where
-  draw_part : (r : Result T DrawEnd) → IfErr r (λ end. IfSome o (λ input. EndsDraw input left before now end)) → (drawing_status r).code ≡ 5 → IfSome o (λ input. StopsAtFrame input before now draw_end.SendFault)
+module _ {T : Type 0} (every : Option ℕ) (o left before now : Option (List ℕ)) where
+  draw_part : (r : Result T DrawEnd) → IfErr r (λ end. IfSome o (λ input. EndsDraw every input left before now end)) → (drawing_status r).code ≡ 5 → IfSome o (λ input. StopsAtFrame every input before now draw_end.SendFault)
   draw_part (Ok done) ends is = apart is refl
   draw_part (Err NoMemory) ends is = apart is refl
   draw_part (Err ReadFault) ends is = apart is refl
@@ -209,7 +210,7 @@ module _ {T : Type 0} (o left before now : Option (List ℕ)) where
   draw_part (Err (BadCoefficient key)) ends is = apart is refl
   draw_part (Err (UnknownSession n)) ends is = apart is refl
 
-  draw_stopped : (r : Result T DrawEnd) → IfErr r (λ end. IfSome o (λ input. EndsDraw input left before now end)) → (drawing_status r).code ≡ 4 → IfSome o (λ input. IfSome left (λ bytes. DrawsTaken input bytes before now))
+  draw_stopped : (r : Result T DrawEnd) → IfErr r (λ end. IfSome o (λ input. EndsDraw every input left before now end)) → (drawing_status r).code ≡ 4 → IfSome o (λ input. IfSome left (λ bytes. DrawsTaken every input bytes before now))
   draw_stopped (Ok done) ends is = apart is refl
   draw_stopped (Err NoMemory) ends is = apart is refl
   draw_stopped (Err ReadFault) ends is = ends
@@ -220,7 +221,7 @@ module _ {T : Type 0} (o left before now : Option (List ℕ)) where
   draw_stopped (Err (BadCoefficient key)) ends is = apart is refl
   draw_stopped (Err (UnknownSession n)) ends is = apart is refl
 
-  draw_memory : (r : Result T DrawEnd) → IfErr r (λ end. IfSome o (λ input. EndsDraw input left before now end)) → (drawing_status r).code ≡ 3 → IfSome o (λ input. StopsAtFrame input before now NoMemory)
+  draw_memory : (r : Result T DrawEnd) → IfErr r (λ end. IfSome o (λ input. EndsDraw every input left before now end)) → (drawing_status r).code ≡ 3 → IfSome o (λ input. StopsAtFrame every input before now NoMemory)
   draw_memory (Ok done) ends is = apart is refl
   draw_memory (Err NoMemory) ends is = ends
   draw_memory (Err ReadFault) ends is = apart is refl
@@ -231,7 +232,7 @@ module _ {T : Type 0} (o left before now : Option (List ℕ)) where
   draw_memory (Err (BadCoefficient key)) ends is = apart is refl
   draw_memory (Err (UnknownSession n)) ends is = apart is refl
 
-  draw_past : (r : Result T DrawEnd) → IfErr r (λ end. IfSome o (λ input. EndsDraw input left before now end)) → (drawing_status r).code ≡ 9 → IfSome o (λ input. DrawsWithin input before now)
+  draw_past : (r : Result T DrawEnd) → IfErr r (λ end. IfSome o (λ input. EndsDraw every input left before now end)) → (drawing_status r).code ≡ 9 → IfSome o (λ input. DrawsWithin every input before now)
   draw_past (Ok done) ends is = apart is refl
   draw_past (Err NoMemory) ends is = apart is refl
   draw_past (Err ReadFault) ends is = apart is refl
@@ -242,7 +243,7 @@ module _ {T : Type 0} (o left before now : Option (List ℕ)) where
   draw_past (Err (BadCoefficient key)) ends is = apart is refl
   draw_past (Err (UnknownSession n)) ends is = apart is refl
 
-  draw_bad : (r : Result T DrawEnd) → IfErr r (λ end. IfSome o (λ input. EndsDraw input left before now end)) → (drawing_status r).code ≡ 8 → IfSome o (λ input. IsCut input (drawing_status r).place before now ⊎ StopsAtFrame input before now (BadFrame (drawing_status r).place))
+  draw_bad : (r : Result T DrawEnd) → IfErr r (λ end. IfSome o (λ input. EndsDraw every input left before now end)) → (drawing_status r).code ≡ 8 → IfSome o (λ input. IsCut every input (drawing_status r).place before now ⊎ StopsAtFrame every input before now (BadFrame (drawing_status r).place))
   draw_bad (Ok done) ends is = apart is refl
   draw_bad (Err NoMemory) ends is = apart is refl
   draw_bad (Err ReadFault) ends is = apart is refl
@@ -253,18 +254,18 @@ module _ {T : Type 0} (o left before now : Option (List ℕ)) where
   draw_bad (Err (BadCoefficient key)) ends is = apart is refl
   draw_bad (Err (UnknownSession n)) ends is = apart is refl
 
-  draw_missing : (r : Result T DrawEnd) → IfErr r (λ end. IfSome o (λ input. EndsDraw input left before now end)) → (drawing_status r).code ≡ 10 → IfSome o (λ input. (key : Key) × ((drawing_status r).place ≡ key_number key) × StopsAtFrame input before now (Missing key))
+  draw_missing : (r : Result T DrawEnd) → IfErr r (λ end. IfSome o (λ input. EndsDraw every input left before now end)) → (drawing_status r).code ≡ 10 → IfSome o (λ input. (key : Key) × ((drawing_status r).place ≡ key_number key) × StopsAtFrame every input before now (Missing key))
   draw_missing (Ok done) ends is = apart is refl
   draw_missing (Err NoMemory) ends is = apart is refl
   draw_missing (Err ReadFault) ends is = apart is refl
   draw_missing (Err draw_end.SendFault) ends is = apart is refl
   draw_missing (Err InputTooLong) ends is = apart is refl
   draw_missing (Err (BadFrame at)) ends is = apart is refl
-  draw_missing (Err (Missing key)) ends is = told_so (λ input. StopsAtFrame input before now (Missing key)) (λ input. (k : Key) × (key_number key ≡ key_number k) × StopsAtFrame input before now (Missing k)) o (λ input stops. (key, refl, stops)) ends
+  draw_missing (Err (Missing key)) ends is = told_so (λ input. StopsAtFrame every input before now (Missing key)) (λ input. (k : Key) × (key_number key ≡ key_number k) × StopsAtFrame every input before now (Missing k)) o (λ input stops. (key, refl, stops)) ends
   draw_missing (Err (BadCoefficient key)) ends is = apart is refl
   draw_missing (Err (UnknownSession n)) ends is = apart is refl
 
-  draw_misfit : (r : Result T DrawEnd) → IfErr r (λ end. IfSome o (λ input. EndsDraw input left before now end)) → (drawing_status r).code ≡ 11 → IfSome o (λ input. (key : Key) × ((drawing_status r).place ≡ key_number key) × StopsAtFrame input before now (BadCoefficient key))
+  draw_misfit : (r : Result T DrawEnd) → IfErr r (λ end. IfSome o (λ input. EndsDraw every input left before now end)) → (drawing_status r).code ≡ 11 → IfSome o (λ input. (key : Key) × ((drawing_status r).place ≡ key_number key) × StopsAtFrame every input before now (BadCoefficient key))
   draw_misfit (Ok done) ends is = apart is refl
   draw_misfit (Err NoMemory) ends is = apart is refl
   draw_misfit (Err ReadFault) ends is = apart is refl
@@ -272,10 +273,10 @@ module _ {T : Type 0} (o left before now : Option (List ℕ)) where
   draw_misfit (Err InputTooLong) ends is = apart is refl
   draw_misfit (Err (BadFrame at)) ends is = apart is refl
   draw_misfit (Err (Missing key)) ends is = apart is refl
-  draw_misfit (Err (BadCoefficient key)) ends is = told_so (λ input. StopsAtFrame input before now (BadCoefficient key)) (λ input. (k : Key) × (key_number key ≡ key_number k) × StopsAtFrame input before now (BadCoefficient k)) o (λ input stops. (key, refl, stops)) ends
+  draw_misfit (Err (BadCoefficient key)) ends is = told_so (λ input. StopsAtFrame every input before now (BadCoefficient key)) (λ input. (k : Key) × (key_number key ≡ key_number k) × StopsAtFrame every input before now (BadCoefficient k)) o (λ input stops. (key, refl, stops)) ends
   draw_misfit (Err (UnknownSession n)) ends is = apart is refl
 
-  draw_unopened : (r : Result T DrawEnd) → IfErr r (λ end. IfSome o (λ input. EndsDraw input left before now end)) → (drawing_status r).code ≡ 15 → IfSome o (λ input. StopsAtFrame input before now (UnknownSession (drawing_status r).place))
+  draw_unopened : (r : Result T DrawEnd) → IfErr r (λ end. IfSome o (λ input. EndsDraw every input left before now end)) → (drawing_status r).code ≡ 15 → IfSome o (λ input. StopsAtFrame every input before now (UnknownSession (drawing_status r).place))
   draw_unopened (Ok done) ends is = apart is refl
   draw_unopened (Err NoMemory) ends is = apart is refl
   draw_unopened (Err ReadFault) ends is = apart is refl
@@ -287,23 +288,32 @@ module _ {T : Type 0} (o left before now : Option (List ℕ)) where
   draw_unopened (Err (UnknownSession n)) ends is = ends
 
   -- good input is drawn, unless the world fails
-  draw_good : Known → Stay → (r : Result T DrawEnd) → IfErr r (λ end. IfSome o (λ input. EndsDraw input left before now end)) → IfSome o (λ input. IsFrames input → Contains (0 ∷ 3 ∷ 4 ∷ 5 ∷ []) (drawing_status r).code)
+  draw_good : Known → Stay → (r : Result T DrawEnd) → IfErr r (λ end. IfSome o (λ input. EndsDraw every input left before now end)) → IfSome o (λ input. IsFrames input → Contains (0 ∷ 3 ∷ 4 ∷ 5 ∷ []) (drawing_status r).code)
   draw_good known stay (Ok done) ends = good_so o _ (0, omega arith, refl)
   draw_good known stay (Err NoMemory) ends = good_so o _ (1, omega arith, refl)
   draw_good known stay (Err ReadFault) ends = good_so o _ (2, omega arith, refl)
   draw_good known stay (Err draw_end.SendFault) ends = good_so o _ (3, omega arith, refl)
-  draw_good known stay (Err InputTooLong) ends = much_never _ o left before now ends
-  draw_good known stay (Err (BadFrame at)) ends = bad_never known stay _ o left before now at ends
-  draw_good known stay (Err (Missing key)) ends = missing_never known _ o left before now key ends
-  draw_good known stay (Err (BadCoefficient key)) ends = misfit_never known _ o left before now key ends
-  draw_good known stay (Err (UnknownSession n)) ends = unopened_never known _ o left before now n ends
+  draw_good known stay (Err InputTooLong) ends = much_never every _ o left before now ends
+  draw_good known stay (Err (BadFrame at)) ends = bad_never every known stay _ o left before now at ends
+  draw_good known stay (Err (Missing key)) ends = missing_never every known _ o left before now key ends
+  draw_good known stay (Err (BadCoefficient key)) ends = misfit_never every known _ o left before now key ends
+  draw_good known stay (Err (UnknownSession n)) ends = unopened_never every known _ o left before now n ends
 
 -- what a drawing did, by its status
-pub drawn : {T : Type 0} → Known → Stay → AllDraw → OwnDraw → AllAccepted → OwnAccepted → (old new : View) (left left' before now : Option (List ℕ)) (faults : Faults) (r : Result T DrawEnd) → OnOk r (IfSome left (λ input. DrawsAll input before now)) → OnOk r (IfSome left (λ input. length input ≤ 2 ^ 32))
-    → IfErr r (λ end. IfSome left (λ input. EndsDraw input left' before now end)) → (r ≡ Err ReadFault → HasRisen faults.reads faults.reads_now) → (r ≡ Err draw_end.SendFault → HasRisen faults.sends faults.sends_now) → StaysAlone old new
+pub drawn : {T : Type 0} → Known → Stay → AllDraw → OwnDraw → AllAccepted → OwnAccepted → (old new : View) (left left' before now : Option (List ℕ)) (faults : Faults) (r : Result T DrawEnd) → OnOk r (IfSome left (λ input. DrawsAll None input before now)) → OnOk r (IfSome left (λ input. length input ≤ 2 ^ 32))
+    → IfErr r (λ end. IfSome left (λ input. EndsDraw None input left' before now end)) → (r ≡ Err ReadFault → HasRisen faults.reads faults.reads_now) → (r ≡ Err draw_end.SendFault → HasRisen faults.sends faults.sends_now) → StaysAlone old new
     → CommandEnds Draw old new left left' before now faults (drawing_status r).code (drawing_status r).place
 drawn known stay draws own accepts own_accepts old new left left' before now faults r done within ends read send disk =
     draw_ends old new left left' before now faults (drawing_status r).code (drawing_status r).place (draw_code r) (draw_read r _ read) (draw_send r _ send) (draw_place r) (draw_done r _ done) (draw_done r _ within)
-    (λ is. replies_drawn known draws own left before now (draw_done r _ done is)) (draw_part left left' before now r ends) (draw_stopped left left' before now r ends) (draw_memory left left' before now r ends) (draw_much r) (draw_past left left' before now r ends)
-    (draw_bad left left' before now r ends) (draw_missing left left' before now r ends) (draw_misfit left left' before now r ends) (draw_unopened left left' before now r ends) (draw_good left left' before now known stay r ends)
-    (replies_end accepts own_accepts left _ (draw_good left left' before now known stay r ends)) disk
+    (λ is. replies_drawn known draws own left before now (draw_done r _ done is)) (draw_part None left left' before now r ends) (draw_stopped None left left' before now r ends) (draw_memory None left left' before now r ends) (draw_much r) (draw_past None left left' before now r ends)
+    (draw_bad None left left' before now r ends) (draw_missing None left left' before now r ends) (draw_misfit None left left' before now r ends) (draw_unopened None left left' before now r ends) (draw_good None left left' before now known stay r ends)
+    (replies_end accepts own_accepts left _ (draw_good None left left' before now known stay r ends)) disk
+
+-- and one with covers
+pub covered : {T : Type 0} → Known → Stay → (every : ℕ) (old new : View) (left left' before now : Option (List ℕ)) (faults : Faults) (r : Result T DrawEnd) → OnOk r (IfSome left (λ input. DrawsAll (Some every) input before now)) → OnOk r (IfSome left (λ input. length input ≤ 2 ^ 32))
+    → IfErr r (λ end. IfSome left (λ input. EndsDraw (Some every) input left' before now end)) → (r ≡ Err ReadFault → HasRisen faults.reads faults.reads_now) → (r ≡ Err draw_end.SendFault → HasRisen faults.sends faults.sends_now) → StaysAlone old new
+    → CommandEnds (Cover every) old new left left' before now faults (drawing_status r).code (drawing_status r).place
+covered known stay every old new left left' before now faults r done within ends read send disk =
+    cover_ends every old new left left' before now faults (drawing_status r).code (drawing_status r).place (draw_code r) (draw_read r _ read) (draw_send r _ send) (draw_place r) (draw_done r _ done) (draw_done r _ within)
+    (draw_part (Some every) left left' before now r ends) (draw_stopped (Some every) left left' before now r ends) (draw_memory (Some every) left left' before now r ends) (draw_much r) (draw_past (Some every) left left' before now r ends)
+    (draw_bad (Some every) left left' before now r ends) (draw_missing (Some every) left left' before now r ends) (draw_misfit (Some every) left left' before now r ends) (draw_unopened (Some every) left left' before now r ends) (draw_good (Some every) left left' before now known stay r ends) disk

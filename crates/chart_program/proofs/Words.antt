@@ -3,12 +3,12 @@ use Rattle.std.proofs.Common.{◌≡◌, ℕ, zero, suc, Bool, true, false, ◌�
 use Rattle.std.specs.Prelude.{Contains, String, map, string_bytes}
 use Rattle.block_disk.specs.View.{View}
 use Rattle.program_words.specs.declared.words.Command.{Command}
-use Rattle.program_words.specs.declared.words.Command.TheVariants.{Plot, Load, Demo, Run, Serve, Draw, Init, Check, ListSeries, Export, Retain}
+use Rattle.program_words.specs.declared.words.Command.TheVariants.{Plot, Load, Demo, Run, Serve, Draw, Init, Check, ListSeries, Export, Retain, Cover}
 use Rattle.program_words.specs.CommandLine.{plain_words, has_flag}
 use Rattle.program_words.specs.Words.{OfCommand, Spells, IsWrong, EndsWords}
 use Rattle.program_words.specs.declared.words.WordsEnd.{WordsEnd}
 use Rattle.program_words.specs.declared.words.WordsEnd.TheVariants.{Wrong}
-use Rattle.chart_program.specs.Ran.{HasGoodInput, HasOperands, IsStreaming, IsInput, BeginStream}
+use Rattle.chart_program.specs.Ran.{HasGoodInput, HasOperands, IsStreaming, IsInput, IsFrames, IsOfReplies, IsCoverOfReplies, BeginStream}
 
 -- the words are those of this command
 pub of_command : (words : List (List ℕ)) (command told : Command) (P : Command → Type 0) → told ≡ command → Spells told words → P command → OfCommand words P
@@ -28,6 +28,7 @@ with_operands Check words is = tt
 with_operands ListSeries words is = tt
 with_operands (Export name window) words is = tt
 with_operands Retain words is = tt
+with_operands (Cover every) words is = is.1
 
 -- the first word
 abbrev first : List (List ℕ) → List ℕ
@@ -46,6 +47,7 @@ streams Check words is none streaming = streaming
 streams ListSeries words is none streaming = streaming
 streams (Export name window) words is none streaming = none (3, omega arith, sym (ap first is.0))
 streams Retain words is none streaming = none (4, omega arith, sym (ap first is))
+streams (Cover every) words is none streaming = none (5, omega arith, sym (ap first is.0))
 
 -- the second byte of the first word, which tells `draw` and `init` from all others
 abbrev second : List (List ℕ) → ℕ
@@ -63,6 +65,7 @@ one_draw Check words is other = let both : 104 ≡ 114 = ap second (sym is ∙ o
 one_draw ListSeries words is other = let both : 105 ≡ 114 = ap second (sym is ∙ other) in absurd (omega (arith, both))
 one_draw (Export name window) words is other = let both : 120 ≡ 114 = ap second (sym is.0 ∙ other) in absurd (omega (arith, both))
 one_draw Retain words is other = let both : 101 ≡ 114 = ap second (sym is ∙ other) in absurd (omega (arith, both))
+one_draw (Cover every) words is other = let both : 111 ≡ 114 = ap second (sym is.0 ∙ other) in absurd (omega (arith, both))
 
 pub one_init : (command : Command) (words : List (List ℕ)) → Spells command words → Spells Init words → command ≡ Init
 one_init (Plot w h) words is other = let both : 108 ≡ 110 = ap second (sym is.0 ∙ other) in absurd (omega (arith, both))
@@ -76,6 +79,7 @@ one_init Check words is other = let both : 104 ≡ 110 = ap second (sym is ∙ o
 one_init ListSeries words is other = let both : 105 ≡ 110 = ap second (sym is ∙ other) in absurd (omega (arith, both))
 one_init (Export name window) words is other = let both : 120 ≡ 110 = ap second (sym is.0 ∙ other) in absurd (omega (arith, both))
 one_init Retain words is other = let both : 101 ≡ 110 = ap second (sym is ∙ other) in absurd (omega (arith, both))
+one_init (Cover every) words is other = let both : 111 ≡ 110 = ap second (sym is.0 ∙ other) in absurd (omega (arith, both))
 
 pub chart_codes : (code : ℕ) → Contains (0 ∷ 3 ∷ 4 ∷ 5 ∷ 6 ∷ 7 ∷ 8 ∷ 9 ∷ 10 ∷ 11 ∷ 12 ∷ 13 ∷ 14 ∷ 15 ∷ 17 ∷ []) code → Contains (0 ∷ 2 ∷ 3 ∷ 4 ∷ 5 ∷ 6 ∷ 7 ∷ 8 ∷ 9 ∷ 10 ∷ 11 ∷ 12 ∷ 13 ∷ 14 ∷ 15 ∷ 17 ∷ []) code
 chart_codes code (zero, inside, is) = (0, omega arith, is)
@@ -89,6 +93,27 @@ completes words left command old new D spells done given =
     let there : IsInput command old new given.input → D = subst P given.told done in
     there (given.good command spells)
 
+-- the same where the input is frames that answer lines, for a command that draws covers
+cover_completes : (command : Command) (old new : View) (input : List ℕ) (D : Type 0) → ((i : List ℕ) → IsOfReplies i → IsFrames i) → (IsInput command old new input → D) → IsCoverOfReplies command input → D
+cover_completes (Plot w h) old new input D frames done replies = absurd replies
+cover_completes (Load name) old new input D frames done replies = absurd replies
+cover_completes (Demo seed rounds) old new input D frames done replies = absurd replies
+cover_completes Run old new input D frames done replies = absurd replies
+cover_completes Serve old new input D frames done replies = absurd replies
+cover_completes Draw old new input D frames done replies = absurd replies
+cover_completes Init old new input D frames done replies = absurd replies
+cover_completes Check old new input D frames done replies = absurd replies
+cover_completes ListSeries old new input D frames done replies = absurd replies
+cover_completes (Export name window) old new input D frames done replies = absurd replies
+cover_completes Retain old new input D frames done replies = absurd replies
+cover_completes (Cover every) old new input D frames done replies = done (frames input replies)
+
+pub covers_complete : {Z : Type 0} (words : List (String Z)) (left : Option (List ℕ)) (command : Command) (old new : View) (D : Type 0) → ((i : List ℕ) → IsOfReplies i → IsFrames i) → Spells command (plain_words (map string_bytes words))
+    → IfSome left (λ input. IsInput command old new input → D) → HasGoodInput words left IsCoverOfReplies → D
+covers_complete words left command old new D frames spells done given =
+    let P : Option (List ℕ) → Type 0 = λ o. IfSome o (λ input. IsInput command old new input → D) in
+    cover_completes command old new given.input D frames (subst P given.told done) (given.good command spells)
+
 -- words that are those of a command aren't wrong
 pub wrong_end : (end : WordsEnd) (place : ℕ) (words : List (List ℕ)) → end ≡ Wrong place → EndsWords end words → IsWrong place words
 wrong_end end place words is ends = let E : WordsEnd → Type 0 = λ e. EndsWords e words in subst E is ends
@@ -96,3 +121,7 @@ wrong_end end place words is ends = let E : WordsEnd → Type 0 = λ e. EndsWord
 pub wrong_never : (place : ℕ) (words : List (List ℕ)) (command : Command) → has_flag words ≡ false → Spells command (plain_words words) → IsWrong place words → ⊥
 wrong_never place words command plain spells (inl flag) = let both : true ≡ false = sym flag.0 ∙ plain in cc
 wrong_never place words command plain spells (inr wrong) = wrong.1.here (record { command = command; spelling = plain_words words; spells = spells; same = refl })
+
+-- good words aren't wrong
+pub good_never : {Z : Type 0} (place : ℕ) (words : List (String Z)) (left : Option (List ℕ)) (IsGood : Command → List ℕ → Type 0) (D : Type 0) → IsWrong place (map string_bytes words) → HasGoodInput words left IsGood → D
+good_never place words left IsGood D wrong given = absurd (wrong_never place (map string_bytes words) given.command.1.command given.command.0 given.command.1.spells wrong)

@@ -1,12 +1,16 @@
 -- Which statuses each command has, and which commands open a store and take input.
-use Rattle.std.specs.Prelude.{ℕ, ◌≡◌, ◌≤◌, ◌⊎◌, List, [], ◌∷◌, Option, Result, Ok, Err, ⊤}
+use Rattle.std.specs.Prelude.{ℕ, ◌≡◌, ◌≤◌, ◌^◌, ◌⊎◌, List, [], ◌∷◌, Option, Result, Ok, Err, ⊤}
 use Rattle.block_disk.specs.View.{View}
 use Rattle.gate_pages.specs.Journal.{page_count}
 use Rattle.disk_store.specs.Openings.{IsOpeningPlace}
 use Rattle.disk_store.specs.declared.causes.OpeningCause.{OpeningCause}
 use Rattle.program_words.specs.declared.words.Command.{Command}
-use Rattle.program_words.specs.declared.words.Command.TheVariants.{Plot, Load, Demo, Run, Serve, Draw, Init, Check, ListSeries, Export, Retain}
+use Rattle.program_words.specs.declared.words.Command.TheVariants.{Plot, Load, Demo, Run, Serve, Draw, Init, Check, ListSeries, Export, Retain, Cover}
 use Rattle.store_commands.specs.declared.status.Status.{Status}
+use Rattle.store_commands.specs.Status.{status}
+use Rattle.chart_frames.specs.Frames.{key_number}
+use Rattle.draw_command.specs.declared.draw_end.DrawEnd.{DrawEnd}
+use Rattle.draw_command.specs.declared.draw_end.DrawEnd.TheVariants as draw_end
 use Rattle.store_commands.specs.Traffic.{Traffic}
 use Rattle.stored_book.specs.Damage.{IsBadForRequest}
 use Rattle.store_commands.specs.Damaged.{IsDamagedLater}
@@ -31,11 +35,13 @@ codes_of Check = 0 ∷ 3 ∷ 5 ∷ 6 ∷ 7 ∷ 12 ∷ []
 codes_of ListSeries = 0 ∷ 3 ∷ 5 ∷ 6 ∷ 7 ∷ 12 ∷ []
 codes_of (Export name window) = 0 ∷ 3 ∷ 5 ∷ 6 ∷ 7 ∷ 12 ∷ 14 ∷ []
 codes_of Retain = 0 ∷ 3 ∷ 4 ∷ 5 ∷ 6 ∷ 7 ∷ 8 ∷ 9 ∷ 12 ∷ 17 ∷ []
+codes_of (Cover every) = 0 ∷ 3 ∷ 4 ∷ 5 ∷ 8 ∷ 9 ∷ 10 ∷ 11 ∷ 15 ∷ []
 
 -- the command opens the store of the disk, or makes one
 abbrev pub IsOverStore : Command → Type 0
 IsOverStore (Plot w h) = ⊥
 IsOverStore Draw = ⊥
+IsOverStore (Cover every) = ⊥
 IsOverStore command = ⊤
 
 -- the command takes no input
@@ -79,3 +85,15 @@ Bars command old new left left' before now place = now ≡ before
 
 abbrev pub BarsBy : View → View → Status → Command → Option (List ℕ) → Option (List ℕ) → Option (List ℕ) → Option (List ℕ) → Type 0
 BarsBy old new end command left left' before now = Bars command old new left left' before now end.place
+
+-- the status of what `draw` and `cover` answer
+abbrev pub drawing_status : {T : Type 0} → Result T DrawEnd → Status
+drawing_status (Ok done) = status 0 0
+drawing_status (Err draw_end.NoMemory) = status 3 0
+drawing_status (Err draw_end.ReadFault) = status 4 0
+drawing_status (Err draw_end.SendFault) = status 5 0
+drawing_status (Err draw_end.InputTooLong) = status 9 (2 ^ 32)
+drawing_status (Err (draw_end.BadFrame at)) = status 8 at
+drawing_status (Err (draw_end.Missing key)) = status 10 (key_number key)
+drawing_status (Err (draw_end.BadCoefficient key)) = status 11 (key_number key)
+drawing_status (Err (draw_end.UnknownSession number)) = status 15 number

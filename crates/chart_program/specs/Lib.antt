@@ -9,6 +9,4 @@ pub mod Traffic
 pub mod Lives
 pub mod Ended
 pub mod CommandStatuses
-pub mod Draws
 pub mod Ran
-pub mod Alone

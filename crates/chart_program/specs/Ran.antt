@@ -1,5 +1,5 @@
 -- What a run of a command does.
-use Rattle.std.specs.Prelude.{◌≡◌, ◌≢◌, ℕ, ℤ, ◌<◌, ◌≤◌, ◌^◌, ◌⊎◌, List, [], ◌∷◌, length, All, Contains, get_or, flat_map, Option, Some, IfSome, codes, String, map, string_bytes, ⊤}
+use Rattle.std.specs.Prelude.{◌≡◌, ◌≢◌, ℕ, ℤ, ◌<◌, ◌≤◌, ◌^◌, ◌⊎◌, List, [], ◌∷◌, length, All, Contains, get_or, flat_map, Option, None, Some, IfSome, codes, String, map, string_bytes, ⊤}
 use Rattle.std.specs.List.{filter}
 use Rattle.block_disk.specs.Streams.{sent_after}
 use Rattle.block_disk.specs.View.{Image, View, DiskKept, Honest, Now, Only}
@@ -19,10 +19,10 @@ use Rattle.series_book.specs.declared.one_series.Series.{Series}
 use Rattle.disk_store.specs.Held.{HoldsBook}
 use Rattle.drawn_replies.specs.Pictures.{ArePictured, AreOwnPictured, NoneRejected, names}
 use Rattle.program_words.specs.declared.words.Command.{Command}
-use Rattle.program_words.specs.declared.words.Command.TheVariants.{Plot, Load, Demo, Run, Serve, Draw, Init, Check, ListSeries, Export, Retain}
-use Rattle.chart_program.specs.declared.draw_end.DrawEnd.TheVariants as draw_end
+use Rattle.program_words.specs.declared.words.Command.TheVariants.{Plot, Load, Demo, Run, Serve, Draw, Init, Check, ListSeries, Export, Retain, Cover}
+use Rattle.draw_command.specs.declared.draw_end.DrawEnd.TheVariants as draw_end
 use Rattle.program_words.specs.CommandLine.{plain_words}
-use Rattle.program_words.specs.Words.{AreCommand, ByCommand, Spells}
+use Rattle.program_words.specs.Words.{AreCommand, ByCommand, IsEvery, Spells}
 use Rattle.store_commands.specs.declared.status.Status.{Status}
 use Rattle.store_commands.specs.Traffic.{Traffic}
 use Rattle.store_commands.specs.Away.{IsTurnedAway}
@@ -48,8 +48,8 @@ use Rattle.retain_command.specs.Answers.{AreRules}
 use Rattle.retain_command.specs.Retained.{LeavesSwept, RetainsAll, RetainsLines, RetainsPart, RetainsSome, RetainsTaken, RetainsToBad, RetainsToUnknown, RetainsWithin}
 use Rattle.store_commands.specs.Damaged.{IsDamagedAtFirst, IsDamagedPlace}
 use Rattle.chart_program.specs.CommandStatuses.{codes_of, IsOverStore, TakesNone, Bars}
-use Rattle.chart_program.specs.Texts.{picture_bytes}
-use Rattle.chart_program.specs.Draws.{DrawsAll, DrawsTaken, DrawsWithin, IsCut, StopsAtFrame}
+use Rattle.draw_command.specs.Covers.{picture_bytes}
+use Rattle.draw_command.specs.Draws.{DrawsAll, DrawsTaken, DrawsWithin, IsCut, StopsAtFrame}
 
 -- The words are those of a command, and where the input is told this is so of the command, of the disk before and now, of
 -- the input, and of what was sent before and now.
@@ -72,7 +72,7 @@ ForStreams words left sent old new IsSo = ByCommand words (λ command. IsSo comm
 
 -- the first words of the commands that send before they end
 abbrev pub stream_words : List (List ℕ)
-stream_words = codes "run" ∷ codes "serve" ∷ codes "draw" ∷ codes "export" ∷ codes "retain" ∷ []
+stream_words = codes "run" ∷ codes "serve" ∷ codes "draw" ∷ codes "export" ∷ codes "retain" ∷ codes "cover" ∷ []
 
 -- the words begin with one of these
 abbrev pub BeginStream : List (List ℕ) → Type 0
@@ -84,7 +84,7 @@ abbrev pub SendsAll : Command → View → View → List ℕ → Option (List �
 SendsAll (Plot w h) old new input before now = SendsPlot w h input before now
 SendsAll Run old new input before now = AnswersAll AreTexts (page_count old.size) old new input before now
 SendsAll Serve old new input before now = AnswersAll Spelled (page_count old.size) old new input before now
-SendsAll Draw old new input before now = DrawsAll input before now
+SendsAll Draw old new input before now = DrawsAll None input before now
 SendsAll Init old new input before now = now ≡ before
 SendsAll (Load name) old new input before now = LoadsAll name (page_count old.size) old new input before now
 SendsAll (Demo seed rounds) old new input before now = FromBook (page_count old.size) old new (λ start state. SendsSummary (workload seed rounds) start state before now)
@@ -92,13 +92,14 @@ SendsAll Check old new input before now = SendsCounts (page_count old.size) old 
 SendsAll ListSeries old new input before now = SendsList (page_count old.size) old before now
 SendsAll (Export name window) old new input before now = ExportsAll name window (page_count old.size) old before now
 SendsAll Retain old new input before now = RetainsAll (page_count old.size) old new input before now
+SendsAll (Cover every) old new input before now = DrawsAll (Some every) input before now
 
 -- the first bytes of the command's output for this input were sent
 abbrev pub SendsPart : Command → View → View → List ℕ → Option (List ℕ) → Option (List ℕ) → Type 0
 SendsPart (Plot w h) old new input before now = SendsFront w h input before now
 SendsPart Run old new input before now = AnswersFront AreTexts (page_count old.size) old new input before now
 SendsPart Serve old new input before now = AnswersFront Spelled (page_count old.size) old new input before now
-SendsPart Draw old new input before now = StopsAtFrame input before now draw_end.SendFault
+SendsPart Draw old new input before now = StopsAtFrame None input before now draw_end.SendFault
 SendsPart Init old new input before now = ⊥
 SendsPart (Load name) old new input before now = LoadsAndSendsPart name (page_count old.size) old new input before now
 SendsPart (Demo seed rounds) old new input before now = FromBook (page_count old.size) old new (λ start state. SendsSummaryPart (workload seed rounds) start state before now)
@@ -106,14 +107,15 @@ SendsPart Check old new input before now = SendsCountsPart (page_count old.size)
 SendsPart ListSeries old new input before now = SendsListPart (page_count old.size) old before now
 SendsPart (Export name window) old new input before now = ExportsPart name window (page_count old.size) old before now
 SendsPart Retain old new input before now = RetainsPart (page_count old.size) old new input before now
+SendsPart (Cover every) old new input before now = StopsAtFrame (Some every) input before now draw_end.SendFault
 
 -- A take failed, where these bytes were left. A plot has sent nothing, a serving command what answers the
--- lines taken, and `draw` the pictures of the frames taken.
+-- lines taken, `draw` the pictures of the frames taken, and `cover` these and their covers.
 abbrev pub StopsBefore : Command → View → View → List ℕ → Option (List ℕ) → Option (List ℕ) → List ℕ → Type 0
 StopsBefore (Plot w h) old new input before now bytes = StoppedBefore input bytes
 StopsBefore Run old new input before now bytes = AnswersTaken AreTexts (page_count old.size) old new input bytes before now
 StopsBefore Serve old new input before now bytes = AnswersTaken Spelled (page_count old.size) old new input bytes before now
-StopsBefore Draw old new input before now bytes = DrawsTaken input bytes before now
+StopsBefore Draw old new input before now bytes = DrawsTaken None input bytes before now
 StopsBefore Init old new input before now bytes = ⊥
 StopsBefore (Load name) old new input before now bytes = LoadsTaken name (page_count old.size) old new input bytes
 StopsBefore (Demo seed rounds) old new input before now bytes = ⊥
@@ -121,18 +123,19 @@ StopsBefore Check old new input before now bytes = ⊥
 StopsBefore ListSeries old new input before now bytes = ⊥
 StopsBefore (Export name window) old new input before now bytes = ⊥
 StopsBefore Retain old new input before now bytes = RetainsTaken (page_count old.size) old new input (Some bytes) before now
+StopsBefore (Cover every) old new input before now bytes = DrawsTaken (Some every) input bytes before now
 
 -- the same, where the bytes left are told
 abbrev pub StopsWith : Option (List ℕ) → Command → View → View → List ℕ → Option (List ℕ) → Option (List ℕ) → Type 0
 StopsWith left command old new input before now = IfSome left (StopsBefore command old new input before now)
 
 -- There was no memory. A plot has sent nothing, a serving command what answers some first lines, `draw` the pictures of
--- some first frames, and an export a front of its text.
+-- some first frames, `cover` these with their covers and some first covers of the next one, and an export a front of its text.
 abbrev pub IsCutShort : Command → View → View → List ℕ → Option (List ℕ) → Option (List ℕ) → Type 0
 IsCutShort (Plot w h) old new input before now = now ≡ before
 IsCutShort Run old new input before now = AnswersSome AreTexts (page_count old.size) old new input before now
 IsCutShort Serve old new input before now = AnswersSome Spelled (page_count old.size) old new input before now
-IsCutShort Draw old new input before now = StopsAtFrame input before now draw_end.NoMemory
+IsCutShort Draw old new input before now = StopsAtFrame None input before now draw_end.NoMemory
 IsCutShort Init old new input before now = now ≡ before
 IsCutShort (Load name) old new input before now = LoadsSome name (page_count old.size) old new input
 IsCutShort (Demo seed rounds) old new input before now = FromBook (page_count old.size) old new (AnswersFirst (workload seed rounds))
@@ -140,6 +143,7 @@ IsCutShort Check old new input before now = now ≡ before
 IsCutShort ListSeries old new input before now = now ≡ before
 IsCutShort (Export name window) old new input before now = ExportsPart name window (page_count old.size) old before now
 IsCutShort Retain old new input before now = RetainsSome (page_count old.size) old new input before now
+IsCutShort (Cover every) old new input before now = StopsAtFrame (Some every) input before now draw_end.NoMemory
 
 -- A call of the disk failed. `init` has sent nothing, a serving command what answers some first lines, and an export a
 -- front of its text.
@@ -155,14 +159,16 @@ StopsAtDisk Check old input before now = now ≡ before
 StopsAtDisk ListSeries old input before now = now ≡ before
 StopsAtDisk (Export name window) old input before now = ExportsPart name window (page_count old.size) old before now
 StopsAtDisk Retain old input before now = RetainsLines (page_count old.size) old input before now
+StopsAtDisk (Cover every) old input before now = ⊥
 
 -- The line or the field at this place is the first that isn't in the command's grammar, or the input ends there
--- within a frame; a serving command answers each line. `draw` has sent the pictures of the frames before.
+-- within a frame; a serving command answers each line. `draw` has sent the pictures of the frames before, and `cover`
+-- these and their covers.
 abbrev pub IsBadInput : Command → View → View → List ℕ → ℕ → Option (List ℕ) → Option (List ℕ) → Type 0
 IsBadInput (Plot w h) old new input place before now = FirstBad input place
 IsBadInput Run old new input place before now = ⊥
 IsBadInput Serve old new input place before now = ⊥
-IsBadInput Draw old new input place before now = IsCut input place before now ⊎ StopsAtFrame input before now (draw_end.BadFrame place)
+IsBadInput Draw old new input place before now = IsCut None input place before now ⊎ StopsAtFrame None input before now (draw_end.BadFrame place)
 IsBadInput Init old new input place before now = ⊥
 IsBadInput (Load name) old new input place before now = LoadsToBad name (page_count old.size) old new input place
 IsBadInput (Demo seed rounds) old new input place before now = ⊥
@@ -170,24 +176,28 @@ IsBadInput Check old new input place before now = ⊥
 IsBadInput ListSeries old new input place before now = ⊥
 IsBadInput (Export name window) old new input place before now = ⊥
 IsBadInput Retain old new input place before now = RetainsToBad (page_count old.size) old new input place before now
+IsBadInput (Cover every) old new input place before now = IsCut (Some every) input place before now ⊎ StopsAtFrame (Some every) input before now (draw_end.BadFrame place)
 
 -- A frame's first wanted key that can't be used has no coefficient. That never comes for a `run` whose disk holds a book.
 abbrev pub Lacks : Command → View → List ℕ → ℕ → Option (List ℕ) → Option (List ℕ) → Type 0
-Lacks Draw old input place before now = (key : Key) × (place ≡ key_number key) × StopsAtFrame input before now (draw_end.Missing key)
+Lacks Draw old input place before now = (key : Key) × (place ≡ key_number key) × StopsAtFrame None input before now (draw_end.Missing key)
+Lacks (Cover every) old input place before now = (key : Key) × (place ≡ key_number key) × StopsAtFrame (Some every) input before now (draw_end.Missing key)
 Lacks Run old input place before now = Never (page_count old.size) old × ((key : Key) × (place ≡ key_number key) × IsRejected (client.Missing key))
 Lacks (Demo seed rounds) old input place before now = Never (page_count old.size) old × ((key : Key) × (place ≡ key_number key) × MeetsError (client.Missing key))
 Lacks command old input place before now = ⊥
 
 -- a frame's first wanted key that can't be used has one that doesn't fit
 abbrev pub Misfits : Command → View → List ℕ → ℕ → Option (List ℕ) → Option (List ℕ) → Type 0
-Misfits Draw old input place before now = (key : Key) × (place ≡ key_number key) × StopsAtFrame input before now (draw_end.BadCoefficient key)
+Misfits Draw old input place before now = (key : Key) × (place ≡ key_number key) × StopsAtFrame None input before now (draw_end.BadCoefficient key)
+Misfits (Cover every) old input place before now = (key : Key) × (place ≡ key_number key) × StopsAtFrame (Some every) input before now (draw_end.BadCoefficient key)
 Misfits Run old input place before now = Never (page_count old.size) old × ((key : Key) × (place ≡ key_number key) × IsRejected (client.BadCoefficient key))
 Misfits (Demo seed rounds) old input place before now = Never (page_count old.size) old × ((key : Key) × (place ≡ key_number key) × MeetsError (client.BadCoefficient key))
 Misfits command old input place before now = ⊥
 
 -- a frame names this session, which isn't open
 abbrev pub NamesUnopened : Command → View → List ℕ → ℕ → Option (List ℕ) → Option (List ℕ) → Type 0
-NamesUnopened Draw old input place before now = StopsAtFrame input before now (draw_end.UnknownSession place)
+NamesUnopened Draw old input place before now = StopsAtFrame None input before now (draw_end.UnknownSession place)
+NamesUnopened (Cover every) old input place before now = StopsAtFrame (Some every) input before now (draw_end.UnknownSession place)
 NamesUnopened command old input place before now = ⊥
 
 -- What `init` leaves at each moment is what stood there before, or an empty store where there was none. It takes no input and
@@ -198,7 +208,7 @@ pub record LeavesMade (old new : View) : Type 0 where
   pub kept : Honest old → HasStore (page_count old.size) old.image → LeavesOld (page_count old.size) old new
   pub honest : Honest old → Honest new
 
--- What a command leaves of the disk. A plot and `draw` leave it alone, for the others but `init` time goes on.
+-- What a command leaves of the disk. A plot, `draw` and `cover` leave it alone, for the others but `init` time goes on.
 abbrev pub LeavesDisk : Command → View → View → Type 0
 LeavesDisk (Plot w h) old new = DiskKept old new
 LeavesDisk Run old new = GoesOn old new
@@ -211,9 +221,10 @@ LeavesDisk Check old new = GoesOn old new
 LeavesDisk ListSeries old new = GoesOn old new
 LeavesDisk (Export name window) old new = GoesOn old new
 LeavesDisk Retain old new = GoesOn old new
+LeavesDisk (Cover every) old new = DiskKept old new
 
 -- What a crash leaves at each moment of a serving command: a book with each edit whose answer was sent whole by then, and
--- with at most 64 edits more. `init`, `check`, `plot` and `draw` leave the book as it is.
+-- with at most 64 edits more. `init`, `check`, `plot`, `draw` and `cover` leave the book as it is.
 abbrev pub Leaves : Command → List ℕ → View → View → Type 0
 Leaves Run input old new = LeavesBooks AreTexts (page_count old.size) input old new
 Leaves Serve input old new = LeavesBooks Spelled (page_count old.size) input old new
@@ -225,6 +236,7 @@ Leaves (Export name window) input old new = LeavesSame (page_count old.size) old
 Leaves Retain input old new = LeavesSwept (page_count old.size) input old new
 Leaves (Plot w h) input old new = LeavesSame (page_count old.size) old new
 Leaves Draw input old new = LeavesSame (page_count old.size) old new
+Leaves (Cover every) input old new = LeavesSame (page_count old.size) old new
 Leaves Init input old new = LeavesSame (page_count old.size) old new
 
 -- the same where the bytes sent before are told, of which the moments speak
@@ -298,7 +310,7 @@ abbrev pub IsTooMuch : Command → View → View → List ℕ → ℕ → Option
 IsTooMuch (Plot w h) old new input place before now = HasTooMuch input place
 IsTooMuch Run old new input place before now = (place ≡ 2 ^ 32) × AnswersWithin AreTexts (page_count old.size) old new input before now
 IsTooMuch Serve old new input place before now = (place ≡ 2 ^ 32) × AnswersWithin Spelled (page_count old.size) old new input before now
-IsTooMuch Draw old new input place before now = (place ≡ 2 ^ 32) × DrawsWithin input before now
+IsTooMuch Draw old new input place before now = (place ≡ 2 ^ 32) × DrawsWithin None input before now
 IsTooMuch Init old new input place before now = ⊥
 IsTooMuch (Load name) old new input place before now = (place ≡ 2 ^ 32) × LoadsWithin name (page_count old.size) old new input
 IsTooMuch (Demo seed rounds) old new input place before now = ⊥
@@ -306,6 +318,7 @@ IsTooMuch Check old new input place before now = ⊥
 IsTooMuch ListSeries old new input place before now = ⊥
 IsTooMuch (Export name window) old new input place before now = ⊥
 IsTooMuch Retain old new input place before now = (place ≡ 2 ^ 32) × RetainsWithin (page_count old.size) old new input before now
+IsTooMuch (Cover every) old new input place before now = (place ≡ 2 ^ 32) × DrawsWithin (Some every) input before now
 
 -- A line, which begins at this place, names a series that isn't there. The lines before it were swept and answered.
 abbrev pub IsUnknown : Command → View → View → List ℕ → ℕ → Option (List ℕ) → Option (List ℕ) → Type 0
@@ -376,6 +389,7 @@ IsWithin Check input = ⊤
 IsWithin ListSeries input = ⊤
 IsWithin (Export name window) input = ⊤
 IsWithin Retain input = length input ≤ 2 ^ 32
+IsWithin (Cover every) input = length input ≤ 2 ^ 32
 
 -- the lines are no more than a serving command takes, its disk holds a book, and no call of the disk failed
 pub record AreLines (old new : View) (input : List ℕ) : Type 0 where
@@ -438,6 +452,7 @@ IsInput Check old new input = StandsOn old new
 IsInput ListSeries old new input = StandsOn old new
 IsInput (Export name window) old new input = HoldsNamed name old new
 IsInput Retain old new input = AreRetained old new input
+IsInput (Cover every) old new input = IsFrames input
 
 -- The words are those of a command, the input is told, and it is good for each command whose words they are.
 pub record HasGoodInput {Z : Type 0} (words : List (String Z)) (left : Option (List ℕ)) (IsGood : Command → List ℕ → Type 0) : Type 0 where
@@ -470,6 +485,11 @@ pub record IsOfReplies (input : List ℕ) : Type 0 where
   pub spelled : (input ≡ flat_map spelling frames) ⊎ ((n : ℕ) × (input ≡ flat_map spelling (filter (names n) frames)))
   pub short : length input ≤ 2 ^ 32
 
+-- the same of the input of a command that draws covers
+abbrev pub IsCoverOfReplies : Command → List ℕ → Type 0
+IsCoverOfReplies (Cover every) input = IsOfReplies input
+IsCoverOfReplies command input = ⊥
+
 -- the pictures of the answered views were sent, each of the book as it was at that line
 pub record SendsPictures (old : State) (lines : List (Option (List ℕ))) (frames : List Frame) (new : State) (before now : Option (List ℕ)) : Type 0 where
   pub drawings : List (Option Canvas)
@@ -499,12 +519,14 @@ IsStreaming Serve = ⊤
 IsStreaming Draw = ⊤
 IsStreaming (Export name window) = ⊤
 IsStreaming Retain = ⊤
+IsStreaming (Cover every) = ⊤
 IsStreaming command = ⊥
 
 -- the operands of a command are in their ranges
 abbrev pub HasOperands : Command → Type 0
 HasOperands (Plot w h) = IsSide w × IsSide h
 HasOperands (Demo seed rounds) = IsSide rounds
+HasOperands (Cover every) = IsEvery every
 HasOperands command = ⊤
 
 -- What a command did, sent and left, and why it ended, by the status: the clauses of the program's call, of one command.

@@ -1,11 +1,11 @@
 -- The text of what a frame shows: a line, and behind that the picture, where there is one.
-use Rattle.std.specs.Prelude.{ℕ, Bool, true, false, List, [], ◌∷◌, ◌++◌, length, Option, None, Some, codes}
+use Rattle.std.specs.Prelude.{ℕ, Bool, true, false, List, [], ◌∷◌, ◌++◌, length, Option, codes}
 use Rattle.std.specs.Fmt.{decimal}
 use Rattle.line_raster.specs.Canvas.{Canvas}
-use Rattle.pbm_writer.specs.Picture.{picture}
 use Rattle.chart_frames.specs.declared.frame.Frame.{Frame}
 use Rattle.chart_frames.specs.declared.frame.Frame.TheVariants.{Done, Refused, Opened, Closed, View, Rows, Live}
 use Rattle.chart_frames.specs.Frames.{spelling}
+use Rattle.draw_command.specs.Covers.{picture_bytes}
 
 -- the line of a view of a session, whose frame has so many bytes
 abbrev pub view_line : ℕ → ℕ → List ℕ
@@ -26,11 +26,6 @@ line_of (Closed session) sent = codes "closed " ++ (decimal session ++ codes "\n
 line_of (View view) sent = view_line view.session sent
 line_of (Rows rows) sent = view_line rows.session sent
 line_of (Live session on) sent = live_line session on
-
--- the bytes of the picture of a drawing
-abbrev pub picture_bytes : Option Canvas → List ℕ
-picture_bytes None = []
-picture_bytes (Some drawing) = picture drawing
 
 abbrev pub text_of : Frame → Option Canvas → ℕ → List ℕ
 text_of frame drawing sent = line_of frame sent ++ picture_bytes drawing

@@ -3,15 +3,15 @@ ghost use Rattle.std.specs.Prelude.{◌≡◌, ◌⊎◌, [], ◌∷◌, Contain
 ghost use Rattle.block_disk.specs.Counts.{HasRisen};
 ghost use Rattle.block_disk.specs.View.{View};
 ghost use Rattle.chart_grid.specs.Limits.{IsSide};
-ghost use Rattle.program_words.specs.declared.words.Command.TheVariants.{Plot, Draw, Init};
+ghost use Rattle.program_words.specs.declared.words.Command.TheVariants.{Plot, Draw, Init, Cover};
 ghost use Rattle.chart_program.specs.Plotted.{plotting_status};
-ghost use Rattle.chart_program.specs.Draws.{IsNumbered, drawing_status};
+ghost use Rattle.draw_command.specs.Draws.{IsNumbered};
+ghost use Rattle.program_words.specs.Words.{IsEvery};
+ghost use Rattle.chart_program.specs.CommandStatuses.{drawing_status};
 ghost use Rattle.store_commands.specs.Away.{TurnsAway};
 ghost use Rattle.store_commands.specs.Traffic.{traffic};
 ghost use Rattle.chart_program.specs.Ran.{EndsCommand, HasOperands, LeavesDisk, IsFree, IsMade, IsTooSmall, IsThere};
 
-use crate::draw::draw;
-use crate::draw_end::DrawEnd;
 use crate::input::{InputEnd, MOST_SLOTS};
 use crate::plot::{PlotEnd, plot};
 use crate::serving::{run_status, serve_status};
@@ -19,6 +19,7 @@ use block_disk::{Back, World};
 use chart_frames::laws::{
     length_is_told, more_bytes_mend_nothing, one_frame_a_spelling, spellings_are_good,
 };
+use draw_command::{DrawEnd, cover, draw};
 use drawn_replies::laws::{
     one_session_draws_the_book, own_replies_are_accepted, replies_are_accepted,
     replies_draw_the_book,
@@ -62,6 +63,10 @@ pub(crate) fn status_of_command<W: World>(
         Command::ListSeries => list_series(alloc, world),
         Command::Export { name, window } => export_values(alloc, &name, window, world),
         Command::Retain => retain(alloc, world),
+        Command::Cover { every } => {
+            let status = cover_status(alloc, every, &mut world);
+            (status, world)
+        }
     }
 }
 
@@ -131,6 +136,19 @@ fn draw_status<W: World>(alloc: Global, world: &mut W) -> Status
     replies_are_accepted();
     own_replies_are_accepted();
     let answer = draw(alloc, world);
+    drawing_status(answer)
+}
+
+/// Sends the pictures of the input's frames, each behind its covers, and says how that ended.
+fn cover_status<W: World>(alloc: Global, every: u32, world: &mut W) -> Status
+    requires { IsEvery every }
+    ensures { EndsCommand (Cover every) (W.view world.old) (W.view world.new) (traffic W.left W.sent W.read_faults W.send_faults world.old world.new) result }
+{
+    one_frame_a_spelling();
+    length_is_told();
+    spellings_are_good();
+    more_bytes_mend_nothing();
+    let answer = cover(alloc, every, world);
     drawing_status(answer)
 }
 

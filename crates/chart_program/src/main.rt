@@ -2,18 +2,16 @@
 //!
 //! `chart` takes the words of a command and a world, does the command and answers with a status. Its
 //! clauses say which bytes were sent for which input, and when each status comes. What a command
-//! computes stands in the crates below: here the lines of `plot` become slots, the frames of `draw`
-//! pictures, and what the frames of `run` show text.
+//! computes stands in the crates below: here the lines of `plot` become slots, and what the frames of
+//! `run` show text.
 //!
 //! `main` opens the file that the first word names as a disk, which takes the file's lock, and gives
-//! `chart` the words after it and a world of this disk, standard input and standard output. `plot` and
-//! `draw` never call the disk, so for them no file is opened.
+//! `chart` the words after it and a world of this disk, standard input and standard output. `plot`,
+//! `draw` and `cover` never call the disk, so for them no file is opened.
 //! Nothing is claimed of `main` but that it is safe and ends.
 #![tactic(auto)]
 
 mod commands;
-mod draw;
-mod draw_end;
 mod input;
 pub mod laws;
 mod lines;
@@ -62,7 +60,7 @@ fn main(rt: HostRuntime) -> ExitCode {
 
 /// Whether the first word of a command names one that uses no store, so that no file has to be opened and locked for it.
 fn uses_no_store(words: &[String]) -> bool {
-    matches!(words, [word, ..] if word.as_str() == "plot" || word.as_str() == "draw")
+    matches!(words, [word, ..] if word.as_str() == "plot" || word.as_str() == "draw" || word.as_str() == "cover")
 }
 
 /// A file that is open, and can neither be read nor written.

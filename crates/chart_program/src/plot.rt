@@ -4,7 +4,7 @@ ghost use Rattle.block_disk.specs.View.{View};
 ghost use Rattle.chart_grid.specs.Limits.{IsSide};
 ghost use Rattle.chart_grid.specs.Projection.{ShowsWindow, HasCanvas};
 ghost use Rattle.plain_chart.specs.Samples.{IsSlot};
-ghost use Rattle.chart_program.specs.Alone.{StaysAlone};
+ghost use Rattle.draw_command.specs.Alone.{StaysAlone};
 ghost use Rattle.chart_program.specs.Plotted.{IsPlot, SendsPlot, EndsPlot};
 ghost use Rattle.chart_program.specs.declared.plot.PlotEnd.TheVariants.{Input};
 

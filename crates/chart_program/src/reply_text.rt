@@ -2,7 +2,8 @@ ghost use Rattle.std.specs.Prelude.{◌≡◌, ◌++◌, IfOk, IfErr, OnOk, code
 ghost use Rattle.std.specs.Fmt.{decimal};
 ghost use Rattle.chart_service.specs.declared.failure.ServeEnd.TheVariants.{NoMemory};
 ghost use Rattle.chart_program.specs.declared.run_end.RunEnd.TheVariants.{Serve};
-ghost use Rattle.chart_program.specs.Texts.{line_of, live_line, picture_bytes, text_of};
+ghost use Rattle.draw_command.specs.Covers.{picture_bytes};
+ghost use Rattle.chart_program.specs.Texts.{line_of, live_line, text_of};
 
 use crate::run_end::RunEnd;
 use chart_client::Shown;

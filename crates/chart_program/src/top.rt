@@ -6,10 +6,11 @@ ghost use Rattle.program_words.specs.declared.words.Command.TheVariants.{Draw, I
 ghost use Rattle.program_words.specs.Words.{AreCommand, AreWordsOf, ByCommand, Spells, IsWrong};
 ghost use Rattle.chart_program.specs.CommandStatuses.{all_codes, codes_of, TakesNone, BarsBy};
 ghost use Rattle.chart_program.specs.Lives.{IsLived};
-ghost use Rattle.chart_program.specs.Ran.{ForCommand, ForStreams, IsUnread, IsAwayFor, SendsAll, SendsPart, StopsWith, StopsAtDisk, IsBadInput, IsTooMuch, IsCutShort, IsInput, HasGoodInput, IsFree, IsWithin, LeavesDisk, LeavesTold, HoldsNow, IsDamaged, IsUndamaged, IsMade, IsTooSmall, IsThere, IsRefusedWith, IsUnknown, TellsUnnamed, ReadsFew, ReadsByInput, SyncsByInput, Lacks, Misfits, NamesUnopened, DrawsReplies, IsOfReplies, BeginStream};
+ghost use Rattle.chart_program.specs.Ran.{ForCommand, ForStreams, IsUnread, IsAwayFor, SendsAll, SendsPart, StopsWith, StopsAtDisk, IsBadInput, IsTooMuch, IsCutShort, IsInput, HasGoodInput, IsFree, IsWithin, LeavesDisk, LeavesTold, HoldsNow, IsDamaged, IsUndamaged, IsMade, IsTooSmall, IsThere, IsRefusedWith, IsUnknown, TellsUnnamed, ReadsFew, ReadsByInput, SyncsByInput, Lacks, Misfits, NamesUnopened, DrawsReplies, IsOfReplies, IsCoverOfReplies, BeginStream};
 
 use crate::commands::status_of_command;
 use block_disk::World;
+use drawn_replies::laws::{own_replies_are_accepted, replies_are_accepted};
 use program_words::{WordsEnd, command_of};
 use retain_command::NO_SERIES;
 use std::alloc::Global;
@@ -86,8 +87,12 @@ pub fn chart<W: World>(alloc: Global, words: &[String], world: W) -> (Status, W)
     ensures complete { HasGoodInput words.now (W.left world) (λ command. IsInput command (W.view world) (W.view result.1)) → Contains (DONE ∷ NO_MEMORY ∷ READ_FAULT ∷ SEND_FAULT ∷ []) result.0.code }
     // so with the frames that answer lines `draw` is done, all of them or those of one session
     ensures drawn { AreWordsOf Draw words.now → IfSome (W.left world) (λ input. IsOfReplies input → Contains (DONE ∷ NO_MEMORY ∷ READ_FAULT ∷ SEND_FAULT ∷ []) result.0.code) }
+    // and so is `cover`
+    ensures covered { HasGoodInput words.now (W.left world) IsCoverOfReplies → Contains (DONE ∷ NO_MEMORY ∷ READ_FAULT ∷ SEND_FAULT ∷ []) result.0.code }
     ensures ready { AreWordsOf Init words.now → IsFree (W.view world) → (HasRisen (W.view world).faults (W.view result.1).faults → ⊥) → (result.0.code ≡ DONE) ⊎ (result.0.code ≡ NO_MEMORY) }
 {
+    replies_are_accepted();
+    own_replies_are_accepted();
     match command_of(alloc, words) {
         Err(WordsEnd::Wrong { place }) => (ended(WRONG_WORDS, place), world),
         Err(WordsEnd::NoMemory) => (ended(NO_MEMORY, 0), world),

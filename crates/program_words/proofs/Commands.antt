@@ -13,10 +13,10 @@ use Rattle.series_book.specs.declared.errors.NameError.TheVariants.{NotAName, No
 use Rattle.whole_number.specs.Spelling.{SpellsNatural}
 use Rattle.whole_number.proofs.Digits.{one_natural}
 use Rattle.program_words.specs.declared.words.Command.{Command}
-use Rattle.program_words.specs.declared.words.Command.TheVariants.{Plot, Load, Demo, Run, Serve, Draw, Init, Check, ListSeries, Export, Retain}
+use Rattle.program_words.specs.declared.words.Command.TheVariants.{Plot, Load, Demo, Run, Serve, Draw, Init, Check, ListSeries, Export, Retain, Cover}
 use Rattle.program_words.specs.declared.words.WordsEnd.{WordsEnd}
 use Rattle.program_words.specs.declared.words.WordsEnd.TheVariants.{Wrong, NoMemory as AtMemory}
-use Rattle.program_words.specs.Words.{Spells, Begins, IsWrongAt, IsWrongBy, IsSingle, HasNoName, HasNoSeed, word_of}
+use Rattle.program_words.specs.Words.{Spells, IsEvery, Begins, IsWrongAt, IsWrongBy, IsSingle, HasNoName, HasNoSeed, word_of}
 
 one : IsSide 1
 one = record { some = omega arith; most = omega arith }
@@ -109,13 +109,14 @@ number_of (Plot w h) = 0
 number_of (Load name) = 1
 number_of (Demo seed count) = 2
 number_of (Export name window) = 3
-number_of Run = 4
-number_of Serve = 5
-number_of Draw = 6
-number_of Init = 7
-number_of Check = 8
-number_of ListSeries = 9
-number_of Retain = 10
+number_of (Cover every) = 4
+number_of Run = 5
+number_of Serve = 6
+number_of Draw = 7
+number_of Init = 8
+number_of Check = 9
+number_of ListSeries = 10
+number_of Retain = 11
 
 unfoldable number_by : List ℕ → ℕ
 number_by word =
@@ -123,12 +124,13 @@ number_by word =
     if bytes_eq word (codes "load") then 1 else
     if bytes_eq word (codes "demo") then 2 else
     if bytes_eq word (codes "export") then 3 else
-    if bytes_eq word (codes "run") then 4 else
-    if bytes_eq word (codes "serve") then 5 else
-    if bytes_eq word (codes "draw") then 6 else
-    if bytes_eq word (codes "init") then 7 else
-    if bytes_eq word (codes "check") then 8 else
-    if bytes_eq word (codes "list") then 9 else 10
+    if bytes_eq word (codes "cover") then 4 else
+    if bytes_eq word (codes "run") then 5 else
+    if bytes_eq word (codes "serve") then 6 else
+    if bytes_eq word (codes "draw") then 7 else
+    if bytes_eq word (codes "init") then 8 else
+    if bytes_eq word (codes "check") then 9 else
+    if bytes_eq word (codes "list") then 10 else 11
 
 number_so : (command : Command) → number_by (word_of command) ≡ number_of command
 unfolding number_by
@@ -142,6 +144,7 @@ number_so Init = refl
 number_so Check = refl
 number_so ListSeries = refl
 number_so Retain = refl
+number_so (Cover every) = refl
 number_so (Export name window) = refl
 
 -- a command's first word
@@ -156,6 +159,7 @@ first_of_spelling spelling Init spells = ap (λ l. slice_get l 0) spells
 first_of_spelling spelling Check spells = ap (λ l. slice_get l 0) spells
 first_of_spelling spelling ListSeries spells = ap (λ l. slice_get l 0) spells
 first_of_spelling spelling Retain spells = ap (λ l. slice_get l 0) spells
+first_of_spelling spelling (Cover every) spells = ap (λ l. slice_get l 0) spells.0
 first_of_spelling spelling (Export name window) spells = ap (λ l. slice_get l 0) spells.0
 
 -- two commands whose spellings begin with one word have one number
@@ -258,6 +262,7 @@ only_plot Init spelling spells number = absurd (omega (arith, number))
 only_plot Check spelling spells number = absurd (omega (arith, number))
 only_plot ListSeries spelling spells number = absurd (omega (arith, number))
 only_plot Retain spelling spells number = absurd (omega (arith, number))
+only_plot (Cover every) spelling spells number = absurd (omega (arith, number))
 only_plot (Export name window) spelling spells number = absurd (omega (arith, number))
 
 plots : HasTwo (codes "plot") IsSideWord IsSideWord
@@ -304,6 +309,7 @@ only_demo Init spelling spells number = absurd (omega (arith, number))
 only_demo Check spelling spells number = absurd (omega (arith, number))
 only_demo ListSeries spelling spells number = absurd (omega (arith, number))
 only_demo Retain spelling spells number = absurd (omega (arith, number))
+only_demo (Cover every) spelling spells number = absurd (omega (arith, number))
 only_demo (Export name window) spelling spells number = absurd (omega (arith, number))
 
 demos : HasTwo (codes "demo") IsSeedWord IsSideWord
@@ -344,6 +350,7 @@ only_load Init spelling spells number = absurd (omega (arith, number))
 only_load Check spelling spells number = absurd (omega (arith, number))
 only_load ListSeries spelling spells number = absurd (omega (arith, number))
 only_load Retain spelling spells number = absurd (omega (arith, number))
+only_load (Cover every) spelling spells number = absurd (omega (arith, number))
 only_load (Export name window) spelling spells number = absurd (omega (arith, number))
 
 pub a_name : IsTrue (is_name (codes "a"))
@@ -367,6 +374,52 @@ wrong_behind_name words name is first second many = one_too_many (codes "load") 
 pub right_load : (words : List (List ℕ)) (name : List ℕ) → slice_get words 0 ≡ Some (codes "load") → slice_get words 1 ≡ Some name → length words ≤ 2 → words ≡ codes "load" ∷ name ∷ []
 right_load words name first second few = sym (all_two words few) ∙ first_two words (codes "load") name first second
 
+-- ---- drawings with covers
+
+abbrev IsEveryWord : List ℕ → Type 0
+IsEveryWord word = (every : ℕ) × IsEvery every × (word ≡ decimal every)
+
+only_cover : (command : Command) (spelling : List (List ℕ)) → Spells command spelling → number_of command ≡ 4 → (a : List ℕ) × IsEveryWord a × (spelling ≡ codes "cover" ∷ a ∷ [])
+only_cover (Plot w h) spelling spells number = absurd (omega (arith, number))
+only_cover (Load name) spelling spells number = absurd (omega (arith, number))
+only_cover (Demo seed count) spelling spells number = absurd (omega (arith, number))
+only_cover Run spelling spells number = absurd (omega (arith, number))
+only_cover Serve spelling spells number = absurd (omega (arith, number))
+only_cover Draw spelling spells number = absurd (omega (arith, number))
+only_cover Init spelling spells number = absurd (omega (arith, number))
+only_cover Check spelling spells number = absurd (omega (arith, number))
+only_cover ListSeries spelling spells number = absurd (omega (arith, number))
+only_cover Retain spelling spells number = absurd (omega (arith, number))
+only_cover (Cover every) spelling spells number = (decimal every, (every, spells.1, refl), spells.0)
+only_cover (Export name window) spelling spells number = absurd (omega (arith, number))
+
+every_one : IsEvery 1
+every_one = record { some = omega arith; most = omega arith }
+
+covers : HasOne (codes "cover") IsEveryWord
+covers = record {
+  make = λ a is. (Cover is.0, ((let P : List ℕ → Type 0 = λ x. codes "cover" ∷ a ∷ [] ≡ codes "cover" ∷ x ∷ [] in subst P is.2 refl), is.1));
+  only = λ command spelling spells first. only_cover command spelling spells (one_number spelling (Cover 1) command spells first);
+  some_first = (decimal 1, (1, every_one, refl));
+}
+
+-- the number is missing or wrong
+pub wrong_every : (words : List (List ℕ)) → slice_get words 0 ≡ Some (codes "cover") → ((every : ℕ) → IsEvery every → slice_get words 1 ≡ Some (decimal every) → ⊥) → IsWrongAt 1 words
+wrong_every words first none = one_wrong_first (codes "cover") IsEveryWord covers words first (λ a is there. none is.0 is.1 (there ∙ ap Some is.2))
+
+pub wrong_behind_every : (words : List (List ℕ)) (every : ℕ) → IsEvery every → slice_get words 0 ≡ Some (codes "cover") → slice_get words 1 ≡ Some (decimal every) → 2 < length words → IsWrongAt 2 words
+wrong_behind_every words every is first second many = one_too_many (codes "cover") IsEveryWord covers words (decimal every) (every, is, refl) first second many
+
+pub right_cover : (words : List (List ℕ)) (every : ℕ) → slice_get words 0 ≡ Some (codes "cover") → slice_get words 1 ≡ Some (decimal every) → length words ≤ 2 → words ≡ codes "cover" ∷ decimal every ∷ []
+right_cover words every first second few = sym (all_two words few) ∙ first_two words (codes "cover") (decimal every) first second
+
+-- a number that is none of these is that of no such word
+pub no_every : (words : List (List ℕ)) (place n : ℕ) (word : List ℕ) → slice_get words place ≡ Some word → SpellsNatural word n → ((1 ≤ n) × (n ≤ 131072) → ⊥) → (every : ℕ) → IsEvery every → slice_get words place ≡ Some (decimal every) → ⊥
+no_every words place n word here spells off every is there =
+    let same : word ≡ decimal every = inside (slice_get words place) word (decimal every) here there in
+    let equal : n ≡ every = one_natural word n every spells (same, omega (arith, is.most)) in
+    off (omega (arith, equal, is.some), omega (arith, equal, is.most))
+
 -- ---- commands of one word
 
 -- the words of a command of one word
@@ -384,9 +437,10 @@ spells_single Init is = refl
 spells_single Check is = refl
 spells_single ListSeries is = refl
 spells_single Retain is = refl
+spells_single (Cover every) none = absurd none
 spells_single (Export name window) none = absurd none
 
-single_number : (command : Command) → IsSingle command → 3 < number_of command
+single_number : (command : Command) → IsSingle command → 4 < number_of command
 single_number (Plot w h) none = absurd none
 single_number (Load name) none = absurd none
 single_number (Demo seed count) none = absurd none
@@ -397,10 +451,11 @@ single_number Init is = omega arith
 single_number Check is = omega arith
 single_number ListSeries is = omega arith
 single_number Retain is = omega arith
+single_number (Cover every) none = absurd none
 single_number (Export name window) none = absurd none
 
 -- a command of such a number has one word
-short_spelling : (command : Command) (spelling : List (List ℕ)) → Spells command spelling → 3 < number_of command → length spelling ≤ 1
+short_spelling : (command : Command) (spelling : List (List ℕ)) → Spells command spelling → 4 < number_of command → length spelling ≤ 1
 short_spelling (Plot w h) spelling spells number = absurd (omega (arith, number))
 short_spelling (Load name) spelling spells number = absurd (omega (arith, number))
 short_spelling (Demo seed count) spelling spells number = absurd (omega (arith, number))
@@ -411,6 +466,7 @@ short_spelling Init spelling spells number = omega (arith, ap length spells)
 short_spelling Check spelling spells number = omega (arith, ap length spells)
 short_spelling ListSeries spelling spells number = omega (arith, ap length spells)
 short_spelling Retain spelling spells number = omega (arith, ap length spells)
+short_spelling (Cover every) spelling spells number = absurd (omega (arith, number))
 short_spelling (Export name window) spelling spells number = absurd (omega (arith, number))
 
 -- no command begins with the first word
@@ -421,26 +477,27 @@ wrong_first words none = record {
 }
 
 -- so it is where it begins none of these
-pub no_command : (first : Option (List ℕ)) → (first ≡ Some (codes "plot") → ⊥) → (first ≡ Some (codes "load") → ⊥) → (first ≡ Some (codes "demo") → ⊥) → (first ≡ Some (codes "export") → ⊥) → ((command : Command) → IsSingle command → first ≡ Some (word_of command) → ⊥)
+pub no_command : (first : Option (List ℕ)) → (first ≡ Some (codes "plot") → ⊥) → (first ≡ Some (codes "load") → ⊥) → (first ≡ Some (codes "demo") → ⊥) → (first ≡ Some (codes "export") → ⊥) → (first ≡ Some (codes "cover") → ⊥) → ((command : Command) → IsSingle command → first ≡ Some (word_of command) → ⊥)
     → (command : Command) → first ≡ Some (word_of command) → ⊥
-no_command first plot load demo export single (Plot w h) is = plot is
-no_command first plot load demo export single (Load name) is = load is
-no_command first plot load demo export single (Demo seed count) is = demo is
-no_command first plot load demo export single Run is = single Run tt is
-no_command first plot load demo export single Serve is = single Serve tt is
-no_command first plot load demo export single Draw is = single Draw tt is
-no_command first plot load demo export single Init is = single Init tt is
-no_command first plot load demo export single Check is = single Check tt is
-no_command first plot load demo export single ListSeries is = single ListSeries tt is
-no_command first plot load demo export single Retain is = single Retain tt is
-no_command first plot load demo export single (Export name window) is = export is
+no_command first plot load demo export cover single (Plot w h) is = plot is
+no_command first plot load demo export cover single (Load name) is = load is
+no_command first plot load demo export cover single (Demo seed count) is = demo is
+no_command first plot load demo export cover single Run is = single Run tt is
+no_command first plot load demo export cover single Serve is = single Serve tt is
+no_command first plot load demo export cover single Draw is = single Draw tt is
+no_command first plot load demo export cover single Init is = single Init tt is
+no_command first plot load demo export cover single Check is = single Check tt is
+no_command first plot load demo export cover single ListSeries is = single ListSeries tt is
+no_command first plot load demo export cover single Retain is = single Retain tt is
+no_command first plot load demo export cover single (Cover every) is = cover is
+no_command first plot load demo export cover single (Export name window) is = export is
 
 pub wrong_behind : (words : List (List ℕ)) (command : Command) → IsSingle command → slice_get words 0 ≡ Some (word_of command) → 1 < length words → IsWrongAt 1 words
 wrong_behind words command is first many = record {
   before = begins 1 words (single command) (command, spells_single command is) (first_one words (word_of command) first);
   here = λ b.
       let number = one_number b.spelling command b.command b.spells (first_there 2 (word_of command) words b (omega arith) first) in
-      let some : 3 < number_of b.command = omega (arith, number, single_number command is) in
+      let some : 4 < number_of b.command = omega (arith, number, single_number command is) in
       let short : length b.spelling ≤ 1 = short_spelling b.command b.spelling b.spells some in
       let few : min 2 (length words) ≤ 1 = omega (arith, ap length b.same, length-take 2 words, length-take 2 b.spelling, short) in
       omega (arith, few, many);

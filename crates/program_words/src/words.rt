@@ -4,7 +4,7 @@ ghost use Rattle.chart_grid.specs.Limits.{IsSide, IsWindow};
 ghost use Rattle.series_book.specs.Names.{is_name};
 ghost use Rattle.whole_number.specs.Range.{IsTime};
 ghost use Rattle.program_words.specs.CommandLine.{plain_words, has_flag};
-ghost use Rattle.program_words.specs.Words.{Spells, IsWrongAt, IsWrongBy, IsSingle, EndsWords, HasNoName, HasNoSeed, word_of, placed};
+ghost use Rattle.program_words.specs.Words.{Spells, IsEvery, IsWrongAt, IsWrongBy, IsSingle, EndsWords, HasNoName, HasNoSeed, word_of, placed};
 ghost use Rattle.program_words.specs.declared.words.Command.{Command};
 
 use crate::errors::WordsError;
@@ -40,6 +40,8 @@ pub enum Command {
     Export { name: Name, window: Option<Window> },
     /// The answers to the input's lines, each a rule by which old slots of the store are dropped.
     Retain,
+    /// The pictures of the input's frames, and before that of a view its covers, each after so many coefficients more, 1 to 131,072.
+    Cover { every: u32 },
 }
 
 /// Why the words aren't taken for a command.
@@ -85,6 +87,9 @@ fn spelled_by(alloc: Global, words: &[&str]) -> Result<Command, WordsEnd>
     if is_word(words, 0, "export") {
         return export_of(alloc, words);
     }
+    if is_word(words, 0, "cover") {
+        return placed(cover_of(words));
+    }
     placed(alone(words))
 }
 
@@ -104,6 +109,7 @@ fn alone(words: &[&str]) -> Result<Command, u64>
     requires load { slice_get (map (λ word. word.now) words.now) 0 ≢ Some (codes "load") }
     requires demo { slice_get (map (λ word. word.now) words.now) 0 ≢ Some (codes "demo") }
     requires export { slice_get (map (λ word. word.now) words.now) 0 ≢ Some (codes "export") }
+    requires cover { slice_get (map (λ word. word.now) words.now) 0 ≢ Some (codes "cover") }
     ensures command { IfOk result (λ command. Spells command (map (λ word. word.now) words.now)) }
     ensures wrong { IfErr result (λ place. IsWrongAt place (map (λ word. word.now) words.now)) }
 {
@@ -233,6 +239,35 @@ fn is_time(number: i128) -> bool
     ensures { IsTrue result ↔ IsTime number }
 {
     number.unsigned_abs() <= u128::from(GREATEST_TIME)
+}
+
+/// The drawing with covers that the words spell, or the place of the first wrong word.
+fn cover_of(words: &[&str]) -> Result<Command, u64>
+    requires { slice_get (map (λ word. word.now) words.now) 0 ≡ Some (codes "cover") }
+    ensures command { IfOk result (λ command. Spells command (map (λ word. word.now) words.now)) }
+    ensures wrong { IfErr result (λ place. IsWrongAt place (map (λ word. word.now) words.now)) }
+{
+    let Some(every) = every_at(words, 1) else {
+        return Err(1);
+    };
+    if words.len() > 2 {
+        return Err(2);
+    }
+    Ok(Command::Cover { every })
+}
+
+/// The number of coefficients from one cover to the next that the word at a place spells, 1 to 131,072.
+fn every_at(words: &[&str], place: usize) -> Option<u32>
+    ensures found { IfSome result (λ every. IsEvery every × (slice_get (map (λ word. word.now) words.now) place ≡ Some (decimal every))) }
+    ensures none { IfNone result ((every : ℕ) → IsEvery every → slice_get (map (λ word. word.now) words.now) place ≡ Some (decimal every) → ⊥) }
+{
+    let word = word_at(words, place)?;
+    let number = natural(word.as_bytes())?;
+    if 1 <= number && number <= 131_072 {
+        Some(number as u32)
+    } else {
+        None
+    }
 }
 
 /// The workload that the words spell, or the place of the first wrong word.

@@ -14,6 +14,7 @@ use std::marker::Model;
 use view_cover::draw_cover;
 
 /// A view whose coefficients are taken one after the other.
+#[derive(Drop)]
 pub struct Progress<'a> {
     alloc: Global,
     client: &'a Client,

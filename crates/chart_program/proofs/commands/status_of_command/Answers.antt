@@ -166,3 +166,17 @@ returns-in-Retain g c =
     let faults = faults_of (reads old) (reads new) (sends old) (sends new) in
     let P : Command → Type 0 = λ command. CommandEnds command (view old) (view new) (left old) (left new) (sent old) (sent new) faults status.code status.place in
     subst P (sym c.in-Retain.is) (retain_ends (view old) (view new) (left old) (left new) (sent old) (sent new) faults status.code status.place c.retain.ensures.ends c.retain.ensures.away)
+
+pub returns-in-Cover : goal.returns-in-Cover
+returns-in-Cover g c =
+    let view = g.W.Disk.view in
+    let left = g.W.Streams.left in
+    let sent = g.W.Streams.sent in
+    let reads = g.W.Streams.read_faults in
+    let sends = g.W.Streams.send_faults in
+    let old = c.args.world in
+    let new = c.cover_status-status.new.world in
+    let status = c.cover_status-status.result in
+    let faults = faults_of (reads old) (reads new) (sends old) (sends new) in
+    let P : Command → Type 0 = λ command. CommandEnds command (view old) (view new) (left old) (left new) (sent old) (sent new) faults status.code status.place in
+    subst P (sym c.in-Cover.is) c.cover_status-status.ensures

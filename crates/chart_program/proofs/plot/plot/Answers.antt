@@ -6,8 +6,7 @@ use Rattle.chart_program.specs.declared.plot.PlotEnd.{PlotEnd}
 use Rattle.chart_program.specs.declared.plot.PlotEnd.TheVariants.{Input, SendFault}
 use Rattle.chart_program.specs.Plotted.{EndsPlot}
 use Rattle.chart_service.proofs.Ends.{on_err}
-use Rattle.block_disk.specs.View.{sent_now}
-use Rattle.chart_program.proofs.DiskKept.{stays_by, stays_then}
+use Rattle.draw_command.proofs.DiskKept.{stays_taken, stays_sent, stays_then}
 use Rattle.chart_program.proofs.plot.plot.Goals as goal
 
 input_is : {T : Type 0} {e f : InputEnd} → ◌≡◌ {A = Result T PlotEnd} (Err (Input e)) (Err (Input f)) → e ≡ f
@@ -76,7 +75,7 @@ returns-in_err-slots-clause-disk g c =
     let old = c.args.streams.now in
     let mid = c.read_slots.new.from in
     let beside = c.read_slots.ensures.beside in
-    stays_by (view old) (view mid) (λ count. count ≡ sent_now (view old)) (g.met.S.World.take_keeps old mid beside) (g.met.S.World.take_passes old mid beside)
+    stays_taken (view old) (view mid) (g.met.S.World.take_keeps old mid beside) (g.met.S.World.take_passes old mid beside)
 
 pub returns-in_err-bytes-clause-disk : goal.returns-in_err-bytes-clause-disk
 returns-in_err-bytes-clause-disk g c =
@@ -84,7 +83,7 @@ returns-in_err-bytes-clause-disk g c =
     let old = c.args.streams.now in
     let mid = c.read_slots.new.from in
     let beside = c.read_slots.ensures.beside in
-    stays_by (view old) (view mid) (λ count. count ≡ sent_now (view old)) (g.met.S.World.take_keeps old mid beside) (g.met.S.World.take_passes old mid beside)
+    stays_taken (view old) (view mid) (g.met.S.World.take_keeps old mid beside) (g.met.S.World.take_passes old mid beside)
 
 pub returns-then-is_err-clause-disk : goal.returns-then-is_err-clause-disk
 returns-then-is_err-clause-disk g c =
@@ -95,8 +94,8 @@ returns-then-is_err-clause-disk g c =
     let taken = c.read_slots.ensures.beside in
     let sent = c.send.ensures.beside in
     stays_then (view old) (view mid) (view new)
-    (stays_by (view old) (view mid) (λ count. count ≡ sent_now (view old)) (g.met.S.World.take_keeps old mid taken) (g.met.S.World.take_passes old mid taken))
-    (stays_by (view mid) (view new) (λ count. (sent_now (view mid) ≤ count) × (count ≤ sent_now (view new))) (g.met.S.World.send_keeps _ mid new sent) (g.met.S.World.send_passes _ mid new sent))
+    (stays_taken (view old) (view mid) (g.met.S.World.take_keeps old mid taken) (g.met.S.World.take_passes old mid taken))
+    (stays_sent (view mid) (view new) (g.met.S.World.send_keeps _ mid new sent) (g.met.S.World.send_passes _ mid new sent))
 
 pub returns-clause-disk : goal.returns-clause-disk
 returns-clause-disk g c =
@@ -107,5 +106,5 @@ returns-clause-disk g c =
     let taken = c.read_slots.ensures.beside in
     let sent = c.send.ensures.beside in
     stays_then (view old) (view mid) (view new)
-    (stays_by (view old) (view mid) (λ count. count ≡ sent_now (view old)) (g.met.S.World.take_keeps old mid taken) (g.met.S.World.take_passes old mid taken))
-    (stays_by (view mid) (view new) (λ count. (sent_now (view mid) ≤ count) × (count ≤ sent_now (view new))) (g.met.S.World.send_keeps _ mid new sent) (g.met.S.World.send_passes _ mid new sent))
+    (stays_taken (view old) (view mid) (g.met.S.World.take_keeps old mid taken) (g.met.S.World.take_passes old mid taken))
+    (stays_sent (view mid) (view new) (g.met.S.World.send_keeps _ mid new sent) (g.met.S.World.send_passes _ mid new sent))

@@ -2,9 +2,9 @@ use Rattle.std.proofs.Common.{arith, inl, inr, sym, refl, ◌∙◌, [], ◌∷�
 use Rattle.chart_program.proofs.Apart.{apart}
 use Rattle.chart_program.proofs.CommandCodes.{never}
 use Rattle.chart_program.proofs.LivesLemmas.{lives_told}
-use Rattle.chart_program.proofs.Parsing.{told_good}
+use Rattle.chart_program.proofs.Parsing.{told_good, replies_good}
 use Rattle.chart_program.proofs.Codes.{told_both}
-use Rattle.chart_program.proofs.Words.{of_command, with_operands, chart_codes, streams, one_init, one_draw, completes, wrong_never, wrong_end}
+use Rattle.chart_program.proofs.Words.{of_command, with_operands, chart_codes, streams, one_init, one_draw, completes, covers_complete, good_never, wrong_never, wrong_end}
 use Rattle.program_words.specs.declared.words.Command.TheVariants.{Draw, Init}
 use Rattle.chart_program.proofs.top.chart.Goals as goal
 
@@ -468,3 +468,15 @@ returns-in-Err-Wrong-clause-unknown g c = λ is. apart (sym c.ended.ensures.code
 
 pub returns-in-Err-NoMemory-clause-unknown : goal.returns-in-Err-NoMemory-clause-unknown
 returns-in-Err-NoMemory-clause-unknown g c = λ is. apart (sym c.ended-in-Err-NoMemory.ensures.code ∙ is) refl
+
+pub returns-in-Ok-clause-covered : goal.returns-in-Ok-clause-covered
+returns-in-Ok-clause-covered g c =
+    let e = c.status_of_command.ensures in
+    covers_complete c.args.words.now _ c.in-Ok.command _ _ _ (replies_good c.replies_are_accepted.ensures c.own_replies_are_accepted.ensures) c.in-Ok.ensures.command e.complete
+
+pub returns-in-Err-Wrong-clause-covered : goal.returns-in-Err-Wrong-clause-covered
+returns-in-Err-Wrong-clause-covered g c = λ given.
+    good_never c.in-Err-Wrong.place c.args.words.now _ _ _ (wrong_end c.in-Err-Wrong.field-0 c.in-Err-Wrong.place _ c.in-Err-Wrong.field-0-is c.in-Err-Wrong.ensures.wrong) given
+
+pub returns-in-Err-NoMemory-clause-covered : goal.returns-in-Err-NoMemory-clause-covered
+returns-in-Err-NoMemory-clause-covered g c = λ given. (1, omega arith, sym c.ended-in-Err-NoMemory.ensures.code)

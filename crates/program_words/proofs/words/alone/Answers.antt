@@ -12,7 +12,7 @@ returns-in_err-command-clause-wrong c =
     let wrong = c.in_err-command.ensures.wrong in
     let W : ℕ → Type 0 = λ n. IsWrongAt n words in
     error_so _ W c.from_residual.result c.from_residual.ensures.1
-    (λ e is. subst W (sym (is ∙ wrong.0)) (wrong_first words (no_command (slice_get words 0) c.requires.plot c.requires.load c.requires.demo c.requires.export wrong.1)))
+    (λ e is. subst W (sym (is ∙ wrong.0)) (wrong_first words (no_command (slice_get words 0) c.requires.plot c.requires.load c.requires.demo c.requires.export c.requires.cover wrong.1)))
 
 pub returns-then-words-gt1-clause-wrong : goal.returns-then-words-gt1-clause-wrong
 returns-then-words-gt1-clause-wrong c =

@@ -1,0 +1,6 @@
+pub mod Errors
+pub mod DiskKept
+pub mod SendingLemmas
+pub mod CoverLemmas
+pub mod CoverLaws
+pub mod DrawnFrames
