@@ -1,0 +1,3 @@
+pub mod Replying
+pub mod Facts
+pub mod Followed

@@ -1,0 +1,109 @@
+-- What a live service's answers are over a plain book.
+use Rattle.std.proofs.Common.{◌≡◌, ℕ, Bool, true, false, if◌then◌else◌, List, [], ◌∷◌, length, Option, None, Some, Result, Ok, Err, IfOk, IfErr, IfSome, refl, sym, ap, ◌∙◌, subst, inl, inr}
+use Rattle.std.specs.Prelude.{nat_lt}
+use Rattle.block_disk.specs.View.{Image, View, Now, Only, Passes}
+use Rattle.block_disk.proofs.Passing.{passes_none, passes_weaker}
+use Rattle.chart_frames.specs.declared.frame.Frame.{Frame}
+use Rattle.chart_frames.specs.declared.frame.Frame.TheVariants.{Done, Refused, Opened, Closed, View as ViewOf, Rows, Live as LiveOf}
+use Rattle.chart_service.specs.Replies.{Replied, RepliesToLine, line_text, refused as refused_by, own_zoom}
+use Rattle.chart_service.specs.State.{State}
+use Rattle.chart_service.specs.Stepping.{StandsAfter, IsAfterReply, IsBeforeOrAfter as IsBeforeOrAfterReply, RepliedTo, state_of}
+use Rattle.gate_pages.specs.Pages.{Quiet}
+use Rattle.live_service.specs.LiveReplies.{LiveState, LiveReplied, RepliesTo, PassesOn, RefusesLong, AnswersItself, Pushed, changed_in}
+use Rattle.live_service.specs.Shown.{live_of, IsBeforeOrAfter, IsAfterAnswer}
+use Rattle.live_view.specs.declared.live_lines.LiveLine.{LiveLine}
+use Rattle.live_view.specs.declared.live_lines.LiveLine.TheVariants.{Follow, Unfollow, Bad, Other as OtherLine}
+use Rattle.live_view.specs.declared.meaning.Meaning.{Meaning}
+use Rattle.live_view.specs.declared.meaning.Meaning.TheVariants.{View as ViewMeant, Edit, Other}
+use Rattle.live_view.specs.Lines.{live_line, tokens_ask}
+use Rattle.live_view.specs.Meaning.{meaning_of, meaning_in}
+use Rattle.live_view.specs.Replies.{refused, follow_reply, unfollow_reply, followed_by, ended, still_followed, followers, Changes}
+use Rattle.request_lines.specs.Requests.{read_line}
+use Rattle.request_lines.specs.Tokens.{tokens}
+use Rattle.series_book.specs.declared.one_series.Series.{Series}
+use Rattle.series_book.specs.declared.refusals.Refusal.TheVariants.{BadLine, LineTooLong}
+use Rattle.series_book.specs.Edits.{id_of}
+use Rattle.stored_book.specs.Standing.{StandsForBook}
+use Rattle.zoom_session.specs.declared.session.Session.{Session}
+use Rattle.zoom_session.specs.declared.view_spec.ViewSpec.{ViewSpec}
+use Rattle.zoom_session.specs.Sessions.{is_open, session_of, last_of}
+
+-- the series that an edit changed is the one that the book names
+pub changes_in : (book : List Series) (names : List ℕ → Option ℕ → Type 0) (meaning : Meaning) (frame : Frame) (series : Option ℕ) → ((name : List ℕ) (id : Option ℕ) → names name id → id ≡ id_of name book) → Changes names meaning frame series → series ≡ changed_in book meaning frame
+changes_in book names ViewMeant frame series says is = is
+changes_in book names Other frame series says is = is
+changes_in book names (Edit name) (Done slots) series says is = says name series is
+changes_in book names (Edit name) (Refused number a b) series says is = is
+changes_in book names (Edit name) (Opened session cache) series says is = is
+changes_in book names (Edit name) (Closed session) series says is = is
+changes_in book names (Edit name) (ViewOf view) series says is = is
+changes_in book names (Edit name) (Rows rows) series says is = is
+changes_in book names (Edit name) (LiveOf session on) series says is = is
+
+-- ---- a line that asks nothing of live views
+
+other_by : (line : List ℕ) (frame : Frame) (old new : State) (followed waiting now pending : List ℕ) (test : Bool) → nat_lt 8192 (length line) ≡ test → live_line line ≡ OtherLine → Replied (line_text line) frame old new
+    → now ≡ still_followed (ended (meaning_of line) frame) followed → pending ≡ followers (changed_in new.book (meaning_of line) frame) new.sessions followed
+    → LiveReplied (line_text line) frame (live_of old followed waiting) (live_of new now pending)
+unfolding meaning_of
+other_by line frame old new followed waiting now pending true test asked replied now_is pending_is =
+    let text : line_text line ≡ None = ap (λ (b : Bool). if b then None else Some line) test in
+    let means : meaning_of line ≡ Other = ap (λ (b : Bool). if b then Other else meaning_in (read_line line)) test in
+    let long : Replied None frame old new = subst (λ (o : Option (List ℕ)). Replied o frame old new) text replied in
+    let is : frame ≡ refused_by LineTooLong = long.0.reply in
+    let L : Option (List ℕ) → Type 0 = λ o. LiveReplied o frame (live_of old followed waiting) (live_of new now pending) in
+    subst L (sym text) (record {
+      replied = long;
+      followed_same = now_is ∙ ap (λ (m : Meaning). still_followed (ended m frame) followed) means ∙ ap (λ (f : Frame). still_followed (ended Other f) followed) is;
+      idle = pending_is ∙ ap (λ (m : Meaning). followers (changed_in new.book m frame) new.sessions followed) means;
+    })
+other_by line frame old new followed waiting now pending false test asked replied now_is pending_is =
+    let text : line_text line ≡ Some line = ap (λ (b : Bool). if b then None else Some line) test in
+    let short : Replied (Some line) frame old new = subst (λ (o : Option (List ℕ)). Replied o frame old new) text replied in
+    let L : Option (List ℕ) → Type 0 = λ o. LiveReplied o frame (live_of old followed waiting) (live_of new now pending) in
+    let A : LiveLine → Type 0 = λ a. RepliesTo a line frame (live_of old followed waiting) (live_of new now pending) in
+    subst L (sym text) (subst A (sym asked) (record { replied = short; followed_now = now_is; pending_now = pending_is }))
+
+pub other_replied : (line : List ℕ) (frame : Frame) (old new : State) (followed waiting now pending : List ℕ) → live_line line ≡ OtherLine → Replied (line_text line) frame old new
+    → now ≡ still_followed (ended (meaning_of line) frame) followed → pending ≡ followers (changed_in new.book (meaning_of line) frame) new.sessions followed
+    → LiveReplied (line_text line) frame (live_of old followed waiting) (live_of new now pending)
+other_replied line frame old new followed waiting now pending asked replied now_is pending_is =
+    other_by line frame old new followed waiting now pending (nat_lt 8192 (length line)) refl asked replied now_is pending_is
+
+-- the same of what a crash leaves
+after_other : (line : List ℕ) (total : ℕ) (book : List Series) (ss : List Session) (followed waiting : List ℕ) (image : Image) → live_line line ≡ OtherLine → IsBeforeOrAfterReply (Replied (line_text line)) total book ss image
+    → IsBeforeOrAfter (LiveReplied (line_text line)) total (live_of (state_of book total ss) followed waiting) image
+after_other line total book ss followed waiting image asked (inl stands) = inl stands
+after_other line total book ss followed waiting image asked (inr after) =
+    let new = state_of after.after.book total after.left in
+    let now : List ℕ = still_followed (ended (meaning_of line) after.frame) followed in
+    let pending : List ℕ = followers (changed_in new.book (meaning_of line) after.frame) new.sessions followed in
+    inr (record {
+      frame = after.frame;
+      after = live_of new now pending;
+      replied = other_replied line after.frame (state_of book total ss) new followed waiting now pending asked after.after.so refl refl;
+      stands = after.after.stands;
+    })
+
+pub other_moments : (line : List ℕ) (total : ℕ) (book : List Series) (ss : List Session) (followed waiting : List ℕ) (old new : View) → live_line line ≡ OtherLine → Passes old new (IsBeforeOrAfterReply (Replied (line_text line)) total book ss) (Quiet old)
+    → Passes old new (IsBeforeOrAfter (LiveReplied (line_text line)) total (live_of (state_of book total ss) followed waiting)) (Quiet old)
+other_moments line total book ss followed waiting old new asked passes =
+    passes_weaker old new (IsBeforeOrAfterReply (Replied (line_text line)) total book ss) (IsBeforeOrAfter (LiveReplied (line_text line)) total (live_of (state_of book total ss) followed waiting)) (Quiet old) (Quiet old)
+    (λ image one. after_other line total book ss followed waiting image asked one) (λ count quiet. quiet) passes
+
+-- ---- a line that asks for a following
+
+-- such a line isn't too long
+short_by : (line : List ℕ) (asked : LiveLine) → live_line line ≡ asked → (OtherLine ≡ asked → ⊥) → line_text line ≡ Some line
+unfolding live_line
+short_by line asked is other =
+    (elim (nat_lt 8192 (length line)) as (λ (b : Bool). (if b then OtherLine else tokens_ask (length line) (tokens line)) ≡ asked → (if b then None else Some line) ≡ Some line) [
+      | true ↦ λ e. absurd (other e)
+      | false ↦ λ e. refl
+    ]) is
+
+pub own_replied : (line : List ℕ) (asked : LiveLine) (frame : Frame) (old new : LiveState) → live_line line ≡ asked → (OtherLine ≡ asked → ⊥) → RepliesTo asked line frame old new → LiveReplied (line_text line) frame old new
+own_replied line asked frame old new is other replied =
+    let L : Option (List ℕ) → Type 0 = λ o. LiveReplied o frame old new in
+    let A : LiveLine → Type 0 = λ a. RepliesTo a line frame old new in
+    subst L (sym (short_by line asked is other)) (subst A (sym is) replied)
