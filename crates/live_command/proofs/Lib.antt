@@ -1,0 +1,6 @@
+pub mod EventLemmas
+pub mod LineLemmas
+pub mod RunLemmas
+pub mod GoesLemmas
+pub mod DiskLemmas
+pub mod StatusLemmas
