@@ -1,28 +1,30 @@
 -- What is said of a live service's calls, by the relations of its stepper.
 use Rattle.std.proofs.Common.{◌≡◌, ℕ, true, List, [], ◌∷◌, IsTrue, Option, None, Some, Result, Ok, Err, IfOk, IfErr, refl, sym, ap, ◌∙◌, subst, inl, inr, arith}
-use Rattle.std.specs.Prelude.{IfNone, IfSome, is_some, ◌↔◌}
+use Rattle.std.specs.Prelude.{IfNone, IfSome, is_some, ◌<◌, length, ◌↔◌}
 use Rattle.block_disk.specs.Counts.{HasRisen}
 use Rattle.block_disk.specs.View.{Now, Passes}
 use Rattle.block_disk.specs.declared.streams.Streams.{Ghosts as StreamGhosts}
 use Rattle.block_disk.proofs.Passing.{passes_none}
 use Rattle.chart_frames.specs.declared.frame.Frame.{Frame}
 use Rattle.chart_service.proofs.LookLemmas.{unchanged_so}
-use Rattle.chart_service.specs.Called.{AnswersSo, CommitsOnly}
+use Rattle.chart_service.specs.Called.{AnswersSo, CommitsOnly, IsCause}
+use Rattle.chart_service.specs.ReadingBlocks.{ReadsLine}
 use Rattle.chart_service.specs.Replies.{line_text, own_zoom}
 use Rattle.chart_service.specs.Shown as shown
-use Rattle.chart_service.specs.Stepping.{NamesBad, IsOutside, RepliedTo, Steps, state_of}
+use Rattle.chart_service.specs.Stepping.{NamesBad, IsOutside, ReadsFew, RepliedTo, Steps, state_of}
+use Rattle.chart_service.specs.Syncing.{edit_of}
 use Rattle.chart_service.specs.declared.failure.ServiceError.{ServiceError}
 use Rattle.chart_service.specs.declared.failure.ServiceError.TheVariants.{DiskFault, NoMemory}
 use Rattle.chart_service.specs.declared.service.Service.{Service}
 use Rattle.gate_pages.specs.GateLaws.{goes_none}
 use Rattle.gate_pages.specs.Pages.{GoesOn, Quiet}
 use Rattle.gate_pages.specs.declared.pages.Pages.{Ghosts}
-use Rattle.live_service.specs.LiveReplies.{LiveReplied, Pushed, changed_in}
+use Rattle.live_service.specs.LiveReplies.{LiveReplied, Pushed, ReadsPush, changed_in}
 use Rattle.live_service.specs.Shown as its
 use Rattle.live_service.specs.Shown.{IsBeforeOrAfter}
 use Rattle.live_service.specs.Steps.{AnswersLine, RepeatsView}
 use Rattle.live_service.specs.declared.stepper.ServiceStepper.{ServiceStepper}
-use Rattle.live_service.proofs.Replying.{changes_in, other_replied, other_moments, own_replied}
+use Rattle.live_service.proofs.Replying.{changes_in, disk_cause, lacks_no_disk, never_fails, one_fewer, other_replied, other_moments, own_replied, same_error, unread, unread_push}
 use Rattle.live_view.specs.Live as follows
 use Rattle.live_view.specs.Lines.{live_line}
 use Rattle.live_view.specs.Meaning.{meaning_of}
@@ -108,8 +110,10 @@ module _ {P : Type 0} {g : Ghosts P} {h : StepperGhosts (ServiceStepper P g) Ser
     pub reply : its.ForBook old (λ total book. IfOk result (its.AnswersSo (LiveReplied (line_text line)) total book old new))
     pub standing : its.ForBook old (λ total book. IfErr result IsOutside)
     pub moments : its.ForBook old (λ total book. its.PassesBy (LiveReplied (line_text line)) total book old new)
+    pub reads : its.ForBook old (λ total book. its.ReadsFewFor (line_text line) total book old new)
     pub unchanged : CommitsOnly result (its.service old) (its.service new)
-    pub disk : IfErr result (λ error. error ≡ DiskFault → HasRisen (its.view old).faults (its.view new).faults)
+    pub idle : edit_of (line_text line) ≡ [] → IsUnchanged (shown.IsTold (its.service old)) (its.view old) (its.view new)
+    pub disk : result ≡ Err DiskFault → HasRisen (its.view old).faults (its.view new).faults
     pub bad : IfErr result (NamesBad (shown.IsTold (its.service new)) (its.view new).size (its.view new).image)
     pub steps : Steps (shown.IsTold (its.service old)) (shown.IsTold (its.service new)) (its.view old) (its.view new)
     pub goes_on : GoesOn (shown.under (its.service old)) (shown.under (its.service new))
@@ -120,6 +124,11 @@ module _ {P : Type 0} {g : Ghosts P} {h : StepperGhosts (ServiceStepper P g) Ser
 
   stands_so : (old new : Live (ServiceStepper P g) ServiceError h streams) (total : ℕ) (book : List Series) → new.stepper ≡ old.stepper → StandsForBook (its.view old).image total book → StandsForBook (its.view new).image total book
   stands_so old new total book same stands = let S : ServiceStepper P g → Type 0 = λ s. StandsForBook (shown.view s.service).image total book in subst S (sym same) stands
+
+  unread_so : (line : List ℕ) (old new : Live (ServiceStepper P g) ServiceError h streams) (total : ℕ) (book : List Series) → new.stepper ≡ old.stepper → its.ReadsFewFor (line_text line) total book old new
+  unread_so line old new total book same =
+      let Q : ServiceStepper P g → Type 0 = λ s. ReadsLine (line_text line) (shown.state old.stepper.service total book) (its.view old).reads (shown.view s.service).reads in
+      subst Q (sym same) (unread (line_text line) (shown.state old.stepper.service total book) (its.view old).reads)
 
   -- a line that asks for a following
   own_facts : (line : List ℕ) (frame reply : Frame) (asked : LiveLine) (old new : Live (ServiceStepper P g) ServiceError h streams) → live_line line ≡ asked → (Other ≡ asked → ⊥) → new.stepper ≡ old.stepper
@@ -132,8 +141,10 @@ module _ {P : Type 0} {g : Ghosts P} {h : StepperGhosts (ServiceStepper P g) Ser
         moments = λ total book told stands.
             let Q : ServiceStepper P g → Type 0 = λ s. Passes (its.view old) (shown.view s.service) (IsBeforeOrAfter (LiveReplied (line_text line)) total (its.state old total book)) (Quiet (its.view old)) in
             subst Q (sym same) (passes_none (its.view old) _ _);
+        reads = λ total book told stands. unread_so line old new total book same;
         unchanged = unchanged_so (Ok frame) _ _ _ rest.unchanged;
-        disk = tt;
+        idle = λ none. rest.unchanged;
+        disk = λ is. absurd (never_fails Frame frame DiskFault is);
         bad = tt;
         steps = rest.steps;
         goes_on = rest.goes_on;
@@ -161,8 +172,10 @@ module _ {P : Type 0} {g : Ghosts P} {h : StepperGhosts (ServiceStepper P g) Ser
             };
         standing = λ total book told stands. tt;
         moments = λ total book told stands. other_moments line total book old.stepper.service.sessions old.followed.items old.pending.items (its.view old) (its.view new) asked (answers.moments total book told stands);
+        reads = answers.reads;
         unchanged = answers.unchanged;
-        disk = tt;
+        idle = answers.idle;
+        disk = answers.disk;
         bad = tt;
         steps = answers.steps;
         goes_on = answers.goes_on;
@@ -205,16 +218,15 @@ module _ {P : Type 0} {g : Ghosts P} {h : StepperGhosts (ServiceStepper P g) Ser
         reply = λ total book told stands. tt;
         standing = answers.standing;
         moments = λ total book told stands. other_moments line total book old.stepper.service.sessions old.followed.items old.pending.items (its.view old) (its.view new) fails.other (answers.moments total book told stands);
+        reads = answers.reads;
         unchanged = answers.unchanged;
-        disk = λ is. answers.disk (ap (λ (e : ServiceError). Err e) is);
+        idle = answers.idle;
+        disk = answers.disk;
         bad = answers.bad;
         steps = answers.steps;
         goes_on = answers.goes_on;
         total = answers.total;
       }
-
-  no_disk : NoMemory ≡ DiskFault → ⊥
-  no_disk e = cc
 
   -- want of memory, which changes nothing
   pub line_lacks : (line : List ℕ) (old new : Live (ServiceStepper P g) ServiceError h streams) → follows.Stays old new → LineFacts line (Err NoMemory) old new
@@ -226,8 +238,10 @@ module _ {P : Type 0} {g : Ghosts P} {h : StepperGhosts (ServiceStepper P g) Ser
         moments = λ total book told stands.
             let Q : ServiceStepper P g → Type 0 = λ s. Passes (its.view old) (shown.view s.service) (IsBeforeOrAfter (LiveReplied (line_text line)) total (its.state old total book)) (Quiet (its.view old)) in
             subst Q (sym stays.stepper) (passes_none (its.view old) _ _);
+        reads = λ total book told stands. unread_so line old new total book stays.stepper;
         unchanged = unchanged_so (Err NoMemory) _ _ _ rest.unchanged;
-        disk = λ is. absurd (no_disk is);
+        idle = λ none. rest.unchanged;
+        disk = λ is. absurd (lacks_no_disk Frame is);
         bad = tt;
         steps = rest.steps;
         goes_on = rest.goes_on;
@@ -238,9 +252,12 @@ module _ {P : Type 0} {g : Ghosts P} {h : StepperGhosts (ServiceStepper P g) Ser
 
   pub record PushFacts (result : Result (Option Frame) ServiceError) (old new : Live (ServiceStepper P g) ServiceError h streams) : Type 0 where
     pub reply : its.ForBook old (λ total book. IfOk result (λ some. IfSome some (its.AnswersSo Pushed total book old new)))
+    pub fewer : IfOk result (λ some. IfSome some (λ frame. length new.pending.items < length old.pending.items))
     pub standing : its.ForBook old (λ total book. IfErr result IsOutside)
+    pub reads : its.ForBook old (λ total book. its.ReadsNext total book old new)
     pub moments : shown.PassesTo (Now (its.view old)) (its.service old) (its.service new)
     pub unchanged : IsUnchanged (shown.IsTold (its.service old)) (its.view old) (its.view new)
+    pub disk : result ≡ Err DiskFault → HasRisen (its.view old).faults (its.view new).faults
     pub bad : IfErr result (NamesBad (shown.IsTold (its.service new)) (its.view new).size (its.view new).image)
     pub steps : Steps (shown.IsTold (its.service old)) (shown.IsTold (its.service new)) (its.view old) (its.view new)
     pub goes_on : GoesOn (shown.under (its.service old)) (shown.under (its.service new))
@@ -252,9 +269,14 @@ module _ {P : Type 0} {g : Ghosts P} {h : StepperGhosts (ServiceStepper P g) Ser
       let rest = rests_so old new stays.stepper in
       record {
         reply = λ total book told stands. tt;
+        fewer = tt;
         standing = λ total book told stands. tt;
+        reads = λ total book told stands.
+            let Q : ServiceStepper P g → Type 0 = λ s. ReadsPush old.pending.items (shown.state old.stepper.service total book) (its.view old).reads (shown.view s.service).reads in
+            subst Q (sym stays.stepper) (unread_push old.pending.items (shown.state old.stepper.service total book) (its.view old).reads);
         moments = let Q : ServiceStepper P g → Type 0 = λ s. Passes (its.view old) (shown.view s.service) (Now (its.view old)) (Quiet (its.view old)) in subst Q (sym stays.stepper) (passes_none (its.view old) _ _);
         unchanged = rest.unchanged;
+        disk = λ is. absurd (never_fails (Option Frame) None DiskFault is);
         bad = tt;
         steps = rest.steps;
         goes_on = rest.goes_on;
@@ -268,6 +290,16 @@ module _ {P : Type 0} {g : Ghosts P} {h : StepperGhosts (ServiceStepper P g) Ser
       let viewed : IsTrue (has_view session (h.sessions old.stepper)) = subst V first old.viewed 0 session (omega arith) in
       let S : List Session → Type 0 = λ ss. IsTrue (has_view session ss) in
       last_there (last_of (session_of session old.stepper.service.sessions)) (subst S (m.sessions old.stepper) viewed)
+
+  -- a push reads as its zoom
+  push_reads : Means → (answer : Result Frame ServiceError) (old new : Live (ServiceStepper P g) ServiceError h streams) → follows.Repeats answer old new → its.ForBook old (λ total book. its.ReadsNext total book old new)
+  push_reads m answer old new repeated = λ total book told stands.
+      let session = repeated.session in
+      let repeats = m.repeats old.stepper session answer new.stepper repeated.repeat in
+      let viewed = pending_view m old session new.pending.items repeated.first in
+      let R : Option ViewSpec → Type 0 = λ o. IfSome o (λ last. shown.ForBook old.stepper.service (λ total book. ReadsFew (own_zoom session last) book old.stepper.service.sessions (its.view old).reads (its.view new).reads)) in
+      let N : List ℕ → Type 0 = λ l. ReadsPush l (shown.state old.stepper.service total book) (its.view old).reads (its.view new).reads in
+      subst N (sym repeated.first) (subst R viewed.1 repeats.reads total book told stands)
 
   -- it is made
   pub one_pushed : Means → (frame : Frame) (old new : Live (ServiceStepper P g) ServiceError h streams) → follows.Pushes frame old new → PushFacts (Ok (Some frame)) old new
@@ -292,9 +324,12 @@ module _ {P : Type 0} {g : Ghosts P} {h : StepperGhosts (ServiceStepper P g) Ser
                 followed_same = pushes.followed_same;
               };
             };
+        fewer = one_fewer session old.pending.items new.pending.items pushes.repeated.first;
         standing = λ total book told stands. tt;
+        reads = push_reads m (Ok frame) old new pushes.repeated;
         moments = repeats.moments;
         unchanged = repeats.idle;
+        disk = λ is. absurd (never_fails (Option Frame) (Some frame) DiskFault is);
         bad = tt;
         steps = repeats.steps;
         goes_on = repeats.goes_on;
@@ -304,12 +339,18 @@ module _ {P : Type 0} {g : Ghosts P} {h : StepperGhosts (ServiceStepper P g) Ser
   -- it failed
   pub push_failed : Means → (error : ServiceError) (old new : Live (ServiceStepper P g) ServiceError h streams) → follows.FailsToPush error old new → PushFacts (Err error) old new
   push_failed m error old new fails =
-      let repeats = m.repeats old.stepper fails.repeated.session (Err error) new.stepper fails.repeated.repeat in
+      let session = fails.repeated.session in
+      let repeats = m.repeats old.stepper session (Err error) new.stepper fails.repeated.repeat in
+      let viewed = pending_view m old session new.pending.items fails.repeated.first in
+      let C : Option ViewSpec → Type 0 = λ o. IfSome o (λ last. IsCause (own_zoom session last) old.stepper.service new.stepper.service error) in
       record {
         reply = λ total book told stands. tt;
+        fewer = tt;
         standing = repeats.standing;
+        reads = push_reads m (Err error) old new fails.repeated;
         moments = repeats.moments;
         unchanged = repeats.idle;
+        disk = λ is. disk_cause (own_zoom session viewed.0) error _ _ _ (its.view old) (its.view new) (subst C viewed.1 repeats.cause) (same_error (Option Frame) error DiskFault is);
         bad = repeats.bad;
         steps = repeats.steps;
         goes_on = repeats.goes_on;

@@ -1,15 +1,19 @@
 -- What a live service's answers are over a plain book.
-use Rattle.std.proofs.Common.{◌≡◌, ℕ, Bool, true, false, if◌then◌else◌, List, [], ◌∷◌, length, Option, None, Some, Result, Ok, Err, IfOk, IfErr, IfSome, refl, sym, ap, ◌∙◌, subst, inl, inr}
-use Rattle.std.specs.Prelude.{nat_lt}
+use Rattle.std.proofs.Common.{◌≡◌, ℕ, Bool, true, false, if◌then◌else◌, List, [], ◌∷◌, length, ◌<◌, Option, None, Some, Result, Ok, Err, IfOk, IfErr, IfSome, refl, sym, ap, ◌∙◌, subst, inl, inr, arith}
+use Rattle.std.specs.Prelude.{nat_lt, slice_get}
+use Rattle.block_disk.specs.Counts.{HasRisen}
 use Rattle.block_disk.specs.View.{Image, View, Now, Only, Passes}
 use Rattle.block_disk.proofs.Passing.{passes_none, passes_weaker}
 use Rattle.chart_frames.specs.declared.frame.Frame.{Frame}
 use Rattle.chart_frames.specs.declared.frame.Frame.TheVariants.{Done, Refused, Opened, Closed, View as ViewOf, Rows, Live as LiveOf}
 use Rattle.chart_service.specs.Replies.{Replied, RepliesToLine, line_text, refused as refused_by, own_zoom}
 use Rattle.chart_service.specs.State.{State}
-use Rattle.chart_service.specs.Stepping.{StandsAfter, IsAfterReply, IsBeforeOrAfter as IsBeforeOrAfterReply, RepliedTo, state_of}
+use Rattle.chart_service.specs.ReadingBlocks.{ReadsLine, ReadsRead}
+use Rattle.chart_service.specs.Stepping.{StandsAfter, IsAfterReply, IsBeforeOrAfter as IsBeforeOrAfterReply, IsStepCause, ReadsFew, ReadsFor, ReadsLast, RepliedTo, series_at, state_of}
+use Rattle.chart_service.specs.declared.failure.ServiceError.{ServiceError}
+use Rattle.chart_service.specs.declared.failure.ServiceError.TheVariants.{DiskFault, Damaged, NoMemory}
 use Rattle.gate_pages.specs.Pages.{Quiet}
-use Rattle.live_service.specs.LiveReplies.{LiveState, LiveReplied, RepliesTo, PassesOn, RefusesLong, AnswersItself, Pushed, changed_in}
+use Rattle.live_service.specs.LiveReplies.{LiveState, LiveReplied, RepliesTo, PassesOn, RefusesLong, AnswersItself, Pushed, ReadsPush, changed_in}
 use Rattle.live_service.specs.Shown.{live_of, IsBeforeOrAfter, IsAfterAnswer}
 use Rattle.live_view.specs.declared.live_lines.LiveLine.{LiveLine}
 use Rattle.live_view.specs.declared.live_lines.LiveLine.TheVariants.{Follow, Unfollow, Bad, Other as OtherLine}
@@ -18,11 +22,15 @@ use Rattle.live_view.specs.declared.meaning.Meaning.TheVariants.{View as ViewMea
 use Rattle.live_view.specs.Lines.{live_line, tokens_ask}
 use Rattle.live_view.specs.Meaning.{meaning_of, meaning_in}
 use Rattle.live_view.specs.Replies.{refused, follow_reply, unfollow_reply, followed_by, ended, still_followed, followers, Changes}
+use Rattle.page_space.specs.declared.superblock.Superblock.{Superblock}
 use Rattle.request_lines.specs.Requests.{read_line}
+use Rattle.request_lines.specs.declared.requests.Request.{Request}
+use Rattle.request_lines.specs.declared.requests.Request.TheVariants as request
 use Rattle.request_lines.specs.Tokens.{tokens}
 use Rattle.series_book.specs.declared.one_series.Series.{Series}
 use Rattle.series_book.specs.declared.refusals.Refusal.TheVariants.{BadLine, LineTooLong}
 use Rattle.series_book.specs.Edits.{id_of}
+use Rattle.series_catalog.specs.declared.stored_series.StoredSeries.{StoredSeries}
 use Rattle.stored_book.specs.Standing.{StandsForBook}
 use Rattle.zoom_session.specs.declared.session.Session.{Session}
 use Rattle.zoom_session.specs.declared.view_spec.ViewSpec.{ViewSpec}
@@ -107,3 +115,59 @@ own_replied line asked frame old new is other replied =
     let L : Option (List ℕ) → Type 0 = λ o. LiveReplied o frame old new in
     let A : LiveLine → Type 0 = λ a. RepliesTo a line frame old new in
     subst L (sym (short_by line asked is other)) (subst A (sym is) replied)
+
+-- ---- nothing is read
+
+unread_for : (w : ℕ) (series : Option Series) (count : ℕ) → ReadsFor w series count count
+unread_for w None count = refl
+unread_for w (Some one) count = omega arith
+
+unread_last : (book : List Series) (last : Option ViewSpec) (count : ℕ) → ReadsLast book last count count
+unread_last book None count = refl
+unread_last book (Some last) count = λ none. unread_for last.grid.w (slice_get book last.series) count
+
+unread_by : (asked : Request) (book : List Series) (ss : List Session) (count : ℕ) → ReadsFew asked book ss count count
+unread_by (request.Edit edit) book ss count = omega arith
+unread_by (request.Open number cache) book ss count = refl
+unread_by (request.View number name w h t0 t1 word None) book ss count = unread_for w (series_at book (id_of name book)) count
+unread_by (request.View number name w h t0 t1 word (Some text)) book ss count = tt
+unread_by (request.Zoom number t0 t1) book ss count = unread_last book (last_of (session_of number ss)) count
+unread_by (request.Pan number by) book ss count = unread_last book (last_of (session_of number ss)) count
+unread_by (request.Close number) book ss count = refl
+
+unread_read : (asked : Result Request ℕ) (state : State) (count : ℕ) → ReadsRead asked state count count
+unread_read (Err at) state count = refl
+unread_read (Ok asked) state count = unread_by asked state.book state.sessions count
+
+-- a line may read nothing
+pub unread : (line : Option (List ℕ)) (state : State) (count : ℕ) → ReadsLine line state count count
+unread None state count = refl
+unread (Some text) state count = unread_read (read_line text) state count
+
+-- and so may a push
+pub unread_push : (pending : List ℕ) (state : State) (count : ℕ) → ReadsPush pending state count count
+unread_push [] state count = refl
+unread_push (session ∷ later) state count = unread_last state.book (last_of (session_of session state.sessions)) count
+
+-- ---- errors
+
+-- a fault of the disk has its cause
+pub disk_cause : (asked : Request) (error : ServiceError) (told : Type 0) (catalog : List StoredSeries) (s : Superblock) (old new : View) → IsStepCause asked error told catalog s old new → error ≡ DiskFault → HasRisen old.faults new.faults
+disk_cause asked DiskFault told catalog s old new cause is = cause
+disk_cause asked (Damaged page) told catalog s old new cause is = cc
+disk_cause asked NoMemory told catalog s old new cause is = cc
+
+pub same_error : (T : Type 0) (one other : ServiceError) → ◌≡◌ {A = Result T ServiceError} (Err one) (Err other) → one ≡ other
+same_error T one other is = cc
+
+pub never_fails : (T : Type 0) (one : T) (error : ServiceError) → ◌≡◌ {A = Result T ServiceError} (Ok one) (Err error) → ⊥
+never_fails T one error is = cc
+
+pub lacks_no_disk : (T : Type 0) → ◌≡◌ {A = Result T ServiceError} (Err NoMemory) (Err DiskFault) → ⊥
+lacks_no_disk T is = cc
+
+-- the first of the numbers is gone
+pub one_fewer : (n : ℕ) (numbers rest : List ℕ) → numbers ≡ n ∷ rest → length rest < length numbers
+one_fewer n numbers rest first =
+    let N : List ℕ → Type 0 = λ l. length rest < length l in
+    subst N (sym first) (omega arith)
