@@ -68,10 +68,10 @@ module _ (lines : List (Option (List ℕ))) (total : ℕ) (old : LiveState) (Rep
   -- while it is made
   pub made_moments : (view view' : View) → Passes view view' (IsBeforeOrAfter Reply total old) (Quiet view) → Through view view' (LinesMoment lines total old (sent_now view))
   made_moments view view' passes = through_by view view' (IsBeforeOrAfter Reply total old) (Quiet view) (LinesMoment lines total old (sent_now view)) passes
-  (λ image count left quiet. elim left [
-    | inl before ↦ none_moment lines total old (sent_now view) image count before quiet
-    | inr after ↦ one_moment after.frame after.after (sent_now view) image count after.replied after.stands (omega (arith, quiet)) (omega (arith, quiet))
-  ])
+      (λ image count left quiet. elim left [
+        | inl before ↦ none_moment lines total old (sent_now view) image count before quiet
+        | inr after ↦ one_moment after.frame after.after (sent_now view) image count after.replied after.stands (omega (arith, quiet)) (omega (arith, quiet))
+      ])
 
   -- while it is sent
   sent_moments : (frame : Frame) (new : LiveState) (from : ℕ) (mid view : View) → Reply frame old new → StandsForBook mid.image total new.state.book → from ≡ sent_now mid → Only mid.image (Now mid) → Passes mid view (Now mid) (λ count. (sent_now mid ≤ count) × (count ≤ sent_now view)) → sent_now view ≤ sent_now mid + length (spelling frame) → Through mid view (LinesMoment lines total old from)

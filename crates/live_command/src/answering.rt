@@ -1,5 +1,5 @@
 //! A line is answered, and the pushes behind it are made: each frame is sent before the next is made.
-ghost use Rattle.std.specs.Prelude.{◌≡◌, ◌≢◌, ◌≤◌, ◌<◌, [], ◌∷◌, Some, None, Err, true, false, length, IfErr, IfOk, OnOk, OnErr};
+ghost use Rattle.std.specs.Prelude.{◌≡◌, ◌≢◌, ◌≤◌, ◌<◌, [], ◌∷◌, Some, None, Err, length, IfErr, IfOk, OnOk, OnErr};
 ghost use Rattle.block_disk.specs.Counts.{HasRisen};
 ghost use Rattle.block_disk.specs.Streams.{sent_after};
 ghost use Rattle.chart_frames.specs.Frames.{Fits, spelling};
@@ -92,26 +92,23 @@ fn answer_frame<P: PageWorld>(
     }
 }
 
-/// Makes the next pending push. It is `false` exactly where none is pending, and then nothing changes.
+/// Makes the next pending push.
 fn send_push<P: PageWorld>(
     alloc: Global,
     live: &mut Live<ServiceStepper<P>>,
-) -> Result<bool, ServeEnd>
-    requires { (its.view live.old).fit }
+) -> Result<(), ServeEnd>
+    requires sound { (its.view live.old).fit }
+    requires some { follows.IsIdle live.old → ⊥ }
     ensures does { ForSound live.old (λ total book. DoesFor P.Streams [] total book result live.old live.new) }
     ensures goes { Goes (side_of P.Streams live.old) (side_of P.Streams live.new) }
     ensures cause { IfErr result (λ e. IsCause e (side_of P.Streams live.old) (side_of P.Streams live.new)) }
     ensures sound { result ≢ Err ServeEnd.DiskFault → (its.view live.new).fit }
     ensures left { P.left (pages live.new) ≡ P.left (pages live.old) }
-    ensures idle { IfOk result (λ more. more ≡ false → follows.IsIdle live.new) }
-    ensures fewer { IfOk result (λ more. more ≡ true → length (follows.pending live.new) < length (follows.pending live.old)) }
+    ensures fewer { OnOk result (length (follows.pending live.new) < length (follows.pending live.old)) }
 {
     match push(live) {
-        Ok(Some(frame)) => match send_frame(alloc, live, &frame) {
-            Ok(()) => Ok(true),
-            Err(end) => Err(end),
-        },
-        Ok(None) => Ok(false),
+        Ok(Some(frame)) => send_frame(alloc, live, &frame),
+        Ok(None) => Ok(()),
         Err(error) => Err(end_of_step(error)),
     }
 }
@@ -129,9 +126,11 @@ fn send_pushes<P: PageWorld>(
     ensures left { P.left (pages live.new) ≡ P.left (pages live.old) }
     ensures idle { OnOk result (follows.IsIdle live.new) }
 {
+    if live.is_idle() {
+        return Ok(());
+    }
     match send_push(alloc, live) {
-        Ok(true) => send_pushes(alloc, live),
-        Ok(false) => Ok(()),
+        Ok(()) => send_pushes(alloc, live),
         Err(end) => Err(end),
     }
 }

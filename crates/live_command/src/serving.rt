@@ -74,14 +74,16 @@ fn answer_lines<P: PageWorld>(
             Ok(answer) => answer,
             Err(fault) => return Err(end_of(fault)),
         };
-        let answered = match answer {
+        match answer {
             LineAnswer::End => return Ok(()),
-            LineAnswer::TooLong => refuse_line(alloc, live),
-            LineAnswer::Line => answer_line(alloc, live, lines.line()),
-        };
-        match answered {
-            Ok(()) => {}
-            Err(end) => return Err(end),
+            LineAnswer::TooLong => match refuse_line(alloc, live) {
+                Ok(()) => {}
+                Err(end) => return Err(end),
+            },
+            LineAnswer::Line => match answer_line(alloc, live, lines.line()) {
+                Ok(()) => {}
+                Err(end) => return Err(end),
+            },
         }
     }
 }

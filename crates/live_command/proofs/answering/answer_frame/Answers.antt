@@ -35,8 +35,8 @@ returns-in-Ok-clause-does g c = λ total book told stands sound.
     let state = held_with total book (held_by old) in
     let Reply = LiveReplied (line_text text) in
     let one = λ f after replied.
-        let L : Option (List ℕ) → Type 0 = λ l. LiveReplied l f state after in
-        by_answer (Some text) f state after c.requires.idle (subst L (text_is text c.requires.short) replied) in
+    let L : Option (List ℕ) → Type 0 = λ l. LiveReplied l f state after in
+    by_answer (Some text) f state after c.requires.idle (subst L (text_is text c.requires.short) replied) in
     let reply = e.reply total book told stands in
     let passes = e.moments total book told stands in
     frame_does (Some text ∷ []) total state Reply one
@@ -60,8 +60,8 @@ returns-in-Err-clause-does g c = λ total book told stands sound.
     let state = held_with total book (held_by old) in
     let Reply = LiveReplied (line_text text) in
     let one = λ f after replied.
-        let L : Option (List ℕ) → Type 0 = λ l. LiveReplied l f state after in
-        by_answer (Some text) f state after c.requires.idle (subst L (text_is text c.requires.short) replied) in
+    let L : Option (List ℕ) → Type 0 = λ l. LiveReplied l f state after in
+    by_answer (Some text) f state after c.requires.idle (subst L (text_is text c.requires.short) replied) in
     let passes = e.moments total book told stands in
     unmade_does (Some text ∷ []) total state (held_by mid) (view at) (view between) (sent at) (sent between) c.in-Err.error c.end_of_step.result c.end_of_step.ensures (e.standing total book told stands)
     (nothing_with c.in-Err.error _ (view at) (view between) total book told e.unchanged stands)
