@@ -8,7 +8,8 @@ use Rattle.chart_service.specs.Moments.{Since}
 use Rattle.disk_store.proofs.Lowered.{holds_closed, lowered_is, lowered_readable}
 use Rattle.disk_store.specs.Held.{HoldsBook}
 use Rattle.disk_store.specs.Openings.{Opens}
-use Rattle.gate_pages.specs.GateLaws.{goes_then}
+use Rattle.chart_service.specs.SentLaws.{sent_none}
+use Rattle.gate_pages.specs.GateLaws.{goes_none, goes_then}
 use Rattle.gate_pages.specs.GatePages.{IsClosed, PagesOf, pages_view}
 use Rattle.gate_pages.specs.Journal.{page_count, pages_of}
 use Rattle.gate_pages.specs.Pages.{GoesOn}
@@ -26,7 +27,7 @@ use Rattle.live_command.specs.Running.{EndsSo, IsAhead, SendsAll, SendsFirst}
 use Rattle.chart_service.specs.declared.failure.ServeEnd.{ServeEnd}
 use Rattle.chart_service.specs.declared.failure.ServeEnd.TheVariants.{ReadFault, SendFault, DiskFault, Damaged, InputTooLong, NoMemory}
 use Rattle.live_service.specs.LiveReplies.{LiveState}
-use Rattle.live_command.proofs.RunLemmas.{Stands, none_ahead}
+use Rattle.live_command.proofs.RunLemmas.{Stands, no_lines, none_ahead}
 
 -- ---- the same of a book that is there otherwise
 
@@ -214,3 +215,31 @@ served_on {T} count old start new left_start left left' before_start before now 
     let D : ℕ → Type 0 = λ n. Served (page_count old.size) start new left left' before now n reads_now sends_start sends_now answer in
     let S : ℕ → Type 0 = λ n. Served (page_count old.size) start new left left' before now reads reads_now n sends_now answer in
     served_opened old start new opens left left' before now reads reads_now sends sends_now answer (subst S same_sends (subst D same_reads (subst B same_sent (subst L same_left (subst C counted s)))))
+
+-- ---- nothing was done
+
+told_each : (o : Option (List ℕ)) (P : List ℕ → Type 0) → ((input : List ℕ) → P input) → IfSome o P
+told_each None P all = tt
+told_each (Some input) P all = all input
+
+-- there was no memory for a service
+pub served_none : {T : Type 0} (count : ℕ) (disk : View) (left before : Option (List ℕ)) (reads sends : ℕ) → Served {T = T} count disk disk left left before before reads reads sends sends (Err NoMemory)
+served_none {T} count disk left before reads sends = record {
+  done = tt;
+  within = tt;
+  stops = told_each left (λ input. StopsAt count disk disk input left before before NoMemory) (λ input total book holds. record {
+    shown = [];
+    more = [];
+    few = omega arith;
+    state = begun_live total book;
+    first = no_lines input (begun_live total book);
+    there = holds;
+    sent = sent_none before;
+  });
+  crash = told_each left (λ input. IfSome before (λ bytes. LeavesLived count input disk disk)) (λ input. told_each before (λ bytes. LeavesLived count input disk disk) (λ bytes total book holds.
+      since_none disk (λ image sent. IsAhead (λ after. RecoversTo count image total after) input (begun_live total book) (sent_now disk) sent)
+      (λ image left. none_ahead (λ after. RecoversTo count image total after) input (begun_live total book) (sent_now disk) (holds.images image left))));
+  cause = tt;
+  goes_on = goes_none disk;
+  faults = omega arith;
+}
