@@ -2,10 +2,8 @@
 use Rattle.std.proofs.Common.{◌≡◌, ℕ, ◌==◌, Bool, true, false, if◌then◌else◌, List, [], ◌∷◌, map, Option, None, Some, refl, sym, ap, ◌∙◌, subst}
 use Rattle.std.specs.Prelude.{⊤}
 use Rattle.std.specs.Option.{option_map}
-use Rattle.line_raster.specs.Canvas.{Canvas}
-use Rattle.chart_client.specs.Accepting.{Accepts, Rejects}
+use Rattle.chart_client.specs.Accepting.{Rejects}
 use Rattle.chart_client.specs.Holdings.{holding_of}
-use Rattle.chart_client.specs.declared.errors.ClientError.{ClientError}
 use Rattle.chart_client.specs.declared.errors.ClientError.TheVariants.{Missing, BadCoefficient, UnknownSession, NoMemory}
 use Rattle.chart_client.specs.declared.holding.Holding.{Holding}
 use Rattle.chart_frames.specs.declared.frame.Frame.{Frame}
@@ -17,10 +15,9 @@ use Rattle.chart_service.specs.State.{State, IsSound}
 use Rattle.drawn_replies.specs.Mirrors.{Mirrors, mirrored, DrawsTheBook, OnlyLacksMemory}
 use Rattle.live_service.specs.LiveReplies.{LiveState, LiveReplied, RepliesTo, AnswersItself}
 use Rattle.live_view.specs.Lines.{live_line}
-use Rattle.live_view.specs.Replies.{refused, too_large, is_too_large, live_bound, follow_view, follow_reply, unfollow_reply}
+use Rattle.live_view.specs.Replies.{too_large, is_too_large, live_bound, follow_view, follow_reply, unfollow_reply}
 use Rattle.live_view.specs.declared.live_lines.LiveLine.{LiveLine}
 use Rattle.live_view.specs.declared.live_lines.LiveLine.TheVariants.{Follow, Unfollow, Bad, Other as OtherLine}
-use Rattle.series_book.specs.declared.refusals.Refusal.TheVariants.{BadLine}
 use Rattle.zoom_session.specs.Sessions.{is_open, session_of}
 use Rattle.zoom_session.specs.declared.session.Session.{Session}
 use Rattle.zoom_session.specs.declared.view_spec.ViewSpec.{ViewSpec}

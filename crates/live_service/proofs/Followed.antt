@@ -10,7 +10,7 @@ use Rattle.chart_grid.specs.declared.axis.Axis.{Axis}
 use Rattle.chart_grid.specs.declared.grid.Grid.{Grid}
 use Rattle.chart_grid.specs.Limits.{IsWindow, IsBadWindow}
 use Rattle.chart_service.proofs.Others.{viewed_others, without_others}
-use Rattle.chart_service.specs.Replies.{Refuses, Edits, Opens, Closes, AnswersBy, Views, ViewsSeries, ViewsId, RepliesToView, RepliesByText, Moves, MovesLast, MovesIn, RepliesTo, line_text, cache_of}
+use Rattle.chart_service.specs.Replies.{Refuses, Edits, Opens, Closes, AnswersBy, ViewsSeries, ViewsId, RepliesToView, RepliesByText, Moves, MovesLast, MovesIn, RepliesTo, line_text, cache_of}
 use Rattle.chart_service.specs.State.{State}
 use Rattle.chart_service.specs.Viewing.{axis_of, range_spec}
 use Rattle.coefficient_cache.specs.Caches.{Cache}
