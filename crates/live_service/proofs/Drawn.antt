@@ -1,26 +1,23 @@
 -- What a client does with the frames that answer lines of live views.
-use Rattle.std.proofs.Common.{◌≡◌, ℕ, Bool, true, false, if◌then◌else◌, List, [], ◌∷◌, map, Option, None, Some, refl, sym, ap, ◌∙◌, subst}
+use Rattle.std.proofs.Common.{◌≡◌, ℕ, ◌==◌, Bool, true, false, if◌then◌else◌, List, [], ◌∷◌, map, Option, None, Some, refl, sym, ap, ◌∙◌, subst}
 use Rattle.std.specs.Prelude.{⊤}
 use Rattle.std.specs.Option.{option_map}
-use Rattle.line_raster.specs.Canvas.{Canvas}
-use Rattle.chart_client.specs.Accepting.{Accepts, Rejects}
+use Rattle.chart_client.specs.Accepting.{Rejects}
 use Rattle.chart_client.specs.Holdings.{holding_of}
-use Rattle.chart_client.specs.declared.errors.ClientError.{ClientError}
 use Rattle.chart_client.specs.declared.errors.ClientError.TheVariants.{Missing, BadCoefficient, UnknownSession, NoMemory}
 use Rattle.chart_client.specs.declared.holding.Holding.{Holding}
 use Rattle.chart_frames.specs.declared.frame.Frame.{Frame}
 use Rattle.chart_frames.specs.declared.frame.Frame.TheVariants.{Done, Refused, Opened, Closed, View as ViewOf, Rows, Live as LiveOf}
 use Rattle.chart_frames.specs.declared.frame.ViewFrame.{ViewFrame}
+use Rattle.chart_service.proofs.Lasts.{somebody}
 use Rattle.chart_service.specs.Replies.{RepliesToLine}
 use Rattle.chart_service.specs.State.{State, IsSound}
-use Rattle.drawn_replies.proofs.Holders.{held, there}
 use Rattle.drawn_replies.specs.Mirrors.{Mirrors, mirrored, DrawsTheBook, OnlyLacksMemory}
 use Rattle.live_service.specs.LiveReplies.{LiveState, LiveReplied, RepliesTo, AnswersItself}
 use Rattle.live_view.specs.Lines.{live_line}
-use Rattle.live_view.specs.Replies.{refused, too_large, is_too_large, live_bound, follow_view, follow_reply, unfollow_reply}
+use Rattle.live_view.specs.Replies.{too_large, is_too_large, live_bound, follow_view, follow_reply, unfollow_reply}
 use Rattle.live_view.specs.declared.live_lines.LiveLine.{LiveLine}
 use Rattle.live_view.specs.declared.live_lines.LiveLine.TheVariants.{Follow, Unfollow, Bad, Other as OtherLine}
-use Rattle.series_book.specs.declared.refusals.Refusal.TheVariants.{BadLine}
 use Rattle.zoom_session.specs.Sessions.{is_open, session_of}
 use Rattle.zoom_session.specs.declared.session.Session.{Session}
 use Rattle.zoom_session.specs.declared.view_spec.ViewSpec.{ViewSpec}
@@ -64,6 +61,15 @@ no_number m is = cc
 no_holding : (holding : Holding) → ◌≡◌ {A = Option Holding} (Some holding) None → ⊥
 no_holding holding is = cc
 
+-- the holding of a session mirrors it
+held_by : (n : ℕ) (s : Session) (ss : List Session) (b : Bool) → (s.number == n) ≡ b → holding_of n (map mirrored ss) ≡ option_map mirrored (session_of n ss) → holding_of n (map mirrored (s ∷ ss)) ≡ option_map mirrored (session_of n (s ∷ ss))
+held_by n s ss true is before = rw is refl
+held_by n s ss false is before = rw is before
+
+held : (n : ℕ) (ss : List Session) → holding_of n (map mirrored ss) ≡ option_map mirrored (session_of n ss)
+held n [] = refl
+held n (s ∷ ss) = held_by n s ss (s.number == n) refl (held n ss)
+
 -- the client holds the session that it names
 is_held : (n m : ℕ) (ss : List Session) (holdings : List Holding) (s : Session) → session_of n ss ≡ Some s → Mirrors ss holdings → Some n ≡ Some m → holding_of m holdings ≡ None → ⊥
 is_held n m ss holdings s open_is mirrors same none =
@@ -106,7 +112,7 @@ follow_aside n (Some s) ss is = view_aside n s ss is s.last
 
 unfollow_aside : (n : ℕ) (b : Bool) (ss : List Session) → is_open n ss ≡ b → IsAside (unfollow_reply n b) ss
 unfollow_aside n false ss is = tt
-unfollow_aside n true ss is = there n ss is
+unfollow_aside n true ss is = somebody n ss is
 
 -- ---- lines
 

@@ -1,5 +1,5 @@
 -- What is said of a live service's calls, by the relations of its stepper.
-use Rattle.std.proofs.Common.{◌≡◌, ℕ, true, List, [], ◌∷◌, IsTrue, Option, None, Some, Result, Ok, Err, IfOk, IfErr, refl, sym, ap, ◌∙◌, subst, inl, inr, arith}
+use Rattle.std.proofs.Common.{◌≡◌, ℕ, true, List, [], ◌∷◌, IsTrue, Option, None, Some, Result, Ok, Err, IfOk, IfErr, refl, sym, ap, ◌∙◌, subst, inr, arith}
 use Rattle.std.specs.Prelude.{IfNone, IfSome, is_some, ◌<◌, length, ◌↔◌}
 use Rattle.block_disk.specs.Counts.{HasRisen}
 use Rattle.block_disk.specs.View.{Now, Passes}
@@ -97,14 +97,14 @@ last_there : (o : Option ViewSpec) → is_some o ≡ true → (last : ViewSpec) 
 last_there None there = cc
 last_there (Some last) there = (last, refl)
 
-module _ {P : Type 0} {g : Ghosts P} {h : StepperGhosts (ServiceStepper P g) ServiceError} {streams : StreamGhosts (ServiceStepper P g)} where
-  -- what the relations of the stepper say
-  pub record Means : Type 0 where
-    pub answers : (old : ServiceStepper P g) (line : List ℕ) (r : Result Frame ServiceError) (new : ServiceStepper P g) → h.replies old line r new → AnswersLine line r old.service new.service
-    pub repeats : (old : ServiceStepper P g) (session : ℕ) (r : Result Frame ServiceError) (new : ServiceStepper P g) → h.repeats old session r new → RepeatsView session r old.service new.service
-    pub names : (it : ServiceStepper P g) (name : List ℕ) (id : Option ℕ) → h.names it name id → shown.ForSoundBook it.service (λ total book. id ≡ id_of name book)
-    pub sessions : (it : ServiceStepper P g) → h.sessions it ≡ it.service.sessions
+-- what the relations of the stepper say
+pub record Means {P : Type 0} {g : Ghosts P} (h : StepperGhosts (ServiceStepper P g) ServiceError) : Type 0 where
+  pub answers : (old : ServiceStepper P g) (line : List ℕ) (r : Result Frame ServiceError) (new : ServiceStepper P g) → h.replies old line r new → AnswersLine line r old.service new.service
+  pub repeats : (old : ServiceStepper P g) (session : ℕ) (r : Result Frame ServiceError) (new : ServiceStepper P g) → h.repeats old session r new → RepeatsView session r old.service new.service
+  pub names : (it : ServiceStepper P g) (name : List ℕ) (id : Option ℕ) → h.names it name id → shown.ForSoundBook it.service (λ total book. id ≡ id_of name book)
+  pub sessions : (it : ServiceStepper P g) → h.sessions it ≡ it.service.sessions
 
+module _ {P : Type 0} {g : Ghosts P} {h : StepperGhosts (ServiceStepper P g) ServiceError} {streams : StreamGhosts (ServiceStepper P g)} where
   -- what is said of a line's answer
   pub record LineFacts (line : List ℕ) (result : Result Frame ServiceError) (old new : Live (ServiceStepper P g) ServiceError h streams) : Type 0 where
     pub reply : its.ForBook old (λ total book. IfOk result (its.AnswersSo (LiveReplied (line_text line)) total book old new))
@@ -154,7 +154,7 @@ module _ {P : Type 0} {g : Ghosts P} {h : StepperGhosts (ServiceStepper P g) Ser
   state_so : (old new : Live (ServiceStepper P g) ServiceError h streams) (total : ℕ) (book : List Series) → new.stepper ≡ old.stepper → (its.state new total book).state ≡ (its.state old total book).state
   state_so old new total book same = ap (λ (s : ServiceStepper P g). state_of book total s.service.sessions) same
 
-  other_facts : Means → (line : List ℕ) (frame : Frame) (old new : Live (ServiceStepper P g) ServiceError h streams) → live_line line ≡ Other → (its.view new).fit → follows.PassesOn line frame old new → LineFacts line (Ok frame) old new
+  other_facts : Means h → (line : List ℕ) (frame : Frame) (old new : Live (ServiceStepper P g) ServiceError h streams) → live_line line ≡ Other → (its.view new).fit → follows.PassesOn line frame old new → LineFacts line (Ok frame) old new
   other_facts m line frame old new asked fit passes =
       let answers = m.answers old.stepper line (Ok frame) new.stepper passes.reply in
       record {
@@ -183,7 +183,7 @@ module _ {P : Type 0} {g : Ghosts P} {h : StepperGhosts (ServiceStepper P g) Ser
       }
 
   -- a line that is answered
-  pub line_answered : Means → (asked : LiveLine) (line : List ℕ) (frame : Frame) (old new : Live (ServiceStepper P g) ServiceError h streams) → live_line line ≡ asked → (its.view new).fit → follows.RepliesTo asked line frame old new → LineFacts line (Ok frame) old new
+  pub line_answered : Means h → (asked : LiveLine) (line : List ℕ) (frame : Frame) (old new : Live (ServiceStepper P g) ServiceError h streams) → live_line line ≡ asked → (its.view new).fit → follows.RepliesTo asked line frame old new → LineFacts line (Ok frame) old new
   line_answered m (Follow n) line frame old new is fit r =
       own_facts line frame (follow_reply n (session_of n old.stepper.service.sessions)) (Follow n) old new is (not_follow n) r.stepper (λ total book.
       own_replied line (Follow n) frame (its.state old total book) (its.state new total book) is (not_follow n) (record {
@@ -211,7 +211,7 @@ module _ {P : Type 0} {g : Ghosts P} {h : StepperGhosts (ServiceStepper P g) Ser
   line_answered m Other line frame old new is fit r = other_facts m line frame old new is fit r
 
   -- a line at which the service failed
-  pub line_failed : Means → (line : List ℕ) (error : ServiceError) (old new : Live (ServiceStepper P g) ServiceError h streams) → follows.FailsAt line error old new → LineFacts line (Err error) old new
+  pub line_failed : Means h → (line : List ℕ) (error : ServiceError) (old new : Live (ServiceStepper P g) ServiceError h streams) → follows.FailsAt line error old new → LineFacts line (Err error) old new
   line_failed m line error old new fails =
       let answers = m.answers old.stepper line (Err error) new.stepper fails.failed in
       record {
@@ -284,7 +284,7 @@ module _ {P : Type 0} {g : Ghosts P} {h : StepperGhosts (ServiceStepper P g) Ser
       }
 
   -- the session of a pending push has had a view
-  pending_view : Means → (old : Live (ServiceStepper P g) ServiceError h streams) (session : ℕ) (rest : List ℕ) → old.pending.items ≡ session ∷ rest → (last : ViewSpec) × (last_of (session_of session old.stepper.service.sessions) ≡ Some last)
+  pending_view : Means h → (old : Live (ServiceStepper P g) ServiceError h streams) (session : ℕ) (rest : List ℕ) → old.pending.items ≡ session ∷ rest → (last : ViewSpec) × (last_of (session_of session old.stepper.service.sessions) ≡ Some last)
   pending_view m old session rest first =
       let V : List ℕ → Type 0 = λ l. HaveViews (h.sessions old.stepper) l in
       let viewed : IsTrue (has_view session (h.sessions old.stepper)) = subst V first old.viewed 0 session (omega arith) in
@@ -292,7 +292,7 @@ module _ {P : Type 0} {g : Ghosts P} {h : StepperGhosts (ServiceStepper P g) Ser
       last_there (last_of (session_of session old.stepper.service.sessions)) (subst S (m.sessions old.stepper) viewed)
 
   -- a push reads as its zoom
-  push_reads : Means → (answer : Result Frame ServiceError) (old new : Live (ServiceStepper P g) ServiceError h streams) → follows.Repeats answer old new → its.ForBook old (λ total book. its.ReadsNext total book old new)
+  push_reads : Means h → (answer : Result Frame ServiceError) (old new : Live (ServiceStepper P g) ServiceError h streams) → follows.Repeats answer old new → its.ForBook old (λ total book. its.ReadsNext total book old new)
   push_reads m answer old new repeated = λ total book told stands.
       let session = repeated.session in
       let repeats = m.repeats old.stepper session answer new.stepper repeated.repeat in
@@ -302,7 +302,7 @@ module _ {P : Type 0} {g : Ghosts P} {h : StepperGhosts (ServiceStepper P g) Ser
       subst N (sym repeated.first) (subst R viewed.1 repeats.reads total book told stands)
 
   -- it is made
-  pub one_pushed : Means → (frame : Frame) (old new : Live (ServiceStepper P g) ServiceError h streams) → follows.Pushes frame old new → PushFacts (Ok (Some frame)) old new
+  pub one_pushed : Means h → (frame : Frame) (old new : Live (ServiceStepper P g) ServiceError h streams) → follows.Pushes frame old new → PushFacts (Ok (Some frame)) old new
   one_pushed m frame old new pushes =
       let session = pushes.repeated.session in
       let repeats = m.repeats old.stepper session (Ok frame) new.stepper pushes.repeated.repeat in
@@ -337,7 +337,7 @@ module _ {P : Type 0} {g : Ghosts P} {h : StepperGhosts (ServiceStepper P g) Ser
       }
 
   -- it failed
-  pub push_failed : Means → (error : ServiceError) (old new : Live (ServiceStepper P g) ServiceError h streams) → follows.FailsToPush error old new → PushFacts (Err error) old new
+  pub push_failed : Means h → (error : ServiceError) (old new : Live (ServiceStepper P g) ServiceError h streams) → follows.FailsToPush error old new → PushFacts (Err error) old new
   push_failed m error old new fails =
       let session = fails.repeated.session in
       let repeats = m.repeats old.stepper session (Err error) new.stepper fails.repeated.repeat in
@@ -358,6 +358,6 @@ module _ {P : Type 0} {g : Ghosts P} {h : StepperGhosts (ServiceStepper P g) Ser
       }
 
   -- a push that is made, or none
-  pub pushed : Means → (some : Option Frame) (old new : Live (ServiceStepper P g) ServiceError h streams) → IfNone some (follows.Stays old new) → IfSome some (λ frame. follows.Pushes frame old new) → PushFacts (Ok some) old new
+  pub pushed : Means h → (some : Option Frame) (old new : Live (ServiceStepper P g) ServiceError h streams) → IfNone some (follows.Stays old new) → IfSome some (λ frame. follows.Pushes frame old new) → PushFacts (Ok some) old new
   pushed m None old new stays pushes = none_pushed old new stays
   pushed m (Some frame) old new stays pushes = one_pushed m frame old new pushes

@@ -1,7 +1,8 @@
 -- Sessions that can follow go on being able to, and their pushes show views.
-use Rattle.std.proofs.Common.{◌≡◌, ◌≢◌, ℕ, ℤ, ◌<◌, ◌≤◌, Bool, true, false, not, ◌==◌, ◌&&◌, if◌then◌else◌, List, [], ◌∷◌, ◌++◌, length, get_or, Option, None, Some, Result, Ok, Err, refl, sym, ap, ◌∙◌, subst, inl, inr, arith, ints}
-use Rattle.std.specs.Prelude.{All, is_none, nat_lt}
+use Rattle.std.proofs.Common.{◌≡◌, ◌≢◌, ℕ, ℤ, ◌<◌, ◌≤◌, Bool, true, false, not, ◌==◌, ◌&&◌, if◌then◌else◌, List, [], ◌∷◌, ◌++◌, length, get_or, Option, None, Some, Result, Ok, Err, refl, sym, ap, ◌∙◌, subst, inl, inr, arith}
+use Rattle.std.specs.Prelude.{All, is_none, nat_lt, slice_get}
 use Rattle.std.proofs.lemmas.Bool.{eqb-true, eq-eqb, both_ways}
+use Rattle.std.proofs.lemmas.Int.{ints}
 use Rattle.std.proofs.lemmas.List.Elements.{All-filter, All-weaker, filter_passes}
 use Rattle.chart_frames.specs.declared.frame.Frame.{Frame}
 use Rattle.chart_frames.specs.declared.frame.Frame.TheVariants.{Done, Refused, Opened, Closed, View as ViewOf, Rows, Live as LiveOf}
@@ -9,11 +10,10 @@ use Rattle.chart_grid.specs.declared.axis.Axis.{Axis}
 use Rattle.chart_grid.specs.declared.grid.Grid.{Grid}
 use Rattle.chart_grid.specs.Limits.{IsWindow, IsBadWindow}
 use Rattle.chart_service.proofs.Others.{viewed_others, without_others}
-use Rattle.chart_service.specs.Replies.{Refuses, Edits, Opens, Closes, AnswersBy, Moves, MovesLast, MovesIn, RepliesTo, line_text, cache_of}
+use Rattle.chart_service.specs.Replies.{Refuses, Edits, Opens, Closes, AnswersBy, ViewsSeries, ViewsId, RepliesToView, RepliesByText, Moves, MovesLast, MovesIn, RepliesTo, line_text, cache_of}
 use Rattle.chart_service.specs.State.{State}
-use Rattle.chart_service.specs.Viewing.{axis_of}
+use Rattle.chart_service.specs.Viewing.{axis_of, range_spec}
 use Rattle.coefficient_cache.specs.Caches.{Cache}
-use Rattle.drawn_replies.proofs.Steps.{Step, replies}
 use Rattle.live_service.specs.Following.{CanFollow, FollowsWell, ShowsView}
 use Rattle.live_service.specs.LiveReplies.{LiveState, LiveReplied, RepliesTo as LiveTo, AnswersItself, PassesOn, Pushed, changed_in}
 use Rattle.live_view.proofs.NumberLemmas.{with-all, rest-all, first-of-all}
@@ -29,11 +29,13 @@ use Rattle.live_view.specs.declared.meaning.Meaning.TheVariants.{View as ViewMea
 use Rattle.om3_coeff.specs.declared.coef.Coef.{Coef}
 use Rattle.om3_coeff.specs.declared.key.Key.{Key}
 use Rattle.request_lines.specs.Requests.{read_line}
+use Rattle.request_lines.specs.declared.ranges.RangeWord.{RangeWord}
 use Rattle.request_lines.specs.declared.requests.Request.{Request}
 use Rattle.request_lines.specs.declared.requests.Request.TheVariants.{Edit, Open, View, Zoom, Pan, Close}
-use Rattle.series_book.specs.Edits.{Edited, apply}
+use Rattle.series_book.specs.Edits.{Edited, apply, id_of}
 use Rattle.series_book.specs.declared.one_series.Series.{Series}
 use Rattle.series_book.specs.declared.refusals.Refusal.{Refusal}
+use Rattle.value_filter.specs.Steps.{postfix}
 use Rattle.value_filter.specs.declared.steps.Step.{Step as FilterStep}
 use Rattle.zoom_session.specs.Plans.{AreNeeded as NeededBy}
 use Rattle.zoom_session.specs.Sessions.{is_open, session_of, last_of, open_refusal, without, viewed, after_view, list_after}
@@ -167,27 +169,46 @@ closed n true number meaning frame old new o goes_on c =
     (kept n old.sessions (without number old.sessions) (without_others n number old.sessions (λ e. goes_on (ends ∙ ap (λ k. Some k) (sym e)))) c)
 
 -- an answered view ends the following of its session
-viewed_anew : (n : ℕ) (frame : Frame) (old new : State) → Step frame old new → (ended ViewMeant frame ≡ Some n → ⊥) → CanFollow old.sessions n → CanFollow new.sessions n
-viewed_anew n frame old new (inl quiet) goes_on c = same_sessions n old.sessions new.sessions quiet.sessions c
-viewed_anew n frame old new (inr (inl o)) goes_on c = same_sessions n _ new.sessions o.sessions (opened_more n old.sessions _ c)
-viewed_anew n frame old new (inr (inr (inl o))) goes_on c =
-    let ends : ended ViewMeant frame ≡ Some o.number = ap (ended ViewMeant) o.is in
-    same_sessions n (without o.number old.sessions) new.sessions o.sessions
-    (kept n old.sessions (without o.number old.sessions) (without_others n o.number old.sessions (λ e. goes_on (ends ∙ ap (λ k. Some k) (sym e)))) c)
-viewed_anew n frame old new (inr (inr (inr (inl v)))) goes_on c =
-    let ends : ended ViewMeant frame ≡ Some v.number = ap (ended ViewMeant) v.answers.frame_is in
-    same_sessions n (viewed v.number v.spec (Some v.answers.needed) old.sessions) new.sessions (ap (λ (s : State). s.sessions) v.answers.state)
-    (kept n old.sessions _ (viewed_others n v.number v.spec (Some v.answers.needed) old.sessions (λ e. goes_on (ends ∙ ap (λ k. Some k) (sym e)))) c)
-viewed_anew n frame old new (inr (inr (inr (inr r)))) goes_on c =
-    let ends : ended ViewMeant frame ≡ Some r.number = ap (ended ViewMeant) r.answers.frame_is in
-    same_sessions n (viewed r.number r.spec None old.sessions) new.sessions (ap (λ (s : State). s.sessions) r.answers.state)
-    (kept n old.sessions _ (viewed_others n r.number r.spec None old.sessions (λ e. goes_on (ends ∙ ap (λ k. Some k) (sym e)))) c)
+viewed_stays : (n number : ℕ) (spec : ViewSpec) (needed : Needed) (old new : State) → new.sessions ≡ viewed number spec needed old.sessions → (number ≡ n → ⊥) → CanFollow old.sessions n → CanFollow new.sessions n
+viewed_stays n number spec needed old new is other c =
+    same_sessions n (viewed number spec needed old.sessions) new.sessions is (kept n old.sessions (viewed number spec needed old.sessions) (viewed_others n number spec needed old.sessions (λ e. other (sym e))) c)
+
+answered_anew : (n number : ℕ) (f : Option (List FilterStep)) (series : Series) (spec : ViewSpec) (frame : Frame) (old new : State) → (ended ViewMeant frame ≡ Some n → ⊥) → CanFollow old.sessions n → AnswersBy f series spec number frame old new → CanFollow new.sessions n
+answered_anew n number None series spec frame old new goes_on c (inl many) = refused_stays n _ frame old new many.refuses c
+answered_anew n number None series spec frame old new goes_on c (inr a) =
+    let ends : ended ViewMeant frame ≡ Some number = ap (λ x. ended ViewMeant x) a.frame_is in
+    viewed_stays n number spec (Some a.needed) old new (ap (λ (s : State). s.sessions) a.state) (λ e. goes_on (ends ∙ ap (λ k. Some k) e)) c
+answered_anew n number (Some steps) series spec frame old new goes_on c a =
+    let ends : ended ViewMeant frame ≡ Some number = ap (λ x. ended ViewMeant x) a.frame_is in
+    viewed_stays n number spec None old new (ap (λ (s : State). s.sessions) a.state) (λ e. goes_on (ends ∙ ap (λ k. Some k) e)) c
+
+series_anew : (n number : ℕ) (o : Option Series) (id w h : ℕ) (t0 t1 : ℤ) (word : RangeWord) (f : Option (List FilterStep)) (frame : Frame) (old new : State) → (ended ViewMeant frame ≡ Some n → ⊥) → CanFollow old.sessions n → ViewsSeries o id number w h t0 t1 word f frame old new → CanFollow new.sessions n
+series_anew n number None id w h t0 t1 word f frame old new goes_on c r = refused_stays n _ frame old new r c
+series_anew n number (Some series) id w h t0 t1 word f frame old new goes_on c (inl r) = refused_stays n _ frame old new r.1 c
+series_anew n number (Some series) id w h t0 t1 word f frame old new goes_on c (inr (inl r)) = refused_stays n _ frame old new r.2 c
+series_anew n number (Some series) id w h t0 t1 word f frame old new goes_on c (inr (inr (inl r))) = refused_stays n _ frame old new r.4 c
+series_anew n number (Some series) id w h t0 t1 word f frame old new goes_on c (inr (inr (inr r))) =
+    answered_anew n number f series (record { series = id; grid = r.4.grid; range = range_spec word; filter = f }) frame old new goes_on c r.4.view
+
+id_anew : (n number : ℕ) (o : Option ℕ) (w h : ℕ) (t0 t1 : ℤ) (word : RangeWord) (f : Option (List FilterStep)) (frame : Frame) (old new : State) → (ended ViewMeant frame ≡ Some n → ⊥) → CanFollow old.sessions n → ViewsId o number w h t0 t1 word f frame old new → CanFollow new.sessions n
+id_anew n number None w h t0 t1 word f frame old new goes_on c r = refused_stays n _ frame old new r c
+id_anew n number (Some id) w h t0 t1 word f frame old new goes_on c r = series_anew n number (slice_get old.book id) id w h t0 t1 word f frame old new goes_on c r
+
+open_anew : (n number : ℕ) (b : Bool) (name : List ℕ) (w h : ℕ) (t0 t1 : ℤ) (word : RangeWord) (f : Option (List FilterStep)) (frame : Frame) (old new : State) → (ended ViewMeant frame ≡ Some n → ⊥) → CanFollow old.sessions n → RepliesToView b number name w h t0 t1 word f frame old new → CanFollow new.sessions n
+open_anew n number false name w h t0 t1 word f frame old new goes_on c r = refused_stays n _ frame old new r c
+open_anew n number true name w h t0 t1 word f frame old new goes_on c r = id_anew n number (id_of name old.book) w h t0 t1 word f frame old new goes_on c r
+
+viewed_anew : (n number : ℕ) (text : Option (List ℕ)) (name : List ℕ) (w h : ℕ) (t0 t1 : ℤ) (word : RangeWord) (frame : Frame) (old new : State) → (ended ViewMeant frame ≡ Some n → ⊥) → CanFollow old.sessions n
+    → RepliesByText text (λ f. RepliesToView (is_open number old.sessions) number name w h t0 t1 word f frame old new) frame old new → CanFollow new.sessions n
+viewed_anew n number None name w h t0 t1 word frame old new goes_on c r = open_anew n number (is_open number old.sessions) name w h t0 t1 word None frame old new goes_on c r
+viewed_anew n number (Some text) name w h t0 t1 word frame old new goes_on c (inl bad) = refused_stays n _ frame old new bad.2 c
+viewed_anew n number (Some text) name w h t0 t1 word frame old new goes_on c (inr good) = open_anew n number (is_open number old.sessions) name w h t0 t1 word (Some (postfix good.0)) frame old new goes_on c good.2
 
 replied_stays : (n : ℕ) (r : Result Request ℕ) (frame : Frame) (old new : State) → RepliesTo r frame old new → (ended (meaning_in r) frame ≡ Some n → ⊥) → CanFollow old.sessions n → CanFollow new.sessions n
 replied_stays n (Err at) frame old new r goes_on c = refused_stays n _ frame old new r c
 replied_stays n (Ok (Edit edit)) frame old new r goes_on c = edited n (apply old.book old.total edit) frame old new r c
 replied_stays n (Ok (Open number cache)) frame old new r goes_on c = opened n (open_refusal old.sessions number (cache_of cache)) number (cache_of cache) frame old new r c
-replied_stays n (Ok (View number name w h t0 t1 word text)) frame old new r goes_on c = viewed_anew n frame old new (replies (View number name w h t0 t1 word text) frame old new r) goes_on c
+replied_stays n (Ok (View number name w h t0 t1 word text)) frame old new r goes_on c = viewed_anew n number text name w h t0 t1 word frame old new goes_on c r
 replied_stays n (Ok (Zoom number t0 t1)) frame old new r goes_on c = moved n number (session_of number old.sessions) _ frame old new refl r c
 replied_stays n (Ok (Pan number by)) frame old new r goes_on c = moved n number (session_of number old.sessions) _ frame old new refl r c
 replied_stays n (Ok (Close number)) frame old new r goes_on c = closed n (is_open number old.sessions) number (meaning_in (Ok (Close number))) frame old new r goes_on c

@@ -1,40 +1,39 @@
 -- What a live service's answers are over a plain book.
-use Rattle.std.proofs.Common.{◌≡◌, ℕ, Bool, true, false, if◌then◌else◌, List, [], ◌∷◌, length, ◌<◌, Option, None, Some, Result, Ok, Err, IfOk, IfErr, IfSome, refl, sym, ap, ◌∙◌, subst, inl, inr, arith}
+use Rattle.std.proofs.Common.{◌≡◌, ℕ, Bool, true, false, if◌then◌else◌, List, [], ◌∷◌, length, ◌<◌, Option, None, Some, Result, Ok, Err, refl, sym, ap, ◌∙◌, subst, inl, inr, arith}
 use Rattle.std.specs.Prelude.{nat_lt, slice_get}
 use Rattle.block_disk.specs.Counts.{HasRisen}
-use Rattle.block_disk.specs.View.{Image, View, Now, Only, Passes}
-use Rattle.block_disk.proofs.Passing.{passes_none, passes_weaker}
+use Rattle.block_disk.specs.View.{Image, View, Passes}
+use Rattle.block_disk.proofs.Passing.{passes_weaker}
 use Rattle.chart_frames.specs.declared.frame.Frame.{Frame}
 use Rattle.chart_frames.specs.declared.frame.Frame.TheVariants.{Done, Refused, Opened, Closed, View as ViewOf, Rows, Live as LiveOf}
-use Rattle.chart_service.specs.Replies.{Replied, RepliesToLine, line_text, refused as refused_by, own_zoom}
+use Rattle.chart_service.specs.Replies.{Replied, line_text, refused as refused_by}
 use Rattle.chart_service.specs.State.{State}
 use Rattle.chart_service.specs.ReadingBlocks.{ReadsLine, ReadsRead}
-use Rattle.chart_service.specs.Stepping.{StandsAfter, IsAfterReply, IsBeforeOrAfter as IsBeforeOrAfterReply, IsStepCause, ReadsFew, ReadsFor, ReadsLast, RepliedTo, series_at, state_of}
+use Rattle.chart_service.specs.Stepping.{IsBeforeOrAfter as IsBeforeOrAfterReply, IsStepCause, ReadsFew, ReadsFor, ReadsLast, series_at, state_of}
 use Rattle.chart_service.specs.declared.failure.ServiceError.{ServiceError}
 use Rattle.chart_service.specs.declared.failure.ServiceError.TheVariants.{DiskFault, Damaged, NoMemory}
 use Rattle.gate_pages.specs.Pages.{Quiet}
-use Rattle.live_service.specs.LiveReplies.{LiveState, LiveReplied, RepliesTo, PassesOn, RefusesLong, AnswersItself, Pushed, ReadsPush, changed_in}
-use Rattle.live_service.specs.Shown.{live_of, IsBeforeOrAfter, IsAfterAnswer}
+use Rattle.live_service.specs.LiveReplies.{LiveState, LiveReplied, RepliesTo, ReadsPush, changed_in}
+use Rattle.live_service.specs.Shown.{live_of, IsBeforeOrAfter}
 use Rattle.live_view.specs.declared.live_lines.LiveLine.{LiveLine}
-use Rattle.live_view.specs.declared.live_lines.LiveLine.TheVariants.{Follow, Unfollow, Bad, Other as OtherLine}
+use Rattle.live_view.specs.declared.live_lines.LiveLine.TheVariants.{Other as OtherLine}
 use Rattle.live_view.specs.declared.meaning.Meaning.{Meaning}
 use Rattle.live_view.specs.declared.meaning.Meaning.TheVariants.{View as ViewMeant, Edit, Other}
 use Rattle.live_view.specs.Lines.{live_line, tokens_ask}
 use Rattle.live_view.specs.Meaning.{meaning_of, meaning_in}
-use Rattle.live_view.specs.Replies.{refused, follow_reply, unfollow_reply, followed_by, ended, still_followed, followers, Changes}
+use Rattle.live_view.specs.Replies.{ended, still_followed, followers, Changes}
 use Rattle.page_space.specs.declared.superblock.Superblock.{Superblock}
 use Rattle.request_lines.specs.Requests.{read_line}
 use Rattle.request_lines.specs.declared.requests.Request.{Request}
 use Rattle.request_lines.specs.declared.requests.Request.TheVariants as request
 use Rattle.request_lines.specs.Tokens.{tokens}
 use Rattle.series_book.specs.declared.one_series.Series.{Series}
-use Rattle.series_book.specs.declared.refusals.Refusal.TheVariants.{BadLine, LineTooLong}
+use Rattle.series_book.specs.declared.refusals.Refusal.TheVariants.{LineTooLong}
 use Rattle.series_book.specs.Edits.{id_of}
 use Rattle.series_catalog.specs.declared.stored_series.StoredSeries.{StoredSeries}
-use Rattle.stored_book.specs.Standing.{StandsForBook}
 use Rattle.zoom_session.specs.declared.session.Session.{Session}
 use Rattle.zoom_session.specs.declared.view_spec.ViewSpec.{ViewSpec}
-use Rattle.zoom_session.specs.Sessions.{is_open, session_of, last_of}
+use Rattle.zoom_session.specs.Sessions.{session_of, last_of}
 
 -- the series that an edit changed is the one that the book names
 pub changes_in : (book : List Series) (names : List ℕ → Option ℕ → Type 0) (meaning : Meaning) (frame : Frame) (series : Option ℕ) → ((name : List ℕ) (id : Option ℕ) → names name id → id ≡ id_of name book) → Changes names meaning frame series → series ≡ changed_in book meaning frame

@@ -1,15 +1,14 @@
 -- What a service's answer to a line does, and a repeat of a view: all that the contracts of these calls say.
-use Rattle.std.specs.Prelude.{ℕ, ◌≡◌, List, [], Some, Result, Err, IfOk, IfErr, OnOk, OnErr}
+use Rattle.std.specs.Prelude.{ℕ, ◌≡◌, List, [], Some, Result, Err, IfOk, IfErr, OnErr}
 use Rattle.block_disk.specs.Counts.{HasRisen}
 use Rattle.block_disk.specs.View.{Now}
 use Rattle.chart_frames.specs.declared.frame.Frame.{Frame}
-use Rattle.chart_frames.specs.Frames.{Fits}
 use Rattle.gate_pages.specs.Pages.{GoesOn}
 use Rattle.gate_pages.specs.declared.pages.Pages.{Ghosts}
 use Rattle.series_store.specs.Results.{IsUnchanged}
 use Rattle.chart_service.specs.Alone.{session_named}
 use Rattle.chart_service.specs.Called.{AnswersSo, CommitsOnly, ForLast, IsCause, IsCauseOfLine, ReadsFewFor}
-use Rattle.chart_service.specs.Opening.{OpensBy, LosesAtMost, StaysIn}
+use Rattle.chart_service.specs.Opening.{OpensBy, LosesAtMost}
 use Rattle.chart_service.specs.Replies.{Replied, line_text, own_zoom}
 use Rattle.chart_service.specs.Shown as shown
 use Rattle.chart_service.specs.Stepping.{RepliedTo, NamesBad, IsOutside, Steps, ReadsFew}

@@ -1,6 +1,5 @@
 use Rattle.std.proofs.Common.{refl, subst}
 use Rattle.chart_service.specs.declared.failure.ServiceError.{ServiceError}
-use Rattle.chart_service.specs.declared.failure.ServiceError.TheVariants.{NoMemory}
 use Rattle.live_view.specs.Live as follows
 use Rattle.live_view.specs.declared.errors.LiveFault.{LiveFault}
 use Rattle.live_service.proofs.Facts.{pushed, push_failed, none_so, none_failed}
