@@ -1,5 +1,5 @@
 -- A line is answered and its frame is sent, or a push is made; and what comes of several of them.
-use Rattle.std.proofs.Common.{◌≡◌, ◌≢◌, ◌∙◌, ℕ, ◌+◌, ◌≤◌, List, [], ◌∷◌, ◌++◌, length, Option, Some, None, Result, Ok, Err, IfSome, refl, ap, sym, subst, arith, inl, inr, append_assoc, length-append}
+use Rattle.std.proofs.Common.{◌≡◌, ◌≢◌, ◌∙◌, ℕ, ◌+◌, ◌<◌, ◌≤◌, List, [], ◌∷◌, ◌++◌, length, Option, Some, None, Result, Ok, Err, IfSome, refl, ap, sym, subst, arith, inl, inr, append_assoc, length-append}
 use Rattle.std.specs.Prelude.{OnOk, IfErr}
 use Rattle.std.proofs.lemmas.List.{append-nil}
 use Rattle.block_disk.specs.Streams.{sent_after, PartSent}
@@ -9,7 +9,8 @@ use Rattle.chart_frames.specs.Frames.{spelling}
 use Rattle.chart_service.specs.MomentLaws.{through_none, through_by, through_so, through_then}
 use Rattle.chart_service.specs.Moments.{Through}
 use Rattle.chart_service.specs.SentLaws.{sent_none}
-use Rattle.chart_service.specs.Serving.{end_of_step}
+use Rattle.chart_service.specs.Serving.{end_of_step, unless_empty}
+use Rattle.chart_world.specs.LineLaws.{said, says_text}
 use Rattle.chart_service.specs.State.{IsSound}
 use Rattle.chart_service.specs.Stepping.{IsOutside, IsUnchangedFor, state_of}
 use Rattle.chart_service.specs.declared.failure.ServeEnd.{ServeEnd}
@@ -298,3 +299,14 @@ still_does {T} v total book held held' at new before now same_held same same_sen
     let H : Held → Type 0 = λ x. DoesLines {T = T} [] total (held_with total book held) (Ok v) at at x before now in
     let N : Option (List ℕ) → Type 0 = λ x. DoesLines {T = T} [] total (held_with total book held) (Ok v) at at held before x in
     subst V (sym same) (subst H (sym same_held) (subst N (sym same_sent) (none_does v total book held at before stands sound)))
+
+-- ---- a line that may be empty
+
+pub line_empty : {T : Type 0} (v : T) (text : List ℕ) (total : ℕ) (book : List Series) (held : Held) (at : View) (before : Option (List ℕ)) → length text ≡ 0 → StandsForBook at.image total book → IsSound (state_of book total held.sessions) → DoesLines {T = T} (unless_empty (Some text)) total (held_with total book held) (Ok v) at at held before before
+line_empty {T} v [] total book held at before none stands sound = none_does v total book held at before stands sound
+line_empty {T} v (byte ∷ bytes) total book held at before none stands sound = absurd (omega (arith, none))
+
+pub line_some : {T : Type 0} (text : List ℕ) (total : ℕ) (old : LiveState) (result : Result T ServeEnd) (view view' : View) (held : Held) (before now : Option (List ℕ)) → 0 < length text → DoesLines (Some text ∷ []) total old result view view' held before now → DoesLines (unless_empty (Some text)) total old result view view' held before now
+line_some {T} text total old result view view' held before now some does =
+    let P : List (Option (List ℕ)) → Type 0 = λ l. DoesLines l total old result view view' held before now in
+    subst P (sym (said (Some text) (says_text text some))) does

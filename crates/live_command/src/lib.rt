@@ -11,8 +11,6 @@
 mod answering;
 mod command;
 mod serving;
-#[cfg(test)]
-mod trial;
 
 pub use command::live;
 pub use serving::serve_live;
