@@ -26,7 +26,10 @@ use Rattle.live_command.specs.Ending.{IsEndCause, StopsAt, Served}
 use Rattle.live_command.specs.Running.{EndsSo, IsAhead, SendsAll, SendsFirst}
 use Rattle.chart_service.specs.declared.failure.ServeEnd.{ServeEnd}
 use Rattle.chart_service.specs.declared.failure.ServeEnd.TheVariants.{ReadFault, SendFault, DiskFault, Damaged, InputTooLong, NoMemory}
+use Rattle.chart_service.specs.Stepping.{state_of}
 use Rattle.live_service.specs.LiveReplies.{LiveState}
+use Rattle.live_service.specs.Shown.{live_of}
+use Rattle.zoom_session.specs.declared.session.Session.{Session}
 use Rattle.live_command.proofs.RunLemmas.{Stands, no_lines, none_ahead}
 
 -- ---- the same of a book that is there otherwise
@@ -203,6 +206,29 @@ module _ (count count' : ℕ) (sound sound' : Bool) (old new : View) (same : cou
     goes_on = goes;
     faults = faults;
   }
+
+-- the same from the state on that a service without sessions begins with
+module _ (count count' : ℕ) (sound sound' : Bool) (old new : View) (same : count' ≡ count) (told : Honest old → Honest new) (goes : GoesOn old new) (reads reads_now sends sends_now : ℕ) (state : ℕ → List Series → LiveState) (begins : (total : ℕ) (book : List Series) → state total book ≡ begun_live total book) where
+  pub served_from : {T : Type 0} (answer : Result T ServeEnd) (left left' before now : Option (List ℕ))
+      → ((total : ℕ) (book : List Series) → Honest old → StandsForBook (pages_of count old.image) total book → OnOk answer (IfSome left (λ input. SendsAll (Stands total (pages_of count' new.image)) input (state total book) before now)))
+      → OnOk answer (IfSome left (λ input. length input ≤ 2 ^ 32))
+      → ((total : ℕ) (book : List Series) → Honest old → StandsForBook (pages_of count old.image) total book → IfErr answer (λ end. IfSome left (λ input. EndsSo (Stands total (pages_of count' new.image)) input (state total book) left' before now end)))
+      → ((total : ℕ) (book : List Series) → Honest old → StandsForBook (pages_of count old.image) total book → IfSome left (λ input. IfSome before (λ bytes. Since (pages_view count sound old) (pages_view count' sound' new) (λ pages sent. IsAhead (λ after. StandsForBook pages total after) input (state total book) (sent_now (pages_view count sound old)) sent))))
+      → IfErr answer (λ end. IsCause end (disk_side count sound old reads sends) (disk_side count' sound' new reads_now sends_now))
+      → (answer ≢ Err DiskFault → IsClosed new) → old.faults ≤ new.faults → Served count old new left left' before now reads reads_now sends sends_now answer
+  served_from {T} answer left left' before now done within stops crash cause closed faults =
+      let Done : ℕ → LiveState → Type 0 = λ total s. OnOk answer (IfSome left (λ input. SendsAll (Stands total (pages_of count' new.image)) input s before now)) in
+      let Stops : ℕ → LiveState → Type 0 = λ total s. IfErr answer (λ end. IfSome left (λ input. EndsSo (Stands total (pages_of count' new.image)) input s left' before now end)) in
+      let Lasts : ℕ → LiveState → Type 0 = λ total s. IfSome left (λ input. IfSome before (λ bytes. Since (pages_view count sound old) (pages_view count' sound' new) (λ pages sent. IsAhead (λ after. StandsForBook pages total after) input s (sent_now (pages_view count sound old)) sent))) in
+      served_by count count' sound sound' old new same told goes reads reads_now sends sends_now answer left left' before now
+      (λ total book honest stands. let P : LiveState → Type 0 = Done total in subst P (begins total book) (done total book honest stands)) within
+      (λ total book honest stands. let P : LiveState → Type 0 = Stops total in subst P (begins total book) (stops total book honest stands))
+      (λ total book honest stands. let P : LiveState → Type 0 = Lasts total in subst P (begins total book) (crash total book honest stands)) cause closed faults
+
+-- a service without sessions, by which no one is followed
+pub begins_so : (total : ℕ) (book : List Series) (sessions : List Session) (followed pending : List ℕ) → sessions ≡ [] → followed ≡ [] → pending ≡ [] → live_of (state_of book total sessions) followed pending ≡ begun_live total book
+begins_so total book sessions followed pending none none_followed none_pending =
+    ap (λ s. live_of (state_of book total s) followed pending) none ∙ ap (λ f. live_of (state_of book total []) f pending) none_followed ∙ ap (λ p. live_of (state_of book total []) [] p) none_pending
 
 -- the same of a store that was opened
 pub served_on : {T : Type 0} (count : ℕ) (old start new : View) (left_start left left' before_start before now : Option (List ℕ)) (reads_start reads reads_now sends_start sends sends_now : ℕ) (answer : Result T ServeEnd) → count ≡ page_count old.size → Opens (page_count old.size) old start

@@ -2,5 +2,6 @@ pub mod EventLemmas
 pub mod LineLemmas
 pub mod RunLemmas
 pub mod GoesLemmas
+pub mod LiveShown
 pub mod DiskLemmas
 pub mod StatusLemmas

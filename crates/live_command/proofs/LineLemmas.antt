@@ -180,19 +180,19 @@ push_moments lines total old view view' only stands passes =
 
 -- These lines were answered, and pushes are made from there on.
 module _ (lines : List (Option (List ℕ))) (total : ℕ) (old : LiveState) (image : Image) (held : Held) (before between : Option (List ℕ)) (d : LinesDone lines total old image held before between) where
-  abbrev mid : LiveState
-  mid = held_with total d.book held
+  abbrev reached : LiveState
+  reached = held_with total d.book held
 
-  all_lines : (first : List (Option (List ℕ))) (frames : List Frame) (new : LiveState) → AreFirst [] first → LivesBy first frames mid new → LivesBy lines (d.frames ++ frames) old new
+  all_lines : (first : List (Option (List ℕ))) (frames : List Frame) (new : LiveState) → AreFirst [] first → LivesBy first frames reached new → LivesBy lines (d.frames ++ frames) old new
   all_lines first frames new are_first lives =
       let none : first ≡ [] = elim are_first [ | inl is ↦ is | inr is ↦ is ] in
       let P : List (Option (List ℕ)) → Type 0 = λ l. LivesBy l (d.frames ++ frames) old new in
-      subst P (ap (λ l. lines ++ l) none ∙ append-nil lines) (by_more lines first d.frames frames old mid new d.lives lives)
+      subst P (ap (λ l. lines ++ l) none ∙ append-nil lines) (by_more lines first d.frames frames old reached new d.lives lives)
 
   in_row : (shown more : List Frame) (new : LiveState) → LivesBy lines (d.frames ++ (shown ++ more)) old new → LivesBy lines ((d.frames ++ shown) ++ more) old new
   in_row shown more new lives = let P : List Frame → Type 0 = λ l. LivesBy lines l old new in subst P (sym (append_assoc d.frames shown more)) lives
 
-  then_done : (image' : Image) (held' : Held) (now : Option (List ℕ)) → LinesDone [] total mid image' held' between now → LinesDone lines total old image' held' before now
+  then_done : (image' : Image) (held' : Held) (now : Option (List ℕ)) → LinesDone [] total reached image' held' between now → LinesDone lines total old image' held' before now
   then_done image' held' now e = record {
     frames = d.frames ++ e.frames;
     book = e.book;
@@ -202,7 +202,7 @@ module _ (lines : List (Option (List ℕ))) (total : ℕ) (old : LiveState) (ima
     sent = sent_then d.frames e.frames before between now d.sent e.sent;
   }
 
-  then_stops : (image' : Image) (now : Option (List ℕ)) (end : ServeEnd) → LinesStop [] total mid image' between now end → LinesStop lines total old image' before now end
+  then_stops : (image' : Image) (now : Option (List ℕ)) (end : ServeEnd) → LinesStop [] total reached image' between now end → LinesStop lines total old image' before now end
   then_stops image' now ReadFault s = absurd s
   then_stops image' now SendFault s = record {
     first = lines;
@@ -238,7 +238,7 @@ module _ (lines : List (Option (List ℕ))) (total : ℕ) (old : LiveState) (ima
     sent = sent_then d.frames s.shown before between now d.sent s.sent;
   }
 
-  then_moment : (from from' : ℕ) (image' : Image) (count : ℕ) → from' ≡ from + length (spelled d.frames) → LinesMoment [] total mid from' image' count → LinesMoment lines total old from image' count
+  then_moment : (from from' : ℕ) (image' : Image) (count : ℕ) → from' ≡ from + length (spelled d.frames) → LinesMoment [] total reached from' image' count → LinesMoment lines total old from image' count
   then_moment from from' image' count counted m = record {
     first = lines;
     are_first = inr refl;

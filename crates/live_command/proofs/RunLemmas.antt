@@ -46,7 +46,7 @@ pub record Going (input : List ℕ) (bytes : Option (List ℕ)) (given total : �
 
 -- ---- before the first line
 
-none_told : (at : LiveState) → LivesBy (told []) [] at at
+pub none_told : (at : LiveState) → LivesBy (told []) [] at at
 none_told at = let P : List (Option (List ℕ)) → Type 0 = λ l. LivesBy (filter says l) [] at at in subst P (sym lines_none) (by_none at)
 
 abbrev pub no_lines : (input : List ℕ) (at : LiveState) → FirstLines input [] at at
@@ -77,8 +77,8 @@ goes_kept input bytes given total old image image' held held' before now now' sa
 -- ---- the next line, of which the reader gives the text, or that it is too long
 
 module _ (input : List ℕ) (r r' : Reading) (left left' line : Option (List ℕ)) (gives : Gives r r' left left' line) (early : r'.given ≤ 2 ^ 32) (total : ℕ) (old : LiveState) (image image' : Image) (held : Held) (before now later : Option (List ℕ)) (g : Going input (unread r left) r.given total old image held before now) where
-  abbrev mid : LiveState
-  mid = held_with total g.book held
+  abbrev reached : LiveState
+  reached = held_with total g.book held
 
   it_passes : Passed input g.first.front g.first.rest (unread r' left') r'.given line
   it_passes = passes input g.first.front g.first.rest r r' left left' line g.told_rest g.counted g.first.begins gives
@@ -87,7 +87,7 @@ module _ (input : List ℕ) (r r' : Reading) (left left' line : Option (List ℕ
   told_all = told_more g.first.front (first_piece g.first.rest) line it_passes.whole (piece_line g.first.rest line it_passes.lines_are)
 
   -- with the line
-  abbrev line_first : (frames : List Frame) (new : LiveState) → LivesBy (unless_empty line) frames mid new → FirstLines input (g.frames ++ frames) old new
+  abbrev line_first : (frames : List Frame) (new : LiveState) → LivesBy (unless_empty line) frames reached new → FirstLines input (g.frames ++ frames) old new
   line_first frames new lives =
       let P : List (Option (List ℕ)) → Type 0 = λ l. LivesBy l (g.frames ++ frames) old new in
       record {
@@ -95,11 +95,11 @@ module _ (input : List ℕ) (r r' : Reading) (left left' line : Option (List ℕ
         rest = after_first is_line_feed g.first.rest;
         begins = it_passes.begins;
         early = omega (arith, early, it_passes.counted);
-        lives = subst P (sym told_all) (by_more (told g.first.front) (unless_empty line) g.frames frames old mid new g.first.lives lives);
+        lives = subst P (sym told_all) (by_more (told g.first.front) (unless_empty line) g.frames frames old reached new g.first.lives lives);
       }
 
   -- without it
-  still_first : (frames : List Frame) (new : LiveState) → LivesBy [] frames mid new → FirstLines input (g.frames ++ frames) old new
+  still_first : (frames : List Frame) (new : LiveState) → LivesBy [] frames reached new → FirstLines input (g.frames ++ frames) old new
   still_first frames new lives =
       let P : List (Option (List ℕ)) → Type 0 = λ l. LivesBy l (g.frames ++ frames) old new in
       record {
@@ -107,18 +107,18 @@ module _ (input : List ℕ) (r r' : Reading) (left left' line : Option (List ℕ
         rest = g.first.rest;
         begins = g.first.begins;
         early = g.first.early;
-        lives = subst P (append-nil (told g.first.front)) (by_more (told g.first.front) [] g.frames frames old mid new g.first.lives lives);
+        lives = subst P (append-nil (told g.first.front)) (by_more (told g.first.front) [] g.frames frames old reached new g.first.lives lives);
       }
 
-  some_first : (first : List (Option (List ℕ))) (frames : List Frame) (new : LiveState) → AreFirst (unless_empty line) first → LivesBy first frames mid new → FirstLines input (g.frames ++ frames) old new
-  some_first first frames new (inl none) lives = let P : List (Option (List ℕ)) → Type 0 = λ l. LivesBy l frames mid new in still_first frames new (subst P none lives)
-  some_first first frames new (inr all) lives = let P : List (Option (List ℕ)) → Type 0 = λ l. LivesBy l frames mid new in line_first frames new (subst P all lives)
+  some_first : (first : List (Option (List ℕ))) (frames : List Frame) (new : LiveState) → AreFirst (unless_empty line) first → LivesBy first frames reached new → FirstLines input (g.frames ++ frames) old new
+  some_first first frames new (inl none) lives = let P : List (Option (List ℕ)) → Type 0 = λ l. LivesBy l frames reached new in still_first frames new (subst P none lives)
+  some_first first frames new (inr all) lives = let P : List (Option (List ℕ)) → Type 0 = λ l. LivesBy l frames reached new in line_first frames new (subst P all lives)
 
   in_row : (shown more : List Frame) (new : LiveState) → FirstLines input (g.frames ++ (shown ++ more)) old new → FirstLines input ((g.frames ++ shown) ++ more) old new
   in_row shown more new first = let P : List Frame → Type 0 = λ l. FirstLines input l old new in subst P (sym (append_assoc g.frames shown more)) first
 
   -- it was answered, and the pushes behind it were made
-  pub goes_line : (held' : Held) → LinesDone (unless_empty line) total mid image' held' now later → Going input (unread r' left') r'.given total old image' held' before later
+  pub goes_line : (held' : Held) → LinesDone (unless_empty line) total reached image' held' now later → Going input (unread r' left') r'.given total old image' held' before later
   goes_line held' d = record {
     frames = g.frames ++ d.frames;
     book = d.book;
@@ -131,7 +131,7 @@ module _ (input : List ℕ) (r r' : Reading) (left left' line : Option (List ℕ
   }
 
   -- or wasn't
-  pub line_ends : (end : ServeEnd) (rest : Option (List ℕ)) → LinesStop (unless_empty line) total mid image' now later end → EndsSo (Stands total image') input old rest before later end
+  pub line_ends : (end : ServeEnd) (rest : Option (List ℕ)) → LinesStop (unless_empty line) total reached image' now later end → EndsSo (Stands total image') input old rest before later end
   line_ends ReadFault rest s = absurd s
   line_ends SendFault rest s = record {
     shown = g.frames ++ s.shown;
@@ -162,7 +162,7 @@ module _ (input : List ℕ) (r r' : Reading) (left left' line : Option (List ℕ
   }
 
   -- what a crash leaves meanwhile
-  pub line_ahead : (from from' : ℕ) (at : Image) (count : ℕ) → from' ≡ from + length (spelled g.frames) → LinesMoment (unless_empty line) total mid from' at count → IsAhead (λ after. StandsForBook at total after) input old from count
+  pub line_ahead : (from from' : ℕ) (at : Image) (count : ℕ) → from' ≡ from + length (spelled g.frames) → LinesMoment (unless_empty line) total reached from' at count → IsAhead (λ after. StandsForBook at total after) input old from count
   line_ahead from from' at count counted m = record {
     shown = g.frames ++ m.shown;
     more = m.more;

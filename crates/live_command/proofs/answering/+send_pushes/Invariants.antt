@@ -3,4 +3,4 @@ use Rattle.live_view.specs.Live as follows
 use Rattle.live_command.proofs.answering.+send_pushes.Given as goal
 
 abbrev pub decreases-send_pushes : goal.decreases-send_pushes
-decreases-send_pushes g l = length (follows.pending l.args.live.now)
+decreases-send_pushes g l = length (follows.pending l.live.now)

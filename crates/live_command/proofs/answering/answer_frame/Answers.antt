@@ -2,7 +2,8 @@ use Rattle.std.proofs.Common.{◌∙◌, [], ◌∷◌, List, Option, None, Some
 use Rattle.block_disk.specs.View.{Beside}
 use Rattle.chart_frames.specs.Frames.{spelling}
 use Rattle.chart_frames.specs.declared.frame.Frame.{Frame}
-use Rattle.live_service.specs.LiveReplies.{LiveReplied, Pushed}
+use Rattle.live_service.specs.LiveReplies.{LiveReplied, LiveState, Pushed}
+use Rattle.live_command.specs.Lives.{LivesBy}
 use Rattle.live_service.specs.Shown as its
 use Rattle.chart_service.specs.Shown as shown
 use Rattle.live_command.specs.Doing.{held_by, held_with}
@@ -34,7 +35,7 @@ returns-in-Ok-clause-does g c = λ total book told stands sound.
     let text = c.args.line.now in
     let state = held_with total book (held_by old) in
     let Reply = LiveReplied (line_text text) in
-    let one = λ f after replied.
+    let one : (f : Frame) (after : LiveState) → LiveReplied (line_text text) f state after → LivesBy (Some text ∷ []) (f ∷ []) state after = λ f after replied.
     let L : Option (List ℕ) → Type 0 = λ l. LiveReplied l f state after in
     by_answer (Some text) f state after c.requires.idle (subst L (text_is text c.requires.short) replied) in
     let reply = e.reply total book told stands in
@@ -59,7 +60,7 @@ returns-in-Err-clause-does g c = λ total book told stands sound.
     let text = c.args.line.now in
     let state = held_with total book (held_by old) in
     let Reply = LiveReplied (line_text text) in
-    let one = λ f after replied.
+    let one : (f : Frame) (after : LiveState) → LiveReplied (line_text text) f state after → LivesBy (Some text ∷ []) (f ∷ []) state after = λ f after replied.
     let L : Option (List ℕ) → Type 0 = λ l. LiveReplied l f state after in
     by_answer (Some text) f state after c.requires.idle (subst L (text_is text c.requires.short) replied) in
     let passes = e.moments total book told stands in

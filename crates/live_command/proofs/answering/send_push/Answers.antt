@@ -1,6 +1,8 @@
 use Rattle.std.proofs.Common.{◌∙◌, [], ◌∷◌, List, Option, None, Some, Ok, length, refl, ap, sym, subst, arith, ℕ}
 use Rattle.chart_service.specs.Shown as shown
-use Rattle.live_service.specs.LiveReplies.{LiveReplied, Pushed}
+use Rattle.chart_frames.specs.declared.frame.Frame.{Frame}
+use Rattle.live_service.specs.LiveReplies.{LiveReplied, LiveState, Pushed}
+use Rattle.live_command.specs.Lives.{LivesBy}
 use Rattle.live_service.specs.Shown as its
 use Rattle.live_command.specs.Doing.{held_by, held_with}
 use Rattle.live_command.specs.Shown.{pages}
@@ -29,7 +31,7 @@ returns-in-Ok-Some-clause-does g c = λ total book told stands sound.
     let n = length (spelling frame) in
     let sends = made.beside.changed.store_is.pages_are in
     let state = held_with total book (held_by old) in
-    let one = λ f after pushed. by_push f state after pushed in
+    let one : (f : Frame) (after : LiveState) → Pushed f state after → LivesBy [] (f ∷ []) state after = λ f after pushed. by_push f state after pushed in
     let reply = e.reply total book told stands in
     frame_does [] total state Pushed one
     frame (held_by mid) (held_by new) (held_same _ _ _ _ _ _ made.beside.changed.sessions made.beside.followed_same made.beside.pending_same) reply.book

@@ -48,7 +48,7 @@ returns-in-Err-clause-stops g c = λ total book told stands.
     let same = held_same _ _ _ _ _ _ beside.changed.sessions beside.followed_same beside.pending_same in
     let no = c.in-Err.ensures in
     let state = its.state start total book in
-    let far = far_kept (left first) _ c.lines.lines.given total state (view mid).image (view taken).image (held_by c.lines.live) (held_by c.next.new.from) (sent first) (sent mid) (sent taken) kept.image same c.next.ensures.sent (inv.far total book told stands) in
+    let far = far_kept (left first) (unread c.lines.lines (left mid)) c.lines.lines.given total state (view mid).image (view taken).image (held_by c.lines.live) (held_by c.next.new.from) (sent first) (sent mid) (sent taken) kept.image same c.next.ensures.sent (inv.far total book told stands) in
     let E : _ → Type 0 = λ end. StopSo g.P.Streams total book start c.next.new.from end in
     subst E (sym c.end_of.ensures) (fault_on (left first) total state (view taken).image (held_by c.next.new.from) (sent first) (sent taken) (beside.pending_same ∙ inv.idle) c.lines.lines c.next.new.self (left mid) (left taken) c.in-Err.fault inv.within (λ h. no.read_before (ap Err h)) (λ h. no.past_before (ap Err h)) (λ h. no.past (ap Err h)) no.left_on_err inv.counted no.total far)
 
@@ -63,7 +63,7 @@ returns-in-Err-clause-crash g c = λ total book told stands.
     let taken = pages c.next.new.from in
     let inv = c.lines.invariant in
     let takes = c.next.ensures.beside.changed.store_is.pages_are in
-    lasts_on_take (left first) _ c.lines.lines.given total (its.state start total book) (held_by c.lines.live) (sent first) (sent mid) (view first) (view mid) (view taken) (g.met.P.PageWorld.counts_sent first) (g.met.P.PageWorld.counts_sent mid) (g.met.P.Pages.rests mid inv.sound) (g.met.P.PageWorld.take_passes mid taken takes) (inv.far total book told stands) (inv.lasts total book told stands)
+    lasts_on_take (left first) (unread c.lines.lines (left mid)) c.lines.lines.given total (its.state start total book) (held_by c.lines.live) (sent first) (sent mid) (view first) (view mid) (view taken) (g.met.P.PageWorld.counts_sent first) (g.met.P.PageWorld.counts_sent mid) (g.met.P.Pages.rests mid inv.sound) (g.met.P.PageWorld.take_passes mid taken takes) (inv.far total book told stands) (inv.lasts total book told stands)
 
 pub returns-in-End-clause-done : goal.returns-in-End-clause-done
 returns-in-End-clause-done g c = λ total book told stands.
@@ -80,8 +80,8 @@ returns-in-End-clause-done g c = λ total book told stands.
     let kept = g.met.P.PageWorld.take_keeps mid taken takes in
     let same = held_same _ _ _ _ _ _ beside.changed.sessions beside.followed_same beside.pending_same in
     let state = its.state start total book in
-    let far = far_kept (left first) _ c.lines.lines.given total state (view mid).image (view taken).image (held_by c.lines.live) (held_by c.next.new.from) (sent first) (sent mid) (sent taken) kept.image same c.next.ensures.sent (inv.far total book told stands) in
-    all_on (left first) _ c.lines.lines.given total state (view taken).image (held_by c.next.new.from) (sent first) (sent taken) (beside.pending_same ∙ inv.idle) (c.in-Ok.ensures.end (ap Ok c.in-End.is)) far
+    let far = far_kept (left first) (unread c.lines.lines (left mid)) c.lines.lines.given total state (view mid).image (view taken).image (held_by c.lines.live) (held_by c.next.new.from) (sent first) (sent mid) (sent taken) kept.image same c.next.ensures.sent (inv.far total book told stands) in
+    all_on (left first) (unread c.lines.lines (left mid)) c.lines.lines.given total state (view taken).image (held_by c.next.new.from) (sent first) (sent taken) (beside.pending_same ∙ inv.idle) (c.in-Ok.ensures.end (ap Ok c.in-End.is)) far
 
 pub returns-in-End-clause-within : goal.returns-in-End-clause-within
 returns-in-End-clause-within g c =
@@ -99,10 +99,10 @@ returns-in-End-clause-crash g c = λ total book told stands.
     let taken = pages c.next.new.from in
     let inv = c.lines.invariant in
     let takes = c.next.ensures.beside.changed.store_is.pages_are in
-    lasts_on_take (left first) _ c.lines.lines.given total (its.state start total book) (held_by c.lines.live) (sent first) (sent mid) (view first) (view mid) (view taken) (g.met.P.PageWorld.counts_sent first) (g.met.P.PageWorld.counts_sent mid) (g.met.P.Pages.rests mid inv.sound) (g.met.P.PageWorld.take_passes mid taken takes) (inv.far total book told stands) (inv.lasts total book told stands)
+    lasts_on_take (left first) (unread c.lines.lines (left mid)) c.lines.lines.given total (its.state start total book) (held_by c.lines.live) (sent first) (sent mid) (view first) (view mid) (view taken) (g.met.P.PageWorld.counts_sent first) (g.met.P.PageWorld.counts_sent mid) (g.met.P.Pages.rests mid inv.sound) (g.met.P.PageWorld.take_passes mid taken takes) (inv.far total book told stands) (inv.lasts total book told stands)
 
-pub lines-preserved-in-TooLong : goal.lines-preserved-in-TooLong
-lines-preserved-in-TooLong g c =
+pub lines-preserved-in-Ok-refuse_line : goal.lines-preserved-in-Ok-refuse_line
+lines-preserved-in-Ok-refuse_line g c =
     let view = g.P.Pages.view in
     let left = g.P.Streams.left in
     let sent = g.P.Streams.sent in
@@ -135,16 +135,14 @@ lines-preserved-in-TooLong g c =
       goes = goes_further (side start) (side c.next.new.from) (side c.refuse_line.new.live) goes it.goes;
       far = λ total book told stands.
         let state = its.state start total book in
-        let far = far_kept (left first) _ c.lines.lines.given total state (view mid).image (view taken).image (held_by c.lines.live) (held_by c.next.new.from) (sent first) (sent mid) (sent taken) kept.image same c.next.ensures.sent (inv.far total book told stands) in
-        let does = λ between there sound. it.does total between (goes.is_told told) there sound in
+        let far = far_kept (left first) (unread c.lines.lines (left mid)) c.lines.lines.given total state (view mid).image (view taken).image (held_by c.lines.live) (held_by c.next.new.from) (sent first) (sent mid) (sent taken) kept.image same c.next.ensures.sent (inv.far total book told stands) in
         let F : Option (List ℕ) → Type 0 = λ l. Far (left first) (unread c.next.new.self l) c.next.new.self.given total state (view new).image (held_by c.refuse_line.new.live) (sent first) (sent new) in
-        subst F (sym it.left) (far_line c.lines.lines c.next.new.self (left mid) (left taken) line gives e.within total state (held_by c.next.new.from) (held_by c.refuse_line.new.live) (view taken) (view new) (sent first) (sent taken) (sent new) c.in-Ok-refuse_line.field-0 (left first) does far);
+        subst F (sym it.left) (far_line c.lines.lines c.next.new.self (left mid) (left taken) line gives e.within total state (held_by c.next.new.from) (held_by c.refuse_line.new.live) (view taken) (view new) (sent first) (sent taken) (sent new) c.in-Ok-refuse_line.field-0 (left first) (λ between there sound. it.does total between (goes.is_told told) there sound) far);
       lasts = λ total book told stands.
         let state = its.state start total book in
-        let far = far_kept (left first) _ c.lines.lines.given total state (view mid).image (view taken).image (held_by c.lines.live) (held_by c.next.new.from) (sent first) (sent mid) (sent taken) kept.image same c.next.ensures.sent (inv.far total book told stands) in
-        let does = λ between there sound. it.does total between (goes.is_told told) there sound in
-        let since = lasts_on_take (left first) _ c.lines.lines.given total state (held_by c.lines.live) (sent first) (sent mid) (view first) (view mid) (view taken) (w.counts_sent first) (w.counts_sent mid) (g.met.P.Pages.rests mid inv.sound) (w.take_passes mid taken takes) (inv.far total book told stands) (inv.lasts total book told stands) in
-        lasts_on_line c.lines.lines c.next.new.self (left mid) (left taken) line gives e.within total state (held_by c.next.new.from) (held_by c.refuse_line.new.live) (view taken) (view new) (sent first) (sent taken) (sent new) _ (left first) (view first) (w.counts_sent first) (w.counts_sent taken) does far since;
+        let far = far_kept (left first) (unread c.lines.lines (left mid)) c.lines.lines.given total state (view mid).image (view taken).image (held_by c.lines.live) (held_by c.next.new.from) (sent first) (sent mid) (sent taken) kept.image same c.next.ensures.sent (inv.far total book told stands) in
+        let since = lasts_on_take (left first) (unread c.lines.lines (left mid)) c.lines.lines.given total state (held_by c.lines.live) (sent first) (sent mid) (view first) (view mid) (view taken) (w.counts_sent first) (w.counts_sent mid) (g.met.P.Pages.rests mid inv.sound) (w.take_passes mid taken takes) (inv.far total book told stands) (inv.lasts total book told stands) in
+        lasts_on_line c.lines.lines c.next.new.self (left mid) (left taken) line gives e.within total state (held_by c.next.new.from) (held_by c.refuse_line.new.live) (view taken) (view new) (sent first) (sent taken) (sent new) _ (left first) (view first) (w.counts_sent first) (w.counts_sent taken) (λ between there sound. it.does total between (goes.is_told told) there sound) far since;
     }
 
 pub returns-in-Err-refuse_line-clause-stops : goal.returns-in-Err-refuse_line-clause-stops
@@ -171,9 +169,8 @@ returns-in-Err-refuse_line-clause-stops g c = λ total book told stands.
     let side = side_of g.P.Streams in
     let goes = goes_further (side start) (side c.lines.live) (side c.next.new.from) inv.goes (goes_streams (side c.lines.live) (side c.next.new.from) kept (w.take_told mid taken takes) (w.take_was_told mid taken takes) (w.take_goes_on mid taken takes) c.next.ensures.read_faults (omega (arith, c.next.ensures.send_faults))) in
     let state = its.state start total book in
-    let far = far_kept (left first) _ c.lines.lines.given total state (view mid).image (view taken).image (held_by c.lines.live) (held_by c.next.new.from) (sent first) (sent mid) (sent taken) kept.image same c.next.ensures.sent (inv.far total book told stands) in
-    let does = λ between there sound. it.does total between (goes.is_told told) there sound in
-    line_stops c.lines.lines c.next.new.self (left mid) (left taken) line gives e.within total state (held_by c.next.new.from) (held_by c.refuse_line.new.live) (view taken) (view new) (sent first) (sent taken) (sent new) c.in-Err-refuse_line.end (left first) (left new) does far
+    let far = far_kept (left first) (unread c.lines.lines (left mid)) c.lines.lines.given total state (view mid).image (view taken).image (held_by c.lines.live) (held_by c.next.new.from) (sent first) (sent mid) (sent taken) kept.image same c.next.ensures.sent (inv.far total book told stands) in
+    line_stops c.lines.lines c.next.new.self (left mid) (left taken) line gives e.within total state (held_by c.next.new.from) (held_by c.refuse_line.new.live) (view taken) (view new) (sent first) (sent taken) (sent new) c.in-Err-refuse_line.end (left first) (left new) (λ between there sound. it.does total between (goes.is_told told) there sound) far
 
 pub returns-in-Err-refuse_line-clause-crash : goal.returns-in-Err-refuse_line-clause-crash
 returns-in-Err-refuse_line-clause-crash g c = λ total book told stands.
@@ -199,10 +196,9 @@ returns-in-Err-refuse_line-clause-crash g c = λ total book told stands.
     let side = side_of g.P.Streams in
     let goes = goes_further (side start) (side c.lines.live) (side c.next.new.from) inv.goes (goes_streams (side c.lines.live) (side c.next.new.from) kept (w.take_told mid taken takes) (w.take_was_told mid taken takes) (w.take_goes_on mid taken takes) c.next.ensures.read_faults (omega (arith, c.next.ensures.send_faults))) in
     let state = its.state start total book in
-    let far = far_kept (left first) _ c.lines.lines.given total state (view mid).image (view taken).image (held_by c.lines.live) (held_by c.next.new.from) (sent first) (sent mid) (sent taken) kept.image same c.next.ensures.sent (inv.far total book told stands) in
-    let does = λ between there sound. it.does total between (goes.is_told told) there sound in
-    let since = lasts_on_take (left first) _ c.lines.lines.given total state (held_by c.lines.live) (sent first) (sent mid) (view first) (view mid) (view taken) (w.counts_sent first) (w.counts_sent mid) (g.met.P.Pages.rests mid inv.sound) (w.take_passes mid taken takes) (inv.far total book told stands) (inv.lasts total book told stands) in
-    lasts_on_line c.lines.lines c.next.new.self (left mid) (left taken) line gives e.within total state (held_by c.next.new.from) (held_by c.refuse_line.new.live) (view taken) (view new) (sent first) (sent taken) (sent new) _ (left first) (view first) (w.counts_sent first) (w.counts_sent taken) does far since
+    let far = far_kept (left first) (unread c.lines.lines (left mid)) c.lines.lines.given total state (view mid).image (view taken).image (held_by c.lines.live) (held_by c.next.new.from) (sent first) (sent mid) (sent taken) kept.image same c.next.ensures.sent (inv.far total book told stands) in
+    let since = lasts_on_take (left first) (unread c.lines.lines (left mid)) c.lines.lines.given total state (held_by c.lines.live) (sent first) (sent mid) (view first) (view mid) (view taken) (w.counts_sent first) (w.counts_sent mid) (g.met.P.Pages.rests mid inv.sound) (w.take_passes mid taken takes) (inv.far total book told stands) (inv.lasts total book told stands) in
+    lasts_on_line c.lines.lines c.next.new.self (left mid) (left taken) line gives e.within total state (held_by c.next.new.from) (held_by c.refuse_line.new.live) (view taken) (view new) (sent first) (sent taken) (sent new) _ (left first) (view first) (w.counts_sent first) (w.counts_sent taken) (λ between there sound. it.does total between (goes.is_told told) there sound) far since
 
 pub returns-in-Err-refuse_line-clause-goes : goal.returns-in-Err-refuse_line-clause-goes
 returns-in-Err-refuse_line-clause-goes g c = 
@@ -252,8 +248,8 @@ returns-in-Err-refuse_line-clause-cause g c =
     let goes = goes_further (side start) (side c.lines.live) (side c.next.new.from) inv.goes (goes_streams (side c.lines.live) (side c.next.new.from) kept (w.take_told mid taken takes) (w.take_was_told mid taken takes) (w.take_goes_on mid taken takes) c.next.ensures.read_faults (omega (arith, c.next.ensures.send_faults))) in
     cause_later (side start) (side c.next.new.from) (side c.refuse_line.new.live) c.in-Err-refuse_line.end goes c.in-Err-refuse_line.ensures.cause
 
-pub lines-preserved-in-Line : goal.lines-preserved-in-Line
-lines-preserved-in-Line g c =
+pub lines-preserved : goal.lines-preserved
+lines-preserved g c =
     let view = g.P.Pages.view in
     let left = g.P.Streams.left in
     let sent = g.P.Streams.sent in
@@ -287,16 +283,14 @@ lines-preserved-in-Line g c =
       goes = goes_further (side start) (side c.next.new.from) (side c.answer_line.new.live) goes it.goes;
       far = λ total book told stands.
         let state = its.state start total book in
-        let far = far_kept (left first) _ c.lines.lines.given total state (view mid).image (view taken).image (held_by c.lines.live) (held_by c.next.new.from) (sent first) (sent mid) (sent taken) kept.image same c.next.ensures.sent (inv.far total book told stands) in
-        let does = λ between there sound. it.does total between (goes.is_told told) there sound in
+        let far = far_kept (left first) (unread c.lines.lines (left mid)) c.lines.lines.given total state (view mid).image (view taken).image (held_by c.lines.live) (held_by c.next.new.from) (sent first) (sent mid) (sent taken) kept.image same c.next.ensures.sent (inv.far total book told stands) in
         let F : Option (List ℕ) → Type 0 = λ l. Far (left first) (unread c.next.new.self l) c.next.new.self.given total state (view new).image (held_by c.answer_line.new.live) (sent first) (sent new) in
-        subst F (sym it.left) (far_line c.lines.lines c.next.new.self (left mid) (left taken) line gives e.within total state (held_by c.next.new.from) (held_by c.answer_line.new.live) (view taken) (view new) (sent first) (sent taken) (sent new) c.in-Ok-answer_line.field-0 (left first) does far);
+        subst F (sym it.left) (far_line c.lines.lines c.next.new.self (left mid) (left taken) line gives e.within total state (held_by c.next.new.from) (held_by c.answer_line.new.live) (view taken) (view new) (sent first) (sent taken) (sent new) c.in-Ok-answer_line.field-0 (left first) (λ between there sound. it.does total between (goes.is_told told) there sound) far);
       lasts = λ total book told stands.
         let state = its.state start total book in
-        let far = far_kept (left first) _ c.lines.lines.given total state (view mid).image (view taken).image (held_by c.lines.live) (held_by c.next.new.from) (sent first) (sent mid) (sent taken) kept.image same c.next.ensures.sent (inv.far total book told stands) in
-        let does = λ between there sound. it.does total between (goes.is_told told) there sound in
-        let since = lasts_on_take (left first) _ c.lines.lines.given total state (held_by c.lines.live) (sent first) (sent mid) (view first) (view mid) (view taken) (w.counts_sent first) (w.counts_sent mid) (g.met.P.Pages.rests mid inv.sound) (w.take_passes mid taken takes) (inv.far total book told stands) (inv.lasts total book told stands) in
-        lasts_on_line c.lines.lines c.next.new.self (left mid) (left taken) line gives e.within total state (held_by c.next.new.from) (held_by c.answer_line.new.live) (view taken) (view new) (sent first) (sent taken) (sent new) _ (left first) (view first) (w.counts_sent first) (w.counts_sent taken) does far since;
+        let far = far_kept (left first) (unread c.lines.lines (left mid)) c.lines.lines.given total state (view mid).image (view taken).image (held_by c.lines.live) (held_by c.next.new.from) (sent first) (sent mid) (sent taken) kept.image same c.next.ensures.sent (inv.far total book told stands) in
+        let since = lasts_on_take (left first) (unread c.lines.lines (left mid)) c.lines.lines.given total state (held_by c.lines.live) (sent first) (sent mid) (view first) (view mid) (view taken) (w.counts_sent first) (w.counts_sent mid) (g.met.P.Pages.rests mid inv.sound) (w.take_passes mid taken takes) (inv.far total book told stands) (inv.lasts total book told stands) in
+        lasts_on_line c.lines.lines c.next.new.self (left mid) (left taken) line gives e.within total state (held_by c.next.new.from) (held_by c.answer_line.new.live) (view taken) (view new) (sent first) (sent taken) (sent new) _ (left first) (view first) (w.counts_sent first) (w.counts_sent taken) (λ between there sound. it.does total between (goes.is_told told) there sound) far since;
     }
 
 pub returns-in-Err-answer_line-clause-stops : goal.returns-in-Err-answer_line-clause-stops
@@ -324,9 +318,8 @@ returns-in-Err-answer_line-clause-stops g c = λ total book told stands.
     let side = side_of g.P.Streams in
     let goes = goes_further (side start) (side c.lines.live) (side c.next.new.from) inv.goes (goes_streams (side c.lines.live) (side c.next.new.from) kept (w.take_told mid taken takes) (w.take_was_told mid taken takes) (w.take_goes_on mid taken takes) c.next.ensures.read_faults (omega (arith, c.next.ensures.send_faults))) in
     let state = its.state start total book in
-    let far = far_kept (left first) _ c.lines.lines.given total state (view mid).image (view taken).image (held_by c.lines.live) (held_by c.next.new.from) (sent first) (sent mid) (sent taken) kept.image same c.next.ensures.sent (inv.far total book told stands) in
-    let does = λ between there sound. it.does total between (goes.is_told told) there sound in
-    line_stops c.lines.lines c.next.new.self (left mid) (left taken) line gives e.within total state (held_by c.next.new.from) (held_by c.answer_line.new.live) (view taken) (view new) (sent first) (sent taken) (sent new) c.in-Err-answer_line.end (left first) (left new) does far
+    let far = far_kept (left first) (unread c.lines.lines (left mid)) c.lines.lines.given total state (view mid).image (view taken).image (held_by c.lines.live) (held_by c.next.new.from) (sent first) (sent mid) (sent taken) kept.image same c.next.ensures.sent (inv.far total book told stands) in
+    line_stops c.lines.lines c.next.new.self (left mid) (left taken) line gives e.within total state (held_by c.next.new.from) (held_by c.answer_line.new.live) (view taken) (view new) (sent first) (sent taken) (sent new) c.in-Err-answer_line.end (left first) (left new) (λ between there sound. it.does total between (goes.is_told told) there sound) far
 
 pub returns-in-Err-answer_line-clause-crash : goal.returns-in-Err-answer_line-clause-crash
 returns-in-Err-answer_line-clause-crash g c = λ total book told stands.
@@ -353,10 +346,9 @@ returns-in-Err-answer_line-clause-crash g c = λ total book told stands.
     let side = side_of g.P.Streams in
     let goes = goes_further (side start) (side c.lines.live) (side c.next.new.from) inv.goes (goes_streams (side c.lines.live) (side c.next.new.from) kept (w.take_told mid taken takes) (w.take_was_told mid taken takes) (w.take_goes_on mid taken takes) c.next.ensures.read_faults (omega (arith, c.next.ensures.send_faults))) in
     let state = its.state start total book in
-    let far = far_kept (left first) _ c.lines.lines.given total state (view mid).image (view taken).image (held_by c.lines.live) (held_by c.next.new.from) (sent first) (sent mid) (sent taken) kept.image same c.next.ensures.sent (inv.far total book told stands) in
-    let does = λ between there sound. it.does total between (goes.is_told told) there sound in
-    let since = lasts_on_take (left first) _ c.lines.lines.given total state (held_by c.lines.live) (sent first) (sent mid) (view first) (view mid) (view taken) (w.counts_sent first) (w.counts_sent mid) (g.met.P.Pages.rests mid inv.sound) (w.take_passes mid taken takes) (inv.far total book told stands) (inv.lasts total book told stands) in
-    lasts_on_line c.lines.lines c.next.new.self (left mid) (left taken) line gives e.within total state (held_by c.next.new.from) (held_by c.answer_line.new.live) (view taken) (view new) (sent first) (sent taken) (sent new) _ (left first) (view first) (w.counts_sent first) (w.counts_sent taken) does far since
+    let far = far_kept (left first) (unread c.lines.lines (left mid)) c.lines.lines.given total state (view mid).image (view taken).image (held_by c.lines.live) (held_by c.next.new.from) (sent first) (sent mid) (sent taken) kept.image same c.next.ensures.sent (inv.far total book told stands) in
+    let since = lasts_on_take (left first) (unread c.lines.lines (left mid)) c.lines.lines.given total state (held_by c.lines.live) (sent first) (sent mid) (view first) (view mid) (view taken) (w.counts_sent first) (w.counts_sent mid) (g.met.P.Pages.rests mid inv.sound) (w.take_passes mid taken takes) (inv.far total book told stands) (inv.lasts total book told stands) in
+    lasts_on_line c.lines.lines c.next.new.self (left mid) (left taken) line gives e.within total state (held_by c.next.new.from) (held_by c.answer_line.new.live) (view taken) (view new) (sent first) (sent taken) (sent new) _ (left first) (view first) (w.counts_sent first) (w.counts_sent taken) (λ between there sound. it.does total between (goes.is_told told) there sound) far since
 
 pub returns-in-Err-answer_line-clause-goes : goal.returns-in-Err-answer_line-clause-goes
 returns-in-Err-answer_line-clause-goes g c = 
