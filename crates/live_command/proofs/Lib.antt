@@ -5,3 +5,4 @@ pub mod GoesLemmas
 pub mod LiveShown
 pub mod DiskLemmas
 pub mod StatusLemmas
+pub mod Drawing
