@@ -214,3 +214,18 @@ retain_codes code (suc (suc (suc (suc (suc (suc (suc zero)))))), inside, is) = (
 retain_codes code (suc (suc (suc (suc (suc (suc (suc (suc zero))))))), inside, is) = (10, omega arith, is)
 retain_codes code (suc (suc (suc (suc (suc (suc (suc (suc (suc zero)))))))), inside, is) = (14, omega arith, is)
 retain_codes code (suc (suc (suc (suc (suc (suc (suc (suc (suc (suc k))))))))), inside, is) = absurd (omega (arith, inside))
+
+-- codes of the command `live` are codes of a command
+abbrev pub of_live : List ℕ
+of_live = 0 ∷ 3 ∷ 4 ∷ 5 ∷ 6 ∷ 7 ∷ 9 ∷ 12 ∷ []
+
+pub live_codes : (code : ℕ) → Contains of_live code → Contains (0 ∷ 3 ∷ 4 ∷ 5 ∷ 6 ∷ 7 ∷ 8 ∷ 9 ∷ 10 ∷ 11 ∷ 12 ∷ 13 ∷ 14 ∷ 15 ∷ 17 ∷ []) code
+live_codes code (zero, inside, is) = (0, omega arith, is)
+live_codes code (suc zero, inside, is) = (1, omega arith, is)
+live_codes code (suc (suc zero), inside, is) = (2, omega arith, is)
+live_codes code (suc (suc (suc zero)), inside, is) = (3, omega arith, is)
+live_codes code (suc (suc (suc (suc zero))), inside, is) = (4, omega arith, is)
+live_codes code (suc (suc (suc (suc (suc zero)))), inside, is) = (5, omega arith, is)
+live_codes code (suc (suc (suc (suc (suc (suc zero))))), inside, is) = (7, omega arith, is)
+live_codes code (suc (suc (suc (suc (suc (suc (suc zero)))))), inside, is) = (10, omega arith, is)
+live_codes code (suc (suc (suc (suc (suc (suc (suc (suc k))))))), inside, is) = absurd (omega (arith, inside))

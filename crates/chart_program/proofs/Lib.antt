@@ -22,3 +22,4 @@ pub mod Knowing
 pub mod Statuses
 pub mod InitLemmas
 pub mod RetainEnds
+pub mod LiveEnds

@@ -28,9 +28,8 @@ use Rattle.chart_program.specs.Runs.{AreShown, AreShownFrom, EndsRun, EndsAtBad,
 use Rattle.stored_book.specs.Damage.{IsBadForRequest}
 use Rattle.store_commands.specs.Damaged.{IsDamagedLater}
 use Rattle.chart_program.specs.Served.{Says, Spelled, AreTexts, Faults, AnswersAll, EndsServing, EndsLines, LeavesBooks, IsAheadOn, IsLinesCause, ReadsFrom, SyncsFrom, ServesLines, served}
-use Rattle.store_commands.specs.Books.{OfBook, HoldsAgain}
+use Rattle.store_commands.specs.Books.{OfBook, HoldsAgain, begun}
 use Rattle.store_commands.proofs.HoldsAgain.{again_from}
-use Rattle.store_commands.specs.Books.{begun}
 use Rattle.chart_program.proofs.Counts.{reads_none, syncs_none}
 use Rattle.chart_program.proofs.Lowering.{crash_for, serve_ends, serve_again, text_ends, run_again, leaves_lowered}
 use Rattle.store_commands.proofs.Held.{stands_held, from_book}

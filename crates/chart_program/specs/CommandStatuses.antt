@@ -5,7 +5,7 @@ use Rattle.gate_pages.specs.Journal.{page_count}
 use Rattle.disk_store.specs.Openings.{IsOpeningPlace}
 use Rattle.disk_store.specs.declared.causes.OpeningCause.{OpeningCause}
 use Rattle.program_words.specs.declared.words.Command.{Command}
-use Rattle.program_words.specs.declared.words.Command.TheVariants.{Plot, Load, Demo, Run, Serve, Draw, Init, Check, ListSeries, Export, Retain, Cover}
+use Rattle.program_words.specs.declared.words.Command.TheVariants.{Plot, Load, Demo, Run, Serve, Draw, Init, Check, ListSeries, Export, Retain, Cover, Live}
 use Rattle.store_commands.specs.declared.status.Status.{Status}
 use Rattle.store_commands.specs.Status.{status}
 use Rattle.chart_frames.specs.Frames.{key_number}
@@ -36,6 +36,7 @@ codes_of ListSeries = 0 ∷ 3 ∷ 5 ∷ 6 ∷ 7 ∷ 12 ∷ []
 codes_of (Export name window) = 0 ∷ 3 ∷ 5 ∷ 6 ∷ 7 ∷ 12 ∷ 14 ∷ []
 codes_of Retain = 0 ∷ 3 ∷ 4 ∷ 5 ∷ 6 ∷ 7 ∷ 8 ∷ 9 ∷ 12 ∷ 17 ∷ []
 codes_of (Cover every) = 0 ∷ 3 ∷ 4 ∷ 5 ∷ 8 ∷ 9 ∷ 10 ∷ 11 ∷ 15 ∷ []
+codes_of Live = 0 ∷ 3 ∷ 4 ∷ 5 ∷ 6 ∷ 7 ∷ 9 ∷ 12 ∷ []
 
 -- the command opens the store of the disk, or makes one
 abbrev pub IsOverStore : Command → Type 0
@@ -81,6 +82,7 @@ Bars Run old new left left' before now place = IsBarred (page_count old.size) ne
 Bars Serve old new left left' before now place = IsBarred (page_count old.size) new left left' before now place
 Bars (Export name window) old new left left' before now place = IsDamagedForExport old before now place
 Bars Retain old new left left' before now place = IsBarred (page_count old.size) new left left' before now place
+Bars Live old new left left' before now place = IsBarred (page_count old.size) new left left' before now place
 Bars command old new left left' before now place = now ≡ before
 
 abbrev pub BarsBy : View → View → Status → Command → Option (List ℕ) → Option (List ℕ) → Option (List ℕ) → Option (List ℕ) → Type 0

@@ -12,15 +12,16 @@ use Rattle.chart_frames.specs.declared.frame.Frame.{Frame}
 use Rattle.chart_frames.specs.Frames.{Fits, spelling, key_number}
 use Rattle.chart_client.specs.declared.errors.ClientError.TheVariants as client
 use Rattle.chart_service.specs.State.{State, IsSound}
-use Rattle.chart_service.specs.Serving.{RepliesToAll}
+use Rattle.chart_service.specs.Serving.{RepliesToAll, told}
 use Rattle.gate_pages.specs.Pages.{GoesOn}
 use Rattle.block_disk.specs.Counts.{HasRisen}
 use Rattle.series_book.specs.declared.one_series.Series.{Series}
 use Rattle.disk_store.specs.Held.{HoldsBook}
 use Rattle.drawn_replies.specs.Pictures.{ArePictured, AreOwnPictured, NoneRejected, names}
 use Rattle.program_words.specs.declared.words.Command.{Command}
-use Rattle.program_words.specs.declared.words.Command.TheVariants.{Plot, Load, Demo, Run, Serve, Draw, Init, Check, ListSeries, Export, Retain, Cover}
+use Rattle.program_words.specs.declared.words.Command.TheVariants.{Plot, Load, Demo, Run, Serve, Draw, Init, Check, ListSeries, Export, Retain, Cover, Live}
 use Rattle.draw_command.specs.declared.draw_end.DrawEnd.TheVariants as draw_end
+use Rattle.chart_program.specs.declared.draw_end.DrawEnd.TheVariants as draw_end
 use Rattle.program_words.specs.CommandLine.{plain_words}
 use Rattle.program_words.specs.Words.{AreCommand, ByCommand, IsEvery, Spells}
 use Rattle.store_commands.specs.declared.status.Status.{Status}
@@ -42,10 +43,10 @@ use Rattle.series_load.specs.Ends.{IsAtBad, IsAtRefusal}
 use Rattle.series_load.specs.Sets.{IsNamed}
 use Rattle.series_book.specs.declared.refusals.Refusal.{Refusal}
 use Rattle.stored_book.specs.Damage.{IsBadForEdit, IsBadForRequest}
-use Rattle.chart_service.specs.Serving.{told}
 use Rattle.retention.specs.declared.rule.Rule.{Rule}
 use Rattle.retain_command.specs.Answers.{AreRules}
 use Rattle.retain_command.specs.Retained.{LeavesSwept, RetainsAll, RetainsLines, RetainsPart, RetainsSome, RetainsTaken, RetainsToBad, RetainsToUnknown, RetainsWithin}
+use Rattle.live_command.specs.Ended.{LeavesLived, LivesAll, LivesLines, LivesPart, LivesSome, LivesTaken, LivesWithin}
 use Rattle.store_commands.specs.Damaged.{IsDamagedAtFirst, IsDamagedPlace}
 use Rattle.chart_program.specs.CommandStatuses.{codes_of, IsOverStore, TakesNone, Bars}
 use Rattle.draw_command.specs.Covers.{picture_bytes}
@@ -72,7 +73,7 @@ ForStreams words left sent old new IsSo = ByCommand words (λ command. IsSo comm
 
 -- the first words of the commands that send before they end
 abbrev pub stream_words : List (List ℕ)
-stream_words = codes "run" ∷ codes "serve" ∷ codes "draw" ∷ codes "export" ∷ codes "retain" ∷ codes "cover" ∷ []
+stream_words = codes "run" ∷ codes "serve" ∷ codes "draw" ∷ codes "export" ∷ codes "retain" ∷ codes "cover" ∷ codes "live" ∷ []
 
 -- the words begin with one of these
 abbrev pub BeginStream : List (List ℕ) → Type 0
@@ -93,6 +94,7 @@ SendsAll ListSeries old new input before now = SendsList (page_count old.size) o
 SendsAll (Export name window) old new input before now = ExportsAll name window (page_count old.size) old before now
 SendsAll Retain old new input before now = RetainsAll (page_count old.size) old new input before now
 SendsAll (Cover every) old new input before now = DrawsAll (Some every) input before now
+SendsAll Live old new input before now = LivesAll (page_count old.size) old new input before now
 
 -- the first bytes of the command's output for this input were sent
 abbrev pub SendsPart : Command → View → View → List ℕ → Option (List ℕ) → Option (List ℕ) → Type 0
@@ -108,6 +110,7 @@ SendsPart ListSeries old new input before now = SendsListPart (page_count old.si
 SendsPart (Export name window) old new input before now = ExportsPart name window (page_count old.size) old before now
 SendsPart Retain old new input before now = RetainsPart (page_count old.size) old new input before now
 SendsPart (Cover every) old new input before now = StopsAtFrame (Some every) input before now draw_end.SendFault
+SendsPart Live old new input before now = LivesPart (page_count old.size) old new input before now
 
 -- A take failed, where these bytes were left. A plot has sent nothing, a serving command what answers the
 -- lines taken, `draw` the pictures of the frames taken, and `cover` these and their covers.
@@ -124,6 +127,7 @@ StopsBefore ListSeries old new input before now bytes = ⊥
 StopsBefore (Export name window) old new input before now bytes = ⊥
 StopsBefore Retain old new input before now bytes = RetainsTaken (page_count old.size) old new input (Some bytes) before now
 StopsBefore (Cover every) old new input before now bytes = DrawsTaken (Some every) input bytes before now
+StopsBefore Live old new input before now bytes = LivesTaken (page_count old.size) old new input (Some bytes) before now
 
 -- the same, where the bytes left are told
 abbrev pub StopsWith : Option (List ℕ) → Command → View → View → List ℕ → Option (List ℕ) → Option (List ℕ) → Type 0
@@ -144,6 +148,7 @@ IsCutShort ListSeries old new input before now = now ≡ before
 IsCutShort (Export name window) old new input before now = ExportsPart name window (page_count old.size) old before now
 IsCutShort Retain old new input before now = RetainsSome (page_count old.size) old new input before now
 IsCutShort (Cover every) old new input before now = StopsAtFrame (Some every) input before now draw_end.NoMemory
+IsCutShort Live old new input before now = LivesSome (page_count old.size) old new input before now
 
 -- A call of the disk failed. `init` has sent nothing, a serving command what answers some first lines, and an export a
 -- front of its text.
@@ -160,6 +165,7 @@ StopsAtDisk ListSeries old input before now = now ≡ before
 StopsAtDisk (Export name window) old input before now = ExportsPart name window (page_count old.size) old before now
 StopsAtDisk Retain old input before now = RetainsLines (page_count old.size) old input before now
 StopsAtDisk (Cover every) old input before now = ⊥
+StopsAtDisk Live old input before now = LivesLines (page_count old.size) old input before now
 
 -- The line or the field at this place is the first that isn't in the command's grammar, or the input ends there
 -- within a frame; a serving command answers each line. `draw` has sent the pictures of the frames before, and `cover`
@@ -177,6 +183,7 @@ IsBadInput ListSeries old new input place before now = ⊥
 IsBadInput (Export name window) old new input place before now = ⊥
 IsBadInput Retain old new input place before now = RetainsToBad (page_count old.size) old new input place before now
 IsBadInput (Cover every) old new input place before now = IsCut (Some every) input place before now ⊎ StopsAtFrame (Some every) input before now (draw_end.BadFrame place)
+IsBadInput Live old new input place before now = ⊥
 
 -- A frame's first wanted key that can't be used has no coefficient. That never comes for a `run` whose disk holds a book.
 abbrev pub Lacks : Command → View → List ℕ → ℕ → Option (List ℕ) → Option (List ℕ) → Type 0
@@ -222,6 +229,7 @@ LeavesDisk ListSeries old new = GoesOn old new
 LeavesDisk (Export name window) old new = GoesOn old new
 LeavesDisk Retain old new = GoesOn old new
 LeavesDisk (Cover every) old new = DiskKept old new
+LeavesDisk Live old new = GoesOn old new
 
 -- What a crash leaves at each moment of a serving command: a book with each edit whose answer was sent whole by then, and
 -- with at most 64 edits more. `init`, `check`, `plot`, `draw` and `cover` leave the book as it is.
@@ -234,6 +242,7 @@ Leaves Check input old new = LeavesSame (page_count old.size) old new
 Leaves ListSeries input old new = LeavesSame (page_count old.size) old new
 Leaves (Export name window) input old new = LeavesSame (page_count old.size) old new
 Leaves Retain input old new = LeavesSwept (page_count old.size) input old new
+Leaves Live input old new = LeavesLived (page_count old.size) input old new
 Leaves (Plot w h) input old new = LeavesSame (page_count old.size) old new
 Leaves Draw input old new = LeavesSame (page_count old.size) old new
 Leaves (Cover every) input old new = LeavesSame (page_count old.size) old new
@@ -257,6 +266,7 @@ IsDamaged Check old new place = IsDamagedPlace IsBadForCheck old old place
 IsDamaged ListSeries old new place = IsDamagedAtFirst old place
 IsDamaged (Export name window) old new place = IsDamagedAtFirst old place ⊎ IsBadInTree (page_count old.size) old place
 IsDamaged Retain old new place = IsDamagedPlace IsBadForRequest old new place
+IsDamaged Live old new place = IsDamagedPlace IsBadForRequest old new place
 IsDamaged command old new place = ⊥
 
 -- which never comes where the disk of a serving command holds a book
@@ -269,6 +279,7 @@ IsUndamaged Check old = Never (page_count old.size) old
 IsUndamaged ListSeries old = Never (page_count old.size) old
 IsUndamaged (Export name window) old = Never (page_count old.size) old
 IsUndamaged Retain old = Never (page_count old.size) old
+IsUndamaged Live old = Never (page_count old.size) old
 IsUndamaged command old = ⊥
 
 -- an empty store was made where none was, and a crash now leaves it
@@ -294,6 +305,7 @@ IsTooSmall Check old place = (place ≡ old.size) × (old.size < 128)
 IsTooSmall ListSeries old place = (place ≡ old.size) × (old.size < 128)
 IsTooSmall (Export name window) old place = (place ≡ old.size) × (old.size < 128)
 IsTooSmall Retain old place = (place ≡ old.size) × (old.size < 128)
+IsTooSmall Live old place = (place ≡ old.size) × (old.size < 128)
 IsTooSmall command old place = ⊥
 
 -- there is a store already, in whose page 0 this block is
@@ -319,6 +331,7 @@ IsTooMuch ListSeries old new input place before now = ⊥
 IsTooMuch (Export name window) old new input place before now = ⊥
 IsTooMuch Retain old new input place before now = (place ≡ 2 ^ 32) × RetainsWithin (page_count old.size) old new input before now
 IsTooMuch (Cover every) old new input place before now = (place ≡ 2 ^ 32) × DrawsWithin (Some every) input before now
+IsTooMuch Live old new input place before now = (place ≡ 2 ^ 32) × LivesWithin (page_count old.size) old new input before now
 
 -- A line, which begins at this place, names a series that isn't there. The lines before it were swept and answered.
 abbrev pub IsUnknown : Command → View → View → List ℕ → ℕ → Option (List ℕ) → Option (List ℕ) → Type 0
@@ -390,6 +403,7 @@ IsWithin ListSeries input = ⊤
 IsWithin (Export name window) input = ⊤
 IsWithin Retain input = length input ≤ 2 ^ 32
 IsWithin (Cover every) input = length input ≤ 2 ^ 32
+IsWithin Live input = length input ≤ 2 ^ 32
 
 -- the lines are no more than a serving command takes, its disk holds a book, and no call of the disk failed
 pub record AreLines (old new : View) (input : List ℕ) : Type 0 where
@@ -453,6 +467,7 @@ IsInput ListSeries old new input = StandsOn old new
 IsInput (Export name window) old new input = HoldsNamed name old new
 IsInput Retain old new input = AreRetained old new input
 IsInput (Cover every) old new input = IsFrames input
+IsInput Live old new input = AreLines old new input
 
 -- The words are those of a command, the input is told, and it is good for each command whose words they are.
 pub record HasGoodInput {Z : Type 0} (words : List (String Z)) (left : Option (List ℕ)) (IsGood : Command → List ℕ → Type 0) : Type 0 where
@@ -520,6 +535,7 @@ IsStreaming Draw = ⊤
 IsStreaming (Export name window) = ⊤
 IsStreaming Retain = ⊤
 IsStreaming (Cover every) = ⊤
+IsStreaming Live = ⊤
 IsStreaming command = ⊥
 
 -- the operands of a command are in their ranges

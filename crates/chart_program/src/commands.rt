@@ -26,6 +26,7 @@ use drawn_replies::laws::{
 };
 use empty_store::{InitCause, make_store};
 use program_words::Command;
+use live_command::live;
 use retain_command::retain;
 use std::alloc::Global;
 use store_commands::status::{
@@ -67,6 +68,7 @@ pub(crate) fn status_of_command<W: World>(
             let status = cover_status(alloc, every, &mut world);
             (status, world)
         }
+        Command::Live => live(alloc, world),
     }
 }
 

@@ -42,6 +42,8 @@ pub enum Command {
     Retain,
     /// The pictures of the input's frames, and before that of a view its covers, each after so many coefficients more, 1 to 131,072.
     Cover { every: u32 },
+    /// The frames that answer the input's lines over the store, and those that edits push to sessions that follow them.
+    Live,
 }
 
 /// Why the words aren't taken for a command.
@@ -139,6 +141,8 @@ fn single_word(words: &[&str]) -> Result<Command, u64>
         Ok(Command::ListSeries)
     } else if is_word(words, 0, "retain") {
         Ok(Command::Retain)
+    } else if is_word(words, 0, "live") {
+        Ok(Command::Live)
     } else {
         Err(0)
     }

@@ -1,11 +1,10 @@
 use Rattle.std.proofs.Common.{◌≡◌, ◌≢◌, ◌≤◌, Result, Err, IfSome, refl, sym, ap, ◌∙◌}
 use Rattle.chart_service.proofs.Sending.{error_goes}
-use Rattle.chart_service.proofs.Ends.{error_is}
+use Rattle.chart_service.proofs.Ends.{error_is, on_err}
 use Rattle.chart_program.specs.declared.input.InputEnd.{InputEnd}
 use Rattle.chart_program.specs.declared.plot.PlotEnd.{PlotEnd}
 use Rattle.chart_program.specs.declared.plot.PlotEnd.TheVariants.{Input, SendFault}
 use Rattle.chart_program.specs.Plotted.{EndsPlot}
-use Rattle.chart_service.proofs.Ends.{on_err}
 use Rattle.draw_command.proofs.DiskKept.{stays_taken, stays_sent, stays_then}
 use Rattle.chart_program.proofs.plot.plot.Goals as goal
 

@@ -1,0 +1,79 @@
+-- What calls move, whatever the pages are.
+use Rattle.std.proofs.Common.{◌≡◌, ◌∙◌, ℕ, ◌≤◌, List, Option, refl, ap, sym, subst, arith, inl, inr}
+use Rattle.block_disk.specs.Counts.{HasRisen}
+use Rattle.block_disk.specs.View.{Beside, DiskKept, View}
+use Rattle.chart_service.specs.Serving.{end_of_step}
+use Rattle.chart_service.specs.Stepping.{NamesBad, Steps}
+use Rattle.chart_service.specs.declared.failure.ServeEnd.{ServeEnd}
+use Rattle.chart_service.specs.declared.failure.ServeEnd.TheVariants.{ReadFault, SendFault, DiskFault, Damaged, InputTooLong, NoMemory}
+use Rattle.chart_service.specs.declared.failure.ServiceError.{ServiceError}
+use Rattle.chart_service.specs.declared.failure.ServiceError.TheVariants as step
+use Rattle.gate_pages.specs.GateLaws.{goes_none, goes_then as goes_on_then}
+use Rattle.gate_pages.specs.Pages.{GoesOn}
+use Rattle.zoom_session.specs.declared.session.Session.{Session}
+use Rattle.live_command.specs.Doing.{Goes, Held, IsCause, Side}
+
+pub goes_nowhere : (at : Side) → Goes at at
+goes_nowhere at = record { is_told = λ t. t; was_told = λ t. t; size = refl; faults = omega arith; goes_on = goes_none at.under; reads = omega arith; sends = omega arith }
+
+pub goes_further : (old mid new : Side) → Goes old mid → Goes mid new → Goes old new
+goes_further old mid new first second = record {
+  is_told = λ t. second.is_told (first.is_told t);
+  was_told = λ t. first.was_told (second.was_told t);
+  size = second.size ∙ first.size;
+  faults = omega (arith, first.faults, second.faults);
+  goes_on = goes_on_then old.under mid.under new.under first.goes_on second.goes_on;
+  reads = omega (arith, first.reads, second.reads);
+  sends = omega (arith, first.sends, second.sends);
+}
+
+-- what stands beside the pages are the streams
+pub record AreBeside (at : Side) : Type 0 where
+  pub reads_are : at.view.beside.read_faults ≡ at.read_faults
+  pub sends_are : at.view.beside.send_faults ≡ at.send_faults
+
+-- an answer, and a push
+pub goes_step : (old new : Side) → AreBeside old → AreBeside new → Steps old.told new.told old.view new.view → GoesOn old.under new.under → Goes old new
+goes_step old new was are steps on = record {
+  is_told = steps.told;
+  was_told = steps.was_told;
+  size = steps.size;
+  faults = steps.faults;
+  goes_on = on;
+  reads = omega (arith, sym are.reads_are ∙ ap (λ (b : Beside). b.read_faults) steps.beside ∙ was.reads_are);
+  sends = omega (arith, sym are.sends_are ∙ ap (λ (b : Beside). b.send_faults) steps.beside ∙ was.sends_are);
+}
+
+-- takes and sends
+pub goes_streams : (old new : Side) → DiskKept old.view new.view → (old.told → new.told) → (new.told → old.told) → GoesOn old.under new.under → old.read_faults ≤ new.read_faults → old.send_faults ≤ new.send_faults → Goes old new
+goes_streams old new kept told was_told on reads sends = record { is_told = told; was_told = was_told; size = kept.size; faults = omega (arith, kept.faults); goes_on = on; reads = reads; sends = sends }
+
+risen_since : (old mid new : ℕ) → old ≤ mid → HasRisen mid new → HasRisen old new
+risen_since old mid new low (inl more) = inl (omega (arith, low, more))
+risen_since old mid new low (inr most) = inr most
+
+-- why a later call ended is why all ended
+pub cause_later : (old mid new : Side) (end : ServeEnd) → Goes old mid → IsCause end mid new → IsCause end old new
+cause_later old mid new ReadFault goes is = risen_since old.read_faults mid.read_faults new.read_faults goes.reads is
+cause_later old mid new SendFault goes is = risen_since old.send_faults mid.send_faults new.send_faults goes.sends is
+cause_later old mid new DiskFault goes is = risen_since old.view.faults mid.view.faults new.view.faults goes.faults is
+cause_later old mid new (Damaged page) goes is = is
+cause_later old mid new InputTooLong goes is = tt
+cause_later old mid new NoMemory goes is = tt
+
+-- why an answer or a push failed
+step_cause : (old new : Side) (error : ServiceError) → (error ≡ step.DiskFault → HasRisen old.view.faults new.view.faults) → NamesBad new.told new.view.size new.view.image error → IsCause (end_of_step error) old new
+step_cause old new step.DiskFault disk bad = disk refl
+step_cause old new (step.Damaged page) disk bad = bad
+step_cause old new step.NoMemory disk bad = tt
+
+pub unmade_cause : (old new : Side) (error : ServiceError) (end : ServeEnd) → end ≡ end_of_step error → (error ≡ step.DiskFault → HasRisen old.view.faults new.view.faults) → NamesBad new.told new.view.size new.view.image error → IsCause end old new
+unmade_cause old new error end is disk bad = let P : ServeEnd → Type 0 = λ e. IsCause e old new in subst P (sym is) (step_cause old new error disk bad)
+
+-- what is held beside the pages
+abbrev pub held_of : List Session → List ℕ → List ℕ → Held
+held_of sessions followed pending = record { sessions = sessions; followed = followed; pending = pending }
+
+pub held_same : (sessions sessions' : List Session) (followed followed' pending pending' : List ℕ) → sessions' ≡ sessions → followed' ≡ followed → pending' ≡ pending → held_of sessions' followed' pending' ≡ held_of sessions followed pending
+held_same sessions sessions' followed followed' pending pending' same same_followed same_pending =
+    ap (λ s. held_of s followed' pending') same ∙ ap (λ f. held_of sessions f pending') same_followed ∙ ap (λ p. held_of sessions followed p) same_pending

@@ -1,0 +1,8 @@
+pub mod EventLemmas
+pub mod LineLemmas
+pub mod RunLemmas
+pub mod GoesLemmas
+pub mod LiveShown
+pub mod DiskLemmas
+pub mod StatusLemmas
+pub mod Drawing

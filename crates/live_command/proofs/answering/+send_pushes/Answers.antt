@@ -1,0 +1,30 @@
+use Rattle.std.proofs.Common.{rules, ◌∙◌, [], ◌∷◌, List, Option, None, Some, Ok, length, refl, ap, sym, subst, arith, ℕ}
+use Rattle.chart_service.specs.Shown as shown
+use Rattle.live_service.specs.LiveReplies.{LiveReplied, Pushed}
+use Rattle.live_service.specs.Shown as its
+use Rattle.live_command.specs.Doing.{held_by, held_with}
+use Rattle.live_command.specs.Shown.{pages}
+use Rattle.live_command.proofs.LineLemmas.{still_does, then_does}
+use Rattle.live_command.proofs.answering.+send_pushes.Goals as goal
+
+pub returns-then-is_idle-clause-does : goal.returns-then-is_idle-clause-does
+returns-then-is_idle-clause-does g t c = λ total book told stands sound.
+    let at = pages c.args.live.now in
+    let held = held_by c.args.live.now in
+    still_does _ total book held held (g.P.Pages.view at) (g.P.Pages.view at) (g.P.Streams.sent at) (g.P.Streams.sent at) refl refl refl stands sound
+
+pub send_pushes-requires : goal.send_pushes-requires
+send_pushes-requires g t c κs within = (c.in-Ok.ensures.fewer, (search rules, c.in-Ok.ensures.sound (λ no. cc)))
+
+pub returns-in-Ok-clause-does : goal.returns-in-Ok-clause-does
+returns-in-Ok-clause-does g t c = λ total book told stands sound.
+    let view = g.P.Pages.view in
+    let sent = g.P.Streams.sent in
+    let w = g.met.P.PageWorld in
+    let old = c.args.live.now in
+    let mid = c.send_push.new.live in
+    let new = c.send_pushes.new.live in
+    let first = c.in-Ok.ensures.does total book told stands sound in
+    then_does [] total (held_with total book (held_by old)) (held_by mid) (held_by new) (view (pages old)) (view (pages mid)) (view (pages new)) (sent (pages old)) (sent (pages mid)) (sent (pages new)) first.done
+    (w.counts_sent (pages old)) (w.counts_sent (pages mid)) first.moments c.send_pushes.result
+    (c.send_pushes.ensures.does total first.done.book (c.in-Ok.ensures.goes.is_told told) first.done.stands first.done.sound)

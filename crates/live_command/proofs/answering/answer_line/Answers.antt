@@ -1,0 +1,39 @@
+use Rattle.std.proofs.Common.{◌≡◌, ◌<◌, [], ◌∷◌, Some, length, arith, ℕ}
+use Rattle.std.proofs.lemmas.Grind.{common_steps}
+use Rattle.live_command.specs.Doing.{held_by, held_with}
+use Rattle.live_command.specs.Shown.{pages}
+use Rattle.live_command.proofs.LineLemmas.{line_empty, line_some, then_does}
+use Rattle.live_command.proofs.answering.answer_line.Goals as goal
+
+pub returns-then-is_empty-clause-does : goal.returns-then-is_empty-clause-does
+returns-then-is_empty-clause-does g c = λ total book told stands sound.
+    let at = pages c.args.live.now in
+    let none : length c.args.line.now ≡ 0 = grind (arith, common_steps) in
+    line_empty _ c.args.line.now total book (held_by c.args.live.now) (g.P.Pages.view at) (g.P.Streams.sent at) none stands sound
+
+pub returns-in-Ok-clause-does : goal.returns-in-Ok-clause-does
+returns-in-Ok-clause-does g c = λ total book told stands sound.
+    let view = g.P.Pages.view in
+    let sent = g.P.Streams.sent in
+    let w = g.met.P.PageWorld in
+    let old = c.args.live.now in
+    let mid = c.answer_frame.new.live in
+    let new = c.send_pushes.new.live in
+    let text = c.args.line.now in
+    let some : 0 < length c.args.line.now = grind (arith, common_steps) in
+    let state = held_with total book (held_by old) in
+    let first = c.in-Ok.ensures.does total book told stands sound in
+    line_some text total state c.send_pushes.result (view (pages old)) (view (pages new)) (held_by new) (sent (pages old)) (sent (pages new)) some
+    (then_does (Some text ∷ []) total state (held_by mid) (held_by new) (view (pages old)) (view (pages mid)) (view (pages new)) (sent (pages old)) (sent (pages mid)) (sent (pages new)) first.done
+    (w.counts_sent (pages old)) (w.counts_sent (pages mid)) first.moments c.send_pushes.result
+    (c.send_pushes.ensures.does total first.done.book (c.in-Ok.ensures.goes.is_told told) first.done.stands first.done.sound))
+
+pub returns-in-Err-clause-does : goal.returns-in-Err-clause-does
+returns-in-Err-clause-does g c = λ total book told stands sound.
+    let view = g.P.Pages.view in
+    let sent = g.P.Streams.sent in
+    let old = c.args.live.now in
+    let new = c.answer_frame.new.live in
+    let text = c.args.line.now in
+    let some : 0 < length c.args.line.now = grind (arith, common_steps) in
+    line_some text total (held_with total book (held_by old)) _ (view (pages old)) (view (pages new)) (held_by new) (sent (pages old)) (sent (pages new)) some (c.in-Err.ensures.does total book told stands sound)

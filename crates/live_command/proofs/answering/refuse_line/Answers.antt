@@ -1,0 +1,33 @@
+use Rattle.std.proofs.Common.{◌∙◌, [], ◌∷◌, List, Option, None, Some, length, refl, ap, sym, subst, arith, ℕ}
+use Rattle.block_disk.specs.View.{Beside}
+use Rattle.chart_frames.specs.Frames.{spelling}
+use Rattle.chart_frames.specs.declared.frame.Frame.{Frame}
+use Rattle.live_service.specs.LiveReplies.{LiveReplied, Pushed}
+use Rattle.live_service.specs.Shown as its
+use Rattle.chart_service.specs.Shown as shown
+use Rattle.live_command.specs.Doing.{held_by, held_with}
+use Rattle.live_command.specs.Shown.{pages}
+use Rattle.chart_service.specs.MomentLaws.{through_none}
+use Rattle.live_command.proofs.EventLemmas.{by_answer, long_replied}
+use Rattle.live_command.proofs.GoesLemmas.{held_same}
+use Rattle.live_command.proofs.LineLemmas.{frame_does}
+use Rattle.live_command.proofs.answering.refuse_line.Goals as goal
+
+pub returns-clause-does : goal.returns-clause-does
+returns-clause-does g c = λ total book told stands sound.
+    let view = g.P.Pages.view in
+    let sent = g.P.Streams.sent in
+    let w = g.met.P.PageWorld in
+    let old = c.args.live.now in
+    let new = c.send_frame.new.live in
+    let at = pages old in
+    let at' = pages new in
+    let frame = c.refused.result in
+    let made = c.send_frame.ensures in
+    let n = length (spelling frame) in
+    let sends = made.beside.changed.store_is.pages_are in
+    let state = held_with total book (held_by old) in
+    frame_does (None ∷ []) total state (LiveReplied None) (λ f after replied. by_answer None f state after c.requires.idle replied)
+    frame (held_by old) (held_by new) (held_same _ _ _ _ _ _ made.beside.changed.sessions made.beside.followed_same made.beside.pending_same) book
+    (long_replied frame state c.refused.ensures.frame c.refused.ensures.fits sound c.requires.idle) sound (view at) (view at) (view at') (sent at) (sent at) (sent at') stands (through_none (view at) _) refl refl
+    (w.send_keeps n at at' sends) c.send_frame.result made.whole made.stops (g.met.P.Pages.rests at c.requires.sound) (w.send_passes n at at' sends) (w.send_counts n at at' sends)

@@ -1,0 +1,58 @@
+use Rattle.std.proofs.Common.{◌∙◌, [], ◌∷◌, List, Option, None, Some, Ok, length, refl, ap, sym, subst, arith, ℕ}
+use Rattle.chart_service.specs.Shown as shown
+use Rattle.chart_frames.specs.declared.frame.Frame.{Frame}
+use Rattle.live_service.specs.LiveReplies.{LiveReplied, LiveState, Pushed}
+use Rattle.live_command.specs.Lives.{LivesBy}
+use Rattle.live_service.specs.Shown as its
+use Rattle.live_command.specs.Doing.{held_by, held_with}
+use Rattle.live_command.specs.Shown.{pages}
+use Rattle.block_disk.specs.View.{Beside}
+use Rattle.chart_frames.specs.Frames.{spelling}
+use Rattle.gate_pages.proofs.Moving.{sent_same}
+use Rattle.live_command.proofs.EventLemmas.{by_push, sound_pushed}
+use Rattle.live_command.proofs.GoesLemmas.{held_same}
+use Rattle.live_command.proofs.LineLemmas.{frame_does, nothing_pushed, push_moments, unmade_does}
+use Rattle.live_command.proofs.answering.send_push.Goals as goal
+
+pub returns-in-Ok-Some-clause-does : goal.returns-in-Ok-Some-clause-does
+returns-in-Ok-Some-clause-does g c = λ total book told stands sound.
+    let view = g.P.Pages.view in
+    let sent = g.P.Streams.sent in
+    let w = g.met.P.PageWorld in
+    let old = c.args.live.now in
+    let mid = c.push.new.live in
+    let new = c.send_frame.new.live in
+    let at = pages old in
+    let between = pages mid in
+    let at' = pages new in
+    let frame = c.in-Ok-Some.frame in
+    let e = c.in-Ok-Some.ensures in
+    let made = c.send_frame.ensures in
+    let n = length (spelling frame) in
+    let sends = made.beside.changed.store_is.pages_are in
+    let state = held_with total book (held_by old) in
+    let one : (f : Frame) (after : LiveState) → Pushed f state after → LivesBy [] (f ∷ []) state after = λ f after pushed. by_push f state after pushed in
+    let reply = e.reply total book told stands in
+    frame_does [] total state Pushed one
+    frame (held_by mid) (held_by new) (held_same _ _ _ _ _ _ made.beside.changed.sessions made.beside.followed_same made.beside.pending_same) reply.book
+    reply.so (sound_pushed frame state (held_with total reply.book (held_by mid)) sound reply.so) (view at) (view between) (view at') (sent at) (sent between) (sent at') reply.stands
+    (push_moments [] total state (view at) (view between) (g.met.P.Pages.rests at c.requires.sound) stands e.moments) (sent_same (view at) (view between) _ e.moments)
+    (sym (w.beside_sent between) ∙ ap (λ (b : Beside). b.sent) e.steps.beside ∙ w.beside_sent at)
+    (w.send_keeps n between at' sends) c.send_frame.result made.whole made.stops (g.met.P.Pages.rests between e.sound) (w.send_passes n between at' sends) (w.send_counts n between at' sends)
+
+pub returns-in-Err-clause-does : goal.returns-in-Err-clause-does
+returns-in-Err-clause-does g c = λ total book told stands sound.
+    let view = g.P.Pages.view in
+    let sent = g.P.Streams.sent in
+    let w = g.met.P.PageWorld in
+    let old = c.args.live.now in
+    let mid = c.push.new.live in
+    let at = pages old in
+    let between = pages mid in
+    let e = c.in-Err.ensures in
+    let state = held_with total book (held_by old) in
+    let there = let S : _ → Type 0 = λ i. Rattle.stored_book.specs.Standing.StandsForBook i total book in subst S (sym (e.unchanged.image told)) stands in
+    unmade_does [] total state (held_by mid) (view at) (view between) (sent at) (sent between) c.in-Err.error c.end_of_step.result c.end_of_step.ensures (e.standing total book told stands)
+    (nothing_pushed c.in-Err.error (view between).image total book there)
+    (sym (w.beside_sent between) ∙ ap (λ (b : Beside). b.sent) e.steps.beside ∙ w.beside_sent at)
+    (push_moments [] total state (view at) (view between) (g.met.P.Pages.rests at c.requires.sound) stands e.moments)

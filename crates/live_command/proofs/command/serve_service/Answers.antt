@@ -1,0 +1,46 @@
+use Rattle.std.proofs.Common.{◌≡◌, ◌≢◌, ◌∙◌, ℕ, List, Err, ap, sym, subst}
+use Rattle.std.specs.Prelude.{IsTrue}
+use Rattle.chart_service.specs.Shown as shown
+use Rattle.chart_service.specs.declared.failure.ServeEnd.TheVariants.{DiskFault}
+use Rattle.chart_service.specs.declared.service.Service.{Service}
+use Rattle.gate_pages.specs.GatePages.{IsClosed}
+use Rattle.live_service.specs.Shown as its
+use Rattle.series_book.specs.declared.one_series.Series.{Series}
+use Rattle.store_commands.proofs.Stores.{store_disk, store_sound}
+use Rattle.live_command.specs.Ended.{begun_live}
+use Rattle.live_command.specs.Ending.{Served}
+use Rattle.live_command.proofs.DiskLemmas.{begins_so, served_from}
+use Rattle.live_command.proofs.LiveShown.{begun_service, ended_store}
+use Rattle.live_command.proofs.command.serve_service.Goals as goal
+
+pub returns : goal.returns
+returns g c =
+    let view = g.W.Disk.view in
+    let left = g.W.Streams.left in
+    let sent = g.W.Streams.sent in
+    let reads = g.W.Streams.read_faults in
+    let sends = g.W.Streams.send_faults in
+    let service = c.args.service in
+    let start = c.new-live.result in
+    let after = c.serve_live-answer.new.live in
+    let answer = c.serve_live-answer.result in
+    let made = c.serve_live-answer.ensures in
+    let pages = shown.pages (its.service start) in
+    let end_pages = shown.pages (its.service after) in
+    let disk = pages.disk in
+    let new = end_pages.disk in
+    let store = c.into_store.result in
+    let is_service = begun_service start c.new.result service c.new-live.ensures.stepper c.new.ensures in
+    let is_store = ended_store after c.into_stepper.result c.into_service-service.result store c.into_stepper.ensures c.into_service-service.ensures c.into_store.ensures in
+    let same_disk = c.disk_of.ensures.disk ∙ store_disk store (its.service after).store is_store in
+    let closed : answer ≢ Err DiskFault → IsClosed (view new) = λ other.
+    let P : g.row.W.Denot → Type 0 = λ d. IsClosed (view d) in
+    subst P same_disk (c.disk_of.ensures.rests (subst IsTrue (sym (store_sound store (its.service after).store is_store)) (made.sound other))) in
+    let alone = ap (λ (s : Service _ _). s.sessions) is_service ∙ c.requires.alone in
+    let begins : (total : ℕ) (book : List Series) → its.state start total book ≡ begun_live total book =
+    λ total book. begins_so total book (its.service start).sessions start.followed.items start.pending.items alone c.new-live.ensures.none c.new-live.ensures.idle in
+    let all = served_from pages.count end_pages.count pages.sound end_pages.sound (view disk) (view new) made.goes.size made.goes.is_told made.goes.goes_on (reads disk) (reads new) (sends disk) (sends new) (its.state start) begins
+    answer (left disk) (left new) (sent disk) (sent new) made.done made.within made.stops made.crash made.cause closed made.goes.faults in
+    let D : g.row.W.Denot → Type 0 = λ d. Served pages.count (view disk) (view d) (left disk) (left d) (sent disk) (sent d) (reads disk) (reads d) (sends disk) (sends d) answer in
+    let S : Service _ _ → Type 0 = λ s. Served (shown.pages s).count (view (shown.pages s).disk) (view c.disk_of.result) (left (shown.pages s).disk) (left c.disk_of.result) (sent (shown.pages s).disk) (sent c.disk_of.result) (reads (shown.pages s).disk) (reads c.disk_of.result) (sends (shown.pages s).disk) (sends c.disk_of.result) answer in
+    subst S is_service (subst D (sym same_disk) all)

@@ -1,0 +1,401 @@
+use Rattle.std.proofs.Common.{◌≡◌, ◌∙◌, ℕ, ◌≤◌, List, Option, None, Some, Ok, Err, IsTrue, ◌^◌, length, refl, ap, sym, subst, arith}
+use Rattle.chart_service.specs.Serving.{end_of}
+use Rattle.chart_world.specs.FrontLaws.{gives_by, read_whole, same_line}
+use Rattle.chart_world.specs.Fronts.{Gives}
+use Rattle.chart_world.specs.Reading.{Reading, input_length, unread}
+use Rattle.live_service.specs.Shown as its
+use Rattle.live_command.proofs.GoesLemmas.{cause_later, goes_further, goes_nowhere, goes_streams, held_same}
+use Rattle.live_command.proofs.RunLemmas.{Far, all_on, far_first, far_kept, far_line, fault_on, lasts_on_first, lasts_on_line, lasts_on_take, line_stops}
+use Rattle.live_command.specs.Doing.{held_by, side_of}
+use Rattle.live_command.specs.Shown.{StopSo, pages}
+use Rattle.live_command.proofs.serving.answer_lines.Goals as goal
+
+pub lines-init : goal.lines-init
+lines-init g c =
+    let view = g.P.Pages.view in
+    let old = c.args.live.now in
+    let at = pages old in
+    let o = g.P.Streams.left at in
+    let before = g.P.Streams.sent at in
+    let fresh = c.requires.fresh in
+    let U : Reading → Type 0 = λ r. IsTrue r.usable in
+    record {
+      usable = subst U (sym fresh) refl;
+      counted = omega (arith, ap (λ (r : Reading). r.taken) fresh, ap (λ (r : Reading). r.given) fresh, ap (λ (r : Reading). length r.pending) fresh);
+      within = omega (arith, ap (λ (r : Reading). r.given) fresh);
+      whole = ap (λ (r : Reading). input_length r.taken o) fresh;
+      sound = c.requires.sound;
+      idle = c.requires.idle;
+      goes = goes_nowhere (side_of g.P.Streams old);
+      far = λ total book told stands. far_first o c.args.lines.now total book (view at).image (held_by old) before fresh stands (c.requires.book total book told stands);
+      lasts = λ total book told stands. lasts_on_first total book (held_by old) o before (view at) (g.met.P.Pages.rests at c.requires.sound) stands;
+    }
+
+-- a piece of the input may have been taken
+pub returns-in-Err-clause-stops : goal.returns-in-Err-clause-stops
+returns-in-Err-clause-stops g c = λ total book told stands.
+    let view = g.P.Pages.view in
+    let left = g.P.Streams.left in
+    let sent = g.P.Streams.sent in
+    let start = c.args.live.now in
+    let first = pages start in
+    let mid = pages c.lines.live in
+    let taken = pages c.next.new.from in
+    let inv = c.lines.invariant in
+    let beside = c.next.ensures.beside in
+    let takes = beside.changed.store_is.pages_are in
+    let kept = g.met.P.PageWorld.take_keeps mid taken takes in
+    let same = held_same _ _ _ _ _ _ beside.changed.sessions beside.followed_same beside.pending_same in
+    let no = c.in-Err.ensures in
+    let state = its.state start total book in
+    let far = far_kept (left first) (unread c.lines.lines (left mid)) c.lines.lines.given total state (view mid).image (view taken).image (held_by c.lines.live) (held_by c.next.new.from) (sent first) (sent mid) (sent taken) kept.image same c.next.ensures.sent (inv.far total book told stands) in
+    let E : _ → Type 0 = λ end. StopSo g.P.Streams total book start c.next.new.from end in
+    subst E (sym c.end_of.ensures) (fault_on (left first) total state (view taken).image (held_by c.next.new.from) (sent first) (sent taken) (beside.pending_same ∙ inv.idle) c.lines.lines c.next.new.self (left mid) (left taken) c.in-Err.fault inv.within (λ h. no.read_before (ap Err h)) (λ h. no.past_before (ap Err h)) (λ h. no.past (ap Err h)) no.left_on_err inv.counted no.total far)
+
+pub returns-in-Err-clause-crash : goal.returns-in-Err-clause-crash
+returns-in-Err-clause-crash g c = λ total book told stands.
+    let view = g.P.Pages.view in
+    let left = g.P.Streams.left in
+    let sent = g.P.Streams.sent in
+    let start = c.args.live.now in
+    let first = pages start in
+    let mid = pages c.lines.live in
+    let taken = pages c.next.new.from in
+    let inv = c.lines.invariant in
+    let takes = c.next.ensures.beside.changed.store_is.pages_are in
+    lasts_on_take (left first) (unread c.lines.lines (left mid)) c.lines.lines.given total (its.state start total book) (held_by c.lines.live) (sent first) (sent mid) (view first) (view mid) (view taken) (g.met.P.PageWorld.counts_sent first) (g.met.P.PageWorld.counts_sent mid) (g.met.P.Pages.rests mid inv.sound) (g.met.P.PageWorld.take_passes mid taken takes) (inv.far total book told stands) (inv.lasts total book told stands)
+
+pub returns-in-End-clause-done : goal.returns-in-End-clause-done
+returns-in-End-clause-done g c = λ total book told stands.
+    let view = g.P.Pages.view in
+    let left = g.P.Streams.left in
+    let sent = g.P.Streams.sent in
+    let start = c.args.live.now in
+    let first = pages start in
+    let mid = pages c.lines.live in
+    let taken = pages c.next.new.from in
+    let inv = c.lines.invariant in
+    let beside = c.next.ensures.beside in
+    let takes = beside.changed.store_is.pages_are in
+    let kept = g.met.P.PageWorld.take_keeps mid taken takes in
+    let same = held_same _ _ _ _ _ _ beside.changed.sessions beside.followed_same beside.pending_same in
+    let state = its.state start total book in
+    let far = far_kept (left first) (unread c.lines.lines (left mid)) c.lines.lines.given total state (view mid).image (view taken).image (held_by c.lines.live) (held_by c.next.new.from) (sent first) (sent mid) (sent taken) kept.image same c.next.ensures.sent (inv.far total book told stands) in
+    all_on (left first) (unread c.lines.lines (left mid)) c.lines.lines.given total state (view taken).image (held_by c.next.new.from) (sent first) (sent taken) (beside.pending_same ∙ inv.idle) (c.in-Ok.ensures.end (ap Ok c.in-End.is)) far
+
+pub returns-in-End-clause-within : goal.returns-in-End-clause-within
+returns-in-End-clause-within g c =
+    let inv = c.lines.invariant in
+    read_whole (g.P.Streams.left (pages c.args.live.now)) (g.P.Streams.left (pages c.lines.live)) c.lines.lines (2 ^ 32) (c.in-Ok.ensures.end (ap Ok c.in-End.is)) inv.counted inv.within inv.whole
+
+pub returns-in-End-clause-crash : goal.returns-in-End-clause-crash
+returns-in-End-clause-crash g c = λ total book told stands.
+    let view = g.P.Pages.view in
+    let left = g.P.Streams.left in
+    let sent = g.P.Streams.sent in
+    let start = c.args.live.now in
+    let first = pages start in
+    let mid = pages c.lines.live in
+    let taken = pages c.next.new.from in
+    let inv = c.lines.invariant in
+    let takes = c.next.ensures.beside.changed.store_is.pages_are in
+    lasts_on_take (left first) (unread c.lines.lines (left mid)) c.lines.lines.given total (its.state start total book) (held_by c.lines.live) (sent first) (sent mid) (view first) (view mid) (view taken) (g.met.P.PageWorld.counts_sent first) (g.met.P.PageWorld.counts_sent mid) (g.met.P.Pages.rests mid inv.sound) (g.met.P.PageWorld.take_passes mid taken takes) (inv.far total book told stands) (inv.lasts total book told stands)
+
+pub lines-preserved-in-Ok-refuse_line : goal.lines-preserved-in-Ok-refuse_line
+lines-preserved-in-Ok-refuse_line g c =
+    let view = g.P.Pages.view in
+    let left = g.P.Streams.left in
+    let sent = g.P.Streams.sent in
+    let start = c.args.live.now in
+    let first = pages start in
+    let mid = pages c.lines.live in
+    let taken = pages c.next.new.from in
+    let new = pages c.refuse_line.new.live in
+    let w = g.met.P.PageWorld in
+    let inv = c.lines.invariant in
+    let e = c.in-Ok.ensures in
+    let beside = c.next.ensures.beside in
+    let takes = beside.changed.store_is.pages_are in
+    let kept = w.take_keeps mid taken takes in
+    let same = held_same _ _ _ _ _ _ beside.changed.sessions beside.followed_same beside.pending_same in
+    let line : Option (List ℕ) = None in
+    let gives : Gives c.lines.lines c.next.new.self (left mid) (left taken) line =
+    gives_by c.lines.lines c.next.new.self (left mid) (left taken) line (e.too_long (ap Ok c.in-TooLong.is)) e.rest inv.counted e.given e.total in
+    let side = side_of g.P.Streams in
+    let goes = goes_further (side start) (side c.lines.live) (side c.next.new.from) inv.goes (goes_streams (side c.lines.live) (side c.next.new.from) kept (w.take_told mid taken takes) (w.take_was_told mid taken takes) (w.take_goes_on mid taken takes) c.next.ensures.read_faults (omega (arith, c.next.ensures.send_faults))) in
+    let it = c.in-Ok-refuse_line.ensures in
+    let U : Option (List ℕ) → Type 0 = λ l. input_length c.next.new.self.taken l ≡ input_length 0 (left first) in
+    record {
+      usable = e.usable;
+      counted = e.given;
+      within = e.within;
+      whole = subst U (sym it.left) (e.total ∙ inv.whole);
+      sound = it.sound (λ no. cc);
+      idle = it.idle;
+      goes = goes_further (side start) (side c.next.new.from) (side c.refuse_line.new.live) goes it.goes;
+      far = λ total book told stands.
+        let state = its.state start total book in
+        let far = far_kept (left first) (unread c.lines.lines (left mid)) c.lines.lines.given total state (view mid).image (view taken).image (held_by c.lines.live) (held_by c.next.new.from) (sent first) (sent mid) (sent taken) kept.image same c.next.ensures.sent (inv.far total book told stands) in
+        let F : Option (List ℕ) → Type 0 = λ l. Far (left first) (unread c.next.new.self l) c.next.new.self.given total state (view new).image (held_by c.refuse_line.new.live) (sent first) (sent new) in
+        subst F (sym it.left) (far_line c.lines.lines c.next.new.self (left mid) (left taken) line gives e.within total state (held_by c.next.new.from) (held_by c.refuse_line.new.live) (view taken) (view new) (sent first) (sent taken) (sent new) c.in-Ok-refuse_line.field-0 (left first) (λ between there sound. it.does total between (goes.is_told told) there sound) far);
+      lasts = λ total book told stands.
+        let state = its.state start total book in
+        let far = far_kept (left first) (unread c.lines.lines (left mid)) c.lines.lines.given total state (view mid).image (view taken).image (held_by c.lines.live) (held_by c.next.new.from) (sent first) (sent mid) (sent taken) kept.image same c.next.ensures.sent (inv.far total book told stands) in
+        let since = lasts_on_take (left first) (unread c.lines.lines (left mid)) c.lines.lines.given total state (held_by c.lines.live) (sent first) (sent mid) (view first) (view mid) (view taken) (w.counts_sent first) (w.counts_sent mid) (g.met.P.Pages.rests mid inv.sound) (w.take_passes mid taken takes) (inv.far total book told stands) (inv.lasts total book told stands) in
+        lasts_on_line c.lines.lines c.next.new.self (left mid) (left taken) line gives e.within total state (held_by c.next.new.from) (held_by c.refuse_line.new.live) (view taken) (view new) (sent first) (sent taken) (sent new) _ (left first) (view first) (w.counts_sent first) (w.counts_sent taken) (λ between there sound. it.does total between (goes.is_told told) there sound) far since;
+    }
+
+pub returns-in-Err-refuse_line-clause-stops : goal.returns-in-Err-refuse_line-clause-stops
+returns-in-Err-refuse_line-clause-stops g c = λ total book told stands.
+    let it = c.in-Err-refuse_line.ensures in
+    let view = g.P.Pages.view in
+    let left = g.P.Streams.left in
+    let sent = g.P.Streams.sent in
+    let start = c.args.live.now in
+    let first = pages start in
+    let mid = pages c.lines.live in
+    let taken = pages c.next.new.from in
+    let new = pages c.refuse_line.new.live in
+    let w = g.met.P.PageWorld in
+    let inv = c.lines.invariant in
+    let e = c.in-Ok.ensures in
+    let beside = c.next.ensures.beside in
+    let takes = beside.changed.store_is.pages_are in
+    let kept = w.take_keeps mid taken takes in
+    let same = held_same _ _ _ _ _ _ beside.changed.sessions beside.followed_same beside.pending_same in
+    let line : Option (List ℕ) = None in
+    let gives : Gives c.lines.lines c.next.new.self (left mid) (left taken) line =
+    gives_by c.lines.lines c.next.new.self (left mid) (left taken) line (e.too_long (ap Ok c.in-TooLong.is)) e.rest inv.counted e.given e.total in
+    let side = side_of g.P.Streams in
+    let goes = goes_further (side start) (side c.lines.live) (side c.next.new.from) inv.goes (goes_streams (side c.lines.live) (side c.next.new.from) kept (w.take_told mid taken takes) (w.take_was_told mid taken takes) (w.take_goes_on mid taken takes) c.next.ensures.read_faults (omega (arith, c.next.ensures.send_faults))) in
+    let state = its.state start total book in
+    let far = far_kept (left first) (unread c.lines.lines (left mid)) c.lines.lines.given total state (view mid).image (view taken).image (held_by c.lines.live) (held_by c.next.new.from) (sent first) (sent mid) (sent taken) kept.image same c.next.ensures.sent (inv.far total book told stands) in
+    line_stops c.lines.lines c.next.new.self (left mid) (left taken) line gives e.within total state (held_by c.next.new.from) (held_by c.refuse_line.new.live) (view taken) (view new) (sent first) (sent taken) (sent new) c.in-Err-refuse_line.end (left first) (left new) (λ between there sound. it.does total between (goes.is_told told) there sound) far
+
+pub returns-in-Err-refuse_line-clause-crash : goal.returns-in-Err-refuse_line-clause-crash
+returns-in-Err-refuse_line-clause-crash g c = λ total book told stands.
+    let it = c.in-Err-refuse_line.ensures in
+    let view = g.P.Pages.view in
+    let left = g.P.Streams.left in
+    let sent = g.P.Streams.sent in
+    let start = c.args.live.now in
+    let first = pages start in
+    let mid = pages c.lines.live in
+    let taken = pages c.next.new.from in
+    let new = pages c.refuse_line.new.live in
+    let w = g.met.P.PageWorld in
+    let inv = c.lines.invariant in
+    let e = c.in-Ok.ensures in
+    let beside = c.next.ensures.beside in
+    let takes = beside.changed.store_is.pages_are in
+    let kept = w.take_keeps mid taken takes in
+    let same = held_same _ _ _ _ _ _ beside.changed.sessions beside.followed_same beside.pending_same in
+    let line : Option (List ℕ) = None in
+    let gives : Gives c.lines.lines c.next.new.self (left mid) (left taken) line =
+    gives_by c.lines.lines c.next.new.self (left mid) (left taken) line (e.too_long (ap Ok c.in-TooLong.is)) e.rest inv.counted e.given e.total in
+    let side = side_of g.P.Streams in
+    let goes = goes_further (side start) (side c.lines.live) (side c.next.new.from) inv.goes (goes_streams (side c.lines.live) (side c.next.new.from) kept (w.take_told mid taken takes) (w.take_was_told mid taken takes) (w.take_goes_on mid taken takes) c.next.ensures.read_faults (omega (arith, c.next.ensures.send_faults))) in
+    let state = its.state start total book in
+    let far = far_kept (left first) (unread c.lines.lines (left mid)) c.lines.lines.given total state (view mid).image (view taken).image (held_by c.lines.live) (held_by c.next.new.from) (sent first) (sent mid) (sent taken) kept.image same c.next.ensures.sent (inv.far total book told stands) in
+    let since = lasts_on_take (left first) (unread c.lines.lines (left mid)) c.lines.lines.given total state (held_by c.lines.live) (sent first) (sent mid) (view first) (view mid) (view taken) (w.counts_sent first) (w.counts_sent mid) (g.met.P.Pages.rests mid inv.sound) (w.take_passes mid taken takes) (inv.far total book told stands) (inv.lasts total book told stands) in
+    lasts_on_line c.lines.lines c.next.new.self (left mid) (left taken) line gives e.within total state (held_by c.next.new.from) (held_by c.refuse_line.new.live) (view taken) (view new) (sent first) (sent taken) (sent new) _ (left first) (view first) (w.counts_sent first) (w.counts_sent taken) (λ between there sound. it.does total between (goes.is_told told) there sound) far since
+
+pub returns-in-Err-refuse_line-clause-goes : goal.returns-in-Err-refuse_line-clause-goes
+returns-in-Err-refuse_line-clause-goes g c = 
+    let view = g.P.Pages.view in
+    let left = g.P.Streams.left in
+    let sent = g.P.Streams.sent in
+    let start = c.args.live.now in
+    let first = pages start in
+    let mid = pages c.lines.live in
+    let taken = pages c.next.new.from in
+    let new = pages c.refuse_line.new.live in
+    let w = g.met.P.PageWorld in
+    let inv = c.lines.invariant in
+    let e = c.in-Ok.ensures in
+    let beside = c.next.ensures.beside in
+    let takes = beside.changed.store_is.pages_are in
+    let kept = w.take_keeps mid taken takes in
+    let same = held_same _ _ _ _ _ _ beside.changed.sessions beside.followed_same beside.pending_same in
+    let line : Option (List ℕ) = None in
+    let gives : Gives c.lines.lines c.next.new.self (left mid) (left taken) line =
+    gives_by c.lines.lines c.next.new.self (left mid) (left taken) line (e.too_long (ap Ok c.in-TooLong.is)) e.rest inv.counted e.given e.total in
+    let side = side_of g.P.Streams in
+    let goes = goes_further (side start) (side c.lines.live) (side c.next.new.from) inv.goes (goes_streams (side c.lines.live) (side c.next.new.from) kept (w.take_told mid taken takes) (w.take_was_told mid taken takes) (w.take_goes_on mid taken takes) c.next.ensures.read_faults (omega (arith, c.next.ensures.send_faults))) in
+    goes_further (side start) (side c.next.new.from) (side c.refuse_line.new.live) goes c.in-Err-refuse_line.ensures.goes
+
+pub returns-in-Err-refuse_line-clause-cause : goal.returns-in-Err-refuse_line-clause-cause
+returns-in-Err-refuse_line-clause-cause g c = 
+    let view = g.P.Pages.view in
+    let left = g.P.Streams.left in
+    let sent = g.P.Streams.sent in
+    let start = c.args.live.now in
+    let first = pages start in
+    let mid = pages c.lines.live in
+    let taken = pages c.next.new.from in
+    let new = pages c.refuse_line.new.live in
+    let w = g.met.P.PageWorld in
+    let inv = c.lines.invariant in
+    let e = c.in-Ok.ensures in
+    let beside = c.next.ensures.beside in
+    let takes = beside.changed.store_is.pages_are in
+    let kept = w.take_keeps mid taken takes in
+    let same = held_same _ _ _ _ _ _ beside.changed.sessions beside.followed_same beside.pending_same in
+    let line : Option (List ℕ) = None in
+    let gives : Gives c.lines.lines c.next.new.self (left mid) (left taken) line =
+    gives_by c.lines.lines c.next.new.self (left mid) (left taken) line (e.too_long (ap Ok c.in-TooLong.is)) e.rest inv.counted e.given e.total in
+    let side = side_of g.P.Streams in
+    let goes = goes_further (side start) (side c.lines.live) (side c.next.new.from) inv.goes (goes_streams (side c.lines.live) (side c.next.new.from) kept (w.take_told mid taken takes) (w.take_was_told mid taken takes) (w.take_goes_on mid taken takes) c.next.ensures.read_faults (omega (arith, c.next.ensures.send_faults))) in
+    cause_later (side start) (side c.next.new.from) (side c.refuse_line.new.live) c.in-Err-refuse_line.end goes c.in-Err-refuse_line.ensures.cause
+
+pub lines-preserved : goal.lines-preserved
+lines-preserved g c =
+    let view = g.P.Pages.view in
+    let left = g.P.Streams.left in
+    let sent = g.P.Streams.sent in
+    let start = c.args.live.now in
+    let first = pages start in
+    let mid = pages c.lines.live in
+    let taken = pages c.next.new.from in
+    let new = pages c.answer_line.new.live in
+    let w = g.met.P.PageWorld in
+    let inv = c.lines.invariant in
+    let e = c.in-Ok.ensures in
+    let beside = c.next.ensures.beside in
+    let takes = beside.changed.store_is.pages_are in
+    let kept = w.take_keeps mid taken takes in
+    let same = held_same _ _ _ _ _ _ beside.changed.sessions beside.followed_same beside.pending_same in
+    let text = c.line.result.now in
+    let gives : Gives c.lines.lines c.next.new.self (left mid) (left taken) (Some text) =
+    gives_by c.lines.lines c.next.new.self (left mid) (left taken) (Some text) (same_line _ _ text c.next.new.self.line c.line.ensures.line (e.line (ap Ok c.in-Line.is))) e.rest inv.counted e.given e.total in
+    let line : Option (List ℕ) = Some text in
+    let side = side_of g.P.Streams in
+    let goes = goes_further (side start) (side c.lines.live) (side c.next.new.from) inv.goes (goes_streams (side c.lines.live) (side c.next.new.from) kept (w.take_told mid taken takes) (w.take_was_told mid taken takes) (w.take_goes_on mid taken takes) c.next.ensures.read_faults (omega (arith, c.next.ensures.send_faults))) in
+    let it = c.in-Ok-answer_line.ensures in
+    let U : Option (List ℕ) → Type 0 = λ l. input_length c.next.new.self.taken l ≡ input_length 0 (left first) in
+    record {
+      usable = e.usable;
+      counted = e.given;
+      within = e.within;
+      whole = subst U (sym it.left) (e.total ∙ inv.whole);
+      sound = it.sound (λ no. cc);
+      idle = it.idle;
+      goes = goes_further (side start) (side c.next.new.from) (side c.answer_line.new.live) goes it.goes;
+      far = λ total book told stands.
+        let state = its.state start total book in
+        let far = far_kept (left first) (unread c.lines.lines (left mid)) c.lines.lines.given total state (view mid).image (view taken).image (held_by c.lines.live) (held_by c.next.new.from) (sent first) (sent mid) (sent taken) kept.image same c.next.ensures.sent (inv.far total book told stands) in
+        let F : Option (List ℕ) → Type 0 = λ l. Far (left first) (unread c.next.new.self l) c.next.new.self.given total state (view new).image (held_by c.answer_line.new.live) (sent first) (sent new) in
+        subst F (sym it.left) (far_line c.lines.lines c.next.new.self (left mid) (left taken) line gives e.within total state (held_by c.next.new.from) (held_by c.answer_line.new.live) (view taken) (view new) (sent first) (sent taken) (sent new) c.in-Ok-answer_line.field-0 (left first) (λ between there sound. it.does total between (goes.is_told told) there sound) far);
+      lasts = λ total book told stands.
+        let state = its.state start total book in
+        let far = far_kept (left first) (unread c.lines.lines (left mid)) c.lines.lines.given total state (view mid).image (view taken).image (held_by c.lines.live) (held_by c.next.new.from) (sent first) (sent mid) (sent taken) kept.image same c.next.ensures.sent (inv.far total book told stands) in
+        let since = lasts_on_take (left first) (unread c.lines.lines (left mid)) c.lines.lines.given total state (held_by c.lines.live) (sent first) (sent mid) (view first) (view mid) (view taken) (w.counts_sent first) (w.counts_sent mid) (g.met.P.Pages.rests mid inv.sound) (w.take_passes mid taken takes) (inv.far total book told stands) (inv.lasts total book told stands) in
+        lasts_on_line c.lines.lines c.next.new.self (left mid) (left taken) line gives e.within total state (held_by c.next.new.from) (held_by c.answer_line.new.live) (view taken) (view new) (sent first) (sent taken) (sent new) _ (left first) (view first) (w.counts_sent first) (w.counts_sent taken) (λ between there sound. it.does total between (goes.is_told told) there sound) far since;
+    }
+
+pub returns-in-Err-answer_line-clause-stops : goal.returns-in-Err-answer_line-clause-stops
+returns-in-Err-answer_line-clause-stops g c = λ total book told stands.
+    let it = c.in-Err-answer_line.ensures in
+    let view = g.P.Pages.view in
+    let left = g.P.Streams.left in
+    let sent = g.P.Streams.sent in
+    let start = c.args.live.now in
+    let first = pages start in
+    let mid = pages c.lines.live in
+    let taken = pages c.next.new.from in
+    let new = pages c.answer_line.new.live in
+    let w = g.met.P.PageWorld in
+    let inv = c.lines.invariant in
+    let e = c.in-Ok.ensures in
+    let beside = c.next.ensures.beside in
+    let takes = beside.changed.store_is.pages_are in
+    let kept = w.take_keeps mid taken takes in
+    let same = held_same _ _ _ _ _ _ beside.changed.sessions beside.followed_same beside.pending_same in
+    let text = c.line.result.now in
+    let gives : Gives c.lines.lines c.next.new.self (left mid) (left taken) (Some text) =
+    gives_by c.lines.lines c.next.new.self (left mid) (left taken) (Some text) (same_line _ _ text c.next.new.self.line c.line.ensures.line (e.line (ap Ok c.in-Line.is))) e.rest inv.counted e.given e.total in
+    let line : Option (List ℕ) = Some text in
+    let side = side_of g.P.Streams in
+    let goes = goes_further (side start) (side c.lines.live) (side c.next.new.from) inv.goes (goes_streams (side c.lines.live) (side c.next.new.from) kept (w.take_told mid taken takes) (w.take_was_told mid taken takes) (w.take_goes_on mid taken takes) c.next.ensures.read_faults (omega (arith, c.next.ensures.send_faults))) in
+    let state = its.state start total book in
+    let far = far_kept (left first) (unread c.lines.lines (left mid)) c.lines.lines.given total state (view mid).image (view taken).image (held_by c.lines.live) (held_by c.next.new.from) (sent first) (sent mid) (sent taken) kept.image same c.next.ensures.sent (inv.far total book told stands) in
+    line_stops c.lines.lines c.next.new.self (left mid) (left taken) line gives e.within total state (held_by c.next.new.from) (held_by c.answer_line.new.live) (view taken) (view new) (sent first) (sent taken) (sent new) c.in-Err-answer_line.end (left first) (left new) (λ between there sound. it.does total between (goes.is_told told) there sound) far
+
+pub returns-in-Err-answer_line-clause-crash : goal.returns-in-Err-answer_line-clause-crash
+returns-in-Err-answer_line-clause-crash g c = λ total book told stands.
+    let it = c.in-Err-answer_line.ensures in
+    let view = g.P.Pages.view in
+    let left = g.P.Streams.left in
+    let sent = g.P.Streams.sent in
+    let start = c.args.live.now in
+    let first = pages start in
+    let mid = pages c.lines.live in
+    let taken = pages c.next.new.from in
+    let new = pages c.answer_line.new.live in
+    let w = g.met.P.PageWorld in
+    let inv = c.lines.invariant in
+    let e = c.in-Ok.ensures in
+    let beside = c.next.ensures.beside in
+    let takes = beside.changed.store_is.pages_are in
+    let kept = w.take_keeps mid taken takes in
+    let same = held_same _ _ _ _ _ _ beside.changed.sessions beside.followed_same beside.pending_same in
+    let text = c.line.result.now in
+    let gives : Gives c.lines.lines c.next.new.self (left mid) (left taken) (Some text) =
+    gives_by c.lines.lines c.next.new.self (left mid) (left taken) (Some text) (same_line _ _ text c.next.new.self.line c.line.ensures.line (e.line (ap Ok c.in-Line.is))) e.rest inv.counted e.given e.total in
+    let line : Option (List ℕ) = Some text in
+    let side = side_of g.P.Streams in
+    let goes = goes_further (side start) (side c.lines.live) (side c.next.new.from) inv.goes (goes_streams (side c.lines.live) (side c.next.new.from) kept (w.take_told mid taken takes) (w.take_was_told mid taken takes) (w.take_goes_on mid taken takes) c.next.ensures.read_faults (omega (arith, c.next.ensures.send_faults))) in
+    let state = its.state start total book in
+    let far = far_kept (left first) (unread c.lines.lines (left mid)) c.lines.lines.given total state (view mid).image (view taken).image (held_by c.lines.live) (held_by c.next.new.from) (sent first) (sent mid) (sent taken) kept.image same c.next.ensures.sent (inv.far total book told stands) in
+    let since = lasts_on_take (left first) (unread c.lines.lines (left mid)) c.lines.lines.given total state (held_by c.lines.live) (sent first) (sent mid) (view first) (view mid) (view taken) (w.counts_sent first) (w.counts_sent mid) (g.met.P.Pages.rests mid inv.sound) (w.take_passes mid taken takes) (inv.far total book told stands) (inv.lasts total book told stands) in
+    lasts_on_line c.lines.lines c.next.new.self (left mid) (left taken) line gives e.within total state (held_by c.next.new.from) (held_by c.answer_line.new.live) (view taken) (view new) (sent first) (sent taken) (sent new) _ (left first) (view first) (w.counts_sent first) (w.counts_sent taken) (λ between there sound. it.does total between (goes.is_told told) there sound) far since
+
+pub returns-in-Err-answer_line-clause-goes : goal.returns-in-Err-answer_line-clause-goes
+returns-in-Err-answer_line-clause-goes g c = 
+    let view = g.P.Pages.view in
+    let left = g.P.Streams.left in
+    let sent = g.P.Streams.sent in
+    let start = c.args.live.now in
+    let first = pages start in
+    let mid = pages c.lines.live in
+    let taken = pages c.next.new.from in
+    let new = pages c.answer_line.new.live in
+    let w = g.met.P.PageWorld in
+    let inv = c.lines.invariant in
+    let e = c.in-Ok.ensures in
+    let beside = c.next.ensures.beside in
+    let takes = beside.changed.store_is.pages_are in
+    let kept = w.take_keeps mid taken takes in
+    let same = held_same _ _ _ _ _ _ beside.changed.sessions beside.followed_same beside.pending_same in
+    let text = c.line.result.now in
+    let gives : Gives c.lines.lines c.next.new.self (left mid) (left taken) (Some text) =
+    gives_by c.lines.lines c.next.new.self (left mid) (left taken) (Some text) (same_line _ _ text c.next.new.self.line c.line.ensures.line (e.line (ap Ok c.in-Line.is))) e.rest inv.counted e.given e.total in
+    let line : Option (List ℕ) = Some text in
+    let side = side_of g.P.Streams in
+    let goes = goes_further (side start) (side c.lines.live) (side c.next.new.from) inv.goes (goes_streams (side c.lines.live) (side c.next.new.from) kept (w.take_told mid taken takes) (w.take_was_told mid taken takes) (w.take_goes_on mid taken takes) c.next.ensures.read_faults (omega (arith, c.next.ensures.send_faults))) in
+    goes_further (side start) (side c.next.new.from) (side c.answer_line.new.live) goes c.in-Err-answer_line.ensures.goes
+
+pub returns-in-Err-answer_line-clause-cause : goal.returns-in-Err-answer_line-clause-cause
+returns-in-Err-answer_line-clause-cause g c = 
+    let view = g.P.Pages.view in
+    let left = g.P.Streams.left in
+    let sent = g.P.Streams.sent in
+    let start = c.args.live.now in
+    let first = pages start in
+    let mid = pages c.lines.live in
+    let taken = pages c.next.new.from in
+    let new = pages c.answer_line.new.live in
+    let w = g.met.P.PageWorld in
+    let inv = c.lines.invariant in
+    let e = c.in-Ok.ensures in
+    let beside = c.next.ensures.beside in
+    let takes = beside.changed.store_is.pages_are in
+    let kept = w.take_keeps mid taken takes in
+    let same = held_same _ _ _ _ _ _ beside.changed.sessions beside.followed_same beside.pending_same in
+    let text = c.line.result.now in
+    let gives : Gives c.lines.lines c.next.new.self (left mid) (left taken) (Some text) =
+    gives_by c.lines.lines c.next.new.self (left mid) (left taken) (Some text) (same_line _ _ text c.next.new.self.line c.line.ensures.line (e.line (ap Ok c.in-Line.is))) e.rest inv.counted e.given e.total in
+    let line : Option (List ℕ) = Some text in
+    let side = side_of g.P.Streams in
+    let goes = goes_further (side start) (side c.lines.live) (side c.next.new.from) inv.goes (goes_streams (side c.lines.live) (side c.next.new.from) kept (w.take_told mid taken takes) (w.take_was_told mid taken takes) (w.take_goes_on mid taken takes) c.next.ensures.read_faults (omega (arith, c.next.ensures.send_faults))) in
+    cause_later (side start) (side c.next.new.from) (side c.answer_line.new.live) c.in-Err-answer_line.end goes c.in-Err-answer_line.ensures.cause

@@ -1,0 +1,31 @@
+use Rattle.std.proofs.Common.{◌≡◌, ℕ, ◌+◌, ◌-◌, ◌^◌, ◌≤◌, List, length, IsTrue}
+use Rattle.chart_world.specs.Reading.{unread, input_length}
+use Rattle.live_service.specs.Shown as its
+use Rattle.live_view.specs.Live as follows
+use Rattle.series_book.specs.declared.one_series.Series.{Series}
+use Rattle.live_command.proofs.RunLemmas.{Far, LastsOn}
+use Rattle.live_command.specs.Doing.{Goes, held_by, side_of}
+use Rattle.live_command.specs.Shown.{pages}
+use Rattle.live_command.proofs.serving.answer_lines.Given as goal
+
+-- the lines given so far are answered, and all pushes behind them made
+abbrev pub invariant-lines : goal.invariant-lines
+invariant-lines g l =
+    let left = g.P.Streams.left in
+    let sent = g.P.Streams.sent in
+    let first = l.initial.live in
+    let live = l.live in
+    record {
+      usable : IsTrue l.lines.usable;
+      counted : l.lines.taken ≡ l.lines.given + length l.lines.pending;
+      within : l.lines.given ≤ 2 ^ 32;
+      whole : input_length l.lines.taken (left (pages live)) ≡ input_length 0 (left (pages first));
+      sound : (its.view live).fit;
+      idle : follows.IsIdle live;
+      goes : Goes (side_of g.P.Streams first) (side_of g.P.Streams live);
+      far : its.ForBook first (λ total book. Far (left (pages first)) (unread l.lines (left (pages live))) l.lines.given total (its.state first total book) (its.view live).image (held_by live) (sent (pages first)) (sent (pages live)));
+      lasts : its.ForBook first (λ total book. LastsOn total (its.state first total book) (left (pages first)) (sent (pages first)) (its.view first) (its.view live));
+    }
+
+abbrev pub decreases-lines : goal.decreases-lines
+decreases-lines g l = 2 ^ 32 - l.lines.given

@@ -1,0 +1,14 @@
+use Rattle.live_command.proofs.RunLemmas.{lasts_on_first, no_memory_on}
+use Rattle.live_command.specs.Doing.{held_by}
+use Rattle.live_command.specs.Shown.{pages}
+use Rattle.live_command.proofs.serving.serve_live.Goals as goal
+
+pub returns-in_default-clause-stops : goal.returns-in_default-clause-stops
+returns-in_default-clause-stops g c = λ total book told stands.
+    let at = pages c.args.live.now in
+    no_memory_on total book (held_by c.args.live.now) (g.P.Streams.left at) (g.P.Streams.left at) (g.P.Streams.sent at) (g.P.Pages.view at).image stands
+
+pub returns-in_default-clause-crash : goal.returns-in_default-clause-crash
+returns-in_default-clause-crash g c = λ total book told stands.
+    let at = pages c.args.live.now in
+    lasts_on_first total book (held_by c.args.live.now) (g.P.Streams.left at) (g.P.Streams.sent at) (g.P.Pages.view at) (g.met.P.Pages.rests at c.requires.sound) stands

@@ -1,0 +1,7 @@
+pub mod Lives
+pub mod Running
+pub mod Shown
+pub mod Doing
+pub mod Ended
+pub mod Ending
+pub mod Drawn

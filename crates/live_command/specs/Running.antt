@@ -1,0 +1,110 @@
+-- How far the lines of an input are answered, and the pushes behind them made. Where a record speaks of a book that is
+-- there, it is one for which pages stand, or one that a disk holds, or to which an image recovers.
+use Rattle.std.specs.Prelude.{ℕ, ◌≡◌, ◌+◌, ◌-◌, ◌^◌, ◌<◌, ◌≤◌, List, [], ◌∷◌, ◌++◌, length, take, Option, IfSome}
+use Rattle.block_disk.specs.Streams.{sent_after, PartSent}
+use Rattle.chart_frames.specs.declared.frame.Frame.{Frame}
+use Rattle.chart_frames.specs.Frames.{spelling}
+use Rattle.chart_service.specs.Serving.{told}
+use Rattle.chart_service.specs.declared.failure.ServeEnd.{ServeEnd}
+use Rattle.chart_service.specs.declared.failure.ServeEnd.TheVariants.{ReadFault, SendFault, DiskFault, Damaged, InputTooLong, NoMemory}
+use Rattle.chart_world.specs.Fronts.{BeginsWith}
+use Rattle.chart_world.specs.Lines.{NoLineFeed}
+use Rattle.live_service.specs.LiveReplies.{LiveState}
+use Rattle.series_book.specs.declared.one_series.Series.{Series}
+use Rattle.live_command.specs.Lives.{LivesBy, spelled}
+
+-- Some first lines of the input are answered by these frames, in the order of the input, and all pushes behind each line
+-- but the last are made before the next line is answered; of those behind the last one some first are.
+pub record FirstLines (input : List ℕ) (frames : List Frame) (old new : LiveState) : Type 0 where
+  pub front : List ℕ
+  pub rest : List ℕ
+  pub begins : BeginsWith input front rest
+  pub early : length front ≤ 2 ^ 32
+  pub lives : LivesBy (told front) frames old new
+
+-- a part of a line stands there, and these bytes behind it
+pub record Unended (rest left : List ℕ) : Type 0 where
+  pub partial : List ℕ
+  pub taken : rest ≡ partial ++ left
+  pub unended : NoLineFeed partial
+
+-- some first lines are answered, and the spellings of all frames so far were sent
+pub record SendsLines (input : List ℕ) (old : LiveState) (before now : Option (List ℕ)) : Type 0 where
+  pub frames : List Frame
+  pub state : LiveState
+  pub first : FirstLines input frames old state
+  pub sent : now ≡ sent_after (spelled frames) before
+
+module _ (IsThere : List Series → Type 0) (input : List ℕ) (old : LiveState) (before now : Option (List ℕ)) where
+  -- all lines of the input are answered, all pushes are made, and the spellings of all these frames were sent
+  pub record SendsAll : Type 0 where
+    pub frames : List Frame
+    pub state : LiveState
+    pub lives : LivesBy (told input) frames old state
+    pub idle : state.pending ≡ []
+    pub there : IsThere state.state.book
+    pub sent : now ≡ sent_after (spelled frames) before
+
+  -- the same of some first lines of the input
+  pub record SendsFirst : Type 0 where
+    pub frames : List Frame
+    pub state : LiveState
+    pub first : FirstLines input frames old state
+    pub idle : state.pending ≡ []
+    pub there : IsThere state.state.book
+    pub sent : now ≡ sent_after (spelled frames) before
+
+  -- they are those that ended among the bytes taken, where the bytes left are told
+  pub record SendsTaken (left : Option (List ℕ)) : Type 0 where
+    pub sends : SendsFirst
+    pub behind : IfSome left (Unended sends.first.rest)
+
+  -- they are those that ended among the first 2^32 bytes, and there is a byte more
+  pub record SendsWithin : Type 0 where
+    pub sends : SendsFirst
+    pub unended : NoLineFeed (take (2 ^ 32 - length sends.first.front) sends.first.rest)
+    pub past : 2 ^ 32 < length input
+
+  -- some first lines are answered, and of the last frame a part was sent, of the others all
+  pub record SendsPart : Type 0 where
+    pub shown : List Frame
+    pub last : Frame
+    pub state : LiveState
+    pub first : FirstLines input (shown ++ last ∷ []) old state
+    pub there : IsThere state.state.book
+    pub between : Option (List ℕ)
+    pub whole : between ≡ sent_after (spelled shown) before
+    pub part : PartSent (spelling last) between now
+
+  -- some first lines are answered, and the spellings of all these frames were sent, or of all but the last one
+  pub record SendsSome : Type 0 where
+    pub shown : List Frame
+    pub more : List Frame
+    pub few : length more ≤ 1
+    pub state : LiveState
+    pub first : FirstLines input (shown ++ more) old state
+    pub there : IsThere state.state.book
+    pub sent : now ≡ sent_after (spelled shown) before
+
+-- Why not all lines were answered and all pushes made, what was sent, and which book is there then. After a fault of the
+-- disk that is said by the moments of the run. No page is damaged.
+abbrev pub EndsSo : (List Series → Type 0) → List ℕ → LiveState → Option (List ℕ) → Option (List ℕ) → Option (List ℕ) → ServeEnd → Type 0
+EndsSo IsThere input old left before now ReadFault = SendsTaken IsThere input old before now left
+EndsSo IsThere input old left before now SendFault = SendsPart IsThere input old before now
+EndsSo IsThere input old left before now DiskFault = SendsLines input old before now
+EndsSo IsThere input old left before now (Damaged page) = ⊥
+EndsSo IsThere input old left before now InputTooLong = SendsWithin IsThere input old before now
+EndsSo IsThere input old left before now NoMemory = SendsSome IsThere input old before now
+
+-- Some first lines are answered and some pushes made, and the book that they leave is there. After so many bytes the
+-- spellings of all these frames were sent, or of all but the last one, and of that none, a part or all. So each edit whose
+-- Done was sent whole is in the book, and at most one more is.
+pub record IsAhead (IsThere : List Series → Type 0) (input : List ℕ) (old : LiveState) (from sent : ℕ) : Type 0 where
+  pub shown : List Frame
+  pub more : List Frame
+  pub few : length more ≤ 1
+  pub state : LiveState
+  pub first : FirstLines input (shown ++ more) old state
+  pub there : IsThere state.state.book
+  pub low : from + length (spelled shown) ≤ sent
+  pub high : sent ≤ from + length (spelled (shown ++ more))

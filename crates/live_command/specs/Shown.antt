@@ -1,0 +1,49 @@
+-- The lines of a live service's streams, in the words of the service.
+use Rattle.std.specs.Prelude.{ℕ, List, Option, IfSome}
+use Rattle.block_disk.specs.View.{sent_now}
+use Rattle.block_disk.specs.declared.streams.Streams.{Ghosts as StreamGhosts}
+use Rattle.block_disk.specs.declared.streams.Streams as streams
+use Rattle.chart_service.specs.Moments.{Since}
+use Rattle.chart_service.specs.Shown as shown
+use Rattle.chart_service.specs.State.{IsSound}
+use Rattle.chart_service.specs.declared.failure.ServeEnd.{ServeEnd}
+use Rattle.chart_service.specs.declared.failure.ServiceError.{ServiceError}
+use Rattle.gate_pages.specs.declared.pages.Pages.{Ghosts}
+use Rattle.live_service.specs.Shown as its
+use Rattle.live_service.specs.declared.stepper.ServiceStepper.{ServiceStepper}
+use Rattle.live_view.specs.declared.live.Live.{Live}
+use Rattle.live_view.specs.declared.stepper.Stepper.{Ghosts as StepperGhosts}
+use Rattle.series_book.specs.declared.one_series.Series.{Series}
+use Rattle.stored_book.specs.Standing.{StandsForBook}
+use Rattle.live_command.specs.Running.{SendsAll, EndsSo, IsAhead}
+
+module _ {P : Type 0} {g : Ghosts P} {h : StepperGhosts (ServiceStepper P g) ServiceError} {beside : StreamGhosts (ServiceStepper P g)} where
+  -- the pages below
+  abbrev pub pages : Live (ServiceStepper P g) ServiceError h beside → P
+  pages it = shown.pages (its.service it)
+
+  -- what holds of the book, of the sessions and of their last views, whatever book the pages stand for
+  abbrev pub HoldsSound : Live (ServiceStepper P g) ServiceError h beside → Type 0
+  HoldsSound it = its.ForBook it (λ total book. IsSound (shown.state (its.service it) total book))
+
+  -- so of each book that the pages stand for, where that holds of it
+  abbrev pub ForSound : Live (ServiceStepper P g) ServiceError h beside → (ℕ → List Series → Type 0) → Type 0
+  ForSound it IsSo = its.ForBook it (λ total book. IsSound (shown.state (its.service it) total book) → IsSo total book)
+
+module _ {P : Type 0} {g : Ghosts P} {h : StepperGhosts (ServiceStepper P g) ServiceError} {beside : StreamGhosts (ServiceStepper P g)} (told : streams.Ghosts P) (total : ℕ) (book : List Series) (old new : Live (ServiceStepper P g) ServiceError h beside) where
+  -- the pages stand for the book
+  abbrev Stands : List Series → Type 0
+  Stands after = StandsForBook (shown.image (its.service new)) total after
+
+  -- all lines are answered, and all pushes are made
+  abbrev pub AreAnswered : Type 0
+  AreAnswered = IfSome (told.left (pages old)) (λ input. SendsAll Stands input (its.state old total book) (told.sent (pages old)) (told.sent (pages new)))
+
+  -- not all of them are
+  abbrev pub StopSo : ServeEnd → Type 0
+  StopSo end = IfSome (told.left (pages old)) (λ input. EndsSo Stands input (its.state old total book) (told.left (pages new)) (told.sent (pages old)) (told.sent (pages new)) end)
+
+  -- at each moment a crash leaves such a book
+  abbrev pub LastsFor : Type 0
+  LastsFor = IfSome (told.left (pages old)) (λ input. IfSome (told.sent (pages old)) (λ bytes.
+      Since (its.view old) (its.view new) (λ image sent. IsAhead (λ after. StandsForBook image total after) input (its.state old total book) (sent_now (its.view old)) sent)))

@@ -1,0 +1,80 @@
+//! The command `live`: the lines of the input are answered over the store of a disk, and pushes are made behind edits.
+ghost use Rattle.std.specs.Prelude.{◌≡◌, [], IsTrue};
+ghost use Rattle.block_disk.specs.View.{View};
+ghost use Rattle.chart_service.specs.Shown as shown;
+ghost use Rattle.series_store.specs.Shown as stored;
+ghost use Rattle.store_commands.specs.Away.{TurnsAway};
+ghost use Rattle.store_commands.specs.Traffic.{traffic};
+ghost use Rattle.live_command.specs.Ended.{EndsLive};
+ghost use Rattle.live_command.specs.Ending.{ServedOn, answer_status};
+
+use crate::serving::serve_live;
+use block_disk::{Back, World};
+use chart_service::{ServeEnd, Service};
+use disk_store::{disk_of, open_store};
+use gate_pages::GatePages;
+use live_service::ServiceStepper;
+use live_view::Live;
+use series_store::Store;
+use std::alloc::Global;
+use store_commands::status::{
+    DAMAGED, DISK_FAULT, DONE, FIRST_PAGE, MOST_BYTES, NO_MEMORY, READ_FAULT, SEND_FAULT, TOO_MUCH,
+};
+use store_commands::{Status, ended, opening_status};
+
+/// Sends the frames that answer the lines of the input over the store of the world's disk, and those that are pushed
+/// behind edits to the sessions that follow them, and says how that ended.
+pub fn live<W: World>(alloc: Global, world: W) -> (Status, W)
+    ensures ends { EndsLive (W.view world) (W.view result.1) (traffic W.left W.sent W.read_faults W.send_faults world result.1) result.0 }
+    ensures away { TurnsAway (W.view world) (traffic W.left W.sent W.read_faults W.send_faults world result.1) result.0 }
+{
+    match open_store(alloc, world) {
+        Ok(store) => {
+            let (answer, world) = serve_store(alloc, store);
+            (answer_status(answer), world)
+        }
+        Err(Back { value, cause }) => (opening_status(cause), value),
+    }
+}
+
+/// The same over a store that is open: what that answers, and the disk.
+fn serve_store<W: World>(alloc: Global, store: Store<GatePages<W>>) -> (Result<(), ServeEnd>, W)
+    requires { IsTrue (stored.pages store).sound }
+    ensures { let pages = stored.pages store in ServedOn pages.count (W.view pages.disk) (W.view result.1) (traffic W.left W.sent W.read_faults W.send_faults pages.disk result.1) result.0 }
+{
+    match Service::new(alloc, store) {
+        Ok(service) => serve_service(alloc, service),
+        Err(Back { value, cause: _ }) => (Err(ServeEnd::NoMemory), disk_of(value)),
+    }
+}
+
+/// The same by a service with no session open.
+fn serve_service<W: World>(
+    alloc: Global,
+    service: Service<GatePages<W>>,
+) -> (Result<(), ServeEnd>, W)
+    requires sound { IsTrue (shown.pages service).sound }
+    requires alone { service.sessions ≡ [] }
+    ensures { let pages = shown.pages service in ServedOn pages.count (W.view pages.disk) (W.view result.1) (traffic W.left W.sent W.read_faults W.send_faults pages.disk result.1) result.0 }
+{
+    service.is_sound();
+    let mut live = Live::new(alloc, ServiceStepper::new(service));
+    let answer = serve_live(alloc, &mut live);
+    let service = live.into_stepper().into_service();
+    (answer, disk_of(service.into_store()))
+}
+
+/// The status of what answering the lines answers.
+fn answer_status(answer: Result<(), ServeEnd>) -> Status
+    ensures { result ≡ answer_status answer }
+{
+    match answer {
+        Ok(()) => ended(DONE, 0),
+        Err(ServeEnd::ReadFault) => ended(READ_FAULT, 0),
+        Err(ServeEnd::SendFault) => ended(SEND_FAULT, 0),
+        Err(ServeEnd::DiskFault) => ended(DISK_FAULT, 0),
+        Err(ServeEnd::Damaged { page }) => ended(DAMAGED, FIRST_PAGE + u64::from(page)),
+        Err(ServeEnd::InputTooLong) => ended(TOO_MUCH, MOST_BYTES),
+        Err(ServeEnd::NoMemory) => ended(NO_MEMORY, 0),
+    }
+}

@@ -1,0 +1,4 @@
+pub mod Replying
+pub mod Facts
+pub mod Followed
+pub mod Drawn

@@ -1,0 +1,4 @@
+pub mod Steps
+pub mod LiveReplies
+pub mod Following
+pub mod Shown

@@ -1,0 +1,51 @@
+-- What a service's answer to a line does, and a repeat of a view: all that the contracts of these calls say.
+use Rattle.std.specs.Prelude.{ℕ, ◌≡◌, List, [], Some, Result, Err, IfOk, IfErr, OnErr}
+use Rattle.block_disk.specs.Counts.{HasRisen}
+use Rattle.block_disk.specs.View.{Now}
+use Rattle.chart_frames.specs.declared.frame.Frame.{Frame}
+use Rattle.gate_pages.specs.Pages.{GoesOn}
+use Rattle.gate_pages.specs.declared.pages.Pages.{Ghosts}
+use Rattle.series_store.specs.Results.{IsUnchanged}
+use Rattle.chart_service.specs.Alone.{session_named}
+use Rattle.chart_service.specs.Called.{AnswersSo, CommitsOnly, ForLast, IsCause, IsCauseOfLine, ReadsFewFor}
+use Rattle.chart_service.specs.Opening.{OpensBy, LosesAtMost}
+use Rattle.chart_service.specs.Replies.{Replied, line_text, own_zoom}
+use Rattle.chart_service.specs.Shown as shown
+use Rattle.chart_service.specs.Stepping.{RepliedTo, NamesBad, IsOutside, Steps, ReadsFew}
+use Rattle.chart_service.specs.Syncing.{edit_of}
+use Rattle.chart_service.specs.declared.failure.ServiceError.{ServiceError}
+use Rattle.chart_service.specs.declared.failure.ServiceError.TheVariants.{DiskFault}
+use Rattle.chart_service.specs.declared.service.Service.{Service}
+
+module _ {P : Type 0} {g : Ghosts P} where
+  -- a line is answered, or why it isn't
+  pub record AnswersLine (line : List ℕ) (result : Result Frame ServiceError) (old new : Service P g) : Type 0 where
+    pub reply : shown.ForBook old (λ total book. IfOk result (AnswersSo (Replied (line_text line)) total book old new))
+    pub standing : shown.ForBook old (λ total book. IfErr result IsOutside)
+    pub moments : shown.ForBook old (λ total book. shown.PassesBy (Replied (line_text line)) total book old new)
+    pub reads : shown.ForBook old (λ total book. ReadsFewFor (line_text line) total book old new)
+    pub opens : IfOk result (λ frame. OpensBy frame old.sessions new.sessions)
+    pub sessions : OnErr result (LosesAtMost (session_named (line_text line)) old.sessions new.sessions)
+    pub unchanged : CommitsOnly result old new
+    pub idle : edit_of (line_text line) ≡ [] → IsUnchanged (shown.IsTold old) (shown.view old) (shown.view new)
+    pub cause : IfErr result (IsCauseOfLine (line_text line) old new)
+    pub disk : result ≡ Err DiskFault → HasRisen (shown.view old).faults (shown.view new).faults
+    pub bad : IfErr result (NamesBad (shown.IsTold new) (shown.view new).size (shown.image new))
+    pub steps : Steps (shown.IsTold old) (shown.IsTold new) (shown.view old) (shown.view new)
+    pub goes_on : GoesOn (shown.under old) (shown.under new)
+    pub total : shown.total new ≡ shown.total old
+
+  -- a zoom of a session to the window of its last view is answered, or why it isn't
+  pub record RepeatsView (session : ℕ) (result : Result Frame ServiceError) (old new : Service P g) : Type 0 where
+    pub reply : ForLast session old (λ last. shown.ForBook old (λ total book. IfOk result (AnswersSo (RepliedTo (own_zoom session last)) total book old new)))
+    pub standing : shown.ForBook old (λ total book. IfErr result IsOutside)
+    pub moments : shown.PassesTo (Now (shown.view old)) old new
+    pub reads : ForLast session old (λ last. shown.ForBook old (λ total book. ReadsFew (own_zoom session last) book old.sessions (shown.view old).reads (shown.view new).reads))
+    pub opens : IfOk result (λ frame. OpensBy frame old.sessions new.sessions)
+    pub sessions : OnErr result (LosesAtMost (Some session) old.sessions new.sessions)
+    pub idle : IsUnchanged (shown.IsTold old) (shown.view old) (shown.view new)
+    pub cause : ForLast session old (λ last. IfErr result (IsCause (own_zoom session last) old new))
+    pub bad : IfErr result (NamesBad (shown.IsTold new) (shown.view new).size (shown.image new))
+    pub steps : Steps (shown.IsTold old) (shown.IsTold new) (shown.view old) (shown.view new)
+    pub goes_on : GoesOn (shown.under old) (shown.under new)
+    pub total : shown.total new ≡ shown.total old

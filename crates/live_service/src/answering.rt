@@ -1,0 +1,83 @@
+//! A live service answers lines, and makes pushes.
+ghost use Rattle.std.specs.Prelude.{◌≡◌, ◌↔◌, ◌<◌, [], length, Ok, Err, None, IfOk, IfErr, IfSome, IfNone, OnOk};
+ghost use Rattle.block_disk.specs.Counts.{HasRisen};
+ghost use Rattle.block_disk.specs.View.{Now};
+ghost use Rattle.chart_frames.specs.Frames.{Fits};
+ghost use Rattle.chart_service.specs.Called.{CommitsOnly};
+ghost use Rattle.chart_service.specs.Replies.{line_text};
+ghost use Rattle.chart_service.specs.Shown as shown;
+ghost use Rattle.chart_service.specs.Stepping.{NamesBad, IsOutside, Steps};
+ghost use Rattle.chart_service.specs.Syncing.{edit_of};
+ghost use Rattle.gate_pages.specs.Pages.{GoesOn};
+ghost use Rattle.live_service.specs.LiveReplies.{LiveReplied, Pushed};
+ghost use Rattle.live_service.specs.Shown as its;
+ghost use Rattle.live_view.specs.Live as follows;
+ghost use Rattle.series_store.specs.Results.{IsUnchanged};
+
+use crate::stepper::ServiceStepper;
+use chart_frames::Frame;
+use chart_service::ServiceError;
+use gate_pages::PageWorld;
+use live_view::{Live, LiveFault};
+
+/// Answers a line, as `LiveReplied` says over each book for which the pages stand: they stand afterwards for the
+/// book that the reply leaves. Pushes may be pending then. After `NoMemory` nothing was committed, and after an
+/// error no push is pending.
+pub fn step_line<P: PageWorld>(
+    live: &mut Live<ServiceStepper<P>>,
+    line: &[u8],
+) -> Result<Frame, ServiceError>
+    requires idle { follows.IsIdle live.old }
+    requires sound { (its.view live.old).fit }
+    ensures reply { its.ForBook live.old (λ total book. IfOk result (its.AnswersSo (LiveReplied (line_text line.now)) total book live.old live.new)) }
+    ensures standing { its.ForBook live.old (λ total book. IfErr result IsOutside) }
+    // a crash at any moment leaves the book from before, or the one that the reply leaves
+    ensures moments { its.ForBook live.old (λ total book. its.PassesBy (LiveReplied (line_text line.now)) total book live.old live.new) }
+    ensures reads { its.ForBook live.old (λ total book. its.ReadsFewFor (line_text line.now) total book live.old live.new) }
+    // whatever the pages are
+    ensures fits { IfOk result Fits }
+    ensures ended { IfErr result (λ error. follows.IsIdle live.new) }
+    ensures unchanged { CommitsOnly result (its.service live.old) (its.service live.new) }
+    // a line that spells no edit commits nothing
+    ensures idle { edit_of (line_text line.now) ≡ [] → IsUnchanged (shown.IsTold (its.service live.old)) (its.view live.old) (its.view live.new) }
+    ensures disk { result ≡ Err ServiceError.DiskFault → HasRisen (its.view live.old).faults (its.view live.new).faults }
+    ensures bad { IfErr result (NamesBad (shown.IsTold (its.service live.new)) (its.view live.new).size (its.view live.new).image) }
+    ensures steps { Steps (shown.IsTold (its.service live.old)) (shown.IsTold (its.service live.new)) (its.view live.old) (its.view live.new) }
+    ensures goes_on { GoesOn (shown.under (its.service live.old)) (shown.under (its.service live.new)) }
+    ensures sound { OnOk result (its.view live.new).fit }
+    ensures total { shown.total (its.service live.new) ≡ shown.total (its.service live.old) }
+{
+    match live.step_line(line) {
+        Ok(frame) => Ok(frame),
+        Err(LiveFault::Stepper(error)) => Err(error),
+        Err(LiveFault::NoMemory) => Err(ServiceError::NoMemory),
+    }
+}
+
+/// Makes the next pending push, as `Pushed` says; `None` exactly where none is pending. It commits nothing, so a
+/// crash leaves what it might have left before.
+pub fn push<P: PageWorld>(live: &mut Live<ServiceStepper<P>>) -> Result<Option<Frame>, ServiceError>
+    requires { (its.view live.old).fit }
+    ensures none { (result ≡ Ok None) ↔ follows.IsIdle live.old }
+    ensures same { IfOk result (λ some. IfNone some (follows.Stays live.old live.new)) }
+    ensures fewer { IfOk result (λ some. IfSome some (λ _. length (follows.pending live.new) < length (follows.pending live.old))) }
+    ensures reply { its.ForBook live.old (λ total book. IfOk result (λ some. IfSome some (its.AnswersSo Pushed total book live.old live.new))) }
+    ensures standing { its.ForBook live.old (λ total book. IfErr result IsOutside) }
+    ensures reads { its.ForBook live.old (λ total book. its.ReadsNext total book live.old live.new) }
+    // whatever the pages are
+    ensures fits { IfOk result (λ some. IfSome some Fits) }
+    ensures moments { shown.PassesTo (Now (its.view live.old)) (its.service live.old) (its.service live.new) }
+    ensures unchanged { IsUnchanged (shown.IsTold (its.service live.old)) (its.view live.old) (its.view live.new) }
+    ensures disk { result ≡ Err ServiceError.DiskFault → HasRisen (its.view live.old).faults (its.view live.new).faults }
+    ensures bad { IfErr result (NamesBad (shown.IsTold (its.service live.new)) (its.view live.new).size (its.view live.new).image) }
+    ensures steps { Steps (shown.IsTold (its.service live.old)) (shown.IsTold (its.service live.new)) (its.view live.old) (its.view live.new) }
+    ensures goes_on { GoesOn (shown.under (its.service live.old)) (shown.under (its.service live.new)) }
+    ensures sound { OnOk result (its.view live.new).fit }
+    ensures total { shown.total (its.service live.new) ≡ shown.total (its.service live.old) }
+{
+    match live.push() {
+        Ok(pushed) => Ok(pushed),
+        Err(LiveFault::Stepper(error)) => Err(error),
+        Err(LiveFault::NoMemory) => Err(ServiceError::NoMemory),
+    }
+}

@@ -1,0 +1,53 @@
+//! What holds of pushes, and what a client draws of them. The functions do nothing: their contracts are the laws.
+ghost use Rattle.std.specs.Prelude.{◌≡◌, ℕ, List, [], Option};
+ghost use Rattle.chart_client.specs.declared.holding.Holding.{Holding};
+ghost use Rattle.chart_frames.specs.declared.frame.Frame.{Frame};
+ghost use Rattle.chart_service.specs.State.{IsSound};
+ghost use Rattle.drawn_replies.specs.Mirrors.{Mirrors, DrawsTheBook, OnlyLacksMemory};
+ghost use Rattle.chart_service.specs.Replies.{line_text};
+ghost use Rattle.live_service.specs.Following.{FollowsWell, ShowsView};
+ghost use Rattle.live_service.specs.LiveReplies.{LiveState, LiveReplied, Pushed};
+
+use drawn_replies::laws::{clients_draw_requests, clients_draw_the_book};
+use live_view::laws::followed_views_fit;
+
+/// A client that holds the list of each open session as the service keeps it, and gets the next push, draws
+/// of it the chart of what the followed view keeps of its series as it is in the book, behind the edit, and holds
+/// each session's list as the service does after the push. Nothing but want of memory can come in its way. The book
+/// stays, so that of all pushes behind an edit the chart of one book is drawn.
+pub fn clients_draw_pushes()
+    ensures draws { (frame : Frame) (old new : LiveState) (holdings : List Holding) →
+        IsSound old.state → Pushed frame old new → Mirrors old.state.sessions holdings → DrawsTheBook frame old.state new.state holdings }
+    ensures accepts { (frame : Frame) (old new : LiveState) (holdings : List Holding) →
+        IsSound old.state → Pushed frame old new → Mirrors old.state.sessions holdings → OnlyLacksMemory frame holdings }
+    ensures book { (frame : Frame) (old new : LiveState) → Pushed frame old new → new.state.book ≡ old.state.book }
+{
+    clients_draw_requests();
+}
+
+/// The same of the frame that answers a line: a client goes on holding each session's list, from the first line on.
+pub fn clients_draw_lines()
+    ensures draws { (line : Option (List ℕ)) (frame : Frame) (old new : LiveState) (holdings : List Holding) →
+        IsSound old.state → LiveReplied line frame old new → Mirrors old.state.sessions holdings → DrawsTheBook frame old.state new.state holdings }
+    ensures accepts { (line : Option (List ℕ)) (frame : Frame) (old new : LiveState) (holdings : List Holding) →
+        IsSound old.state → LiveReplied line frame old new → Mirrors old.state.sessions holdings → OnlyLacksMemory frame holdings }
+    ensures sound { (line : Option (List ℕ)) (frame : Frame) (old new : LiveState) → IsSound old.state → LiveReplied line frame old new → IsSound new.state }
+{
+    clients_draw_the_book();
+}
+
+/// The followed sessions can follow: they are open and have had a view, which has a filter or can't need more
+/// coefficients than their clients keep. That is so before the first line, and stays so.
+pub fn followed_sessions_can_follow()
+    ensures first { (live : LiveState) → live.followed ≡ [] → live.pending ≡ [] → FollowsWell live }
+    ensures lines { (line : List ℕ) (frame : Frame) (old new : LiveState) →
+        FollowsWell old → LiveReplied (line_text line) frame old new → FollowsWell new }
+    ensures pushes { (frame : Frame) (old new : LiveState) → FollowsWell old → Pushed frame old new → FollowsWell new }
+{}
+
+/// So a push is never a refusal: it shows the followed view.
+pub fn pushes_show_views()
+    ensures { (frame : Frame) (old new : LiveState) → FollowsWell old → Pushed frame old new → ShowsView frame }
+{
+    followed_views_fit();
+}

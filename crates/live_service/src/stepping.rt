@@ -1,0 +1,52 @@
+//! A service answers lines, and repeats views.
+ghost use Rattle.std.specs.Prelude.{◌≡◌};
+ghost use Rattle.series_book.specs.Edits.{id_of};
+ghost use Rattle.chart_service.specs.Shown as shown;
+ghost use Rattle.live_service.specs.Steps.{AnswersLine, RepeatsView};
+
+use crate::stepper::ServiceStepper;
+use chart_frames::Frame;
+use chart_service::ServiceError;
+use gate_pages::PageWorld;
+use live_view::Stepper;
+use series_book::Name;
+use zoom_session::ViewSpec;
+
+impl<P: PageWorld> Stepper for ServiceStepper<P> {
+    type Fault = ServiceError;
+
+    ghost sessions = { λ it. it.service.sessions };
+
+    /// By each book for which the pages stand, it is the id that the book gives.
+    ghost names = { λ it name id. shown.ForSoundBook it.service (λ total book. id ≡ id_of name book) };
+
+    ghost fit = { λ it. (shown.view it.service).fit };
+
+    ghost replies = { λ old line result new. AnswersLine line result old.service new.service };
+
+    ghost repeats = { λ old session result new. RepeatsView session result old.service new.service };
+
+    fn step_line(&mut self, line: &[u8]) -> Result<Frame, ServiceError> {
+        self.service.step_line(line)
+    }
+
+    fn repeat(&mut self, session: u32) -> Result<Frame, ServiceError> {
+        self.service.repeat(session)
+    }
+
+    fn last_view(&self, session: u32) -> Option<&ViewSpec> {
+        self.service.last_view(session)
+    }
+
+    fn cache(&self, session: u32) -> Option<u32> {
+        self.service.cache(session)
+    }
+
+    fn series_id(&self, name: &Name) -> Option<u16> {
+        self.service.series_id(name)
+    }
+
+    ghost takes_keep = { λ old new takes. takes.sessions };
+
+    ghost sends_keep = { λ count old new sends. sends.sessions };
+}
