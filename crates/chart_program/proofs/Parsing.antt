@@ -25,7 +25,10 @@ use Rattle.draw_command.specs.declared.draw_end.DrawEnd.{DrawEnd}
 use Rattle.draw_command.specs.declared.draw_end.DrawEnd.TheVariants as draw_end
 use Rattle.draw_command.specs.Covers.{picture_bytes, SendsFrames}
 use Rattle.draw_command.specs.Draws.{DrawsMore, DrawsAll, FramesStop, StopsAtFrame, IsCut, DrawsWithin, IsFront, EndsDraw}
-use Rattle.chart_program.specs.Ran.{IsFrames, IsOfReplies, DrawsReplies}
+use Rattle.block_disk.specs.View.{View}
+use Rattle.program_words.specs.declared.words.Command.{Command}
+use Rattle.program_words.specs.declared.words.Command.TheVariants.{Plot, Load, Demo, Run, Serve, Draw, Init, Check, ListSeries, Export, Retain, Cover}
+use Rattle.chart_program.specs.Ran.{AreReplies, IsFrames, IsOfReplies, DrawsReplies, CoversReplies, CoversBook, SendsAll}
 use Rattle.draw_command.proofs.DrawnFrames.{Good, Stay}
 use Rattle.pbm_writer.specs.Picture.{picture}
 use Rattle.block_disk.specs.Streams.{sent_after}
@@ -97,21 +100,20 @@ next_rejected k all more frames drawings holdings rest f behind e none split fit
     not_rejected k all frames more holdings drawings f behind e none split fit accepted fits (sym is ∙ front) rejects
 
 -- a client accepts the frames that were drawn
-accepted_by : (every : Option ℕ) (frames : List Frame) (h h' : List Holding) (bytes : List ℕ) → SendsFrames every frames h h' bytes → (drawings : List (Option Canvas)) × AcceptsAll h frames drawings h'
-accepted_by every [] h h' bytes all = ([], all.0)
-accepted_by every (f ∷ fs) h h' bytes all =
-    let later = accepted_by every fs all.0 h' all.2 all.4 in
-    (all.3.drawing ∷ later.0, (all.0, all.3.accepted, later.1))
+accepted_by : (every : Option ℕ) (frames : List Frame) (drawings : List (Option Canvas)) (h h' : List Holding) (bytes : List ℕ) → SendsFrames every frames drawings h h' bytes → AcceptsAll h frames drawings h'
+accepted_by every [] [] h h' bytes all = all.0
+accepted_by every [] (d ∷ ds) h h' bytes all = absurd all
+accepted_by every (f ∷ fs) [] h h' bytes all = absurd all
+accepted_by every (f ∷ fs) (d ∷ ds) h h' bytes all = (all.0, all.3.accepted, accepted_by every fs ds all.0 h' all.2 all.4)
 
 -- without covers their pictures alone were sent
-pictured_by : (frames : List Frame) (h h' : List Holding) (bytes : List ℕ) → SendsFrames None frames h h' bytes
-    → (drawings : List (Option Canvas)) × AcceptsAll h frames drawings h' × (bytes ≡ flat_map picture_bytes drawings)
-pictured_by [] h h' bytes all = ([], all.0, all.1)
-pictured_by (f ∷ fs) h h' bytes all =
-    let later = pictured_by fs all.0 h' all.2 all.4 in
-    let d = all.3.drawing in
+pictured_by : (frames : List Frame) (drawings : List (Option Canvas)) (h h' : List Holding) (bytes : List ℕ) → SendsFrames None frames drawings h h' bytes → bytes ≡ flat_map picture_bytes drawings
+pictured_by [] [] h h' bytes all = all.1
+pictured_by [] (d ∷ ds) h h' bytes all = absurd all
+pictured_by (f ∷ fs) [] h h' bytes all = absurd all
+pictured_by (f ∷ fs) (d ∷ ds) h h' bytes all =
     let bare : all.1 ≡ picture_bytes d = all.3.bytes_are ∙ ap (λ cs. flat_map picture cs ++ picture_bytes d) all.3.covered in
-    (d ∷ later.0, (all.0, all.3.accepted, later.1), all.5 ∙ ap (λ l. l ++ all.2) bare ∙ ap (λ l. picture_bytes d ++ l) later.2)
+    all.5 ∙ ap (λ l. l ++ all.2) bare ∙ ap (λ l. picture_bytes d ++ l) (pictured_by fs ds all.0 h' all.2 all.4)
 
 pub none_broken : Stay → Good → (at : ℕ) → Breaks frame_fields [] at → ⊥
 none_broken stay good at breaks = good (Done 0) [] at (omega arith) (stay [] (spelling (Done 0) ++ []) at breaks)
@@ -145,8 +147,8 @@ module _ (every : Option ℕ) where
       let stop = whole_stop input before now (draw_end.Missing key) good some in
       let b = left_of k input good stop.rest stop.client before stop.sent_first stop.first in
       let s = stop.stops in
-      let drawn = accepted_by every stop.first.frames [] stop.client stop.first.bytes stop.first.sends in
-      let never : client.Missing key ≡ client.NoMemory = next_rejected k good.frames b.more stop.first.frames drawn.0 stop.client stop.rest.rest s.frame s.behind (client.Missing key) good.accepted b.split b.fit b.behind drawn.1 s.fits s.next s.stops.0 in
+      let drawn = accepted_by every stop.first.frames stop.first.drawings [] stop.client stop.first.bytes stop.first.sends in
+      let never : client.Missing key ≡ client.NoMemory = next_rejected k good.frames b.more stop.first.frames stop.first.drawings stop.client stop.rest.rest s.frame s.behind (client.Missing key) good.accepted b.split b.fit b.behind drawn s.fits s.next s.stops.0 in
       cc
 
   pub no_misfit : Known → (input : List ℕ) (key : Key) (before now : Option (List ℕ)) → IsFrames input → StopsAtFrame every input before now (draw_end.BadCoefficient key) → ⊥
@@ -154,8 +156,8 @@ module _ (every : Option ℕ) where
       let stop = whole_stop input before now (draw_end.BadCoefficient key) good some in
       let b = left_of k input good stop.rest stop.client before stop.sent_first stop.first in
       let s = stop.stops in
-      let drawn = accepted_by every stop.first.frames [] stop.client stop.first.bytes stop.first.sends in
-      let never : client.BadCoefficient key ≡ client.NoMemory = next_rejected k good.frames b.more stop.first.frames drawn.0 stop.client stop.rest.rest s.frame s.behind (client.BadCoefficient key) good.accepted b.split b.fit b.behind drawn.1 s.fits s.next s.stops.0 in
+      let drawn = accepted_by every stop.first.frames stop.first.drawings [] stop.client stop.first.bytes stop.first.sends in
+      let never : client.BadCoefficient key ≡ client.NoMemory = next_rejected k good.frames b.more stop.first.frames stop.first.drawings stop.client stop.rest.rest s.frame s.behind (client.BadCoefficient key) good.accepted b.split b.fit b.behind drawn s.fits s.next s.stops.0 in
       cc
 
   pub no_unopened : Known → (input : List ℕ) (n : ℕ) (before now : Option (List ℕ)) → IsFrames input → StopsAtFrame every input before now (draw_end.UnknownSession n) → ⊥
@@ -163,8 +165,8 @@ module _ (every : Option ℕ) where
       let stop = whole_stop input before now (draw_end.UnknownSession n) good some in
       let b = left_of k input good stop.rest stop.client before stop.sent_first stop.first in
       let s = stop.stops in
-      let drawn = accepted_by every stop.first.frames [] stop.client stop.first.bytes stop.first.sends in
-      let never : client.UnknownSession n ≡ client.NoMemory = next_rejected k good.frames b.more stop.first.frames drawn.0 stop.client stop.rest.rest s.frame s.behind (client.UnknownSession n) good.accepted b.split b.fit b.behind drawn.1 s.fits s.next s.stops.0 in
+      let drawn = accepted_by every stop.first.frames stop.first.drawings [] stop.client stop.first.bytes stop.first.sends in
+      let never : client.UnknownSession n ≡ client.NoMemory = next_rejected k good.frames b.more stop.first.frames stop.first.drawings stop.client stop.rest.rest s.frame s.behind (client.UnknownSession n) good.accepted b.split b.fit b.behind drawn s.fits s.next s.stops.0 in
       cc
 
   -- nor too many bytes
@@ -219,36 +221,101 @@ append_no_frame [] = refl
 append_no_frame (f ∷ fs) = ap (λ l. f ∷ l) (append_no_frame fs)
 
 -- the frames that were drawn are all of them
-all_drawn : Known → (input : List ℕ) (frames : List Frame) (given : ℕ) (holdings : List Holding) (before now : Option (List ℕ)) → All Fits frames → input ≡ flat_map spelling frames
-    → (d : DrawsMore None (held 0 input) (held given []) [] holdings before now) → d.frames ≡ frames
-all_drawn k input frames given holdings before now fit spelled d =
+all_drawn : Known → (every : Option ℕ) (input : List ℕ) (frames : List Frame) (given : ℕ) (holdings : List Holding) (before now : Option (List ℕ)) → All Fits frames → input ≡ flat_map spelling frames
+    → (d : DrawsMore every (held 0 input) (held given []) [] holdings before now) → d.frames ≡ frames
+all_drawn k every input frames given holdings before now fit spelled d =
     let b = begins k d.frames frames [] d.fit fit (sym spelled ∙ d.split) in
     sym (b.split ∙ ap (λ m. d.frames ++ m) (none_more k b.more b.fit b.behind) ∙ append_no_frame d.frames)
+
+-- what was drawn and sent for the frames that answer lines
+record RepliesDrawn (every : Option ℕ) (old new : State) (lines : List (Option (List ℕ))) (frames : List Frame) (before now : Option (List ℕ)) : Type 0 where
+  drawings : List (Option Canvas)
+  pictured : ArePictured old lines frames drawings new
+  holdings : List Holding
+  bytes : List ℕ
+  sends : SendsFrames every frames drawings [] holdings bytes
+  sent : now ≡ sent_after bytes before
+
+-- for those of one session
+record OwnDrawn (every : Option ℕ) (n : ℕ) (old new : State) (lines : List (Option (List ℕ))) (frames : List Frame) (before now : Option (List ℕ)) : Type 0 where
+  drawings : List (Option Canvas)
+  pictured : AreOwnPictured n old lines frames drawings new
+  holdings : List Holding
+  bytes : List ℕ
+  sends : SendsFrames every (filter (names n) frames) drawings [] holdings bytes
+  sent : now ≡ sent_after bytes before
+
+replies_by : Known → AllDraw → (every : Option ℕ) (input : List ℕ) (before now : Option (List ℕ)) → DrawsAll every input before now → (old new : State) (lines : List (Option (List ℕ))) (frames : List Frame)
+    → AreReplies old lines frames new → input ≡ flat_map spelling frames → RepliesDrawn every old new lines frames before now
+replies_by k draws every input before now all old new lines frames r spelled =
+    let d = all.2 in
+    let same = all_drawn k every input frames all.0 all.1 before now (replies_fit lines frames old new r.replied) spelled d in
+    let S : List Frame → Type 0 = λ fs. SendsFrames every fs d.drawings [] all.1 d.bytes in
+    let sends = subst S same d.sends in
+    record {
+      drawings = d.drawings;
+      pictured = (draws lines frames d.drawings old new [] all.1 r.sound r.replied (ap (λ ss. map mirrored ss) (sym r.alone)) (accepted_by every frames d.drawings [] all.1 d.bytes sends)).0;
+      holdings = all.1;
+      bytes = d.bytes;
+      sends = sends;
+      sent = d.sent;
+    }
+
+own_by : Known → OwnDraw → (every : Option ℕ) (input : List ℕ) (before now : Option (List ℕ)) → DrawsAll every input before now → (n : ℕ) (old new : State) (lines : List (Option (List ℕ))) (frames : List Frame)
+    → AreReplies old lines frames new → input ≡ flat_map spelling (filter (names n) frames) → OwnDrawn every n old new lines frames before now
+own_by k own every input before now all n old new lines frames r spelled =
+    let d = all.2 in
+    let fit = All-filter (names n) Fits frames (replies_fit lines frames old new r.replied) in
+    let same = all_drawn k every input (filter (names n) frames) all.0 all.1 before now fit spelled d in
+    let S : List Frame → Type 0 = λ fs. SendsFrames every fs d.drawings [] all.1 d.bytes in
+    let sends = subst S same d.sends in
+    record {
+      drawings = d.drawings;
+      pictured = (own n lines frames d.drawings old new [] all.1 r.sound r.replied (ap (λ ss. map mirrored (only n ss)) (sym r.alone)) (accepted_by every (filter (names n) frames) d.drawings [] all.1 d.bytes sends)).0;
+      holdings = all.1;
+      bytes = d.bytes;
+      sends = sends;
+      sent = d.sent;
+    }
 
 replies_at : Known → AllDraw → OwnDraw → (input : List ℕ) (before now : Option (List ℕ)) → DrawsAll None input before now → DrawsReplies input before now
 replies_at k draws own input before now all = record {
   all = λ old new lines frames r spelled.
-      let d = all.2 in
-      let same = all_drawn k input frames all.0 all.1 before now (replies_fit lines frames old new r.replied) spelled d in
-      let p = pictured_by d.frames [] all.1 d.bytes d.sends in
-      let A : List Frame → Type 0 = λ fs. AcceptsAll [] fs p.0 all.1 in
-      record {
-        drawings = p.0;
-        pictured = (draws lines frames p.0 old new [] all.1 r.sound r.replied (ap (λ ss. map mirrored ss) (sym r.alone)) (subst A same p.1)).0;
-        sent = d.sent ∙ ap (λ l. sent_after l before) p.2;
-      };
+      let d = replies_by k draws None input before now all old new lines frames r spelled in
+      record { drawings = d.drawings; pictured = d.pictured; sent = d.sent ∙ ap (λ l. sent_after l before) (pictured_by frames d.drawings [] d.holdings d.bytes d.sends) };
   own = λ n old new lines frames r spelled.
-      let d = all.2 in
-      let fit = All-filter (names n) Fits frames (replies_fit lines frames old new r.replied) in
-      let same = all_drawn k input (filter (names n) frames) all.0 all.1 before now fit spelled d in
-      let p = pictured_by d.frames [] all.1 d.bytes d.sends in
-      let A : List Frame → Type 0 = λ fs. AcceptsAll [] fs p.0 all.1 in
-      record {
-        drawings = p.0;
-        pictured = (own n lines frames p.0 old new [] all.1 r.sound r.replied (ap (λ ss. map mirrored (only n ss)) (sym r.alone)) (subst A same p.1)).0;
-        sent = d.sent ∙ ap (λ l. sent_after l before) p.2;
-      };
+      let d = own_by k own None input before now all n old new lines frames r spelled in
+      record { drawings = d.drawings; pictured = d.pictured; sent = d.sent ∙ ap (λ l. sent_after l before) (pictured_by (filter (names n) frames) d.drawings [] d.holdings d.bytes d.sends) };
 }
+
+-- with covers
+replies_covered : Known → AllDraw → OwnDraw → (every : ℕ) (input : List ℕ) (before now : Option (List ℕ)) → DrawsAll (Some every) input before now → CoversReplies every input before now
+replies_covered k draws own every input before now all = record {
+  all = λ old new lines frames r spelled.
+      let d = replies_by k draws (Some every) input before now all old new lines frames r spelled in
+      record { drawings = d.drawings; pictured = d.pictured; holdings = d.holdings; bytes = d.bytes; sends = d.sends; sent = d.sent };
+  own = λ n old new lines frames r spelled.
+      let d = own_by k own (Some every) input before now all n old new lines frames r spelled in
+      record { drawings = d.drawings; pictured = d.pictured; holdings = d.holdings; bytes = d.bytes; sends = d.sends; sent = d.sent };
+}
+
+covers_at : Known → AllDraw → OwnDraw → (command : Command) (old new : View) (input : List ℕ) (before now : Option (List ℕ)) → SendsAll command old new input before now → CoversBook command old new input before now
+covers_at k draws own (Plot w h) old new input before now all = tt
+covers_at k draws own (Load name) old new input before now all = tt
+covers_at k draws own (Demo seed rounds) old new input before now all = tt
+covers_at k draws own Run old new input before now all = tt
+covers_at k draws own Serve old new input before now all = tt
+covers_at k draws own Draw old new input before now all = tt
+covers_at k draws own Init old new input before now all = tt
+covers_at k draws own Check old new input before now all = tt
+covers_at k draws own ListSeries old new input before now all = tt
+covers_at k draws own (Export name window) old new input before now all = tt
+covers_at k draws own Retain old new input before now all = tt
+covers_at k draws own (Cover every) old new input before now all = replies_covered k draws own every input before now all
+
+pub covers_book : Known → AllDraw → OwnDraw → (command : Command) (old new : View) (o before now : Option (List ℕ)) → IfSome o (λ input. SendsAll command old new input before now) → IfSome o (λ input. CoversBook command old new input before now)
+covers_book k draws own command old new None before now all = tt
+covers_book k draws own command old new (Some input) before now all = covers_at k draws own command old new input before now all
 
 pub replies_drawn : Known → AllDraw → OwnDraw → (o before now : Option (List ℕ)) → IfSome o (λ input. DrawsAll None input before now) → IfSome o (λ input. DrawsReplies input before now)
 replies_drawn k draws own None before now all = tt

@@ -49,7 +49,8 @@ use Rattle.retain_command.specs.Retained.{LeavesSwept, RetainsAll, RetainsLines,
 use Rattle.live_command.specs.Ended.{LeavesLived, LivesAll, LivesLines, LivesPart, LivesSome, LivesTaken, LivesWithin}
 use Rattle.store_commands.specs.Damaged.{IsDamagedAtFirst, IsDamagedPlace}
 use Rattle.chart_program.specs.CommandStatuses.{codes_of, IsOverStore, TakesNone, Bars}
-use Rattle.draw_command.specs.Covers.{picture_bytes}
+use Rattle.chart_client.specs.declared.holding.Holding.{Holding}
+use Rattle.draw_command.specs.Covers.{picture_bytes, SendsFrames}
 use Rattle.draw_command.specs.Draws.{DrawsAll, DrawsTaken, DrawsWithin, IsCut, StopsAtFrame}
 
 -- The words are those of a command, and where the input is told this is so of the command, of the disk before and now, of
@@ -524,6 +525,36 @@ pub record DrawsReplies (input : List ℕ) (before now : Option (List ℕ)) : Ty
       → input ≡ flat_map spelling frames → SendsPictures old lines frames new before now
   pub own : (n : ℕ) (old new : State) (lines : List (Option (List ℕ))) (frames : List Frame) → AreReplies old lines frames new
       → input ≡ flat_map spelling (filter (names n) frames) → SendsOwnPictures n old lines frames new before now
+
+-- the covers and the pictures of the answered views were sent, each picture of the book as it was at that line
+pub record CoversPictures (every : ℕ) (old : State) (lines : List (Option (List ℕ))) (frames : List Frame) (new : State) (before now : Option (List ℕ)) : Type 0 where
+  pub drawings : List (Option Canvas)
+  pub pictured : ArePictured old lines frames drawings new
+  pub holdings : List Holding
+  pub bytes : List ℕ
+  pub sends : SendsFrames (Some every) frames drawings [] holdings bytes
+  pub sent : now ≡ sent_after bytes before
+
+-- those of one session's answered views
+pub record CoversOwnPictures (every n : ℕ) (old : State) (lines : List (Option (List ℕ))) (frames : List Frame) (new : State) (before now : Option (List ℕ)) : Type 0 where
+  pub drawings : List (Option Canvas)
+  pub pictured : AreOwnPictured n old lines frames drawings new
+  pub holdings : List Holding
+  pub bytes : List ℕ
+  pub sends : SendsFrames (Some every) (filter (names n) frames) drawings [] holdings bytes
+  pub sent : now ≡ sent_after bytes before
+
+-- The same as DrawsReplies, with covers before a view's picture.
+pub record CoversReplies (every : ℕ) (input : List ℕ) (before now : Option (List ℕ)) : Type 0 where
+  pub all : (old new : State) (lines : List (Option (List ℕ))) (frames : List Frame) → AreReplies old lines frames new
+      → input ≡ flat_map spelling frames → CoversPictures every old lines frames new before now
+  pub own : (n : ℕ) (old new : State) (lines : List (Option (List ℕ))) (frames : List Frame) → AreReplies old lines frames new
+      → input ≡ flat_map spelling (filter (names n) frames) → CoversOwnPictures every n old lines frames new before now
+
+-- a command that draws covers draws the book so
+abbrev pub CoversBook : Command → View → View → List ℕ → Option (List ℕ) → Option (List ℕ) → Type 0
+CoversBook (Cover every) old new input before now = CoversReplies every input before now
+CoversBook command old new input before now = ⊤
 
 -- ---- the end of a command
 

@@ -19,6 +19,7 @@ use block_disk::{Back, World};
 use chart_frames::laws::{
     length_is_told, more_bytes_mend_nothing, one_frame_a_spelling, spellings_are_good,
 };
+use draw_command::laws::covers_narrow_to_the_picture;
 use draw_command::{DrawEnd, cover, draw};
 use drawn_replies::laws::{
     one_session_draws_the_book, own_replies_are_accepted, replies_are_accepted,
@@ -150,6 +151,7 @@ fn cover_status<W: World>(alloc: Global, every: u32, world: &mut W) -> Status
     length_is_told();
     spellings_are_good();
     more_bytes_mend_nothing();
+    covers_narrow_to_the_picture();
     let answer = cover(alloc, every, world);
     drawing_status(answer)
 }

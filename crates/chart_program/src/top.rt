@@ -6,11 +6,15 @@ ghost use Rattle.program_words.specs.declared.words.Command.TheVariants.{Draw, I
 ghost use Rattle.program_words.specs.Words.{AreCommand, AreWordsOf, ByCommand, Spells, IsWrong};
 ghost use Rattle.chart_program.specs.CommandStatuses.{all_codes, codes_of, TakesNone, BarsBy};
 ghost use Rattle.chart_program.specs.Lives.{IsLived};
-ghost use Rattle.chart_program.specs.Ran.{ForCommand, ForStreams, IsUnread, IsAwayFor, SendsAll, SendsPart, StopsWith, StopsAtDisk, IsBadInput, IsTooMuch, IsCutShort, IsInput, HasGoodInput, IsFree, IsWithin, LeavesDisk, LeavesTold, HoldsNow, IsDamaged, IsUndamaged, IsMade, IsTooSmall, IsThere, IsRefusedWith, IsUnknown, TellsUnnamed, ReadsFew, ReadsByInput, SyncsByInput, Lacks, Misfits, NamesUnopened, DrawsReplies, IsOfReplies, IsCoverOfReplies, BeginStream};
+ghost use Rattle.chart_program.specs.Ran.{ForCommand, ForStreams, IsUnread, IsAwayFor, SendsAll, SendsPart, StopsWith, StopsAtDisk, IsBadInput, IsTooMuch, IsCutShort, IsInput, HasGoodInput, IsFree, IsWithin, LeavesDisk, LeavesTold, HoldsNow, IsDamaged, IsUndamaged, IsMade, IsTooSmall, IsThere, IsRefusedWith, IsUnknown, TellsUnnamed, ReadsFew, ReadsByInput, SyncsByInput, Lacks, Misfits, NamesUnopened, DrawsReplies, IsOfReplies, IsCoverOfReplies, CoversBook, BeginStream};
 
 use crate::commands::status_of_command;
 use block_disk::World;
-use drawn_replies::laws::{own_replies_are_accepted, replies_are_accepted};
+use chart_frames::laws::{length_is_told, one_frame_a_spelling, spellings_are_good};
+use drawn_replies::laws::{
+    one_session_draws_the_book, own_replies_are_accepted, replies_are_accepted,
+    replies_draw_the_book,
+};
 use program_words::{WordsEnd, command_of};
 use retain_command::NO_SERIES;
 use std::alloc::Global;
@@ -67,6 +71,9 @@ pub fn chart<W: World>(alloc: Global, words: &[String], world: W) -> (Status, W)
     // of the frames that answer lines `draw` sends the pictures of the book
     ensures pictures { result.0.code ≡ DONE → Spells Draw (plain_words (map string_bytes words.now)) → IfSome (W.left world) (λ input. DrawsReplies input (W.sent world) (W.sent result.1)) }
 
+    // and so does `cover`, each picture behind its covers
+    ensures covers { result.0.code ≡ DONE → ForCommand words.now W.view W.left W.sent world result.1 CoversBook }
+
     // at each moment a crash leaves a book with what was answered by then: with at most 64 edits more where lines are
     // served, and with some first edits of a load and of a workload
     ensures crash { result.0.code ≢ WRONG_WORDS → (result.1 ≡ world) ⊎ ForCommand words.now W.view W.left W.sent world result.1 LeavesTold }
@@ -91,6 +98,11 @@ pub fn chart<W: World>(alloc: Global, words: &[String], world: W) -> (Status, W)
     ensures covered { HasGoodInput words.now (W.left world) IsCoverOfReplies → Contains (DONE ∷ NO_MEMORY ∷ READ_FAULT ∷ SEND_FAULT ∷ []) result.0.code }
     ensures ready { AreWordsOf Init words.now → IsFree (W.view world) → (HasRisen (W.view world).faults (W.view result.1).faults → ⊥) → (result.0.code ≡ DONE) ⊎ (result.0.code ≡ NO_MEMORY) }
 {
+    one_frame_a_spelling();
+    length_is_told();
+    spellings_are_good();
+    replies_draw_the_book();
+    one_session_draws_the_book();
     replies_are_accepted();
     own_replies_are_accepted();
     match command_of(alloc, words) {

@@ -2,7 +2,7 @@ use Rattle.std.proofs.Common.{arith, inl, inr, sym, refl, ◌∙◌, [], ◌∷�
 use Rattle.chart_program.proofs.Apart.{apart}
 use Rattle.chart_program.proofs.CommandCodes.{never}
 use Rattle.chart_program.proofs.LivesLemmas.{lives_told}
-use Rattle.chart_program.proofs.Parsing.{told_good, replies_good}
+use Rattle.chart_program.proofs.Parsing.{told_good, replies_good, covers_book}
 use Rattle.chart_program.proofs.Codes.{told_both}
 use Rattle.chart_program.proofs.Words.{of_command, with_operands, chart_codes, streams, one_init, one_draw, completes, covers_complete, good_never, wrong_never, wrong_end}
 use Rattle.program_words.specs.declared.words.Command.TheVariants.{Draw, Init}
@@ -480,3 +480,16 @@ returns-in-Err-Wrong-clause-covered g c = λ given.
 
 pub returns-in-Err-NoMemory-clause-covered : goal.returns-in-Err-NoMemory-clause-covered
 returns-in-Err-NoMemory-clause-covered g c = λ given. (1, omega arith, sym c.ended-in-Err-NoMemory.ensures.code)
+
+pub returns-in-Ok-clause-covers : goal.returns-in-Ok-clause-covers
+returns-in-Ok-clause-covers g c =
+    let e = c.status_of_command.ensures in
+    λ is. of_command _ c.in-Ok.command c.in-Ok.command _ refl c.in-Ok.ensures.command
+    (covers_book (record { one = c.one_frame_a_spelling.ensures; told = c.length_is_told.ensures; good = c.spellings_are_good.ensures }) c.replies_draw_the_book.ensures c.one_session_draws_the_book.ensures
+    c.in-Ok.command (g.W.Disk.view c.args.world) (g.W.Disk.view c.status_of_command.result.1) (g.W.Streams.left c.args.world) (g.W.Streams.sent c.args.world) (g.W.Streams.sent c.status_of_command.result.1) (e.done is))
+
+pub returns-in-Err-Wrong-clause-covers : goal.returns-in-Err-Wrong-clause-covers
+returns-in-Err-Wrong-clause-covers g c = λ is. apart (sym c.ended.ensures.code ∙ is) refl
+
+pub returns-in-Err-NoMemory-clause-covers : goal.returns-in-Err-NoMemory-clause-covers
+returns-in-Err-NoMemory-clause-covers g c = λ is. apart (sym c.ended-in-Err-NoMemory.ensures.code ∙ is) refl
