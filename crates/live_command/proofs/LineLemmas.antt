@@ -31,6 +31,9 @@ pub any_told : {Q : Type 0} → Q → (b : Option (List ℕ)) → IfSome b (λ b
 any_told {Q} is None = tt
 any_told {Q} is (Some bytes) = is
 
+pub of_frame : (some : Option Frame) (frame : Frame) (IsSo : Frame → Type 0) → some ≡ Some frame → IfSome some IsSo → IsSo frame
+of_frame some frame IsSo is all = let P : Option Frame → Type 0 = λ o. IfSome o IsSo in subst P is all
+
 -- ---- nothing is done yet
 
 -- the image stands for the book from before, and no byte was sent
