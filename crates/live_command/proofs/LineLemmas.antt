@@ -188,7 +188,7 @@ module _ (lines : List (Option (List ℕ))) (total : ℕ) (old : LiveState) (ima
 
   all_lines : (first : List (Option (List ℕ))) (frames : List Frame) (new : LiveState) → AreFirst [] first → LivesBy first frames reached new → LivesBy lines (d.frames ++ frames) old new
   all_lines first frames new are_first lives =
-      let none : first ≡ [] = elim are_first [ | inl is ↦ is | inr is ↦ is ] in
+      let none : first ≡ [] = elim are_first [ inl is ↦ is | inr is ↦ is ] in
       let P : List (Option (List ℕ)) → Type 0 = λ l. LivesBy l (d.frames ++ frames) old new in
       subst P (ap (λ l. lines ++ l) none ∙ append-nil lines) (by_more lines first d.frames frames old reached new d.lives lives)
 
