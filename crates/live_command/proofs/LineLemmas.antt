@@ -31,6 +31,9 @@ pub any_told : {Q : Type 0} → Q → (b : Option (List ℕ)) → IfSome b (λ b
 any_told {Q} is None = tt
 any_told {Q} is (Some bytes) = is
 
+pub of_frame : (some : Option Frame) (frame : Frame) (IsSo : Frame → Type 0) → some ≡ Some frame → IfSome some IsSo → IsSo frame
+of_frame some frame IsSo is all = let P : Option Frame → Type 0 = λ o. IfSome o IsSo in subst P is all
+
 -- ---- nothing is done yet
 
 -- the image stands for the book from before, and no byte was sent
@@ -185,7 +188,7 @@ module _ (lines : List (Option (List ℕ))) (total : ℕ) (old : LiveState) (ima
 
   all_lines : (first : List (Option (List ℕ))) (frames : List Frame) (new : LiveState) → AreFirst [] first → LivesBy first frames reached new → LivesBy lines (d.frames ++ frames) old new
   all_lines first frames new are_first lives =
-      let none : first ≡ [] = elim are_first [ | inl is ↦ is | inr is ↦ is ] in
+      let none : first ≡ [] = elim are_first [ inl is ↦ is | inr is ↦ is ] in
       let P : List (Option (List ℕ)) → Type 0 = λ l. LivesBy l (d.frames ++ frames) old new in
       subst P (ap (λ l. lines ++ l) none ∙ append-nil lines) (by_more lines first d.frames frames old reached new d.lives lives)
 

@@ -1,4 +1,4 @@
-use Rattle.std.proofs.Common.{rules, ◌∙◌, [], ◌∷◌, List, Option, None, Some, Ok, length, refl, ap, sym, subst, arith, ℕ}
+use Rattle.std.proofs.Common.{rules, arith, ◌∙◌, [], ◌∷◌, List, Option, None, Some, Ok, length, refl, ap, sym, subst, ℕ}
 use Rattle.chart_service.specs.Shown as shown
 use Rattle.live_service.specs.LiveReplies.{LiveReplied, Pushed}
 use Rattle.live_service.specs.Shown as its
@@ -14,7 +14,7 @@ returns-then-is_idle-clause-does g t c = λ total book told stands sound.
     still_does _ total book held held (g.P.Pages.view at) (g.P.Pages.view at) (g.P.Streams.sent at) (g.P.Streams.sent at) refl refl refl stands sound
 
 pub send_pushes-requires : goal.send_pushes-requires
-send_pushes-requires g t c κs within = (c.in-Ok.ensures.fewer, (search rules, c.in-Ok.ensures.sound (λ no. cc)))
+send_pushes-requires g t c κs within = (omega (arith, c.in-Ok.ensures.fewer), (search rules, c.in-Ok.ensures.sound (λ no. cc)))
 
 pub returns-in-Ok-clause-does : goal.returns-in-Ok-clause-does
 returns-in-Ok-clause-does g t c = λ total book told stands sound.

@@ -11,7 +11,7 @@ use Rattle.chart_frames.specs.Frames.{spelling}
 use Rattle.gate_pages.proofs.Moving.{sent_same}
 use Rattle.live_command.proofs.EventLemmas.{by_push, sound_pushed}
 use Rattle.live_command.proofs.GoesLemmas.{held_same}
-use Rattle.live_command.proofs.LineLemmas.{frame_does, nothing_pushed, push_moments, unmade_does}
+use Rattle.live_command.proofs.LineLemmas.{frame_does, nothing_pushed, of_frame, push_moments, unmade_does}
 use Rattle.live_command.proofs.answering.send_push.Goals as goal
 
 pub returns-in-Ok-Some-clause-does : goal.returns-in-Ok-Some-clause-does
@@ -32,7 +32,7 @@ returns-in-Ok-Some-clause-does g c = λ total book told stands sound.
     let sends = made.beside.changed.store_is.pages_are in
     let state = held_with total book (held_by old) in
     let one : (f : Frame) (after : LiveState) → Pushed f state after → LivesBy [] (f ∷ []) state after = λ f after pushed. by_push f state after pushed in
-    let reply = e.reply total book told stands in
+    let reply = of_frame c.in-Ok-Some.field-0 frame (its.AnswersSo Pushed total book old mid) c.in-Ok-Some.field-0-is (e.reply total book told stands) in
     frame_does [] total state Pushed one
     frame (held_by mid) (held_by new) (held_same _ _ _ _ _ _ made.beside.changed.sessions made.beside.followed_same made.beside.pending_same) reply.book
     reply.so (sound_pushed frame state (held_with total reply.book (held_by mid)) sound reply.so) (view at) (view between) (view at') (sent at) (sent between) (sent at') reply.stands

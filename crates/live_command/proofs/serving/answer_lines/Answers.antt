@@ -134,15 +134,15 @@ lines-preserved-in-Ok-refuse_line g c =
       idle = it.idle;
       goes = goes_further (side start) (side c.next.new.from) (side c.refuse_line.new.live) goes it.goes;
       far = λ total book told stands.
-        let state = its.state start total book in
-        let far = far_kept (left first) (unread c.lines.lines (left mid)) c.lines.lines.given total state (view mid).image (view taken).image (held_by c.lines.live) (held_by c.next.new.from) (sent first) (sent mid) (sent taken) kept.image same c.next.ensures.sent (inv.far total book told stands) in
-        let F : Option (List ℕ) → Type 0 = λ l. Far (left first) (unread c.next.new.self l) c.next.new.self.given total state (view new).image (held_by c.refuse_line.new.live) (sent first) (sent new) in
-        subst F (sym it.left) (far_line c.lines.lines c.next.new.self (left mid) (left taken) line gives e.within total state (held_by c.next.new.from) (held_by c.refuse_line.new.live) (view taken) (view new) (sent first) (sent taken) (sent new) c.in-Ok-refuse_line.field-0 (left first) (λ between there sound. it.does total between (goes.is_told told) there sound) far);
+          let state = its.state start total book in
+          let far = far_kept (left first) (unread c.lines.lines (left mid)) c.lines.lines.given total state (view mid).image (view taken).image (held_by c.lines.live) (held_by c.next.new.from) (sent first) (sent mid) (sent taken) kept.image same c.next.ensures.sent (inv.far total book told stands) in
+          let F : Option (List ℕ) → Type 0 = λ l. Far (left first) (unread c.next.new.self l) c.next.new.self.given total state (view new).image (held_by c.refuse_line.new.live) (sent first) (sent new) in
+          subst F (sym it.left) (far_line c.lines.lines c.next.new.self (left mid) (left taken) line gives e.within total state (held_by c.next.new.from) (held_by c.refuse_line.new.live) (view taken) (view new) (sent first) (sent taken) (sent new) c.in-Ok-refuse_line.field-0 (left first) (λ between there sound. it.does total between (goes.is_told told) there sound) far);
       lasts = λ total book told stands.
-        let state = its.state start total book in
-        let far = far_kept (left first) (unread c.lines.lines (left mid)) c.lines.lines.given total state (view mid).image (view taken).image (held_by c.lines.live) (held_by c.next.new.from) (sent first) (sent mid) (sent taken) kept.image same c.next.ensures.sent (inv.far total book told stands) in
-        let since = lasts_on_take (left first) (unread c.lines.lines (left mid)) c.lines.lines.given total state (held_by c.lines.live) (sent first) (sent mid) (view first) (view mid) (view taken) (w.counts_sent first) (w.counts_sent mid) (g.met.P.Pages.rests mid inv.sound) (w.take_passes mid taken takes) (inv.far total book told stands) (inv.lasts total book told stands) in
-        lasts_on_line c.lines.lines c.next.new.self (left mid) (left taken) line gives e.within total state (held_by c.next.new.from) (held_by c.refuse_line.new.live) (view taken) (view new) (sent first) (sent taken) (sent new) _ (left first) (view first) (w.counts_sent first) (w.counts_sent taken) (λ between there sound. it.does total between (goes.is_told told) there sound) far since;
+          let state = its.state start total book in
+          let far = far_kept (left first) (unread c.lines.lines (left mid)) c.lines.lines.given total state (view mid).image (view taken).image (held_by c.lines.live) (held_by c.next.new.from) (sent first) (sent mid) (sent taken) kept.image same c.next.ensures.sent (inv.far total book told stands) in
+          let since = lasts_on_take (left first) (unread c.lines.lines (left mid)) c.lines.lines.given total state (held_by c.lines.live) (sent first) (sent mid) (view first) (view mid) (view taken) (w.counts_sent first) (w.counts_sent mid) (g.met.P.Pages.rests mid inv.sound) (w.take_passes mid taken takes) (inv.far total book told stands) (inv.lasts total book told stands) in
+          lasts_on_line c.lines.lines c.next.new.self (left mid) (left taken) line gives e.within total state (held_by c.next.new.from) (held_by c.refuse_line.new.live) (view taken) (view new) (sent first) (sent taken) (sent new) _ (left first) (view first) (w.counts_sent first) (w.counts_sent taken) (λ between there sound. it.does total between (goes.is_told told) there sound) far since;
     }
 
 pub returns-in-Err-refuse_line-clause-stops : goal.returns-in-Err-refuse_line-clause-stops
@@ -201,7 +201,7 @@ returns-in-Err-refuse_line-clause-crash g c = λ total book told stands.
     lasts_on_line c.lines.lines c.next.new.self (left mid) (left taken) line gives e.within total state (held_by c.next.new.from) (held_by c.refuse_line.new.live) (view taken) (view new) (sent first) (sent taken) (sent new) _ (left first) (view first) (w.counts_sent first) (w.counts_sent taken) (λ between there sound. it.does total between (goes.is_told told) there sound) far since
 
 pub returns-in-Err-refuse_line-clause-goes : goal.returns-in-Err-refuse_line-clause-goes
-returns-in-Err-refuse_line-clause-goes g c = 
+returns-in-Err-refuse_line-clause-goes g c =
     let view = g.P.Pages.view in
     let left = g.P.Streams.left in
     let sent = g.P.Streams.sent in
@@ -225,7 +225,7 @@ returns-in-Err-refuse_line-clause-goes g c =
     goes_further (side start) (side c.next.new.from) (side c.refuse_line.new.live) goes c.in-Err-refuse_line.ensures.goes
 
 pub returns-in-Err-refuse_line-clause-cause : goal.returns-in-Err-refuse_line-clause-cause
-returns-in-Err-refuse_line-clause-cause g c = 
+returns-in-Err-refuse_line-clause-cause g c =
     let view = g.P.Pages.view in
     let left = g.P.Streams.left in
     let sent = g.P.Streams.sent in
@@ -282,15 +282,15 @@ lines-preserved g c =
       idle = it.idle;
       goes = goes_further (side start) (side c.next.new.from) (side c.answer_line.new.live) goes it.goes;
       far = λ total book told stands.
-        let state = its.state start total book in
-        let far = far_kept (left first) (unread c.lines.lines (left mid)) c.lines.lines.given total state (view mid).image (view taken).image (held_by c.lines.live) (held_by c.next.new.from) (sent first) (sent mid) (sent taken) kept.image same c.next.ensures.sent (inv.far total book told stands) in
-        let F : Option (List ℕ) → Type 0 = λ l. Far (left first) (unread c.next.new.self l) c.next.new.self.given total state (view new).image (held_by c.answer_line.new.live) (sent first) (sent new) in
-        subst F (sym it.left) (far_line c.lines.lines c.next.new.self (left mid) (left taken) line gives e.within total state (held_by c.next.new.from) (held_by c.answer_line.new.live) (view taken) (view new) (sent first) (sent taken) (sent new) c.in-Ok-answer_line.field-0 (left first) (λ between there sound. it.does total between (goes.is_told told) there sound) far);
+          let state = its.state start total book in
+          let far = far_kept (left first) (unread c.lines.lines (left mid)) c.lines.lines.given total state (view mid).image (view taken).image (held_by c.lines.live) (held_by c.next.new.from) (sent first) (sent mid) (sent taken) kept.image same c.next.ensures.sent (inv.far total book told stands) in
+          let F : Option (List ℕ) → Type 0 = λ l. Far (left first) (unread c.next.new.self l) c.next.new.self.given total state (view new).image (held_by c.answer_line.new.live) (sent first) (sent new) in
+          subst F (sym it.left) (far_line c.lines.lines c.next.new.self (left mid) (left taken) line gives e.within total state (held_by c.next.new.from) (held_by c.answer_line.new.live) (view taken) (view new) (sent first) (sent taken) (sent new) c.in-Ok-answer_line.field-0 (left first) (λ between there sound. it.does total between (goes.is_told told) there sound) far);
       lasts = λ total book told stands.
-        let state = its.state start total book in
-        let far = far_kept (left first) (unread c.lines.lines (left mid)) c.lines.lines.given total state (view mid).image (view taken).image (held_by c.lines.live) (held_by c.next.new.from) (sent first) (sent mid) (sent taken) kept.image same c.next.ensures.sent (inv.far total book told stands) in
-        let since = lasts_on_take (left first) (unread c.lines.lines (left mid)) c.lines.lines.given total state (held_by c.lines.live) (sent first) (sent mid) (view first) (view mid) (view taken) (w.counts_sent first) (w.counts_sent mid) (g.met.P.Pages.rests mid inv.sound) (w.take_passes mid taken takes) (inv.far total book told stands) (inv.lasts total book told stands) in
-        lasts_on_line c.lines.lines c.next.new.self (left mid) (left taken) line gives e.within total state (held_by c.next.new.from) (held_by c.answer_line.new.live) (view taken) (view new) (sent first) (sent taken) (sent new) _ (left first) (view first) (w.counts_sent first) (w.counts_sent taken) (λ between there sound. it.does total between (goes.is_told told) there sound) far since;
+          let state = its.state start total book in
+          let far = far_kept (left first) (unread c.lines.lines (left mid)) c.lines.lines.given total state (view mid).image (view taken).image (held_by c.lines.live) (held_by c.next.new.from) (sent first) (sent mid) (sent taken) kept.image same c.next.ensures.sent (inv.far total book told stands) in
+          let since = lasts_on_take (left first) (unread c.lines.lines (left mid)) c.lines.lines.given total state (held_by c.lines.live) (sent first) (sent mid) (view first) (view mid) (view taken) (w.counts_sent first) (w.counts_sent mid) (g.met.P.Pages.rests mid inv.sound) (w.take_passes mid taken takes) (inv.far total book told stands) (inv.lasts total book told stands) in
+          lasts_on_line c.lines.lines c.next.new.self (left mid) (left taken) line gives e.within total state (held_by c.next.new.from) (held_by c.answer_line.new.live) (view taken) (view new) (sent first) (sent taken) (sent new) _ (left first) (view first) (w.counts_sent first) (w.counts_sent taken) (λ between there sound. it.does total between (goes.is_told told) there sound) far since;
     }
 
 pub returns-in-Err-answer_line-clause-stops : goal.returns-in-Err-answer_line-clause-stops
@@ -351,7 +351,7 @@ returns-in-Err-answer_line-clause-crash g c = λ total book told stands.
     lasts_on_line c.lines.lines c.next.new.self (left mid) (left taken) line gives e.within total state (held_by c.next.new.from) (held_by c.answer_line.new.live) (view taken) (view new) (sent first) (sent taken) (sent new) _ (left first) (view first) (w.counts_sent first) (w.counts_sent taken) (λ between there sound. it.does total between (goes.is_told told) there sound) far since
 
 pub returns-in-Err-answer_line-clause-goes : goal.returns-in-Err-answer_line-clause-goes
-returns-in-Err-answer_line-clause-goes g c = 
+returns-in-Err-answer_line-clause-goes g c =
     let view = g.P.Pages.view in
     let left = g.P.Streams.left in
     let sent = g.P.Streams.sent in
@@ -376,7 +376,7 @@ returns-in-Err-answer_line-clause-goes g c =
     goes_further (side start) (side c.next.new.from) (side c.answer_line.new.live) goes c.in-Err-answer_line.ensures.goes
 
 pub returns-in-Err-answer_line-clause-cause : goal.returns-in-Err-answer_line-clause-cause
-returns-in-Err-answer_line-clause-cause g c = 
+returns-in-Err-answer_line-clause-cause g c =
     let view = g.P.Pages.view in
     let left = g.P.Streams.left in
     let sent = g.P.Streams.sent in
