@@ -1,5 +1,5 @@
 //! A line is read as a request.
-ghost use Rattle.std.specs.Prelude.{◌≡◌, ◌≢◌, ◌<◌, ◌≤◌, ◌^◌, ◌∷◌, [], ℤ, List, None, Err, length, position, unsigned_abs, IfErr, IfNone, IfOk, IfSome, IsTrue};
+ghost use Rattle.std.specs.Prelude.{◌≡◌, ◌≢◌, ◌<◌, ◌≤◌, ◌^◌, ◌∷◌, [], ℤ, List, None, Err, length, nat_le, position, unsigned_abs, IfErr, IfNone, IfOk, IfSome, IsTrue};
 ghost use Rattle.request_lines.specs.Spelling.{SpellsRange};
 ghost use Rattle.request_lines.specs.Tokens.{is_space, tokens};
 ghost use Rattle.request_lines.specs.declared.ranges.RangeWord.{RangeWord as RangeSaid};
@@ -130,10 +130,25 @@ fn factor(token: &[u8]) -> Option<i64>
     ensures none { IfNone result ((factor : ℤ) → SpellsInteger token.now factor → IsFactor factor → ⊥) }
 {
     let factor = integer(token)?;
-    if factor.unsigned_abs() > GREATEST_FACTOR {
+    if !is_factor(factor) {
         return None;
     }
-    Some(factor as i64)
+    Some(short(factor))
+}
+
+/// Whether a number is at most 10^9 in size.
+fn is_factor(number: i128) -> bool
+    ensures { result ≡ nat_le (unsigned_abs number) (10 ^ 9) }
+{
+    number.unsigned_abs() <= GREATEST_FACTOR
+}
+
+/// A factor in 64 bits.
+fn short(factor: i128) -> i64
+    requires { IsFactor factor }
+    ensures { result ≡ factor }
+{
+    factor as i64
 }
 
 /// The range that the token spells.
