@@ -1,1 +1,4 @@
 pub mod SpellLemmas
+pub mod LineLemmas
+pub mod EndLemmas
+pub mod DoingLemmas
