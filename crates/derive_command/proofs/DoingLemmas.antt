@@ -1,5 +1,5 @@
 -- A request is answered, and a line; and what calls move.
-use Rattle.std.proofs.Common.{◌≡◌, ◌≢◌, ◌∙◌, ℕ, ℤ, ◌+◌, ◌<◌, ◌≤◌, List, [], length, Option, Some, None, Result, Ok, Err, IfSome, refl, ap, sym, subst, arith, inl, inr}
+use Rattle.std.proofs.Common.{◌≡◌, ◌≢◌, ◌∙◌, ℕ, ℤ, ◌+◌, ◌<◌, ◌≤◌, List, [], ◌∷◌, length, Option, Some, None, Result, Ok, Err, IfSome, refl, ap, sym, subst, arith, inl, inr}
 use Rattle.std.specs.Prelude.{OnOk, IfErr}
 use Rattle.block_disk.proofs.Passing.{passes_none, passes_weaker, sends_then_sends}
 use Rattle.block_disk.specs.Counts.{HasRisen}
@@ -31,7 +31,7 @@ use Rattle.derive_command.specs.declared.request.Request.{Request}
 -- ---- a request
 
 module _ (book : List Series) (r : Request) (asked : Asked) (is : IsAsked book r asked) where
-  series_of : AreOnOneGrid book r
+  abbrev series_of : AreOnOneGrid book r
   series_of = record { x = asked.x; y = asked.y; named = is.named; shift = asked.sum.shift; shifted = is.shifted }
 
   is_answer : (canvas : Canvas) → IsDerivedChart book asked.x asked.y asked.sum.a asked.sum.b asked.grid asked.range canvas → IsAnswer book r (picture canvas)
@@ -106,6 +106,11 @@ module _ (book : List Series) (line : List ℕ) (at : ℕ) (before now : Option 
   pub line_of_request : {T : Type 0} (result : Result T DeriveEnd) (r : Request) → Spells r line → DoesRequest book r at result before now → DoesLine book line at result before now
   line_of_request {T} (Ok v) r spells does = record { done = inr (does.done.text, record { request = r; says_it = spells; answer = does.done.answer }, does.done.sent); stops = tt }
   line_of_request {T} (Err end) r spells does = record { done = tt; stops = request_stops_line r spells end does.stops }
+
+-- a line that says no request
+pub line_bad : {T : Type 0} (book : List Series) (line : List ℕ) (at : ℕ) (before : Option (List ℕ)) → (line ≡ [] → ⊥) → SaysNone (Some line) → DoesLine {T = T} book line at (Err (BadLine at)) before before
+line_bad {T} book [] at before some none = absurd (some refl)
+line_bad {T} book (byte ∷ bytes) at before some none = record { done = tt; stops = record { place_is = refl; some = omega arith; none = none; unsent = refl } }
 
 -- ---- what calls move
 
@@ -237,3 +242,12 @@ text_cause old new text before now InputTooLong stops risen = tt
 text_cause old new text before now DiskFault stops risen = absurd stops
 text_cause old new text before now (Damaged page) stops risen = absurd stops
 text_cause old new text before now NoMemory stops risen = tt
+
+pub sent_cause : {T : Type 0} (old new : Side) (text : List ℕ) (before now : Option (List ℕ)) (result : Result T DeriveEnd) → IfErr result (TextStops text before now) → (result ≡ Err SendFault → HasRisen old.send_faults new.send_faults) → IfErr result (λ end. IsCause end old new)
+sent_cause {T} old new text before now (Ok v) stops risen = tt
+sent_cause {T} old new text before now (Err end) stops risen = text_cause old new text before now end stops (λ is. risen (ap Err is))
+
+-- the same by what calls before moved
+pub causes_later : {T : Type 0} (old mid new : Side) (result : Result T DeriveEnd) → Goes old mid → IfErr result (λ end. IsCause end mid new) → IfErr result (λ end. IsCause end old new)
+causes_later {T} old mid new (Ok v) goes cause = tt
+causes_later {T} old mid new (Err end) goes cause = cause_later old mid new end goes cause

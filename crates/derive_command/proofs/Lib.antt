@@ -1,4 +1,5 @@
 pub mod SpellLemmas
 pub mod LineLemmas
 pub mod EndLemmas
+pub mod AskLemmas
 pub mod DoingLemmas

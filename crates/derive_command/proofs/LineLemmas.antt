@@ -50,7 +50,7 @@ module _ (book : List Series) (input : List ℕ) (r r' : Reading) (left left' li
     early = omega (arith, early, it_passes.counted, length-append p.first.front (first_piece p.first.rest));
   }
 
-  told_all : told (p.first.front ++ first_piece p.first.rest) ≡ told p.first.front ++ unless_empty line
+  pub told_all : told (p.first.front ++ first_piece p.first.rest) ≡ told p.first.front ++ unless_empty line
   told_all = told_more p.first.front (first_piece p.first.rest) line it_passes.whole (piece_line p.first.rest line it_passes.lines_are)
 
   -- it says nothing

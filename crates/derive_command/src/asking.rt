@@ -35,23 +35,37 @@ pub(crate) fn asked_of<P: Pages>(
     ensures small { IfOk result (λ asked. IsSmall asked.sum) }
     ensures range { IfOk result (λ asked. IfSome asked.range MayShow) }
 {
-    let (x, y) = ids_of(store, request)?;
+    let (x, y) = match ids_of(store, request) {
+        Ok(ids) => ids,
+        Err(refusal) => return Err(refusal),
+    };
     let Some(shift) = shift_of(store, x, y) else {
         return Err(DeriveRefusal::NotOneGrid);
     };
-    let (grid, range) = view_of(request)?;
-    let sum = Sum {
-        a: request.a,
-        b: request.b,
-        shift,
+    let (grid, range) = match view_of(request) {
+        Ok(view) => view,
+        Err(refusal) => return Err(refusal),
     };
     Ok(Asked {
         x,
         y,
-        sum,
+        sum: sum_of(request, shift),
         grid,
         range,
     })
+}
+
+/// The sum that a request asks for.
+fn sum_of(request: &Request, shift: i64) -> Sum
+    ensures a { result.a ≡ request.now.a }
+    ensures b { result.b ≡ request.now.b }
+    ensures shift { result.shift ≡ shift }
+{
+    Sum {
+        a: request.a,
+        b: request.b,
+        shift,
+    }
 }
 
 /// The ids of the two series that a request names.

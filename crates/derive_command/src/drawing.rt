@@ -53,7 +53,7 @@ pub fn draw_lines<P: PageWorld>(
 /// The same by a reader of lines that has given none.
 fn answer_lines<P: PageWorld>(
     alloc: Global,
-    store: Store<P>,
+    mut store: Store<P>,
     lines: &mut Lines,
 ) -> (Result<(), DeriveEnd>, Store<P>)
     requires sound { shown.IsSound store }
@@ -64,7 +64,6 @@ fn answer_lines<P: PageWorld>(
     ensures goes { Goes (side_of P.Streams store) (side_of P.Streams result.1) }
     ensures cause { IfErr result.0 (λ e. IsCause e (side_of P.Streams store) (side_of P.Streams result.1)) }
 {
-    let mut store = store;
     'lines: loop {
         let answer = match lines.next(&mut store) {
             Ok(answer) => answer,
