@@ -1,8 +1,8 @@
 -- What was found of a column makes its row.
-use Rattle.std.proofs.Common.{◌≡◌, ℕ, ℤ, ◌+◌, ◌*◌, ◌<◌, ◌≤◌, ◌^◌, ◌≤ℤ◌, List, Option, None, Some, arith, refl, sym, ◌∙◌, ap, subst, to_z, of_z, w64}
-use Rattle.std.specs.Prelude.{IfSome, unsigned_abs}
+use Rattle.std.proofs.Common.{◌≡◌, ℕ, ℤ, ◌≤ℤ◌, List, Option, None, Some, arith, sym, ◌∙◌, subst, to_z, of_z, w64}
+use Rattle.std.specs.Prelude.{IfSome}
 use Rattle.std.proofs.lemmas.Int.{ints, to_z-of_z, fits_signed_from_abs}
-use Rattle.om3_coeff.specs.Spans.{Holds, IsClear, IsStored}
+use Rattle.om3_coeff.specs.Spans.{Holds, IsStored}
 use Rattle.om3_coeff.specs.Walks.{IsFirstStored, IsLastStored}
 use Rattle.m4_groups.specs.declared.row.Row.{Row}
 use Rattle.whole_number.specs.Range.{IsValue}

@@ -7,3 +7,4 @@ pub mod PointLemmas
 pub mod TimeLemmas
 pub mod FoundLemmas
 pub mod RowLemmas
+pub mod OneLemmas

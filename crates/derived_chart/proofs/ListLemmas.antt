@@ -1,8 +1,7 @@
 -- The list of the sums.
-use Rattle.std.proofs.Common.{◌≡◌, ℕ, zero, suc, ℤ, pos, negsuc, ◌+◌, ◌<◌, ◌+ℤ◌, ◌*ℤ◌, ◌↔◌, List, [], ◌∷◌, length, Option, None, Some, arith, refl, sym, ◌∙◌, ap, ap₂, subst}
+use Rattle.std.proofs.Common.{◌≡◌, ℕ, zero, suc, ℤ, pos, negsuc, ◌+◌, ◌+ℤ◌, ◌*ℤ◌, List, [], ◌∷◌, length, Option, None, Some, arith, refl, sym, ◌∙◌, ap, ap₂, subst}
 use Rattle.std.specs.Prelude.{slice_get, unwrap_or}
 use Rattle.std.specs.Option.{option_map}
-use Rattle.std.proofs.lemmas.Int.{ints}
 use Rattle.std.proofs.lemmas.Option.{same_Some}
 use Rattle.om3_coeff.specs.Spans.{Holds}
 use Rattle.derived_chart.specs.declared.sum.Sum.{Sum}

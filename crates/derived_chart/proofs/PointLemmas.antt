@@ -1,12 +1,12 @@
 -- The samples of a sum.
-use Rattle.std.proofs.Common.{◌≡◌, ℕ, zero, suc, ℤ, pos, negsuc, ◌+◌, ◌*◌, ◌/◌, ◌<◌, ◌≤◌, ◌+ℤ◌, ◌*ℤ◌, ◌≤ℤ◌, ◌<ℤ◌, ◌⊎◌, inl, inr, ◌↔◌, Bool, true, false, List, [], ◌∷◌, ◌++◌, map, length, Option, None, Some, arith, refl, sym, ◌∙◌, ap, subst, le_refl}
+use Rattle.std.proofs.Common.{◌≡◌, ℕ, zero, suc, ℤ, pos, negsuc, ◌+◌, ◌*◌, ◌/◌, ◌<◌, ◌≤◌, ◌+ℤ◌, ◌*ℤ◌, ◌<ℤ◌, ◌⊎◌, inl, inr, Bool, true, false, List, [], ◌∷◌, Option, None, Some, arith, refl, sym, ◌∙◌, ap, subst}
 use Rattle.std.proofs.Math.Nat.{mul-le-mul_right, mul-div_cancel}
 use Rattle.std.proofs.lemmas.Bool.{and_parts, and_from}
 use Rattle.std.proofs.lemmas.Bool.Decides.{nat_tests}
 use Rattle.std.proofs.lemmas.Int.{ints}
 use Rattle.std.proofs.lemmas.List.Elements.{All-nil, All-cons, All-contains, All-map, Contains-append_right}
 use Rattle.std.proofs.lemmas.List.Kept.{AllPairs-cons}
-use Rattle.std.specs.Prelude.{All, AllPairs, Contains, slice_get, int_le, int_lt, if◌then◌else◌}
+use Rattle.std.specs.Prelude.{All, AllPairs, Contains, int_le, int_lt, if◌then◌else◌}
 use Rattle.std.specs.List.{enumerate_from, filter_map, cons_option}
 use Rattle.chart_grid.specs.declared.axis.Axis.{Axis}
 use Rattle.chart_grid.specs.declared.grid.Grid.{Grid}
@@ -18,7 +18,7 @@ use Rattle.plain_chart.specs.declared.sample.Sample.{Sample}
 use Rattle.plain_chart.specs.Samples.{kept, kept_at, in_window, sample_points}
 use Rattle.derived_chart.specs.declared.sum.Sum.{Sum}
 use Rattle.derived_chart.specs.Lists.{sums_of}
-use Rattle.derived_chart.specs.Points.{IsShift, StoresAt, IsSumAt, AreSumSamples}
+use Rattle.derived_chart.specs.Points.{IsShift, IsSumAt, AreSumSamples}
 use Rattle.derived_chart.specs.Sums.{Adds}
 use Rattle.derived_chart.proofs.ListLemmas.{sums_are}
 

@@ -1,15 +1,15 @@
 -- The rows of sums are those of the samples.
-use Rattle.std.proofs.Common.{◌≡◌, ℕ, zero, suc, ℤ, ◌+◌, ◌-◌, ◌<◌, ◌≤◌, ◌^◌, pos, ◌*◌, ◌+ℤ◌, ◌≤ℤ◌, ◌<ℤ◌, ◌⊎◌, inl, inr, Bool, true, false, cond, List, [], ◌∷◌, ◌++◌, map, length, get_or, Option, None, Some, arith, refl, sym, ◌∙◌, ap, subst}
+use Rattle.std.proofs.Common.{◌≡◌, ℕ, zero, suc, ℤ, ◌+◌, ◌-◌, ◌<◌, ◌≤◌, pos, ◌*◌, ◌+ℤ◌, ◌≤ℤ◌, ◌<ℤ◌, ◌⊎◌, inl, inr, Bool, true, false, cond, List, [], ◌∷◌, ◌++◌, map, length, Option, None, Some, arith, refl, sym, ◌∙◌, ap, subst}
 use Rattle.std.proofs.lemmas.Bool.Decides.{nat_tests}
 use Rattle.std.proofs.lemmas.Bool.{cases_lt}
 use Rattle.std.proofs.lemmas.Int.{ints, by_lt_z}
 use Rattle.std.proofs.Math.Nat.{mul-le-mul_right}
 use Rattle.std.proofs.lemmas.List.{map-append}
-use Rattle.std.proofs.lemmas.List.Elements.{All-nil, All-cons, All-push, All-weaker, All-map, All-contains, Contains-append_left, Contains-append_right, Contains-append_cases, Contains-push}
+use Rattle.std.proofs.lemmas.List.Elements.{All-nil, All-cons, All-push, All-weaker, All-map, All-contains, Contains-append_left, Contains-append_right, Contains-push}
 use Rattle.std.proofs.lemmas.List.Kept.{AllPairs-filter}
 use Rattle.std.proofs.lemmas.List.Quantifiers.{all_pairs_push}
 use Rattle.std.proofs.lemmas.Option.{slice_get_within}
-use Rattle.std.specs.Prelude.{All, AllPairs, Contains, slice_get, filter, ◌==◌, unsigned_abs}
+use Rattle.std.specs.Prelude.{All, AllPairs, Contains, slice_get, filter, ◌==◌}
 use Rattle.chart_grid.specs.declared.axis.Axis.{Axis}
 use Rattle.chart_grid.specs.declared.grid.Grid.{Grid}
 use Rattle.chart_grid.specs.Projection.{InWindow, column}
@@ -18,9 +18,8 @@ use Rattle.line_raster.specs.declared.position.Point.{Point}
 use Rattle.m4_groups.specs.declared.row.Row.{Row}
 use Rattle.m4_groups.specs.Heights.{IsDrawable}
 use Rattle.m4_groups.specs.Points.{spots, values_in}
-use Rattle.m4_groups.specs.Rows.{Sums, AreRows, AreRowsOf, AreRising, columns_of, IsLeast, IsGreatest}
-use Rattle.om3_coeff.specs.Spans.{Holds, IsClear, IsStored}
-use Rattle.om3_coeff.specs.Walks.{IsFirstStored, IsLastStored}
+use Rattle.m4_groups.specs.Rows.{Sums, AreRowsOf, AreRising, columns_of}
+use Rattle.om3_coeff.specs.Spans.{Holds, IsClear}
 use Rattle.plain_chart.specs.declared.sample.Sample.{Sample}
 use Rattle.plain_chart.specs.Samples.{kept, sample_points}
 use Rattle.whole_number.specs.Range.{IsValue, IsTime}
@@ -28,7 +27,7 @@ use Rattle.std.specs.Prelude.{Result, Ok, Err, IfErr, IsErrAnd}
 use Rattle.om3_coeff.specs.declared.errors.NodeError.{NodeError}
 use Rattle.derived_chart.specs.declared.derived_error.DerivedError.{DerivedError}
 use Rattle.derived_chart.specs.declared.derived_error.DerivedError.TheVariants.{TooLarge, Node, NoMemory}
-use Rattle.derived_chart.specs.Rows.{IsAnswer, IsCause, IsRowCause, IsFirstTooLarge, AreValues, IsRowIn, IsRowIfAny, AreColumn, IsRowOf, AreShown, AreRowsBelow, AreColumnValues}
+use Rattle.derived_chart.specs.Rows.{IsAnswer, IsCause, IsRowCause, IsFirstTooLarge, IsRowIn, AreColumn, IsRowOf, AreShown, AreRowsBelow, AreColumnValues}
 use Rattle.derived_chart.specs.Searches.{IsFirstLarge}
 use Rattle.derived_chart.proofs.PointLemmas.{IsEarlier, IsKept, kept_rise, kept_slots, kept_slot, slot_kept}
 
@@ -60,14 +59,14 @@ true_same : (m n : ℕ) → (m == n) ≡ true → m ≡ n
 true_same m n h = grind (arith, nat_tests)
 
 -- an element of a list is its head or behind it
-head_or_rest : {X : Type 0} (t : X) (ts : List X) (s : X) → Contains (t ∷ ts) s → (t ≡ s) ⊎ Contains ts s
+pub head_or_rest : {X : Type 0} (t : X) (ts : List X) (s : X) → Contains (t ∷ ts) s → (t ≡ s) ⊎ Contains ts s
 head_or_rest t ts s (zero, less, is) = inl is
 head_or_rest t ts s (suc k, less, is) = inr (k, omega (arith, less), is)
 
-in_rest : {X : Type 0} (t : X) (ts : List X) (s : X) → Contains ts s → Contains (t ∷ ts) s
+pub in_rest : {X : Type 0} (t : X) (ts : List X) (s : X) → Contains ts s → Contains (t ∷ ts) s
 in_rest t ts s there = Contains-append_right (t ∷ []) ts s there
 
-at_head : {X : Type 0} (t : X) (ts : List X) → Contains (t ∷ ts) t
+pub at_head : {X : Type 0} (t : X) (ts : List X) → Contains (t ∷ ts) t
 at_head t ts = (0, omega arith, refl)
 
 -- what passes a test is among what passes it
@@ -107,10 +106,10 @@ passed {X} p (y ∷ ys) x there on =
     ]
 
 -- the earliest and the latest of samples in order of time
-heads_rest : (t : Sample) (ts : List Sample) → AllPairs IsEarlier (t ∷ ts) → All (IsEarlier t) ts
+pub heads_rest : (t : Sample) (ts : List Sample) → AllPairs IsEarlier (t ∷ ts) → All (IsEarlier t) ts
 heads_rest t ts rise = λ i d short. rise 0 (suc i) d (omega arith) (omega arith)
 
-rest_rise : (t : Sample) (ts : List Sample) → AllPairs IsEarlier (t ∷ ts) → AllPairs IsEarlier ts
+pub rest_rise : (t : Sample) (ts : List Sample) → AllPairs IsEarlier (t ∷ ts) → AllPairs IsEarlier ts
 rest_rise t ts rise = λ i j d less short. rise (suc i) (suc j) d (omega arith) (omega arith)
 
 first_of : (samples : List Sample) (s : Sample) → AllPairs IsEarlier samples → Contains samples s → ((t : Sample) → Contains samples t → s.time ≤ℤ t.time) → slice_get (values samples) 0 ≡ Some s.value

@@ -1,10 +1,10 @@
 -- Two lists as two trees: what asks and turns keep of them.
-use Rattle.std.proofs.Common.{◌≡◌, ℕ, ℤ, ◌≤◌, ◌^◌, Bool, true, false, List, length, Option, None, refl, sym, ◌∙◌, ap, subst, arith}
+use Rattle.std.proofs.Common.{◌≡◌, ℤ, ◌≤◌, ◌^◌, Bool, true, false, List, length, Option, refl, sym, ◌∙◌, ap, subst, arith}
 use Rattle.om3_coeff.specs.declared.key.Key.{Key}
 use Rattle.om3_coeff.specs.declared.errors.NodeError.{NodeError}
 use Rattle.om3_coeff.specs.declared.errors.NodeError.TheVariants.{DiskFault, Damaged, Missing, BadCoefficient}
 use Rattle.om3_coeff.specs.Spans.{AreSlots}
-use Rattle.om3_coeff.specs.View.{NodesView, Agrees, HasCause, StaysSame}
+use Rattle.om3_coeff.specs.View.{Agrees, HasCause, StaysSame}
 use Rattle.om3_coeff.specs.ListNodes.{list_view, list_stays}
 use Rattle.om3_coeff.proofs.ListLemmas.{list_agrees}
 use Rattle.derived_chart.specs.Sums.{one_of}

@@ -1,5 +1,5 @@
 -- What two lists mean as two trees.
-use Rattle.std.specs.Prelude.{ℕ, ℤ, ◌≡◌, ◌≤◌, ◌^◌, Bool, true, false, List, length, Option}
+use Rattle.std.specs.Prelude.{ℕ, ℤ, ◌≡◌, Bool, true, false, List, length, Option}
 use Rattle.om3_coeff.specs.declared.key.Key.{Key}
 use Rattle.om3_coeff.specs.View.{NodesView}
 use Rattle.om3_coeff.specs.ListNodes.{list_view}

@@ -1,5 +1,5 @@
 -- The rows of sums, column by column.
-use Rattle.std.specs.Prelude.{ℕ, ℤ, ◌≡◌, ◌<◌, ◌≤◌, ◌^◌, ◌<ℤ◌, ◌≤ℤ◌, ◌↔◌, ⊤, List, All, Contains, Option, None, Some, Result, Ok, Err, unsigned_abs}
+use Rattle.std.specs.Prelude.{ℕ, ℤ, ◌<◌, ◌≤◌, ◌^◌, ◌<ℤ◌, ◌≤ℤ◌, ◌↔◌, ⊤, List, All, Contains, Option, None, Some, Result, Ok, Err, unsigned_abs}
 use Rattle.chart_grid.specs.declared.axis.Axis.{Axis}
 use Rattle.chart_grid.specs.declared.grid.Grid.{Grid}
 use Rattle.chart_grid.specs.Slots.{IsInColumn}

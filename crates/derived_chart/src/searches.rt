@@ -41,6 +41,15 @@ fn is_second_better(
     }
 }
 
+/// Whether a range is a single slot, so that both numbers of it are its sum.
+fn is_single(p: u64, q: u64) -> bool
+    requires { p < q }
+    ensures yes { result ≡ true → q ≡ p + 1 }
+    ensures no { result ≡ false → p + 1 < q }
+{
+    q - p == 1
+}
+
 /// The best of the sums of the slots from `p` on and below `q`, which lie between these two numbers, and of what was found
 /// before. Of a range whose sums are no better than that nothing is read below, and of two halves the one is searched
 /// first that may have the better sum.
@@ -69,7 +78,7 @@ fn best_from<T: TwoTrees>(
     if is_no_better(best, found, range) {
         return Ok(*found);
     }
-    if q - p == 1 {
+    if is_single(p, q) {
         return Ok(Some(range.0));
     }
     let middle = p + (q - p) / 2;

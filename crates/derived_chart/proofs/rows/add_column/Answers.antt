@@ -1,5 +1,5 @@
-use Rattle.std.proofs.Common.{sym, subst, None, ◌+◌, ◌++◌, [], ◌∷◌, List}
-use Rattle.std.specs.Prelude.{Option, IfSome, ◌≡◌}
+use Rattle.std.proofs.Common.{sym, subst, ◌+◌, List}
+use Rattle.std.specs.Prelude.{IfSome, ◌≡◌}
 use Rattle.m4_groups.specs.Heights.{IsDrawable}
 use Rattle.m4_groups.specs.declared.row.Row.{Row}
 use Rattle.derived_chart.specs.Rows.{IsRowIfAny, AreShown, AreRowsBelow}

@@ -1,4 +1,4 @@
-use Rattle.std.proofs.Common.{ℕ, ℤ, ◌≡◌, List, sym, subst, arith}
+use Rattle.std.proofs.Common.{ℕ, ◌≡◌, List, sym, subst, arith}
 use Rattle.m4_groups.specs.declared.row.Row.{Row}
 use Rattle.derived_chart.specs.Rows.{AreShown, AreRowsBelow}
 use Rattle.derived_chart.proofs.RowLemmas.{none_below, none_shown}

@@ -1,0 +1,146 @@
+-- The chart of a sum: its samples, and what errors of its rows are for it.
+use Rattle.std.proofs.Common.{◌≡◌, ◌∙◌, ℕ, ℤ, ◌<◌, false, List, length, Option, None, Some, refl, sym, ap, subst}
+use Rattle.std.specs.Prelude.{Result, Err, IfNone, IfSome, MatchOption, slice_get}
+use Rattle.std.specs.Option.{unwrap_or}
+use Rattle.chart_grid.specs.declared.axis.Axis.{Axis}
+use Rattle.chart_grid.specs.declared.grid.Grid.{Grid}
+use Rattle.derived_chart.specs.Lists.{sums_of}
+use Rattle.derived_chart.specs.Points.{IsShift, AreSumSamples}
+use Rattle.derived_chart.specs.Rows.{IsAnswer, IsCause}
+use Rattle.derived_chart.specs.declared.derived_error.DerivedError.{DerivedError}
+use Rattle.derived_chart.specs.declared.derived_error.DerivedError.TheVariants as derived
+use Rattle.derived_chart.specs.declared.sum.Sum.{Sum}
+use Rattle.derived_chart.specs.Sums.{one_of}
+use Rattle.gate_pages.specs.declared.pages.Pages.{Ghosts}
+use Rattle.line_raster.specs.Canvas.{Canvas}
+use Rattle.om3_coeff.specs.declared.errors.NodeError.TheVariants as node
+use Rattle.page_space.specs.Shown as spaces
+use Rattle.page_space.specs.declared.space.Space.{Space}
+use Rattle.plain_chart.specs.Samples.{kept}
+use Rattle.plain_chart.specs.declared.sample.Sample.{Sample}
+use Rattle.plain_chart.specs.declared.value_range.ValueRange.{ValueRange}
+use Rattle.retention.specs.Sweeping.{IsOfPages}
+use Rattle.series_book.specs.declared.one_series.Series.{Series}
+use Rattle.series_store.specs.Shown as shown
+use Rattle.series_store.specs.declared.store.Store.{Store}
+use Rattle.stored_book.specs.Standing.{StandsForBook}
+use Rattle.series_pair.specs.AskLaws.{book_there, causes_later, pair_agrees, still_are_pair}
+use Rattle.series_pair.specs.Asking.{ArePair, Causes, GoesPair}
+use Rattle.series_pair.specs.Derived.{AreSamplesOf, AreShifted, AreUnlike, IsChartAnswer, IsChartCause, axis_of}
+use Rattle.series_pair.specs.Drawing.{error_of}
+use Rattle.series_pair.specs.declared.store_pair.StorePair.{StorePair}
+use Rattle.series_pair.specs.declared.sum_error.SumError.{SumError}
+
+-- a book has one series of an id
+pub same_series : (book : List Series) (id : ℕ) (one two : Series) → slice_get book id ≡ Some one → slice_get book id ≡ Some two → one ≡ two
+same_series book id one two first second = ap (λ found. unwrap_or found one) (sym first ∙ second)
+
+-- what a view keeps of the list of the sums are the samples of the two series of the book
+pub samples_are : (book : List Series) (x y : ℕ) (sum : Sum) (g : Grid) (axis : Axis) (on : AreShifted book x y sum.shift) → ((x y : Axis) (xs ys : List (Option ℤ)) → 0 < x.step → IsShift x y sum.shift → AreSumSamples g sum.a sum.b x y xs ys (kept g x (sums_of sum xs ys)))
+    → 0 < axis.step → axis ≡ axis_of on.one → AreSamplesOf book x y sum.a sum.b g (kept g axis (sums_of sum on.one.slots on.other.slots))
+samples_are book x y sum g axis on law step same =
+    let S : Axis → Type 0 = λ a. 0 < a.step in
+    let A : Axis → Type 0 = λ a. AreSumSamples g sum.a sum.b (axis_of on.one) (axis_of on.other) on.one.slots on.other.slots (kept g a (sums_of sum on.one.slots on.other.slots)) in
+    record {
+      one = on.one;
+      other = on.other;
+      first = on.first;
+      second = on.second;
+      are = subst A (sym same) (law (axis_of on.one) (axis_of on.other) on.one.slots on.other.slots (subst S same step) on.shift);
+    }
+
+-- an axis by its parts
+pub axis_same : (axis : Axis) (series : Series) → axis.start ≡ series.start → axis.step ≡ series.step → axis.slots ≡ length series.slots → axis ≡ axis_of series
+axis_same axis series start step slots = λ i. record { start = start i; step = step i; slots = slots i }
+
+-- whether the series of a book at two ids are on one grid, by the axes of these
+pub shift_so : (book : List Series) (x y : ℕ) (one other : Series) (axis axis' : Axis) (shift : Option ℤ) → slice_get book x ≡ Some one → slice_get book y ≡ Some other → axis ≡ axis_of one → axis' ≡ axis_of other
+    → IfSome shift (IsShift axis axis') → IfNone shift ((d : ℤ) → IsShift axis axis' d → ⊥) → MatchOption shift (AreUnlike book x y) (AreShifted book x y)
+shift_so book x y one other axis axis' None first second same also some none = λ d on.
+    let here : on.one ≡ one = same_series book x on.one one on.first first in
+    let there : on.other ≡ other = same_series book y on.other other on.second second in
+    let P : Series → Type 0 = λ s. IsShift (axis_of s) (axis_of on.other) d in
+    let Q : Series → Type 0 = λ s. IsShift (axis_of one) (axis_of s) d in
+    let A : Axis → Type 0 = λ a. IsShift a (axis_of other) d in
+    let B : Axis → Type 0 = λ a. IsShift axis a d in
+    none d (subst B (sym also) (subst A (sym same) (subst Q there (subst P here on.shift))))
+shift_so book x y one other axis axis' (Some d) first second same also some none =
+    let A : Axis → Type 0 = λ a. IsShift a axis' d in
+    let B : Axis → Type 0 = λ a. IsShift (axis_of one) a d in
+    record { one = one; other = other; first = first; second = second; shift = subst B also (subst A same some) }
+
+module _ {P : Type 0} {g : Ghosts P} where
+  pub pair_is : (at : StorePair P g) (total : ℕ) (book : List Series) (d : ℤ) (on : AreShifted book at.x at.y d) → shown.IsSound at.store → shown.IsTold at.store → StandsForBook (shown.image at.store) total book → ArePair at on.one.slots on.other.slots
+  pair_is at total book d on sound told stands = record {
+    sound = sound;
+    told = told;
+    total = total;
+    book = book;
+    stands = stands;
+    one = on.one;
+    other = on.other;
+    first = on.first;
+    second = on.second;
+    first_is = refl;
+    second_is = refl;
+  }
+
+  -- the slots of the first series, where it is asked
+  pub first_slots : (old new : StorePair P g) (total : ℕ) (book : List Series) (series : Series) → shown.IsSound old.store → shown.IsTold old.store → StandsForBook (shown.image old.store) total book → slice_get book old.x ≡ Some series → GoesPair old new → new.is_second ≡ false
+      → (shown.nodes new.store).slots ≡ length series.slots
+  first_slots old new total book series sound told stands at going turned =
+      let other = book_there old.store total book old.y sound told stands old.second in
+      let are : ArePair old series.slots other.0.slots = record {
+        sound = sound;
+        told = told;
+        total = total;
+        book = book;
+        stands = stands;
+        one = series;
+        other = other.0;
+        first = at;
+        second = other.1;
+        first_is = refl;
+        second_is = refl;
+      } in
+      (pair_agrees (still_are_pair going are)).slots ∙ ap (λ second. length (one_of second series.slots other.0.slots)) turned
+
+  -- what is answered of a store is so of the pair that it was put into
+  pub answer_of : (store : Store P g) (pair : StorePair P g) (x y : ℕ) (d a b : ℤ) (grid : Grid) (asked : Option ValueRange) (result : Result Canvas SumError) → pair.store.space ≡ store.space → pair.x ≡ x → pair.y ≡ y
+      → shown.ForBook pair.store (λ total book. AreShifted book pair.x pair.y d → IsChartAnswer book pair.x pair.y a b grid asked result) → shown.ForBook store (λ total book. AreShifted book x y d → IsChartAnswer book x y a b grid asked result)
+  answer_of store pair x y d a b grid asked result same first second answer = λ total book told stands.
+      let T : Space P g → Type 0 = λ s. spaces.IsTold s in
+      let B : Space P g → Type 0 = λ s. StandsForBook (spaces.image s) total book in
+      let X : ℕ → Type 0 = λ n. AreShifted book n pair.y d → IsChartAnswer book n pair.y a b grid asked result in
+      let Y : ℕ → Type 0 = λ n. AreShifted book x n d → IsChartAnswer book x n a b grid asked result in
+      subst Y second (subst X first (answer total book (subst T (sym same) told) (subst B (sym same) stands)))
+
+  pub cause_later : (e : DerivedError) (old mid new : StorePair P g) → GoesPair old mid → IsCause (Causes mid new) e → IsCause (Causes old new) e
+  cause_later (derived.TooLarge time) old mid new going cause = tt
+  cause_later (derived.Node error) old mid new going cause = causes_later error old mid new going cause
+  cause_later derived.NoMemory old mid new going cause = tt
+
+  pub of_pages : (e : DerivedError) (old new : StorePair P g) → shown.IsSound old.store → IsCause (Causes old new) e → IsCause IsOfPages e
+  of_pages (derived.TooLarge time) old new sound cause = tt
+  of_pages (derived.Node node.DiskFault) old new sound cause = tt
+  of_pages (derived.Node (node.Damaged page)) old new sound cause = tt
+  of_pages (derived.Node (node.Missing key)) old new sound cause = cause sound
+  of_pages (derived.Node (node.BadCoefficient key)) old new sound cause = cause sound
+  of_pages derived.NoMemory old new sound cause = tt
+
+  pub error_cause : (e : DerivedError) (old new : StorePair P g) → shown.IsSound old.store → IsCause (Causes old new) e → IsChartCause (error_of e) (shown.IsTold new.store) (shown.total old.store) (shown.view old.store) (shown.view new.store)
+  error_cause (derived.TooLarge time) old new sound cause = tt
+  error_cause (derived.Node node.DiskFault) old new sound cause = cause sound
+  error_cause (derived.Node (node.Damaged page)) old new sound cause = (cause sound).0
+  error_cause (derived.Node (node.Missing key)) old new sound cause = absurd (cause sound)
+  error_cause (derived.Node (node.BadCoefficient key)) old new sound cause = absurd (cause sound)
+  error_cause derived.NoMemory old new sound cause = tt
+
+  pub error_answer : (e : DerivedError) (old new : StorePair P g) (total : ℕ) (book : List Series) (x y : ℕ) (a b : ℤ) (grid : Grid) (asked : Option ValueRange) (samples : List Sample) → shown.IsSound old.store → shown.IsTold old.store → StandsForBook (shown.image old.store) total book
+      → IsCause (Causes old new) e → AreSamplesOf book x y a b grid samples → IsAnswer grid samples (Err e) → IsChartAnswer book x y a b grid asked (Err (error_of e))
+  error_answer (derived.TooLarge time) old new total book x y a b grid asked samples sound told stands cause are first = record { samples = samples; are = are; first = first }
+  error_answer (derived.Node node.DiskFault) old new total book x y a b grid asked samples sound told stands cause are first = tt
+  error_answer (derived.Node (node.Damaged page)) old new total book x y a b grid asked samples sound told stands cause are first = (cause sound).1 total book told stands
+  error_answer (derived.Node (node.Missing key)) old new total book x y a b grid asked samples sound told stands cause are first = tt
+  error_answer (derived.Node (node.BadCoefficient key)) old new total book x y a b grid asked samples sound told stands cause are first = tt
+  error_answer derived.NoMemory old new total book x y a b grid asked samples sound told stands cause are first = tt

@@ -1,0 +1,40 @@
+use Rattle.std.proofs.Common.{sym, subst}
+use Rattle.std.specs.Prelude.{Err}
+use Rattle.derived_chart.specs.Lists.{sums_of}
+use Rattle.plain_chart.specs.Samples.{kept}
+use Rattle.series_pair.specs.AskLaws.{still_are_pair}
+use Rattle.series_pair.specs.Derived.{IsChartAnswer}
+use Rattle.series_pair.specs.declared.sum_error.SumError.{SumError}
+use Rattle.series_pair.proofs.ChartLemmas.{cause_later, error_answer, pair_is, samples_are}
+use Rattle.series_pair.proofs.drawing.chart_of_pair.Goals as goal
+
+pub returns-in-Err-clause-answer : goal.returns-in-Err-clause-answer
+returns-in-Err-clause-answer g c = λ total book told stands on.
+    let old = c.args.pair.now in
+    let axis = c.first_axis-axis.result in
+    let samples = kept c.args.grid axis (sums_of c.args.sum on.one.slots on.other.slots) in
+    let are = still_are_pair c.first_axis-axis.ensures.goes (pair_is old total book c.args.sum.shift on c.requires.sound told stands) in
+    let of = samples_are book old.x old.y c.args.sum c.args.grid axis on (λ x y xs ys. c.kept_sums_are_the_samples.ensures c.args.grid x y c.args.sum xs ys) c.first_axis-axis.ensures.step
+    (c.first_axis-axis.ensures.axis total book on.one told stands on.first) in
+    let cause = cause_later c.in-Err.error old c.first_axis-axis.new.pair c.derived_rows.new.trees c.first_axis-axis.ensures.goes c.in-Err.ensures.cause in
+    let E : SumError → Type 0 = λ e. IsChartAnswer book old.x old.y c.args.sum.a c.args.sum.b c.args.grid c.args.range (Err e) in
+    subst E (sym c.error_of.ensures)
+    (error_answer c.in-Err.error old c.derived_rows.new.trees total book old.x old.y c.args.sum.a c.args.sum.b c.args.grid c.args.range samples c.requires.sound told stands cause of (c.in-Err.ensures.rows on.one.slots on.other.slots are))
+
+pub returns-clause-answer : goal.returns-clause-answer
+returns-clause-answer g c = λ total book told stands on.
+    let old = c.args.pair.now in
+    let axis = c.first_axis-axis.result in
+    let sums = sums_of c.args.sum on.one.slots on.other.slots in
+    let samples = kept c.args.grid axis sums in
+    let are = still_are_pair c.first_axis-axis.ensures.goes (pair_is old total book c.args.sum.shift on c.requires.sound told stands) in
+    let rows = c.in-Ok.ensures.rows on.one.slots on.other.slots are in
+    record {
+      samples = samples;
+      are = samples_are book old.x old.y c.args.sum c.args.grid axis on (λ x y xs ys. c.kept_sums_are_the_samples.ensures c.args.grid x y c.args.sum xs ys) c.first_axis-axis.ensures.step
+          (c.first_axis-axis.ensures.axis total book on.one told stands on.first);
+      values = rows.1;
+      range = c.shown_range-range.result;
+      shows = c.shown_range-range.ensures.shows c.args.grid samples rows.0;
+      chart = c.in_ok-bitmap.ensures axis sums c.first_axis-axis.ensures.step rows.0;
+    }

@@ -1,0 +1,5 @@
+pub mod Derived
+pub mod Pairs
+pub mod Asking
+pub mod AskLaws
+pub mod Drawing
