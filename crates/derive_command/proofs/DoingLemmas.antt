@@ -1,5 +1,5 @@
 -- A request is answered, and a line; and what calls move.
-use Rattle.std.proofs.Common.{◌≡◌, ◌≢◌, ◌∙◌, ℕ, ℤ, ◌+◌, ◌<◌, ◌≤◌, List, [], ◌∷◌, length, Option, Some, None, Result, Ok, Err, IfSome, refl, ap, sym, subst, arith, inl, inr}
+use Rattle.std.proofs.Common.{◌≡◌, ◌≢◌, ◌∙◌, ℕ, ℤ, ◌+◌, ◌<◌, ◌≤◌, List, [], length, Option, Some, None, Result, Ok, Err, IfSome, refl, ap, sym, subst, arith, inl, inr}
 use Rattle.std.specs.Prelude.{OnOk, IfErr}
 use Rattle.block_disk.proofs.Passing.{passes_none, passes_weaker, sends_then_sends}
 use Rattle.block_disk.specs.Counts.{HasRisen}
@@ -108,9 +108,8 @@ module _ (book : List Series) (line : List ℕ) (at : ℕ) (before now : Option 
   line_of_request {T} (Err end) r spells does = record { done = tt; stops = request_stops_line r spells end does.stops }
 
 -- a line that says no request
-pub line_bad : {T : Type 0} (book : List Series) (line : List ℕ) (at : ℕ) (before : Option (List ℕ)) → (line ≡ [] → ⊥) → SaysNone (Some line) → DoesLine {T = T} book line at (Err (BadLine at)) before before
-line_bad {T} book [] at before some none = absurd (some refl)
-line_bad {T} book (byte ∷ bytes) at before some none = record { done = tt; stops = record { place_is = refl; some = omega arith; none = none; unsent = refl } }
+pub line_bad : {T : Type 0} (book : List Series) (line : List ℕ) (at : ℕ) (before : Option (List ℕ)) → 0 < length line → SaysNone (Some line) → DoesLine {T = T} book line at (Err (BadLine at)) before before
+line_bad {T} book line at before some none = record { done = tt; stops = record { place_is = refl; some = some; none = none; unsent = refl } }
 
 -- ---- what calls move
 

@@ -1,3 +1,7 @@
+use Rattle.std.proofs.Common.{◌∙◌, ℤ, SFits, rules, subst, sym}
+use Rattle.std.proofs.lemmas.Int.{to_z-of_z}
+use Rattle.std.specs.Int.{w64}
+use Rattle.series_pair.specs.Derived.{AreShifted}
 use Rattle.derive_command.proofs.AskLemmas.{ids_refused, view_refused}
 use Rattle.derive_command.proofs.asking.asked_of.Goals as goal
 
@@ -16,9 +20,11 @@ returns-in-Err-view_of-clause-asked g c = λ total book sound told stands.
 pub returns-clause-asked : goal.returns-clause-asked
 returns-clause-asked g c = λ total book sound told stands.
     let view = c.in-Ok-view_of.ensures.view in
+    let fits : SFits w64 c.in-Some.shift = search rules in
+    let S : ℤ → Type 0 = λ d. AreShifted book c.in-Ok.ids.0 c.in-Ok.ids.1 d in
     record {
       named = c.in-Ok.ensures.ids total book sound told stands;
-      shifted = ?;
+      shifted = subst S (sym (c.sum_of.ensures.shift ∙ to_z-of_z w64 c.in-Some.shift fits)) (c.in-Some.ensures.shift total book sound told stands);
       a = c.sum_of.ensures.a;
       b = c.sum_of.ensures.b;
       grid_is = view.0;
