@@ -13,7 +13,7 @@ use Rattle.series_book.specs.declared.errors.NameError.TheVariants.{NotAName, No
 use Rattle.whole_number.specs.Spelling.{SpellsNatural}
 use Rattle.whole_number.proofs.Digits.{one_natural}
 use Rattle.program_words.specs.declared.words.Command.{Command}
-use Rattle.program_words.specs.declared.words.Command.TheVariants.{Plot, Load, Demo, Run, Serve, Draw, Init, Check, ListSeries, Export, Retain}
+use Rattle.program_words.specs.declared.words.Command.TheVariants.{Plot, Load, Demo, Run, Serve, Draw, Init, Check, ListSeries, Export, Retain, Derive}
 use Rattle.program_words.specs.declared.words.WordsEnd.{WordsEnd}
 use Rattle.program_words.specs.declared.words.WordsEnd.TheVariants.{Wrong, NoMemory as AtMemory}
 use Rattle.program_words.specs.Words.{Spells, Begins, IsWrongAt, IsWrongBy, IsSingle, HasNoName, HasNoSeed, word_of}
@@ -116,6 +116,7 @@ number_of Init = 7
 number_of Check = 8
 number_of ListSeries = 9
 number_of Retain = 10
+number_of Derive = 11
 
 unfoldable number_by : List ℕ → ℕ
 number_by word =
@@ -128,7 +129,8 @@ number_by word =
     if bytes_eq word (codes "draw") then 6 else
     if bytes_eq word (codes "init") then 7 else
     if bytes_eq word (codes "check") then 8 else
-    if bytes_eq word (codes "list") then 9 else 10
+    if bytes_eq word (codes "list") then 9 else
+    if bytes_eq word (codes "retain") then 10 else 11
 
 number_so : (command : Command) → number_by (word_of command) ≡ number_of command
 unfolding number_by
@@ -142,6 +144,7 @@ number_so Init = refl
 number_so Check = refl
 number_so ListSeries = refl
 number_so Retain = refl
+number_so Derive = refl
 number_so (Export name window) = refl
 
 -- a command's first word
@@ -156,6 +159,7 @@ first_of_spelling spelling Init spells = ap (λ l. slice_get l 0) spells
 first_of_spelling spelling Check spells = ap (λ l. slice_get l 0) spells
 first_of_spelling spelling ListSeries spells = ap (λ l. slice_get l 0) spells
 first_of_spelling spelling Retain spells = ap (λ l. slice_get l 0) spells
+first_of_spelling spelling Derive spells = ap (λ l. slice_get l 0) spells
 first_of_spelling spelling (Export name window) spells = ap (λ l. slice_get l 0) spells.0
 
 -- two commands whose spellings begin with one word have one number
@@ -258,6 +262,7 @@ only_plot Init spelling spells number = absurd (omega (arith, number))
 only_plot Check spelling spells number = absurd (omega (arith, number))
 only_plot ListSeries spelling spells number = absurd (omega (arith, number))
 only_plot Retain spelling spells number = absurd (omega (arith, number))
+only_plot Derive spelling spells number = absurd (omega (arith, number))
 only_plot (Export name window) spelling spells number = absurd (omega (arith, number))
 
 plots : HasTwo (codes "plot") IsSideWord IsSideWord
@@ -304,6 +309,7 @@ only_demo Init spelling spells number = absurd (omega (arith, number))
 only_demo Check spelling spells number = absurd (omega (arith, number))
 only_demo ListSeries spelling spells number = absurd (omega (arith, number))
 only_demo Retain spelling spells number = absurd (omega (arith, number))
+only_demo Derive spelling spells number = absurd (omega (arith, number))
 only_demo (Export name window) spelling spells number = absurd (omega (arith, number))
 
 demos : HasTwo (codes "demo") IsSeedWord IsSideWord
@@ -344,6 +350,7 @@ only_load Init spelling spells number = absurd (omega (arith, number))
 only_load Check spelling spells number = absurd (omega (arith, number))
 only_load ListSeries spelling spells number = absurd (omega (arith, number))
 only_load Retain spelling spells number = absurd (omega (arith, number))
+only_load Derive spelling spells number = absurd (omega (arith, number))
 only_load (Export name window) spelling spells number = absurd (omega (arith, number))
 
 pub a_name : IsTrue (is_name (codes "a"))
@@ -384,6 +391,7 @@ spells_single Init is = refl
 spells_single Check is = refl
 spells_single ListSeries is = refl
 spells_single Retain is = refl
+spells_single Derive is = refl
 spells_single (Export name window) none = absurd none
 
 single_number : (command : Command) → IsSingle command → 3 < number_of command
@@ -397,6 +405,7 @@ single_number Init is = omega arith
 single_number Check is = omega arith
 single_number ListSeries is = omega arith
 single_number Retain is = omega arith
+single_number Derive is = omega arith
 single_number (Export name window) none = absurd none
 
 -- a command of such a number has one word
@@ -411,6 +420,7 @@ short_spelling Init spelling spells number = omega (arith, ap length spells)
 short_spelling Check spelling spells number = omega (arith, ap length spells)
 short_spelling ListSeries spelling spells number = omega (arith, ap length spells)
 short_spelling Retain spelling spells number = omega (arith, ap length spells)
+short_spelling Derive spelling spells number = omega (arith, ap length spells)
 short_spelling (Export name window) spelling spells number = absurd (omega (arith, number))
 
 -- no command begins with the first word
@@ -433,6 +443,7 @@ no_command first plot load demo export single Init is = single Init tt is
 no_command first plot load demo export single Check is = single Check tt is
 no_command first plot load demo export single ListSeries is = single ListSeries tt is
 no_command first plot load demo export single Retain is = single Retain tt is
+no_command first plot load demo export single Derive is = single Derive tt is
 no_command first plot load demo export single (Export name window) is = export is
 
 pub wrong_behind : (words : List (List ℕ)) (command : Command) → IsSingle command → slice_get words 0 ≡ Some (word_of command) → 1 < length words → IsWrongAt 1 words

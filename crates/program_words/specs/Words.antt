@@ -6,7 +6,7 @@ use Rattle.series_book.specs.Names.{is_name}
 use Rattle.series_export.specs.declared.window.Window.{Window}
 use Rattle.program_words.specs.CommandLine.{plain_words, has_flag}
 use Rattle.program_words.specs.declared.words.Command.{Command}
-use Rattle.program_words.specs.declared.words.Command.TheVariants.{Plot, Load, Demo, Run, Serve, Draw, Init, Check, ListSeries, Export, Retain}
+use Rattle.program_words.specs.declared.words.Command.TheVariants.{Plot, Load, Demo, Run, Serve, Draw, Init, Check, ListSeries, Export, Retain, Derive}
 use Rattle.program_words.specs.declared.words.WordsEnd.{WordsEnd}
 use Rattle.program_words.specs.declared.words.WordsEnd.TheVariants.{Wrong, NoMemory}
 
@@ -23,6 +23,7 @@ word_of Check = codes "check"
 word_of ListSeries = codes "list"
 word_of (Export name window) = codes "export"
 word_of Retain = codes "retain"
+word_of Derive = codes "derive"
 
 -- a command of one word
 abbrev pub IsSingle : Command → Type 0
@@ -37,6 +38,7 @@ IsSingle Check = ⊤
 IsSingle ListSeries = ⊤
 IsSingle (Export name window) = ⊥
 IsSingle Retain = ⊤
+IsSingle Derive = ⊤
 
 -- the words behind the name of an export: the ends of its window, if there is one
 abbrev pub window_words : Option Window → List (List ℕ)
@@ -50,7 +52,7 @@ IsWindowIfAny (Some window) = IsWindow window.from window.to
 
 -- the words spell the command: `plot W H`, two numbers from 1 to 4,096; `load NAME`; `demo SEED N`, a number below 2^64 and
 -- one from 1 to 4,096; `export NAME` or `export NAME T0 T1`, two whole numbers; or `run`, `serve`, `draw`, `init`, `check`,
--- `list` or `retain`
+-- `list`, `retain` or `derive`
 abbrev pub Spells : Command → List (List ℕ) → Type 0
 Spells (Plot w h) words = (words ≡ codes "plot" ∷ decimal w ∷ decimal h ∷ []) × IsSide w × IsSide h
 Spells (Load name) words = (words ≡ codes "load" ∷ name ∷ []) × IsTrue (is_name name)
@@ -63,6 +65,7 @@ Spells Check words = words ≡ codes "check" ∷ []
 Spells ListSeries words = words ≡ codes "list" ∷ []
 Spells (Export name window) words = (words ≡ codes "export" ∷ name ∷ window_words window) × IsTrue (is_name name) × IsWindowIfAny window
 Spells Retain words = words ≡ codes "retain" ∷ []
+Spells Derive words = words ≡ codes "derive" ∷ []
 
 -- the first words, so many of them, are those that some command begins with
 pub record Begins (count : ℕ) (words : List (List ℕ)) : Type 0 where

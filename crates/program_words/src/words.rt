@@ -40,6 +40,8 @@ pub enum Command {
     Export { name: Name, window: Option<Window> },
     /// The answers to the input's lines, each a rule by which old slots of the store are dropped.
     Retain,
+    /// The pictures that the input's lines ask for, each of a sum of two series of the store.
+    Derive,
 }
 
 /// Why the words aren't taken for a command.
@@ -133,6 +135,8 @@ fn single_word(words: &[&str]) -> Result<Command, u64>
         Ok(Command::ListSeries)
     } else if is_word(words, 0, "retain") {
         Ok(Command::Retain)
+    } else if is_word(words, 0, "derive") {
+        Ok(Command::Derive)
     } else {
         Err(0)
     }
