@@ -5,7 +5,7 @@ use Rattle.gate_pages.specs.Journal.{page_count}
 use Rattle.disk_store.specs.Openings.{IsOpeningPlace}
 use Rattle.disk_store.specs.declared.causes.OpeningCause.{OpeningCause}
 use Rattle.program_words.specs.declared.words.Command.{Command}
-use Rattle.program_words.specs.declared.words.Command.TheVariants.{Plot, Load, Demo, Run, Serve, Draw, Init, Check, ListSeries, Export, Retain}
+use Rattle.program_words.specs.declared.words.Command.TheVariants.{Plot, Load, Demo, Run, Serve, Draw, Init, Check, ListSeries, Export, Retain, Derive}
 use Rattle.store_commands.specs.declared.status.Status.{Status}
 use Rattle.store_commands.specs.Traffic.{Traffic}
 use Rattle.stored_book.specs.Damage.{IsBadForRequest}
@@ -16,7 +16,7 @@ use Rattle.chart_program.specs.declared.lines_end.LinesEnd.TheVariants as lines_
 
 -- the codes of all statuses
 abbrev pub all_codes : List ℕ
-all_codes = 0 ∷ 2 ∷ 3 ∷ 4 ∷ 5 ∷ 6 ∷ 7 ∷ 8 ∷ 9 ∷ 10 ∷ 11 ∷ 12 ∷ 13 ∷ 14 ∷ 15 ∷ 17 ∷ []
+all_codes = 0 ∷ 2 ∷ 3 ∷ 4 ∷ 5 ∷ 6 ∷ 7 ∷ 8 ∷ 9 ∷ 10 ∷ 11 ∷ 12 ∷ 13 ∷ 14 ∷ 15 ∷ 16 ∷ 17 ∷ []
 
 -- the codes of the statuses that a command has, once its words were read
 abbrev pub codes_of : Command → List ℕ
@@ -31,6 +31,7 @@ codes_of Check = 0 ∷ 3 ∷ 5 ∷ 6 ∷ 7 ∷ 12 ∷ []
 codes_of ListSeries = 0 ∷ 3 ∷ 5 ∷ 6 ∷ 7 ∷ 12 ∷ []
 codes_of (Export name window) = 0 ∷ 3 ∷ 5 ∷ 6 ∷ 7 ∷ 12 ∷ 14 ∷ []
 codes_of Retain = 0 ∷ 3 ∷ 4 ∷ 5 ∷ 6 ∷ 7 ∷ 8 ∷ 9 ∷ 12 ∷ 17 ∷ []
+codes_of Derive = 0 ∷ 3 ∷ 4 ∷ 5 ∷ 6 ∷ 7 ∷ 8 ∷ 9 ∷ 12 ∷ 16 ∷ []
 
 -- the command opens the store of the disk, or makes one
 abbrev pub IsOverStore : Command → Type 0
@@ -75,6 +76,7 @@ Bars Run old new left left' before now place = IsBarred (page_count old.size) ne
 Bars Serve old new left left' before now place = IsBarred (page_count old.size) new left left' before now place
 Bars (Export name window) old new left left' before now place = IsDamagedForExport old before now place
 Bars Retain old new left left' before now place = IsBarred (page_count old.size) new left left' before now place
+Bars Derive old new left left' before now place = IsBarred (page_count old.size) new left left' before now place
 Bars command old new left left' before now place = now ≡ before
 
 abbrev pub BarsBy : View → View → Status → Command → Option (List ℕ) → Option (List ℕ) → Option (List ℕ) → Option (List ℕ) → Type 0

@@ -25,6 +25,7 @@ use drawn_replies::laws::{
 };
 use empty_store::{InitCause, make_store};
 use program_words::Command;
+use derive_command::derive;
 use retain_command::retain;
 use std::alloc::Global;
 use store_commands::status::{
@@ -62,6 +63,7 @@ pub(crate) fn status_of_command<W: World>(
         Command::ListSeries => list_series(alloc, world),
         Command::Export { name, window } => export_values(alloc, &name, window, world),
         Command::Retain => retain(alloc, world),
+        Command::Derive => derive(alloc, world),
     }
 }
 
