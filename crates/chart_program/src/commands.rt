@@ -19,13 +19,13 @@ use block_disk::{Back, World};
 use chart_frames::laws::{
     length_is_told, more_bytes_mend_nothing, one_frame_a_spelling, spellings_are_good,
 };
+use derive_command::derive;
 use drawn_replies::laws::{
     one_session_draws_the_book, own_replies_are_accepted, replies_are_accepted,
     replies_draw_the_book,
 };
 use empty_store::{InitCause, make_store};
 use program_words::Command;
-use derive_command::derive;
 use retain_command::retain;
 use std::alloc::Global;
 use store_commands::status::{

@@ -41,10 +41,7 @@ pub fn derive<W: World>(alloc: Global, world: W) -> (Status, W)
 }
 
 /// The same over a store that is open: what that answers, and the disk.
-fn draw_store<W: World>(
-    alloc: Global,
-    store: Store<GatePages<W>>,
-) -> (Result<(), DeriveEnd>, W)
+fn draw_store<W: World>(alloc: Global, store: Store<GatePages<W>>) -> (Result<(), DeriveEnd>, W)
     requires { IsTrue (shown.pages store).sound }
     ensures { let pages = shown.pages store in DrawnOn pages.count (W.view pages.disk) (W.view result.1) (traffic W.left W.sent W.read_faults W.send_faults pages.disk result.1) result.0 }
 {

@@ -32,10 +32,7 @@ fn offset_of(lines: &Lines) -> u32
 
 /// Sends the picture that each line of the input asks for, in order; empty lines are passed over. After `Ok` the input
 /// was read to its end. The store is given back: nothing is written to its pages.
-pub fn draw_lines<P: PageWorld>(
-    alloc: Global,
-    store: Store<P>,
-) -> (Result<(), DeriveEnd>, Store<P>)
+pub fn draw_lines<P: PageWorld>(alloc: Global, store: Store<P>) -> (Result<(), DeriveEnd>, Store<P>)
     requires sound { shown.IsSound store }
     ensures done { shown.ForBook store (λ total book. OnOk result.0 (AreDrawn P.Streams book store result.1)) }
     ensures within { OnOk result.0 (IfSome (P.left (shown.pages store)) (λ input. length input ≤ 2 ^ 32)) }
