@@ -2,6 +2,7 @@
 import array
 import math
 import os
+import random
 import sqlite3
 import subprocess
 import sys
@@ -11,16 +12,15 @@ from measuring import HEIGHT, PROGRAM, ROOT, WIDTH, build_store, counted_calls, 
 COUNT, BLOCKS = 10**6, 32768
 READS = ("pread64",)
 ROUNDS = 3
-OPENING = 17  # pages that an opening reads: page 0 and the catalog
 COLUMNS = """select p.slot * ? / ?, min(p.value + q.value), max(p.value + q.value) from points p join points q on q.series = 1 and q.slot = p.slot
 where p.series = 0 group by 1"""
 
 
-def steps():
+def other_walk():
     """A random walk of other steps than measuring's."""
-    value = 0
-    for slot in range(COUNT):
-        value += slot * slot * 7 % 1999 - 999
+    draw, value = random.Random(1), 0
+    for _ in range(COUNT):
+        value += draw.randrange(-100, 101)
         yield value
 
 
@@ -30,7 +30,7 @@ def sine():
 
 def pairs():
     """The series that are added: a name, and the values of each."""
-    yield "a walk and a walk", list(walk(COUNT)), list(steps())
+    yield "a walk and a walk", list(walk(COUNT)), list(other_walk())
     yield "a walk and a constant", list(walk(COUNT)), [1000] * COUNT
     yield "a sine and its opposite", sine(), [-value for value in sine()]
 
