@@ -50,11 +50,11 @@ def build_store(path, blocks, lines):
         subprocess.run(["cp", "--sparse=always", built, path], check=True)
 
 
-def lines_of_series(values):
-    """The request lines that make the series `s` of these values; None is a slot without one."""
-    yield "create s 0 1 0"
+def lines_of_series(values, name="s"):
+    """The request lines that make the series of this name of these values; None is a slot without one."""
+    yield f"create {name} 0 1 0"
     for at in range(0, len(values), LINE):
-        yield f"append s {' '.join('-' if value is None else str(value) for value in values[at : at + LINE])}"
+        yield f"append {name} {' '.join('-' if value is None else str(value) for value in values[at : at + LINE])}"
 
 
 def counted_calls(words, given, calls):

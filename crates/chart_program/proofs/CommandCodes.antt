@@ -40,7 +40,7 @@ never l code n inside outside is =
 abbrev pub of_plot : List ℕ
 of_plot = 0 ∷ 3 ∷ 4 ∷ 5 ∷ 8 ∷ 9 ∷ []
 
-pub plot_codes : (code : ℕ) → Contains of_plot code → Contains (0 ∷ 3 ∷ 4 ∷ 5 ∷ 6 ∷ 7 ∷ 8 ∷ 9 ∷ 10 ∷ 11 ∷ 12 ∷ 13 ∷ 14 ∷ 15 ∷ 17 ∷ []) code
+pub plot_codes : (code : ℕ) → Contains of_plot code → Contains (0 ∷ 3 ∷ 4 ∷ 5 ∷ 6 ∷ 7 ∷ 8 ∷ 9 ∷ 10 ∷ 11 ∷ 12 ∷ 13 ∷ 14 ∷ 15 ∷ 16 ∷ 17 ∷ []) code
 plot_codes code (zero, inside, is) = (0, omega arith, is)
 plot_codes code (suc zero, inside, is) = (1, omega arith, is)
 plot_codes code (suc (suc zero), inside, is) = (2, omega arith, is)
@@ -53,7 +53,7 @@ plot_codes code (suc (suc (suc (suc (suc (suc k))))), inside, is) = absurd (omeg
 abbrev pub of_draw : List ℕ
 of_draw = 0 ∷ 3 ∷ 4 ∷ 5 ∷ 8 ∷ 9 ∷ 10 ∷ 11 ∷ 15 ∷ []
 
-pub draw_codes : (code : ℕ) → Contains of_draw code → Contains (0 ∷ 3 ∷ 4 ∷ 5 ∷ 6 ∷ 7 ∷ 8 ∷ 9 ∷ 10 ∷ 11 ∷ 12 ∷ 13 ∷ 14 ∷ 15 ∷ 17 ∷ []) code
+pub draw_codes : (code : ℕ) → Contains of_draw code → Contains (0 ∷ 3 ∷ 4 ∷ 5 ∷ 6 ∷ 7 ∷ 8 ∷ 9 ∷ 10 ∷ 11 ∷ 12 ∷ 13 ∷ 14 ∷ 15 ∷ 16 ∷ 17 ∷ []) code
 draw_codes code (zero, inside, is) = (0, omega arith, is)
 draw_codes code (suc zero, inside, is) = (1, omega arith, is)
 draw_codes code (suc (suc zero), inside, is) = (2, omega arith, is)
@@ -69,7 +69,7 @@ draw_codes code (suc (suc (suc (suc (suc (suc (suc (suc (suc k)))))))), inside, 
 abbrev pub of_init : List ℕ
 of_init = 0 ∷ 3 ∷ 6 ∷ 12 ∷ 13 ∷ []
 
-pub init_codes : (code : ℕ) → Contains of_init code → Contains (0 ∷ 3 ∷ 4 ∷ 5 ∷ 6 ∷ 7 ∷ 8 ∷ 9 ∷ 10 ∷ 11 ∷ 12 ∷ 13 ∷ 14 ∷ 15 ∷ 17 ∷ []) code
+pub init_codes : (code : ℕ) → Contains of_init code → Contains (0 ∷ 3 ∷ 4 ∷ 5 ∷ 6 ∷ 7 ∷ 8 ∷ 9 ∷ 10 ∷ 11 ∷ 12 ∷ 13 ∷ 14 ∷ 15 ∷ 16 ∷ 17 ∷ []) code
 init_codes code (zero, inside, is) = (0, omega arith, is)
 init_codes code (suc zero, inside, is) = (1, omega arith, is)
 init_codes code (suc (suc zero), inside, is) = (4, omega arith, is)
@@ -116,7 +116,7 @@ run_codes code (suc (suc (suc (suc (suc (suc (suc (suc (suc zero)))))))), inside
 run_codes code (suc (suc (suc (suc (suc (suc (suc (suc (suc (suc zero))))))))), inside, is) opened = absurd (opened (sym is))
 run_codes code (suc (suc (suc (suc (suc (suc (suc (suc (suc (suc (suc k)))))))))), inside, is) opened = absurd (omega (arith, inside))
 
-pub lines_codes : (code : ℕ) → Contains of_lines code → Contains (0 ∷ 3 ∷ 4 ∷ 5 ∷ 6 ∷ 7 ∷ 8 ∷ 9 ∷ 10 ∷ 11 ∷ 12 ∷ 13 ∷ 14 ∷ 15 ∷ 17 ∷ []) code
+pub lines_codes : (code : ℕ) → Contains of_lines code → Contains (0 ∷ 3 ∷ 4 ∷ 5 ∷ 6 ∷ 7 ∷ 8 ∷ 9 ∷ 10 ∷ 11 ∷ 12 ∷ 13 ∷ 14 ∷ 15 ∷ 16 ∷ 17 ∷ []) code
 lines_codes code (zero, inside, is) = (0, omega arith, is)
 lines_codes code (suc zero, inside, is) = (1, omega arith, is)
 lines_codes code (suc (suc zero), inside, is) = (2, omega arith, is)
@@ -134,7 +134,7 @@ lines_codes code (suc (suc (suc (suc (suc (suc (suc (suc (suc (suc (suc k)))))))
 abbrev pub of_load : List ℕ
 of_load = 0 ∷ 3 ∷ 4 ∷ 5 ∷ 6 ∷ 7 ∷ 8 ∷ 9 ∷ 12 ∷ 14 ∷ []
 
-pub load_codes : (code : ℕ) → Contains of_load code → Contains (0 ∷ 3 ∷ 4 ∷ 5 ∷ 6 ∷ 7 ∷ 8 ∷ 9 ∷ 10 ∷ 11 ∷ 12 ∷ 13 ∷ 14 ∷ 15 ∷ 17 ∷ []) code
+pub load_codes : (code : ℕ) → Contains of_load code → Contains (0 ∷ 3 ∷ 4 ∷ 5 ∷ 6 ∷ 7 ∷ 8 ∷ 9 ∷ 10 ∷ 11 ∷ 12 ∷ 13 ∷ 14 ∷ 15 ∷ 16 ∷ 17 ∷ []) code
 load_codes code (zero, inside, is) = (0, omega arith, is)
 load_codes code (suc zero, inside, is) = (1, omega arith, is)
 load_codes code (suc (suc zero), inside, is) = (2, omega arith, is)
@@ -151,7 +151,7 @@ load_codes code (suc (suc (suc (suc (suc (suc (suc (suc (suc (suc k))))))))), in
 abbrev pub of_check : List ℕ
 of_check = 0 ∷ 3 ∷ 5 ∷ 6 ∷ 7 ∷ 12 ∷ []
 
-pub check_codes : (code : ℕ) → Contains of_check code → Contains (0 ∷ 3 ∷ 4 ∷ 5 ∷ 6 ∷ 7 ∷ 8 ∷ 9 ∷ 10 ∷ 11 ∷ 12 ∷ 13 ∷ 14 ∷ 15 ∷ 17 ∷ []) code
+pub check_codes : (code : ℕ) → Contains of_check code → Contains (0 ∷ 3 ∷ 4 ∷ 5 ∷ 6 ∷ 7 ∷ 8 ∷ 9 ∷ 10 ∷ 11 ∷ 12 ∷ 13 ∷ 14 ∷ 15 ∷ 16 ∷ 17 ∷ []) code
 check_codes code (zero, inside, is) = (0, omega arith, is)
 check_codes code (suc zero, inside, is) = (1, omega arith, is)
 check_codes code (suc (suc zero), inside, is) = (3, omega arith, is)
@@ -164,7 +164,7 @@ check_codes code (suc (suc (suc (suc (suc (suc k))))), inside, is) = absurd (ome
 abbrev pub of_export : List ℕ
 of_export = 0 ∷ 3 ∷ 5 ∷ 6 ∷ 7 ∷ 12 ∷ 14 ∷ []
 
-pub export_codes : (code : ℕ) → Contains of_export code → Contains (0 ∷ 3 ∷ 4 ∷ 5 ∷ 6 ∷ 7 ∷ 8 ∷ 9 ∷ 10 ∷ 11 ∷ 12 ∷ 13 ∷ 14 ∷ 15 ∷ 17 ∷ []) code
+pub export_codes : (code : ℕ) → Contains of_export code → Contains (0 ∷ 3 ∷ 4 ∷ 5 ∷ 6 ∷ 7 ∷ 8 ∷ 9 ∷ 10 ∷ 11 ∷ 12 ∷ 13 ∷ 14 ∷ 15 ∷ 16 ∷ 17 ∷ []) code
 export_codes code (zero, inside, is) = (0, omega arith, is)
 export_codes code (suc zero, inside, is) = (1, omega arith, is)
 export_codes code (suc (suc zero), inside, is) = (3, omega arith, is)
@@ -178,7 +178,7 @@ export_codes code (suc (suc (suc (suc (suc (suc (suc k)))))), inside, is) = absu
 abbrev pub of_demo : List ℕ
 of_demo = 0 ∷ 3 ∷ 5 ∷ 6 ∷ 7 ∷ 10 ∷ 11 ∷ 12 ∷ []
 
-pub demo_codes : (code : ℕ) → Contains of_demo code → Contains (0 ∷ 3 ∷ 4 ∷ 5 ∷ 6 ∷ 7 ∷ 8 ∷ 9 ∷ 10 ∷ 11 ∷ 12 ∷ 13 ∷ 14 ∷ 15 ∷ 17 ∷ []) code
+pub demo_codes : (code : ℕ) → Contains of_demo code → Contains (0 ∷ 3 ∷ 4 ∷ 5 ∷ 6 ∷ 7 ∷ 8 ∷ 9 ∷ 10 ∷ 11 ∷ 12 ∷ 13 ∷ 14 ∷ 15 ∷ 16 ∷ 17 ∷ []) code
 demo_codes code (zero, inside, is) = (0, omega arith, is)
 demo_codes code (suc zero, inside, is) = (1, omega arith, is)
 demo_codes code (suc (suc zero), inside, is) = (3, omega arith, is)
@@ -202,7 +202,7 @@ zero_of code unread (suc (suc (suc (suc (suc k)))), inside, is) = absurd (omega 
 abbrev pub of_retain : List ℕ
 of_retain = 0 ∷ 3 ∷ 4 ∷ 5 ∷ 6 ∷ 7 ∷ 8 ∷ 9 ∷ 12 ∷ 17 ∷ []
 
-pub retain_codes : (code : ℕ) → Contains of_retain code → Contains (0 ∷ 3 ∷ 4 ∷ 5 ∷ 6 ∷ 7 ∷ 8 ∷ 9 ∷ 10 ∷ 11 ∷ 12 ∷ 13 ∷ 14 ∷ 15 ∷ 17 ∷ []) code
+pub retain_codes : (code : ℕ) → Contains of_retain code → Contains (0 ∷ 3 ∷ 4 ∷ 5 ∷ 6 ∷ 7 ∷ 8 ∷ 9 ∷ 10 ∷ 11 ∷ 12 ∷ 13 ∷ 14 ∷ 15 ∷ 16 ∷ 17 ∷ []) code
 retain_codes code (zero, inside, is) = (0, omega arith, is)
 retain_codes code (suc zero, inside, is) = (1, omega arith, is)
 retain_codes code (suc (suc zero), inside, is) = (2, omega arith, is)
@@ -212,14 +212,14 @@ retain_codes code (suc (suc (suc (suc (suc zero)))), inside, is) = (5, omega ari
 retain_codes code (suc (suc (suc (suc (suc (suc zero))))), inside, is) = (6, omega arith, is)
 retain_codes code (suc (suc (suc (suc (suc (suc (suc zero)))))), inside, is) = (7, omega arith, is)
 retain_codes code (suc (suc (suc (suc (suc (suc (suc (suc zero))))))), inside, is) = (10, omega arith, is)
-retain_codes code (suc (suc (suc (suc (suc (suc (suc (suc (suc zero)))))))), inside, is) = (14, omega arith, is)
+retain_codes code (suc (suc (suc (suc (suc (suc (suc (suc (suc zero)))))))), inside, is) = (15, omega arith, is)
 retain_codes code (suc (suc (suc (suc (suc (suc (suc (suc (suc (suc k))))))))), inside, is) = absurd (omega (arith, inside))
 
 -- codes of the command `live` are codes of a command
 abbrev pub of_live : List ℕ
 of_live = 0 ∷ 3 ∷ 4 ∷ 5 ∷ 6 ∷ 7 ∷ 9 ∷ 12 ∷ []
 
-pub live_codes : (code : ℕ) → Contains of_live code → Contains (0 ∷ 3 ∷ 4 ∷ 5 ∷ 6 ∷ 7 ∷ 8 ∷ 9 ∷ 10 ∷ 11 ∷ 12 ∷ 13 ∷ 14 ∷ 15 ∷ 17 ∷ []) code
+pub live_codes : (code : ℕ) → Contains of_live code → Contains (0 ∷ 3 ∷ 4 ∷ 5 ∷ 6 ∷ 7 ∷ 8 ∷ 9 ∷ 10 ∷ 11 ∷ 12 ∷ 13 ∷ 14 ∷ 15 ∷ 16 ∷ 17 ∷ []) code
 live_codes code (zero, inside, is) = (0, omega arith, is)
 live_codes code (suc zero, inside, is) = (1, omega arith, is)
 live_codes code (suc (suc zero), inside, is) = (2, omega arith, is)
@@ -229,3 +229,19 @@ live_codes code (suc (suc (suc (suc (suc zero)))), inside, is) = (5, omega arith
 live_codes code (suc (suc (suc (suc (suc (suc zero))))), inside, is) = (7, omega arith, is)
 live_codes code (suc (suc (suc (suc (suc (suc (suc zero)))))), inside, is) = (10, omega arith, is)
 live_codes code (suc (suc (suc (suc (suc (suc (suc (suc k))))))), inside, is) = absurd (omega (arith, inside))
+-- codes of the command `derive` are codes of a command
+abbrev pub of_derive : List ℕ
+of_derive = 0 ∷ 3 ∷ 4 ∷ 5 ∷ 6 ∷ 7 ∷ 8 ∷ 9 ∷ 12 ∷ 16 ∷ []
+
+pub derive_codes : (code : ℕ) → Contains of_derive code → Contains (0 ∷ 3 ∷ 4 ∷ 5 ∷ 6 ∷ 7 ∷ 8 ∷ 9 ∷ 10 ∷ 11 ∷ 12 ∷ 13 ∷ 14 ∷ 15 ∷ 16 ∷ 17 ∷ []) code
+derive_codes code (zero, inside, is) = (0, omega arith, is)
+derive_codes code (suc zero, inside, is) = (1, omega arith, is)
+derive_codes code (suc (suc zero), inside, is) = (2, omega arith, is)
+derive_codes code (suc (suc (suc zero)), inside, is) = (3, omega arith, is)
+derive_codes code (suc (suc (suc (suc zero))), inside, is) = (4, omega arith, is)
+derive_codes code (suc (suc (suc (suc (suc zero)))), inside, is) = (5, omega arith, is)
+derive_codes code (suc (suc (suc (suc (suc (suc zero))))), inside, is) = (6, omega arith, is)
+derive_codes code (suc (suc (suc (suc (suc (suc (suc zero)))))), inside, is) = (7, omega arith, is)
+derive_codes code (suc (suc (suc (suc (suc (suc (suc (suc zero))))))), inside, is) = (10, omega arith, is)
+derive_codes code (suc (suc (suc (suc (suc (suc (suc (suc (suc zero)))))))), inside, is) = (14, omega arith, is)
+derive_codes code (suc (suc (suc (suc (suc (suc (suc (suc (suc (suc k))))))))), inside, is) = absurd (omega (arith, inside))

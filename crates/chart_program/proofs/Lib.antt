@@ -23,3 +23,4 @@ pub mod Statuses
 pub mod InitLemmas
 pub mod RetainEnds
 pub mod LiveEnds
+pub mod DeriveEnds

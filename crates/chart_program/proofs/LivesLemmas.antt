@@ -8,7 +8,7 @@ use Rattle.disk_store.specs.Held.{HoldsBook}
 use Rattle.stored_book.specs.Standing.{StandsForBook, RecoversTo}
 use Rattle.series_load.specs.Sets.{IsNamed, Loads}
 use Rattle.program_words.specs.declared.words.Command.{Command}
-use Rattle.program_words.specs.declared.words.Command.TheVariants.{Plot, Load, Demo, Run, Serve, Draw, Init, Check, ListSeries, Export, Retain, Cover, Live}
+use Rattle.program_words.specs.declared.words.Command.TheVariants.{Plot, Load, Demo, Run, Serve, Draw, Init, Check, ListSeries, Export, Retain, Cover, Live, Derive}
 use Rattle.store_commands.specs.Books.{begun}
 use Rattle.store_commands.proofs.HoldsAgain.{series_there}
 use Rattle.store_commands.specs.Loaded.{IsAheadLoad}
@@ -56,6 +56,7 @@ run_lives Retain input old new begins left at b leaves is = λ total book recove
     (leaves total book (begun_holds (page_count old.size) total book begins old b recovers)).here at left is.0 is.1.0 is.1.1
 run_lives (Cover every) input old new begins left at b leaves is = λ total book recovers.
 run_lives Live input old new begins left at b leaves is = λ total book recovers.
+run_lives Derive input old new begins left at b leaves is = λ total book recovers.
     (leaves total book (begun_holds (page_count old.size) total book begins old b recovers)).here at left is.0 is.1.0 is.1.1
 
 -- where the input and what was sent are told
@@ -172,6 +173,7 @@ left_by one ListSeries input count total book from left sent leaves = (book, ref
 left_by one (Export name window) input count total book from left sent leaves = (book, refl, leaves)
 left_by one Retain input count total book from left sent leaves = left_swept input count total book from left sent leaves
 left_by one Live input count total book from left sent leaves = left_lived input count total book from left sent leaves
+left_by one Derive input count total book from left sent leaves = (book, refl, leaves)
 
 -- ---- lives in a row
 

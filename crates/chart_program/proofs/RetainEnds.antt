@@ -77,6 +77,7 @@ retain_ends old new left left' before now faults code place e away = record {
   refused = λ is. absurd (never of_retain code 14 e.codes refl is);
   unnamed = tt;
   unknown = e.unknown;
+  refused_line = λ is. absurd (never of_retain code 16 e.codes refl is);
   zero_place = e.zero_place;
   done = e.done;
   part = e.part;

@@ -58,6 +58,7 @@ list_ends old new left left' before now faults code place e away untaken = recor
   refused = λ is. absurd (never of_check code 14 e.codes refl is);
   unnamed = tt;
   unknown = λ is. absurd (never of_check code 17 e.codes refl is);
+  refused_line = λ is. absurd (never of_check code 16 e.codes refl is);
   zero_place = λ zero. e.zero_place (zero_of code (never of_check code 4 e.codes refl) zero);
   done = λ is. told_all left _ (e.done is);
   part = λ is. told_all left _ (e.part is);
@@ -117,6 +118,7 @@ export_ends name window old new left left' before now faults code place e away u
   refused = λ is. told_all left _ (e.unknown is);
   unnamed = e.unnamed;
   unknown = λ is. absurd (never of_export code 17 e.codes refl is);
+  refused_line = λ is. absurd (never of_export code 16 e.codes refl is);
   zero_place = λ zero. e.zero_place (zero_of code (never of_export code 4 e.codes refl) zero);
   done = λ is. told_all left _ (e.done is);
   part = λ is. told_all left _ e.part;

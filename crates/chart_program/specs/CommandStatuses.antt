@@ -5,7 +5,7 @@ use Rattle.gate_pages.specs.Journal.{page_count}
 use Rattle.disk_store.specs.Openings.{IsOpeningPlace}
 use Rattle.disk_store.specs.declared.causes.OpeningCause.{OpeningCause}
 use Rattle.program_words.specs.declared.words.Command.{Command}
-use Rattle.program_words.specs.declared.words.Command.TheVariants.{Plot, Load, Demo, Run, Serve, Draw, Init, Check, ListSeries, Export, Retain, Cover, Live}
+use Rattle.program_words.specs.declared.words.Command.TheVariants.{Plot, Load, Demo, Run, Serve, Draw, Init, Check, ListSeries, Export, Retain, Cover, Live, Derive}
 use Rattle.store_commands.specs.declared.status.Status.{Status}
 use Rattle.store_commands.specs.Status.{status}
 use Rattle.chart_frames.specs.Frames.{key_number}
@@ -20,7 +20,7 @@ use Rattle.chart_program.specs.declared.lines_end.LinesEnd.TheVariants as lines_
 
 -- the codes of all statuses
 abbrev pub all_codes : List ℕ
-all_codes = 0 ∷ 2 ∷ 3 ∷ 4 ∷ 5 ∷ 6 ∷ 7 ∷ 8 ∷ 9 ∷ 10 ∷ 11 ∷ 12 ∷ 13 ∷ 14 ∷ 15 ∷ 17 ∷ []
+all_codes = 0 ∷ 2 ∷ 3 ∷ 4 ∷ 5 ∷ 6 ∷ 7 ∷ 8 ∷ 9 ∷ 10 ∷ 11 ∷ 12 ∷ 13 ∷ 14 ∷ 15 ∷ 16 ∷ 17 ∷ []
 
 -- the codes of the statuses that a command has, once its words were read
 abbrev pub codes_of : Command → List ℕ
@@ -37,6 +37,7 @@ codes_of (Export name window) = 0 ∷ 3 ∷ 5 ∷ 6 ∷ 7 ∷ 12 ∷ 14 ∷ []
 codes_of Retain = 0 ∷ 3 ∷ 4 ∷ 5 ∷ 6 ∷ 7 ∷ 8 ∷ 9 ∷ 12 ∷ 17 ∷ []
 codes_of (Cover every) = 0 ∷ 3 ∷ 4 ∷ 5 ∷ 8 ∷ 9 ∷ 10 ∷ 11 ∷ 15 ∷ []
 codes_of Live = 0 ∷ 3 ∷ 4 ∷ 5 ∷ 6 ∷ 7 ∷ 9 ∷ 12 ∷ []
+codes_of Derive = 0 ∷ 3 ∷ 4 ∷ 5 ∷ 6 ∷ 7 ∷ 8 ∷ 9 ∷ 12 ∷ 16 ∷ []
 
 -- the command opens the store of the disk, or makes one
 abbrev pub IsOverStore : Command → Type 0
@@ -83,6 +84,7 @@ Bars Serve old new left left' before now place = IsBarred (page_count old.size) 
 Bars (Export name window) old new left left' before now place = IsDamagedForExport old before now place
 Bars Retain old new left left' before now place = IsBarred (page_count old.size) new left left' before now place
 Bars Live old new left left' before now place = IsBarred (page_count old.size) new left left' before now place
+Bars Derive old new left left' before now place = IsBarred (page_count old.size) new left left' before now place
 Bars command old new left left' before now place = now ≡ before
 
 abbrev pub BarsBy : View → View → Status → Command → Option (List ℕ) → Option (List ℕ) → Option (List ℕ) → Option (List ℕ) → Type 0

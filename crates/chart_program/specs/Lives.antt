@@ -16,7 +16,7 @@ use Rattle.chart_service.specs.State.{State}
 use Rattle.chart_service.specs.Serving.{Answers, AnswersNext, told}
 use Rattle.chart_service.specs.Moments.{SendsReply}
 use Rattle.program_words.specs.declared.words.Command.{Command}
-use Rattle.program_words.specs.declared.words.Command.TheVariants.{Plot, Load, Demo, Run, Serve, Draw, Init, Check, ListSeries, Export, Retain, Cover, Live}
+use Rattle.program_words.specs.declared.words.Command.TheVariants.{Plot, Load, Demo, Run, Serve, Draw, Init, Check, ListSeries, Export, Retain, Cover, Live, Derive}
 use Rattle.store_commands.specs.Books.{begun}
 use Rattle.store_commands.specs.Loaded.{IsAheadLoad}
 use Rattle.store_commands.specs.Demonstrated.{AnswersFirst, IsAheadDemo}
@@ -51,6 +51,7 @@ LeavesFrom (Export name window) input count total book from image sent = Recover
 LeavesFrom Retain input count total book from image sent = IsAheadBy (λ after. RecoversTo count image total after) total book input from sent
 LeavesFrom (Cover every) input count total book from image sent = RecoversTo count image total book
 LeavesFrom Live input count total book from image sent = IsAheadLive (λ after. RecoversTo count image total after) input (begun_live total book) from sent
+LeavesFrom Derive input count total book from image sent = RecoversTo count image total book
 LeavesFrom (Plot w h) input count total book from image sent = RecoversTo count image total book
 LeavesFrom Draw input count total book from image sent = RecoversTo count image total book
 LeavesFrom Init input count total book from image sent = RecoversTo count image total book
@@ -136,6 +137,7 @@ Outlives ListSeries input total old new from sent = new ≡ old
 Outlives (Export name window) input total old new from sent = new ≡ old
 Outlives Retain input total old new from sent = IsAheadBy (λ after. new ≡ after) total old input from sent
 Outlives Live input total old new from sent = IsAheadLive (λ after. new ≡ after) input (begun_live total old) from sent
+Outlives Derive input total old new from sent = new ≡ old
 Outlives (Plot w h) input total old new from sent = new ≡ old
 Outlives Draw input total old new from sent = new ≡ old
 Outlives (Cover every) input total old new from sent = new ≡ old

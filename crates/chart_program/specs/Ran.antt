@@ -19,7 +19,7 @@ use Rattle.series_book.specs.declared.one_series.Series.{Series}
 use Rattle.disk_store.specs.Held.{HoldsBook}
 use Rattle.drawn_replies.specs.Pictures.{ArePictured, AreOwnPictured, NoneRejected, names}
 use Rattle.program_words.specs.declared.words.Command.{Command}
-use Rattle.program_words.specs.declared.words.Command.TheVariants.{Plot, Load, Demo, Run, Serve, Draw, Init, Check, ListSeries, Export, Retain, Cover, Live}
+use Rattle.program_words.specs.declared.words.Command.TheVariants.{Plot, Load, Demo, Run, Serve, Draw, Init, Check, ListSeries, Export, Retain, Cover, Live, Derive}
 use Rattle.draw_command.specs.declared.draw_end.DrawEnd.TheVariants as draw_end
 use Rattle.chart_program.specs.declared.draw_end.DrawEnd.TheVariants as draw_end
 use Rattle.program_words.specs.CommandLine.{plain_words}
@@ -47,6 +47,8 @@ use Rattle.retention.specs.declared.rule.Rule.{Rule}
 use Rattle.retain_command.specs.Answers.{AreRules}
 use Rattle.retain_command.specs.Retained.{LeavesSwept, RetainsAll, RetainsLines, RetainsPart, RetainsSome, RetainsTaken, RetainsToBad, RetainsToUnknown, RetainsWithin}
 use Rattle.live_command.specs.Ended.{LeavesLived, LivesAll, LivesLines, LivesPart, LivesSome, LivesTaken, LivesWithin}
+use Rattle.derive_command.specs.Derived.{DerivesAll, DerivesFirst, DerivesPart, DerivesTaken, DerivesToBad, DerivesToRefused, DerivesWithin}
+use Rattle.derive_command.specs.Lines.{AreAnswers}
 use Rattle.store_commands.specs.Damaged.{IsDamagedAtFirst, IsDamagedPlace}
 use Rattle.chart_program.specs.CommandStatuses.{codes_of, IsOverStore, TakesNone, Bars}
 use Rattle.chart_client.specs.declared.holding.Holding.{Holding}
@@ -74,7 +76,8 @@ ForStreams words left sent old new IsSo = ByCommand words (λ command. IsSo comm
 
 -- the first words of the commands that send before they end
 abbrev pub stream_words : List (List ℕ)
-stream_words = codes "run" ∷ codes "serve" ∷ codes "draw" ∷ codes "export" ∷ codes "retain" ∷ codes "cover" ∷ codes "live" ∷ []
+stream_words =
+    codes "run" ∷ codes "serve" ∷ codes "draw" ∷ codes "export" ∷ codes "retain" ∷ codes "cover" ∷ codes "live" ∷ codes "derive" ∷ []
 
 -- the words begin with one of these
 abbrev pub BeginStream : List (List ℕ) → Type 0
@@ -96,6 +99,7 @@ SendsAll (Export name window) old new input before now = ExportsAll name window 
 SendsAll Retain old new input before now = RetainsAll (page_count old.size) old new input before now
 SendsAll (Cover every) old new input before now = DrawsAll (Some every) input before now
 SendsAll Live old new input before now = LivesAll (page_count old.size) old new input before now
+SendsAll Derive old new input before now = DerivesAll (page_count old.size) old input before now
 
 -- the first bytes of the command's output for this input were sent
 abbrev pub SendsPart : Command → View → View → List ℕ → Option (List ℕ) → Option (List ℕ) → Type 0
@@ -112,6 +116,7 @@ SendsPart (Export name window) old new input before now = ExportsPart name windo
 SendsPart Retain old new input before now = RetainsPart (page_count old.size) old new input before now
 SendsPart (Cover every) old new input before now = StopsAtFrame (Some every) input before now draw_end.SendFault
 SendsPart Live old new input before now = LivesPart (page_count old.size) old new input before now
+SendsPart Derive old new input before now = DerivesPart (page_count old.size) old input before now
 
 -- A take failed, where these bytes were left. A plot has sent nothing, a serving command what answers the
 -- lines taken, `draw` the pictures of the frames taken, and `cover` these and their covers.
@@ -129,6 +134,7 @@ StopsBefore (Export name window) old new input before now bytes = ⊥
 StopsBefore Retain old new input before now bytes = RetainsTaken (page_count old.size) old new input (Some bytes) before now
 StopsBefore (Cover every) old new input before now bytes = DrawsTaken (Some every) input bytes before now
 StopsBefore Live old new input before now bytes = LivesTaken (page_count old.size) old new input (Some bytes) before now
+StopsBefore Derive old new input before now bytes = DerivesTaken (page_count old.size) old input (Some bytes) before now
 
 -- the same, where the bytes left are told
 abbrev pub StopsWith : Option (List ℕ) → Command → View → View → List ℕ → Option (List ℕ) → Option (List ℕ) → Type 0
@@ -150,6 +156,7 @@ IsCutShort (Export name window) old new input before now = ExportsPart name wind
 IsCutShort Retain old new input before now = RetainsSome (page_count old.size) old new input before now
 IsCutShort (Cover every) old new input before now = StopsAtFrame (Some every) input before now draw_end.NoMemory
 IsCutShort Live old new input before now = LivesSome (page_count old.size) old new input before now
+IsCutShort Derive old new input before now = DerivesFirst (page_count old.size) old input before now
 
 -- A call of the disk failed. `init` has sent nothing, a serving command what answers some first lines, and an export a
 -- front of its text.
@@ -167,6 +174,7 @@ StopsAtDisk (Export name window) old input before now = ExportsPart name window 
 StopsAtDisk Retain old input before now = RetainsLines (page_count old.size) old input before now
 StopsAtDisk (Cover every) old input before now = ⊥
 StopsAtDisk Live old input before now = LivesLines (page_count old.size) old input before now
+StopsAtDisk Derive old input before now = DerivesFirst (page_count old.size) old input before now
 
 -- The line or the field at this place is the first that isn't in the command's grammar, or the input ends there
 -- within a frame; a serving command answers each line. `draw` has sent the pictures of the frames before, and `cover`
@@ -185,6 +193,7 @@ IsBadInput (Export name window) old new input place before now = ⊥
 IsBadInput Retain old new input place before now = RetainsToBad (page_count old.size) old new input place before now
 IsBadInput (Cover every) old new input place before now = IsCut (Some every) input place before now ⊎ StopsAtFrame (Some every) input before now (draw_end.BadFrame place)
 IsBadInput Live old new input place before now = ⊥
+IsBadInput Derive old new input place before now = DerivesToBad (page_count old.size) old input place before now
 
 -- A frame's first wanted key that can't be used has no coefficient. That never comes for a `run` whose disk holds a book.
 abbrev pub Lacks : Command → View → List ℕ → ℕ → Option (List ℕ) → Option (List ℕ) → Type 0
@@ -231,6 +240,7 @@ LeavesDisk (Export name window) old new = GoesOn old new
 LeavesDisk Retain old new = GoesOn old new
 LeavesDisk (Cover every) old new = DiskKept old new
 LeavesDisk Live old new = GoesOn old new
+LeavesDisk Derive old new = GoesOn old new
 
 -- What a crash leaves at each moment of a serving command: a book with each edit whose answer was sent whole by then, and
 -- with at most 64 edits more. `init`, `check`, `plot`, `draw` and `cover` leave the book as it is.
@@ -244,6 +254,7 @@ Leaves ListSeries input old new = LeavesSame (page_count old.size) old new
 Leaves (Export name window) input old new = LeavesSame (page_count old.size) old new
 Leaves Retain input old new = LeavesSwept (page_count old.size) input old new
 Leaves Live input old new = LeavesLived (page_count old.size) input old new
+Leaves Derive input old new = LeavesSame (page_count old.size) old new
 Leaves (Plot w h) input old new = LeavesSame (page_count old.size) old new
 Leaves Draw input old new = LeavesSame (page_count old.size) old new
 Leaves (Cover every) input old new = LeavesSame (page_count old.size) old new
@@ -268,6 +279,7 @@ IsDamaged ListSeries old new place = IsDamagedAtFirst old place
 IsDamaged (Export name window) old new place = IsDamagedAtFirst old place ⊎ IsBadInTree (page_count old.size) old place
 IsDamaged Retain old new place = IsDamagedPlace IsBadForRequest old new place
 IsDamaged Live old new place = IsDamagedPlace IsBadForRequest old new place
+IsDamaged Derive old new place = IsDamagedPlace IsBadForRequest old new place
 IsDamaged command old new place = ⊥
 
 -- which never comes where the disk of a serving command holds a book
@@ -281,6 +293,7 @@ IsUndamaged ListSeries old = Never (page_count old.size) old
 IsUndamaged (Export name window) old = Never (page_count old.size) old
 IsUndamaged Retain old = Never (page_count old.size) old
 IsUndamaged Live old = Never (page_count old.size) old
+IsUndamaged Derive old = Never (page_count old.size) old
 IsUndamaged command old = ⊥
 
 -- an empty store was made where none was, and a crash now leaves it
@@ -307,6 +320,7 @@ IsTooSmall ListSeries old place = (place ≡ old.size) × (old.size < 128)
 IsTooSmall (Export name window) old place = (place ≡ old.size) × (old.size < 128)
 IsTooSmall Retain old place = (place ≡ old.size) × (old.size < 128)
 IsTooSmall Live old place = (place ≡ old.size) × (old.size < 128)
+IsTooSmall Derive old place = (place ≡ old.size) × (old.size < 128)
 IsTooSmall command old place = ⊥
 
 -- there is a store already, in whose page 0 this block is
@@ -333,11 +347,17 @@ IsTooMuch (Export name window) old new input place before now = ⊥
 IsTooMuch Retain old new input place before now = (place ≡ 2 ^ 32) × RetainsWithin (page_count old.size) old new input before now
 IsTooMuch (Cover every) old new input place before now = (place ≡ 2 ^ 32) × DrawsWithin (Some every) input before now
 IsTooMuch Live old new input place before now = (place ≡ 2 ^ 32) × LivesWithin (page_count old.size) old new input before now
+IsTooMuch Derive old new input place before now = (place ≡ 2 ^ 32) × DerivesWithin (page_count old.size) old input before now
 
 -- A line, which begins at this place, names a series that isn't there. The lines before it were swept and answered.
 abbrev pub IsUnknown : Command → View → View → List ℕ → ℕ → Option (List ℕ) → Option (List ℕ) → Type 0
 IsUnknown Retain old new input place before now = RetainsToUnknown (page_count old.size) old new input place before now
 IsUnknown command old new input place before now = ⊥
+
+-- A line is refused: the place is 256 times its offset and the number of the refusal. The answers to the lines before it were sent.
+abbrev pub IsRefusedLine : Command → View → List ℕ → ℕ → Option (List ℕ) → Option (List ℕ) → Type 0
+IsRefusedLine Derive old input place before now = DerivesToRefused (page_count old.size) old input place before now
+IsRefusedLine command old input place before now = ⊥
 
 -- a set is refused, or there is no series of the name: then no input was taken and the book stays
 abbrev pub IsRefused : Command → View → View → List ℕ → Option (List ℕ) → ℕ → Type 0
@@ -405,6 +425,7 @@ IsWithin (Export name window) input = ⊤
 IsWithin Retain input = length input ≤ 2 ^ 32
 IsWithin (Cover every) input = length input ≤ 2 ^ 32
 IsWithin Live input = length input ≤ 2 ^ 32
+IsWithin Derive input = length input ≤ 2 ^ 32
 
 -- the lines are no more than a serving command takes, its disk holds a book, and no call of the disk failed
 pub record AreLines (old new : View) (input : List ℕ) : Type 0 where
@@ -454,6 +475,17 @@ pub record AreRetained (old new : View) (input : List ℕ) : Type 0 where
   pub are : AreRules total book (told input) rules
   pub whole : HasRisen old.faults new.faults → ⊥
 
+-- The lines are no more than `derive` takes, the disk holds a book, each line that isn't empty is a request with an answer, and
+-- no call of the disk failed.
+pub record AreDerived (old new : View) (input : List ℕ) : Type 0 where
+  pub short : length input ≤ 2 ^ 32
+  pub total : ℕ
+  pub book : List Series
+  pub holds : HoldsBook (page_count old.size) total book old
+  pub text : List ℕ
+  pub answers : AreAnswers book (told input) text
+  pub whole : HasRisen old.faults new.faults → ⊥
+
 -- the input is in the grammar of a command that takes one, and no more than it takes
 abbrev pub IsInput : Command → View → View → List ℕ → Type 0
 IsInput (Plot w h) old new input = IsSlots input
@@ -469,6 +501,7 @@ IsInput (Export name window) old new input = HoldsNamed name old new
 IsInput Retain old new input = AreRetained old new input
 IsInput (Cover every) old new input = IsFrames input
 IsInput Live old new input = AreLines old new input
+IsInput Derive old new input = AreDerived old new input
 
 -- The words are those of a command, the input is told, and it is good for each command whose words they are.
 pub record HasGoodInput {Z : Type 0} (words : List (String Z)) (left : Option (List ℕ)) (IsGood : Command → List ℕ → Type 0) : Type 0 where
@@ -567,6 +600,7 @@ IsStreaming (Export name window) = ⊤
 IsStreaming Retain = ⊤
 IsStreaming (Cover every) = ⊤
 IsStreaming Live = ⊤
+IsStreaming Derive = ⊤
 IsStreaming command = ⊥
 
 -- the operands of a command are in their ranges
@@ -578,7 +612,7 @@ HasOperands command = ⊤
 
 -- What a command did, sent and left, and why it ended, by the status: the clauses of the program's call, of one command.
 pub record CommandEnds (command : Command) (old new : View) (left left' before now : Option (List ℕ)) (faults : Faults) (code place : ℕ) : Type 0 where
-  pub codes : Contains (0 ∷ 3 ∷ 4 ∷ 5 ∷ 6 ∷ 7 ∷ 8 ∷ 9 ∷ 10 ∷ 11 ∷ 12 ∷ 13 ∷ 14 ∷ 15 ∷ 17 ∷ []) code
+  pub codes : Contains (0 ∷ 3 ∷ 4 ∷ 5 ∷ 6 ∷ 7 ∷ 8 ∷ 9 ∷ 10 ∷ 11 ∷ 12 ∷ 13 ∷ 14 ∷ 15 ∷ 16 ∷ 17 ∷ []) code
   pub own : Contains (codes_of command) code
   pub away : IsOverStore command → old.size < 128 → IsTurnedAway left left' before now code
   pub untaken : TakesNone command → left' ≡ left
@@ -606,6 +640,7 @@ pub record CommandEnds (command : Command) (old new : View) (left left' before n
   pub refused : code ≡ 14 → IfSome left (λ input. IsRefused command old new input left' place)
   pub unnamed : TellsUnnamed command old code
   pub unknown : code ≡ 17 → IfSome left (λ input. IsUnknown command old new input place before now)
+  pub refused_line : code ≡ 16 → IfSome left (λ input. IsRefusedLine command old input place before now)
   pub zero_place : Contains (0 ∷ 3 ∷ 4 ∷ 5 ∷ 6 ∷ []) code → place ≡ 0
   pub done : code ≡ 0 → IfSome left (λ input. SendsAll command old new input before now)
   pub part : code ≡ 5 → IfSome left (λ input. SendsPart command old new input before now)

@@ -19,6 +19,7 @@ use block_disk::{Back, World};
 use chart_frames::laws::{
     length_is_told, more_bytes_mend_nothing, one_frame_a_spelling, spellings_are_good,
 };
+use derive_command::derive;
 use draw_command::laws::covers_narrow_to_the_picture;
 use draw_command::{DrawEnd, cover, draw};
 use drawn_replies::laws::{
@@ -70,6 +71,7 @@ pub(crate) fn status_of_command<W: World>(
             (status, world)
         }
         Command::Live => live(alloc, world),
+        Command::Derive => derive(alloc, world),
     }
 }
 

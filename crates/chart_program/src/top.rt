@@ -6,11 +6,12 @@ ghost use Rattle.program_words.specs.declared.words.Command.TheVariants.{Draw, I
 ghost use Rattle.program_words.specs.Words.{AreCommand, AreWordsOf, ByCommand, Spells, IsWrong};
 ghost use Rattle.chart_program.specs.CommandStatuses.{all_codes, codes_of, TakesNone, BarsBy};
 ghost use Rattle.chart_program.specs.Lives.{IsLived};
-ghost use Rattle.chart_program.specs.Ran.{ForCommand, ForStreams, IsUnread, IsAwayFor, SendsAll, SendsPart, StopsWith, StopsAtDisk, IsBadInput, IsTooMuch, IsCutShort, IsInput, HasGoodInput, IsFree, IsWithin, LeavesDisk, LeavesTold, HoldsNow, IsDamaged, IsUndamaged, IsMade, IsTooSmall, IsThere, IsRefusedWith, IsUnknown, TellsUnnamed, ReadsFew, ReadsByInput, SyncsByInput, Lacks, Misfits, NamesUnopened, DrawsReplies, IsOfReplies, IsCoverOfReplies, CoversBook, BeginStream};
+ghost use Rattle.chart_program.specs.Ran.{ForCommand, ForStreams, IsUnread, IsAwayFor, SendsAll, SendsPart, StopsWith, StopsAtDisk, IsBadInput, IsTooMuch, IsCutShort, IsInput, HasGoodInput, IsFree, IsWithin, LeavesDisk, LeavesTold, HoldsNow, IsDamaged, IsUndamaged, IsMade, IsTooSmall, IsThere, IsRefusedWith, IsUnknown, IsRefusedLine, TellsUnnamed, ReadsFew, ReadsByInput, SyncsByInput, Lacks, Misfits, NamesUnopened, DrawsReplies, IsOfReplies, IsCoverOfReplies, CoversBook, BeginStream};
 
 use crate::commands::status_of_command;
 use block_disk::World;
 use chart_frames::laws::{length_is_told, one_frame_a_spelling, spellings_are_good};
+use derive_command::REFUSED_LINE;
 use drawn_replies::laws::{
     one_session_draws_the_book, own_replies_are_accepted, replies_are_accepted,
     replies_draw_the_book,
@@ -53,6 +54,7 @@ pub fn chart<W: World>(alloc: Global, words: &[String], world: W) -> (Status, W)
     ensures there { result.0.code ≡ IS_STORE → ByCommand words.now (λ command. IsThere command (W.view world) result.0.place) }
     ensures refused { result.0.code ≡ REFUSED → ForCommand words.now W.view W.left W.sent world result.1 (IsRefusedWith (W.left result.1) result.0.place) }
     ensures unknown { result.0.code ≡ NO_SERIES → ForCommand words.now W.view W.left W.sent world result.1 (λ command old new input. IsUnknown command old new input result.0.place) }
+    ensures refused_line { result.0.code ≡ REFUSED_LINE → ForCommand words.now W.view W.left W.sent world result.1 (λ command old new input. IsRefusedLine command old input result.0.place) }
     ensures unnamed { result.0.code ≢ WRONG_WORDS → IsUnread result.0 world result.1 ⊎ ByCommand words.now (λ command. TellsUnnamed command (W.view world) result.0.code) }
     ensures place { Contains (DONE ∷ NO_MEMORY ∷ READ_FAULT ∷ SEND_FAULT ∷ DISK_FAULT ∷ []) result.0.code → result.0.place ≡ 0 }
 

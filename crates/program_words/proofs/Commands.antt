@@ -13,7 +13,7 @@ use Rattle.series_book.specs.declared.errors.NameError.TheVariants.{NotAName, No
 use Rattle.whole_number.specs.Spelling.{SpellsNatural}
 use Rattle.whole_number.proofs.Digits.{one_natural}
 use Rattle.program_words.specs.declared.words.Command.{Command}
-use Rattle.program_words.specs.declared.words.Command.TheVariants.{Plot, Load, Demo, Run, Serve, Draw, Init, Check, ListSeries, Export, Retain, Cover, Live}
+use Rattle.program_words.specs.declared.words.Command.TheVariants.{Plot, Load, Demo, Run, Serve, Draw, Init, Check, ListSeries, Export, Retain, Cover, Live, Derive}
 use Rattle.program_words.specs.declared.words.WordsEnd.{WordsEnd}
 use Rattle.program_words.specs.declared.words.WordsEnd.TheVariants.{Wrong, NoMemory as AtMemory}
 use Rattle.program_words.specs.Words.{Spells, IsEvery, Begins, IsWrongAt, IsWrongBy, IsSingle, HasNoName, HasNoSeed, word_of}
@@ -118,6 +118,7 @@ number_of Check = 9
 number_of ListSeries = 10
 number_of Retain = 11
 number_of Live = 12
+number_of Derive = 13
 
 unfoldable number_by : List ℕ → ℕ
 number_by word =
@@ -132,7 +133,8 @@ number_by word =
     if bytes_eq word (codes "init") then 8 else
     if bytes_eq word (codes "check") then 9 else
     if bytes_eq word (codes "list") then 10 else
-    if bytes_eq word (codes "retain") then 11 else 12
+    if bytes_eq word (codes "retain") then 11 else
+    if bytes_eq word (codes "live") then 12 else 13
 
 number_so : (command : Command) → number_by (word_of command) ≡ number_of command
 unfolding number_by
@@ -148,6 +150,7 @@ number_so ListSeries = refl
 number_so Retain = refl
 number_so (Cover every) = refl
 number_so Live = refl
+number_so Derive = refl
 number_so (Export name window) = refl
 
 -- a command's first word
@@ -164,6 +167,7 @@ first_of_spelling spelling ListSeries spells = ap (λ l. slice_get l 0) spells
 first_of_spelling spelling Retain spells = ap (λ l. slice_get l 0) spells
 first_of_spelling spelling (Cover every) spells = ap (λ l. slice_get l 0) spells.0
 first_of_spelling spelling Live spells = ap (λ l. slice_get l 0) spells
+first_of_spelling spelling Derive spells = ap (λ l. slice_get l 0) spells
 first_of_spelling spelling (Export name window) spells = ap (λ l. slice_get l 0) spells.0
 
 -- two commands whose spellings begin with one word have one number
@@ -268,6 +272,7 @@ only_plot ListSeries spelling spells number = absurd (omega (arith, number))
 only_plot Retain spelling spells number = absurd (omega (arith, number))
 only_plot (Cover every) spelling spells number = absurd (omega (arith, number))
 only_plot Live spelling spells number = absurd (omega (arith, number))
+only_plot Derive spelling spells number = absurd (omega (arith, number))
 only_plot (Export name window) spelling spells number = absurd (omega (arith, number))
 
 plots : HasTwo (codes "plot") IsSideWord IsSideWord
@@ -316,6 +321,7 @@ only_demo ListSeries spelling spells number = absurd (omega (arith, number))
 only_demo Retain spelling spells number = absurd (omega (arith, number))
 only_demo (Cover every) spelling spells number = absurd (omega (arith, number))
 only_demo Live spelling spells number = absurd (omega (arith, number))
+only_demo Derive spelling spells number = absurd (omega (arith, number))
 only_demo (Export name window) spelling spells number = absurd (omega (arith, number))
 
 demos : HasTwo (codes "demo") IsSeedWord IsSideWord
@@ -358,6 +364,7 @@ only_load ListSeries spelling spells number = absurd (omega (arith, number))
 only_load Retain spelling spells number = absurd (omega (arith, number))
 only_load (Cover every) spelling spells number = absurd (omega (arith, number))
 only_load Live spelling spells number = absurd (omega (arith, number))
+only_load Derive spelling spells number = absurd (omega (arith, number))
 only_load (Export name window) spelling spells number = absurd (omega (arith, number))
 
 pub a_name : IsTrue (is_name (codes "a"))
@@ -446,6 +453,7 @@ spells_single ListSeries is = refl
 spells_single Retain is = refl
 spells_single (Cover every) none = absurd none
 spells_single Live is = refl
+spells_single Derive is = refl
 spells_single (Export name window) none = absurd none
 
 single_number : (command : Command) → IsSingle command → 4 < number_of command
@@ -461,6 +469,7 @@ single_number ListSeries is = omega arith
 single_number Retain is = omega arith
 single_number (Cover every) none = absurd none
 single_number Live is = omega arith
+single_number Derive is = omega arith
 single_number (Export name window) none = absurd none
 
 -- a command of such a number has one word
@@ -477,6 +486,7 @@ short_spelling ListSeries spelling spells number = omega (arith, ap length spell
 short_spelling Retain spelling spells number = omega (arith, ap length spells)
 short_spelling (Cover every) spelling spells number = absurd (omega (arith, number))
 short_spelling Live spelling spells number = omega (arith, ap length spells)
+short_spelling Derive spelling spells number = omega (arith, ap length spells)
 short_spelling (Export name window) spelling spells number = absurd (omega (arith, number))
 
 -- no command begins with the first word
@@ -512,6 +522,7 @@ no_command first plot load demo export single Check is = single Check tt is
 no_command first plot load demo export single ListSeries is = single ListSeries tt is
 no_command first plot load demo export single Retain is = single Retain tt is
 no_command first plot load demo export single Live is = single Live tt is
+no_command first plot load demo export single Derive is = single Derive tt is
 no_command first plot load demo export single (Export name window) is = export is
 
 pub wrong_behind : (words : List (List ℕ)) (command : Command) → IsSingle command → slice_get words 0 ≡ Some (word_of command) → 1 < length words → IsWrongAt 1 words

@@ -11,7 +11,7 @@ use Rattle.whole_number.specs.Range.{IsTime}
 use Rattle.whole_number.specs.Spelling.{SpellsInteger}
 use Rattle.whole_number.specs.declared.limits.TheConstants.{GREATEST_TIME}
 use Rattle.program_words.specs.declared.words.Command.{Command}
-use Rattle.program_words.specs.declared.words.Command.TheVariants.{Plot, Load, Demo, Run, Serve, Draw, Init, Check, ListSeries, Export, Retain, Cover, Live}
+use Rattle.program_words.specs.declared.words.Command.TheVariants.{Plot, Load, Demo, Run, Serve, Draw, Init, Check, ListSeries, Export, Retain, Cover, Live, Derive}
 use Rattle.program_words.specs.declared.words.WordsEnd.{WordsEnd}
 use Rattle.program_words.specs.declared.words.WordsEnd.TheVariants.{Wrong, NoMemory}
 use Rattle.program_words.specs.Words.{Spells, Begins, IsWrongAt, IsWrongBy, IsWindowIfAny, HasNoName, window_words}
@@ -69,6 +69,7 @@ only_export ListSeries spelling spells number = absurd (omega (arith, number))
 only_export Retain spelling spells number = absurd (omega (arith, number))
 only_export (Cover every) spelling spells number = absurd (omega (arith, number))
 only_export Live spelling spells number = absurd (omega (arith, number))
+only_export Derive spelling spells number = absurd (omega (arith, number))
 only_export (Export name window) spelling spells number = record { name = name; window = window; words = spells.0; named = spells.1; window_is = spells.2 }
 
 exported : (count : ℕ) (words : List (List ℕ)) (b : Begins count words) → 0 < count → slice_get words 0 ≡ Some (codes "export") → IsExport b.spelling

@@ -6,6 +6,7 @@ use Rattle.chart_program.proofs.CommandsEnd.{load_ends, demo_ends, run_ends, ser
 use Rattle.chart_program.proofs.StoreShown.{list_ends, export_ends}
 use Rattle.chart_program.proofs.RetainEnds.{retain_ends}
 use Rattle.chart_program.proofs.LiveEnds.{live_ends}
+use Rattle.chart_program.proofs.DeriveEnds.{derive_ends}
 use Rattle.chart_program.proofs.commands.status_of_command.Goals as goal
 
 pub returns-in-Plot : goal.returns-in-Plot
@@ -195,3 +196,17 @@ returns-in-Live g c =
     let faults = faults_of (reads old) (reads new) (sends old) (sends new) in
     let P : Command → Type 0 = λ command. CommandEnds command (view old) (view new) (left old) (left new) (sent old) (sent new) faults status.code status.place in
     subst P (sym c.in-Live.is) (live_ends (view old) (view new) (left old) (left new) (sent old) (sent new) faults status.code status.place c.live.ensures.ends c.live.ensures.away)
+
+pub returns-in-Derive : goal.returns-in-Derive
+returns-in-Derive g c =
+    let view = g.W.Disk.view in
+    let left = g.W.Streams.left in
+    let sent = g.W.Streams.sent in
+    let reads = g.W.Streams.read_faults in
+    let sends = g.W.Streams.send_faults in
+    let old = c.args.world in
+    let new = c.derive.result.1 in
+    let status = c.derive.result.0 in
+    let faults = faults_of (reads old) (reads new) (sends old) (sends new) in
+    let P : Command → Type 0 = λ command. CommandEnds command (view old) (view new) (left old) (left new) (sent old) (sent new) faults status.code status.place in
+    subst P (sym c.in-Derive.is) (derive_ends (view old) (view new) (left old) (left new) (sent old) (sent new) faults status.code status.place c.derive.ensures.ends c.derive.ensures.away)

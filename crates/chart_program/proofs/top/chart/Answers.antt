@@ -493,3 +493,14 @@ returns-in-Err-Wrong-clause-covers g c = λ is. apart (sym c.ended.ensures.code 
 
 pub returns-in-Err-NoMemory-clause-covers : goal.returns-in-Err-NoMemory-clause-covers
 returns-in-Err-NoMemory-clause-covers g c = λ is. apart (sym c.ended-in-Err-NoMemory.ensures.code ∙ is) refl
+
+pub returns-in-Ok-clause-refused_line : goal.returns-in-Ok-clause-refused_line
+returns-in-Ok-clause-refused_line g c =
+    let e = c.status_of_command.ensures in
+    λ is. of_command _ c.in-Ok.command c.in-Ok.command _ refl c.in-Ok.ensures.command (e.refused_line is)
+
+pub returns-in-Err-Wrong-clause-refused_line : goal.returns-in-Err-Wrong-clause-refused_line
+returns-in-Err-Wrong-clause-refused_line g c = λ is. apart (sym c.ended.ensures.code ∙ is) refl
+
+pub returns-in-Err-NoMemory-clause-refused_line : goal.returns-in-Err-NoMemory-clause-refused_line
+returns-in-Err-NoMemory-clause-refused_line g c = λ is. apart (sym c.ended-in-Err-NoMemory.ensures.code ∙ is) refl

@@ -1,0 +1,138 @@
+-- Where all lines of an input are requests that are answered, none is bad, and none is refused.
+use Rattle.std.proofs.Common.{◌≡◌, ◌∙◌, ℕ, ℤ, true, false, cond, List, [], ◌∷◌, ◌++◌, ◌⊎◌, Option, Some, None, refl, ap, sym, subst, arith, inl, inr}
+use Rattle.std.proofs.lemmas.Int.{ints}
+use Rattle.std.proofs.lemmas.List.Elements.{All-contains}
+use Rattle.std.specs.List.{filter}
+use Rattle.chart_grid.specs.Limits.{IsWindow, IsSide, IsBadWindow, IsBadSide}
+use Rattle.chart_grid.specs.declared.grid.Grid.{Grid}
+use Rattle.chart_service.specs.Serving.{told}
+use Rattle.chart_service.specs.Viewing.{IsBadRange, IsGoodRange}
+use Rattle.chart_world.specs.FrontLaws.{some_left, whole_front}
+use Rattle.chart_world.specs.Fronts.{says}
+use Rattle.chart_world.specs.LineLaws.{says_text, told_behind}
+use Rattle.derived_chart.specs.Points.{IsSumAt}
+use Rattle.line_raster.specs.Canvas.{Canvas}
+use Rattle.plain_chart.specs.declared.value_range.ValueRange.{ValueRange}
+use Rattle.request_lines.specs.declared.ranges.RangeWord.{RangeWord}
+use Rattle.request_lines.specs.declared.ranges.RangeWord.TheVariants as word
+use Rattle.series_book.specs.Edits.{id_of}
+use Rattle.series_book.specs.declared.one_series.Series.{Series}
+use Rattle.series_pair.proofs.ChartLemmas.{same_series}
+use Rattle.series_pair.specs.Derived.{AreShifted, HasLargeSum, IsDerivedChart, axis_of}
+use Rattle.view_keys.proofs.Grids.{grid_same}
+use Rattle.whole_number.specs.Range.{IsValue}
+use Rattle.derive_command.specs.Answers.{AnswersLine, AreNamed, HasLarge, IsAnswer, IsGridOf, IsRefused, RefusesLine, asked_range}
+use Rattle.derive_command.specs.Lines.{AreAnswers, DrawsToBad, DrawsToRefused, FirstLines, NextLine}
+use Rattle.derive_command.specs.Requests.{Says}
+use Rattle.derive_command.specs.declared.derive_refusal.DeriveRefusal.{DeriveRefusal}
+use Rattle.derive_command.specs.declared.derive_refusal.DeriveRefusal.TheVariants as refusal
+use Rattle.derive_command.specs.declared.request.Request.{Request}
+use Rattle.derive_command.proofs.LineLemmas.{spells_some}
+use Rattle.derive_command.proofs.SpellLemmas.{one_request}
+
+-- ---- a request that is answered isn't refused
+
+no_window : (t0 t1 : ℤ) → IsWindow t0 t1 → IsBadWindow t0 t1 → ⊥
+no_window t0 t1 is (inl turned) = let up = is.rising in grind (arith, ints)
+no_window t0 t1 is (inr (inl far)) = absurd (omega (arith, is.from_size, far))
+no_window t0 t1 is (inr (inr far)) = absurd (omega (arith, is.to_size, far))
+
+no_side : (n : ℕ) → IsSide n → IsBadSide n → ⊥
+no_side n is (inl none) = absurd (omega (arith, is.some, none))
+no_side n is (inr many) = absurd (omega (arith, is.most, many))
+
+no_sides : (w h : ℕ) → IsSide w → IsSide h → (IsBadSide w ⊎ IsBadSide h) → ⊥
+no_sides w h wide high (inl bad) = no_side w wide bad
+no_sides w h wide high (inr bad) = no_side h high bad
+
+no_range : (r : RangeWord) → IsGoodRange r → IsBadRange r → ⊥
+no_range word.Auto good bad = bad
+no_range (word.Fixed lo hi) good (inl turned) = let up = good.0 in grind (arith, ints)
+no_range (word.Fixed lo hi) good (inr (inl far)) = absurd (omega (arith, good.1, far))
+no_range (word.Fixed lo hi) good (inr (inr far)) = absurd (omega (arith, good.2, far))
+
+not_none : (o : Option ℕ) (id : ℕ) → o ≡ Some id → o ≡ None → ⊥
+not_none o id some none = cc
+
+one_id : (o : Option ℕ) (id other : ℕ) → o ≡ Some id → o ≡ Some other → id ≡ other
+one_id o id other first second = let same : Some id ≡ Some other = sym first ∙ second in cc
+
+-- a chart has no sum that is too large
+no_large : (book : List Series) (x y : ℕ) (a b : ℤ) (g : Grid) (asked : Option ValueRange) (canvas : Canvas) (time : ℤ) → IsDerivedChart book x y a b g asked canvas → HasLargeSum book x y a b g time → ⊥
+no_large book x y a b g asked canvas time chart large =
+    let one = same_series book x large.are.one chart.are.one large.are.first chart.are.first in
+    let other = same_series book y large.are.other chart.are.other large.are.second chart.are.second in
+    let is = (large.are.are.each time large.first.value).0 large.first.among in
+    let P : Series → Type 0 = λ s. IsSumAt a b (axis_of s) (axis_of large.are.other) s.slots large.are.other.slots time large.first.value in
+    let Q : Series → Type 0 = λ s. IsSumAt a b (axis_of chart.are.one) (axis_of s) chart.are.one.slots s.slots time large.first.value in
+    let there = (chart.are.are.each time large.first.value).1 (is.0, subst Q other (subst P one is.1)) in
+    let small = All-contains (λ s. IsValue s.value) chart.samples (record { time = time; value = large.first.value }) chart.values there in
+    absurd (omega (arith, small, large.first.large))
+
+one_grid : (r : Request) (g other : Grid) → IsGridOf r g → IsGridOf r other → g ≡ other
+one_grid r g other first second =
+    grid_same g other (first.shows.from ∙ sym second.shows.from) (first.shows.to ∙ sym second.shows.to) (first.canvas.columns ∙ sym second.canvas.columns) (first.canvas.rows ∙ sym second.canvas.rows)
+
+module _ (book : List Series) (r : Request) (text : List ℕ) (answer : IsAnswer book r text) where
+  same_first : (x y : ℕ) → AreNamed book r x y → x ≡ answer.series.x
+  same_first x y named = one_id (id_of r.first book) x answer.series.x named.first answer.series.named.first
+
+  same_second : (x y : ℕ) → AreNamed book r x y → y ≡ answer.series.y
+  same_second x y named = one_id (id_of r.second book) y answer.series.y named.second answer.series.named.second
+
+  pub not_refused : (why : DeriveRefusal) → IsRefused book r why → ⊥
+  not_refused refusal.UnknownSeries (inl none) = not_none (id_of r.first book) answer.series.x answer.series.named.first none
+  not_refused refusal.UnknownSeries (inr none) = not_none (id_of r.second book) answer.series.y answer.series.named.second none
+  not_refused refusal.NotOneGrid (x, y, named, unlike) =
+      let X : ℕ → Type 0 = λ i. AreShifted book i answer.series.y answer.series.shift in
+      let Y : ℕ → Type 0 = λ i. AreShifted book x i answer.series.shift in
+      unlike answer.series.shift (subst Y (sym (same_second x y named)) (subst X (sym (same_first x y named)) answer.series.shifted))
+  not_refused refusal.BadWindow (one, bad) = no_window r.t0 r.t1 answer.grid_is.window bad
+  not_refused refusal.BadCanvas (one, window, bad) = no_sides r.w r.h answer.grid_is.wide answer.grid_is.high bad
+  not_refused refusal.BadRange (one, window, wide, high, bad) = no_range r.range answer.grid_is.range bad
+  not_refused refusal.TooLarge has =
+      let G : Grid → Type 0 = λ g. HasLargeSum book has.series.x has.series.y r.a r.b g has.time in
+      let X : ℕ → Type 0 = λ i. HasLargeSum book i has.series.y r.a r.b answer.grid has.time in
+      let Y : ℕ → Type 0 = λ i. HasLargeSum book answer.series.x i r.a r.b answer.grid has.time in
+      let large = subst Y (same_second has.series.x has.series.y has.series.named) (subst X (same_first has.series.x has.series.y has.series.named) (subst G (one_grid r has.grid answer.grid has.grid_is answer.grid_is) has.large)) in
+      no_large book answer.series.x answer.series.y r.a r.b answer.grid (asked_range r.range) answer.canvas has.time answer.chart large
+
+-- ---- lines
+
+says_one : (line : Option (List ℕ)) (first second : Request) → Says line first → Says line second → first ≡ second
+says_one None first second one two = absurd one
+says_one (Some text) first second one two = one_request text first second one two
+
+says_true : (line : Option (List ℕ)) (r : Request) → Says line r → says line ≡ true
+says_true None r is = absurd is
+says_true (Some text) r is = says_text text (spells_some r text is)
+
+-- behind some first lines the others have answers too
+split : (book : List Series) (first others : List (Option (List ℕ))) (text : List ℕ) → AreAnswers book (first ++ others) text → (later : List ℕ) × AreAnswers book others later
+split book [] others text are = (text, are)
+split book (l ∷ ls) others text (first, rest, one, more, whole) = split book ls others rest more
+
+first_of : (book : List Series) (line : Option (List ℕ)) (others : List (Option (List ℕ))) (text : List ℕ) → AreAnswers book (line ∷ others) text → (said : List ℕ) × AnswersLine book line said
+first_of book line others text (first, rest, one, more, whole) = (first, one)
+
+-- the next line has an answer
+at_next : (book : List Series) (input text : List ℕ) (first : FirstLines book input) (given : ℕ) (line : Option (List ℕ)) → AreAnswers book (told input) text → NextLine given first.rest line → says line ≡ true → (said : List ℕ) × AnswersLine book line said
+at_next book input text first given line are next some =
+    let whole = whole_front first.front first.rest first.begins.whole (some_left first.rest line next.later next.lines_are) in
+    let P : List (Option (List ℕ)) → Type 0 = λ l. AreAnswers book l text in
+    let behind : told first.rest ≡ line ∷ filter says next.later = ap (filter says) next.lines_are ∙ ap (λ b. cond b (line ∷ filter says next.later) (filter says next.later)) some in
+    let all : told input ≡ told first.front ++ line ∷ filter says next.later = ap told first.begins.split ∙ told_behind first.front first.rest whole ∙ ap (λ l. told first.front ++ l) behind in
+    let others = split book (told first.front) (line ∷ filter says next.later) text (subst P all are) in
+    first_of book line (filter says next.later) others.0 others.1
+
+pub bad_never : (book : List Series) (input : List ℕ) (before now : Option (List ℕ)) (place : ℕ) (text : List ℕ) → AreAnswers book (told input) text → DrawsToBad book input before now place → ⊥
+bad_never book input before now place text are bad =
+    let next = at_next book input text bad.drawn.first _ bad.line are bad.next bad.some in
+    bad.none next.1.request next.1.says_it
+
+pub refused_never : (book : List Series) (input : List ℕ) (before now : Option (List ℕ)) (at : ℕ) (why : DeriveRefusal) (text : List ℕ) → AreAnswers book (told input) text → DrawsToRefused book input before now at why → ⊥
+refused_never book input before now at why text are stop =
+    let next = at_next book input text stop.drawn.first _ stop.line are stop.next (says_true stop.line stop.refuses.request stop.refuses.says_it) in
+    let same = says_one stop.line stop.refuses.request next.1.request stop.refuses.says_it next.1.says_it in
+    let P : Request → Type 0 = λ r. IsRefused book r why in
+    not_refused book next.1.request next.0 next.1.answer why (subst P same stop.refuses.refused)

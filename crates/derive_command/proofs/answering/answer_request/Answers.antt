@@ -1,0 +1,117 @@
+use Rattle.std.proofs.Common.{◌≡◌, ◌∙◌, Result, Ok, Err, ap, arith, length, refl, subst, sym}
+use Rattle.block_disk.specs.View.{Beside}
+use Rattle.line_raster.specs.Canvas.{Canvas}
+use Rattle.page_space.specs.declared.superblock.Superblock.{Superblock}
+use Rattle.pbm_writer.specs.Picture.{picture}
+use Rattle.series_pair.specs.Derived.{IsChartAnswer}
+use Rattle.series_pair.specs.declared.sum_error.SumError.{SumError}
+use Rattle.series_store.specs.Shown as shown
+use Rattle.derive_command.proofs.DoingLemmas.{causes_later, chart_cause, goes_further, goes_looks, goes_sends, request_drawn, request_refused, request_undrawn, sent_cause}
+use Rattle.derive_command.specs.Doing.{side_of}
+use Rattle.derive_command.proofs.answering.answer_request.Goals as goal
+
+pub returns-in-Err-clause-does : goal.returns-in-Err-clause-does
+returns-in-Err-clause-does g c = λ total book told stands.
+    request_refused book c.args.request.now c.args.at c.in-Err.refusal (g.P.Streams.sent (shown.pages c.args.store)) (c.in-Err.ensures.asked total book c.requires.sound told stands)
+
+pub returns-in-Ok-chart-clause-does : goal.returns-in-Ok-chart-clause-does
+returns-in-Ok-chart-clause-does g c = λ total book told stands.
+    let sent = g.P.Streams.sent in
+    let w = g.met.P.PageWorld in
+    let first = shown.pages c.args.store in
+    let mid = shown.pages c.chart_of_sum-chart.result.1 in
+    let new = shown.pages c.send_picture-answer.new.store in
+    let asked = c.in-Ok.asked in
+    let is = c.in-Ok.ensures.asked total book c.requires.sound told stands in
+    let made = c.send_picture-answer.ensures in
+    let P : Result Canvas SumError → Type 0 = λ r. IsChartAnswer book asked.x asked.y asked.sum.a asked.sum.b asked.grid asked.range r in
+    let chart = subst P c.in-Ok-chart.is (c.chart_of_sum-chart.ensures.answer total book told stands is.shifted) in
+    request_drawn book c.args.request.now asked is c.args.at (sent first) (sent mid) (sent new)
+    (sym (w.beside_sent mid) ∙ ap (λ (b : Beside). b.sent) c.chart_of_sum-chart.ensures.looks.beside ∙ w.beside_sent first)
+    c.in-Ok-chart.chart chart c.send_picture-answer.result made.whole made.stops
+
+pub returns-in-Err-chart-clause-does : goal.returns-in-Err-chart-clause-does
+returns-in-Err-chart-clause-does g c = λ total book told stands.
+    let sent = g.P.Streams.sent in
+    let w = g.met.P.PageWorld in
+    let first = shown.pages c.args.store in
+    let mid = shown.pages c.chart_of_sum-chart.result.1 in
+    let asked = c.in-Ok.asked in
+    let is = c.in-Ok.ensures.asked total book c.requires.sound told stands in
+    let P : Result Canvas SumError → Type 0 = λ r. IsChartAnswer book asked.x asked.y asked.sum.a asked.sum.b asked.grid asked.range r in
+    let answer = subst P c.in-Err-chart.is (c.chart_of_sum-chart.ensures.answer total book told stands is.shifted) in
+    request_undrawn book c.args.request.now asked is c.args.at (sent first) (sent mid)
+    (sym (w.beside_sent mid) ∙ ap (λ (b : Beside). b.sent) c.chart_of_sum-chart.ensures.looks.beside ∙ w.beside_sent first)
+    c.in-Err-chart.error c.end_at.result c.end_at.ensures answer
+
+pub returns-in-Ok-chart-clause-goes : goal.returns-in-Ok-chart-clause-goes
+returns-in-Ok-chart-clause-goes g c =
+    let w = g.met.P.PageWorld in
+    let side = side_of g.P.Streams in
+    let first = c.args.store in
+    let mid = c.chart_of_sum-chart.result.1 in
+    let new = c.send_picture-answer.new.store in
+    let looks = c.chart_of_sum-chart.ensures.looks in
+    let made = c.send_picture-answer.ensures in
+    let sends = made.beside.pages_are in
+    let n = length (picture c.in-Ok-chart.chart) in
+    let pm = shown.pages mid in
+    let pn = shown.pages new in
+    goes_further (side first) (side mid) (side new)
+    (goes_looks (side first) (side mid) (shown.numbers first) (shown.numbers mid) first.catalog mid.catalog
+    (record { reads_are = w.beside_read_faults (shown.pages first); sends_are = w.beside_send_faults (shown.pages first) })
+    (record { reads_are = w.beside_read_faults pm; sends_are = w.beside_send_faults pm })
+    (ap (λ (s : Superblock). s.total)) looks)
+    (goes_sends (side mid) (side new) (w.send_keeps n pm pn sends) (w.send_passes n pm pn sends) (w.send_told n pm pn sends) (w.send_was_told n pm pn sends) (w.send_goes_on n pm pn sends) (ap (λ (s : Superblock). s.total) made.beside.superblock) (omega (arith, made.read_faults)) made.send_faults)
+
+pub returns-in-Ok-chart-clause-cause : goal.returns-in-Ok-chart-clause-cause
+returns-in-Ok-chart-clause-cause g c =
+    let w = g.met.P.PageWorld in
+    let side = side_of g.P.Streams in
+    let sent = g.P.Streams.sent in
+    let first = c.args.store in
+    let mid = c.chart_of_sum-chart.result.1 in
+    let new = c.send_picture-answer.new.store in
+    let looks = c.chart_of_sum-chart.ensures.looks in
+    let made = c.send_picture-answer.ensures in
+    let pm = shown.pages mid in
+    causes_later (side first) (side mid) (side new) c.send_picture-answer.result
+    (goes_looks (side first) (side mid) (shown.numbers first) (shown.numbers mid) first.catalog mid.catalog
+    (record { reads_are = w.beside_read_faults (shown.pages first); sends_are = w.beside_send_faults (shown.pages first) })
+    (record { reads_are = w.beside_read_faults pm; sends_are = w.beside_send_faults pm })
+    (ap (λ (s : Superblock). s.total)) looks)
+    (sent_cause (side mid) (side new) (picture c.in-Ok-chart.chart) (sent pm) (sent (shown.pages new)) c.send_picture-answer.result made.stops made.cause)
+
+pub returns-in-Ok-chart-clause-left : goal.returns-in-Ok-chart-clause-left
+returns-in-Ok-chart-clause-left g c =
+    let w = g.met.P.PageWorld in
+    let first = shown.pages c.args.store in
+    let mid = shown.pages c.chart_of_sum-chart.result.1 in
+    c.send_picture-answer.ensures.left ∙ sym (w.beside_left mid) ∙ ap (λ (b : Beside). b.left) c.chart_of_sum-chart.ensures.looks.beside ∙ w.beside_left first
+
+pub returns-in-Err-chart-clause-goes : goal.returns-in-Err-chart-clause-goes
+returns-in-Err-chart-clause-goes g c =
+    let w = g.met.P.PageWorld in
+    let side = side_of g.P.Streams in
+    let first = c.args.store in
+    let mid = c.chart_of_sum-chart.result.1 in
+    let pm = shown.pages mid in
+    goes_looks (side first) (side mid) (shown.numbers first) (shown.numbers mid) first.catalog mid.catalog
+    (record { reads_are = w.beside_read_faults (shown.pages first); sends_are = w.beside_send_faults (shown.pages first) })
+    (record { reads_are = w.beside_read_faults pm; sends_are = w.beside_send_faults pm })
+    (ap (λ (s : Superblock). s.total)) c.chart_of_sum-chart.ensures.looks
+
+pub returns-in-Err-chart-clause-cause : goal.returns-in-Err-chart-clause-cause
+returns-in-Err-chart-clause-cause g c =
+    let side = side_of g.P.Streams in
+    let first = c.args.store in
+    let mid = c.chart_of_sum-chart.result.1 in
+    let P : Result Canvas SumError → Type 0 = λ r. Rattle.std.specs.Prelude.IfErr r (λ e. Rattle.series_pair.specs.Derived.IsChartCause e (shown.IsTold mid) (shown.total first) (shown.view first) (shown.view mid)) in
+    chart_cause (side first) (side mid) c.args.at c.in-Err-chart.error c.end_at.result c.end_at.ensures (subst P c.in-Err-chart.is c.chart_of_sum-chart.ensures.cause)
+
+pub returns-in-Err-chart-clause-left : goal.returns-in-Err-chart-clause-left
+returns-in-Err-chart-clause-left g c =
+    let w = g.met.P.PageWorld in
+    let first = shown.pages c.args.store in
+    let mid = shown.pages c.chart_of_sum-chart.result.1 in
+    sym (w.beside_left mid) ∙ ap (λ (b : Beside). b.left) c.chart_of_sum-chart.ensures.looks.beside ∙ w.beside_left first

@@ -1,0 +1,60 @@
+use Rattle.std.proofs.Common.{◌∙◌, ap, sym}
+use Rattle.block_disk.specs.View.{Beside}
+use Rattle.series_store.specs.Shown as shown
+use Rattle.store_commands.proofs.TurnedAway.{away_never, away_so}
+use Rattle.derive_command.proofs.DiskLemmas.{drawn_on}
+use Rattle.derive_command.proofs.StatusLemmas.{ends_by, unopened_ends}
+use Rattle.derive_command.proofs.command.derive.Goals as goal
+
+pub returns-in-Ok-clause-ends : goal.returns-in-Ok-clause-ends
+returns-in-Ok-clause-ends g c =
+    let view = g.W.Disk.view in
+    let left = g.W.Streams.left in
+    let sent = g.W.Streams.sent in
+    let reads = g.W.Streams.read_faults in
+    let sends = g.W.Streams.send_faults in
+    let old = c.args.world in
+    let opened = shown.pages c.in-Ok.store in
+    let start = opened.disk in
+    let new = c.draw_store-answer.result.1 in
+    let beside = c.in-Ok.ensures.opens.beside_is in
+    let w = g.met.W.World in
+    let s = drawn_on opened.count (view old) (view start) (view new) (left start) (left old) (left new) (sent start) (sent old) (sent new) (reads start) (reads old) (reads new) (sends start) (sends old) (sends new) c.draw_store-answer.result.0 c.in-Ok.ensures.count c.in-Ok.ensures.opens
+    (sym (w.beside_left start) ∙ ap (λ (b : Beside). b.left) beside ∙ w.beside_left old)
+    (sym (w.beside_sent start) ∙ ap (λ (b : Beside). b.sent) beside ∙ w.beside_sent old)
+    (sym (w.beside_read_faults start) ∙ ap (λ (b : Beside). b.read_faults) beside ∙ w.beside_read_faults old)
+    (sym (w.beside_send_faults start) ∙ ap (λ (b : Beside). b.send_faults) beside ∙ w.beside_send_faults old)
+    c.draw_store-answer.ensures in
+    ends_by (view old) (view new) (left old) (left new) (sent old) (sent new) (reads old) (reads new) (sends old) (sends new) c.draw_store-answer.result.0 c.answer_status.result c.answer_status.ensures s
+
+pub returns-in-Err-clause-ends : goal.returns-in-Err-clause-ends
+returns-in-Err-clause-ends g c =
+    let view = g.W.Disk.view in
+    let left = g.W.Streams.left in
+    let sent = g.W.Streams.sent in
+    let reads = g.W.Streams.read_faults in
+    let sends = g.W.Streams.send_faults in
+    let old = c.args.world in
+    let new = c.in-Err.field-0.value in
+    let beside = c.in-Err.ensures.opens.beside_is in
+    let w = g.met.W.World in
+    unopened_ends (view old) (view new) (left old) (left new) (sent old) (sent new) (reads old) (reads new) (sends old) (sends new) c.in-Err.ensures.opens
+    (sym (w.beside_left new) ∙ ap (λ (b : Beside). b.left) beside ∙ w.beside_left old)
+    (sym (w.beside_sent new) ∙ ap (λ (b : Beside). b.sent) beside ∙ w.beside_sent old)
+    c.in-Err.field-0.cause c.opening_status.result c.in-Err.ensures.cause c.in-Err.ensures.a_store c.opening_status.ensures
+
+pub returns-in-Ok-clause-away : goal.returns-in-Ok-clause-away
+returns-in-Ok-clause-away g c = away_never _ _ c.in-Ok.ensures.large
+
+pub returns-in-Err-clause-away : goal.returns-in-Err-clause-away
+returns-in-Err-clause-away g c =
+    let view = g.W.Disk.view in
+    let left = g.W.Streams.left in
+    let sent = g.W.Streams.sent in
+    let old = c.args.world in
+    let new = c.in-Err.field-0.value in
+    let beside = c.in-Err.ensures.opens.beside_is in
+    let w = g.met.W.World in
+    away_so (view old) (view new) (left old) (left new) (sent old) (sent new) c.in-Err.field-0.cause c.opening_status.result c.opening_status.ensures c.in-Err.ensures.cause
+    (sym (w.beside_left new) ∙ ap (λ (b : Beside). b.left) beside ∙ w.beside_left old)
+    (sym (w.beside_sent new) ∙ ap (λ (b : Beside). b.sent) beside ∙ w.beside_sent old)

@@ -1,0 +1,189 @@
+-- What is asked, what is done of one line, and what calls move. Private contracts are stated by these words.
+use Rattle.std.specs.Prelude.{◌≡◌, ℕ, ◌+◌, ◌<◌, ◌≤◌, ◌⊎◌, List, [], length, Option, Some, Result, Ok, Err, IfErr, IfSome, OnOk, ⊤}
+use Rattle.block_disk.specs.Counts.{HasRisen}
+use Rattle.block_disk.specs.Streams.{sent_after, PartSent}
+use Rattle.block_disk.specs.View.{View, Now, Passes, sent_now}
+use Rattle.block_disk.specs.declared.streams.Streams as streams
+use Rattle.chart_grid.specs.Limits.{IsWindow, IsSide, IsBadWindow, IsBadSide}
+use Rattle.chart_grid.specs.declared.grid.Grid.{Grid}
+use Rattle.chart_service.specs.Viewing.{IsBadRange}
+use Rattle.chart_world.specs.declared.line_answer.LineFault.{LineFault}
+use Rattle.chart_world.specs.declared.line_answer.LineFault.TheVariants as fault
+use Rattle.gate_pages.specs.Pages.{GoesOn}
+use Rattle.gate_pages.specs.declared.pages.Pages.{Ghosts}
+use Rattle.plain_chart.specs.declared.value_range.ValueRange.{ValueRange}
+use Rattle.series_book.specs.declared.one_series.Series.{Series}
+use Rattle.series_pair.specs.Derived.{AreShifted}
+use Rattle.series_pair.specs.declared.sum_error.SumError.{SumError}
+use Rattle.series_pair.specs.declared.sum_error.SumError.TheVariants as sum
+use Rattle.series_store.specs.Shown as shown
+use Rattle.series_store.specs.declared.store.Store.{Store}
+use Rattle.stored_book.specs.Damage.{IsBadForRequest}
+use Rattle.derive_command.specs.Answers.{AnswersLine, AreNamed, IsAnswer, IsGridOf, IsRefused, RefusesLine, asked_range}
+use Rattle.derive_command.specs.Requests.{SaysNone}
+use Rattle.derive_command.specs.declared.asked.Asked.{Asked}
+use Rattle.derive_command.specs.declared.derive_end.DeriveEnd.{DeriveEnd}
+use Rattle.derive_command.specs.declared.derive_end.DeriveEnd.TheVariants.{BadLine, Refused, ReadFault, SendFault, InputTooLong, DiskFault, Damaged, NoMemory}
+use Rattle.derive_command.specs.declared.derive_refusal.DeriveRefusal.{DeriveRefusal}
+use Rattle.derive_command.specs.declared.derive_refusal.DeriveRefusal.TheVariants as refusal
+use Rattle.derive_command.specs.declared.request.Request.{Request}
+
+-- ---- what is asked
+
+-- the grid and the range that a request asks for, or why there is none
+abbrev pub IsViewOf : Request → Result (Grid × Option ValueRange) DeriveRefusal → Type 0
+IsViewOf r (Ok (grid, range)) = IsGridOf r grid × (range ≡ asked_range r.range)
+IsViewOf r (Err refusal.UnknownSeries) = ⊥
+IsViewOf r (Err refusal.NotOneGrid) = ⊥
+IsViewOf r (Err refusal.BadWindow) = IsBadWindow r.t0 r.t1
+IsViewOf r (Err refusal.BadCanvas) = IsWindow r.t0 r.t1 × (IsBadSide r.w ⊎ IsBadSide r.h)
+IsViewOf r (Err refusal.BadRange) = IsWindow r.t0 r.t1 × IsSide r.w × IsSide r.h × IsBadRange r.range
+IsViewOf r (Err refusal.TooLarge) = ⊥
+
+-- the ids of the series that a request names; the only refusal is that one isn't there
+abbrev pub AreIdsOf : List Series → Request → Result (ℕ × ℕ) DeriveRefusal → Type 0
+AreIdsOf book r (Ok (x, y)) = AreNamed book r x y
+AreIdsOf book r (Err e) = (e ≡ refusal.UnknownSeries) × IsRefused book r refusal.UnknownSeries
+
+-- all that a request asks for, over a book
+pub record IsAsked (book : List Series) (r : Request) (asked : Asked) : Type 0 where
+  pub named : AreNamed book r asked.x asked.y
+  pub shifted : AreShifted book asked.x asked.y asked.sum.shift
+  pub a : asked.sum.a ≡ r.a
+  pub b : asked.sum.b ≡ r.b
+  pub grid_is : IsGridOf r asked.grid
+  pub range_is : asked.range ≡ asked_range r.range
+
+-- ---- what is done of one line
+
+-- what an error of a chart is for the line at this offset
+abbrev pub end_at : ℕ → SumError → DeriveEnd
+end_at at (sum.TooLarge time) = Refused at refusal.TooLarge
+end_at at sum.DiskFault = DiskFault
+end_at at (sum.Damaged page) = Damaged page
+end_at at sum.NoMemory = NoMemory
+
+-- and what a fault of the lines is
+abbrev pub end_of : LineFault → DeriveEnd
+end_of fault.ReadFault = ReadFault
+end_of fault.InputTooLong = InputTooLong
+
+-- a text wasn't sent, or not all of it
+abbrev pub TextStops : List ℕ → Option (List ℕ) → Option (List ℕ) → DeriveEnd → Type 0
+TextStops text before now (BadLine at) = ⊥
+TextStops text before now (Refused at refusal) = ⊥
+TextStops text before now ReadFault = ⊥
+TextStops text before now SendFault = PartSent text before now
+TextStops text before now InputTooLong = ⊥
+TextStops text before now DiskFault = ⊥
+TextStops text before now (Damaged page) = ⊥
+TextStops text before now NoMemory = now ≡ before
+
+-- the answer to a request was sent
+pub record SendsAnswer (book : List Series) (r : Request) (before now : Option (List ℕ)) : Type 0 where
+  pub text : List ℕ
+  pub answer : IsAnswer book r text
+  pub sent : now ≡ sent_after text before
+
+-- a part of it was
+pub record SendsPartOfAnswer (book : List Series) (r : Request) (before now : Option (List ℕ)) : Type 0 where
+  pub text : List ℕ
+  pub answer : IsAnswer book r text
+  pub part : PartSent text before now
+
+-- the request is refused, and nothing was sent
+pub record RefusesAt (book : List Series) (r : Request) (at place : ℕ) (refusal : DeriveRefusal) (before now : Option (List ℕ)) : Type 0 where
+  pub place_is : place ≡ at
+  pub refused : IsRefused book r refusal
+  pub unsent : now ≡ before
+
+-- why a request wasn't answered
+abbrev pub RequestStops : List Series → Request → ℕ → Option (List ℕ) → Option (List ℕ) → DeriveEnd → Type 0
+RequestStops book r at before now (BadLine place) = ⊥
+RequestStops book r at before now (Refused place refusal) = RefusesAt book r at place refusal before now
+RequestStops book r at before now ReadFault = ⊥
+RequestStops book r at before now SendFault = SendsPartOfAnswer book r before now
+RequestStops book r at before now InputTooLong = ⊥
+RequestStops book r at before now DiskFault = now ≡ before
+RequestStops book r at before now (Damaged page) = ⊥
+RequestStops book r at before now NoMemory = now ≡ before
+
+-- what a call does that answers a request
+pub record DoesRequest {T : Type 0} (book : List Series) (r : Request) (at : ℕ) (result : Result T DeriveEnd) (before now : Option (List ℕ)) : Type 0 where
+  pub done : OnOk result (SendsAnswer book r before now)
+  pub stops : IfErr result (RequestStops book r at before now)
+
+-- the line is empty, or its answer was sent
+abbrev pub LineDone : List Series → List ℕ → Option (List ℕ) → Option (List ℕ) → Type 0
+LineDone book line before now =
+    ((line ≡ []) × (now ≡ before)) ⊎ ((text : List ℕ) × AnswersLine book (Some line) text × (now ≡ sent_after text before))
+
+-- it isn't empty and says no request
+pub record LineBad (line : List ℕ) (at place : ℕ) (before now : Option (List ℕ)) : Type 0 where
+  pub place_is : place ≡ at
+  pub some : 0 < length line
+  pub none : SaysNone (Some line)
+  pub unsent : now ≡ before
+
+abbrev pub LineStops : List Series → List ℕ → ℕ → Option (List ℕ) → Option (List ℕ) → DeriveEnd → Type 0
+LineStops book line at before now (BadLine place) = LineBad line at place before now
+LineStops book line at before now (Refused place refusal) = (place ≡ at) × RefusesLine book (Some line) refusal × (now ≡ before)
+LineStops book line at before now ReadFault = ⊥
+LineStops book line at before now SendFault = (text : List ℕ) × AnswersLine book (Some line) text × PartSent text before now
+LineStops book line at before now InputTooLong = ⊥
+LineStops book line at before now DiskFault = now ≡ before
+LineStops book line at before now (Damaged page) = ⊥
+LineStops book line at before now NoMemory = now ≡ before
+
+-- what a call does that answers a line
+pub record DoesLine {T : Type 0} (book : List Series) (line : List ℕ) (at : ℕ) (result : Result T DeriveEnd) (before now : Option (List ℕ)) : Type 0 where
+  pub done : OnOk result (LineDone book line before now)
+  pub stops : IfErr result (LineStops book line at before now)
+
+-- ---- what calls move, whatever the pages are
+
+-- pages with their streams, and how many a store on them may have
+pub record Side : Type 1 where
+  pub told : Type 0
+  pub view : View
+  pub under : View
+  pub total : ℕ
+  pub read_faults : ℕ
+  pub send_faults : ℕ
+
+-- Pages are read, input is taken and bytes are sent, and nothing else changes: a crash leaves at each moment what it might
+-- have left before.
+pub record Goes (old new : Side) : Type 0 where
+  pub time : Passes old.view new.view (Now old.view) (λ count. (sent_now old.view ≤ count) × (count ≤ sent_now new.view))
+  pub is_told : old.told → new.told
+  pub was_told : new.told → old.told
+  pub image : old.told → new.view.image ≡ old.view.image
+  pub size : new.view.size ≡ old.view.size
+  pub fit : old.view.fit → new.view.fit
+  pub faults : old.view.faults ≤ new.view.faults
+  pub goes_on : GoesOn old.under new.under
+  pub total_is : new.total ≡ old.total
+  pub reads : old.read_faults ≤ new.read_faults
+  pub sends : old.send_faults ≤ new.send_faults
+
+-- why lines weren't answered. A page that is called damaged is one of the store's, and is so where reads give what the pages are.
+abbrev pub IsCause : DeriveEnd → Side → Side → Type 0
+IsCause (BadLine at) old new = ⊤
+IsCause (Refused at refusal) old new = ⊤
+IsCause ReadFault old new = HasRisen old.read_faults new.read_faults
+IsCause SendFault old new = HasRisen old.send_faults new.send_faults
+IsCause InputTooLong old new = ⊤
+IsCause DiskFault old new = HasRisen old.view.faults new.view.faults
+IsCause (Damaged page) old new = (page < old.total) × (new.told → IsBadForRequest new.view.size new.view.image page)
+IsCause NoMemory old new = ⊤
+
+module _ {P : Type 0} {g : Ghosts P} where
+  abbrev pub side_of : streams.Ghosts P → Store P g → Side
+  side_of beside it = record {
+    told = shown.IsTold it;
+    view = shown.view it;
+    under = shown.under it;
+    total = shown.total it;
+    read_faults = beside.read_faults (shown.pages it);
+    send_faults = beside.send_faults (shown.pages it);
+  }

@@ -1,0 +1,100 @@
+-- How far the lines of an input are answered.
+use Rattle.std.specs.Prelude.{◌≡◌, ℕ, ◌+◌, ◌-◌, ◌*◌, ◌^◌, ◌<◌, ◌≤◌, List, [], ◌∷◌, ◌++◌, length, take, Option, IfSome, IsTrue}
+use Rattle.block_disk.specs.Streams.{sent_after, PartSent}
+use Rattle.chart_service.specs.Serving.{told}
+use Rattle.chart_world.specs.Fronts.{says, BeginsWith, first_piece}
+use Rattle.chart_world.specs.Lines.{lines, NoLineFeed}
+use Rattle.series_book.specs.declared.one_series.Series.{Series}
+use Rattle.derive_command.specs.Answers.{AnswersLine, RefusesLine}
+use Rattle.derive_command.specs.Requests.{SaysNone}
+use Rattle.derive_command.specs.declared.derive_end.DeriveEnd.{DeriveEnd}
+use Rattle.derive_command.specs.declared.derive_end.DeriveEnd.TheVariants.{BadLine, Refused, ReadFault, SendFault, InputTooLong, DiskFault, Damaged, NoMemory}
+use Rattle.derive_command.specs.declared.derive_refusal.DeriveRefusal.{DeriveRefusal}
+
+-- The text is the answers to these lines, one after the other: each of them says a request, which isn't refused.
+abbrev pub AreAnswers : List Series → List (Option (List ℕ)) → List ℕ → Type 0
+AreAnswers book [] text = text ≡ []
+AreAnswers book (line ∷ lines) text = (first : List ℕ) × (rest : List ℕ) × AnswersLine book line first × AreAnswers book lines rest × (text ≡ first ++ rest)
+
+-- some first lines of the input, with their answers, and this stands behind them
+pub record FirstLines (book : List Series) (input : List ℕ) : Type 0 where
+  pub front : List ℕ
+  pub rest : List ℕ
+  pub begins : BeginsWith input front rest
+  pub early : length front ≤ 2 ^ 32
+  pub text : List ℕ
+  pub answers : AreAnswers book (told front) text
+
+-- behind so many bytes the next line is this, and ends among the first 2^32 bytes
+pub record NextLine (given : ℕ) (rest : List ℕ) (line : Option (List ℕ)) : Type 0 where
+  pub later : List (Option (List ℕ))
+  pub lines_are : lines rest ≡ line ∷ later
+  pub early : given + length (first_piece rest) ≤ 2 ^ 32
+
+-- a part of a line stands there, and these bytes behind it
+pub record Unended (rest left : List ℕ) : Type 0 where
+  pub partial : List ℕ
+  pub taken : rest ≡ partial ++ left
+  pub unended : NoLineFeed partial
+
+module _ (book : List Series) (input : List ℕ) (before now : Option (List ℕ)) where
+  -- the answers to all lines were sent
+  pub record DrawsAll : Type 0 where
+    pub text : List ℕ
+    pub answers : AreAnswers book (told input) text
+    pub sent : now ≡ sent_after text before
+
+  -- those to some first lines were
+  pub record DrawsFirst : Type 0 where
+    pub first : FirstLines book input
+    pub sent : now ≡ sent_after first.text before
+
+  -- they are those that ended among the bytes taken, where the bytes left are told
+  pub record DrawsTaken (left : Option (List ℕ)) : Type 0 where
+    pub drawn : DrawsFirst
+    pub behind : IfSome left (Unended drawn.first.rest)
+
+  -- they are those that ended among the first 2^32 bytes, and there is a byte more
+  pub record DrawsWithin : Type 0 where
+    pub drawn : DrawsFirst
+    pub unended : NoLineFeed (take (2 ^ 32 - length drawn.first.front) drawn.first.rest)
+    pub past : 2 ^ 32 < length input
+
+  -- the line behind them begins at this offset, isn't empty and says no request
+  pub record DrawsToBad (at : ℕ) : Type 0 where
+    pub drawn : DrawsFirst
+    pub line : Option (List ℕ)
+    pub next : NextLine (length drawn.first.front) drawn.first.rest line
+    pub some : IsTrue (says line)
+    pub none : SaysNone line
+    pub at_is : at ≡ length drawn.first.front
+
+  -- the line behind them begins at this offset, and says a request that is refused
+  pub record DrawsToRefused (at : ℕ) (refusal : DeriveRefusal) : Type 0 where
+    pub drawn : DrawsFirst
+    pub line : Option (List ℕ)
+    pub next : NextLine (length drawn.first.front) drawn.first.rest line
+    pub refuses : RefusesLine book line refusal
+    pub at_is : at ≡ length drawn.first.front
+
+  -- the answers to some first lines were sent, and a part of the answer to the one behind them
+  pub record DrawsPart : Type 0 where
+    pub first : FirstLines book input
+    pub line : Option (List ℕ)
+    pub next : NextLine (length first.front) first.rest line
+    pub text : List ℕ
+    pub answer : AnswersLine book line text
+    pub between : Option (List ℕ)
+    pub sent : between ≡ sent_after first.text before
+    pub part : PartSent text between now
+
+-- why not all lines were answered, and what was sent
+abbrev pub EndsSo : List Series → List ℕ → Option (List ℕ) → Option (List ℕ) → Option (List ℕ) → DeriveEnd → Type 0
+EndsSo book input left before now (BadLine at) = DrawsToBad book input before now at
+EndsSo book input left before now (Refused at refusal) = DrawsToRefused book input before now at refusal
+EndsSo book input left before now ReadFault = DrawsTaken book input before now left
+EndsSo book input left before now SendFault = DrawsPart book input before now
+EndsSo book input left before now InputTooLong = DrawsWithin book input before now
+EndsSo book input left before now DiskFault = DrawsFirst book input before now
+EndsSo book input left before now (Damaged page) = ⊥
+EndsSo book input left before now NoMemory = DrawsFirst book input before now

@@ -1,0 +1,3 @@
+from golden_data import write_store_with_page_damaged_far_down
+
+write_store_with_page_damaged_far_down()
