@@ -61,9 +61,7 @@ pub record IsEvery (n : ℕ) : Type 0 where
 
 -- the words spell the command: `plot W H`, two numbers from 1 to 4,096; `load NAME`; `demo SEED N`, a number below 2^64 and
 -- one from 1 to 4,096; `export NAME` or `export NAME T0 T1`, two whole numbers; `cover EVERY`, a number from 1 to 131,072;
--- or `run`, `serve`, `draw`, `init`, `check`, `list`, `retain` or `live`
--- one from 1 to 4,096; `export NAME` or `export NAME T0 T1`, two whole numbers; or `run`, `serve`, `draw`, `init`, `check`,
--- `list`, `retain` or `derive`
+-- or `run`, `serve`, `draw`, `init`, `check`, `list`, `retain`, `live` or `derive`
 abbrev pub Spells : Command → List (List ℕ) → Type 0
 Spells (Plot w h) words = (words ≡ codes "plot" ∷ decimal w ∷ decimal h ∷ []) × IsSide w × IsSide h
 Spells (Load name) words = (words ≡ codes "load" ∷ name ∷ []) × IsTrue (is_name name)
