@@ -27,8 +27,8 @@ use drawn_replies::laws::{
     replies_draw_the_book,
 };
 use empty_store::{InitCause, make_store};
-use program_words::Command;
 use live_command::live;
+use program_words::Command;
 use retain_command::retain;
 use std::alloc::Global;
 use store_commands::status::{
