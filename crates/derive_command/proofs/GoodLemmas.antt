@@ -1,5 +1,5 @@
 -- Where all lines of an input are requests that are answered, none is bad, and none is refused.
-use Rattle.std.proofs.Common.{◌≡◌, ◌∙◌, ℕ, ℤ, true, false, cond, List, [], ◌∷◌, ◌++◌, ◌⊎◌, Option, Some, None, refl, ap, sym, subst, arith, inl, inr}
+use Rattle.std.proofs.Common.{◌≡◌, ◌∙◌, ℕ, ℤ, true, cond, List, [], ◌∷◌, ◌++◌, ◌⊎◌, Option, Some, None, refl, ap, sym, subst, arith, inl, inr}
 use Rattle.std.proofs.lemmas.Int.{ints}
 use Rattle.std.proofs.lemmas.List.Elements.{All-contains}
 use Rattle.std.specs.List.{filter}
@@ -21,7 +21,7 @@ use Rattle.series_pair.proofs.ChartLemmas.{same_series}
 use Rattle.series_pair.specs.Derived.{AreAlike, AreShifted, HasLargeSum, IsDerivedChart, axis_of}
 use Rattle.view_keys.proofs.Grids.{grid_same}
 use Rattle.whole_number.specs.Range.{IsValue}
-use Rattle.derive_command.specs.Answers.{AnswersLine, AreNamed, AreOnOneGrid, IsAnswer, IsGridOf, IsRefused, RefusesLine, asked_range}
+use Rattle.derive_command.specs.Answers.{AnswersLine, AreNamed, AreOnOneGrid, IsAnswer, IsGridOf, IsRefused, asked_range}
 use Rattle.derive_command.specs.Lines.{AreAnswers, DrawsToBad, DrawsToRefused, FirstLines, NextLine}
 use Rattle.derive_command.specs.Requests.{Says}
 use Rattle.derive_command.specs.declared.derive_refusal.DeriveRefusal.{DeriveRefusal}

@@ -8,4 +8,4 @@ pub returns-clause-refusal : goal.returns-clause-refusal
 returns-clause-refusal c = one_refusal
 
 pub returns-clause-apart : goal.returns-clause-apart
-returns-clause-apart c = not_refused
+returns-clause-apart c = λ book request text why answer refused. not_refused book request text answer why refused
