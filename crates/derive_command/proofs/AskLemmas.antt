@@ -1,12 +1,9 @@
 -- What a request asks for over a book.
-use Rattle.std.proofs.Common.{◌≡◌, ℕ, ℤ, List, Option, Result, Ok, Err, sym, subst}
-use Rattle.chart_grid.specs.declared.grid.Grid.{Grid}
-use Rattle.plain_chart.specs.declared.value_range.ValueRange.{ValueRange}
+use Rattle.std.proofs.Common.{ℕ, ℤ, List, Err, sym, subst}
 use Rattle.series_book.specs.declared.one_series.Series.{Series}
 use Rattle.series_pair.specs.Derived.{AreShifted}
 use Rattle.derive_command.specs.Answers.{AreNamed, AreOnOneGrid, IsRefused}
-use Rattle.derive_command.specs.Doing.{AreIdsOf, IsAsked, IsViewOf}
-use Rattle.derive_command.specs.declared.asked.Asked.{Asked}
+use Rattle.derive_command.specs.Doing.{AreIdsOf, IsViewOf}
 use Rattle.derive_command.specs.declared.derive_refusal.DeriveRefusal.{DeriveRefusal}
 use Rattle.derive_command.specs.declared.derive_refusal.DeriveRefusal.TheVariants as refusal
 use Rattle.derive_command.specs.declared.request.Request.{Request}

@@ -1,5 +1,5 @@
 -- A request is answered, and a line; and what calls move.
-use Rattle.std.proofs.Common.{◌≡◌, ◌≢◌, ◌∙◌, ℕ, ℤ, ◌+◌, ◌<◌, ◌≤◌, List, [], length, Option, Some, None, Result, Ok, Err, IfSome, refl, ap, sym, subst, arith, inl, inr}
+use Rattle.std.proofs.Common.{◌≡◌, ◌∙◌, ℕ, ℤ, ◌<◌, ◌≤◌, List, length, Option, Some, Result, Ok, Err, refl, ap, sym, subst, arith, inl, inr}
 use Rattle.std.specs.Prelude.{OnOk, IfErr}
 use Rattle.block_disk.proofs.Passing.{passes_none, passes_weaker, sends_then_sends}
 use Rattle.block_disk.specs.Counts.{HasRisen}
@@ -18,14 +18,13 @@ use Rattle.series_catalog.specs.declared.catalog.Catalog.{Catalog}
 use Rattle.series_pair.specs.Derived.{HasLargeSum, IsChartAnswer, IsChartCause, IsDerivedChart}
 use Rattle.series_pair.specs.declared.sum_error.SumError.{SumError}
 use Rattle.series_pair.specs.declared.sum_error.SumError.TheVariants as sum
-use Rattle.derive_command.specs.Answers.{AreOnOneGrid, HasLarge, IsAnswer, IsRefused, asked_range}
+use Rattle.derive_command.specs.Answers.{AreOnOneGrid, HasLarge, IsAnswer, IsRefused}
 use Rattle.derive_command.specs.Doing.{DoesLine, DoesRequest, Goes, IsAsked, IsCause, LineStops, RequestStops, Side, TextStops, end_at}
 use Rattle.derive_command.specs.Requests.{Spells, SaysNone}
 use Rattle.derive_command.specs.declared.asked.Asked.{Asked}
 use Rattle.derive_command.specs.declared.derive_end.DeriveEnd.{DeriveEnd}
 use Rattle.derive_command.specs.declared.derive_end.DeriveEnd.TheVariants.{BadLine, Refused, ReadFault, SendFault, InputTooLong, DiskFault, Damaged, NoMemory}
 use Rattle.derive_command.specs.declared.derive_refusal.DeriveRefusal.{DeriveRefusal}
-use Rattle.derive_command.specs.declared.derive_refusal.DeriveRefusal.TheVariants as refusal
 use Rattle.derive_command.specs.declared.request.Request.{Request}
 
 -- ---- a request

@@ -1,10 +1,10 @@
 -- What was done of an input, by what was done of its next line.
-use Rattle.std.proofs.Common.{◌≡◌, ◌∙◌, ℕ, ◌+◌, ◌-◌, ◌<◌, ◌≤◌, ◌^◌, List, [], ◌∷◌, ◌++◌, length, take, drop, Option, Some, None, Result, Ok, Err, IfSome, refl, ap, sym, subst, arith, inl, inr, append_assoc, length-append}
+use Rattle.std.proofs.Common.{◌≡◌, ◌∙◌, ℕ, ◌+◌, ◌-◌, ◌<◌, ◌≤◌, ◌^◌, List, [], ◌++◌, length, take, drop, Option, Some, None, Ok, Err, IfSome, refl, ap, sym, subst, arith, inl, inr, length-append}
 use Rattle.std.proofs.lemmas.List.{take-append-drop, append-nil}
 use Rattle.block_disk.specs.Streams.{sent_after, left_after}
 use Rattle.chart_service.specs.SentLaws.{sent_none, sent_more}
 use Rattle.chart_service.specs.Serving.{told, unless_empty}
-use Rattle.chart_world.specs.Fronts.{says, Gives}
+use Rattle.chart_world.specs.Fronts.{Gives}
 use Rattle.chart_world.specs.LineLaws.{no_rest, said, says_text}
 use Rattle.chart_world.specs.Lines.{NoLineFeed}
 use Rattle.chart_world.specs.Reading.{Reading, unread, unread_input, told_lines, input_length, NoLineIn}
@@ -12,7 +12,7 @@ use Rattle.chart_world.specs.declared.line_answer.LineFault.{LineFault}
 use Rattle.chart_world.specs.declared.line_answer.LineFault.TheVariants as fault
 use Rattle.series_book.specs.declared.one_series.Series.{Series}
 use Rattle.derive_command.specs.Doing.{DoesLine, LineDone, LineStops, end_of}
-use Rattle.derive_command.specs.Lines.{AreAnswers, DrawsAll, DrawsFirst, DrawsTaken, DrawsWithin, EndsSo, FirstLines}
+use Rattle.derive_command.specs.Lines.{AreAnswers, DrawsAll, DrawsFirst, DrawsTaken, EndsSo}
 use Rattle.derive_command.specs.declared.derive_end.DeriveEnd.{DeriveEnd}
 use Rattle.derive_command.specs.declared.derive_end.DeriveEnd.TheVariants.{BadLine, Refused, ReadFault, SendFault, InputTooLong, DiskFault, Damaged, NoMemory}
 use Rattle.derive_command.proofs.LineLemmas.{Progress, no_lines, next_line, empty_passed, line_passed, spells_some}

@@ -1,5 +1,5 @@
 -- Where all lines of an input are requests that are answered, none is bad, and none is refused.
-use Rattle.std.proofs.Common.{◌≡◌, ◌∙◌, ℕ, ℤ, true, false, cond, List, [], ◌∷◌, ◌++◌, ◌⊎◌, Option, Some, None, refl, ap, sym, subst, arith, inl, inr}
+use Rattle.std.proofs.Common.{◌≡◌, ◌∙◌, ℕ, ℤ, true, cond, List, [], ◌∷◌, ◌++◌, ◌⊎◌, Option, Some, None, refl, ap, sym, subst, arith, inl, inr}
 use Rattle.std.proofs.lemmas.Int.{ints}
 use Rattle.std.proofs.lemmas.List.Elements.{All-contains}
 use Rattle.std.specs.List.{filter}
@@ -18,16 +18,17 @@ use Rattle.request_lines.specs.declared.ranges.RangeWord.TheVariants as word
 use Rattle.series_book.specs.Edits.{id_of}
 use Rattle.series_book.specs.declared.one_series.Series.{Series}
 use Rattle.series_pair.proofs.ChartLemmas.{same_series}
-use Rattle.series_pair.specs.Derived.{AreShifted, HasLargeSum, IsDerivedChart, axis_of}
+use Rattle.series_pair.specs.Derived.{AreAlike, AreShifted, HasLargeSum, IsDerivedChart, axis_of}
 use Rattle.view_keys.proofs.Grids.{grid_same}
 use Rattle.whole_number.specs.Range.{IsValue}
-use Rattle.derive_command.specs.Answers.{AnswersLine, AreNamed, HasLarge, IsAnswer, IsGridOf, IsRefused, RefusesLine, asked_range}
+use Rattle.derive_command.specs.Answers.{AnswersLine, AreNamed, AreOnOneGrid, IsAnswer, IsGridOf, IsRefused, asked_range}
 use Rattle.derive_command.specs.Lines.{AreAnswers, DrawsToBad, DrawsToRefused, FirstLines, NextLine}
 use Rattle.derive_command.specs.Requests.{Says}
 use Rattle.derive_command.specs.declared.derive_refusal.DeriveRefusal.{DeriveRefusal}
 use Rattle.derive_command.specs.declared.derive_refusal.DeriveRefusal.TheVariants as refusal
 use Rattle.derive_command.specs.declared.request.Request.{Request}
 use Rattle.derive_command.proofs.LineLemmas.{spells_some}
+use Rattle.derive_command.proofs.PictureLemmas.{picture_same}
 use Rattle.derive_command.proofs.SpellLemmas.{one_request}
 
 -- ---- a request that is answered isn't refused
@@ -96,6 +97,72 @@ module _ (book : List Series) (r : Request) (text : List ℕ) (answer : IsAnswer
       let Y : ℕ → Type 0 = λ i. HasLargeSum book answer.series.x i r.a r.b answer.grid has.time in
       let large = subst Y (same_second has.series.x has.series.y has.series.named) (subst X (same_first has.series.x has.series.y has.series.named) (subst G (one_grid r has.grid answer.grid has.grid_is answer.grid_is) has.large)) in
       no_large book answer.series.x answer.series.y r.a r.b answer.grid (asked_range r.range) answer.canvas has.time answer.chart large
+
+-- ---- a request is refused for one reason
+
+module _ (book : List Series) (r : Request) where
+  named_not : (x y : ℕ) → AreNamed book r x y → IsRefused book r refusal.UnknownSeries → ⊥
+  named_not x y named (inl none) = not_none (id_of r.first book) x named.first none
+  named_not x y named (inr none) = not_none (id_of r.second book) y named.second none
+
+  one_grid_not : AreOnOneGrid book r → IsRefused book r refusal.NotOneGrid → ⊥
+  one_grid_not one (x, y, named, unlike) =
+      let X : ℕ → Type 0 = λ i. AreShifted book i one.y one.shift in
+      let Y : ℕ → Type 0 = λ i. AreShifted book x i one.shift in
+      unlike one.shift (subst Y (one_id (id_of r.second book) one.y y one.named.second named.second) (subst X (one_id (id_of r.first book) one.x x one.named.first named.first) one.shifted))
+
+  pub one_refusal : (one other : DeriveRefusal) → IsRefused book r one → IsRefused book r other → one ≡ other
+  one_refusal refusal.UnknownSeries refusal.UnknownSeries first second = refl
+  one_refusal refusal.UnknownSeries refusal.NotOneGrid first second = absurd (named_not second.0 second.1 second.2 first)
+  one_refusal refusal.UnknownSeries refusal.BadWindow first second = absurd (named_not second.0.x second.0.y second.0.named first)
+  one_refusal refusal.UnknownSeries refusal.BadCanvas first second = absurd (named_not second.0.x second.0.y second.0.named first)
+  one_refusal refusal.UnknownSeries refusal.BadRange first second = absurd (named_not second.0.x second.0.y second.0.named first)
+  one_refusal refusal.UnknownSeries refusal.TooLarge first second = absurd (named_not second.series.x second.series.y second.series.named first)
+  one_refusal refusal.NotOneGrid refusal.UnknownSeries first second = absurd (named_not first.0 first.1 first.2 second)
+  one_refusal refusal.NotOneGrid refusal.NotOneGrid first second = refl
+  one_refusal refusal.NotOneGrid refusal.BadWindow first second = absurd (one_grid_not second.0 first)
+  one_refusal refusal.NotOneGrid refusal.BadCanvas first second = absurd (one_grid_not second.0 first)
+  one_refusal refusal.NotOneGrid refusal.BadRange first second = absurd (one_grid_not second.0 first)
+  one_refusal refusal.NotOneGrid refusal.TooLarge first second = absurd (one_grid_not second.series first)
+  one_refusal refusal.BadWindow refusal.UnknownSeries first second = absurd (named_not first.0.x first.0.y first.0.named second)
+  one_refusal refusal.BadWindow refusal.NotOneGrid first second = absurd (one_grid_not first.0 second)
+  one_refusal refusal.BadWindow refusal.BadWindow first second = refl
+  one_refusal refusal.BadWindow refusal.BadCanvas first second = absurd (no_window r.t0 r.t1 second.1 first.1)
+  one_refusal refusal.BadWindow refusal.BadRange first second = absurd (no_window r.t0 r.t1 second.1 first.1)
+  one_refusal refusal.BadWindow refusal.TooLarge first second = absurd (no_window r.t0 r.t1 second.grid_is.window first.1)
+  one_refusal refusal.BadCanvas refusal.UnknownSeries first second = absurd (named_not first.0.x first.0.y first.0.named second)
+  one_refusal refusal.BadCanvas refusal.NotOneGrid first second = absurd (one_grid_not first.0 second)
+  one_refusal refusal.BadCanvas refusal.BadWindow first second = absurd (no_window r.t0 r.t1 first.1 second.1)
+  one_refusal refusal.BadCanvas refusal.BadCanvas first second = refl
+  one_refusal refusal.BadCanvas refusal.BadRange first second = absurd (no_sides r.w r.h second.2 second.3 first.2)
+  one_refusal refusal.BadCanvas refusal.TooLarge first second = absurd (no_sides r.w r.h second.grid_is.wide second.grid_is.high first.2)
+  one_refusal refusal.BadRange refusal.UnknownSeries first second = absurd (named_not first.0.x first.0.y first.0.named second)
+  one_refusal refusal.BadRange refusal.NotOneGrid first second = absurd (one_grid_not first.0 second)
+  one_refusal refusal.BadRange refusal.BadWindow first second = absurd (no_window r.t0 r.t1 first.1 second.1)
+  one_refusal refusal.BadRange refusal.BadCanvas first second = absurd (no_sides r.w r.h first.2 first.3 second.2)
+  one_refusal refusal.BadRange refusal.BadRange first second = refl
+  one_refusal refusal.BadRange refusal.TooLarge first second = absurd (no_range r.range second.grid_is.range first.4)
+  one_refusal refusal.TooLarge refusal.UnknownSeries first second = absurd (named_not first.series.x first.series.y first.series.named second)
+  one_refusal refusal.TooLarge refusal.NotOneGrid first second = absurd (one_grid_not first.series second)
+  one_refusal refusal.TooLarge refusal.BadWindow first second = absurd (no_window r.t0 r.t1 first.grid_is.window second.1)
+  one_refusal refusal.TooLarge refusal.BadCanvas first second = absurd (no_sides r.w r.h first.grid_is.wide first.grid_is.high second.2)
+  one_refusal refusal.TooLarge refusal.BadRange first second = absurd (no_range r.range first.grid_is.range second.4)
+  one_refusal refusal.TooLarge refusal.TooLarge first second = refl
+
+-- ---- a request has one answer
+
+pub one_answer : ((book : List Series) (x y : ℕ) (a b : ℤ) (g : Grid) (asked : Option ValueRange) (one other : Canvas) → IsDerivedChart book x y a b g asked one → IsDerivedChart book x y a b g asked other → AreAlike one other)
+    → (book : List Series) (r : Request) (one other : List ℕ) → IsAnswer book r one → IsAnswer book r other → one ≡ other
+one_answer law book r one other first second =
+    let asked = asked_range r.range in
+    let x = same_first book r one first second.series.x second.series.y second.series.named in
+    let y = same_second book r one first second.series.x second.series.y second.series.named in
+    let X : ℕ → Type 0 = λ i. IsDerivedChart book i second.series.y r.a r.b second.grid asked second.canvas in
+    let Y : ℕ → Type 0 = λ i. IsDerivedChart book first.series.x i r.a r.b second.grid asked second.canvas in
+    let G : Grid → Type 0 = λ g. IsDerivedChart book first.series.x first.series.y r.a r.b g asked second.canvas in
+    let chart = subst G (one_grid r second.grid first.grid second.grid_is first.grid_is) (subst Y y (subst X x second.chart)) in
+    let alike = law book first.series.x first.series.y r.a r.b first.grid asked first.canvas second.canvas first.chart chart in
+    first.text_is ∙ sym (picture_same first.canvas second.canvas alike) ∙ sym second.text_is
 
 -- ---- lines
 

@@ -5,4 +5,5 @@ pub mod AskLemmas
 pub mod DoingLemmas
 pub mod DiskLemmas
 pub mod StatusLemmas
+pub mod PictureLemmas
 pub mod GoodLemmas

@@ -1,5 +1,5 @@
 -- How far the lines of an input are answered.
-use Rattle.std.specs.Prelude.{◌≡◌, ℕ, ◌+◌, ◌-◌, ◌*◌, ◌^◌, ◌<◌, ◌≤◌, List, [], ◌∷◌, ◌++◌, length, take, Option, IfSome, IsTrue}
+use Rattle.std.specs.Prelude.{◌≡◌, ℕ, ◌+◌, ◌-◌, ◌^◌, ◌<◌, ◌≤◌, List, [], ◌∷◌, ◌++◌, length, take, Option, IfSome, IsTrue}
 use Rattle.block_disk.specs.Streams.{sent_after, PartSent}
 use Rattle.chart_service.specs.Serving.{told}
 use Rattle.chart_world.specs.Fronts.{says, BeginsWith, first_piece}

@@ -1,5 +1,5 @@
 -- The lines of a store's streams, in the words of the store.
-use Rattle.std.specs.Prelude.{ℕ, List, IfSome}
+use Rattle.std.specs.Prelude.{List, IfSome}
 use Rattle.block_disk.specs.declared.streams.Streams as streams
 use Rattle.gate_pages.specs.declared.pages.Pages.{Ghosts}
 use Rattle.series_book.specs.declared.one_series.Series.{Series}

@@ -1,4 +1,4 @@
-use Rattle.std.proofs.Common.{◌≡◌, ◌∙◌, Result, Ok, Err, ap, arith, length, refl, subst, sym}
+use Rattle.std.proofs.Common.{◌∙◌, Result, ap, arith, length, subst, sym}
 use Rattle.block_disk.specs.View.{Beside}
 use Rattle.line_raster.specs.Canvas.{Canvas}
 use Rattle.page_space.specs.declared.superblock.Superblock.{Superblock}

@@ -1,4 +1,4 @@
-use Rattle.std.proofs.Common.{◌≡◌, ◌∙◌, ◌∷◌, ◌+◌, ℕ, List, length, take, drop, sym, ap}
+use Rattle.std.proofs.Common.{◌∙◌, ◌∷◌, ◌+◌, take, sym, ap}
 use Rattle.request_lines.proofs.TokenLemmas.{place_found, place_missing}
 use Rattle.request_lines.specs.Tokens.{tokens}
 use Rattle.derive_command.proofs.SpellLemmas.{cut_found, cut_none, whole_rest}
