@@ -1,8 +1,8 @@
 -- The covers of a view narrow to its picture.
-use Rattle.std.proofs.Common.{◌≡◌, ℕ, ℤ, pos, ◌*◌, ◌<◌, ◌≤◌, ◌↔◌, List, Option, Some, sym, ap, subst, ◌∙◌, arith}
+use Rattle.std.proofs.Common.{◌≡◌, ℕ, ℤ, pos, ◌*◌, ◌≤◌, List, Option, Some, arith}
 use Rattle.std.proofs.Math.Nat.{mul_comm, mul-le-mul_left}
-use Rattle.std.specs.Prelude.{slice_get, IsTrue}
-use Rattle.line_raster.specs.Canvas.{Canvas, black_at}
+use Rattle.std.specs.Prelude.{slice_get}
+use Rattle.line_raster.specs.Canvas.{Canvas}
 use Rattle.view_cover.specs.Cover.{InCover}
 use Rattle.chart_frames.specs.declared.frame.Frame.TheVariants.{View}
 use Rattle.chart_frames.specs.declared.frame.ViewFrame.{ViewFrame}
