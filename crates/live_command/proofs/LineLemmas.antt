@@ -214,7 +214,7 @@ module _ (lines : List (Option (List ℕ))) (total : ℕ) (old : LiveState) (ima
 
   all_reads : (first : List (Option (List ℕ))) (frames : List Frame) (new : LiveState) (to : ℕ) → AreFirst [] first → ReadsBy first frames reached new reached_by to → ReadsBy lines (d.frames ++ frames) old new from to
   all_reads first frames new to are_first reads =
-      let none : first ≡ [] = elim are_first [ | inl is ↦ is | inr is ↦ is ] in
+      let none : first ≡ [] = elim are_first [ inl is ↦ is | inr is ↦ is ] in
       let P : List (Option (List ℕ)) → Type 0 = λ l. ReadsBy l (d.frames ++ frames) old new from to in
       subst P (ap (λ l. lines ++ l) none ∙ append-nil lines) (reads_more lines first d.frames frames old reached new from reached_by to d.reads reads)
 

@@ -141,10 +141,10 @@ lines-preserved-in-Ok-refuse_line g c =
           let F : Option (List ℕ) → Type 0 = λ l. Far (left first) (unread c.next.new.self l) c.next.new.self.given total state (view new).image (held_by c.refuse_line.new.live) (sent first) (sent new) in
           subst F (sym it.left) (far_line c.lines.lines c.next.new.self (left mid) (left taken) line gives e.within total state (held_by c.next.new.from) (held_by c.refuse_line.new.live) (view taken) (view new) (sent first) (sent taken) (sent new) c.in-Ok-refuse_line.field-0 (left first) (λ between there sound. it.does total between (goes.is_told told) there sound) far);
       read = λ total book told stands.
-        let state = its.state start total book in
-        let read = far_read_kept (left first) (unread c.lines.lines (left mid)) c.lines.lines.given total state (view mid).image (view taken).image (held_by c.lines.live) (held_by c.next.new.from) (view first).reads (view mid).reads (view taken).reads kept.image same kept.reads (inv.read total book told stands) in
-        let F : Option (List ℕ) → Type 0 = λ l. FarRead (left first) (unread c.next.new.self l) c.next.new.self.given total state (view new).image (held_by c.refuse_line.new.live) (view first).reads (view new).reads in
-        subst F (sym it.left) (far_read_line c.lines.lines c.next.new.self (left mid) (left taken) line gives total state (held_by c.next.new.from) (held_by c.refuse_line.new.live) (view taken) (view new) (view first).reads (sent taken) (sent new) c.in-Ok-refuse_line.field-0 (left first) (λ between there sound. it.does total between (goes.is_told told) there sound) read);
+          let state = its.state start total book in
+          let read = far_read_kept (left first) (unread c.lines.lines (left mid)) c.lines.lines.given total state (view mid).image (view taken).image (held_by c.lines.live) (held_by c.next.new.from) (view first).reads (view mid).reads (view taken).reads kept.image same kept.reads (inv.read total book told stands) in
+          let F : Option (List ℕ) → Type 0 = λ l. FarRead (left first) (unread c.next.new.self l) c.next.new.self.given total state (view new).image (held_by c.refuse_line.new.live) (view first).reads (view new).reads in
+          subst F (sym it.left) (far_read_line c.lines.lines c.next.new.self (left mid) (left taken) line gives total state (held_by c.next.new.from) (held_by c.refuse_line.new.live) (view taken) (view new) (view first).reads (sent taken) (sent new) c.in-Ok-refuse_line.field-0 (left first) (λ between there sound. it.does total between (goes.is_told told) there sound) read);
       lasts = λ total book told stands.
           let state = its.state start total book in
           let far = far_kept (left first) (unread c.lines.lines (left mid)) c.lines.lines.given total state (view mid).image (view taken).image (held_by c.lines.live) (held_by c.next.new.from) (sent first) (sent mid) (sent taken) kept.image same c.next.ensures.sent (inv.far total book told stands) in
@@ -294,10 +294,10 @@ lines-preserved g c =
           let F : Option (List ℕ) → Type 0 = λ l. Far (left first) (unread c.next.new.self l) c.next.new.self.given total state (view new).image (held_by c.answer_line.new.live) (sent first) (sent new) in
           subst F (sym it.left) (far_line c.lines.lines c.next.new.self (left mid) (left taken) line gives e.within total state (held_by c.next.new.from) (held_by c.answer_line.new.live) (view taken) (view new) (sent first) (sent taken) (sent new) c.in-Ok-answer_line.field-0 (left first) (λ between there sound. it.does total between (goes.is_told told) there sound) far);
       read = λ total book told stands.
-        let state = its.state start total book in
-        let read = far_read_kept (left first) (unread c.lines.lines (left mid)) c.lines.lines.given total state (view mid).image (view taken).image (held_by c.lines.live) (held_by c.next.new.from) (view first).reads (view mid).reads (view taken).reads kept.image same kept.reads (inv.read total book told stands) in
-        let F : Option (List ℕ) → Type 0 = λ l. FarRead (left first) (unread c.next.new.self l) c.next.new.self.given total state (view new).image (held_by c.answer_line.new.live) (view first).reads (view new).reads in
-        subst F (sym it.left) (far_read_line c.lines.lines c.next.new.self (left mid) (left taken) line gives total state (held_by c.next.new.from) (held_by c.answer_line.new.live) (view taken) (view new) (view first).reads (sent taken) (sent new) c.in-Ok-answer_line.field-0 (left first) (λ between there sound. it.does total between (goes.is_told told) there sound) read);
+          let state = its.state start total book in
+          let read = far_read_kept (left first) (unread c.lines.lines (left mid)) c.lines.lines.given total state (view mid).image (view taken).image (held_by c.lines.live) (held_by c.next.new.from) (view first).reads (view mid).reads (view taken).reads kept.image same kept.reads (inv.read total book told stands) in
+          let F : Option (List ℕ) → Type 0 = λ l. FarRead (left first) (unread c.next.new.self l) c.next.new.self.given total state (view new).image (held_by c.answer_line.new.live) (view first).reads (view new).reads in
+          subst F (sym it.left) (far_read_line c.lines.lines c.next.new.self (left mid) (left taken) line gives total state (held_by c.next.new.from) (held_by c.answer_line.new.live) (view taken) (view new) (view first).reads (sent taken) (sent new) c.in-Ok-answer_line.field-0 (left first) (λ between there sound. it.does total between (goes.is_told told) there sound) read);
       lasts = λ total book told stands.
           let state = its.state start total book in
           let far = far_kept (left first) (unread c.lines.lines (left mid)) c.lines.lines.given total state (view mid).image (view taken).image (held_by c.lines.live) (held_by c.next.new.from) (sent first) (sent mid) (sent taken) kept.image same c.next.ensures.sent (inv.far total book told stands) in
