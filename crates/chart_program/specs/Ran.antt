@@ -46,7 +46,7 @@ use Rattle.stored_book.specs.Damage.{IsBadForEdit, IsBadForRequest}
 use Rattle.retention.specs.declared.rule.Rule.{Rule}
 use Rattle.retain_command.specs.Answers.{AreRules}
 use Rattle.retain_command.specs.Retained.{LeavesSwept, RetainsAll, RetainsLines, RetainsPart, RetainsSome, RetainsTaken, RetainsToBad, RetainsToUnknown, RetainsWithin}
-use Rattle.live_command.specs.Ended.{LeavesLived, LivesAll, LivesLines, LivesPart, LivesSome, LivesTaken, LivesWithin}
+use Rattle.live_command.specs.Ended.{LeavesLived, LivesAll, LivesLines, LivesPart, LivesSome, LivesTaken, LivesWithin, ReadsLiving}
 use Rattle.derive_command.specs.Derived.{DerivesAll, DerivesFirst, DerivesPart, DerivesTaken, DerivesToBad, DerivesToRefused, DerivesWithin}
 use Rattle.derive_command.specs.Lines.{AreAnswers}
 use Rattle.store_commands.specs.Damaged.{IsDamagedAtFirst, IsDamagedPlace}
@@ -387,6 +387,7 @@ ReadsFew command old new = ⊤
 abbrev pub ReadsByInput : Command → View → View → List ℕ → Option (List ℕ) → Option (List ℕ) → Type 0
 ReadsByInput Run old new input before now = ReadsServing old new input
 ReadsByInput Serve old new input before now = ReadsServing old new input
+ReadsByInput Live old new input before now = ReadsLiving old new input
 ReadsByInput command old new input before now = ⊤
 
 -- and so the disk is synced

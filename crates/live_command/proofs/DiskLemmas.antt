@@ -21,7 +21,9 @@ use Rattle.store_commands.proofs.Moments.{opened_goes, opened_quiet, since_opene
 use Rattle.store_commands.specs.Books.{HoldsAgain, Never, OfBook}
 use Rattle.store_commands.specs.Damaged.{IsDamagedLater}
 use Rattle.live_command.specs.Doing.{IsCause, Side}
-use Rattle.live_command.specs.Ended.{Holds, LeavesLived, LivesAll, begun_live}
+use Rattle.live_command.specs.Ended.{Holds, LeavesLived, LivesAll, ReadsFrom, ReadsLiving, begun_live}
+use Rattle.live_command.specs.Reads.{ReadsLines}
+use Rattle.live_command.proofs.ReadLemmas.{none_read}
 use Rattle.live_command.specs.Ending.{IsEndCause, StopsAt, Served}
 use Rattle.live_command.specs.Running.{EndsSo, IsAhead, SendsAll, SendsFirst}
 use Rattle.chart_service.specs.declared.failure.ServeEnd.{ServeEnd}
@@ -269,3 +271,31 @@ served_none {T} count disk left before reads sends = record {
   goes_on = goes_none disk;
   faults = omega arith;
 }
+
+-- ---- what was read
+
+-- no line
+pub reads_untaken : (count : ℕ) (disk : View) (left : Option (List ℕ)) → IfSome left (λ input. ReadsFrom count disk disk input disk.reads)
+reads_untaken count disk left = told_each left (λ input. ReadsFrom count disk disk input disk.reads) (λ input total book holds. none_read input (begun_live total book) disk.reads)
+
+-- by a service without sessions
+pub reads_from : (count : ℕ) (old new : View) (left : Option (List ℕ)) (state : ℕ → List Series → LiveState) → ((total : ℕ) (book : List Series) → state total book ≡ begun_live total book)
+    → ((total : ℕ) (book : List Series) → Honest old → StandsForBook (pages_of count old.image) total book → IfSome left (λ input. ReadsLines input (state total book) old.reads new.reads)) → IfSome left (λ input. ReadsFrom count old new input old.reads)
+reads_from count old new None state begins reads = tt
+reads_from count old new (Some input) state begins reads = λ total book holds.
+    let P : LiveState → Type 0 = λ s. ReadsLines input s old.reads new.reads in
+    subst P (begins total book) (reads total book holds.honest (stands_held count total book old holds))
+
+-- over a store that is opened first, or isn't
+pub reads_on : (count : ℕ) (old mid new : View) (left_mid left : Option (List ℕ)) → count ≡ page_count old.size → Opens (page_count old.size) old mid → left_mid ≡ left → IfSome left_mid (λ input. ReadsFrom count mid new input mid.reads) → IfSome left (λ input. ReadsLiving old new input)
+reads_on count old mid new left_mid left counted opens same reads =
+    let C : ℕ → Type 0 = λ n. IfSome left_mid (λ input. ReadsFrom n mid new input mid.reads) in
+    let L : Option (List ℕ) → Type 0 = λ l. IfSome l (λ input. ReadsFrom (page_count old.size) mid new input mid.reads) in
+    opened left (subst L same (subst C counted reads))
+  where
+    opened : (o : Option (List ℕ)) → IfSome o (λ input. ReadsFrom (page_count old.size) mid new input mid.reads) → IfSome o (λ input. ReadsLiving old new input)
+    opened None reads = tt
+    opened (Some input) reads = (mid.reads, opens.reads.high, λ total book holds. reads total book (held old mid opens total book holds))
+
+pub reads_unopened : (old new : View) (left : Option (List ℕ)) → Opens (page_count old.size) old new → IfSome left (λ input. ReadsLiving old new input)
+reads_unopened old new left opens = told_each left (λ input. ReadsLiving old new input) (λ input. (new.reads, opens.reads.high, λ total book holds. none_read input (begun_live total book) new.reads))

@@ -5,15 +5,17 @@ use Rattle.std.proofs.lemmas.List.{append-nil}
 use Rattle.block_disk.specs.Streams.{sent_after}
 use Rattle.chart_frames.specs.declared.frame.Frame.{Frame}
 use Rattle.chart_frames.specs.Frames.{Fits, spelling}
+use Rattle.chart_service.specs.ReadingBlocks.{ReadsLine}
 use Rattle.chart_service.specs.Replies.{refused}
 use Rattle.chart_service.specs.SentLaws.{sent_more}
 use Rattle.chart_service.specs.State.{State, IsSound}
-use Rattle.live_service.specs.LiveReplies.{LiveState, LiveReplied, Pushed, RepliesTo}
+use Rattle.live_service.specs.LiveReplies.{LiveState, LiveReplied, Pushed, ReadsPush, RepliesTo}
 use Rattle.live_view.specs.Lines.{live_line}
 use Rattle.live_view.specs.declared.live_lines.LiveLine.{LiveLine}
 use Rattle.live_view.specs.declared.live_lines.LiveLine.TheVariants.{Follow, Unfollow, Bad, Other}
 use Rattle.series_book.specs.declared.refusals.Refusal.TheVariants.{LineTooLong}
 use Rattle.live_command.specs.Lives.{Event, answer, push, Lives, LivesBy, lines_in, spelled}
+use Rattle.live_command.specs.Reads.{ReadsBy, ReadsInTurn}
 
 -- events behind others do what both do
 lives_more : (old mid new : LiveState) (first later : List Event) (frames more : List Frame) → Lives old first frames mid → Lives mid later more new → Lives old (first ++ later) (frames ++ more) new
@@ -44,6 +46,35 @@ by_answer line frame old new idle replied = record { events = answer line ∷ []
 
 pub by_push : (frame : Frame) (old new : LiveState) → Pushed frame old new → LivesBy [] (frame ∷ []) old new
 by_push frame old new pushed = record { events = push ∷ []; lines_are = refl; lived = (new, pushed, refl) }
+
+-- ---- what they read
+
+reads_in_row : (old mid new : LiveState) (first later : List Event) (frames more : List Frame) (from between to : ℕ) → ReadsInTurn old first frames mid from between → ReadsInTurn mid later more new between to → ReadsInTurn old (first ++ later) (frames ++ more) new from to
+reads_in_row old mid new [] later [] more from between to one two =
+    let P : LiveState → Type 0 = λ s. ReadsInTurn s later more new from to in
+    let Q : ℕ → Type 0 = λ n. ReadsInTurn mid later more new n to in
+    subst P one.0 (subst Q one.1 two)
+reads_in_row old mid new [] later (f ∷ fs) more from between to one two = absurd one
+reads_in_row old mid new (answer line ∷ es) later [] more from between to one two = absurd one
+reads_in_row old mid new (push ∷ es) later [] more from between to one two = absurd one
+reads_in_row old mid new (answer line ∷ es) later (f ∷ fs) more from between to one two = (one.0, one.1, one.2, one.3, one.4, reads_in_row one.0 mid new es later fs more one.1 between to one.5 two)
+reads_in_row old mid new (push ∷ es) later (f ∷ fs) more from between to one two = (one.0, one.1, one.2, one.3, reads_in_row one.0 mid new es later fs more one.1 between to one.4 two)
+
+pub reads_more : (lines others : List (Option (List ℕ))) (frames more : List Frame) (old mid new : LiveState) (from between to : ℕ) → ReadsBy lines frames old mid from between → ReadsBy others more mid new between to → ReadsBy (lines ++ others) (frames ++ more) old new from to
+reads_more lines others frames more old mid new from between to one two = record {
+  events = one.events ++ two.events;
+  lines_are = lines_more one.events two.events ∙ ap (λ l. l ++ lines_in two.events) one.lines_are ∙ ap (λ l. lines ++ l) two.lines_are;
+  reads = reads_in_row old mid new one.events two.events frames more from between to one.reads two.reads;
+}
+
+pub reads_none : (at : LiveState) (count : ℕ) → ReadsBy [] [] at at count count
+reads_none at count = record { events = []; lines_are = refl; reads = (refl, refl) }
+
+pub reads_answer : (line : Option (List ℕ)) (frame : Frame) (old new : LiveState) (from to : ℕ) → old.pending ≡ [] → LiveReplied line frame old new → ReadsLine line old.state from to → ReadsBy (line ∷ []) (frame ∷ []) old new from to
+reads_answer line frame old new from to idle replied reads = record { events = answer line ∷ []; lines_are = refl; reads = (new, to, idle, replied, reads, (refl, refl)) }
+
+pub reads_push : (frame : Frame) (old new : LiveState) (from to : ℕ) → Pushed frame old new → ReadsPush old.pending old.state from to → ReadsBy [] (frame ∷ []) old new from to
+reads_push frame old new from to pushed reads = record { events = push ∷ []; lines_are = refl; reads = (new, to, pushed, reads, (refl, refl)) }
 
 -- ---- what holds of the state
 

@@ -8,6 +8,7 @@ use Rattle.chart_frames.specs.declared.frame.Frame.{Frame}
 use Rattle.chart_frames.specs.Frames.{spelling}
 use Rattle.chart_service.specs.MomentLaws.{through_none, through_by, through_so, through_then}
 use Rattle.chart_service.specs.Moments.{Through}
+use Rattle.chart_service.specs.ReadingBlocks.{ReadsLine}
 use Rattle.chart_service.specs.SentLaws.{sent_none}
 use Rattle.chart_service.specs.Serving.{end_of_step, unless_empty}
 use Rattle.chart_world.specs.LineLaws.{said, says_text}
@@ -19,13 +20,14 @@ use Rattle.chart_service.specs.declared.failure.ServiceError.{ServiceError}
 use Rattle.chart_service.specs.declared.failure.ServiceError.TheVariants as step
 use Rattle.gate_pages.proofs.Moving.{sent_same}
 use Rattle.gate_pages.specs.Pages.{Quiet}
-use Rattle.live_service.specs.LiveReplies.{LiveState}
+use Rattle.live_service.specs.LiveReplies.{LiveState, ReadsPush}
 use Rattle.live_service.specs.Shown.{IsAfterAnswer, IsBeforeOrAfter, live_of}
 use Rattle.series_book.specs.declared.one_series.Series.{Series}
 use Rattle.stored_book.specs.Standing.{StandsForBook}
-use Rattle.live_command.specs.Doing.{AreFirst, DoesLines, FrameStops, Held, LinesCut, LinesDone, LinesMoment, LinesSent, LinesSome, LinesStop, held_with}
+use Rattle.live_command.specs.Doing.{AreFirst, DoesLines, FrameStops, Held, LinesCut, LinesDone, LinesMoment, LinesRead, LinesSent, LinesSome, LinesStop, held_with}
 use Rattle.live_command.specs.Lives.{LivesBy, spelled}
-use Rattle.live_command.proofs.EventLemmas.{by_more, by_none, length_more, length_one, sent_then, spelled_more, spelled_one}
+use Rattle.live_command.specs.Reads.{ReadsBy}
+use Rattle.live_command.proofs.EventLemmas.{by_more, by_none, length_more, length_one, reads_more, reads_none, sent_then, spelled_more, spelled_one}
 
 pub any_told : {Q : Type 0} → Q → (b : Option (List ℕ)) → IfSome b (λ bytes. Q)
 any_told {Q} is None = tt
@@ -50,6 +52,18 @@ none_moment lines total old from image sent stands same = record {
   low = omega (arith, same);
   high = omega (arith, same);
 }
+
+-- ---- what was read
+
+one_read : (lines : List (Option (List ℕ))) (old new : LiveState) (frame : Frame) (from to : ℕ) → ReadsBy lines (frame ∷ []) old new from to → LinesRead lines old from to
+one_read lines old new frame from to read = record { first = lines; are_first = inr refl; frames = frame ∷ []; state = new; count = to; answered = read; last = inl refl }
+
+-- a line, or a push, that failed
+pub line_read : (line : Option (List ℕ)) (old : LiveState) (from to : ℕ) → ReadsLine line old.state from to → LinesRead (line ∷ []) old from to
+line_read line old from to read = record { first = []; are_first = inl refl; frames = []; state = old; count = from; answered = reads_none old from; last = inr (inl (line, refl, refl, read)) }
+
+pub push_read : (old : LiveState) (from to : ℕ) → ReadsPush old.pending old.state from to → LinesRead [] old from to
+push_read old from to read = record { first = []; are_first = inl refl; frames = []; state = old; count = from; answered = reads_none old from; last = inr (inr read) }
 
 -- ---- one frame
 
@@ -85,14 +99,15 @@ module _ (lines : List (Option (List ℕ))) (total : ℕ) (old : LiveState) (Rep
       (λ image count left sent. one_moment frame new from image count replied (subst S (sym (only image left)) stands) (omega (arith, sent.0, same)) (omega (arith, sent.1, most, same)))
 
   -- it was made, and sent or not
-  module _ (frame : Frame) (held : Held) (book : List Series) (replied : Reply frame old (held_with total book held)) (sound : IsSound (state_of book total held.sessions)) (image : Image) (stands : StandsForBook image total book) (before now : Option (List ℕ)) where
-    frame_done : now ≡ sent_after (spelling frame) before → LinesDone lines total old image held before now
+  module _ (frame : Frame) (held : Held) (book : List Series) (replied : Reply frame old (held_with total book held)) (sound : IsSound (state_of book total held.sessions)) (image : Image) (stands : StandsForBook image total book) (from to : ℕ) (read : ReadsBy lines (frame ∷ []) old (held_with total book held) from to) (before now : Option (List ℕ)) where
+    frame_done : now ≡ sent_after (spelling frame) before → LinesDone lines total old image held from to before now
     frame_done sent = record {
       frames = frame ∷ [];
       book = book;
       stands = stands;
       sound = sound;
       lives = one frame (held_with total book held) replied;
+      reads = read;
       sent = sent ∙ ap (λ t. sent_after t before) (sym (spelled_one frame));
     }
 
@@ -126,20 +141,22 @@ module _ (lines : List (Option (List ℕ))) (total : ℕ) (old : LiveState) (Rep
     }
 
   -- a frame is made by one call, which sends nothing, and sent by another, which leaves all but the streams
-  pub frame_does : {T : Type 0} (frame : Frame) (held held' : Held) → held' ≡ held → (book : List Series) → Reply frame old (held_with total book held) → IsSound (state_of book total held.sessions) → (view mid new : View) (before between now : Option (List ℕ)) → StandsForBook mid.image total book → Through view mid (LinesMoment lines total old (sent_now view)) → sent_now mid ≡ sent_now view → between ≡ before → DiskKept mid new
+  pub frame_does : {T : Type 0} (frame : Frame) (held held' : Held) → held' ≡ held → (book : List Series) → Reply frame old (held_with total book held) → IsSound (state_of book total held.sessions) → (view mid new : View) (before between now : Option (List ℕ)) → StandsForBook mid.image total book → Through view mid (LinesMoment lines total old (sent_now view)) → sent_now mid ≡ sent_now view → between ≡ before → ReadsBy lines (frame ∷ []) old (held_with total book held) view.reads mid.reads → DiskKept mid new
       → (result : Result T ServeEnd) → OnOk result (now ≡ sent_after (spelling frame) between) → IfErr result (FrameStops frame between now) → Only mid.image (Now mid) → Passes mid new (Now mid) (λ count. (sent_now mid ≤ count) × (count ≤ sent_now new)) → sent_now new ≤ sent_now mid + length (spelling frame) → DoesLines lines total old result view new held' before now
-  frame_does {T} frame held held' same book replied sound view mid new before between now stands made quiet unsent kept result whole stops only sends most =
+  frame_does {T} frame held held' same book replied sound view mid new before between now stands made quiet unsent read kept result whole stops only sends most =
       let S : Image → Type 0 = λ i. StandsForBook i total book in
       let H : Held → Type 0 = λ h. DoesLines lines total old result view new h before now in
       let there : StandsForBook new.image total book = subst S (sym kept.image) stands in
+      let R : ℕ → Type 0 = λ n. ReadsBy lines (frame ∷ []) old (held_with total book held) view.reads n in
+      let reads : ReadsBy lines (frame ∷ []) old (held_with total book held) view.reads new.reads = subst R (sym kept.reads) read in
       let moments = any_told (through_then view mid new (LinesMoment lines total old (sent_now view)) made (sent_moments frame (held_with total book held) (sent_now view) mid new replied stands (sym quiet) only sends most)) before in
-      subst H (sym same) (by result whole stops there moments)
+      subst H (sym same) (by result whole stops there moments reads)
     where
-      by : (r : Result T ServeEnd) → OnOk r (now ≡ sent_after (spelling frame) between) → IfErr r (FrameStops frame between now) → StandsForBook new.image total book → IfSome before (λ bytes. Through view new (LinesMoment lines total old (sent_now view))) → DoesLines lines total old r view new held before now
-      by (Ok v) whole stops there moments = record { done = frame_done frame held book replied sound new.image there before now (whole ∙ ap (sent_after (spelling frame)) unsent); stops = tt; moments = moments }
-      by (Err end) whole stops there moments =
+      by : (r : Result T ServeEnd) → OnOk r (now ≡ sent_after (spelling frame) between) → IfErr r (FrameStops frame between now) → StandsForBook new.image total book → IfSome before (λ bytes. Through view new (LinesMoment lines total old (sent_now view))) → ReadsBy lines (frame ∷ []) old (held_with total book held) view.reads new.reads → DoesLines lines total old r view new held before now
+      by (Ok v) whole stops there moments reads = record { done = frame_done frame held book replied sound new.image there view.reads new.reads reads before now (whole ∙ ap (sent_after (spelling frame)) unsent); stops = tt; moments = moments; reads = one_read lines old (held_with total book held) frame view.reads new.reads reads }
+      by (Err end) whole stops there moments reads =
           let P : Option (List ℕ) → Type 0 = λ b. FrameStops frame b now end in
-          record { done = tt; stops = frame_stops frame held book replied sound new.image there before now end (subst P unsent stops); moments = moments }
+          record { done = tt; stops = frame_stops frame held book replied sound new.image there view.reads new.reads reads before now end (subst P unsent stops); moments = moments; reads = one_read lines old (held_with total book held) frame view.reads new.reads reads }
 
 -- ---- a frame that wasn't made
 
@@ -157,10 +174,10 @@ module _ (lines : List (Option (List ℕ))) (total : ℕ) (old : LiveState) (ima
   ]
   unmade_so step.NoMemory outside stands = record { first = []; are_first = inl refl; shown = []; more = []; few = omega arith; state = old; lives = by_none old; stands = stands; sent = unsent ∙ sent_none before }
 
-pub unmade_does : {T : Type 0} (lines : List (Option (List ℕ))) (total : ℕ) (old : LiveState) (held : Held) (view view' : View) (before now : Option (List ℕ)) (error : ServiceError) (end : ServeEnd) → end ≡ end_of_step error → IsOutside error → NothingWith error view'.image total old.state.book → now ≡ before → Through view view' (LinesMoment lines total old (sent_now view)) → DoesLines {T = T} lines total old (Err end) view view' held before now
-unmade_does {T} lines total old held view view' before now error end is outside stands unsent moments =
+pub unmade_does : {T : Type 0} (lines : List (Option (List ℕ))) (total : ℕ) (old : LiveState) (held : Held) (view view' : View) (before now : Option (List ℕ)) (error : ServiceError) (end : ServeEnd) → end ≡ end_of_step error → IsOutside error → NothingWith error view'.image total old.state.book → now ≡ before → Through view view' (LinesMoment lines total old (sent_now view)) → LinesRead lines old view.reads view'.reads → DoesLines {T = T} lines total old (Err end) view view' held before now
+unmade_does {T} lines total old held view view' before now error end is outside stands unsent moments reads =
     let P : ServeEnd → Type 0 = λ e. LinesStop lines total old view'.image before now e in
-    record { done = tt; stops = subst P (sym is) (unmade_so lines total old view'.image before now unsent error outside stands); moments = any_told moments before }
+    record { done = tt; stops = subst P (sym is) (unmade_so lines total old view'.image before now unsent error outside stands); moments = any_told moments before; reads = reads }
 
 -- with an error that is no fault of the disk nothing was committed
 pub nothing_with : (error : ServiceError) (told : Type 0) (old new : View) (total : ℕ) (book : List Series) → told → IsUnchangedFor error told old new → StandsForBook old.image total book → NothingWith error new.image total book
@@ -182,7 +199,7 @@ push_moments lines total old view view' only stands passes =
 -- ---- pushes behind a line
 
 -- These lines were answered, and pushes are made from there on.
-module _ (lines : List (Option (List ℕ))) (total : ℕ) (old : LiveState) (image : Image) (held : Held) (before between : Option (List ℕ)) (d : LinesDone lines total old image held before between) where
+module _ (lines : List (Option (List ℕ))) (total : ℕ) (old : LiveState) (image : Image) (held : Held) (from reached_by : ℕ) (before between : Option (List ℕ)) (d : LinesDone lines total old image held from reached_by before between) where
   abbrev reached : LiveState
   reached = held_with total d.book held
 
@@ -195,13 +212,37 @@ module _ (lines : List (Option (List ℕ))) (total : ℕ) (old : LiveState) (ima
   in_row : (shown more : List Frame) (new : LiveState) → LivesBy lines (d.frames ++ (shown ++ more)) old new → LivesBy lines ((d.frames ++ shown) ++ more) old new
   in_row shown more new lives = let P : List Frame → Type 0 = λ l. LivesBy lines l old new in subst P (sym (append_assoc d.frames shown more)) lives
 
-  then_done : (image' : Image) (held' : Held) (now : Option (List ℕ)) → LinesDone [] total reached image' held' between now → LinesDone lines total old image' held' before now
-  then_done image' held' now e = record {
+  all_reads : (first : List (Option (List ℕ))) (frames : List Frame) (new : LiveState) (to : ℕ) → AreFirst [] first → ReadsBy first frames reached new reached_by to → ReadsBy lines (d.frames ++ frames) old new from to
+  all_reads first frames new to are_first reads =
+      let none : first ≡ [] = elim are_first [ inl is ↦ is | inr is ↦ is ] in
+      let P : List (Option (List ℕ)) → Type 0 = λ l. ReadsBy l (d.frames ++ frames) old new from to in
+      subst P (ap (λ l. lines ++ l) none ∙ append-nil lines) (reads_more lines first d.frames frames old reached new from reached_by to d.reads reads)
+
+  then_read : (to : ℕ) → LinesRead [] reached reached_by to → LinesRead lines old from to
+  then_read to r = record {
+    first = lines;
+    are_first = inr refl;
+    frames = d.frames ++ r.frames;
+    state = r.state;
+    count = r.count;
+    answered = all_reads r.first r.frames r.state r.count r.are_first r.answered;
+    last = elim r.last [
+      | inl same ↦ inl same
+      | inr more ↦ elim more [
+        | inl line ↦ let no : [] ≡ line.0 ∷ [] = line.2 in cc
+        | inr push ↦ inr (inr push)
+      ]
+    ];
+  }
+
+  then_done : (image' : Image) (held' : Held) (to : ℕ) (now : Option (List ℕ)) → LinesDone [] total reached image' held' reached_by to between now → LinesDone lines total old image' held' from to before now
+  then_done image' held' to now e = record {
     frames = d.frames ++ e.frames;
     book = e.book;
     stands = e.stands;
     sound = e.sound;
     lives = all_lines [] e.frames (held_with total e.book held') (inl refl) e.lives;
+    reads = all_reads [] e.frames (held_with total e.book held') to (inl refl) e.reads;
     sent = sent_then d.frames e.frames before between now d.sent e.sent;
   }
 
@@ -241,8 +282,8 @@ module _ (lines : List (Option (List ℕ))) (total : ℕ) (old : LiveState) (ima
     sent = sent_then d.frames s.shown before between now d.sent s.sent;
   }
 
-  then_moment : (from from' : ℕ) (image' : Image) (count : ℕ) → from' ≡ from + length (spelled d.frames) → LinesMoment [] total reached from' image' count → LinesMoment lines total old from image' count
-  then_moment from from' image' count counted m = record {
+  then_moment : (sent sent' : ℕ) (image' : Image) (count : ℕ) → sent' ≡ sent + length (spelled d.frames) → LinesMoment [] total reached sent' image' count → LinesMoment lines total old sent image' count
+  then_moment sent sent' image' count counted m = record {
     first = lines;
     are_first = inr refl;
     shown = d.frames ++ m.shown;
@@ -266,34 +307,37 @@ sent_is bytes text now from count begins is counts =
     let all : count ≡ length (bytes ++ text) = subst P is counts in
     omega (arith, all, begins, length-append bytes text)
 
-then_moments : (lines : List (Option (List ℕ))) (total : ℕ) (old : LiveState) (held : Held) (view mid new : View) (before between : Option (List ℕ)) (d : LinesDone lines total old mid.image held before between) → CountsSent before view → CountsSent between mid
+then_moments : (lines : List (Option (List ℕ))) (total : ℕ) (old : LiveState) (held : Held) (view mid new : View) (before between : Option (List ℕ)) (d : LinesDone lines total old mid.image held view.reads mid.reads before between) → CountsSent before view → CountsSent between mid
     → IfSome before (λ bytes. Through view mid (LinesMoment lines total old (sent_now view))) → IfSome between (λ bytes. Through mid new (LinesMoment [] total (held_with total d.book held) (sent_now mid))) → IfSome before (λ bytes. Through view new (LinesMoment lines total old (sent_now view)))
 then_moments lines total old held view mid new None between d begins counts first second = tt
 then_moments lines total old held view mid new (Some sent) None d begins counts first second = let no = d.sent in cc
 then_moments lines total old held view mid new (Some sent) (Some all) d begins counts first second =
     let counted = sent_is sent (spelled d.frames) (Some all) (sent_now view) (sent_now mid) begins d.sent counts in
     through_then view mid new (LinesMoment lines total old (sent_now view)) first
-    (through_so mid new (LinesMoment [] total (held_with total d.book held) (sent_now mid)) (LinesMoment lines total old (sent_now view)) (λ image count m. then_moment lines total old mid.image held (Some sent) (Some all) d (sent_now view) (sent_now mid) image count counted m) second)
+    (through_so mid new (LinesMoment [] total (held_with total d.book held) (sent_now mid)) (LinesMoment lines total old (sent_now view)) (λ image count m. then_moment lines total old mid.image held view.reads mid.reads (Some sent) (Some all) d (sent_now view) (sent_now mid) image count counted m) second)
 
-pub then_does : {T : Type 0} (lines : List (Option (List ℕ))) (total : ℕ) (old : LiveState) (held held' : Held) (view mid new : View) (before between now : Option (List ℕ)) (d : LinesDone lines total old mid.image held before between) → CountsSent before view → CountsSent between mid → IfSome before (λ bytes. Through view mid (LinesMoment lines total old (sent_now view)))
+pub then_does : {T : Type 0} (lines : List (Option (List ℕ))) (total : ℕ) (old : LiveState) (held held' : Held) (view mid new : View) (before between now : Option (List ℕ)) (d : LinesDone lines total old mid.image held view.reads mid.reads before between) → CountsSent before view → CountsSent between mid → IfSome before (λ bytes. Through view mid (LinesMoment lines total old (sent_now view)))
     → (result : Result T ServeEnd) → DoesLines [] total (held_with total d.book held) result mid new held' between now → DoesLines lines total old result view new held' before now
 then_does {T} lines total old held held' view mid new before between now d begins counts first (Ok v) second = record {
-  done = then_done lines total old mid.image held before between d new.image held' now second.done;
+  done = then_done lines total old mid.image held view.reads mid.reads before between d new.image held' new.reads now second.done;
   stops = tt;
   moments = then_moments lines total old held view mid new before between d begins counts first second.moments;
+  reads = then_read lines total old mid.image held view.reads mid.reads before between d new.reads second.reads;
 }
 then_does {T} lines total old held held' view mid new before between now d begins counts first (Err end) second = record {
   done = tt;
-  stops = then_stops lines total old mid.image held before between d new.image now end second.stops;
+  stops = then_stops lines total old mid.image held view.reads mid.reads before between d new.image now end second.stops;
   moments = then_moments lines total old held view mid new before between d begins counts first second.moments;
+  reads = then_read lines total old mid.image held view.reads mid.reads before between d new.reads second.reads;
 }
 
 -- nothing is done
 none_does : {T : Type 0} (v : T) (total : ℕ) (book : List Series) (held : Held) (at : View) (before : Option (List ℕ)) → StandsForBook at.image total book → IsSound (state_of book total held.sessions) → DoesLines {T = T} [] total (held_with total book held) (Ok v) at at held before before
 none_does {T} v total book held at before stands sound = record {
-  done = record { frames = []; book = book; stands = stands; sound = sound; lives = by_none (held_with total book held); sent = sent_none before };
+  done = record { frames = []; book = book; stands = stands; sound = sound; lives = by_none (held_with total book held); reads = reads_none (held_with total book held) at.reads; sent = sent_none before };
   stops = tt;
   moments = any_told (through_none at (LinesMoment [] total (held_with total book held) (sent_now at))) before;
+  reads = record { first = []; are_first = inl refl; frames = []; state = held_with total book held; count = at.reads; answered = reads_none (held_with total book held) at.reads; last = inl refl };
 }
 
 pub still_does : {T : Type 0} (v : T) (total : ℕ) (book : List Series) (held held' : Held) (at new : View) (before now : Option (List ℕ)) → held' ≡ held → new ≡ at → now ≡ before → StandsForBook at.image total book → IsSound (state_of book total held.sessions) → DoesLines {T = T} [] total (held_with total book held) (Ok v) at new held' before now

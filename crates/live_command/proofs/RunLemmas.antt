@@ -118,8 +118,8 @@ module _ (input : List ℕ) (r r' : Reading) (left left' line : Option (List ℕ
   in_row shown more new first = let P : List Frame → Type 0 = λ l. FirstLines input l old new in subst P (sym (append_assoc g.frames shown more)) first
 
   -- it was answered, and the pushes behind it were made
-  pub goes_line : (held' : Held) → LinesDone (unless_empty line) total reached image' held' now later → Going input (unread r' left') r'.given total old image' held' before later
-  goes_line held' d = record {
+  pub goes_line : (held' : Held) (from to : ℕ) → LinesDone (unless_empty line) total reached image' held' from to now later → Going input (unread r' left') r'.given total old image' held' before later
+  goes_line held' from to d = record {
     frames = g.frames ++ d.frames;
     book = d.book;
     first = line_first d.frames (held_with total d.book held') d.lives;
@@ -328,7 +328,7 @@ module _ (r r' : Reading) (left left' line : Option (List ℕ)) (gives : Gives r
 
   pub far_line : {T : Type 0} (v : T) (o : Option (List ℕ)) → DoesIt (Ok v) → Far o (unread r left) r.given total old mid.image held before now → Far o (unread r' left') r'.given total old new.image held' before later
   far_line {T} v None does far = tt
-  far_line {T} v (Some input) does far = goes_line input r r' left left' line gives early total old mid.image new.image held before now later far held' (does far.book far.stands far.sound).done
+  far_line {T} v (Some input) does far = goes_line input r r' left left' line gives early total old mid.image new.image held before now later far held' mid.reads new.reads (does far.book far.stands far.sound).done
 
   pub line_stops : {T : Type 0} (end : ServeEnd) (o rest : Option (List ℕ)) → DoesIt {T = T} (Err end) → Far o (unread r left) r.given total old mid.image held before now → IfSome o (λ input. EndsSo (Stands total new.image) input old rest before later end)
   line_stops {T} end None rest does far = tt

@@ -8,6 +8,7 @@ use Rattle.block_disk.specs.declared.streams.Streams as streams
 use Rattle.chart_frames.specs.declared.frame.Frame.{Frame}
 use Rattle.chart_frames.specs.Frames.{spelling}
 use Rattle.chart_service.specs.Moments.{Through}
+use Rattle.chart_service.specs.ReadingBlocks.{ReadsLine}
 use Rattle.chart_service.specs.Shown as shown
 use Rattle.chart_service.specs.State.{IsSound}
 use Rattle.chart_service.specs.Stepping.{state_of}
@@ -16,7 +17,7 @@ use Rattle.chart_service.specs.declared.failure.ServeEnd.TheVariants.{ReadFault,
 use Rattle.chart_service.specs.declared.failure.ServiceError.{ServiceError}
 use Rattle.gate_pages.specs.Pages.{GoesOn}
 use Rattle.gate_pages.specs.declared.pages.Pages.{Ghosts}
-use Rattle.live_service.specs.LiveReplies.{LiveState}
+use Rattle.live_service.specs.LiveReplies.{LiveState, ReadsPush}
 use Rattle.live_service.specs.Shown as its
 use Rattle.live_service.specs.Shown.{live_of}
 use Rattle.live_service.specs.declared.stepper.ServiceStepper.{ServiceStepper}
@@ -27,6 +28,7 @@ use Rattle.stored_book.specs.Damage.{IsBadForRequest}
 use Rattle.stored_book.specs.Standing.{StandsForBook}
 use Rattle.zoom_session.specs.declared.session.Session.{Session}
 use Rattle.live_command.specs.Lives.{LivesBy, spelled}
+use Rattle.live_command.specs.Reads.{ReadsBy}
 use Rattle.live_command.specs.Shown.{pages}
 
 -- ---- a frame that is sent
@@ -53,12 +55,13 @@ abbrev pub held_with : ℕ → List Series → Held → LiveState
 held_with total book held = live_of (state_of book total held.sessions) held.followed held.pending
 
 -- The lines are answered, the pages stand for the book that this leaves, and the spellings of all frames were sent.
-pub record LinesDone (lines : List (Option (List ℕ))) (total : ℕ) (old : LiveState) (image : Image) (held : Held) (before now : Option (List ℕ)) : Type 0 where
+pub record LinesDone (lines : List (Option (List ℕ))) (total : ℕ) (old : LiveState) (image : Image) (held : Held) (from to : ℕ) (before now : Option (List ℕ)) : Type 0 where
   pub frames : List Frame
   pub book : List Series
   pub stands : StandsForBook image total book
   pub sound : IsSound (state_of book total held.sessions)
   pub lives : LivesBy lines frames old (held_with total book held)
+  pub reads : ReadsBy lines frames old (held_with total book held) from to
   pub sent : now ≡ sent_after (spelled frames) before
 
 -- some first of the lines, which are at most one
@@ -121,11 +124,24 @@ pub record LinesMoment (lines : List (Option (List ℕ))) (total : ℕ) (old : L
   pub low : from + length (spelled shown) ≤ sent
   pub high : sent ≤ from + length (spelled (shown ++ more))
 
+-- some first frames were made, and perhaps a line or a push behind them failed; so many blocks were read
+pub record LinesRead (lines : List (Option (List ℕ))) (old : LiveState) (from to : ℕ) : Type 0 where
+  pub first : List (Option (List ℕ))
+  pub are_first : AreFirst lines first
+  pub frames : List Frame
+  pub state : LiveState
+  pub count : ℕ
+  pub answered : ReadsBy first frames old state from count
+  pub last : (to ≡ count)
+      ⊎ (((line : Option (List ℕ)) × (first ≡ []) × (lines ≡ line ∷ []) × ReadsLine line state.state count to)
+      ⊎ ReadsPush state.pending state.state count to)
+
 -- what a call does that answers these lines, and makes pushes
 pub record DoesLines {T : Type 0} (lines : List (Option (List ℕ))) (total : ℕ) (old : LiveState) (result : Result T ServeEnd) (view view' : View) (held : Held) (before now : Option (List ℕ)) : Type 0 where
-  pub done : OnOk result (LinesDone lines total old view'.image held before now)
+  pub done : OnOk result (LinesDone lines total old view'.image held view.reads view'.reads before now)
   pub stops : IfErr result (LinesStop lines total old view'.image before now)
   pub moments : IfSome before (λ bytes. Through view view' (LinesMoment lines total old (sent_now view)))
+  pub reads : LinesRead lines old view.reads view'.reads
 
 -- ---- what calls move, whatever the pages are
 

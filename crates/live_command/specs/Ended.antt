@@ -1,5 +1,5 @@
 -- How `live` ends over the store of a disk, by its status.
-use Rattle.std.specs.Prelude.{◌≡◌, ◌≢◌, ℕ, ◌<◌, ◌≤◌, ◌⊎◌, ◌^◌, List, [], ◌∷◌, length, Contains, Option, IfSome}
+use Rattle.std.specs.Prelude.{◌≡◌, ◌≢◌, ℕ, ◌+◌, ◌<◌, ◌≤◌, ◌⊎◌, ◌^◌, List, [], ◌∷◌, length, Contains, Option, IfSome}
 use Rattle.block_disk.specs.Counts.{HasRisen}
 use Rattle.block_disk.specs.View.{View, sent_now}
 use Rattle.chart_service.specs.Moments.{Since}
@@ -15,6 +15,7 @@ use Rattle.store_commands.specs.Books.{HoldsAgain, Never, OfBook, begun}
 use Rattle.store_commands.specs.Damaged.{IsDamagedAtFirst, IsDamagedLater}
 use Rattle.store_commands.specs.Traffic.{Traffic}
 use Rattle.store_commands.specs.declared.status.Status.{Status}
+use Rattle.live_command.specs.Reads.{ReadsLines}
 use Rattle.live_command.specs.Running.{IsAhead, SendsAll, SendsLines, SendsPart, SendsSome, SendsTaken, SendsWithin}
 
 -- how the command begins: with the book that the disk holds, no session, and so no one that follows
@@ -54,6 +55,14 @@ LivesLines count old input before now = OfBook count old (λ total book. SendsLi
 abbrev pub LeavesLived : ℕ → List ℕ → View → View → Type 0
 LeavesLived count input old new =
     OfBook count old (λ total book. Since old new (λ image sent. IsAhead (λ after. RecoversTo count image total after) input (begun_live total book) (sent_now old) sent))
+
+-- the lines and the pushes read no more blocks than they may, and no other block is read, from this count on
+abbrev pub ReadsFrom : ℕ → View → View → List ℕ → ℕ → Type 0
+ReadsFrom count old new input from = OfBook count old (λ total book. ReadsLines input (begun_live total book) from new.reads)
+
+-- an opening reads 200 blocks at most, and then they read
+abbrev pub ReadsLiving : View → View → List ℕ → Type 0
+ReadsLiving old new input = (opened : ℕ) × (opened ≤ old.reads + 200) × ReadsFrom (page_count old.size) old new input opened
 
 -- The block at this place was found damaged at the opening, and then no input was taken and nothing was sent; or it is a
 -- page that an answer or a push found so.

@@ -1,5 +1,6 @@
 pub mod Lives
 pub mod Running
+pub mod Reads
 pub mod Shown
 pub mod Doing
 pub mod Ended

@@ -15,6 +15,7 @@ use Rattle.live_view.specs.declared.live.Live.{Live}
 use Rattle.live_view.specs.declared.stepper.Stepper.{Ghosts as StepperGhosts}
 use Rattle.series_book.specs.declared.one_series.Series.{Series}
 use Rattle.stored_book.specs.Standing.{StandsForBook}
+use Rattle.live_command.specs.Reads.{ReadsLines}
 use Rattle.live_command.specs.Running.{SendsAll, EndsSo, IsAhead}
 
 module _ {P : Type 0} {g : Ghosts P} {h : StepperGhosts (ServiceStepper P g) ServiceError} {beside : StreamGhosts (ServiceStepper P g)} where
@@ -47,3 +48,7 @@ module _ {P : Type 0} {g : Ghosts P} {h : StepperGhosts (ServiceStepper P g) Ser
   abbrev pub LastsFor : Type 0
   LastsFor = IfSome (told.left (pages old)) (λ input. IfSome (told.sent (pages old)) (λ bytes.
       Since (its.view old) (its.view new) (λ image sent. IsAhead (λ after. StandsForBook image total after) input (its.state old total book) (sent_now (its.view old)) sent)))
+
+  -- the lines and the pushes read no more blocks than they may, and no other block was read
+  abbrev pub ReadsFew : Type 0
+  ReadsFew = IfSome (told.left (pages old)) (λ input. ReadsLines input (its.state old total book) (its.view old).reads (its.view new).reads)

@@ -1,11 +1,11 @@
 //! The command `live`: the lines of the input are answered over the store of a disk, and pushes are made behind edits.
-ghost use Rattle.std.specs.Prelude.{◌≡◌, [], IsTrue};
+ghost use Rattle.std.specs.Prelude.{◌≡◌, [], IfSome, IsTrue};
 ghost use Rattle.block_disk.specs.View.{View};
 ghost use Rattle.chart_service.specs.Shown as shown;
 ghost use Rattle.series_store.specs.Shown as stored;
 ghost use Rattle.store_commands.specs.Away.{TurnsAway};
 ghost use Rattle.store_commands.specs.Traffic.{traffic};
-ghost use Rattle.live_command.specs.Ended.{EndsLive};
+ghost use Rattle.live_command.specs.Ended.{EndsLive, ReadsFrom, ReadsLiving};
 ghost use Rattle.live_command.specs.Ending.{ServedOn, answer_status};
 
 use crate::serving::serve_live;
@@ -26,6 +26,8 @@ use store_commands::{Status, ended, opening_status};
 /// behind edits to the sessions that follow them, and says how that ended.
 pub fn live<W: World>(alloc: Global, world: W) -> (Status, W)
     ensures ends { EndsLive (W.view world) (W.view result.1) (traffic W.left W.sent W.read_faults W.send_faults world result.1) result.0 }
+    // blocks are read by the opening, the lines and the pushes alone
+    ensures reads { IfSome (W.left world) (λ input. ReadsLiving (W.view world) (W.view result.1) input) }
     ensures away { TurnsAway (W.view world) (traffic W.left W.sent W.read_faults W.send_faults world result.1) result.0 }
 {
     match open_store(alloc, world) {
@@ -40,7 +42,8 @@ pub fn live<W: World>(alloc: Global, world: W) -> (Status, W)
 /// The same over a store that is open: what that answers, and the disk.
 fn serve_store<W: World>(alloc: Global, store: Store<GatePages<W>>) -> (Result<(), ServeEnd>, W)
     requires { IsTrue (stored.pages store).sound }
-    ensures { let pages = stored.pages store in ServedOn pages.count (W.view pages.disk) (W.view result.1) (traffic W.left W.sent W.read_faults W.send_faults pages.disk result.1) result.0 }
+    ensures serves { let pages = stored.pages store in ServedOn pages.count (W.view pages.disk) (W.view result.1) (traffic W.left W.sent W.read_faults W.send_faults pages.disk result.1) result.0 }
+    ensures reads { let pages = stored.pages store in IfSome (W.left pages.disk) (λ input. ReadsFrom pages.count (W.view pages.disk) (W.view result.1) input (W.view pages.disk).reads) }
 {
     match Service::new(alloc, store) {
         Ok(service) => serve_service(alloc, service),
@@ -55,7 +58,8 @@ fn serve_service<W: World>(
 ) -> (Result<(), ServeEnd>, W)
     requires sound { IsTrue (shown.pages service).sound }
     requires alone { service.sessions ≡ [] }
-    ensures { let pages = shown.pages service in ServedOn pages.count (W.view pages.disk) (W.view result.1) (traffic W.left W.sent W.read_faults W.send_faults pages.disk result.1) result.0 }
+    ensures serves { let pages = shown.pages service in ServedOn pages.count (W.view pages.disk) (W.view result.1) (traffic W.left W.sent W.read_faults W.send_faults pages.disk result.1) result.0 }
+    ensures reads { let pages = shown.pages service in IfSome (W.left pages.disk) (λ input. ReadsFrom pages.count (W.view pages.disk) (W.view result.1) input (W.view pages.disk).reads) }
 {
     service.is_sound();
     let mut live = Live::new(alloc, ServiceStepper::new(service));

@@ -9,11 +9,12 @@ use Rattle.chart_service.specs.Shown as shown
 use Rattle.live_command.specs.Doing.{held_by, held_with}
 use Rattle.live_command.specs.Shown.{pages}
 use Rattle.chart_service.proofs.Sending.{text_is}
+use Rattle.chart_service.specs.ReadingBlocks.{ReadsLine}
 use Rattle.chart_service.specs.Replies.{line_text}
 use Rattle.gate_pages.proofs.Moving.{sent_same}
-use Rattle.live_command.proofs.EventLemmas.{by_answer, sound_replied}
+use Rattle.live_command.proofs.EventLemmas.{by_answer, reads_answer, sound_replied}
 use Rattle.live_command.proofs.GoesLemmas.{held_same}
-use Rattle.live_command.proofs.LineLemmas.{frame_does, made_moments, nothing_with, unmade_does}
+use Rattle.live_command.proofs.LineLemmas.{frame_does, line_read, made_moments, nothing_with, unmade_does}
 use Rattle.live_command.proofs.answering.answer_frame.Goals as goal
 
 pub returns-in-Ok-clause-does : goal.returns-in-Ok-clause-does
@@ -39,12 +40,15 @@ returns-in-Ok-clause-does g c = λ total book told stands sound.
     let L : Option (List ℕ) → Type 0 = λ l. LiveReplied l f state after in
     by_answer (Some text) f state after c.requires.idle (subst L (text_is text c.requires.short) replied) in
     let reply = e.reply total book told stands in
+    let R : Option (List ℕ) → Type 0 = λ l. ReadsLine l state.state (view at).reads (view between).reads in
+    let M : Option (List ℕ) → Type 0 = λ l. LiveReplied l frame state (held_with total reply.book (held_by mid)) in
     let passes = e.moments total book told stands in
     frame_does (Some text ∷ []) total state Reply one
     frame (held_by mid) (held_by new) (held_same _ _ _ _ _ _ made.beside.changed.sessions made.beside.followed_same made.beside.pending_same) reply.book
     reply.so (sound_replied (line_text text) frame state (held_with total reply.book (held_by mid)) sound reply.so) (view at) (view between) (view at') (sent at) (sent between) (sent at') reply.stands
     (made_moments (Some text ∷ []) total state Reply one (view at) (view between) passes) (sent_same (view at) (view between) _ passes)
     (sym (w.beside_sent between) ∙ ap (λ (b : Beside). b.sent) e.steps.beside ∙ w.beside_sent at)
+    (reads_answer (Some text) frame state (held_with total reply.book (held_by mid)) (view at).reads (view between).reads c.requires.idle (subst M (text_is text c.requires.short) reply.so) (subst R (text_is text c.requires.short) (e.reads total book told stands)))
     (w.send_keeps n between at' sends) c.send_frame.result made.whole made.stops (g.met.P.Pages.rests between e.sound) (w.send_passes n between at' sends) (w.send_counts n between at' sends)
 
 pub returns-in-Err-clause-does : goal.returns-in-Err-clause-does
@@ -64,7 +68,9 @@ returns-in-Err-clause-does g c = λ total book told stands sound.
     let L : Option (List ℕ) → Type 0 = λ l. LiveReplied l f state after in
     by_answer (Some text) f state after c.requires.idle (subst L (text_is text c.requires.short) replied) in
     let passes = e.moments total book told stands in
+    let R : Option (List ℕ) → Type 0 = λ l. ReadsLine l state.state (view at).reads (view between).reads in
     unmade_does (Some text ∷ []) total state (held_by mid) (view at) (view between) (sent at) (sent between) c.in-Err.error c.end_of_step.result c.end_of_step.ensures (e.standing total book told stands)
     (nothing_with c.in-Err.error _ (view at) (view between) total book told e.unchanged stands)
     (sym (w.beside_sent between) ∙ ap (λ (b : Beside). b.sent) e.steps.beside ∙ w.beside_sent at)
     (made_moments (Some text ∷ []) total state Reply one (view at) (view between) passes)
+    (line_read (Some text) state (view at).reads (view between).reads (subst R (text_is text c.requires.short) (e.reads total book told stands)))

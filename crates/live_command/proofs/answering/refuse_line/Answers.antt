@@ -8,7 +8,7 @@ use Rattle.chart_service.specs.Shown as shown
 use Rattle.live_command.specs.Doing.{held_by, held_with}
 use Rattle.live_command.specs.Shown.{pages}
 use Rattle.chart_service.specs.MomentLaws.{through_none}
-use Rattle.live_command.proofs.EventLemmas.{by_answer, long_replied}
+use Rattle.live_command.proofs.EventLemmas.{by_answer, long_replied, reads_answer}
 use Rattle.live_command.proofs.GoesLemmas.{held_same}
 use Rattle.live_command.proofs.LineLemmas.{frame_does}
 use Rattle.live_command.proofs.answering.refuse_line.Goals as goal
@@ -30,4 +30,5 @@ returns-clause-does g c = λ total book told stands sound.
     frame_does (None ∷ []) total state (LiveReplied None) (λ f after replied. by_answer None f state after c.requires.idle replied)
     frame (held_by old) (held_by new) (held_same _ _ _ _ _ _ made.beside.changed.sessions made.beside.followed_same made.beside.pending_same) book
     (long_replied frame state c.refused.ensures.frame c.refused.ensures.fits sound c.requires.idle) sound (view at) (view at) (view at') (sent at) (sent at) (sent at') stands (through_none (view at) _) refl refl
+    (reads_answer None frame state state (view at).reads (view at).reads c.requires.idle (long_replied frame state c.refused.ensures.frame c.refused.ensures.fits sound c.requires.idle) refl)
     (w.send_keeps n at at' sends) c.send_frame.result made.whole made.stops (g.met.P.Pages.rests at c.requires.sound) (w.send_passes n at at' sends) (w.send_counts n at at' sends)

@@ -9,9 +9,9 @@ use Rattle.live_command.specs.Shown.{pages}
 use Rattle.block_disk.specs.View.{Beside}
 use Rattle.chart_frames.specs.Frames.{spelling}
 use Rattle.gate_pages.proofs.Moving.{sent_same}
-use Rattle.live_command.proofs.EventLemmas.{by_push, sound_pushed}
+use Rattle.live_command.proofs.EventLemmas.{by_push, reads_push, sound_pushed}
 use Rattle.live_command.proofs.GoesLemmas.{held_same}
-use Rattle.live_command.proofs.LineLemmas.{frame_does, nothing_pushed, of_frame, push_moments, unmade_does}
+use Rattle.live_command.proofs.LineLemmas.{frame_does, nothing_pushed, of_frame, push_moments, push_read, unmade_does}
 use Rattle.live_command.proofs.answering.send_push.Goals as goal
 
 pub returns-in-Ok-Some-clause-does : goal.returns-in-Ok-Some-clause-does
@@ -38,6 +38,7 @@ returns-in-Ok-Some-clause-does g c = λ total book told stands sound.
     reply.so (sound_pushed frame state (held_with total reply.book (held_by mid)) sound reply.so) (view at) (view between) (view at') (sent at) (sent between) (sent at') reply.stands
     (push_moments [] total state (view at) (view between) (g.met.P.Pages.rests at c.requires.sound) stands e.moments) (sent_same (view at) (view between) _ e.moments)
     (sym (w.beside_sent between) ∙ ap (λ (b : Beside). b.sent) e.steps.beside ∙ w.beside_sent at)
+    (reads_push frame state (held_with total reply.book (held_by mid)) (view at).reads (view between).reads reply.so (e.reads total book told stands))
     (w.send_keeps n between at' sends) c.send_frame.result made.whole made.stops (g.met.P.Pages.rests between e.sound) (w.send_passes n between at' sends) (w.send_counts n between at' sends)
 
 pub returns-in-Err-clause-does : goal.returns-in-Err-clause-does
@@ -56,3 +57,4 @@ returns-in-Err-clause-does g c = λ total book told stands sound.
     (nothing_pushed c.in-Err.error (view between).image total book there)
     (sym (w.beside_sent between) ∙ ap (λ (b : Beside). b.sent) e.steps.beside ∙ w.beside_sent at)
     (push_moments [] total state (view at) (view between) (g.met.P.Pages.rests at c.requires.sound) stands e.moments)
+    (push_read state (view at).reads (view between).reads (e.reads total book told stands))

@@ -2,7 +2,7 @@ use Rattle.std.proofs.Common.{◌∙◌, ap, sym}
 use Rattle.block_disk.specs.View.{Beside}
 use Rattle.series_store.specs.Shown as stored
 use Rattle.store_commands.proofs.TurnedAway.{away_never, away_so}
-use Rattle.live_command.proofs.DiskLemmas.{served_on}
+use Rattle.live_command.proofs.DiskLemmas.{reads_on, reads_unopened, served_on}
 use Rattle.live_command.proofs.StatusLemmas.{ends_by, unopened_ends}
 use Rattle.live_command.proofs.command.live.Goals as goal
 
@@ -24,7 +24,7 @@ returns-in-Ok-clause-ends g c =
     (sym (w.beside_sent start) ∙ ap (λ (b : Beside). b.sent) beside ∙ w.beside_sent old)
     (sym (w.beside_read_faults start) ∙ ap (λ (b : Beside). b.read_faults) beside ∙ w.beside_read_faults old)
     (sym (w.beside_send_faults start) ∙ ap (λ (b : Beside). b.send_faults) beside ∙ w.beside_send_faults old)
-    c.serve_store-answer.ensures in
+    c.serve_store-answer.ensures.serves in
     ends_by (view old) (view new) (left old) (left new) (sent old) (sent new) (reads old) (reads new) (sends old) (sends new) c.serve_store-answer.result.0 c.answer_status.result c.answer_status.ensures s
 
 pub returns-in-Err-clause-ends : goal.returns-in-Err-clause-ends
@@ -58,3 +58,20 @@ returns-in-Err-clause-away g c =
     away_so (view old) (view new) (left old) (left new) (sent old) (sent new) c.in-Err.field-0.cause c.opening_status.result c.opening_status.ensures c.in-Err.ensures.cause
     (sym (w.beside_left new) ∙ ap (λ (b : Beside). b.left) beside ∙ w.beside_left old)
     (sym (w.beside_sent new) ∙ ap (λ (b : Beside). b.sent) beside ∙ w.beside_sent old)
+
+pub returns-in-Ok-clause-reads : goal.returns-in-Ok-clause-reads
+returns-in-Ok-clause-reads g c =
+    let view = g.W.Disk.view in
+    let left = g.W.Streams.left in
+    let old = c.args.world in
+    let opened = stored.pages c.in-Ok.store in
+    let start = opened.disk in
+    let new = c.serve_store-answer.result.1 in
+    let w = g.met.W.World in
+    reads_on opened.count (view old) (view start) (view new) (left start) (left old) c.in-Ok.ensures.count c.in-Ok.ensures.opens
+    (sym (w.beside_left start) ∙ ap (λ (b : Beside). b.left) c.in-Ok.ensures.opens.beside_is ∙ w.beside_left old) c.serve_store-answer.ensures.reads
+
+pub returns-in-Err-clause-reads : goal.returns-in-Err-clause-reads
+returns-in-Err-clause-reads g c =
+    let view = g.W.Disk.view in
+    reads_unopened (view c.args.world) (view c.in-Err.field-0.value) (g.W.Streams.left c.args.world) c.in-Err.ensures.opens

@@ -1,5 +1,5 @@
 use Rattle.std.proofs.Common.{◌≡◌, ◌≢◌, ◌∙◌, ℕ, List, Err, ap, sym, subst}
-use Rattle.std.specs.Prelude.{IsTrue}
+use Rattle.std.specs.Prelude.{IfSome, IsTrue}
 use Rattle.chart_service.specs.Shown as shown
 use Rattle.chart_service.specs.declared.failure.ServeEnd.TheVariants.{DiskFault}
 use Rattle.chart_service.specs.declared.service.Service.{Service}
@@ -7,14 +7,14 @@ use Rattle.gate_pages.specs.GatePages.{IsClosed}
 use Rattle.live_service.specs.Shown as its
 use Rattle.series_book.specs.declared.one_series.Series.{Series}
 use Rattle.store_commands.proofs.Stores.{store_disk, store_sound}
-use Rattle.live_command.specs.Ended.{begun_live}
+use Rattle.live_command.specs.Ended.{ReadsFrom, begun_live}
 use Rattle.live_command.specs.Ending.{Served}
-use Rattle.live_command.proofs.DiskLemmas.{begins_so, served_from}
+use Rattle.live_command.proofs.DiskLemmas.{begins_so, reads_from, served_from}
 use Rattle.live_command.proofs.LiveShown.{begun_service, ended_store}
 use Rattle.live_command.proofs.command.serve_service.Goals as goal
 
-pub returns : goal.returns
-returns g c =
+pub returns-clause-serves : goal.returns-clause-serves
+returns-clause-serves g c =
     let view = g.W.Disk.view in
     let left = g.W.Streams.left in
     let sent = g.W.Streams.sent in
@@ -44,3 +44,26 @@ returns g c =
     let D : g.row.W.Denot → Type 0 = λ d. Served pages.count (view disk) (view d) (left disk) (left d) (sent disk) (sent d) (reads disk) (reads d) (sends disk) (sends d) answer in
     let S : Service _ _ → Type 0 = λ s. Served (shown.pages s).count (view (shown.pages s).disk) (view c.disk_of.result) (left (shown.pages s).disk) (left c.disk_of.result) (sent (shown.pages s).disk) (sent c.disk_of.result) (reads (shown.pages s).disk) (reads c.disk_of.result) (sends (shown.pages s).disk) (sends c.disk_of.result) answer in
     subst S is_service (subst D (sym same_disk) all)
+
+pub returns-clause-reads : goal.returns-clause-reads
+returns-clause-reads g c =
+    let view = g.W.Disk.view in
+    let left = g.W.Streams.left in
+    let service = c.args.service in
+    let start = c.new-live.result in
+    let after = c.serve_live-answer.new.live in
+    let made = c.serve_live-answer.ensures in
+    let pages = shown.pages (its.service start) in
+    let end_pages = shown.pages (its.service after) in
+    let disk = pages.disk in
+    let new = end_pages.disk in
+    let store = c.into_store.result in
+    let is_service = begun_service start c.new.result service c.new-live.ensures.stepper c.new.ensures in
+    let is_store = ended_store after c.into_stepper.result c.into_service-service.result store c.into_stepper.ensures c.into_service-service.ensures c.into_store.ensures in
+    let same_disk = c.disk_of.ensures.disk ∙ store_disk store (its.service after).store is_store in
+    let alone = ap (λ (s : Service _ _). s.sessions) is_service ∙ c.requires.alone in
+    let begins : (total : ℕ) (book : List Series) → its.state start total book ≡ begun_live total book =
+    λ total book. begins_so total book (its.service start).sessions start.followed.items start.pending.items alone c.new-live.ensures.none c.new-live.ensures.idle in
+    let D : g.row.W.Denot → Type 0 = λ d. IfSome (left disk) (λ input. ReadsFrom pages.count (view disk) (view d) input (view disk).reads) in
+    let S : Service _ _ → Type 0 = λ s. IfSome (left (shown.pages s).disk) (λ input. ReadsFrom (shown.pages s).count (view (shown.pages s).disk) (view c.disk_of.result) input (view (shown.pages s).disk).reads) in
+    subst S is_service (subst D (sym same_disk) (reads_from pages.count (view disk) (view new) (left disk) (its.state start) begins made.reads))

@@ -1,17 +1,18 @@
 use Rattle.std.proofs.Common.{ℕ, Err, sym, subst, ◌∙◌}
-use Rattle.std.specs.Prelude.{IsTrue}
+use Rattle.std.specs.Prelude.{IfSome, IsTrue}
 use Rattle.chart_service.specs.declared.failure.ServeEnd.TheVariants.{NoMemory}
 use Rattle.series_store.specs.Shown as stored
 use Rattle.store_commands.proofs.Stores.{store_disk, store_count, store_sound}
+use Rattle.live_command.specs.Ended.{ReadsFrom}
 use Rattle.live_command.specs.Ending.{Served}
-use Rattle.live_command.proofs.DiskLemmas.{served_none}
+use Rattle.live_command.proofs.DiskLemmas.{reads_untaken, served_none}
 use Rattle.live_command.proofs.command.serve_store.Goals as goal
 
 pub serve_service-requires-clause-sound : goal.serve_service-requires-clause-sound
 serve_service-requires-clause-sound g c = subst IsTrue (sym (store_sound c.in-Ok.service.store c.args.store c.in-Ok.ensures.store)) c.requires
 
-pub returns-in-Ok : goal.returns-in-Ok
-returns-in-Ok g c =
+pub returns-in-Ok-clause-serves : goal.returns-in-Ok-clause-serves
+returns-in-Ok-clause-serves g c =
     let view = g.W.Disk.view in
     let left = g.W.Streams.left in
     let sent = g.W.Streams.sent in
@@ -24,10 +25,10 @@ returns-in-Ok g c =
     let answer = c.serve_service.result.0 in
     let D : g.row.W.Denot → Type 0 = λ d. Served (stored.pages made).count (view d) (view new) (left d) (left new) (sent d) (sent new) (reads d) (reads new) (sends d) (sends new) answer in
     let C : ℕ → Type 0 = λ n. Served n (view disk) (view new) (left disk) (left new) (sent disk) (sent new) (reads disk) (reads new) (sends disk) (sends new) answer in
-    subst C (store_count made store c.in-Ok.ensures.store) (subst D (store_disk made store c.in-Ok.ensures.store) c.serve_service.ensures)
+    subst C (store_count made store c.in-Ok.ensures.store) (subst D (store_disk made store c.in-Ok.ensures.store) c.serve_service.ensures.serves)
 
-pub returns-in-Err : goal.returns-in-Err
-returns-in-Err g c =
+pub returns-in-Err-clause-serves : goal.returns-in-Err-clause-serves
+returns-in-Err-clause-serves g c =
     let view = g.W.Disk.view in
     let left = g.W.Streams.left in
     let sent = g.W.Streams.sent in
@@ -39,3 +40,25 @@ returns-in-Err g c =
     let D : g.row.W.Denot → Type 0 = λ d. Served (stored.pages store).count (view disk) (view d) (left disk) (left d) (sent disk) (sent d) (reads disk) (reads d) (sends disk) (sends d) (Err NoMemory) in
     subst D (sym (c.disk_of.ensures.disk ∙ store_disk back store c.in-Err.ensures.back))
     (served_none (stored.pages store).count (view disk) (left disk) (sent disk) (reads disk) (sends disk))
+
+pub returns-in-Ok-clause-reads : goal.returns-in-Ok-clause-reads
+returns-in-Ok-clause-reads g c =
+    let view = g.W.Disk.view in
+    let left = g.W.Streams.left in
+    let store = c.args.store in
+    let made = c.in-Ok.service.store in
+    let disk = (stored.pages store).disk in
+    let new = c.serve_service.result.1 in
+    let D : g.row.W.Denot → Type 0 = λ d. IfSome (left d) (λ input. ReadsFrom (stored.pages made).count (view d) (view new) input (view d).reads) in
+    let C : ℕ → Type 0 = λ n. IfSome (left disk) (λ input. ReadsFrom n (view disk) (view new) input (view disk).reads) in
+    subst C (store_count made store c.in-Ok.ensures.store) (subst D (store_disk made store c.in-Ok.ensures.store) c.serve_service.ensures.reads)
+
+pub returns-in-Err-clause-reads : goal.returns-in-Err-clause-reads
+returns-in-Err-clause-reads g c =
+    let view = g.W.Disk.view in
+    let left = g.W.Streams.left in
+    let store = c.args.store in
+    let disk = (stored.pages store).disk in
+    let back = c.in-Err.field-0.value in
+    let D : g.row.W.Denot → Type 0 = λ d. IfSome (left disk) (λ input. ReadsFrom (stored.pages store).count (view disk) (view d) input (view disk).reads) in
+    subst D (sym (c.disk_of.ensures.disk ∙ store_disk back store c.in-Err.ensures.back)) (reads_untaken (stored.pages store).count (view disk) (left disk))

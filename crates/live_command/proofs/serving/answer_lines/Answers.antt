@@ -5,6 +5,7 @@ use Rattle.chart_world.specs.Fronts.{Gives}
 use Rattle.chart_world.specs.Reading.{Reading, input_length, unread}
 use Rattle.live_service.specs.Shown as its
 use Rattle.live_command.proofs.GoesLemmas.{cause_later, goes_further, goes_nowhere, goes_streams, held_same}
+use Rattle.live_command.proofs.ReadLemmas.{FarRead, far_read_first, far_read_kept, far_read_line, reads_far, reads_stopped}
 use Rattle.live_command.proofs.RunLemmas.{Far, all_on, far_first, far_kept, far_line, fault_on, lasts_on_first, lasts_on_line, lasts_on_take, line_stops}
 use Rattle.live_command.specs.Doing.{held_by, side_of}
 use Rattle.live_command.specs.Shown.{StopSo, pages}
@@ -28,6 +29,7 @@ lines-init g c =
       idle = c.requires.idle;
       goes = goes_nowhere (side_of g.P.Streams old);
       far = λ total book told stands. far_first o c.args.lines.now total book (view at).image (held_by old) before fresh stands (c.requires.book total book told stands);
+      read = λ total book told stands. far_read_first o c.args.lines.now total book (view at).image (held_by old) (view at).reads fresh stands (c.requires.book total book told stands);
       lasts = λ total book told stands. lasts_on_first total book (held_by old) o before (view at) (g.met.P.Pages.rests at c.requires.sound) stands;
     }
 
@@ -138,6 +140,11 @@ lines-preserved-in-Ok-refuse_line g c =
           let far = far_kept (left first) (unread c.lines.lines (left mid)) c.lines.lines.given total state (view mid).image (view taken).image (held_by c.lines.live) (held_by c.next.new.from) (sent first) (sent mid) (sent taken) kept.image same c.next.ensures.sent (inv.far total book told stands) in
           let F : Option (List ℕ) → Type 0 = λ l. Far (left first) (unread c.next.new.self l) c.next.new.self.given total state (view new).image (held_by c.refuse_line.new.live) (sent first) (sent new) in
           subst F (sym it.left) (far_line c.lines.lines c.next.new.self (left mid) (left taken) line gives e.within total state (held_by c.next.new.from) (held_by c.refuse_line.new.live) (view taken) (view new) (sent first) (sent taken) (sent new) c.in-Ok-refuse_line.field-0 (left first) (λ between there sound. it.does total between (goes.is_told told) there sound) far);
+      read = λ total book told stands.
+          let state = its.state start total book in
+          let read = far_read_kept (left first) (unread c.lines.lines (left mid)) c.lines.lines.given total state (view mid).image (view taken).image (held_by c.lines.live) (held_by c.next.new.from) (view first).reads (view mid).reads (view taken).reads kept.image same kept.reads (inv.read total book told stands) in
+          let F : Option (List ℕ) → Type 0 = λ l. FarRead (left first) (unread c.next.new.self l) c.next.new.self.given total state (view new).image (held_by c.refuse_line.new.live) (view first).reads (view new).reads in
+          subst F (sym it.left) (far_read_line c.lines.lines c.next.new.self (left mid) (left taken) line gives total state (held_by c.next.new.from) (held_by c.refuse_line.new.live) (view taken) (view new) (view first).reads (sent taken) (sent new) c.in-Ok-refuse_line.field-0 (left first) (λ between there sound. it.does total between (goes.is_told told) there sound) read);
       lasts = λ total book told stands.
           let state = its.state start total book in
           let far = far_kept (left first) (unread c.lines.lines (left mid)) c.lines.lines.given total state (view mid).image (view taken).image (held_by c.lines.live) (held_by c.next.new.from) (sent first) (sent mid) (sent taken) kept.image same c.next.ensures.sent (inv.far total book told stands) in
@@ -286,6 +293,11 @@ lines-preserved g c =
           let far = far_kept (left first) (unread c.lines.lines (left mid)) c.lines.lines.given total state (view mid).image (view taken).image (held_by c.lines.live) (held_by c.next.new.from) (sent first) (sent mid) (sent taken) kept.image same c.next.ensures.sent (inv.far total book told stands) in
           let F : Option (List ℕ) → Type 0 = λ l. Far (left first) (unread c.next.new.self l) c.next.new.self.given total state (view new).image (held_by c.answer_line.new.live) (sent first) (sent new) in
           subst F (sym it.left) (far_line c.lines.lines c.next.new.self (left mid) (left taken) line gives e.within total state (held_by c.next.new.from) (held_by c.answer_line.new.live) (view taken) (view new) (sent first) (sent taken) (sent new) c.in-Ok-answer_line.field-0 (left first) (λ between there sound. it.does total between (goes.is_told told) there sound) far);
+      read = λ total book told stands.
+          let state = its.state start total book in
+          let read = far_read_kept (left first) (unread c.lines.lines (left mid)) c.lines.lines.given total state (view mid).image (view taken).image (held_by c.lines.live) (held_by c.next.new.from) (view first).reads (view mid).reads (view taken).reads kept.image same kept.reads (inv.read total book told stands) in
+          let F : Option (List ℕ) → Type 0 = λ l. FarRead (left first) (unread c.next.new.self l) c.next.new.self.given total state (view new).image (held_by c.answer_line.new.live) (view first).reads (view new).reads in
+          subst F (sym it.left) (far_read_line c.lines.lines c.next.new.self (left mid) (left taken) line gives total state (held_by c.next.new.from) (held_by c.answer_line.new.live) (view taken) (view new) (view first).reads (sent taken) (sent new) c.in-Ok-answer_line.field-0 (left first) (λ between there sound. it.does total between (goes.is_told told) there sound) read);
       lasts = λ total book told stands.
           let state = its.state start total book in
           let far = far_kept (left first) (unread c.lines.lines (left mid)) c.lines.lines.given total state (view mid).image (view taken).image (held_by c.lines.live) (held_by c.next.new.from) (sent first) (sent mid) (sent taken) kept.image same c.next.ensures.sent (inv.far total book told stands) in
@@ -399,3 +411,90 @@ returns-in-Err-answer_line-clause-cause g c =
     let side = side_of g.P.Streams in
     let goes = goes_further (side start) (side c.lines.live) (side c.next.new.from) inv.goes (goes_streams (side c.lines.live) (side c.next.new.from) kept (w.take_told mid taken takes) (w.take_was_told mid taken takes) (w.take_goes_on mid taken takes) c.next.ensures.read_faults (omega (arith, c.next.ensures.send_faults))) in
     cause_later (side start) (side c.next.new.from) (side c.answer_line.new.live) c.in-Err-answer_line.end goes c.in-Err-answer_line.ensures.cause
+
+pub returns-in-Err-clause-reads : goal.returns-in-Err-clause-reads
+returns-in-Err-clause-reads g c = λ total book told stands.
+    let view = g.P.Pages.view in
+    let left = g.P.Streams.left in
+    let start = c.args.live.now in
+    let first = pages start in
+    let mid = pages c.lines.live in
+    let taken = pages c.next.new.from in
+    let inv = c.lines.invariant in
+    let beside = c.next.ensures.beside in
+    let takes = beside.changed.store_is.pages_are in
+    let kept = g.met.P.PageWorld.take_keeps mid taken takes in
+    let same = held_same _ _ _ _ _ _ beside.changed.sessions beside.followed_same beside.pending_same in
+    let state = its.state start total book in
+    reads_far (left first) (unread c.lines.lines (left mid)) c.lines.lines.given total state (view taken).image (held_by c.next.new.from) (view first).reads (view taken).reads (far_read_kept (left first) (unread c.lines.lines (left mid)) c.lines.lines.given total state (view mid).image (view taken).image (held_by c.lines.live) (held_by c.next.new.from) (view first).reads (view mid).reads (view taken).reads kept.image same kept.reads (inv.read total book told stands))
+
+pub returns-in-End-clause-reads : goal.returns-in-End-clause-reads
+returns-in-End-clause-reads g c = λ total book told stands.
+    let view = g.P.Pages.view in
+    let left = g.P.Streams.left in
+    let start = c.args.live.now in
+    let first = pages start in
+    let mid = pages c.lines.live in
+    let taken = pages c.next.new.from in
+    let inv = c.lines.invariant in
+    let beside = c.next.ensures.beside in
+    let takes = beside.changed.store_is.pages_are in
+    let kept = g.met.P.PageWorld.take_keeps mid taken takes in
+    let same = held_same _ _ _ _ _ _ beside.changed.sessions beside.followed_same beside.pending_same in
+    let state = its.state start total book in
+    reads_far (left first) (unread c.lines.lines (left mid)) c.lines.lines.given total state (view taken).image (held_by c.next.new.from) (view first).reads (view taken).reads (far_read_kept (left first) (unread c.lines.lines (left mid)) c.lines.lines.given total state (view mid).image (view taken).image (held_by c.lines.live) (held_by c.next.new.from) (view first).reads (view mid).reads (view taken).reads kept.image same kept.reads (inv.read total book told stands))
+
+pub returns-in-Err-refuse_line-clause-reads : goal.returns-in-Err-refuse_line-clause-reads
+returns-in-Err-refuse_line-clause-reads g c = λ total book told stands.
+    let it = c.in-Err-refuse_line.ensures in
+    let view = g.P.Pages.view in
+    let left = g.P.Streams.left in
+    let sent = g.P.Streams.sent in
+    let start = c.args.live.now in
+    let first = pages start in
+    let mid = pages c.lines.live in
+    let taken = pages c.next.new.from in
+    let new = pages c.refuse_line.new.live in
+    let w = g.met.P.PageWorld in
+    let inv = c.lines.invariant in
+    let e = c.in-Ok.ensures in
+    let beside = c.next.ensures.beside in
+    let takes = beside.changed.store_is.pages_are in
+    let kept = w.take_keeps mid taken takes in
+    let same = held_same _ _ _ _ _ _ beside.changed.sessions beside.followed_same beside.pending_same in
+    let line : Option (List ℕ) = None in
+    let gives : Gives c.lines.lines c.next.new.self (left mid) (left taken) line =
+    gives_by c.lines.lines c.next.new.self (left mid) (left taken) line (e.too_long (ap Ok c.in-TooLong.is)) e.rest inv.counted e.given e.total in
+    let side = side_of g.P.Streams in
+    let goes = goes_further (side start) (side c.lines.live) (side c.next.new.from) inv.goes (goes_streams (side c.lines.live) (side c.next.new.from) kept (w.take_told mid taken takes) (w.take_was_told mid taken takes) (w.take_goes_on mid taken takes) c.next.ensures.read_faults (omega (arith, c.next.ensures.send_faults))) in
+    let state = its.state start total book in
+    let read = far_read_kept (left first) (unread c.lines.lines (left mid)) c.lines.lines.given total state (view mid).image (view taken).image (held_by c.lines.live) (held_by c.next.new.from) (view first).reads (view mid).reads (view taken).reads kept.image same kept.reads (inv.read total book told stands) in
+    reads_stopped c.lines.lines c.next.new.self (left mid) (left taken) line gives total state (held_by c.next.new.from) (held_by c.refuse_line.new.live) (view taken) (view new) (view first).reads (sent taken) (sent new) _ (left first) (λ between there sound. it.does total between (goes.is_told told) there sound) read
+
+pub returns-in-Err-answer_line-clause-reads : goal.returns-in-Err-answer_line-clause-reads
+returns-in-Err-answer_line-clause-reads g c = λ total book told stands.
+    let it = c.in-Err-answer_line.ensures in
+    let view = g.P.Pages.view in
+    let left = g.P.Streams.left in
+    let sent = g.P.Streams.sent in
+    let start = c.args.live.now in
+    let first = pages start in
+    let mid = pages c.lines.live in
+    let taken = pages c.next.new.from in
+    let new = pages c.answer_line.new.live in
+    let w = g.met.P.PageWorld in
+    let inv = c.lines.invariant in
+    let e = c.in-Ok.ensures in
+    let beside = c.next.ensures.beside in
+    let takes = beside.changed.store_is.pages_are in
+    let kept = w.take_keeps mid taken takes in
+    let same = held_same _ _ _ _ _ _ beside.changed.sessions beside.followed_same beside.pending_same in
+    let text = c.line.result.now in
+    let gives : Gives c.lines.lines c.next.new.self (left mid) (left taken) (Some text) =
+    gives_by c.lines.lines c.next.new.self (left mid) (left taken) (Some text) (same_line _ _ text c.next.new.self.line c.line.ensures.line (e.line (ap Ok c.in-Line.is))) e.rest inv.counted e.given e.total in
+    let line : Option (List ℕ) = Some text in
+    let side = side_of g.P.Streams in
+    let goes = goes_further (side start) (side c.lines.live) (side c.next.new.from) inv.goes (goes_streams (side c.lines.live) (side c.next.new.from) kept (w.take_told mid taken takes) (w.take_was_told mid taken takes) (w.take_goes_on mid taken takes) c.next.ensures.read_faults (omega (arith, c.next.ensures.send_faults))) in
+    let state = its.state start total book in
+    let read = far_read_kept (left first) (unread c.lines.lines (left mid)) c.lines.lines.given total state (view mid).image (view taken).image (held_by c.lines.live) (held_by c.next.new.from) (view first).reads (view mid).reads (view taken).reads kept.image same kept.reads (inv.read total book told stands) in
+    reads_stopped c.lines.lines c.next.new.self (left mid) (left taken) line gives total state (held_by c.next.new.from) (held_by c.answer_line.new.live) (view taken) (view new) (view first).reads (sent taken) (sent new) _ (left first) (λ between there sound. it.does total between (goes.is_told told) there sound) read

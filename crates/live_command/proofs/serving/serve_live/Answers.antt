@@ -1,3 +1,5 @@
+use Rattle.live_service.specs.Shown as its
+use Rattle.live_command.proofs.ReadLemmas.{reads_nothing}
 use Rattle.live_command.proofs.RunLemmas.{lasts_on_first, no_memory_on}
 use Rattle.live_command.specs.Doing.{held_by}
 use Rattle.live_command.specs.Shown.{pages}
@@ -12,3 +14,8 @@ pub returns-in_default-clause-crash : goal.returns-in_default-clause-crash
 returns-in_default-clause-crash g c = λ total book told stands.
     let at = pages c.args.live.now in
     lasts_on_first total book (held_by c.args.live.now) (g.P.Streams.left at) (g.P.Streams.sent at) (g.P.Pages.view at) (g.met.P.Pages.rests at c.requires.sound) stands
+
+pub returns-in_default-clause-reads : goal.returns-in_default-clause-reads
+returns-in_default-clause-reads g c = λ total book told stands.
+    let at = pages c.args.live.now in
+    reads_nothing (g.P.Streams.left at) (its.state c.args.live.now total book) (g.P.Pages.view at).reads
