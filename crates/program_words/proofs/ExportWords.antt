@@ -1,7 +1,7 @@
 -- Where words are those of an export, and where the first wrong one is.
-use Rattle.std.proofs.Common.{◌≡◌, ℕ, ℤ, zero, suc, pos, negsuc, ◌<◌, ◌≤◌, ◌<ℤ◌, ◌≤ℤ◌, List, [], ◌∷◌, length, length-take, take, Option, Some, refl, ap, sym, subst, ◌∙◌, arith}
+use Rattle.std.proofs.Common.{◌≡◌, ℕ, ℤ, zero, suc, pos, ◌<◌, ◌≤◌, ◌<ℤ◌, ◌≤ℤ◌, List, [], ◌∷◌, length, length-take, take, Option, Some, refl, ap, sym, subst, ◌∙◌, arith}
 use Rattle.std.proofs.lemmas.Int.{ints}
-use Rattle.std.specs.Prelude.{slice_get, codes, min, IsTrue, None, Bool, false}
+use Rattle.std.specs.Prelude.{slice_get, codes, IsTrue, None, Bool, false}
 use Rattle.std.specs.Fmt.{signed_decimal}
 use Rattle.chart_grid.specs.Limits.{IsWindow}
 use Rattle.series_book.specs.Names.{is_name}

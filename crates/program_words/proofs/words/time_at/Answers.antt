@@ -1,4 +1,4 @@
-use Rattle.std.proofs.Common.{◌≤◌, ◌<◌, ℤ, map, arith, sym, subst, ◌∙◌}
+use Rattle.std.proofs.Common.{ℤ, map, arith, sym, subst, ◌∙◌}
 use Rattle.std.proofs.lemmas.Int.{to_z-of_z, fits_signed_from_abs}
 use Rattle.std.specs.Int.{w128}
 use Rattle.whole_number.specs.Range.{IsTime}

@@ -1,7 +1,6 @@
-use Rattle.std.proofs.Common.{◌≡◌, ◌<◌, ◌≤◌, ◌<ℤ◌, ℤ, pos, length, map, sym, arith, ◌∙◌}
+use Rattle.std.proofs.Common.{◌<◌, ◌<ℤ◌, length, map, arith}
 use Rattle.std.proofs.lemmas.Int.{ints}
 use Rattle.std.proofs.lemmas.List.{length-map}
-use Rattle.whole_number.specs.declared.limits.TheConstants.{GREATEST_TIME}
 use Rattle.program_words.proofs.ExportWords.{no_from, late_from, no_to, early_to, too_many}
 use Rattle.program_words.proofs.words.window_of.Goals as goal
 
