@@ -29,10 +29,10 @@ def sine():
 
 
 def pairs():
-    """The series that are added: a name, and the values of each."""
-    yield "a walk and a walk", list(walk(COUNT)), list(other_walk())
-    yield "a walk and a constant", list(walk(COUNT)), [1000] * COUNT
-    yield "a sine and its opposite", sine(), [-value for value in sine()]
+    """The series that are added: a name, the values of each, and the widths of the pictures."""
+    yield "a walk and a walk", list(walk(COUNT)), list(other_walk()), (10, 100, WIDTH)
+    yield "a walk and a constant", list(walk(COUNT)), [1000] * COUNT, (10, 100, WIDTH)
+    yield "a sine and its opposite", sine(), [-value for value in sine()], (WIDTH,)
 
 
 def make_database(path, *series):
@@ -54,27 +54,30 @@ def sums_by_sqlite(path):
 def measure_derive():
     subprocess.run(["gcc", "-O2", "-o", "sums", f"{ROOT}/bench/sums.c"], check=True)
     by = [sys.executable, os.path.realpath(__file__)]
-    with open("line", "w") as file:
-        file.write(f"s t 1 1 {WIDTH} {HEIGHT} 0 {COUNT} auto\n")
-    print(f"the sum of two series of {COUNT} slots on {WIDTH} by {HEIGHT} pixels, the least of {ROUNDS} rounds: `derive` over a store of {2 * COUNT // 128} lowest pages; a C program")
-    print(f"over two files of 64-bit numbers, and sqlite {sqlite3.sqlite_version} from Python, which give the least and greatest sum of each column and draw nothing")
-    print(f"{'series':26}{'program':16}{'seconds':>9}{'peak MiB':>10}{'blocks read':>13}")
-    for name, first, second in pairs():
+    derive = [PROGRAM, "pair.store", "derive"]
+    print(f"the sum of two series of {COUNT} slots, {HEIGHT} pixels high, the least of {ROUNDS} rounds: `derive` over a store whose trees have {2 * -(-COUNT // 128)} lowest pages; a C program")
+    print(f"over two files of 64-bit numbers, and sqlite {sqlite3.sqlite_version} from Python, which tell the least and the greatest sum of each of {WIDTH} columns and draw nothing")
+    print(f"{'series':26}{'program':26}{'seconds':>9}{'peak MiB':>10}{'blocks read':>13}")
+    for name, first, second, widths in pairs():
         build_store("pair.store", BLOCKS, [*lines_of_series(first, "s"), *lines_of_series(second, "t")])
         make_database("pair.sqlite", first, second)
         for path, values in (("first", first), ("second", second)):
             with open(path, "wb") as file:
                 array.array("q", values).tofile(file)
-        derive = [PROGRAM, "pair.store", "derive"]
-        rows = [("derive", derive, "line"), ("C", [os.path.abspath("sums"), str(WIDTH), "first", "second"], "line"), ("sqlite", [*by, "pair.sqlite"], "line")]
+        rows = []
+        for width in widths:
+            with open(f"line{width}", "w") as file:
+                file.write(f"s t 1 1 {width} {HEIGHT} 0 {COUNT} auto\n")
+            rows.append((f"derive, {width} columns", derive, f"line{width}"))
+        given = rows[-1][2]
+        rows += [("C", [os.path.abspath("sums"), str(WIDTH), "first", "second"], given), ("sqlite", [*by, "pair.sqlite"], given)]
         runs = measure_all(rows, ROUNDS)
-        if any(not run[2].startswith(b"P4\n") for run in runs["derive"]):
-            sys.exit("bench: a line isn't answered by a picture")
-        reads = counted_calls(derive, "line", READS)
         least = least_seconds(runs)
-        for program, _, _ in rows:
-            blocks = ("-" if reads is None else reads) if program == "derive" else ""
-            print(f"{name:26}{program:16}{least[program]:9.3f}{max(run[1] for run in runs[program]):10.1f}{blocks:>13}")
+        for program, words, line in rows:
+            reads = counted_calls(words, line, READS) if words is derive else ""
+            if words is derive and not runs[program][0][2].startswith(b"P4\n"):
+                sys.exit("bench: a line isn't answered by a picture")
+            print(f"{name:26}{program:26}{least[program]:9.3f}{max(run[1] for run in runs[program]):10.1f}{'-' if reads is None else reads:>13}")
         for path in ("pair.store", "pair.sqlite"):
             os.remove(path)
 

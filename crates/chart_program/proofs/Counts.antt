@@ -1,5 +1,5 @@
 -- How many blocks a serving command reads, and how often it syncs.
-use Rattle.std.proofs.Common.{◌≡◌, ℕ, ◌+◌, ◌-◌, ◌^◌, ◌<◌, ◌≤◌, List, [], length, Option, Some, None, IfSome, refl, sym, ap, subst, inl, arith}
+use Rattle.std.proofs.Common.{◌≡◌, ℕ, ◌+◌, ◌-◌, ◌^◌, ◌<◌, List, [], length, Option, Some, None, IfSome, refl, sym, subst, inl, arith}
 use Rattle.std.specs.Prelude.{⊤}
 use Rattle.std.specs.List.{filter}
 use Rattle.block_disk.specs.View.{View, Honest, Beside}
@@ -9,7 +9,6 @@ use Rattle.chart_service.specs.ReadingBlocks.{ReadsInTurn, ReadsLines}
 use Rattle.chart_service.specs.State.{State}
 use Rattle.chart_service.specs.Stepping.{state_of}
 use Rattle.chart_service.specs.Syncing.{SyncsLines, edits_of}
-use Rattle.disk_store.specs.Held.{HoldsBook}
 use Rattle.disk_store.specs.Openings.{Opens}
 use Rattle.gate_pages.specs.Journal.{page_count, pages_of}
 use Rattle.series_book.specs.declared.one_series.Series.{Series}

@@ -1,27 +1,20 @@
 -- What `show` knows of the sessions that are open.
-use Rattle.std.proofs.Common.{◌≡◌, ℕ, Bool, true, false, List, [], ◌∷◌, Option, Some, None, Result, Ok, Err, inl, inr, refl, sym, ap, subst, ◌∙◌, arith}
+use Rattle.std.proofs.Common.{◌≡◌, ℕ, Bool, true, List, [], Option, Some, None, inl, inr, refl, sym, ap, subst}
 use Rattle.std.proofs.lemmas.Bool.Decides.{eqb_tells}
-use Rattle.std.specs.Prelude.{IsTrue, OnOk, IfErr, ◌==◌, ◌||◌, ◌&&◌, not, is_some, ◌≢◌}
+use Rattle.std.specs.Prelude.{IsTrue, ◌||◌, ◌&&◌, not, is_some, ◌≢◌}
 use Rattle.line_raster.specs.Canvas.{Canvas}
 use Rattle.chart_client.specs.Accepting.{Accepts, AcceptsView, Rejects, named_in, viewed}
 use Rattle.chart_client.specs.Holdings.{holding_of}
 use Rattle.chart_client.specs.Showing.{ScreenGives}
-use Rattle.chart_client.specs.declared.errors.ClientError.{ClientError}
 use Rattle.chart_client.specs.declared.errors.ClientError.TheVariants as client
 use Rattle.chart_client.specs.declared.holding.Holding.{Holding}
-use Rattle.chart_client.specs.declared.show.Shown.{Shown}
 use Rattle.chart_frames.specs.declared.frame.Frame.{Frame}
 use Rattle.chart_frames.specs.declared.frame.Frame.TheVariants.{Done, Refused, Opened, Closed, View, Rows, Live}
 use Rattle.chart_frames.specs.declared.frame.ViewFrame.{ViewFrame}
-use Rattle.chart_frames.specs.Frames.{Fits, spelling}
 use Rattle.zoom_session.specs.declared.session.Session.{Session}
 use Rattle.zoom_session.specs.Sessions.{is_open}
-use Rattle.series_book.specs.declared.refusals.Refusal.{Refusal}
-use Rattle.chart_service.specs.Replies.{refused}
-use Rattle.chart_service.specs.Opening.{opens, OpensBy, NamesOpen}
-use Rattle.chart_service.specs.declared.failure.ServeEnd.TheVariants.{ReadFault, SendFault, DiskFault, Damaged, InputTooLong, NoMemory}
-use Rattle.chart_program.specs.declared.run_end.RunEnd.{RunEnd}
-use Rattle.chart_program.specs.declared.run_end.RunEnd.TheVariants.{Serve, Show}
+use Rattle.chart_service.specs.Opening.{opens}
+use Rattle.chart_program.specs.declared.run_end.RunEnd.TheVariants.{Show}
 use Rattle.chart_service.specs.Knowing.{KnowsOpen, NamesKnown}
 use Rattle.chart_program.specs.Known.{Follows, EndsKnown}
 use Rattle.chart_program.proofs.Telling.{OneFrame, shown_frame}

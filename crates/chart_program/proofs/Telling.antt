@@ -1,8 +1,7 @@
 -- What a run over a screen sends: the texts of the replies, with the pictures of the book.
-use Rattle.std.proofs.Common.{◌≡◌, ℕ, List, [], ◌∷◌, ◌++◌, length, Option, Some, None, Result, Ok, Err, IfSome, IfErr, OnOk, refl, ap, subst, inl, inr, sym, ◌∙◌}
+use Rattle.std.proofs.Common.{◌≡◌, ℕ, List, [], ◌∷◌, ◌++◌, length, Option, Some, None, Result, Ok, Err, IfSome, IfErr, OnOk, refl, ap, subst, inr, sym, ◌∙◌}
 use Rattle.std.specs.List.{filter}
 use Rattle.line_raster.specs.Canvas.{Canvas}
-use Rattle.block_disk.specs.View.{Image}
 use Rattle.zoom_session.specs.declared.session.Session.{Session}
 use Rattle.chart_world.specs.LineLaws.{lines_none}
 use Rattle.chart_world.specs.Fronts.{says}
@@ -14,10 +13,10 @@ use Rattle.chart_client.specs.declared.errors.ClientError.TheVariants as client
 use Rattle.chart_client.specs.Accepting.{Accepts, Rejects, HasNumber}
 use Rattle.chart_client.specs.Showing.{Spells, RejectsBytes, ScreenGives}
 use Rattle.chart_service.specs.State.{State, IsSound}
-use Rattle.chart_service.specs.Replies.{RepliesToLine, Replied}
+use Rattle.chart_service.specs.Replies.{RepliesToLine}
 use Rattle.chart_service.specs.declared.failure.ServeEnd.TheVariants as serve_end
 use Rattle.chart_service.specs.Telling.{Tells, first_replied, text_told, first_told, front_told, taken_told, within_told, some_told}
-use Rattle.chart_service.specs.Serving.{told, RepliesToAll, Answers, SendsText, SendsFirst, SendsFrontOf, SendsTaken, SendsWithin, SendsSome, SendsLines}
+use Rattle.chart_service.specs.Serving.{told, RepliesToAll, SendsText, SendsFrontOf, SendsTaken, SendsWithin, SendsSome, SendsLines}
 use Rattle.drawn_replies.specs.Mirrors.{Mirrors, OnlyLacksMemory}
 use Rattle.drawn_replies.specs.Pictures.{AcceptsAll, ArePictured}
 use Rattle.chart_program.specs.declared.run_end.RunEnd.{RunEnd}

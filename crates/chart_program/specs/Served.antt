@@ -1,7 +1,7 @@
 -- What a serving command says to the lines of its input, over the book that its disk holds, and what it leaves.
 use Rattle.std.specs.Prelude.{◌≡◌, ◌≢◌, ℕ, ◌+◌, ◌-◌, ◌^◌, ◌<◌, ◌≤◌, List, length, Option, IfSome, Result, Ok, Err, OnOk, IfErr, ⊤}
 use Rattle.block_disk.specs.Counts.{HasRisen}
-use Rattle.block_disk.specs.View.{Image, View, Honest, sent_now}
+use Rattle.block_disk.specs.View.{Image, View, sent_now}
 use Rattle.chart_client.specs.Accepting.{Rejects}
 use Rattle.chart_client.specs.declared.errors.ClientError.{ClientError}
 use Rattle.chart_client.specs.declared.errors.ClientError.TheVariants as client
