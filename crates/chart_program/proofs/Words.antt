@@ -1,5 +1,5 @@
 -- What the words of a command say of it.
-use Rattle.std.proofs.Common.{◌≡◌, ℕ, zero, suc, Bool, true, false, ◌⊎◌, inl, inr, List, [], ◌∷◌, Option, Some, None, IfSome, get_or, refl, ap, sym, arith, subst, ◌∙◌}
+use Rattle.std.proofs.Common.{◌≡◌, ℕ, zero, suc, true, false, inl, inr, List, [], ◌∷◌, Option, IfSome, get_or, refl, ap, sym, arith, subst, ◌∙◌}
 use Rattle.std.specs.Prelude.{Contains, String, map, string_bytes}
 use Rattle.block_disk.specs.View.{View}
 use Rattle.program_words.specs.declared.words.Command.{Command}
