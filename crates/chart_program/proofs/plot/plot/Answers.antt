@@ -1,4 +1,4 @@
-use Rattle.std.proofs.Common.{◌≡◌, ◌≢◌, ◌≤◌, Result, Err, IfSome, refl, sym, ap, ◌∙◌}
+use Rattle.std.proofs.Common.{◌≡◌, ◌≢◌, Result, Err, IfSome, refl, sym, ap, ◌∙◌}
 use Rattle.chart_service.proofs.Sending.{error_goes}
 use Rattle.chart_service.proofs.Ends.{error_is, on_err}
 use Rattle.chart_program.specs.declared.input.InputEnd.{InputEnd}
