@@ -480,6 +480,7 @@ cover_ends every old new left left' before now faults code place codes read send
   refused = λ is. absurd (never of_draw code 14 codes refl is);
   unnamed = tt;
   unknown = λ is. absurd (never of_draw code 17 codes refl is);
+  refused_line = λ is. absurd (never of_draw code 16 codes refl is);
   zero_place = λ zero. zeros (zeros_of_draw code (never of_draw code 6 codes refl) zero);
   done = done;
   part = part;

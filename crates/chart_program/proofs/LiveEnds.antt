@@ -74,6 +74,7 @@ live_ends old new left left' before now faults code place e away reads = record 
   refused = λ is. absurd (never of_live code 14 e.codes refl is);
   unnamed = tt;
   unknown = λ is. absurd (never of_live code 17 e.codes refl is);
+  refused_line = λ is. absurd (never of_live code 16 e.codes refl is);
   zero_place = e.zero_place;
   done = e.done;
   part = e.part;

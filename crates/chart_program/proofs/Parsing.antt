@@ -27,7 +27,7 @@ use Rattle.draw_command.specs.Covers.{picture_bytes, SendsFrames}
 use Rattle.draw_command.specs.Draws.{DrawsMore, DrawsAll, FramesStop, StopsAtFrame, IsCut, DrawsWithin, IsFront, EndsDraw}
 use Rattle.block_disk.specs.View.{View}
 use Rattle.program_words.specs.declared.words.Command.{Command}
-use Rattle.program_words.specs.declared.words.Command.TheVariants.{Plot, Load, Demo, Run, Serve, Draw, Init, Check, ListSeries, Export, Retain, Cover}
+use Rattle.program_words.specs.declared.words.Command.TheVariants.{Plot, Load, Demo, Run, Serve, Draw, Init, Check, ListSeries, Export, Retain, Cover, Live, Derive}
 use Rattle.chart_program.specs.Ran.{AreReplies, IsFrames, IsOfReplies, DrawsReplies, CoversReplies, CoversBook, SendsAll}
 use Rattle.draw_command.proofs.DrawnFrames.{Good, Stay}
 use Rattle.pbm_writer.specs.Picture.{picture}
@@ -311,6 +311,8 @@ covers_at k draws own Check old new input before now all = tt
 covers_at k draws own ListSeries old new input before now all = tt
 covers_at k draws own (Export name window) old new input before now all = tt
 covers_at k draws own Retain old new input before now all = tt
+covers_at k draws own Live old new input before now all = tt
+covers_at k draws own Derive old new input before now all = tt
 covers_at k draws own (Cover every) old new input before now all = replies_covered k draws own every input before now all
 
 pub covers_book : Known → AllDraw → OwnDraw → (command : Command) (old new : View) (o before now : Option (List ℕ)) → IfSome o (λ input. SendsAll command old new input before now) → IfSome o (λ input. CoversBook command old new input before now)

@@ -114,6 +114,8 @@ cover_completes Check old new input D frames done replies = absurd replies
 cover_completes ListSeries old new input D frames done replies = absurd replies
 cover_completes (Export name window) old new input D frames done replies = absurd replies
 cover_completes Retain old new input D frames done replies = absurd replies
+cover_completes Live old new input D frames done replies = absurd replies
+cover_completes Derive old new input D frames done replies = absurd replies
 cover_completes (Cover every) old new input D frames done replies = done (frames input replies)
 
 pub covers_complete : {Z : Type 0} (words : List (String Z)) (left : Option (List ℕ)) (command : Command) (old new : View) (D : Type 0) → ((i : List ℕ) → IsOfReplies i → IsFrames i) → Spells command (plain_words (map string_bytes words))

@@ -404,6 +404,8 @@ only_cover Init spelling spells number = absurd (omega (arith, number))
 only_cover Check spelling spells number = absurd (omega (arith, number))
 only_cover ListSeries spelling spells number = absurd (omega (arith, number))
 only_cover Retain spelling spells number = absurd (omega (arith, number))
+only_cover Live spelling spells number = absurd (omega (arith, number))
+only_cover Derive spelling spells number = absurd (omega (arith, number))
 only_cover (Cover every) spelling spells number = (decimal every, (every, spells.1, refl), spells.0)
 only_cover (Export name window) spelling spells number = absurd (omega (arith, number))
 
