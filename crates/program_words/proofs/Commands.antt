@@ -511,21 +511,10 @@ no_command first plot load demo export cover single Init is = single Init tt is
 no_command first plot load demo export cover single Check is = single Check tt is
 no_command first plot load demo export cover single ListSeries is = single ListSeries tt is
 no_command first plot load demo export cover single Retain is = single Retain tt is
+no_command first plot load demo export cover single Live is = single Live tt is
+no_command first plot load demo export cover single Derive is = single Derive tt is
 no_command first plot load demo export cover single (Cover every) is = cover is
 no_command first plot load demo export cover single (Export name window) is = export is
-no_command first plot load demo export single (Plot w h) is = plot is
-no_command first plot load demo export single (Load name) is = load is
-no_command first plot load demo export single (Demo seed count) is = demo is
-no_command first plot load demo export single Run is = single Run tt is
-no_command first plot load demo export single Serve is = single Serve tt is
-no_command first plot load demo export single Draw is = single Draw tt is
-no_command first plot load demo export single Init is = single Init tt is
-no_command first plot load demo export single Check is = single Check tt is
-no_command first plot load demo export single ListSeries is = single ListSeries tt is
-no_command first plot load demo export single Retain is = single Retain tt is
-no_command first plot load demo export single Live is = single Live tt is
-no_command first plot load demo export single Derive is = single Derive tt is
-no_command first plot load demo export single (Export name window) is = export is
 
 pub wrong_behind : (words : List (List ℕ)) (command : Command) → IsSingle command → slice_get words 0 ≡ Some (word_of command) → 1 < length words → IsWrongAt 1 words
 wrong_behind words command is first many = record {
