@@ -55,7 +55,9 @@ run_lives (Export name window) input old new begins left at b leaves is = λ tot
 run_lives Retain input old new begins left at b leaves is = λ total book recovers.
     (leaves total book (begun_holds (page_count old.size) total book begins old b recovers)).here at left is.0 is.1.0 is.1.1
 run_lives (Cover every) input old new begins left at b leaves is = λ total book recovers.
+    (leaves total book (begun_holds (page_count old.size) total book begins old b recovers)).here at left is.0 is.1.0 is.1.1
 run_lives Live input old new begins left at b leaves is = λ total book recovers.
+    (leaves total book (begun_holds (page_count old.size) total book begins old b recovers)).here at left is.0 is.1.0 is.1.1
 run_lives Derive input old new begins left at b leaves is = λ total book recovers.
     (leaves total book (begun_holds (page_count old.size) total book begins old b recovers)).here at left is.0 is.1.0 is.1.1
 

@@ -21,7 +21,6 @@ use Rattle.drawn_replies.specs.Pictures.{ArePictured, AreOwnPictured, NoneReject
 use Rattle.program_words.specs.declared.words.Command.{Command}
 use Rattle.program_words.specs.declared.words.Command.TheVariants.{Plot, Load, Demo, Run, Serve, Draw, Init, Check, ListSeries, Export, Retain, Cover, Live, Derive}
 use Rattle.draw_command.specs.declared.draw_end.DrawEnd.TheVariants as draw_end
-use Rattle.chart_program.specs.declared.draw_end.DrawEnd.TheVariants as draw_end
 use Rattle.program_words.specs.CommandLine.{plain_words}
 use Rattle.program_words.specs.Words.{AreCommand, ByCommand, IsEvery, Spells}
 use Rattle.store_commands.specs.declared.status.Status.{Status}
