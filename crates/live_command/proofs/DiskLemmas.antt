@@ -21,7 +21,9 @@ use Rattle.store_commands.proofs.Moments.{opened_goes, opened_quiet, since_opene
 use Rattle.store_commands.specs.Books.{HoldsAgain, Never, OfBook}
 use Rattle.store_commands.specs.Damaged.{IsDamagedLater}
 use Rattle.live_command.specs.Doing.{IsCause, Side}
-use Rattle.live_command.specs.Ended.{Holds, LeavesLived, LivesAll, ReadsFrom, ReadsLiving, begun_live}
+use Rattle.live_command.specs.Ended.{Holds, LeavesLived, LivesAll, ReadsFrom, ReadsLiving, SyncsLiving, begun_live}
+use Rattle.live_command.specs.Syncs.{SyncsLines}
+use Rattle.live_command.proofs.SyncLemmas.{nothing_synced}
 use Rattle.live_command.specs.Reads.{ReadsLines}
 use Rattle.live_command.proofs.ReadLemmas.{none_read}
 use Rattle.live_command.specs.Ending.{IsEndCause, StopsAt, Served}
@@ -299,3 +301,17 @@ reads_on count old mid new left_mid left counted opens same reads =
 
 pub reads_unopened : (old new : View) (left : Option (List ℕ)) → Opens (page_count old.size) old new → IfSome left (λ input. ReadsLiving old new input)
 reads_unopened old new left opens = told_each left (λ input. ReadsLiving old new input) (λ input. (new.reads, opens.reads.high, λ total book holds. none_read input (begun_live total book) new.reads))
+
+-- ---- and how often it was synced
+
+pub syncs_on : (old mid new : View) (left_mid left : Option (List ℕ)) → Opens (page_count old.size) old mid → left_mid ≡ left → IfSome left_mid (λ input. SyncsLines input mid.syncs new.syncs) → IfSome left (λ input. SyncsLiving old new input)
+syncs_on old mid new left_mid left opens same syncs =
+    let L : Option (List ℕ) → Type 0 = λ l. IfSome l (λ input. SyncsLines input mid.syncs new.syncs) in
+    opened left (subst L same syncs)
+  where
+    opened : (o : Option (List ℕ)) → IfSome o (λ input. SyncsLines input mid.syncs new.syncs) → IfSome o (λ input. SyncsLiving old new input)
+    opened None syncs = tt
+    opened (Some input) syncs = (mid.syncs, opens.syncs.high, syncs)
+
+pub syncs_unopened : (old new : View) (left : Option (List ℕ)) → Opens (page_count old.size) old new → IfSome left (λ input. SyncsLiving old new input)
+syncs_unopened old new left opens = told_each left (λ input. SyncsLiving old new input) (λ input. (new.syncs, opens.syncs.high, nothing_synced input new.syncs))

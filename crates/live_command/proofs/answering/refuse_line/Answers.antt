@@ -32,3 +32,9 @@ returns-clause-does g c = λ total book told stands sound.
     (long_replied frame state c.refused.ensures.frame c.refused.ensures.fits sound c.requires.idle) sound (view at) (view at) (view at') (sent at) (sent at) (sent at') stands (through_none (view at) _) refl refl
     (reads_answer None frame state state (view at).reads (view at).reads c.requires.idle (long_replied frame state c.refused.ensures.frame c.refused.ensures.fits sound c.requires.idle) refl)
     (w.send_keeps n at at' sends) c.send_frame.result made.whole made.stops (g.met.P.Pages.rests at c.requires.sound) (w.send_passes n at at' sends) (w.send_counts n at at' sends)
+
+pub returns-clause-syncs : goal.returns-clause-syncs
+returns-clause-syncs g c =
+    let w = g.met.P.PageWorld in
+    let n = length (spelling c.refused.result) in
+    (w.send_keeps n (pages c.args.live.now) (pages c.send_frame.new.live) c.send_frame.ensures.beside.changed.store_is.pages_are).syncs
