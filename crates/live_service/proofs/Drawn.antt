@@ -1,5 +1,5 @@
 -- What a client does with the frames that answer lines of live views.
-use Rattle.std.proofs.Common.{◌≡◌, ℕ, ◌==◌, Bool, true, false, if◌then◌else◌, List, [], ◌∷◌, map, Option, None, Some, refl, sym, ap, ◌∙◌, subst}
+use Rattle.std.proofs.Common.{◌≡◌, ℕ, ◌==◌, Bool, true, false, if◌then◌else◌, ℤ, List, [], ◌∷◌, map, Option, None, Some, refl, sym, ap, ◌∙◌, subst, inl, inr}
 use Rattle.std.specs.Prelude.{⊤}
 use Rattle.std.specs.Option.{option_map}
 use Rattle.chart_client.specs.Accepting.{Rejects}
@@ -10,10 +10,10 @@ use Rattle.chart_frames.specs.declared.frame.Frame.{Frame}
 use Rattle.chart_frames.specs.declared.frame.Frame.TheVariants.{Done, Refused, Opened, Closed, View as ViewOf, Rows, Live as LiveOf}
 use Rattle.chart_frames.specs.declared.frame.ViewFrame.{ViewFrame}
 use Rattle.chart_service.proofs.Lasts.{somebody}
-use Rattle.chart_service.specs.Replies.{RepliesToLine}
+use Rattle.chart_service.specs.Replies.{AnswersBy, MovesLast, MovesIn, RepliesToLine}
 use Rattle.chart_service.specs.State.{State, IsSound}
 use Rattle.drawn_replies.specs.Mirrors.{Mirrors, mirrored, DrawsTheBook, OnlyLacksMemory}
-use Rattle.live_service.specs.LiveReplies.{LiveState, LiveReplied, RepliesTo, AnswersItself}
+use Rattle.live_service.specs.LiveReplies.{LiveState, LiveReplied, RepliesTo, AnswersItself, Pushed}
 use Rattle.live_view.specs.Lines.{live_line}
 use Rattle.live_view.specs.Replies.{too_large, is_too_large, live_bound, follow_view, follow_reply, unfollow_reply}
 use Rattle.live_view.specs.declared.live_lines.LiveLine.{LiveLine}
@@ -21,6 +21,8 @@ use Rattle.live_view.specs.declared.live_lines.LiveLine.TheVariants.{Follow, Unf
 use Rattle.zoom_session.specs.Sessions.{is_open, session_of}
 use Rattle.zoom_session.specs.declared.session.Session.{Session}
 use Rattle.zoom_session.specs.declared.view_spec.ViewSpec.{ViewSpec}
+use Rattle.series_book.specs.declared.one_series.Series.{Series}
+use Rattle.value_filter.specs.declared.steps.Step.{Step as FilterStep}
 
 -- the frame is a refusal, or tells of the following of a session that is open
 abbrev IsAside : Frame → List Session → Type 0
@@ -165,3 +167,27 @@ asked_sound OtherLine text frame old new sound r = r.replied.2
 pub line_sound : (line : Option (List ℕ)) (frame : Frame) (old new : LiveState) → IsSound old.state → LiveReplied line frame old new → IsSound new.state
 line_sound None frame old new sound r = r.replied.2
 line_sound (Some text) frame old new sound r = asked_sound (live_line text) text frame old new sound r
+
+-- ---- pushes
+
+answered_book : (f : Option (List FilterStep)) (series : Series) (spec : ViewSpec) (number : ℕ) (frame : Frame) (old new : State) → AnswersBy f series spec number frame old new → new.book ≡ old.book
+answered_book None series spec number frame old new (inl many) = ap (λ (s : State). s.book) many.refuses.state
+answered_book None series spec number frame old new (inr a) = ap (λ (s : State). s.book) a.state
+answered_book (Some steps) series spec number frame old new a = ap (λ (s : State). s.book) a.state
+
+last_book : (o : Option ViewSpec) (number : ℕ) (window : ViewSpec → ℤ × ℤ) (frame : Frame) (old new : State) → MovesLast o number window frame old new → new.book ≡ old.book
+last_book None number window frame old new moves = ap (λ (s : State). s.book) moves.state
+last_book (Some last) number window frame old new moves = elim moves.reply [
+  | inl bad ↦ ap (λ (s : State). s.book) bad.1.state
+  | inr good ↦
+      let v = good.1 in
+      answered_book last.filter moves.series (record { series = last.series; grid = v.grid; range = last.range; filter = last.filter }) number frame old new v.view
+]
+
+moved_book : (o : Option Session) (number : ℕ) (window : ViewSpec → ℤ × ℤ) (frame : Frame) (old new : State) → MovesIn o number window frame old new → new.book ≡ old.book
+moved_book None number window frame old new moves = ap (λ (s : State). s.book) moves.state
+moved_book (Some s) number window frame old new moves = last_book s.last number window frame old new moves
+
+-- a push leaves the book
+pub push_book : (frame : Frame) (old new : LiveState) → Pushed frame old new → new.state.book ≡ old.state.book
+push_book frame old new p = moved_book (session_of p.session old.state.sessions) p.session _ frame old.state new.state p.replied.0

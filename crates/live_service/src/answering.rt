@@ -1,5 +1,5 @@
 //! A live service answers lines, and makes pushes.
-ghost use Rattle.std.specs.Prelude.{◌≡◌, ◌↔◌, ◌<◌, ℕ, List, [], length, Ok, Err, None, IfOk, IfErr, IfSome, IfNone, OnOk};
+ghost use Rattle.std.specs.Prelude.{◌≡◌, ◌↔◌, ◌<◌, [], length, Ok, Err, None, IfOk, IfErr, IfSome, IfNone, OnOk};
 ghost use Rattle.block_disk.specs.Counts.{HasRisen};
 ghost use Rattle.block_disk.specs.View.{Now};
 ghost use Rattle.chart_frames.specs.Frames.{Fits};
@@ -12,9 +12,7 @@ ghost use Rattle.gate_pages.specs.Pages.{GoesOn};
 ghost use Rattle.live_service.specs.LiveReplies.{LiveReplied, Pushed};
 ghost use Rattle.live_service.specs.Shown as its;
 ghost use Rattle.live_view.specs.Live as follows;
-ghost use Rattle.series_book.specs.declared.one_series.Series.{Series};
 ghost use Rattle.series_store.specs.Results.{IsUnchanged};
-ghost use Rattle.stored_book.specs.Standing.{StandsForBook};
 
 use crate::stepper::ServiceStepper;
 use chart_frames::Frame;

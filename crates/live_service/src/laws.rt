@@ -13,12 +13,14 @@ use live_view::laws::followed_views_fit;
 
 /// A client that holds the list of each open session as the service keeps it, and gets the next push, draws
 /// of it the chart of what the followed view keeps of its series as it is in the book, behind the edit, and holds
-/// each session's list as the service does after the push. Nothing but want of memory can come in its way.
+/// each session's list as the service does after the push. Nothing but want of memory can come in its way. The book
+/// stays, so that of all pushes behind an edit the chart of one book is drawn.
 pub fn clients_draw_pushes()
     ensures draws { (frame : Frame) (old new : LiveState) (holdings : List Holding) →
         IsSound old.state → Pushed frame old new → Mirrors old.state.sessions holdings → DrawsTheBook frame old.state new.state holdings }
     ensures accepts { (frame : Frame) (old new : LiveState) (holdings : List Holding) →
         IsSound old.state → Pushed frame old new → Mirrors old.state.sessions holdings → OnlyLacksMemory frame holdings }
+    ensures book { (frame : Frame) (old new : LiveState) → Pushed frame old new → new.state.book ≡ old.state.book }
 {
     clients_draw_requests();
 }
