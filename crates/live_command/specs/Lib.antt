@@ -6,3 +6,4 @@ pub mod Shown
 pub mod Doing
 pub mod Ended
 pub mod Ending
+pub mod Drawn

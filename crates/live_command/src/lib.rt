@@ -10,6 +10,7 @@
 
 mod answering;
 mod command;
+pub mod laws;
 mod serving;
 
 pub use command::live;
