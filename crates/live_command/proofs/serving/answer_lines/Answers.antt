@@ -145,8 +145,8 @@ lines-preserved-in-Ok-refuse_line g c =
           let F : Option (List ℕ) → Type 0 = λ l. Far (left first) (unread c.next.new.self l) c.next.new.self.given total state (view new).image (held_by c.refuse_line.new.live) (sent first) (sent new) in
           subst F (sym it.left) (far_line c.lines.lines c.next.new.self (left mid) (left taken) line gives e.within total state (held_by c.next.new.from) (held_by c.refuse_line.new.live) (view taken) (view new) (sent first) (sent taken) (sent new) c.in-Ok-refuse_line.field-0 (left first) (λ between there sound. it.does total between (goes.is_told told) there sound) far);
       synced =
-        let F : Option (List ℕ) → Type 0 = λ l. FarSynced (left first) (unread c.next.new.self l) c.next.new.self.given (view first).syncs (view new).syncs in
-        subst F (sym it.left) (far_synced_line (left first) c.lines.lines c.next.new.self (left mid) (left taken) line gives (view first).syncs (view taken).syncs (view new).syncs (none_syncs (edits_of (unless_empty line)) (view taken).syncs (view new).syncs it.syncs) (far_synced_kept (left first) (unread c.lines.lines (left mid)) c.lines.lines.given (view first).syncs (view mid).syncs (view taken).syncs kept.syncs inv.synced));
+          let F : Option (List ℕ) → Type 0 = λ l. FarSynced (left first) (unread c.next.new.self l) c.next.new.self.given (view first).syncs (view new).syncs in
+          subst F (sym it.left) (far_synced_line (left first) c.lines.lines c.next.new.self (left mid) (left taken) line gives (view first).syncs (view taken).syncs (view new).syncs (none_syncs (edits_of (unless_empty line)) (view taken).syncs (view new).syncs it.syncs) (far_synced_kept (left first) (unread c.lines.lines (left mid)) c.lines.lines.given (view first).syncs (view mid).syncs (view taken).syncs kept.syncs inv.synced));
       read = λ total book told stands.
           let state = its.state start total book in
           let read = far_read_kept (left first) (unread c.lines.lines (left mid)) c.lines.lines.given total state (view mid).image (view taken).image (held_by c.lines.live) (held_by c.next.new.from) (view first).reads (view mid).reads (view taken).reads kept.image same kept.reads (inv.read total book told stands) in
@@ -301,8 +301,8 @@ lines-preserved g c =
           let F : Option (List ℕ) → Type 0 = λ l. Far (left first) (unread c.next.new.self l) c.next.new.self.given total state (view new).image (held_by c.answer_line.new.live) (sent first) (sent new) in
           subst F (sym it.left) (far_line c.lines.lines c.next.new.self (left mid) (left taken) line gives e.within total state (held_by c.next.new.from) (held_by c.answer_line.new.live) (view taken) (view new) (sent first) (sent taken) (sent new) c.in-Ok-answer_line.field-0 (left first) (λ between there sound. it.does total between (goes.is_told told) there sound) far);
       synced =
-        let F : Option (List ℕ) → Type 0 = λ l. FarSynced (left first) (unread c.next.new.self l) c.next.new.self.given (view first).syncs (view new).syncs in
-        subst F (sym it.left) (far_synced_line (left first) c.lines.lines c.next.new.self (left mid) (left taken) line gives (view first).syncs (view taken).syncs (view new).syncs (it.syncs) (far_synced_kept (left first) (unread c.lines.lines (left mid)) c.lines.lines.given (view first).syncs (view mid).syncs (view taken).syncs kept.syncs inv.synced));
+          let F : Option (List ℕ) → Type 0 = λ l. FarSynced (left first) (unread c.next.new.self l) c.next.new.self.given (view first).syncs (view new).syncs in
+          subst F (sym it.left) (far_synced_line (left first) c.lines.lines c.next.new.self (left mid) (left taken) line gives (view first).syncs (view taken).syncs (view new).syncs (it.syncs) (far_synced_kept (left first) (unread c.lines.lines (left mid)) c.lines.lines.given (view first).syncs (view mid).syncs (view taken).syncs kept.syncs inv.synced));
       read = λ total book told stands.
           let state = its.state start total book in
           let read = far_read_kept (left first) (unread c.lines.lines (left mid)) c.lines.lines.given total state (view mid).image (view taken).image (held_by c.lines.live) (held_by c.next.new.from) (view first).reads (view mid).reads (view taken).reads kept.image same kept.reads (inv.read total book told stands) in
