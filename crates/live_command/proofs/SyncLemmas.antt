@@ -1,13 +1,13 @@
 -- How often the lines so far have synced the disk.
-use Rattle.std.proofs.Common.{◌≡◌, ◌∙◌, ℕ, ◌+◌, ◌*◌, ◌<◌, ◌≤◌, List, [], ◌∷◌, ◌++◌, length, Option, Some, None, IfSome, refl, ap, sym, subst, inl, inr, arith, length-append}
-use Rattle.std.specs.List.{filter, after_first}
+use Rattle.std.proofs.Common.{◌≡◌, ◌∙◌, ℕ, ◌+◌, ◌*◌, ◌<◌, ◌≤◌, List, [], ◌∷◌, ◌++◌, length, Option, Some, None, IfSome, refl, ap, sym, subst, inl, arith, length-append}
+use Rattle.std.specs.List.{after_first}
 use Rattle.std.proofs.lemmas.List.{append-nil}
 use Rattle.chart_service.proofs.SyncLemmas.{edits_joined}
 use Rattle.chart_service.specs.Serving.{told, unless_empty}
 use Rattle.chart_service.specs.Syncing.{edit_of, edits_of}
 use Rattle.chart_world.specs.FrontLaws.{Passed, passes}
-use Rattle.chart_world.specs.Fronts.{says, BeginsWith, Gives, first_piece}
-use Rattle.chart_world.specs.LineLaws.{lines_none, piece_line, said, says_text, told_more}
+use Rattle.chart_world.specs.Fronts.{BeginsWith, Gives, first_piece}
+use Rattle.chart_world.specs.LineLaws.{piece_line, said, says_text, told_more}
 use Rattle.chart_world.specs.Lines.{is_line_feed}
 use Rattle.chart_world.specs.Reading.{Reading, unread, unread_input}
 use Rattle.series_book.specs.declared.edits.Edit.{Edit}

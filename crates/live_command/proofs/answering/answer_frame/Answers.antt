@@ -1,11 +1,9 @@
-use Rattle.std.proofs.Common.{◌≡◌, ◌∙◌, [], ◌∷◌, List, Option, None, Some, length, refl, ap, sym, subst, arith, ℕ}
+use Rattle.std.proofs.Common.{◌≡◌, ◌∙◌, [], ◌∷◌, List, Option, Some, length, ap, sym, subst, arith, ℕ}
 use Rattle.block_disk.specs.View.{Beside}
 use Rattle.chart_frames.specs.Frames.{spelling}
 use Rattle.chart_frames.specs.declared.frame.Frame.{Frame}
-use Rattle.live_service.specs.LiveReplies.{LiveReplied, LiveState, Pushed}
+use Rattle.live_service.specs.LiveReplies.{LiveReplied, LiveState}
 use Rattle.live_command.specs.Lives.{LivesBy}
-use Rattle.live_service.specs.Shown as its
-use Rattle.chart_service.specs.Shown as shown
 use Rattle.live_command.specs.Doing.{held_by, held_with}
 use Rattle.live_command.specs.Shown.{pages}
 use Rattle.chart_service.proofs.Sending.{text_is}

@@ -1,7 +1,6 @@
-use Rattle.std.proofs.Common.{◌∙◌, [], ◌∷◌, List, Option, None, Some, Ok, length, refl, ap, sym, subst, arith, ℕ}
-use Rattle.chart_service.specs.Shown as shown
+use Rattle.std.proofs.Common.{◌∙◌, [], ◌∷◌, length, ap, sym, subst}
 use Rattle.chart_frames.specs.declared.frame.Frame.{Frame}
-use Rattle.live_service.specs.LiveReplies.{LiveReplied, LiveState, Pushed}
+use Rattle.live_service.specs.LiveReplies.{LiveState, Pushed}
 use Rattle.live_command.specs.Lives.{LivesBy}
 use Rattle.live_service.specs.Shown as its
 use Rattle.live_command.specs.Doing.{held_by, held_with}

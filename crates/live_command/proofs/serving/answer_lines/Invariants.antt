@@ -1,8 +1,7 @@
-use Rattle.std.proofs.Common.{◌≡◌, ℕ, ◌+◌, ◌-◌, ◌^◌, ◌≤◌, List, length, IsTrue}
+use Rattle.std.proofs.Common.{◌≡◌, ◌+◌, ◌-◌, ◌^◌, ◌≤◌, length, IsTrue}
 use Rattle.chart_world.specs.Reading.{unread, input_length}
 use Rattle.live_service.specs.Shown as its
 use Rattle.live_view.specs.Live as follows
-use Rattle.series_book.specs.declared.one_series.Series.{Series}
 use Rattle.live_command.proofs.ReadLemmas.{FarRead}
 use Rattle.live_command.proofs.SyncLemmas.{FarSynced}
 use Rattle.live_command.proofs.RunLemmas.{Far, LastsOn}
