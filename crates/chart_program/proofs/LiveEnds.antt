@@ -6,12 +6,11 @@ use Rattle.gate_pages.specs.Journal.{page_count}
 use Rattle.stored_book.specs.Damage.{IsBadForRequest}
 use Rattle.store_commands.specs.Away.{IsTurnedAway}
 use Rattle.store_commands.specs.Damaged.{IsDamagedPlace}
-use Rattle.live_command.specs.Ended.{FindsDamaged, LiveEnds, LivesTaken, ReadsLiving}
+use Rattle.live_command.specs.Ended.{FindsDamaged, LiveEnds, LivesTaken, ReadsLiving, SyncsLiving}
 use Rattle.program_words.specs.declared.words.Command.TheVariants.{Live}
 use Rattle.chart_program.specs.CommandStatuses.{IsBarred}
 use Rattle.chart_program.specs.Served.{Faults}
 use Rattle.chart_program.specs.Ran.{AreLines, CommandEnds, of_done}
-use Rattle.chart_program.proofs.Counts.{told_any}
 use Rattle.chart_program.proofs.CommandCodes.{never, of_live, live_codes}
 use Rattle.chart_program.proofs.CommandsEnd.{small_never}
 
@@ -44,8 +43,8 @@ found : (old new : View) (left left' before now : Option (List ℕ)) (place : �
 found old new left left' before now place (inl first) = inl first.0
 found old new left left' before now place (inr later) = inr later
 
-pub live_ends : (old new : View) (left left' before now : Option (List ℕ)) (faults : Faults) (code place : ℕ) → LiveEnds old new left left' before now faults.reads faults.reads_now faults.sends faults.sends_now code place → (old.size < 128 → IsTurnedAway left left' before now code) → IfSome left (λ input. ReadsLiving old new input) → CommandEnds Live old new left left' before now faults code place
-live_ends old new left left' before now faults code place e away reads = record {
+pub live_ends : (old new : View) (left left' before now : Option (List ℕ)) (faults : Faults) (code place : ℕ) → LiveEnds old new left left' before now faults.reads faults.reads_now faults.sends faults.sends_now code place → (old.size < 128 → IsTurnedAway left left' before now code) → IfSome left (λ input. ReadsLiving old new input) → IfSome left (λ input. SyncsLiving old new input) → CommandEnds Live old new left left' before now faults code place
+live_ends old new left left' before now faults code place e away reads syncs = record {
   codes = live_codes code e.codes;
   own = e.codes;
   away = λ over. away;
@@ -53,7 +52,7 @@ live_ends old new left left' before now faults code place e away reads = record 
   bars = λ is. barred old new left left' before now place (e.damaged is);
   reads = tt;
   reads_lines = reads;
-  syncs = told_any left;
+  syncs = syncs;
   unsent = λ is. absurd (never of_live code 14 e.codes refl is);
   read = e.read;
   stopped = λ is. taken old new left left' before now (e.stopped is);

@@ -45,7 +45,7 @@ use Rattle.stored_book.specs.Damage.{IsBadForEdit, IsBadForRequest}
 use Rattle.retention.specs.declared.rule.Rule.{Rule}
 use Rattle.retain_command.specs.Answers.{AreRules}
 use Rattle.retain_command.specs.Retained.{LeavesSwept, RetainsAll, RetainsLines, RetainsPart, RetainsSome, RetainsTaken, RetainsToBad, RetainsToUnknown, RetainsWithin}
-use Rattle.live_command.specs.Ended.{LeavesLived, LivesAll, LivesLines, LivesPart, LivesSome, LivesTaken, LivesWithin, ReadsLiving}
+use Rattle.live_command.specs.Ended.{LeavesLived, LivesAll, LivesLines, LivesPart, LivesSome, LivesTaken, LivesWithin, ReadsLiving, SyncsLiving}
 use Rattle.derive_command.specs.Derived.{DerivesAll, DerivesFirst, DerivesPart, DerivesTaken, DerivesToBad, DerivesToRefused, DerivesWithin}
 use Rattle.derive_command.specs.Lines.{AreAnswers}
 use Rattle.store_commands.specs.Damaged.{IsDamagedAtFirst, IsDamagedPlace}
@@ -393,6 +393,7 @@ ReadsByInput command old new input before now = ⊤
 abbrev pub SyncsByInput : Command → View → View → List ℕ → Option (List ℕ) → Option (List ℕ) → Type 0
 SyncsByInput Run old new input before now = SyncsServing old new input
 SyncsByInput Serve old new input before now = SyncsServing old new input
+SyncsByInput Live old new input before now = SyncsLiving old new input
 SyncsByInput command old new input before now = ⊤
 
 -- the input is slots, and no more than a plot takes

@@ -1,9 +1,8 @@
 -- What is done over the store of a disk, in the words of the disk.
-use Rattle.std.proofs.Common.{◌≡◌, ◌≢◌, ◌∙◌, ℕ, ◌+◌, ◌≤◌, ◌<◌, ◌⊎◌, ◌^◌, Bool, List, [], ◌∷◌, length, take, Option, Some, None, Result, Ok, Err, IfSome, refl, ap, sym, subst, inl, inr, arith}
-use Rattle.std.specs.Prelude.{Contains, IfErr, OnOk}
-use Rattle.block_disk.specs.Counts.{HasRisen}
+use Rattle.std.proofs.Common.{◌≡◌, ◌≢◌, ◌∙◌, ℕ, ◌+◌, ◌≤◌, ◌<◌, ◌^◌, Bool, List, [], length, Option, Some, None, Result, Ok, Err, IfSome, refl, ap, subst, arith}
+use Rattle.std.specs.Prelude.{IfErr, OnOk}
 use Rattle.block_disk.specs.View.{Image, View, Honest, sent_now}
-use Rattle.chart_service.specs.MomentLaws.{since_both, since_none, since_so}
+use Rattle.chart_service.specs.MomentLaws.{since_both, since_none}
 use Rattle.chart_service.specs.Moments.{Since}
 use Rattle.disk_store.proofs.Lowered.{holds_closed, lowered_is, lowered_readable}
 use Rattle.disk_store.specs.Held.{HoldsBook}
@@ -18,14 +17,15 @@ use Rattle.stored_book.specs.Damage.{IsBadForRequest}
 use Rattle.stored_book.specs.Standing.{StandsForBook, RecoversTo}
 use Rattle.store_commands.proofs.Held.{held, risen_since, stands_held, within_held}
 use Rattle.store_commands.proofs.Moments.{opened_goes, opened_quiet, since_opened}
-use Rattle.store_commands.specs.Books.{HoldsAgain, Never, OfBook}
 use Rattle.store_commands.specs.Damaged.{IsDamagedLater}
 use Rattle.live_command.specs.Doing.{IsCause, Side}
-use Rattle.live_command.specs.Ended.{Holds, LeavesLived, LivesAll, ReadsFrom, ReadsLiving, begun_live}
+use Rattle.live_command.specs.Ended.{Holds, LeavesLived, LivesAll, ReadsFrom, ReadsLiving, SyncsLiving, begun_live}
+use Rattle.live_command.specs.Syncs.{SyncsLines}
+use Rattle.live_command.proofs.SyncLemmas.{nothing_synced}
 use Rattle.live_command.specs.Reads.{ReadsLines}
 use Rattle.live_command.proofs.ReadLemmas.{none_read}
 use Rattle.live_command.specs.Ending.{IsEndCause, StopsAt, Served}
-use Rattle.live_command.specs.Running.{EndsSo, IsAhead, SendsAll, SendsFirst}
+use Rattle.live_command.specs.Running.{EndsSo, IsAhead, SendsAll}
 use Rattle.chart_service.specs.declared.failure.ServeEnd.{ServeEnd}
 use Rattle.chart_service.specs.declared.failure.ServeEnd.TheVariants.{ReadFault, SendFault, DiskFault, Damaged, InputTooLong, NoMemory}
 use Rattle.chart_service.specs.Stepping.{state_of}
@@ -299,3 +299,17 @@ reads_on count old mid new left_mid left counted opens same reads =
 
 pub reads_unopened : (old new : View) (left : Option (List ℕ)) → Opens (page_count old.size) old new → IfSome left (λ input. ReadsLiving old new input)
 reads_unopened old new left opens = told_each left (λ input. ReadsLiving old new input) (λ input. (new.reads, opens.reads.high, λ total book holds. none_read input (begun_live total book) new.reads))
+
+-- ---- and how often it was synced
+
+pub syncs_on : (old mid new : View) (left_mid left : Option (List ℕ)) → Opens (page_count old.size) old mid → left_mid ≡ left → IfSome left_mid (λ input. SyncsLines input mid.syncs new.syncs) → IfSome left (λ input. SyncsLiving old new input)
+syncs_on old mid new left_mid left opens same syncs =
+    let L : Option (List ℕ) → Type 0 = λ l. IfSome l (λ input. SyncsLines input mid.syncs new.syncs) in
+    opened left (subst L same syncs)
+  where
+    opened : (o : Option (List ℕ)) → IfSome o (λ input. SyncsLines input mid.syncs new.syncs) → IfSome o (λ input. SyncsLiving old new input)
+    opened None syncs = tt
+    opened (Some input) syncs = (mid.syncs, opens.syncs.high, syncs)
+
+pub syncs_unopened : (old new : View) (left : Option (List ℕ)) → Opens (page_count old.size) old new → IfSome left (λ input. SyncsLiving old new input)
+syncs_unopened old new left opens = told_each left (λ input. SyncsLiving old new input) (λ input. (new.syncs, opens.syncs.high, nothing_synced input new.syncs))

@@ -1,7 +1,7 @@
 -- What calls move, whatever the pages are.
-use Rattle.std.proofs.Common.{◌≡◌, ◌∙◌, ℕ, ◌≤◌, List, Option, refl, ap, sym, subst, arith, inl, inr}
+use Rattle.std.proofs.Common.{◌≡◌, ◌∙◌, ℕ, ◌≤◌, List, refl, ap, sym, subst, arith, inl, inr}
 use Rattle.block_disk.specs.Counts.{HasRisen}
-use Rattle.block_disk.specs.View.{Beside, DiskKept, View}
+use Rattle.block_disk.specs.View.{Beside, DiskKept}
 use Rattle.chart_service.specs.Serving.{end_of_step}
 use Rattle.chart_service.specs.Stepping.{NamesBad, Steps}
 use Rattle.chart_service.specs.declared.failure.ServeEnd.{ServeEnd}

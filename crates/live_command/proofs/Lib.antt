@@ -2,6 +2,7 @@ pub mod EventLemmas
 pub mod LineLemmas
 pub mod RunLemmas
 pub mod ReadLemmas
+pub mod SyncLemmas
 pub mod GoesLemmas
 pub mod LiveShown
 pub mod DiskLemmas

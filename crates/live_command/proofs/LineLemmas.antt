@@ -1,8 +1,8 @@
 -- A line is answered and its frame is sent, or a push is made; and what comes of several of them.
-use Rattle.std.proofs.Common.{◌≡◌, ◌≢◌, ◌∙◌, ℕ, ◌+◌, ◌<◌, ◌≤◌, List, [], ◌∷◌, ◌++◌, length, Option, Some, None, Result, Ok, Err, IfSome, refl, ap, sym, subst, arith, inl, inr, append_assoc, length-append}
+use Rattle.std.proofs.Common.{◌≡◌, ◌∙◌, ℕ, ◌+◌, ◌<◌, ◌≤◌, List, [], ◌∷◌, ◌++◌, length, Option, Some, None, Result, Ok, Err, IfSome, refl, ap, sym, subst, arith, inl, inr, append_assoc, length-append}
 use Rattle.std.specs.Prelude.{OnOk, IfErr}
 use Rattle.std.proofs.lemmas.List.{append-nil}
-use Rattle.block_disk.specs.Streams.{sent_after, PartSent}
+use Rattle.block_disk.specs.Streams.{sent_after}
 use Rattle.block_disk.specs.View.{Image, View, DiskKept, Now, Only, Passes, sent_now}
 use Rattle.chart_frames.specs.declared.frame.Frame.{Frame}
 use Rattle.chart_frames.specs.Frames.{spelling}
@@ -18,16 +18,15 @@ use Rattle.chart_service.specs.declared.failure.ServeEnd.{ServeEnd}
 use Rattle.chart_service.specs.declared.failure.ServeEnd.TheVariants.{ReadFault, SendFault, DiskFault, Damaged, InputTooLong, NoMemory}
 use Rattle.chart_service.specs.declared.failure.ServiceError.{ServiceError}
 use Rattle.chart_service.specs.declared.failure.ServiceError.TheVariants as step
-use Rattle.gate_pages.proofs.Moving.{sent_same}
 use Rattle.gate_pages.specs.Pages.{Quiet}
 use Rattle.live_service.specs.LiveReplies.{LiveState, ReadsPush}
-use Rattle.live_service.specs.Shown.{IsAfterAnswer, IsBeforeOrAfter, live_of}
+use Rattle.live_service.specs.Shown.{IsBeforeOrAfter}
 use Rattle.series_book.specs.declared.one_series.Series.{Series}
 use Rattle.stored_book.specs.Standing.{StandsForBook}
-use Rattle.live_command.specs.Doing.{AreFirst, DoesLines, FrameStops, Held, LinesCut, LinesDone, LinesMoment, LinesRead, LinesSent, LinesSome, LinesStop, held_with}
+use Rattle.live_command.specs.Doing.{AreFirst, DoesLines, FrameStops, Held, LinesDone, LinesMoment, LinesRead, LinesStop, held_with}
 use Rattle.live_command.specs.Lives.{LivesBy, spelled}
 use Rattle.live_command.specs.Reads.{ReadsBy}
-use Rattle.live_command.proofs.EventLemmas.{by_more, by_none, length_more, length_one, reads_more, reads_none, sent_then, spelled_more, spelled_one}
+use Rattle.live_command.proofs.EventLemmas.{by_more, by_none, length_more, length_one, reads_more, reads_none, sent_then, spelled_one}
 
 pub any_told : {Q : Type 0} → Q → (b : Option (List ℕ)) → IfSome b (λ bytes. Q)
 any_told {Q} is None = tt

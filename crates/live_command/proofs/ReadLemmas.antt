@@ -1,10 +1,9 @@
 -- How many blocks the lines so far have read, and the pushes behind them.
-use Rattle.std.proofs.Common.{◌≡◌, ◌∙◌, ℕ, Bool, true, false, cond, List, length, [], ◌∷◌, ◌++◌, Option, Some, None, Result, Ok, Err, IfSome, refl, ap, sym, subst, inl, inr}
+use Rattle.std.proofs.Common.{◌≡◌, ◌∙◌, ℕ, Bool, true, false, cond, List, length, [], ◌∷◌, ◌++◌, Option, Some, None, Result, Ok, IfSome, refl, ap, sym, subst, inl, inr}
 use Rattle.std.specs.List.{filter, after_first}
 use Rattle.std.proofs.lemmas.List.{append-nil}
 use Rattle.block_disk.specs.View.{Image, View}
 use Rattle.chart_frames.specs.declared.frame.Frame.{Frame}
-use Rattle.chart_service.specs.ReadingBlocks.{ReadsLine}
 use Rattle.chart_service.specs.Serving.{told, unless_empty}
 use Rattle.chart_service.specs.State.{IsSound}
 use Rattle.chart_service.specs.Stepping.{state_of}
@@ -14,10 +13,10 @@ use Rattle.chart_world.specs.Fronts.{says, BeginsWith, Gives, first_piece}
 use Rattle.chart_world.specs.LineLaws.{lines_none, piece_line, said, told_more}
 use Rattle.chart_world.specs.Lines.{is_line_feed, lines}
 use Rattle.chart_world.specs.Reading.{Reading, unread, unread_input}
-use Rattle.live_service.specs.LiveReplies.{LiveState, ReadsPush}
+use Rattle.live_service.specs.LiveReplies.{LiveState}
 use Rattle.series_book.specs.declared.one_series.Series.{Series}
 use Rattle.stored_book.specs.Standing.{StandsForBook}
-use Rattle.live_command.specs.Doing.{AreFirst, DoesLines, Held, LinesDone, LinesRead, held_with}
+use Rattle.live_command.specs.Doing.{DoesLines, Held, LinesDone, LinesRead, held_with}
 use Rattle.live_command.specs.Reads.{ReadsBy, ReadsLines}
 use Rattle.live_command.proofs.EventLemmas.{reads_more, reads_none}
 

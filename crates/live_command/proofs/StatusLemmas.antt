@@ -1,19 +1,16 @@
 -- How `live` ends, by its status.
-use Rattle.std.proofs.Common.{◌≡◌, ◌≢◌, ◌∙◌, ℕ, zero, suc, ◌+◌, ◌≤◌, ◌<◌, ◌⊎◌, ◌^◌, List, [], ◌∷◌, length, Option, Some, None, Result, Ok, Err, IfSome, refl, ap, sym, subst, inl, inr, arith}
-use Rattle.std.specs.Prelude.{Contains}
-use Rattle.block_disk.specs.Counts.{HasRisen}
-use Rattle.block_disk.specs.View.{Image, View, Honest, sent_now}
+use Rattle.std.proofs.Common.{◌≡◌, ◌∙◌, ℕ, List, [], Option, Some, None, Result, Ok, Err, IfSome, refl, sym, subst, inl, inr, arith}
+use Rattle.block_disk.specs.View.{View, Honest, sent_now}
 use Rattle.chart_service.specs.SentLaws.{sent_none}
 use Rattle.disk_store.specs.Held.{HoldsBook}
 use Rattle.disk_store.specs.Openings.{IsOutside, Opens, Prevents}
 use Rattle.disk_store.specs.declared.causes.OpeningCause.{OpeningCause}
 use Rattle.disk_store.specs.declared.causes.OpeningCause.TheVariants as opening
 use Rattle.gate_pages.specs.Journal.{page_count}
-use Rattle.gate_pages.specs.Pages.{GoesOn}
 use Rattle.series_book.specs.declared.one_series.Series.{Series}
 use Rattle.stored_book.specs.Standing.{RecoversTo}
 use Rattle.store_commands.proofs.Held.{held}
-use Rattle.store_commands.proofs.Moments.{opened_goes, opened_quiet, since_opened}
+use Rattle.store_commands.proofs.Moments.{opened_goes, since_opened}
 use Rattle.store_commands.specs.Books.{HoldsAgain, Never, OfBook}
 use Rattle.store_commands.specs.Codes.{low_code, unopened}
 use Rattle.store_commands.specs.Status.{opening_status}

@@ -16,6 +16,7 @@ use Rattle.store_commands.specs.Damaged.{IsDamagedAtFirst, IsDamagedLater}
 use Rattle.store_commands.specs.Traffic.{Traffic}
 use Rattle.store_commands.specs.declared.status.Status.{Status}
 use Rattle.live_command.specs.Reads.{ReadsLines}
+use Rattle.live_command.specs.Syncs.{SyncsLines}
 use Rattle.live_command.specs.Running.{IsAhead, SendsAll, SendsLines, SendsPart, SendsSome, SendsTaken, SendsWithin}
 
 -- how the command begins: with the book that the disk holds, no session, and so no one that follows
@@ -63,6 +64,10 @@ ReadsFrom count old new input from = OfBook count old (λ total book. ReadsLines
 -- an opening reads 200 blocks at most, and then they read
 abbrev pub ReadsLiving : View → View → List ℕ → Type 0
 ReadsLiving old new input = (opened : ℕ) × (opened ≤ old.reads + 200) × ReadsFrom (page_count old.size) old new input opened
+
+-- an opening syncs three times at most, and then the lines sync
+abbrev pub SyncsLiving : View → View → List ℕ → Type 0
+SyncsLiving old new input = (opened : ℕ) × (opened ≤ old.syncs + 3) × SyncsLines input opened new.syncs
 
 -- The block at this place was found damaged at the opening, and then no input was taken and nothing was sent; or it is a
 -- page that an answer or a push found so.

@@ -1,5 +1,5 @@
 -- What is done over a store on a disk. Private contracts are stated by these words.
-use Rattle.std.specs.Prelude.{◌≡◌, ℕ, ◌+◌, ◌≤◌, ◌^◌, List, length, Option, Result, Ok, Err, IfErr, IfSome, OnOk, ⊤}
+use Rattle.std.specs.Prelude.{ℕ, ◌+◌, ◌≤◌, ◌^◌, List, length, Option, Result, Ok, Err, IfErr, IfSome, OnOk, ⊤}
 use Rattle.block_disk.specs.Counts.{HasRisen}
 use Rattle.block_disk.specs.View.{View}
 use Rattle.chart_service.specs.declared.failure.ServeEnd.{ServeEnd}

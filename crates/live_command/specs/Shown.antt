@@ -1,5 +1,5 @@
 -- The lines of a live service's streams, in the words of the service.
-use Rattle.std.specs.Prelude.{ℕ, List, Option, IfSome}
+use Rattle.std.specs.Prelude.{ℕ, List, IfSome}
 use Rattle.block_disk.specs.View.{sent_now}
 use Rattle.block_disk.specs.declared.streams.Streams.{Ghosts as StreamGhosts}
 use Rattle.block_disk.specs.declared.streams.Streams as streams

@@ -1,10 +1,11 @@
 //! A line is answered, and the pushes behind it are made: each frame is sent before the next is made.
-ghost use Rattle.std.specs.Prelude.{◌≡◌, ◌≢◌, ◌≤◌, ◌<◌, [], ◌∷◌, Some, None, Err, length, IfErr, IfOk, OnOk, OnErr};
+ghost use Rattle.std.specs.Prelude.{◌≡◌, ◌≢◌, ◌≤◌, ◌<◌, ◌+◌, ◌*◌, [], ◌∷◌, Some, None, Err, length, IfErr, IfOk, OnOk, OnErr};
 ghost use Rattle.block_disk.specs.Counts.{HasRisen};
 ghost use Rattle.block_disk.specs.Streams.{sent_after};
 ghost use Rattle.chart_frames.specs.Frames.{Fits, spelling};
 ghost use Rattle.chart_service.specs.Serving.{end_of_step, unless_empty};
 ghost use Rattle.chart_service.specs.Shown as shown;
+ghost use Rattle.chart_service.specs.Syncing.{edit_of, edits_of};
 ghost use Rattle.live_service.specs.Shown as its;
 ghost use Rattle.live_view.specs.Live as follows;
 ghost use Rattle.live_command.specs.Doing.{DoesFor, FrameStops, Goes, IsCause, side_of};
@@ -65,6 +66,7 @@ pub(crate) fn refuse_line<P: PageWorld>(
     ensures goes { Goes (side_of P.Streams live.old) (side_of P.Streams live.new) }
     ensures cause { IfErr result (λ e. IsCause e (side_of P.Streams live.old) (side_of P.Streams live.new)) }
     ensures sound { result ≢ Err ServeEnd.DiskFault → (its.view live.new).fit }
+    ensures syncs { (its.view live.new).syncs ≡ (its.view live.old).syncs }
     ensures idle { OnOk result (follows.IsIdle live.new) }
     ensures left { P.left (pages live.new) ≡ P.left (pages live.old) }
 {
@@ -84,6 +86,7 @@ fn answer_frame<P: PageWorld>(
     ensures goes { Goes (side_of P.Streams live.old) (side_of P.Streams live.new) }
     ensures cause { IfErr result (λ e. IsCause e (side_of P.Streams live.old) (side_of P.Streams live.new)) }
     ensures sound { result ≢ Err ServeEnd.DiskFault → (its.view live.new).fit }
+    ensures syncs { (its.view live.new).syncs ≤ (its.view live.old).syncs + 4 * length (edit_of (Some line.now)) }
     ensures left { P.left (pages live.new) ≡ P.left (pages live.old) }
 {
     match step_line(live, line) {
@@ -103,6 +106,7 @@ fn send_push<P: PageWorld>(
     ensures goes { Goes (side_of P.Streams live.old) (side_of P.Streams live.new) }
     ensures cause { IfErr result (λ e. IsCause e (side_of P.Streams live.old) (side_of P.Streams live.new)) }
     ensures sound { result ≢ Err ServeEnd.DiskFault → (its.view live.new).fit }
+    ensures syncs { (its.view live.new).syncs ≡ (its.view live.old).syncs }
     ensures left { P.left (pages live.new) ≡ P.left (pages live.old) }
     ensures fewer { OnOk result (length (follows.pending live.new) < length (follows.pending live.old)) }
 {
@@ -123,6 +127,7 @@ fn send_pushes<P: PageWorld>(
     ensures goes { Goes (side_of P.Streams live.old) (side_of P.Streams live.new) }
     ensures cause { IfErr result (λ e. IsCause e (side_of P.Streams live.old) (side_of P.Streams live.new)) }
     ensures sound { result ≢ Err ServeEnd.DiskFault → (its.view live.new).fit }
+    ensures syncs { (its.view live.new).syncs ≡ (its.view live.old).syncs }
     ensures left { P.left (pages live.new) ≡ P.left (pages live.old) }
     ensures idle { OnOk result (follows.IsIdle live.new) }
 {
@@ -148,6 +153,7 @@ pub(crate) fn answer_line<P: PageWorld>(
     ensures goes { Goes (side_of P.Streams live.old) (side_of P.Streams live.new) }
     ensures cause { IfErr result (λ e. IsCause e (side_of P.Streams live.old) (side_of P.Streams live.new)) }
     ensures sound { result ≢ Err ServeEnd.DiskFault → (its.view live.new).fit }
+    ensures syncs { (its.view live.new).syncs ≤ (its.view live.old).syncs + 4 * length (edits_of (unless_empty (Some line.now))) }
     ensures left { P.left (pages live.new) ≡ P.left (pages live.old) }
     ensures idle { OnOk result (follows.IsIdle live.new) }
 {

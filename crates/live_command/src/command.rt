@@ -5,7 +5,8 @@ ghost use Rattle.chart_service.specs.Shown as shown;
 ghost use Rattle.series_store.specs.Shown as stored;
 ghost use Rattle.store_commands.specs.Away.{TurnsAway};
 ghost use Rattle.store_commands.specs.Traffic.{traffic};
-ghost use Rattle.live_command.specs.Ended.{EndsLive, ReadsFrom, ReadsLiving};
+ghost use Rattle.live_command.specs.Ended.{EndsLive, ReadsFrom, ReadsLiving, SyncsLiving};
+ghost use Rattle.live_command.specs.Syncs.{SyncsLines};
 ghost use Rattle.live_command.specs.Ending.{ServedOn, answer_status};
 
 use crate::serving::serve_live;
@@ -28,6 +29,8 @@ pub fn live<W: World>(alloc: Global, world: W) -> (Status, W)
     ensures ends { EndsLive (W.view world) (W.view result.1) (traffic W.left W.sent W.read_faults W.send_faults world result.1) result.0 }
     // blocks are read by the opening, the lines and the pushes alone
     ensures reads { IfSome (W.left world) (λ input. ReadsLiving (W.view world) (W.view result.1) input) }
+    // and it is synced by the opening, and for edits alone
+    ensures syncs { IfSome (W.left world) (λ input. SyncsLiving (W.view world) (W.view result.1) input) }
     ensures away { TurnsAway (W.view world) (traffic W.left W.sent W.read_faults W.send_faults world result.1) result.0 }
 {
     match open_store(alloc, world) {
@@ -44,6 +47,7 @@ fn serve_store<W: World>(alloc: Global, store: Store<GatePages<W>>) -> (Result<(
     requires { IsTrue (stored.pages store).sound }
     ensures serves { let pages = stored.pages store in ServedOn pages.count (W.view pages.disk) (W.view result.1) (traffic W.left W.sent W.read_faults W.send_faults pages.disk result.1) result.0 }
     ensures reads { let pages = stored.pages store in IfSome (W.left pages.disk) (λ input. ReadsFrom pages.count (W.view pages.disk) (W.view result.1) input (W.view pages.disk).reads) }
+    ensures syncs { let pages = stored.pages store in IfSome (W.left pages.disk) (λ input. SyncsLines input (W.view pages.disk).syncs (W.view result.1).syncs) }
 {
     match Service::new(alloc, store) {
         Ok(service) => serve_service(alloc, service),
@@ -60,6 +64,7 @@ fn serve_service<W: World>(
     requires alone { service.sessions ≡ [] }
     ensures serves { let pages = shown.pages service in ServedOn pages.count (W.view pages.disk) (W.view result.1) (traffic W.left W.sent W.read_faults W.send_faults pages.disk result.1) result.0 }
     ensures reads { let pages = shown.pages service in IfSome (W.left pages.disk) (λ input. ReadsFrom pages.count (W.view pages.disk) (W.view result.1) input (W.view pages.disk).reads) }
+    ensures syncs { let pages = shown.pages service in IfSome (W.left pages.disk) (λ input. SyncsLines input (W.view pages.disk).syncs (W.view result.1).syncs) }
 {
     service.is_sound();
     let mut live = Live::new(alloc, ServiceStepper::new(service));

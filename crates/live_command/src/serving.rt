@@ -5,6 +5,7 @@ ghost use Rattle.chart_world.specs.Reading.{unread_input};
 ghost use Rattle.live_service.specs.Shown as its;
 ghost use Rattle.live_view.specs.Live as follows;
 ghost use Rattle.live_command.specs.Doing.{Goes, IsCause, side_of};
+ghost use Rattle.live_command.specs.Syncs.{SyncsLines};
 ghost use Rattle.live_command.specs.Shown.{AreAnswered, HoldsSound, LastsFor, ReadsFew, StopSo, pages};
 
 use crate::answering::{answer_line, refuse_line};
@@ -42,6 +43,8 @@ pub fn serve_live<P: PageWorld>(
     ensures crash { its.ForBook live.old (λ total book. LastsFor P.Streams total book live.old live.new) }
     // blocks are read by the lines and the pushes alone, by each as few as it may
     ensures reads { its.ForBook live.old (λ total book. ReadsFew P.Streams total book live.old live.new) }
+    // the disk is synced for edits alone, at most four times for each
+    ensures syncs { IfSome (P.left (pages live.old)) (λ input. SyncsLines input (its.view live.old).syncs (its.view live.new).syncs) }
     // whatever the pages are
     ensures goes { Goes (side_of P.Streams live.old) (side_of P.Streams live.new) }
     ensures cause { IfErr result (λ e. IsCause e (side_of P.Streams live.old) (side_of P.Streams live.new)) }
@@ -68,6 +71,7 @@ fn answer_lines<P: PageWorld>(
     ensures stops { its.ForBook live.old (λ total book. IfErr result (StopSo P.Streams total book live.old live.new)) }
     ensures crash { its.ForBook live.old (λ total book. LastsFor P.Streams total book live.old live.new) }
     ensures reads { its.ForBook live.old (λ total book. ReadsFew P.Streams total book live.old live.new) }
+    ensures syncs { IfSome (P.left (pages live.old)) (λ input. SyncsLines input (its.view live.old).syncs (its.view live.new).syncs) }
     ensures goes { Goes (side_of P.Streams live.old) (side_of P.Streams live.new) }
     ensures cause { IfErr result (λ e. IsCause e (side_of P.Streams live.old) (side_of P.Streams live.new)) }
     ensures sound { result ≢ Err ServeEnd.DiskFault → (its.view live.new).fit }

@@ -195,7 +195,7 @@ returns-in-Live g c =
     let status = c.live.result.0 in
     let faults = faults_of (reads old) (reads new) (sends old) (sends new) in
     let P : Command → Type 0 = λ command. CommandEnds command (view old) (view new) (left old) (left new) (sent old) (sent new) faults status.code status.place in
-    subst P (sym c.in-Live.is) (live_ends (view old) (view new) (left old) (left new) (sent old) (sent new) faults status.code status.place c.live.ensures.ends c.live.ensures.away c.live.ensures.reads)
+    subst P (sym c.in-Live.is) (live_ends (view old) (view new) (left old) (left new) (sent old) (sent new) faults status.code status.place c.live.ensures.ends c.live.ensures.away c.live.ensures.reads c.live.ensures.syncs)
 
 pub returns-in-Derive : goal.returns-in-Derive
 returns-in-Derive g c =

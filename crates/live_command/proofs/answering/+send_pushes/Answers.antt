@@ -1,7 +1,4 @@
-use Rattle.std.proofs.Common.{rules, arith, ◌∙◌, [], ◌∷◌, List, Option, None, Some, Ok, length, refl, ap, sym, subst, ℕ}
-use Rattle.chart_service.specs.Shown as shown
-use Rattle.live_service.specs.LiveReplies.{LiveReplied, Pushed}
-use Rattle.live_service.specs.Shown as its
+use Rattle.std.proofs.Common.{rules, arith, [], refl}
 use Rattle.live_command.specs.Doing.{held_by, held_with}
 use Rattle.live_command.specs.Shown.{pages}
 use Rattle.live_command.proofs.LineLemmas.{still_does, then_does}

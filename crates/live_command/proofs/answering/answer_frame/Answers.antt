@@ -1,16 +1,16 @@
-use Rattle.std.proofs.Common.{◌∙◌, [], ◌∷◌, List, Option, None, Some, length, refl, ap, sym, subst, arith, ℕ}
+use Rattle.std.proofs.Common.{◌≡◌, ◌∙◌, [], ◌∷◌, List, Option, Some, length, ap, sym, subst, arith, ℕ}
 use Rattle.block_disk.specs.View.{Beside}
 use Rattle.chart_frames.specs.Frames.{spelling}
 use Rattle.chart_frames.specs.declared.frame.Frame.{Frame}
-use Rattle.live_service.specs.LiveReplies.{LiveReplied, LiveState, Pushed}
+use Rattle.live_service.specs.LiveReplies.{LiveReplied, LiveState}
 use Rattle.live_command.specs.Lives.{LivesBy}
-use Rattle.live_service.specs.Shown as its
-use Rattle.chart_service.specs.Shown as shown
 use Rattle.live_command.specs.Doing.{held_by, held_with}
 use Rattle.live_command.specs.Shown.{pages}
 use Rattle.chart_service.proofs.Sending.{text_is}
 use Rattle.chart_service.specs.ReadingBlocks.{ReadsLine}
 use Rattle.chart_service.specs.Replies.{line_text}
+use Rattle.chart_service.specs.Syncing.{edit_of}
+use Rattle.live_command.proofs.SyncLemmas.{edit_syncs}
 use Rattle.gate_pages.proofs.Moving.{sent_same}
 use Rattle.live_command.proofs.EventLemmas.{by_answer, reads_answer, sound_replied}
 use Rattle.live_command.proofs.GoesLemmas.{held_same}
@@ -74,3 +74,27 @@ returns-in-Err-clause-does g c = λ total book told stands sound.
     (sym (w.beside_sent between) ∙ ap (λ (b : Beside). b.sent) e.steps.beside ∙ w.beside_sent at)
     (made_moments (Some text ∷ []) total state Reply one (view at) (view between) passes)
     (line_read (Some text) state (view at).reads (view between).reads (subst R (text_is text c.requires.short) (e.reads total book told stands)))
+
+pub returns-in-Ok-clause-syncs : goal.returns-in-Ok-clause-syncs
+returns-in-Ok-clause-syncs g c =
+    let view = g.P.Pages.view in
+    let w = g.met.P.PageWorld in
+    let at = pages c.args.live.now in
+    let mid = pages c.step_line.new.live in
+    let new = pages c.send_frame.new.live in
+    let e = c.in-Ok.ensures in
+    let text = c.args.line.now in
+    let kept = w.send_keeps (length (spelling c.in-Ok.frame)) mid new c.send_frame.ensures.beside.changed.store_is.pages_are in
+    let L : Option (List ℕ) → Type 0 = λ l. edit_of l ≡ [] → (view mid).syncs ≡ (view at).syncs in
+    let few = edit_syncs (edit_of (Some text)) (view at).syncs (view mid).syncs e.steps.syncs.high (subst L (text_is text c.requires.short) (λ none. (e.idle none).syncs)) in
+    omega (arith, few, kept.syncs)
+
+pub returns-in-Err-clause-syncs : goal.returns-in-Err-clause-syncs
+returns-in-Err-clause-syncs g c =
+    let view = g.P.Pages.view in
+    let at = pages c.args.live.now in
+    let mid = pages c.step_line.new.live in
+    let e = c.in-Err.ensures in
+    let text = c.args.line.now in
+    let L : Option (List ℕ) → Type 0 = λ l. edit_of l ≡ [] → (view mid).syncs ≡ (view at).syncs in
+    edit_syncs (edit_of (Some text)) (view at).syncs (view mid).syncs e.steps.syncs.high (subst L (text_is text c.requires.short) (λ none. (e.idle none).syncs))

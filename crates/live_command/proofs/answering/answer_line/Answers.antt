@@ -1,5 +1,8 @@
-use Rattle.std.proofs.Common.{◌≡◌, ◌<◌, [], ◌∷◌, Some, length, arith, ℕ}
+use Rattle.std.proofs.Common.{◌≡◌, ◌<◌, [], ◌∷◌, Some, length, refl, arith}
 use Rattle.std.proofs.lemmas.Grind.{common_steps}
+use Rattle.chart_service.specs.Serving.{unless_empty}
+use Rattle.chart_service.specs.Syncing.{edits_of}
+use Rattle.live_command.proofs.SyncLemmas.{none_syncs, text_syncs}
 use Rattle.live_command.specs.Doing.{held_by, held_with}
 use Rattle.live_command.specs.Shown.{pages}
 use Rattle.live_command.proofs.LineLemmas.{line_empty, line_some, then_does}
@@ -37,3 +40,20 @@ returns-in-Err-clause-does g c = λ total book told stands sound.
     let text = c.args.line.now in
     let some : 0 < length c.args.line.now = grind (arith, common_steps) in
     line_some text total (held_with total book (held_by old)) _ (view (pages old)) (view (pages new)) (held_by new) (sent (pages old)) (sent (pages new)) some (c.in-Err.ensures.does total book told stands sound)
+
+pub returns-then-is_empty-clause-syncs : goal.returns-then-is_empty-clause-syncs
+returns-then-is_empty-clause-syncs g c =
+    let count = (g.P.Pages.view (pages c.args.live.now)).syncs in
+    none_syncs (edits_of (unless_empty (Some c.args.line.now))) count count refl
+
+pub returns-in-Ok-clause-syncs : goal.returns-in-Ok-clause-syncs
+returns-in-Ok-clause-syncs g c =
+    let view = g.P.Pages.view in
+    let some : 0 < length c.args.line.now = grind (arith, common_steps) in
+    text_syncs c.args.line.now (view (pages c.args.live.now)).syncs (view (pages c.send_pushes.new.live)).syncs some (omega (arith, c.in-Ok.ensures.syncs, c.send_pushes.ensures.syncs))
+
+pub returns-in-Err-clause-syncs : goal.returns-in-Err-clause-syncs
+returns-in-Err-clause-syncs g c =
+    let view = g.P.Pages.view in
+    let some : 0 < length c.args.line.now = grind (arith, common_steps) in
+    text_syncs c.args.line.now (view (pages c.args.live.now)).syncs (view (pages c.answer_frame.new.live)).syncs some c.in-Err.ensures.syncs

@@ -1,10 +1,6 @@
-use Rattle.std.proofs.Common.{◌∙◌, [], ◌∷◌, List, Option, None, Some, length, refl, ap, sym, subst, arith, ℕ}
-use Rattle.block_disk.specs.View.{Beside}
+use Rattle.std.proofs.Common.{[], ◌∷◌, None, length, refl}
 use Rattle.chart_frames.specs.Frames.{spelling}
-use Rattle.chart_frames.specs.declared.frame.Frame.{Frame}
-use Rattle.live_service.specs.LiveReplies.{LiveReplied, Pushed}
-use Rattle.live_service.specs.Shown as its
-use Rattle.chart_service.specs.Shown as shown
+use Rattle.live_service.specs.LiveReplies.{LiveReplied}
 use Rattle.live_command.specs.Doing.{held_by, held_with}
 use Rattle.live_command.specs.Shown.{pages}
 use Rattle.chart_service.specs.MomentLaws.{through_none}
@@ -32,3 +28,9 @@ returns-clause-does g c = λ total book told stands sound.
     (long_replied frame state c.refused.ensures.frame c.refused.ensures.fits sound c.requires.idle) sound (view at) (view at) (view at') (sent at) (sent at) (sent at') stands (through_none (view at) _) refl refl
     (reads_answer None frame state state (view at).reads (view at).reads c.requires.idle (long_replied frame state c.refused.ensures.frame c.refused.ensures.fits sound c.requires.idle) refl)
     (w.send_keeps n at at' sends) c.send_frame.result made.whole made.stops (g.met.P.Pages.rests at c.requires.sound) (w.send_passes n at at' sends) (w.send_counts n at at' sends)
+
+pub returns-clause-syncs : goal.returns-clause-syncs
+returns-clause-syncs g c =
+    let w = g.met.P.PageWorld in
+    let n = length (spelling c.refused.result) in
+    (w.send_keeps n (pages c.args.live.now) (pages c.send_frame.new.live) c.send_frame.ensures.beside.changed.store_is.pages_are).syncs

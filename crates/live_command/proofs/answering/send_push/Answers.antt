@@ -1,7 +1,6 @@
-use Rattle.std.proofs.Common.{◌∙◌, [], ◌∷◌, List, Option, None, Some, Ok, length, refl, ap, sym, subst, arith, ℕ}
-use Rattle.chart_service.specs.Shown as shown
+use Rattle.std.proofs.Common.{◌∙◌, [], ◌∷◌, length, ap, sym, subst}
 use Rattle.chart_frames.specs.declared.frame.Frame.{Frame}
-use Rattle.live_service.specs.LiveReplies.{LiveReplied, LiveState, Pushed}
+use Rattle.live_service.specs.LiveReplies.{LiveState, Pushed}
 use Rattle.live_command.specs.Lives.{LivesBy}
 use Rattle.live_service.specs.Shown as its
 use Rattle.live_command.specs.Doing.{held_by, held_with}
@@ -58,3 +57,11 @@ returns-in-Err-clause-does g c = λ total book told stands sound.
     (sym (w.beside_sent between) ∙ ap (λ (b : Beside). b.sent) e.steps.beside ∙ w.beside_sent at)
     (push_moments [] total state (view at) (view between) (g.met.P.Pages.rests at c.requires.sound) stands e.moments)
     (push_read state (view at).reads (view between).reads (e.reads total book told stands))
+
+pub returns-in-Ok-Some-clause-syncs : goal.returns-in-Ok-Some-clause-syncs
+returns-in-Ok-Some-clause-syncs g c =
+    let w = g.met.P.PageWorld in
+    (w.send_keeps (length (spelling c.in-Ok-Some.frame)) (pages c.push.new.live) (pages c.send_frame.new.live) c.send_frame.ensures.beside.changed.store_is.pages_are).syncs ∙ c.in-Ok-Some.ensures.unchanged.syncs
+
+pub returns-in-Err-clause-syncs : goal.returns-in-Err-clause-syncs
+returns-in-Err-clause-syncs g c = c.in-Err.ensures.unchanged.syncs

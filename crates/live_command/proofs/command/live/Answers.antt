@@ -2,7 +2,7 @@ use Rattle.std.proofs.Common.{◌∙◌, ap, sym}
 use Rattle.block_disk.specs.View.{Beside}
 use Rattle.series_store.specs.Shown as stored
 use Rattle.store_commands.proofs.TurnedAway.{away_never, away_so}
-use Rattle.live_command.proofs.DiskLemmas.{reads_on, reads_unopened, served_on}
+use Rattle.live_command.proofs.DiskLemmas.{reads_on, reads_unopened, served_on, syncs_on, syncs_unopened}
 use Rattle.live_command.proofs.StatusLemmas.{ends_by, unopened_ends}
 use Rattle.live_command.proofs.command.live.Goals as goal
 
@@ -75,3 +75,19 @@ pub returns-in-Err-clause-reads : goal.returns-in-Err-clause-reads
 returns-in-Err-clause-reads g c =
     let view = g.W.Disk.view in
     reads_unopened (view c.args.world) (view c.in-Err.field-0.value) (g.W.Streams.left c.args.world) c.in-Err.ensures.opens
+
+pub returns-in-Ok-clause-syncs : goal.returns-in-Ok-clause-syncs
+returns-in-Ok-clause-syncs g c =
+    let view = g.W.Disk.view in
+    let left = g.W.Streams.left in
+    let old = c.args.world in
+    let start = (stored.pages c.in-Ok.store).disk in
+    let new = c.serve_store-answer.result.1 in
+    let w = g.met.W.World in
+    syncs_on (view old) (view start) (view new) (left start) (left old) c.in-Ok.ensures.opens
+    (sym (w.beside_left start) ∙ ap (λ (b : Beside). b.left) c.in-Ok.ensures.opens.beside_is ∙ w.beside_left old) c.serve_store-answer.ensures.syncs
+
+pub returns-in-Err-clause-syncs : goal.returns-in-Err-clause-syncs
+returns-in-Err-clause-syncs g c =
+    let view = g.W.Disk.view in
+    syncs_unopened (view c.args.world) (view c.in-Err.field-0.value) (g.W.Streams.left c.args.world) c.in-Err.ensures.opens

@@ -7,6 +7,7 @@ use Rattle.gate_pages.specs.GatePages.{IsClosed}
 use Rattle.live_service.specs.Shown as its
 use Rattle.series_book.specs.declared.one_series.Series.{Series}
 use Rattle.store_commands.proofs.Stores.{store_disk, store_sound}
+use Rattle.live_command.specs.Syncs.{SyncsLines}
 use Rattle.live_command.specs.Ended.{ReadsFrom, begun_live}
 use Rattle.live_command.specs.Ending.{Served}
 use Rattle.live_command.proofs.DiskLemmas.{begins_so, reads_from, served_from}
@@ -67,3 +68,23 @@ returns-clause-reads g c =
     let D : g.row.W.Denot → Type 0 = λ d. IfSome (left disk) (λ input. ReadsFrom pages.count (view disk) (view d) input (view disk).reads) in
     let S : Service _ _ → Type 0 = λ s. IfSome (left (shown.pages s).disk) (λ input. ReadsFrom (shown.pages s).count (view (shown.pages s).disk) (view c.disk_of.result) input (view (shown.pages s).disk).reads) in
     subst S is_service (subst D (sym same_disk) (reads_from pages.count (view disk) (view new) (left disk) (its.state start) begins made.reads))
+
+pub returns-clause-syncs : goal.returns-clause-syncs
+returns-clause-syncs g c =
+    let view = g.W.Disk.view in
+    let left = g.W.Streams.left in
+    let service = c.args.service in
+    let start = c.new-live.result in
+    let after = c.serve_live-answer.new.live in
+    let made = c.serve_live-answer.ensures in
+    let pages = shown.pages (its.service start) in
+    let end_pages = shown.pages (its.service after) in
+    let disk = pages.disk in
+    let new = end_pages.disk in
+    let store = c.into_store.result in
+    let is_service = begun_service start c.new.result service c.new-live.ensures.stepper c.new.ensures in
+    let is_store = ended_store after c.into_stepper.result c.into_service-service.result store c.into_stepper.ensures c.into_service-service.ensures c.into_store.ensures in
+    let same_disk = c.disk_of.ensures.disk ∙ store_disk store (its.service after).store is_store in
+    let D : g.row.W.Denot → Type 0 = λ d. IfSome (left disk) (λ input. SyncsLines input (view disk).syncs (view d).syncs) in
+    let S : Service _ _ → Type 0 = λ s. IfSome (left (shown.pages s).disk) (λ input. SyncsLines input (view (shown.pages s).disk).syncs (view c.disk_of.result).syncs) in
+    subst S is_service (subst D (sym same_disk) made.syncs)

@@ -4,6 +4,8 @@ use Rattle.chart_service.specs.declared.failure.ServeEnd.TheVariants.{NoMemory}
 use Rattle.series_store.specs.Shown as stored
 use Rattle.store_commands.proofs.Stores.{store_disk, store_count, store_sound}
 use Rattle.live_command.specs.Ended.{ReadsFrom}
+use Rattle.live_command.specs.Syncs.{SyncsLines}
+use Rattle.live_command.proofs.SyncLemmas.{syncs_nothing}
 use Rattle.live_command.specs.Ending.{Served}
 use Rattle.live_command.proofs.DiskLemmas.{reads_untaken, served_none}
 use Rattle.live_command.proofs.command.serve_store.Goals as goal
@@ -62,3 +64,21 @@ returns-in-Err-clause-reads g c =
     let back = c.in-Err.field-0.value in
     let D : g.row.W.Denot → Type 0 = λ d. IfSome (left disk) (λ input. ReadsFrom (stored.pages store).count (view disk) (view d) input (view disk).reads) in
     subst D (sym (c.disk_of.ensures.disk ∙ store_disk back store c.in-Err.ensures.back)) (reads_untaken (stored.pages store).count (view disk) (left disk))
+
+pub returns-in-Ok-clause-syncs : goal.returns-in-Ok-clause-syncs
+returns-in-Ok-clause-syncs g c =
+    let view = g.W.Disk.view in
+    let left = g.W.Streams.left in
+    let store = c.args.store in
+    let made = c.in-Ok.service.store in
+    let D : g.row.W.Denot → Type 0 = λ d. IfSome (left d) (λ input. SyncsLines input (view d).syncs (view c.serve_service.result.1).syncs) in
+    subst D (store_disk made store c.in-Ok.ensures.store) c.serve_service.ensures.syncs
+
+pub returns-in-Err-clause-syncs : goal.returns-in-Err-clause-syncs
+returns-in-Err-clause-syncs g c =
+    let view = g.W.Disk.view in
+    let left = g.W.Streams.left in
+    let store = c.args.store in
+    let disk = (stored.pages store).disk in
+    let D : g.row.W.Denot → Type 0 = λ d. IfSome (left disk) (λ input. SyncsLines input (view disk).syncs (view d).syncs) in
+    subst D (sym (c.disk_of.ensures.disk ∙ store_disk c.in-Err.field-0.value store c.in-Err.ensures.back)) (syncs_nothing (left disk) (view disk).syncs)

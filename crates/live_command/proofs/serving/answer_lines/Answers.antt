@@ -1,11 +1,13 @@
-use Rattle.std.proofs.Common.{◌≡◌, ◌∙◌, ℕ, ◌≤◌, List, Option, None, Some, Ok, Err, IsTrue, ◌^◌, length, refl, ap, sym, subst, arith}
-use Rattle.chart_service.specs.Serving.{end_of}
+use Rattle.std.proofs.Common.{◌≡◌, ◌∙◌, ℕ, List, Option, None, Some, Ok, Err, IsTrue, ◌^◌, length, refl, ap, sym, subst, arith}
 use Rattle.chart_world.specs.FrontLaws.{gives_by, read_whole, same_line}
 use Rattle.chart_world.specs.Fronts.{Gives}
 use Rattle.chart_world.specs.Reading.{Reading, input_length, unread}
 use Rattle.live_service.specs.Shown as its
 use Rattle.live_command.proofs.GoesLemmas.{cause_later, goes_further, goes_nowhere, goes_streams, held_same}
 use Rattle.live_command.proofs.ReadLemmas.{FarRead, far_read_first, far_read_kept, far_read_line, reads_far, reads_stopped}
+use Rattle.chart_service.specs.Serving.{unless_empty}
+use Rattle.chart_service.specs.Syncing.{edits_of}
+use Rattle.live_command.proofs.SyncLemmas.{FarSynced, far_synced_first, far_synced_kept, far_synced_line, none_syncs, syncs_far}
 use Rattle.live_command.proofs.RunLemmas.{Far, all_on, far_first, far_kept, far_line, fault_on, lasts_on_first, lasts_on_line, lasts_on_take, line_stops}
 use Rattle.live_command.specs.Doing.{held_by, side_of}
 use Rattle.live_command.specs.Shown.{StopSo, pages}
@@ -29,6 +31,7 @@ lines-init g c =
       idle = c.requires.idle;
       goes = goes_nowhere (side_of g.P.Streams old);
       far = λ total book told stands. far_first o c.args.lines.now total book (view at).image (held_by old) before fresh stands (c.requires.book total book told stands);
+      synced = far_synced_first o c.args.lines.now (view at).syncs fresh;
       read = λ total book told stands. far_read_first o c.args.lines.now total book (view at).image (held_by old) (view at).reads fresh stands (c.requires.book total book told stands);
       lasts = λ total book told stands. lasts_on_first total book (held_by old) o before (view at) (g.met.P.Pages.rests at c.requires.sound) stands;
     }
@@ -140,6 +143,9 @@ lines-preserved-in-Ok-refuse_line g c =
           let far = far_kept (left first) (unread c.lines.lines (left mid)) c.lines.lines.given total state (view mid).image (view taken).image (held_by c.lines.live) (held_by c.next.new.from) (sent first) (sent mid) (sent taken) kept.image same c.next.ensures.sent (inv.far total book told stands) in
           let F : Option (List ℕ) → Type 0 = λ l. Far (left first) (unread c.next.new.self l) c.next.new.self.given total state (view new).image (held_by c.refuse_line.new.live) (sent first) (sent new) in
           subst F (sym it.left) (far_line c.lines.lines c.next.new.self (left mid) (left taken) line gives e.within total state (held_by c.next.new.from) (held_by c.refuse_line.new.live) (view taken) (view new) (sent first) (sent taken) (sent new) c.in-Ok-refuse_line.field-0 (left first) (λ between there sound. it.does total between (goes.is_told told) there sound) far);
+      synced =
+          let F : Option (List ℕ) → Type 0 = λ l. FarSynced (left first) (unread c.next.new.self l) c.next.new.self.given (view first).syncs (view new).syncs in
+          subst F (sym it.left) (far_synced_line (left first) c.lines.lines c.next.new.self (left mid) (left taken) line gives (view first).syncs (view taken).syncs (view new).syncs (none_syncs (edits_of (unless_empty line)) (view taken).syncs (view new).syncs it.syncs) (far_synced_kept (left first) (unread c.lines.lines (left mid)) c.lines.lines.given (view first).syncs (view mid).syncs (view taken).syncs kept.syncs inv.synced));
       read = λ total book told stands.
           let state = its.state start total book in
           let read = far_read_kept (left first) (unread c.lines.lines (left mid)) c.lines.lines.given total state (view mid).image (view taken).image (held_by c.lines.live) (held_by c.next.new.from) (view first).reads (view mid).reads (view taken).reads kept.image same kept.reads (inv.read total book told stands) in
@@ -293,6 +299,9 @@ lines-preserved g c =
           let far = far_kept (left first) (unread c.lines.lines (left mid)) c.lines.lines.given total state (view mid).image (view taken).image (held_by c.lines.live) (held_by c.next.new.from) (sent first) (sent mid) (sent taken) kept.image same c.next.ensures.sent (inv.far total book told stands) in
           let F : Option (List ℕ) → Type 0 = λ l. Far (left first) (unread c.next.new.self l) c.next.new.self.given total state (view new).image (held_by c.answer_line.new.live) (sent first) (sent new) in
           subst F (sym it.left) (far_line c.lines.lines c.next.new.self (left mid) (left taken) line gives e.within total state (held_by c.next.new.from) (held_by c.answer_line.new.live) (view taken) (view new) (sent first) (sent taken) (sent new) c.in-Ok-answer_line.field-0 (left first) (λ between there sound. it.does total between (goes.is_told told) there sound) far);
+      synced =
+          let F : Option (List ℕ) → Type 0 = λ l. FarSynced (left first) (unread c.next.new.self l) c.next.new.self.given (view first).syncs (view new).syncs in
+          subst F (sym it.left) (far_synced_line (left first) c.lines.lines c.next.new.self (left mid) (left taken) line gives (view first).syncs (view taken).syncs (view new).syncs (it.syncs) (far_synced_kept (left first) (unread c.lines.lines (left mid)) c.lines.lines.given (view first).syncs (view mid).syncs (view taken).syncs kept.syncs inv.synced));
       read = λ total book told stands.
           let state = its.state start total book in
           let read = far_read_kept (left first) (unread c.lines.lines (left mid)) c.lines.lines.given total state (view mid).image (view taken).image (held_by c.lines.live) (held_by c.next.new.from) (view first).reads (view mid).reads (view taken).reads kept.image same kept.reads (inv.read total book told stands) in
@@ -498,3 +507,60 @@ returns-in-Err-answer_line-clause-reads g c = λ total book told stands.
     let state = its.state start total book in
     let read = far_read_kept (left first) (unread c.lines.lines (left mid)) c.lines.lines.given total state (view mid).image (view taken).image (held_by c.lines.live) (held_by c.next.new.from) (view first).reads (view mid).reads (view taken).reads kept.image same kept.reads (inv.read total book told stands) in
     reads_stopped c.lines.lines c.next.new.self (left mid) (left taken) line gives total state (held_by c.next.new.from) (held_by c.answer_line.new.live) (view taken) (view new) (view first).reads (sent taken) (sent new) _ (left first) (λ between there sound. it.does total between (goes.is_told told) there sound) read
+
+pub returns-in-Err-clause-syncs : goal.returns-in-Err-clause-syncs
+returns-in-Err-clause-syncs g c =
+    let view = g.P.Pages.view in
+    let left = g.P.Streams.left in
+    let first = pages c.args.live.now in
+    let mid = pages c.lines.live in
+    let taken = pages c.next.new.from in
+    let inv = c.lines.invariant in
+    let kept = g.met.P.PageWorld.take_keeps mid taken c.next.ensures.beside.changed.store_is.pages_are in
+    syncs_far (left first) (unread c.lines.lines (left mid)) c.lines.lines.given (view first).syncs (view taken).syncs (far_synced_kept (left first) (unread c.lines.lines (left mid)) c.lines.lines.given (view first).syncs (view mid).syncs (view taken).syncs kept.syncs inv.synced)
+
+pub returns-in-End-clause-syncs : goal.returns-in-End-clause-syncs
+returns-in-End-clause-syncs g c =
+    let view = g.P.Pages.view in
+    let left = g.P.Streams.left in
+    let first = pages c.args.live.now in
+    let mid = pages c.lines.live in
+    let taken = pages c.next.new.from in
+    let inv = c.lines.invariant in
+    let kept = g.met.P.PageWorld.take_keeps mid taken c.next.ensures.beside.changed.store_is.pages_are in
+    syncs_far (left first) (unread c.lines.lines (left mid)) c.lines.lines.given (view first).syncs (view taken).syncs (far_synced_kept (left first) (unread c.lines.lines (left mid)) c.lines.lines.given (view first).syncs (view mid).syncs (view taken).syncs kept.syncs inv.synced)
+
+pub returns-in-Err-refuse_line-clause-syncs : goal.returns-in-Err-refuse_line-clause-syncs
+returns-in-Err-refuse_line-clause-syncs g c =
+    let view = g.P.Pages.view in
+    let left = g.P.Streams.left in
+    let first = pages c.args.live.now in
+    let mid = pages c.lines.live in
+    let taken = pages c.next.new.from in
+    let inv = c.lines.invariant in
+    let kept = g.met.P.PageWorld.take_keeps mid taken c.next.ensures.beside.changed.store_is.pages_are in
+    let new = pages c.refuse_line.new.live in
+    let e = c.in-Ok.ensures in
+    let line : Option (List ℕ) = None in
+    let gives : Gives c.lines.lines c.next.new.self (left mid) (left taken) line =
+    gives_by c.lines.lines c.next.new.self (left mid) (left taken) line (e.too_long (ap Ok c.in-TooLong.is)) e.rest inv.counted e.given e.total in
+    syncs_far (left first) (unread c.next.new.self (left taken)) c.next.new.self.given (view first).syncs (view new).syncs
+    (far_synced_line (left first) c.lines.lines c.next.new.self (left mid) (left taken) line gives (view first).syncs (view taken).syncs (view new).syncs (none_syncs (edits_of (unless_empty line)) (view taken).syncs (view new).syncs c.in-Err-refuse_line.ensures.syncs) (far_synced_kept (left first) (unread c.lines.lines (left mid)) c.lines.lines.given (view first).syncs (view mid).syncs (view taken).syncs kept.syncs inv.synced))
+
+pub returns-in-Err-answer_line-clause-syncs : goal.returns-in-Err-answer_line-clause-syncs
+returns-in-Err-answer_line-clause-syncs g c =
+    let view = g.P.Pages.view in
+    let left = g.P.Streams.left in
+    let first = pages c.args.live.now in
+    let mid = pages c.lines.live in
+    let taken = pages c.next.new.from in
+    let inv = c.lines.invariant in
+    let kept = g.met.P.PageWorld.take_keeps mid taken c.next.ensures.beside.changed.store_is.pages_are in
+    let new = pages c.answer_line.new.live in
+    let e = c.in-Ok.ensures in
+    let text = c.line.result.now in
+    let line : Option (List ℕ) = Some text in
+    let gives : Gives c.lines.lines c.next.new.self (left mid) (left taken) line =
+    gives_by c.lines.lines c.next.new.self (left mid) (left taken) (Some text) (same_line _ _ text c.next.new.self.line c.line.ensures.line (e.line (ap Ok c.in-Line.is))) e.rest inv.counted e.given e.total in
+    syncs_far (left first) (unread c.next.new.self (left taken)) c.next.new.self.given (view first).syncs (view new).syncs
+    (far_synced_line (left first) c.lines.lines c.next.new.self (left mid) (left taken) line gives (view first).syncs (view taken).syncs (view new).syncs (c.in-Err-answer_line.ensures.syncs) (far_synced_kept (left first) (unread c.lines.lines (left mid)) c.lines.lines.given (view first).syncs (view mid).syncs (view taken).syncs kept.syncs inv.synced))

@@ -1,9 +1,9 @@
-use Rattle.std.proofs.Common.{◌≡◌, ℕ, ◌+◌, ◌-◌, ◌^◌, ◌≤◌, List, length, IsTrue}
+use Rattle.std.proofs.Common.{◌≡◌, ◌+◌, ◌-◌, ◌^◌, ◌≤◌, length, IsTrue}
 use Rattle.chart_world.specs.Reading.{unread, input_length}
 use Rattle.live_service.specs.Shown as its
 use Rattle.live_view.specs.Live as follows
-use Rattle.series_book.specs.declared.one_series.Series.{Series}
 use Rattle.live_command.proofs.ReadLemmas.{FarRead}
+use Rattle.live_command.proofs.SyncLemmas.{FarSynced}
 use Rattle.live_command.proofs.RunLemmas.{Far, LastsOn}
 use Rattle.live_command.specs.Doing.{Goes, held_by, side_of}
 use Rattle.live_command.specs.Shown.{pages}
@@ -26,6 +26,7 @@ invariant-lines g l =
       goes : Goes (side_of g.P.Streams first) (side_of g.P.Streams live);
       far : its.ForBook first (λ total book. Far (left (pages first)) (unread l.lines (left (pages live))) l.lines.given total (its.state first total book) (its.view live).image (held_by live) (sent (pages first)) (sent (pages live)));
       read : its.ForBook first (λ total book. FarRead (left (pages first)) (unread l.lines (left (pages live))) l.lines.given total (its.state first total book) (its.view live).image (held_by live) (its.view first).reads (its.view live).reads);
+      synced : FarSynced (left (pages first)) (unread l.lines (left (pages live))) l.lines.given (its.view first).syncs (its.view live).syncs;
       lasts : its.ForBook first (λ total book. LastsOn total (its.state first total book) (left (pages first)) (sent (pages first)) (its.view first) (its.view live));
     }
 

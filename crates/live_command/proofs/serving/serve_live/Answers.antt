@@ -1,5 +1,6 @@
 use Rattle.live_service.specs.Shown as its
 use Rattle.live_command.proofs.ReadLemmas.{reads_nothing}
+use Rattle.live_command.proofs.SyncLemmas.{syncs_nothing}
 use Rattle.live_command.proofs.RunLemmas.{lasts_on_first, no_memory_on}
 use Rattle.live_command.specs.Doing.{held_by}
 use Rattle.live_command.specs.Shown.{pages}
@@ -19,3 +20,8 @@ pub returns-in_default-clause-reads : goal.returns-in_default-clause-reads
 returns-in_default-clause-reads g c = λ total book told stands.
     let at = pages c.args.live.now in
     reads_nothing (g.P.Streams.left at) (its.state c.args.live.now total book) (g.P.Pages.view at).reads
+
+pub returns-in_default-clause-syncs : goal.returns-in_default-clause-syncs
+returns-in_default-clause-syncs g c =
+    let at = pages c.args.live.now in
+    syncs_nothing (g.P.Streams.left at) (g.P.Pages.view at).syncs
