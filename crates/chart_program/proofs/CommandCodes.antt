@@ -229,6 +229,7 @@ live_codes code (suc (suc (suc (suc (suc zero)))), inside, is) = (5, omega arith
 live_codes code (suc (suc (suc (suc (suc (suc zero))))), inside, is) = (7, omega arith, is)
 live_codes code (suc (suc (suc (suc (suc (suc (suc zero)))))), inside, is) = (10, omega arith, is)
 live_codes code (suc (suc (suc (suc (suc (suc (suc (suc k))))))), inside, is) = absurd (omega (arith, inside))
+
 -- codes of the command `derive` are codes of a command
 abbrev pub of_derive : List ℕ
 of_derive = 0 ∷ 3 ∷ 4 ∷ 5 ∷ 6 ∷ 7 ∷ 8 ∷ 9 ∷ 12 ∷ 16 ∷ []
