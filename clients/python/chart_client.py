@@ -9,7 +9,7 @@ import sys
 from zurtkvani_client.frames import Fields, Stopped, accept
 
 
-def draw_all(frames, pictures, every):
+def draw_all(frames, pictures, every=None):
     """Reads frames from one stream, and writes their pictures to the other, with covers where `every` is given."""
     fields, sessions = Fields(frames), {}
 
