@@ -1,13 +1,13 @@
 -- The least and the greatest value of a range.
-use Rattle.std.proofs.Common.{inl, inr, ◌≡◌, ℕ, ℤ, ◌<◌, ◌≤◌, ◌+◌, ◌≤ℤ◌, ◌⊎◌, List, Option, None, Some, arith, refl, sym, ◌∙◌, subst}
+use Rattle.std.proofs.Common.{inl, inr, ◌≡◌, ℕ, ℤ, ◌<◌, ◌≤◌, ◌⊎◌, List, Option, None, Some, arith, refl, sym, ◌∙◌, subst}
 use Rattle.std.specs.Prelude.{IfSome}
 use Rattle.std.proofs.lemmas.Bool.{cases_lt}
 use Rattle.std.proofs.lemmas.Int.{ints}
-use Rattle.om3_coeff.specs.Spans.{Holds, IsClear, IsStored}
+use Rattle.om3_coeff.specs.Spans.{IsClear, IsStored}
 use Rattle.derived_chart.specs.declared.searches.Best.{Best}
 use Rattle.derived_chart.specs.declared.searches.Best.TheVariants.{Least, Greatest}
-use Rattle.derived_chart.specs.Bounds.{AreBetween, IsValueOf}
-use Rattle.derived_chart.specs.Searches.{Beats, IsBestWith, IsBestOf, IsNoBetter, IsBetter, IsRangeOf}
+use Rattle.derived_chart.specs.Bounds.{AreBetween}
+use Rattle.derived_chart.specs.Searches.{Beats, IsBestWith, IsBestOf, IsNoBetter, IsRangeOf}
 
 beats_itself : (best : Best) (m : ℤ) → Beats best m m
 beats_itself Least m = omega (arith, ints)

@@ -1,5 +1,5 @@
 -- Slots that are read into an array.
-use Rattle.std.proofs.Common.{ℕ, zero, suc, replicate, ℤ, pos, ◌≡◌, ◌+◌, ◌*◌, ◌^◌, ◌<◌, ◌≤◌, ◌⊎◌, inl, inr, ◌+ℤ◌, ◌*ℤ◌, ◌<ℤ◌, ◌≤ℤ◌, List, length, Option, None, Some, Result, Ok, Err, OnOk, arith, refl, sym, ◌∙◌, ap, ap₂, subst}
+use Rattle.std.proofs.Common.{ℕ, zero, suc, replicate, ℤ, pos, ◌≡◌, ◌+◌, ◌*◌, ◌^◌, ◌<◌, ◌≤◌, ◌⊎◌, inl, inr, ◌+ℤ◌, ◌*ℤ◌, ◌<ℤ◌, List, length, Option, None, Some, Result, Ok, Err, OnOk, arith, refl, sym, ◌∙◌, ap, ap₂, subst}
 use Rattle.std.proofs.lemmas.Bool.{cases_lt}
 use Rattle.std.proofs.Common.{to_z, of_z}
 use mir.Syntax.{w128}
@@ -11,7 +11,7 @@ use Rattle.whole_number.specs.Range.{IsValue}
 use Rattle.om3_coeff.specs.declared.key.Key.{Key}
 use Rattle.om3_coeff.specs.declared.span.Span.{Span}
 use Rattle.om3_coeff.specs.Keys.{first_slot, end_slot, left_of, right_of, top_key, height}
-use Rattle.om3_coeff.specs.Spans.{Holds, IsClear, IsStored, IsProper, IsProperIfAny, span}
+use Rattle.om3_coeff.specs.Spans.{Holds, IsProper, IsProperIfAny, span}
 use Rattle.om3_coeff.specs.View.{NodesView, Agrees}
 use Rattle.om3_coeff.specs.Walks.{IsReached}
 use Rattle.om3_coeff.proofs.EndLemmas.{has_slots, holds_here}
@@ -23,7 +23,7 @@ use Rattle.derived_chart.specs.declared.searches.Best.{Best}
 use Rattle.derived_chart.specs.declared.sum.Sum.{Sum}
 use Rattle.derived_chart.specs.Searches.{Beats, IsBestWith}
 use Rattle.derived_chart.specs.Slots.{entry, IsReadAt, AreReadBelow, AreRead, HasValues, IsEmpty, IsApart, Meets, IsPut, sum_of_slots, IsBetterOf, AreArraySums}
-use Rattle.derived_chart.specs.Sums.{AreSums, HoldsAt}
+use Rattle.derived_chart.specs.Sums.{AreSums}
 use Rattle.derived_chart.proofs.BestLemmas.{best_clear, best_left}
 
 -- a range of which nothing is read

@@ -2,7 +2,7 @@ use Rattle.std.proofs.Common.{rules, arith, ◌≤◌}
 use Rattle.om3_coeff.specs.Keys.{left_of, right_of}
 use Rattle.om3_coeff.specs.View.{Agrees, StaysSame}
 use Rattle.om3_coeff.proofs.WalkLemmas.{key_small, go_to, still_agrees}
-use Rattle.om3_coeff.specs.Keys.{first_slot, end_slot}
+use Rattle.om3_coeff.specs.Keys.{end_slot}
 use Rattle.derived_chart.specs.Slots.{AreReadBelow}
 use Rattle.derived_chart.proofs.SlotLemmas.{read_missing, read_apart, read_here, here_values, read_left, read_middle, read_right, on_ok}
 use Rattle.derived_chart.proofs.slots.+read_below.Goals as goal

@@ -1,4 +1,4 @@
-use Rattle.std.proofs.Common.{ℤ, Bool, List, Option, subst, sym, ap, ◌∙◌}
+use Rattle.std.proofs.Common.{ℤ, Bool, List, Option, subst}
 use Rattle.om3_coeff.specs.Keys.{first_slot, end_slot}
 use Rattle.om3_coeff.specs.View.{Agrees}
 use Rattle.om3_coeff.proofs.WalkLemmas.{at_top}
