@@ -1,13 +1,13 @@
 -- The least and the greatest value of a range.
-use Rattle.std.proofs.Common.{inl, inr, ◌≡◌, ℕ, ℤ, ◌<◌, ◌≤◌, ◌+◌, ◌≤ℤ◌, ◌⊎◌, List, Option, None, Some, arith, refl, sym, ◌∙◌, subst}
+use Rattle.std.proofs.Common.{inl, inr, ◌≡◌, ℕ, ℤ, ◌<◌, ◌≤◌, ◌⊎◌, List, Option, None, Some, arith, refl, sym, ◌∙◌, subst}
 use Rattle.std.specs.Prelude.{IfSome}
 use Rattle.std.proofs.lemmas.Bool.{cases_lt}
 use Rattle.std.proofs.lemmas.Int.{ints}
-use Rattle.om3_coeff.specs.Spans.{Holds, IsClear, IsStored}
+use Rattle.om3_coeff.specs.Spans.{IsClear, IsStored}
 use Rattle.derived_chart.specs.declared.searches.Best.{Best}
 use Rattle.derived_chart.specs.declared.searches.Best.TheVariants.{Least, Greatest}
-use Rattle.derived_chart.specs.Bounds.{AreBetween, IsValueOf}
-use Rattle.derived_chart.specs.Searches.{Beats, IsBestWith, IsBestOf, IsNoBetter, IsBetter, IsRangeOf}
+use Rattle.derived_chart.specs.Bounds.{AreBetween}
+use Rattle.derived_chart.specs.Searches.{Beats, IsBestWith, IsBestOf, IsNoBetter, IsRangeOf}
 
 beats_itself : (best : Best) (m : ℤ) → Beats best m m
 beats_itself Least m = omega (arith, ints)
@@ -30,20 +30,6 @@ pub best_kept : (best : Best) (list : List (Option ℤ)) (p q : ℕ) (found : Op
 best_kept best list p q None b worse between = absurd worse
 best_kept Least list p q (Some m) b worse between = (inl refl, omega (arith, ints), λ i v low high holds. omega (arith, ints, worse, (between i v low high holds).0))
 best_kept Greatest list p q (Some m) b worse between = (inl refl, omega (arith, ints), λ i v low high holds. omega (arith, ints, worse, (between i v low high holds).1))
-
-better : (best : Best) (o : Option ℤ) (b : ℤ × ℤ) → IsBetter best o b → b.1 ≡ b.0 → IfSome o (λ m. Beats best b.0 m)
-better best None b more one = tt
-better Least (Some m) b more one = omega (arith, ints, more)
-better Greatest (Some m) b more one = omega (arith, ints, more, one)
-
-between_beats : (best : Best) (b : ℤ × ℤ) (v : ℤ) → b.1 ≡ b.0 → b.0 ≤ℤ v → v ≤ℤ b.1 → Beats best b.0 v
-between_beats Least b v one low high = low
-between_beats Greatest b v one low high = omega (arith, ints, one, high)
-
--- the value of a single slot that is better than what was found
-pub best_here : (best : Best) (list : List (Option ℤ)) (p q : ℕ) (found : Option ℤ) (b : ℤ × ℤ) → IsBetter best found b → q ≡ p + 1 → AreBetween list p q (Some b) → Holds list p b.0 → b.1 ≡ b.0 → IsBestWith best list p q found (Some b.0)
-best_here best list p q found b more single between holds one =
-    (inr (record { slot = p; low = omega arith; high = omega (arith, single); holds = holds }), better best found b more one, λ i v low high is. between_beats best b v one (between i v low high is).0 (between i v low high is).1)
 
 -- two ranges are the parts of a third
 record AreParts (a b c d p q : ℕ) : Type 0 where
@@ -128,13 +114,6 @@ pub best_worse : (best : Best) (list : List (Option ℤ)) (p q : ℕ) (found : O
 best_worse best list p q found range b some worse is =
     let P : Option (ℤ × ℤ) → Type 0 = λ o. AreBetween list p q o in
     best_kept best list p q found b worse (subst P some is.between)
-
-pub best_single : (best : Best) (list : List (Option ℤ)) (p q : ℕ) (found : Option ℤ) (range : Option (ℤ × ℤ)) (b : ℤ × ℤ) → range ≡ Some b → IsBetter best found b → q ≡ p + 1 → IsRangeOf list p q range → IsBestWith best list p q found (Some b.0)
-best_single best list p q found range b some more single is =
-    let P : Option (ℤ × ℤ) → Type 0 = λ o. AreBetween list p q o in
-    let Q : Option (ℤ × ℤ) → Type 0 = λ o. IsValueOf list p o in
-    let value : IsValueOf list p (Some b) = subst Q some (is.one single) in
-    best_here best list p q found b more single (subst P some is.between) value.0 value.1
 
 -- where nothing was found before, it is that of the range
 pub best_alone : (best : Best) (list : List (Option ℤ)) (p q : ℕ) (o : Option ℤ) → IsBestWith best list p q None o → IsBestOf best list p q o

@@ -1,5 +1,6 @@
 pub mod ProductLemmas
 pub mod SumLemmas
+pub mod SlotLemmas
 pub mod BestLemmas
 pub mod EndLemmas
 pub mod ListLemmas

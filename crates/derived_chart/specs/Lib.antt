@@ -1,6 +1,7 @@
 pub mod Sums
 pub mod Bounds
 pub mod Searches
+pub mod Slots
 pub mod Lists
 pub mod Points
 pub mod Rows

@@ -19,6 +19,7 @@ mod list_pair;
 mod products;
 mod rows;
 mod searches;
+mod slots;
 mod sum;
 mod times;
 mod trees;

@@ -6,7 +6,8 @@ ghost use Rattle.whole_number.specs.Range.{IsValue};
 
 use om3_coeff::Span;
 
-fn product(a: i64, x: i64) -> i128
+/// The product of a factor with a value.
+pub(crate) fn product(a: i64, x: i64) -> i128
     requires factor { unsigned_abs a ≤ 10 ^ 9 }
     requires value { IsValue x }
     ensures is { result ≡ a *ℤ x }

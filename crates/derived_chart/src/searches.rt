@@ -1,9 +1,13 @@
 //! The least and the greatest of the sums of a range.
-ghost use Rattle.std.specs.Prelude.{◌≡◌, ℤ, true, false, ◌+◌, ◌^◌, ◌<◌, ◌≤◌, List, Option, IfOk, IfErr};
-ghost use Rattle.derived_chart.specs.Searches.{IsBestOf, IsBestWith, IsBetter, IsNoBetter, IsRangeOf};
+ghost use Rattle.std.specs.Prelude.{◌≡◌, ℕ, ℤ, true, false, ◌+◌, ◌+ℤ◌, ◌*ℤ◌, ◌*◌, ◌^◌, ◌<◌, ◌≤◌, ◌⊎◌, pos, List, Option, IfOk, IfErr, IfSome, length, unsigned_abs};
+ghost use Rattle.whole_number.specs.Range.{IsValue};
+ghost use Rattle.derived_chart.specs.Searches.{Beats, IsBestOf, IsBestWith, IsBetter, IsNoBetter, IsRangeOf};
+ghost use Rattle.derived_chart.specs.Slots.{AreArraySums, HasValues, IsBetterOf, IsEmpty, sum_of_slots};
 ghost use Rattle.derived_chart.specs.Sums.{AreSums, IsSmall};
 
 use crate::bounds::bounds;
+use crate::products::product;
+use crate::slots::read_slots;
 use crate::sum::Sum;
 use crate::trees::TwoTrees;
 use om3_coeff::NodeError;
@@ -41,18 +45,150 @@ fn is_second_better(
     }
 }
 
-/// Whether a range is a single slot, so that both numbers of it are its sum.
-fn is_single(p: u64, q: u64) -> bool
+/// The most slots whose values are read at once.
+const FEW: u64 = 128;
+
+/// Whether the slots of a range are so few that their values are read at once.
+fn are_few(p: u64, q: u64) -> bool
     requires { p < q }
-    ensures yes { result ≡ true → q ≡ p + 1 }
+    ensures yes { result ≡ true → q ≤ p + 128 }
     ensures no { result ≡ false → p + 1 < q }
 {
-    q - p == 1
+    q - p <= FEW
+}
+
+/// The better one of two numbers.
+fn better_number(best: Best, first: &i128, second: &i128) -> i128
+    ensures which { (result ≡ first.now) ⊎ (result ≡ second.now) }
+    ensures first { Beats best result first.now }
+    ensures second { Beats best result second.now }
+{
+    match best {
+        Best::Least => (*first).min(*second),
+        Best::Greatest => (*first).max(*second),
+    }
+}
+
+/// The better one of what was found and the next number.
+fn better_of(best: Best, found: &Option<i128>, next: &Option<i128>) -> Option<i128>
+    ensures { IsBetterOf best found.now next.now result }
+{
+    match (found, next) {
+        (_, None) => *found,
+        (None, Some(next)) => Some(*next),
+        (Some(found), Some(next)) => Some(better_number(best, found, next)),
+    }
+}
+
+/// The sum of two products.
+fn added(first: &i128, second: &i128) -> i128
+    requires first { unsigned_abs first.now ≤ 10 ^ 27 }
+    requires second { unsigned_abs second.now ≤ 10 ^ 27 }
+    ensures is { result ≡ first.now +ℤ second.now }
+    ensures small { unsigned_abs result ≤ 2 * 10 ^ 27 }
+{
+    *first + *second
+}
+
+/// The sum of two values.
+fn sum_of_values(sum: Sum, x: &i64, y: &i64) -> i128
+    requires small { IsSmall sum }
+    requires first { IsValue x.now }
+    requires second { IsValue y.now }
+    ensures { result ≡ sum.a *ℤ x.now +ℤ sum.b *ℤ y.now }
+{
+    let first = product(sum.a, *x);
+    let second = product(sum.b, *y);
+    added(&first, &second)
+}
+
+/// The sum of two slots, where both hold a value.
+fn sum_of_slots(sum: Sum, x: &Option<i64>, y: &Option<i64>) -> Option<i128>
+    requires small { IsSmall sum }
+    requires first { IfSome x.now IsValue }
+    requires second { IfSome y.now IsValue }
+    ensures { result ≡ sum_of_slots sum x.now y.now }
+{
+    match (x, y) {
+        (None, _) => None,
+        (Some(_), None) => None,
+        (Some(x), Some(y)) => Some(sum_of_values(sum, x, y)),
+    }
+}
+
+/// The best of the sums of the first `count` slots of two arrays and of what was found before.
+fn best_of_arrays(
+    sum: Sum,
+    xs: &[Option<i64>],
+    ys: &[Option<i64>],
+    count: usize,
+    best: Best,
+    found: &Option<i128>,
+) -> Option<i128>
+    requires small { IsSmall sum }
+    requires first { count ≤ length xs.now }
+    requires second { count ≤ length ys.now }
+    requires values { HasValues xs.now }
+    requires others { HasValues ys.now }
+    ensures { (sums : List (Option ℤ)) (p : ℕ) → AreArraySums sum xs.now ys.now count p sums → IsBestWith best sums p (p + count) found.now result }
+{
+    let mut most = *found;
+    for at in 0..count {
+        let next = sum_of_slots(sum, &xs[at], &ys[at]);
+        most = better_of(best, &most, &next);
+    }
+    most
+}
+
+/// An array of slots that hold nothing.
+fn no_slots() -> [Option<i64>; 128]
+    ensures empty { IsEmpty result }
+    ensures room { length result ≡ 128 }
+{
+    [None; 128]
+}
+
+/// The place in the second series that has the time of slot `slot` of the first one.
+fn place_beside(sum: Sum, slot: u64) -> i128
+    requires small { IsSmall sum }
+    requires few { slot ≤ 2 ^ 35 }
+    ensures is { result ≡ pos slot +ℤ sum.shift }
+    ensures small { unsigned_abs result ≤ 5 * 10 ^ 18 }
+{
+    i128::from(slot) + i128::from(sum.shift)
+}
+
+/// The best of the sums of the slots from `p` on and below `q`, which are few, and of what was found before. Each of the
+/// two series is read by one walk.
+fn best_of_few<T: TwoTrees>(
+    trees: &mut T,
+    sum: Sum,
+    p: u64,
+    q: u64,
+    best: Best,
+    found: &Option<i128>,
+) -> Result<Option<i128>, NodeError>
+    requires fit { (T.view trees.old).fit }
+    requires some { p < q }
+    requires few { q ≤ p + 128 }
+    requires within { q ≤ 2 ^ 35 }
+    requires small { IsSmall sum }
+    ensures best { (xs ys sums : List (Option ℤ)) → T.are trees.old xs ys → AreSums sum xs ys sums → IfOk result (IsBestWith best sums p q found.now) }
+    ensures fit { (T.view trees.new).fit }
+    ensures goes { T.goes trees.old trees.new }
+    ensures cause { IfErr result (T.causes trees.old trees.new) }
+{
+    let count = q - p;
+    let mut xs = no_slots();
+    read_slots(trees, false, &i128::from(p), count, &mut xs)?;
+    let mut ys = no_slots();
+    read_slots(trees, true, &place_beside(sum, p), count, &mut ys)?;
+    Ok(best_of_arrays(sum, &xs, &ys, count as usize, best, found))
 }
 
 /// The best of the sums of the slots from `p` on and below `q`, which lie between these two numbers, and of what was found
-/// before. Of a range whose sums are no better than that nothing is read below, and of two halves the one is searched
-/// first that may have the better sum.
+/// before. Of a range whose sums are no better than that nothing is read below, a few slots are read at once, and of two
+/// halves the one is searched first that may have the better sum.
 fn best_from<T: TwoTrees>(
     trees: &mut T,
     sum: Sum,
@@ -78,8 +214,8 @@ fn best_from<T: TwoTrees>(
     if is_no_better(best, found, range) {
         return Ok(*found);
     }
-    if is_single(p, q) {
-        return Ok(Some(range.0));
+    if are_few(p, q) {
+        return best_of_few(trees, sum, p, q, best, found);
     }
     let middle = p + (q - p) / 2;
     let left = bounds(trees, sum, p, middle)?;

@@ -13,10 +13,10 @@ best_from-requires-then-is_second_better g t c κs within =
     let one = g.met.T.TwoTrees.still_count false _ _ c.in_ok-left.ensures.goes in
     let two = g.met.T.TwoTrees.still_count false _ _ c.in_ok-right.ensures.goes in
     let three = g.met.T.TwoTrees.still_count false _ _ c.in_ok-first.ensures.goes in (
-      omega (arith, c.requires.some, c.is_single.ensures.no c.if-is_single.false),
+      omega (arith, c.requires.some, c.are_few.ensures.no c.if-are_few.false),
       (
         search rules,
-        (c.in_ok-first.ensures.fit, (omega (arith, c.requires.some, c.is_single.ensures.no c.if-is_single.false), (omega (arith, c.requires.some, c.requires.within, one, two, three), (omega (arith, c.requires.some, c.requires.few), c.requires.small)))),
+        (c.in_ok-first.ensures.fit, (omega (arith, c.requires.some, c.are_few.ensures.no c.if-are_few.false), (omega (arith, c.requires.some, c.requires.within, one, two, three), (omega (arith, c.requires.some, c.requires.few), c.requires.small)))),
       ),
     )
 
@@ -45,10 +45,10 @@ best_from-requires-3 g t c κs within =
     let one = g.met.T.TwoTrees.still_count false _ _ c.in_ok-left.ensures.goes in
     let two = g.met.T.TwoTrees.still_count false _ _ c.in_ok-right.ensures.goes in
     let three = g.met.T.TwoTrees.still_count false _ _ c.in_ok-first-2.ensures.goes in (
-      omega (arith, c.requires.some, c.is_single.ensures.no c.if-is_single.false),
+      omega (arith, c.requires.some, c.are_few.ensures.no c.if-are_few.false),
       (
         search rules,
-        (c.in_ok-first-2.ensures.fit, (omega (arith, c.requires.some, c.is_single.ensures.no c.if-is_single.false), (omega (arith, c.requires.within, one, two, three), (c.requires.few, c.requires.small)))),
+        (c.in_ok-first-2.ensures.fit, (omega (arith, c.requires.some, c.are_few.ensures.no c.if-are_few.false), (omega (arith, c.requires.within, one, two, three), (c.requires.few, c.requires.small)))),
       ),
     )
 

@@ -1,0 +1,16 @@
+use Rattle.std.proofs.Common.{ℕ, ◌+◌, ◌-◌, ◌≡◌, arith, subst, to_z, of_z}
+use mir.Syntax.{w128}
+use Rattle.derived_chart.specs.Searches.{IsBestWith}
+use Rattle.derived_chart.proofs.SlotLemmas.{arrays_are, held_from, held_place}
+use Rattle.derived_chart.proofs.searches.best_of_few.Goals as goal
+
+pub returns-clause-best : goal.returns-clause-best
+returns-clause-best g c = λ xs ys sums trees are.
+    let now = g.met.T.TwoTrees.still_are _ _ xs ys c.in_ok-read_slots.ensures.goes trees in
+    let e : c.args.p + (c.args.q - c.args.p) ≡ c.args.q = omega (arith, c.requires.some) in
+    let P : ℕ → Type 0 = λ n. IsBestWith c.args.best sums c.args.p n c.args.found.now c.best_of_arrays.result in
+    subst P e
+    (c.best_of_arrays.ensures sums c.args.p
+    (arrays_are c.args.sum xs ys sums c.read_slots.new.slots c.read_slots-2.new.slots c.args.p (c.args.q - c.args.p) (to_z w128 (of_z w128 c.from.result)) (to_z w128 (of_z w128 c.place_beside.result))
+    (held_from c.from.result c.args.p c.from.ensures (omega (arith, c.requires.some, c.requires.within))) (held_place c.place_beside.result _ c.place_beside.ensures.is c.place_beside.ensures.small) are
+    (c.in_ok-read_slots.ensures.list xs ys trees) (c.in_ok-read_slots-2.ensures.list xs ys now)))

@@ -1,0 +1,86 @@
+use Rattle.std.proofs.Common.{rules, arith, ◌≤◌}
+use Rattle.om3_coeff.specs.Keys.{left_of, right_of}
+use Rattle.om3_coeff.specs.View.{Agrees, StaysSame}
+use Rattle.om3_coeff.proofs.WalkLemmas.{key_small, go_to, still_agrees}
+use Rattle.om3_coeff.specs.Keys.{end_slot}
+use Rattle.derived_chart.specs.Slots.{AreReadBelow}
+use Rattle.derived_chart.proofs.SlotLemmas.{read_missing, read_apart, read_here, here_values, read_left, read_middle, read_right, on_ok}
+use Rattle.derived_chart.proofs.slots.+read_below.Goals as goal
+
+pub returns-in_default-clause-list : goal.returns-in_default-clause-list
+returns-in_default-clause-list g t c = λ list agrees read.
+    read_missing (g.N.Nodes.view c.args.nodes.now) list c.args.key c.args.span c.args.base.now c.args.count c.args.slots.now c.in_default.is agrees c.requires.reached read
+
+pub is_apart-requires-clause-small : goal.is_apart-requires-clause-small
+is_apart-requires-clause-small g t c = key_small (g.N.Nodes.view c.args.nodes.now).slots c.args.key c.requires.reached.key
+
+pub returns-then-is_apart-clause-list : goal.returns-then-is_apart-clause-list
+returns-then-is_apart-clause-list g t c = λ list agrees read.
+    read_apart list c.args.key c.args.base.now c.args.count c.args.slots.now (c.is_apart.ensures.yes c.if-is_apart.true) read
+
+pub returns-then-key-eq0-clause-list : goal.returns-then-key-eq0-clause-list
+returns-then-key-eq0-clause-list g t c = λ list agrees read.
+    read_here (g.N.Nodes.view c.args.nodes.now) list c.args.key c.args.span c.in-Some.span c.args.base.now c.args.count c.args.slots.now c.put.new.slots c.in-Some.is
+    (omega (arith, c.if-key-eq0.true)) (c.is_apart.ensures.no c.if-is_apart.false) c.put.ensures.put agrees c.requires.reached read
+
+pub returns-then-key-eq0-clause-values : goal.returns-then-key-eq0-clause-values
+returns-then-key-eq0-clause-values g t c = here_values (g.N.Nodes.view c.args.nodes.now) c.args.key c.args.span c.in-Some.span c.args.base.now c.args.slots.now c.put.new.slots c.in-Some.is c.requires.reached c.put.ensures.put
+
+pub left-requires-clause-fits : goal.left-requires-clause-fits
+left-requires-clause-fits g t c = key_small (g.N.Nodes.view c.args.nodes.now).slots c.args.key c.requires.reached.key
+
+pub right-requires-clause-fits : goal.right-requires-clause-fits
+right-requires-clause-fits g t c = key_small (g.N.Nodes.view c.args.nodes.now).slots c.args.key c.requires.reached.key
+
+pub read_below-requires : goal.read_below-requires
+read_below-requires g t c κs within =
+    let same : StaysSame (g.N.Nodes.view c.args.nodes.now) (g.N.Nodes.view c.ask.new.nodes) =
+    g.met.N.Nodes.keeps_same c.args.nodes.now c.ask.new.nodes c.in_ok-left.ensures.kept in (
+      search rules,
+      (
+        search rules,
+        (
+          c.in_ok-left.ensures.fit,
+          (
+            go_to (g.N.Nodes.view c.args.nodes.now) (g.N.Nodes.view c.ask.new.nodes) c.left.result (left_of c.args.key) c.in_ok-left.left c.left.ensures same c.in_ok-left.ensures.left,
+            (c.requires.few, (c.requires.base, c.requires.room)),
+          ),
+        ),
+      ),
+    )
+
+pub read_below-requires-2 : goal.read_below-requires-2
+read_below-requires-2 g t c κs within =
+    let same : StaysSame (g.N.Nodes.view c.args.nodes.now) (g.N.Nodes.view c.read_below.new.nodes) =
+    g.met.N.Nodes.keeps_same c.args.nodes.now c.read_below.new.nodes
+    (g.met.N.Nodes.keeps_on c.args.nodes.now c.ask.new.nodes c.read_below.new.nodes c.in_ok-left.ensures.kept c.in_ok-read_below.ensures.kept) in (
+      search rules,
+      (
+        search rules,
+        (
+          c.in_ok-read_below.ensures.fit,
+          (
+            go_to (g.N.Nodes.view c.args.nodes.now) (g.N.Nodes.view c.read_below.new.nodes) c.right.result (right_of c.args.key) c.in_ok-left.right c.right.ensures same c.in_ok-left.ensures.right,
+            (c.requires.few, (c.requires.base, omega (arith, c.requires.room, c.in_ok-read_below.ensures.room))),
+          ),
+        ),
+      ),
+    )
+
+pub returns-clause-list : goal.returns-clause-list
+returns-clause-list g t c = λ list agrees read.
+    let low : 1 ≤ c.args.key.level = omega (arith, c.if-key-eq0.false) in
+    let asked : StaysSame (g.N.Nodes.view c.args.nodes.now) (g.N.Nodes.view c.ask.new.nodes) =
+    g.met.N.Nodes.keeps_same c.args.nodes.now c.ask.new.nodes c.in_ok-left.ensures.kept in
+    let walked : StaysSame (g.N.Nodes.view c.ask.new.nodes) (g.N.Nodes.view c.read_below.new.nodes) =
+    g.met.N.Nodes.keeps_same c.ask.new.nodes c.read_below.new.nodes c.in_ok-read_below.ensures.kept in
+    let then : Agrees (g.N.Nodes.view c.ask.new.nodes) list =
+    still_agrees (g.N.Nodes.view c.args.nodes.now) (g.N.Nodes.view c.ask.new.nodes) list asked agrees in
+    let later : Agrees (g.N.Nodes.view c.read_below.new.nodes) list =
+    still_agrees (g.N.Nodes.view c.ask.new.nodes) (g.N.Nodes.view c.read_below.new.nodes) list walked then in
+    on_ok c.read_below-2.result (AreReadBelow list c.args.base.now c.args.count (end_slot c.right.result) c.read_below-2.new.slots) (AreReadBelow list c.args.base.now c.args.count (end_slot c.args.key) c.read_below-2.new.slots)
+    (read_right list c.args.base.now c.args.count c.args.key c.right.result c.read_below-2.new.slots low c.right.ensures)
+    (c.read_below-2.ensures.list list later
+    (read_middle list c.args.base.now c.args.count c.args.key c.left.result c.right.result c.read_below.new.slots c.left.ensures c.right.ensures
+    (c.in_ok-read_below.ensures.list list then
+    (read_left list c.args.base.now c.args.count c.args.key c.left.result c.args.slots.now low c.left.ensures read))))
