@@ -13,7 +13,7 @@ use Rattle.std.proofs.lemmas.Option.{get_or_from_slice_get, slice_get_within, sl
 use Rattle.std.proofs.lemmas.Slice.Eq.{bytes_eq-Decides}
 use Rattle.series_book.specs.declared.limits.TheConstants.{MOST_SLOTS, MOST_SERIES, FIXED_PAGES, GREATEST_START, GREATEST_STEP, GREATEST_SCALE}
 use Rattle.whole_number.specs.SlotTimes.{EndsInTime}
-use Rattle.whole_number.proofs.TimeLemmas.{none_in_time, fewer_in_time}
+use Rattle.whole_number.proofs.SlotTimes.{none_in_time, fewer_in_time}
 use Rattle.series_book.specs.declared.one_series.Series.{Series}
 use Rattle.series_book.specs.Books.{IsSeries, IsBook}
 use Rattle.series_book.specs.Names.{is_name}
