@@ -8,6 +8,7 @@ use Rattle.page_space.specs.Layout.{superblock_page}
 use Rattle.page_space.specs.declared.superblock.Superblock.{Superblock}
 use Rattle.series_book.specs.declared.one_series.Series.{Series}
 use Rattle.stored_book.specs.Standing.{StandsForBook, RecoversTo}
+use Rattle.stored_book.proofs.CurrentLemmas.{recovers_new}
 use Rattle.disk_store.specs.Held.{HoldsBook}
 
 -- page 0 of a store begins with the byte 67
@@ -41,7 +42,7 @@ pub holds_closed : (count total : ℕ) (book : List Series) (disk : View) → Is
 holds_closed count total book disk closed honest within stands = record {
   honest = honest;
   images = λ image left.
-      let here : RecoversTo count disk.image total book = record { readable = closed_readable count disk.image (closed.gate honest); within = within; stands = stands } in
+      let here : RecoversTo count disk.image total book = recovers_new count disk.image total book (closed_readable count disk.image (closed.gate honest)) within stands in
       let P : Image → Type 0 = λ i. RecoversTo count i total book in
       subst P (sym (closed.only image left)) here;
 }

@@ -110,3 +110,6 @@ tells_current image old test so = current_first image (old_by (image 0) (sym tes
 
 pub tells_other : (image : Image) (old : Bool) → old ≡ has_old_magic (image 0) → old ≡ false → HasOldMagic (image 0) → ⊥
 tells_other image old test so has = apart (has_old_magic (image 0)) (old_is (image 0) has) (sym test ∙ so)
+
+pub current_other : (image : Image) → has_old_magic (image 0) ≡ false → current image ≡ image
+current_other image is = current_same image (λ has. apart (has_old_magic (image 0)) (old_is (image 0) has) is)
