@@ -9,6 +9,7 @@ use Rattle.path_repair.specs.Damage.{AreBelow}
 use Rattle.path_repair.specs.TreePages.{page_count}
 use Rattle.tree_walk.specs.Trees.{top_of_page}
 use Rattle.tree_walk.proofs.StepLemmas.{error_so}
+use Rattle.series_book.specs.declared.limits.TheConstants.{MOST_SLOTS}
 use Rattle.series_store.specs.Sending.{said, IsGiven, GivesBy, IsSendCause, send_error_of}
 use Rattle.series_store.specs.declared.send_errors.SendError.{SendError}
 use Rattle.series_store.proofs.AskLemmas.{start_same}
@@ -74,7 +75,7 @@ send_below-requires g t c κs within =
             (
               omega (arith, c.requires.level),
               (
-                child_range c.args.level (c.args.level - 1) c.args.index c.loop-child.child 268435456 is c.loop-child-test.true c.requires.range,
+                child_range c.args.level (c.args.level - 1) c.args.index c.loop-child.child MOST_SLOTS is c.loop-child-test.true c.requires.range,
                 (
                   omega (arith, c.child_of-under.ensures, c.in_ok-read_page.ensures.sound.below c.loop-child.child c.loop-child-test.true, ap (λ (s : Superblock). s.total) way.sends.superblock),
                   (

@@ -1,13 +1,13 @@
 use Rattle.std.proofs.Common.{Ok, Err, refl, arith}
-use Rattle.series_store.proofs.ChangeLemmas.{levels_four}
+use Rattle.path_repair.proofs.EditLemmas.{levels_few}
 use Rattle.series_store.proofs.SeriesSendLemmas.{root_range, tree_sent, sent_at_end, part_at_end, part_on_error}
 use Rattle.series_store.proofs.value_sending.send_tree.Goals as goal
 
 pub send_below-requires-clause-level : goal.send_below-requires-clause-level
-send_below-requires-clause-level g c = omega (arith, c.page_levels-levels.ensures.levels, levels_four c.args.tree.slots c.requires.slots)
+send_below-requires-clause-level g c = omega (arith, c.page_levels-levels.ensures.levels, levels_few c.args.tree.slots)
 
 pub send_below-requires-clause-range : goal.send_below-requires-clause-range
-send_below-requires-clause-range g c = root_range c.page_levels-levels.result (omega (arith, c.page_levels-levels.ensures.levels, levels_four c.args.tree.slots c.requires.slots))
+send_below-requires-clause-range g c = root_range c.page_levels-levels.result (omega (arith, c.page_levels-levels.ensures.levels, levels_few c.args.tree.slots))
 
 pub returns-in-Err-clause-part : goal.returns-in-Err-clause-part
 returns-in-Err-clause-part g c = λ list told stands.
