@@ -1,19 +1,15 @@
 -- The tree of a series is changed.
-use Rattle.std.proofs.Common.{◌≡◌, ℕ, ℤ, ◌+◌, ◌<◌, ◌≤◌, ◌⊎◌, ◌^◌, max, List, [], length, slice_get, Option, Some, All, IsSome, false, sym, subst, ◌∙◌, arith, inl, inr}
+use Rattle.std.proofs.Common.{◌≡◌, ℕ, ℤ, ◌+◌, ◌<◌, ◌≤◌, ◌⊎◌, max, List, [], length, slice_get, Option, Some, All, IsSome, false, sym, subst, ◌∙◌, arith, inl, inr}
 use Rattle.std.proofs.lemmas.Bool.{cases_lt}
 use Rattle.block_disk.specs.View.{Image}
-use Rattle.om3_coeff.specs.Keys.{page_levels}
-use Rattle.om3_coeff.proofs.KeyLemmas.{levels_4}
 use Rattle.page_space.specs.declared.superblock.Superblock.{Superblock}
 use Rattle.path_repair.specs.Changes.{IsEdited}
 use Rattle.path_repair.specs.Edited.{IsHeldTree}
-use Rattle.path_repair.proofs.EditLemmas.{levels_more}
 use Rattle.catalog_page.specs.Entries.{Entry, IsEntry}
 use Rattle.series_book.specs.declared.one_series.Series.{Series}
 use Rattle.series_book.specs.Books.{IsSeries}
 use Rattle.series_book.specs.Edits.{is_too_large, overwritten, cleared}
 use Rattle.series_book.proofs.BookLemmas.{IsSeries-there}
-use Rattle.series_book.proofs.LawLemmas.{AreInRange}
 use Rattle.series_catalog.specs.declared.stored_series.StoredSeries.{StoredSeries}
 use Rattle.series_catalog.specs.Catalogs.{entry_of}
 use Rattle.stored_book.proofs.TreesLemmas.{held}

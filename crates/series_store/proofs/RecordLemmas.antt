@@ -129,15 +129,15 @@ saved_book before mid after s s' total book id series slots one tree store same 
     let T : ℕ → Type 0 = λ step. EndsInTime series.start step tree.slots in
     let L : ℕ → Type 0 = λ n. EndsInTime series.start series.step n in
     record {
-  superblock = s';
-  total_is = later.total ∙ same;
-  store = changed_store before mid after s s' book id series slots tree (entry_of (record one { tree = tree })) store there later changed says refl put kept
-      (IsBook-with_slots book id series slots store.is_book there (record {
-        short = omega (arith, changed.edited.holds.is_tree.slots, is.slots);
-        last = subst L changed.edited.holds.is_tree.slots (subst T says.step (subst S says.start is.last));
-        fit = slots_fit slots changed.edited.holds.is_tree.values;
-      }));
-}
+      superblock = s';
+      total_is = later.total ∙ same;
+      store = changed_store before mid after s s' book id series slots tree (entry_of (record one { tree = tree })) store there later changed says refl put kept
+          (IsBook-with_slots book id series slots store.is_book there (record {
+            short = omega (arith, changed.edited.holds.is_tree.slots, is.slots);
+            last = subst L changed.edited.holds.is_tree.slots (subst T says.step (subst S says.start is.last));
+            fit = slots_fit slots changed.edited.holds.is_tree.values;
+          }));
+    }
 
 -- what holds of the value, where it is known
 pub known_some : {X : Type 0} (o : Option X) (x : X) (P : X → Type 0) → o ≡ Some x → IfSome o P → P x

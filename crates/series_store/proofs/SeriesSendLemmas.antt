@@ -24,11 +24,11 @@ use Rattle.stored_book.specs.Records.{entry}
 use Rattle.stored_book.proofs.PageCounts.{counts_same}
 use Rattle.tree_walk.specs.declared.tree.Tree.{Tree}
 use Rattle.tree_walk.specs.Trees.{top_of_page, IsTree, StandsFor}
-use Rattle.series_store.specs.Sending.{said_of, said, texts_of, IsGiven, GivesBy, IsSendCause, IsSeriesCause, IsNoDamage, SendsPart, HasUnfitPage}
+use Rattle.series_store.specs.Sending.{said_of, first_said, said, texts_of, IsGiven, GivesBy, IsSendCause, IsSeriesCause, IsNoDamage, SendsPart, HasUnfitPage}
 use Rattle.series_store.specs.declared.send_errors.SendError.{SendError}
 use Rattle.series_store.specs.declared.send_errors.SendError.TheVariants.{SendFault, DiskFault, Damaged, NoMemory}
 use Rattle.series_store.proofs.BookCountLemmas.{root_stands}
-use Rattle.series_store.proofs.SendLemmas.{join_same, by_as}
+use Rattle.series_store.proofs.SendLemmas.{join_same, by_as, texts_same}
 
 -- the range of a root page
 pub root_range : (levels : ℕ) → levels ≤ 5 → end_slot (top_of_page levels 0) ≤ MOST_SLOTS
@@ -83,7 +83,7 @@ pub record IsTreeSent (text : ℕ → ℤ → List ℕ) (list : List (Option ℤ
   pub sound : IfErr r IsNoDamage
 
 pub tree_sent : (text : ℕ → ℤ → List ℕ) (list : List (Option ℤ)) (image : Image) (total levels : ℕ) (tree : Tree) (front waits : List ℕ) (old new : View) (r : Result (Unit {0}) SendError) → levels ≡ page_levels tree.slots → tree.slots ≤ MOST_SLOTS → StandsFor image total tree list
-    → ((list : List (Option ℤ)) → AreSlots list → IsTree image total list levels 0 tree.root → tree.span ≡ span list (top_of_page levels 0) → SendsPart (said text list) (first_slot (top_of_page levels 0)) (end_slot (top_of_page levels 0)) (page_count list levels 0) old new front waits r)
+    → ((list : List (Option ℤ)) → AreSlots list → IsTree image total list levels 0 tree.root → tree.span ≡ span list (top_of_page levels 0) → SendsPart (said (first_said tree.slots text) list) (first_slot (top_of_page levels 0)) (end_slot (top_of_page levels 0)) (page_count list levels 0) old new front waits r)
     → IsTreeSent text list front old new waits r
 tree_sent text list image total levels tree front waits old new r is few stands part =
     let root = root_stands image total tree list levels is stands in
@@ -94,9 +94,9 @@ tree_sent text list image total levels tree front waits old new r is few stands 
     let pages : page_count list levels 0 ≡ series_pages list = ap (λ l. page_count list l 0) (sym levels_are) ∙ counts_same list (omega (arith, short)) in
     record {
       reads = omega (arith, whole.reads, pages);
-      gives = by_as r (front ++ join_below (said text list) (end_slot (top_of_page levels 0))) (front ++ texts_of text list) waits old.beside.sent new.beside.sent
-          (ap (λ l. front ++ l) (all_said text list (end_slot (top_of_page levels 0)) (once (length list) (2 ^ (7 * levels)) covers)))
-          (whole.gives front old.beside.sent (all_waits (said text list) (2 ^ (7 * levels)) front old.beside.sent));
+      gives = by_as r (front ++ join_below (said (first_said tree.slots text) list) (end_slot (top_of_page levels 0))) (front ++ texts_of text list) waits old.beside.sent new.beside.sent
+          (ap (λ l. front ++ l) (all_said (first_said tree.slots text) list (end_slot (top_of_page levels 0)) (once (length list) (2 ^ (7 * levels)) covers) ∙ texts_same tree.slots text list (omega (arith, stands.slots))))
+          (whole.gives front old.beside.sent (all_waits (said (first_said tree.slots text) list) (2 ^ (7 * levels)) front old.beside.sent));
       sound = whole.sound;
     }
   where

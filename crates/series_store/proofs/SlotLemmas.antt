@@ -6,7 +6,6 @@ use Rattle.std.proofs.lemmas.Option.{slice_get_within, slice_get-get_or, get_or_
 use Rattle.om3_coeff.specs.Spans.{AreSlots}
 use Rattle.path_repair.specs.Changes.{value_of, slot_at, given, IsEdited}
 use Rattle.path_repair.proofs.StayLemmas.{slot_before, slot_behind, slot_in}
-use Rattle.series_book.specs.declared.limits.TheConstants.{MOST_SLOTS}
 use Rattle.whole_number.specs.declared.limits.TheConstants.{GREATEST_VALUE}
 use Rattle.series_book.specs.declared.one_series.Series.{Series}
 use Rattle.series_book.specs.Edits.{is_too_large, overwritten, cleared, with_slots}

@@ -1,5 +1,5 @@
 -- What an edit tells by what the book answers, and a store in which no series is selected.
-use Rattle.std.specs.Prelude.{ℕ, ℤ, ◌≡◌, ◌≤◌, ◌⊎◌, ◌^◌, ◌++◌, ◌∷◌, [], length, List, Option, Result, Ok, Err, None, IfOk, IfErr, OnOk}
+use Rattle.std.specs.Prelude.{ℕ, ℤ, ◌≡◌, ◌≤◌, ◌⊎◌, ◌++◌, ◌∷◌, [], length, List, Option, Result, Ok, Err, None, IfOk, IfErr, OnOk}
 use Rattle.block_disk.specs.View.{Image, View, Passes}
 use Rattle.gate_pages.specs.Pages.{Quiet, GoesOn}
 use Rattle.page_space.specs.declared.superblock.Superblock.{Superblock}

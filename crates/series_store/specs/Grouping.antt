@@ -1,5 +1,5 @@
 -- How a group of edits is staged one after the other, and committed.
-use Rattle.std.specs.Prelude.{ℕ, ◌≡◌, ◌+◌, ◌*◌, ◌^◌, ◌<◌, ◌≤◌, ◌⊎◌, ◌++◌, ◌∷◌, Bool, false, List, [], length, take, drop, Result, IsErr, IfOk, IfErr, OnOk, OnErr, Vec}
+use Rattle.std.specs.Prelude.{ℕ, ◌≡◌, ◌+◌, ◌*◌, ◌<◌, ◌≤◌, ◌⊎◌, ◌++◌, ◌∷◌, Bool, false, List, [], length, take, drop, Result, IsErr, IfOk, IfErr, OnOk, OnErr, Vec}
 use Rattle.block_disk.specs.Counts.{HasRisen}
 use Rattle.block_disk.specs.View.{Image, View, Passes}
 use Rattle.gate_pages.specs.Pages.{GoesOn, Quiet}

@@ -1,5 +1,5 @@
 -- What a group of edits does, in one commit.
-use Rattle.std.specs.Prelude.{ℕ, ◌≡◌, ◌+◌, ◌<◌, ◌≤◌, ◌⊎◌, ◌^◌, min, max, List, [], ◌∷◌, length, map, take, slice_get, All, Option, None, Some, Result, Ok, Err, IsErr, IfOk, ⊤}
+use Rattle.std.specs.Prelude.{ℕ, ◌≡◌, ◌+◌, ◌<◌, ◌≤◌, ◌⊎◌, min, max, List, [], ◌∷◌, length, map, take, slice_get, All, Option, None, Some, Result, Ok, Err, IsErr, IfOk, ⊤}
 use Rattle.block_disk.specs.Counts.{HasRisen}
 use Rattle.block_disk.specs.View.{Image, View, Passes, Rises}
 use Rattle.gate_pages.specs.Pages.{Quiet}

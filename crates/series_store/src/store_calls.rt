@@ -4,6 +4,7 @@ ghost use Rattle.whole_number.specs.Range.{IsValue};
 ghost use Rattle.block_disk.specs.View.{View};
 ghost use Rattle.om3_coeff.specs.Spans.{IsProperIfAny};
 ghost use Rattle.om3_coeff.specs.View.{Agrees};
+ghost use Rattle.whole_number.specs.SlotTimes.{EndsInTime};
 ghost use Rattle.series_book.specs.declared.limits.TheConstants.{MOST_SLOTS};
 ghost use Rattle.series_book.specs.declared.one_series.Series.{Series};
 ghost use Rattle.series_book.specs.Edits.{id_of};

@@ -46,7 +46,9 @@ fn send_tree<P: PageWorld, T: Texts>(
     ensures cause { IfErr result (λ e. IsSendCause e (P.told space.old.pages) (P.view space.old.pages) (P.view space.new.pages) space.old.superblock.total (page_levels tree.slots) tree.root tree.span) }
 {
     let levels = page_levels(tree.slots);
-    match send_below(space, levels, 0, tree.slots, tree.root, tree.span, texts, out) {
+    match send_below(
+        space, levels, 0, tree.slots, tree.root, tree.span, texts, out,
+    ) {
         Ok(()) => send_waiting(space, out),
         Err(SendError::Damaged { page }) => {
             // What is said of the values in front of the damage goes out, where it can.
