@@ -9,9 +9,9 @@ use Rattle.block_disk.specs.View.{Image, View, DiskKept}
 use Rattle.chart_world.proofs.NextLine.{contains_early, here_lines}
 use Rattle.chart_world.specs.FrontLaws.{passes}
 use Rattle.chart_world.specs.Fronts.{says, IsWhole, BeginsWith, Gives, first_piece}
-use Rattle.chart_world.specs.LineLaws.{lines_none, lines_first, lines_joined, piece_line, told_so}
+use Rattle.chart_world.specs.LineLaws.{lines_none, lines_joined, piece_line, told_so}
 use Rattle.chart_world.specs.Lines.{is_line_feed, text_of, lines}
-use Rattle.chart_world.specs.Reading.{Reading, HasLine, Took, unread, unread_input, in_front_of, behind_first, told_lines, with_first}
+use Rattle.chart_world.specs.Reading.{Reading, HasLine, Took, unread, unread_input, behind_first}
 use Rattle.chart_frames.specs.declared.frame.Frame.{Frame}
 use Rattle.request_lines.specs.declared.requests.Request.{Request}
 use Rattle.request_lines.specs.declared.requests.Request.TheVariants.{Edit as EditRequest, Open, View as ViewRequest, Zoom, Pan, Close}
@@ -23,14 +23,14 @@ use Rattle.series_book.specs.declared.refusals.Refusal.{Refusal}
 use Rattle.series_book.specs.EditLists.{after_edits, book_behind, edits_give}
 use Rattle.series_book.specs.Edits.{Edited, apply}
 use Rattle.series_book.proofs.EditListLemmas.{after_append}
-use Rattle.series_store.specs.Groups.{AreMany, touch_of, weight, weight_of}
+use Rattle.series_store.specs.Groups.{AreMany, weight}
 use Rattle.series_store.specs.Results.{IsUnchanged}
 use Rattle.stored_book.specs.Standing.{StandsForBook}
 use Rattle.chart_service.specs.EditGroups.{DoesSome, IsGroupOf, RepliesToEdits, SpellsEdit, SpellEdits, frame_of, frames_of}
 use Rattle.chart_service.specs.Replies.{Edits, line_text}
-use Rattle.chart_service.specs.Serving.{most_ahead, told}
+use Rattle.chart_service.specs.Serving.{told}
 use Rattle.chart_service.specs.State.{State}
-use Rattle.chart_service.specs.Syncing.{EndsGroup, FirstLinesSyncLess, IsOtherNext, SyncsLines, edit_asked, edit_of, edit_read, edits_of, group_syncs, most_syncs}
+use Rattle.chart_service.specs.Syncing.{EndsGroup, FirstLinesSyncLess, IsOtherNext, SyncsLines, edit_asked, edit_of, edit_read, edits_of, group_syncs}
 use Rattle.chart_service.proofs.GatherLemmas.{both_none, spelled_length}
 use Rattle.chart_service.proofs.Progress.{PassesLines}
 
