@@ -1,5 +1,5 @@
 -- What is sent of the values of a series.
-use Rattle.std.specs.Prelude.{ℕ, zero, suc, ℤ, ◌≡◌, ◌≢◌, ◌+◌, ◌<◌, ◌≤◌, ◌⊎◌, List, [], ◌++◌, length, Option, None, Some, Result, Ok, Err, IfErr, ⊤}
+use Rattle.std.specs.Prelude.{ℕ, zero, suc, ℤ, ◌≡◌, ◌≢◌, ◌+◌, ◌<◌, ◌≤◌, ◌⊎◌, nat_lt, if◌then◌else◌, List, [], ◌++◌, length, Option, None, Some, Result, Ok, Err, IfErr, ⊤}
 use Rattle.block_disk.specs.Counts.{HasRisen}
 use Rattle.block_disk.specs.Streams.{sent_after}
 use Rattle.block_disk.specs.View.{Image, View, Now, sent_now, Passes}
@@ -25,6 +25,10 @@ use Rattle.series_store.specs.declared.store.Store.{Store}
 abbrev pub said_of : (ℕ → ℤ → List ℕ) → ℕ → Option ℤ → List ℕ
 said_of text slot None = []
 said_of text slot (Some value) = text slot value
+
+-- what is said of the first so many slots, and nothing of the others
+abbrev pub first_said : ℕ → (ℕ → ℤ → List ℕ) → ℕ → ℤ → List ℕ
+first_said slots text slot value = if nat_lt slot slots then text slot value else []
 
 -- the same of a slot of a list
 abbrev pub said : (ℕ → ℤ → List ℕ) → List (Option ℤ) → ℕ → List ℕ
