@@ -1,5 +1,5 @@
 //! Whether the slots of a series stand at times.
-ghost use Rattle.std.specs.Prelude.{◌≡◌, ◌<◌, ℕ, ℤ};
+ghost use Rattle.std.specs.Prelude.{◌≡◌, ◌<◌, ◌*◌, ◌+ℤ◌, ℕ, ℤ, pos};
 ghost use Rattle.whole_number.specs.SlotTimes.{ends_in_time, IsEarly, EndsInTime};
 
 /// The latest time: 2 * 10^18.
@@ -17,6 +17,14 @@ pub fn ends_in_time(start: i64, step: u32, slots: u64) -> bool
         return false;
     }
     u128::from(slots - 1) * u128::from(step) <= u128::from(LATEST_TIME.abs_diff(start))
+}
+
+/// The time of a slot that stands at one: `start + slot * step`.
+pub fn slot_time(start: i64, step: u32, slot: u64) -> i64
+    requires { IsEarly start step slot }
+    ensures { result ≡ start +ℤ pos (slot * step) }
+{
+    (i128::from(start) + i128::from(slot) * i128::from(step)) as i64
 }
 
 /// Each of the slots stands at a time, where the last one does.
