@@ -6,6 +6,7 @@ ghost use Rattle.page_space.specs.declared.superblock.Superblock.{Superblock};
 ghost use Rattle.page_space.specs.Firsts.{empty_over};
 ghost use Rattle.page_space.specs.Layout.{superblock_page, in_use, with_series, IsSmall};
 ghost use Rattle.path_repair.specs.Edited.{IsHeldTree, IsFullFor};
+ghost use Rattle.series_book.specs.declared.limits.TheConstants.{MOST_SLOTS};
 ghost use Rattle.series_book.specs.declared.one_series.Series.{Series};
 ghost use Rattle.series_book.specs.Books.{IsBook};
 ghost use Rattle.series_book.specs.Edits.{with_slots};
@@ -82,6 +83,6 @@ pub fn added_series_stand()
 /// Where a tree isn't changed for want of pages, the changed book needs so many.
 pub fn full_trees_are_full_books()
     ensures { (image : Image) (s : Superblock) (book : List Series) (id : ℕ) (series : Series) (slots : List (Option ℤ)) (needed have : ℕ)
-        → IsStore image s book → slice_get book id ≡ Some series → length slots ≤ 2 ^ 28 → IsFullFor s.total (in_use s) series.slots slots needed have
+        → IsStore image s book → slice_get book id ≡ Some series → length slots ≤ MOST_SLOTS → IsFullFor s.total (in_use s) series.slots slots needed have
         → (pages_of (with_slots book id series slots) ≡ needed) × (have ≡ s.total) × (s.total < needed) }
 {}
