@@ -26,10 +26,6 @@ abbrev pub said_of : (ℕ → ℤ → List ℕ) → ℕ → Option ℤ → List 
 said_of text slot None = []
 said_of text slot (Some value) = text slot value
 
--- what is said of the first so many slots, and nothing of the others
-abbrev pub first_said : ℕ → (ℕ → ℤ → List ℕ) → ℕ → ℤ → List ℕ
-first_said slots text slot value = if nat_lt slot slots then text slot value else []
-
 -- the same of a slot of a list
 abbrev pub said : (ℕ → ℤ → List ℕ) → List (Option ℤ) → ℕ → List ℕ
 said text list slot = said_of text slot (slot_at list slot)
@@ -37,6 +33,10 @@ said text list slot = said_of text slot (slot_at list slot)
 -- the texts of all values of a list, in the order of their slots
 abbrev pub texts_of : (ℕ → ℤ → List ℕ) → List (Option ℤ) → List ℕ
 texts_of text list = join_below (said text list) (length list)
+
+-- what is said of the first so many slots, and nothing of the others
+abbrev pub first_said : ℕ → (ℕ → ℤ → List ℕ) → ℕ → ℤ → List ℕ
+first_said slots text slot value = if nat_lt slot slots then text slot value else []
 
 -- a front of the text was sent behind what was sent before, and the rest of it waits
 pub record IsGiven (text : List ℕ) (before now : Option (List ℕ)) (waiting : List ℕ) : Type 0 where

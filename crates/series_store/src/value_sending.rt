@@ -63,11 +63,11 @@ impl<P: PageWorld> Store<P> {
     /// Sends the bytes of `out`, fewer than 16,384 of them, and behind them what `texts` says of each value of
     /// the series of this id, in the order of their slots. They go out in pieces: `out` never holds more than
     /// 16,384 bytes and a text. Each page of the series' tree is read once at most, and none where nothing
-    /// may be said of its slots.
+    /// may be said of its slots. A value that stands past the series' last slot is passed over.
     ///
     /// After an error a front of the bytes was sent. Each page that is read is checked; the first that is bad
-    /// for its place is `Damaged`, and what is said of the values in front of it was sent, unless a send failed. Where the pages stand for a book none is. Nothing is written, and the
-    /// selected series stays.
+    /// for its place is `Damaged`, and what is said of the values in front of it was sent, unless a send failed.
+    /// Where the pages stand for a book none is. Nothing is written, and the selected series stays.
     pub fn send_values<T: Texts>(
         &mut self,
         id: u16,

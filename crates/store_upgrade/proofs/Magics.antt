@@ -1,5 +1,5 @@
 -- The magics of the two versions, and the pages that they tell of.
-use Rattle.std.proofs.Common.{◌≡◌, ℕ, ◌≤◌, ◌<◌, Bool, true, false, cond, nat_lt, List, drop, get_or, refl, sym, ap, subst, arith, inl, inr, ◌∙◌}
+use Rattle.std.proofs.Common.{◌≡◌, ℕ, ◌≤◌, ◌<◌, ◌⊎◌, Bool, true, false, cond, nat_lt, List, drop, get_or, refl, sym, ap, subst, arith, inl, inr, ◌∙◌}
 use Rattle.std.proofs.lemmas.Bool.{cases_Bool, lt-ltb, le-ltb, ne_eqb}
 use Rattle.std.proofs.lemmas.Bool.Decides.{Decides-eqb}
 use Rattle.std.proofs.lemmas.Slice.Eq.{starts_is}
@@ -89,3 +89,24 @@ pub current_first : (image : Image) → HasOldMagic (image 0) → HasMagic (curr
 current_first image old =
     let here : current image 0 ≡ renewed (image 0) = ap (λ (i : Image). i 0) (current_upgraded image old) ∙ upgraded_first image in
     subst HasMagic (sym here) (renewed_new (image 0))
+
+pub magic_current : (image : Image) → HasMagic (image 0) → HasMagic (current image 0)
+magic_current image new =
+    let here : current image 0 ≡ image 0 = ap (λ (i : Image). i 0) (current_same image (new_not_old (image 0) new)) in
+    subst HasMagic (sym here) new
+
+-- pages that have the magic once they are current have one of the two
+pub either_magic : (image : Image) → HasMagic (current image 0) → HasMagic (image 0) ⊎ HasOldMagic (image 0)
+either_magic image new = elim (cases_Bool (has_old_magic (image 0))) [
+  | inl is ↦ inr (old_by (image 0) is)
+  | inr is ↦
+      let here : current image 0 ≡ image 0 = ap (λ (i : Image). i 0) (current_same image (λ has. apart (has_old_magic (image 0)) (old_is (image 0) has) is)) in
+      inl (subst HasMagic here new)
+]
+
+-- what a test of page 0 tells
+pub tells_current : (image : Image) (old : Bool) → old ≡ has_old_magic (image 0) → old ≡ true → HasMagic (current image 0)
+tells_current image old test so = current_first image (old_by (image 0) (sym test ∙ so))
+
+pub tells_other : (image : Image) (old : Bool) → old ≡ has_old_magic (image 0) → old ≡ false → HasOldMagic (image 0) → ⊥
+tells_other image old test so has = apart (has_old_magic (image 0)) (old_is (image 0) has) (sym test ∙ so)

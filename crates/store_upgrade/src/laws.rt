@@ -1,5 +1,5 @@
 //! What becomes of pages. The functions do nothing: their contracts are the laws.
-ghost use Rattle.std.specs.Prelude.{◌≡◌, ◌≢◌, ◌≤◌, ◌<◌, ◌+◌, ◌*◌, ℕ, List, slice_index};
+ghost use Rattle.std.specs.Prelude.{◌≡◌, ◌≢◌, ◌≤◌, ◌<◌, ◌+◌, ◌*◌, ◌⊎◌, ℕ, List, slice_index};
 ghost use Rattle.block_disk.specs.Blocks.{IsBlock};
 ghost use Rattle.block_disk.specs.View.{Image};
 ghost use Rattle.catalog_page.specs.Fields.{record_bytes};
@@ -11,6 +11,7 @@ ghost use Rattle.store_upgrade.specs.Upgraded.{levels_of, upgraded_page, current
 pub fn other_pages_are_current()
     ensures same { (image : Image) → (HasOldMagic (image 0) → ⊥) → current image ≡ image }
     ensures apart { (page : List ℕ) → HasMagic page → HasOldMagic page → ⊥ }
+    ensures either { (image : Image) → HasMagic (current image 0) → HasMagic (image 0) ⊎ HasOldMagic (image 0) }
 {}
 
 /// Pages of version 1 get the magic of version 2, for good, and those behind the catalog stay.
