@@ -85,38 +85,47 @@ appended_fits series values slots is given =
       fit = All-append (λ value. is_too_large value ≡ false) series.slots values is.values_in_range (none_too_large values small);
     })
 
+-- values stay in range where a run of such ones is written over them
+pub overwritten_values : (slots run : List (Option ℤ)) (place : ℕ) → All (λ value. is_too_large value ≡ false) slots → All (λ value. is_too_large value ≡ false) run
+    → All (λ value. is_too_large value ≡ false) (overwritten slots place run)
+unfolding overwritten
+overwritten_values slots run place old new =
+    let fits : Option ℤ → Type 0 = λ value. is_too_large value ≡ false in
+    All-append fits (take place slots ++ replicate (place - length slots) None ++ run) (drop (place + length run) slots)
+    (All-append fits (take place slots ++ replicate (place - length slots) None) run
+    (All-append fits (take place slots) (replicate (place - length slots) None) (All-take fits place slots old) (All-replicate fits (place - length slots) None refl))
+    new)
+    (All-drop fits (place + length run) slots old)
+
 -- a run over slots is in range
 pub overwritten_fits : (series : Series) (slots run : List (Option ℤ)) (place : ℕ) → All (λ value. is_too_large value ≡ false) slots → All (λ value. is_too_large value ≡ false) run
     → length slots ≤ MOST_SLOTS → place + length run ≤ MOST_SLOTS → EndsInTime series.start series.step (max (length slots) (place + length run)) → AreInRange series (overwritten slots place run)
 unfolding overwritten
-overwritten_fits series slots run place old new short room last =
-    let fits : Option ℤ → Type 0 = λ value. is_too_large value ≡ false in
-    record {
+overwritten_fits series slots run place old new short room last = record {
       short = omega (arith, length-append {A = Option ℤ}, length-take {A = Option ℤ}, length-drop {A = Option ℤ}, length-replicate {A = Option ℤ});
       last = subst (EndsInTime series.start series.step) (sym (length-overwritten slots run place)) last;
-      fit =
-          All-append fits (take place slots ++ replicate (place - length slots) None ++ run) (drop (place + length run) slots)
-          (All-append fits (take place slots ++ replicate (place - length slots) None) run
-          (All-append fits (take place slots) (replicate (place - length slots) None) (All-take fits place slots old) (All-replicate fits (place - length slots) None refl))
-          new)
-          (All-drop fits (place + length run) slots old);
+      fit = overwritten_values slots run place old new;
     }
+
+-- so do those that a clear leaves
+pub cleared_values : (slots : List (Option ℤ)) (place count : ℕ) → All (λ value. is_too_large value ≡ false) slots → All (λ value. is_too_large value ≡ false) (cleared slots place count)
+unfolding cleared
+cleared_values slots place count old =
+    let fits : Option ℤ → Type 0 = λ value. is_too_large value ≡ false in
+    All-append fits (take place slots ++ replicate (min (place + count) (length slots) - place) None) (drop (place + count) slots)
+    (All-append fits (take place slots) (replicate (min (place + count) (length slots) - place) None) (All-take fits place slots old) (All-replicate fits (min (place + count) (length slots) - place) None refl))
+    (All-drop fits (place + count) slots old)
 
 -- so is what a clear leaves
 pub cleared_fits : (series : Series) (slots : List (Option ℤ)) (place count : ℕ) → All (λ value. is_too_large value ≡ false) slots → length slots ≤ MOST_SLOTS
     → EndsInTime series.start series.step (length slots) → AreInRange series (cleared slots place count)
 unfolding cleared
-cleared_fits series slots place count old short last =
-    let fits : Option ℤ → Type 0 = λ value. is_too_large value ≡ false in
-    record {
+cleared_fits series slots place count old short last = record {
       short = omega (arith, length-append {A = Option ℤ}, length-take {A = Option ℤ}, length-drop {A = Option ℤ}, length-replicate {A = Option ℤ});
       last = fewer_in_time series.start series.step (length slots) (length (cleared slots place count))
           (omega (arith, length-append {A = Option ℤ}, length-take {A = Option ℤ}, length-drop {A = Option ℤ}, length-replicate {A = Option ℤ}))
           last;
-      fit =
-          All-append fits (take place slots ++ replicate (min (place + count) (length slots) - place) None) (drop (place + count) slots)
-          (All-append fits (take place slots) (replicate (min (place + count) (length slots) - place) None) (All-take fits place slots old) (All-replicate fits (min (place + count) (length slots) - place) None refl))
-          (All-drop fits (place + count) slots old);
+      fit = cleared_values slots place count old;
     }
 
 -- what a set gives is in range

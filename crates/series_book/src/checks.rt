@@ -52,7 +52,7 @@ pub fn set_refusal(axis: Axis, time: i128, values: &Values) -> Option<Refusal>
     ensures in_range { IfNone result (list_any is_too_large values.now ≡ false) }
     ensures few { IfNone result (length values.now ≤ MOST_VALUES) }
     ensures room { (series : Series) → IsAxisOf series axis → IfNone result (place_of series time + length values.now ≤ MOST_SLOTS) }
-    ensures last { (series : Series) → IsAxisOf series axis → IfNone result (EndsInTime series.start series.step (max (length series.slots) (place_of series time + length values.now))) }
+    ensures last { (series : Series) → IsAxisOf series axis → IfNone result (EndsInTime axis.start axis.step (max axis.slots (place_of series time + length values.now))) }
 {
     if let Some(refusal) = time_refusal(axis, time) {
         return Some(refusal);
