@@ -1,9 +1,9 @@
 -- What is known of a disk, of its pages.
-use Rattle.std.proofs.Common.{◌≡◌, ℕ, ◌≤◌, Bool, true, false, List, [], ◌∷◌, get_or, refl, sym, ap, subst, arith, ◌∙◌}
-use Rattle.block_disk.specs.View.{Image, View, Now, Honest}
+use Rattle.std.proofs.Common.{◌≡◌, ℕ, ◌≤◌, List, [], ◌∷◌, get_or, refl, sym, ap, subst, arith, ◌∙◌}
+use Rattle.block_disk.specs.View.{Image, View, Honest}
 use Rattle.gate_pages.specs.GateLaws.{closed_readable}
 use Rattle.gate_pages.specs.GatePages.{PagesOf, IsReadable, IsClosed}
-use Rattle.gate_pages.specs.Journal.{pages_of, is_open}
+use Rattle.gate_pages.specs.Journal.{pages_of}
 use Rattle.page_space.specs.Layout.{superblock_page}
 use Rattle.page_space.specs.declared.superblock.Superblock.{Superblock}
 use Rattle.series_book.specs.declared.one_series.Series.{Series}

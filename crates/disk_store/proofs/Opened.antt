@@ -2,10 +2,10 @@
 use Rattle.std.proofs.Common.{◌≡◌, ℕ, ◌+◌, ◌≤◌, ◌<◌, ◌⊎◌, Bool, List, ◌∷◌, ◌++◌, length, length-append, refl, sym, ap, subst, arith, inl, inr, ◌∙◌}
 use Rattle.std.proofs.lemmas.Bool.{cases_Bool, cases_lt}
 use Rattle.block_disk.specs.Counts.{HasRisen}
-use Rattle.block_disk.specs.View.{Image, View, Now, Honest, Passes, Moves, Rises, sent_now}
+use Rattle.block_disk.specs.View.{Image, View, Now, Honest, Passes, Moves, sent_now}
 use Rattle.block_disk.proofs.Passing.{passes_weaker}
 use Rattle.gate_pages.specs.GateLaws.{gate_rests, goes_by}
-use Rattle.gate_pages.specs.GatePages.{PagesOf, IsReadable, IsBroken, IsClosed, StandsAsBefore, pages_view}
+use Rattle.gate_pages.specs.GatePages.{PagesOf, IsReadable, IsClosed, StandsAsBefore, pages_view}
 use Rattle.gate_pages.specs.Journal.{page_count, pages_of}
 use Rattle.gate_pages.specs.Openings.{Explains}
 use Rattle.gate_pages.specs.Pages.{Quiet, GoesOn}

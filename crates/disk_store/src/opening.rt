@@ -68,6 +68,13 @@ pub fn open_store<D: Disk>(
     }
 }
 
+/// The block of a page.
+fn block_of(page: u32) -> u64
+    ensures { result ≡ 66 + page }
+{
+    HOME + u64::from(page)
+}
+
 /// Why no store was opened, where its pages weren't.
 fn pages_cause(cause: OpenCause) -> OpeningCause
     ensures { result ≡ cause_of cause }
@@ -86,7 +93,7 @@ fn upgrade_cause(cause: UpgradeError) -> OpeningCause
 {
     match cause {
         UpgradeError::Damaged { page } => OpeningCause::Damaged {
-            block: HOME + u64::from(page),
+            block: block_of(page),
         },
         UpgradeError::DiskFault => OpeningCause::DiskFault,
         UpgradeError::NoMemory => OpeningCause::NoMemory,
@@ -100,7 +107,7 @@ fn store_cause(cause: StoreError) -> OpeningCause
     match cause {
         StoreError::NotAStore => OpeningCause::Damaged { block: HOME },
         StoreError::Damaged { page } => OpeningCause::Damaged {
-            block: HOME + u64::from(page),
+            block: block_of(page),
         },
         StoreError::DiskFault => OpeningCause::DiskFault,
         StoreError::Refused(_) | StoreError::NoMemory => OpeningCause::NoMemory,
