@@ -19,7 +19,8 @@ use Rattle.store_commands.specs.Books.{LeavesSame, OfBook}
 use Rattle.store_commands.specs.Damaged.{IsDamagedLater}
 use Rattle.derive_command.specs.Derived.{DerivesAll}
 use Rattle.derive_command.specs.Deriving.{Drawn, IsEndCause, StopsAt}
-use Rattle.derive_command.specs.Doing.{Goes, IsCause, Side}
+use Rattle.store_commands.specs.Sides.{Side}
+use Rattle.derive_command.specs.Doing.{Goes, IsCause}
 use Rattle.derive_command.specs.Lines.{DrawsAll, EndsSo}
 use Rattle.derive_command.specs.declared.derive_end.DeriveEnd.{DeriveEnd}
 use Rattle.derive_command.specs.declared.derive_end.DeriveEnd.TheVariants.{BadLine, Refused, ReadFault, SendFault, InputTooLong, DiskFault, Damaged, NoMemory}

@@ -15,7 +15,7 @@ use Rattle.gate_pages.specs.Pages.{GoesOn}
 use Rattle.series_book.specs.declared.one_series.Series.{Series}
 use Rattle.stored_book.specs.Damage.{IsBadForRequest}
 use Rattle.stored_book.specs.Standing.{StandsForBook, RecoversTo}
-use Rattle.store_commands.proofs.Held.{held, risen_since, stands_held, within_held}
+use Rattle.store_commands.proofs.Held.{held, holds_so, risen_since, stands_held, within_held}
 use Rattle.store_commands.proofs.Moments.{opened_goes, opened_quiet, since_opened}
 use Rattle.store_commands.specs.Damaged.{IsDamagedLater}
 use Rattle.live_command.specs.Doing.{IsCause, Side}
@@ -78,23 +78,18 @@ module _ (count count' : ℕ) (sound sound' : Bool) (old new : View) (same : cou
   abbrev pub OfPages : (ℕ → List Series → Type 0) → Type 0
   OfPages IsSo = (total : ℕ) (book : List Series) → Honest old → StandsForBook (pages_of count old.image) total book → IsSo total book
 
-  holds_so : (total : ℕ) (book : List Series) → HoldsBook count total book old → IsClosed new → (after : List Series) → StandsForBook (pages_of count' new.image) total after → Holds count total new after
-  holds_so total book holds closed after stands =
-      let C : ℕ → Type 0 = λ c. StandsForBook (pages_of c new.image) total after in
-      holds_closed count total after new closed (told holds.honest) (within_held count total book old holds) (subst C same stands)
-
   pub done_on : (left before now : Option (List ℕ)) → OfPages (λ total book. IfSome left (λ input. SendsAll (Stands total (pages_of count' new.image)) input (begun_live total book) before now)) → IsClosed new → IfSome left (λ input. LivesAll count old new input before now)
   done_on None before now all closed = tt
   done_on (Some input) before now all closed = λ total book holds.
-      all_so (Stands total (pages_of count' new.image)) (Holds count total new) input (begun_live total book) before now (holds_so total book holds closed) (all total book holds.honest (stands_held count total book old holds))
+      all_so (Stands total (pages_of count' new.image)) (Holds count total new) input (begun_live total book) before now (holds_so count count' old new same told total book holds closed) (all total book holds.honest (stands_held count total book old holds))
 
   end_on : (total : ℕ) (book : List Series) (input : List ℕ) (left before now : Option (List ℕ)) (end : ServeEnd) → HoldsBook count total book old → (end ≢ DiskFault → IsClosed new) → EndsSo (Stands total (pages_of count' new.image)) input (begun_live total book) left before now end → EndsSo (Holds count total new) input (begun_live total book) left before now end
   end_on total book input left before now DiskFault holds closed s = s
-  end_on total book input left before now ReadFault holds closed s = ends_so (Stands total (pages_of count' new.image)) (Holds count total new) input (begun_live total book) before now (holds_so total book holds (closed (λ is. cc))) left ReadFault s
-  end_on total book input left before now SendFault holds closed s = ends_so (Stands total (pages_of count' new.image)) (Holds count total new) input (begun_live total book) before now (holds_so total book holds (closed (λ is. cc))) left SendFault s
-  end_on total book input left before now InputTooLong holds closed s = ends_so (Stands total (pages_of count' new.image)) (Holds count total new) input (begun_live total book) before now (holds_so total book holds (closed (λ is. cc))) left InputTooLong s
+  end_on total book input left before now ReadFault holds closed s = ends_so (Stands total (pages_of count' new.image)) (Holds count total new) input (begun_live total book) before now (holds_so count count' old new same told total book holds (closed (λ is. cc))) left ReadFault s
+  end_on total book input left before now SendFault holds closed s = ends_so (Stands total (pages_of count' new.image)) (Holds count total new) input (begun_live total book) before now (holds_so count count' old new same told total book holds (closed (λ is. cc))) left SendFault s
+  end_on total book input left before now InputTooLong holds closed s = ends_so (Stands total (pages_of count' new.image)) (Holds count total new) input (begun_live total book) before now (holds_so count count' old new same told total book holds (closed (λ is. cc))) left InputTooLong s
   end_on total book input left before now (Damaged page) holds closed s = absurd s
-  end_on total book input left before now NoMemory holds closed s = ends_so (Stands total (pages_of count' new.image)) (Holds count total new) input (begun_live total book) before now (holds_so total book holds (closed (λ is. cc))) left NoMemory s
+  end_on total book input left before now NoMemory holds closed s = ends_so (Stands total (pages_of count' new.image)) (Holds count total new) input (begun_live total book) before now (holds_so count count' old new same told total book holds (closed (λ is. cc))) left NoMemory s
 
   pub stops_on : (left left' before now : Option (List ℕ)) (end : ServeEnd) → OfPages (λ total book. IfSome left (λ input. EndsSo (Stands total (pages_of count' new.image)) input (begun_live total book) left' before now end)) → (end ≢ DiskFault → IsClosed new) → IfSome left (λ input. StopsAt count old new input left' before now end)
   stops_on None left' before now end all closed = tt

@@ -18,12 +18,13 @@ use Rattle.stored_book.specs.Damage.{IsBadForRequest}
 use Rattle.stored_book.specs.Standing.{StandsForBook, RecoversTo}
 use Rattle.retention.specs.Drops.{book_swept}
 use Rattle.retention.specs.Sweeps.{sweeps}
-use Rattle.store_commands.proofs.Held.{held, risen_since, stands_held, within_held}
+use Rattle.store_commands.proofs.Held.{held, holds_so, risen_since, stands_held, within_held}
 use Rattle.store_commands.proofs.Moments.{opened_goes, opened_quiet, since_opened}
 use Rattle.store_commands.specs.Books.{HoldsAgain, Never, OfBook}
 use Rattle.store_commands.specs.Damaged.{IsDamagedLater}
 use Rattle.retain_command.specs.Answers.{book_behind}
-use Rattle.retain_command.specs.Doing.{IsCause, Side}
+use Rattle.store_commands.specs.Sides.{Side}
+use Rattle.retain_command.specs.Doing.{IsCause}
 use Rattle.retain_command.specs.Retained.{Holds, LeavesSwept, RetainsAll}
 use Rattle.retain_command.specs.Retaining.{IsEndCause, StopsAt, Swept}
 use Rattle.retain_command.specs.Sweeping.{AnswersNext, EndsSo, IsAhead, SweepsAll, SweepsFirst, SweepsTaken, left_by}
@@ -92,25 +93,20 @@ module _ (count count' : ℕ) (sound sound' : Bool) (old new : View) (same : cou
   abbrev pub OfPages : (ℕ → List Series → Type 0) → Type 0
   OfPages IsSo = (total : ℕ) (book : List Series) → Honest old → StandsForBook (pages_of count old.image) total book → IsSo total book
 
-  holds_so : (total : ℕ) (book : List Series) → HoldsBook count total book old → IsClosed new → (after : List Series) → StandsForBook (pages_of count' new.image) total after → Holds count total new after
-  holds_so total book holds closed after stands =
-      let C : ℕ → Type 0 = λ c. StandsForBook (pages_of c new.image) total after in
-      holds_closed count total after new closed (told holds.honest) (within_held count total book old holds) (subst C same stands)
-
   pub done_on : (left before now : Option (List ℕ)) → OfPages (λ total book. IfSome left (λ input. SweepsAll (Stands total (pages_of count' new.image)) total book input before now)) → IsClosed new → IfSome left (λ input. RetainsAll count old new input before now)
   done_on None before now all closed = tt
   done_on (Some input) before now all closed = λ total book holds.
-      all_so (Stands total (pages_of count' new.image)) (Holds count total new) total book input before now (holds_so total book holds closed) (all total book holds.honest (stands_held count total book old holds))
+      all_so (Stands total (pages_of count' new.image)) (Holds count total new) total book input before now (holds_so count count' old new same told total book holds closed) (all total book holds.honest (stands_held count total book old holds))
 
   end_on : (total : ℕ) (book : List Series) (input : List ℕ) (left before now : Option (List ℕ)) (end : RetainEnd) → HoldsBook count total book old → (end ≢ DiskFault → IsClosed new) → EndsSo (Stands total (pages_of count' new.image)) total book input left before now end → EndsSo (Holds count total new) total book input left before now end
   end_on total book input left before now DiskFault holds closed s = s
-  end_on total book input left before now (BadLine at) holds closed s = ends_so (Stands total (pages_of count' new.image)) (Holds count total new) total book input before now (holds_so total book holds (closed (λ is. cc))) left (BadLine at) s
-  end_on total book input left before now (UnknownSeries at) holds closed s = ends_so (Stands total (pages_of count' new.image)) (Holds count total new) total book input before now (holds_so total book holds (closed (λ is. cc))) left (UnknownSeries at) s
-  end_on total book input left before now ReadFault holds closed s = ends_so (Stands total (pages_of count' new.image)) (Holds count total new) total book input before now (holds_so total book holds (closed (λ is. cc))) left ReadFault s
-  end_on total book input left before now SendFault holds closed s = ends_so (Stands total (pages_of count' new.image)) (Holds count total new) total book input before now (holds_so total book holds (closed (λ is. cc))) left SendFault s
-  end_on total book input left before now InputTooLong holds closed s = ends_so (Stands total (pages_of count' new.image)) (Holds count total new) total book input before now (holds_so total book holds (closed (λ is. cc))) left InputTooLong s
+  end_on total book input left before now (BadLine at) holds closed s = ends_so (Stands total (pages_of count' new.image)) (Holds count total new) total book input before now (holds_so count count' old new same told total book holds (closed (λ is. cc))) left (BadLine at) s
+  end_on total book input left before now (UnknownSeries at) holds closed s = ends_so (Stands total (pages_of count' new.image)) (Holds count total new) total book input before now (holds_so count count' old new same told total book holds (closed (λ is. cc))) left (UnknownSeries at) s
+  end_on total book input left before now ReadFault holds closed s = ends_so (Stands total (pages_of count' new.image)) (Holds count total new) total book input before now (holds_so count count' old new same told total book holds (closed (λ is. cc))) left ReadFault s
+  end_on total book input left before now SendFault holds closed s = ends_so (Stands total (pages_of count' new.image)) (Holds count total new) total book input before now (holds_so count count' old new same told total book holds (closed (λ is. cc))) left SendFault s
+  end_on total book input left before now InputTooLong holds closed s = ends_so (Stands total (pages_of count' new.image)) (Holds count total new) total book input before now (holds_so count count' old new same told total book holds (closed (λ is. cc))) left InputTooLong s
   end_on total book input left before now (Damaged page) holds closed s = absurd s
-  end_on total book input left before now NoMemory holds closed s = ends_so (Stands total (pages_of count' new.image)) (Holds count total new) total book input before now (holds_so total book holds (closed (λ is. cc))) left NoMemory s
+  end_on total book input left before now NoMemory holds closed s = ends_so (Stands total (pages_of count' new.image)) (Holds count total new) total book input before now (holds_so count count' old new same told total book holds (closed (λ is. cc))) left NoMemory s
 
   pub stops_on : (left left' before now : Option (List ℕ)) (end : RetainEnd) → OfPages (λ total book. IfSome left (λ input. EndsSo (Stands total (pages_of count' new.image)) total book input left' before now end)) → (end ≢ DiskFault → IsClosed new) → IfSome left (λ input. StopsAt count old new input left' before now end)
   stops_on None left' before now end all closed = tt

@@ -13,4 +13,6 @@ pub mod DemoRequests
 pub mod DemoSent
 pub mod DemoEnds
 pub mod TurnedAway
+pub mod WorldLemmas
+pub mod InputLemmas
 pub mod HoldsAgain
