@@ -15,6 +15,7 @@ BURST = 64  # edits that stand ready
 DONE = 13  # bytes of the frame that answers an edit
 BLOCKS = 16384
 SERIES = {10**5: 2048, 10**6: 16384, 10**7: 131072}  # slots, and the blocks of a store that has room for them
+SPARSE, FEW_BLOCKS = (2**28, 2**35 - 1), 128  # slots of series of three values, and the blocks of their stores
 VIEWS, ROUNDS = 20, 5
 
 
@@ -107,10 +108,8 @@ def print_edits():
                 )
 
 
-def measure_view(slots, blocks):
-    """Seconds and block reads of a first view, and the peak of memory of a run with it, over a series of so many slots."""
-    store = f"series{slots}.store"
-    build_store(store, blocks, lines_of_series(list(walk(slots))))
+def measure_view(slots, store):
+    """Seconds and block reads of a first view, and the peak of memory of a run with it, over a store with a series of so many slots."""
     serve = [PROGRAM, store, "serve"]
     asked = {"without": "", "with": f"view 1 s {WIDTH} {HEIGHT} 0 {slots} auto\n"}
     runs, read = {}, {}
@@ -123,7 +122,6 @@ def measure_view(slots, blocks):
             runs.setdefault(kind, []).append(measure(serve, kind))
     least = least_seconds(runs)
     reads = None if read["with"] is None else read["with"] - read["without"]
-    os.remove(store)
     return (least["with"] - least["without"]) / VIEWS, reads, max(run[1] for run in runs["with"])
 
 
@@ -133,14 +131,43 @@ def print_views():
     print(f"{'slots':>10}{'a view s':>12}{'blocks read':>13}{'peak MiB':>10}{'time, over that of the shortest':>33}")
     base = None
     for slots, blocks in SERIES.items():
-        seconds, reads, peak = measure_view(slots, blocks)
+        store = f"series{slots}.store"
+        build_store(store, blocks, lines_of_series(list(walk(slots))))
+        seconds, reads, peak = measure_view(slots, store)
         base = base or seconds
         print(f"{slots:10}{seconds:12.4f}{shown(reads, VIEWS):>13}{peak:10.1f}{seconds / base:33.2f}")
+        os.remove(store)
+
+
+def lines_of_sparse_series(slots):
+    """The request lines that make a series of three values: in its first slot, in its middle, and in its last slot."""
+    yield "create s 0 1 0"
+    for value, slot in enumerate((0, slots // 2, slots - 1)):
+        yield f"set s {slot} {value}"
+
+
+def pages_in(store):
+    """The pages in use, as `check` tells them."""
+    told = subprocess.run([PROGRAM, store, "check"], stdin=subprocess.DEVNULL, stdout=subprocess.PIPE, check=True).stdout
+    return int(told.split()[5])
+
+
+def print_sparse():
+    print("the same of series with three values, in the first slot, the middle and the last; 17 pages have the catalog")
+    print(f"{'slots':>12}{'pages':>7}{'a view s':>12}{'blocks read':>13}{'time, over that of the shortest':>33}")
+    base = None
+    for slots in SPARSE:
+        store = f"sparse{slots}.store"
+        build_store(store, FEW_BLOCKS, lines_of_sparse_series(slots))
+        seconds, reads, _ = measure_view(slots, store)
+        base = base or seconds
+        print(f"{slots:12}{pages_in(store):7}{seconds:12.6f}{shown(reads, VIEWS):>13}{seconds / base:33.2f}")
 
 
 def measure_store():
     print_edits()
     print_views()
+    print_sparse()
 
 
 if __name__ == "__main__":

@@ -38,11 +38,23 @@ def write_pages(*book, pages=PAGES):
     sys.stdout.buffer.write(b"".join(pages_of(book, pages)))
 
 
-def write_damaged_store(*book, page, offset, byte):
+def write_damaged_store(*book, page, offset, byte, version=2):
     """Writes a store of this book, but for one byte of a page."""
-    store = bytearray(store_of(book, BLOCKS))
+    store = bytearray(store_of(book, BLOCKS, version))
     store[BLOCK * (FIRST_PAGE + page) + offset] = byte
     sys.stdout.buffer.write(store)
+
+
+def write_old_store(*book):
+    """Writes a store of this book in version 1, which an opening brings to version 2."""
+    sys.stdout.buffer.write(store_of(book, BLOCKS, version=1))
+
+
+def write_old_store_behind_journal():
+    """Writes an empty store of version 1, behind an open gate and a journal of the pages that SERIES changes there."""
+    pages = pages_of([SERIES], PAGES, version=1)
+    journal = journal_of({number: pages[number] for number in (TREE, 0, 1)})
+    sys.stdout.buffer.write(journal + store_of([], BLOCKS, version=1)[len(journal) :])
 
 
 def write_store_with_damaged_tree():

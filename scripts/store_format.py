@@ -1,7 +1,8 @@
 """The bytes of a store, spelled and read by docs/FORMATS.md alone, for golden runs and scripts/crash.
 
 A series is a tuple of a name, a start, a step, a scale and a list of slots, each a whole number or None; a book is a list
-of series. A span is a pair of the least and the greatest stored value, or None where nothing is stored.
+of series. A span is a pair of the least and the greatest stored value, or None where nothing is stored. Stores are spelled in
+version 2, where no other is asked for, and read in both.
 """
 import functools
 import struct
@@ -12,6 +13,8 @@ FIRST_TREE_PAGE = 17
 RECORDS, RECORD, RECORD_SIZE = 32, 8, 96  # in a page of the catalog: how many, the offset of the first, and their size
 TREE_LEVELS, CHILDREN = 7, 128  # of a tree page: its levels, and its parts
 FLAGS, DIFFERENCES, CHILD_PAGES = 8, 40, 2072  # offsets in a tree page
+MAGICS = {b"CHARTST1": 1, b"CHARTST2": 2}  # the versions of the format
+CATALOG_KINDS = {1: 3, 2: 4}  # the first byte of a page of the catalog, by the version
 
 
 class Damaged(Exception):
@@ -44,8 +47,8 @@ def page_count(book):
     return FIRST_TREE_PAGE + ranges
 
 
-def superblock(total, fresh, series):
-    return (b"CHARTST1" + struct.pack(">5I", total, fresh, 0, 0, series)).ljust(BLOCK, b"\0")
+def superblock(total, fresh, series, version=2):
+    return (b"CHARTST%d" % version + struct.pack(">5I", total, fresh, 0, 0, series)).ljust(BLOCK, b"\0")
 
 
 def tree_page(level, spans, children):
@@ -83,27 +86,28 @@ def add_tree(pages, level, slots):
     return len(pages) - 1, span_of(spans)
 
 
-def record(series, root, span):
+def record(series, root, span, version=2):
     name, start, step, scale, slots = series
     least, greatest = span or (0, 0)
     head = struct.pack(">3Bx32s", 1, len(name), scale, name.encode())
-    return (head + struct.pack(">IqQI4x2q", step, start, len(slots), root, least, greatest)).ljust(RECORD_SIZE, b"\0")
+    levels = page_levels(len(slots)) if version == 2 else 0
+    return (head + struct.pack(">IqQI4x2qB", step, start, len(slots), root, least, greatest, levels)).ljust(RECORD_SIZE, b"\0")
 
 
-def pages_of(book, total):
+def pages_of(book, total, version=2):
     """The pages in use of a store of this book in which none was freed: each tree's pages below their top, in order."""
     pages = [b""] * FIRST_TREE_PAGE
-    records = [record(series, *add_tree(pages, page_levels(len(series[-1])), series[-1])) for series in book]
-    pages[0] = superblock(total, len(pages), len(book))
+    records = [record(series, *add_tree(pages, page_levels(len(series[-1])), series[-1]), version) for series in book]
+    pages[0] = superblock(total, len(pages), len(book), version)
     for page in range(1, FIRST_TREE_PAGE):
         own = records[RECORDS * (page - 1) : RECORDS * page]
-        pages[page] = (b"\3".ljust(RECORD, b"\0") + b"".join(own)).ljust(BLOCK, b"\0")
+        pages[page] = (bytes([CATALOG_KINDS[version]]).ljust(RECORD, b"\0") + b"".join(own)).ljust(BLOCK, b"\0")
     return pages
 
 
-def store_of(book, blocks):
+def store_of(book, blocks, version=2):
     """The first bytes of a store of this book on a disk of so many blocks, behind a closed gate."""
-    return bytes(BLOCK * FIRST_PAGE) + b"".join(pages_of(book, blocks - FIRST_PAGE))
+    return bytes(BLOCK * FIRST_PAGE) + b"".join(pages_of(book, blocks - FIRST_PAGE, version))
 
 
 def journal_of(pages):
@@ -139,7 +143,8 @@ class Store:
     def book(self):
         """The book, once it is made sure that each page keeps what is read of it, and that each is used once."""
         first = self.page(0)
-        require(first[:8] == b"CHARTST1", "the magic")
+        require(first[:8] in MAGICS, "the magic")
+        self.version = MAGICS[first[:8]]
         total, self.fresh, head, chain, count = struct.unpack_from(">5I", first, 8)
         require(62 <= total <= self.count and FIRST_TREE_PAGE <= self.fresh <= total and count <= 512, "page 0")
         book = [self.series(number) for number in range(count)]
@@ -159,10 +164,11 @@ class Store:
 
     def series(self, number):
         page, at = self.page(1 + number // RECORDS), RECORD + RECORD_SIZE * (number % RECORDS)
-        require(page[0] == 3, "a page of the catalog")
+        require(page[0] == CATALOG_KINDS[self.version], "a page of the catalog")
         used, length, scale, name = struct.unpack_from(">3Bx31s", page, at)
         step, start, slots, root, least, greatest = struct.unpack_from(">IqQI4x2q", page, at + 36)
         require(used == 1, "a record")
+        require(page[at + 80] == (page_levels(slots) if self.version == 2 else 0), "the page levels of a series")
         found = {}
         if root:
             self.read_tree(root, page_levels(slots), 0, (least, greatest), found)

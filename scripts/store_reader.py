@@ -7,9 +7,11 @@ import collections
 import functools
 import struct
 
-from store_format import BLOCK, CHILDREN, FIRST_PAGE, FIRST_TREE_PAGE, RECORD, RECORD_SIZE, RECORDS, page_levels
+from store_format import BLOCK, CATALOG_KINDS, CHILDREN, FIRST_PAGE, FIRST_TREE_PAGE, RECORD, RECORD_SIZE, RECORDS, page_levels
 
 MOST = 10**18  # the greatest size of a value
+LATEST = 2 * 10**18  # the latest time of a slot
+MOST_SLOTS = {1: 2**28, 2: 2**35}  # of a series, by the version of the store
 KEPT, LOOKS = 256, 16  # how many records are kept with what was found in their trees, and how many finds of each
 CATALOG = range(1, FIRST_TREE_PAGE)
 LETTERS = frozenset(b"ABCDEFGHIJKLMNOPQRSTUVWXYZabcdefghijklmnopqrstuvwxyz0123456789_.-")
@@ -32,7 +34,12 @@ def are_zero(part):
 
 
 def opened(data):
-    """The bytes of the file once it was opened: behind an open gate the journal is copied home, and the gate is closed."""
+    """The bytes of the file once it was opened: its journal is copied home, and a store of version 1 is one of version 2."""
+    return upgraded(replayed(data))
+
+
+def replayed(data):
+    """The bytes behind the journal: where the gate is open, it is copied home, and the gate is closed."""
     if data[0] != 1:
         return data
     directory = block_of(data, 1)
@@ -47,6 +54,24 @@ def opened(data):
         blocks[FIRST_PAGE + number] = blocks[2 + image]
     blocks[0] = bytes(BLOCK)
     return b"".join(blocks) + data[BLOCK * len(blocks) :]
+
+
+def upgraded(data):
+    """The bytes of a store of version 1 in version 2, with the journal of the commit that brought them there; others stay."""
+    if block_of(data, FIRST_PAGE)[:8] != b"CHARTST1":
+        return data
+    pages = {0: b"CHARTST2" + block_of(data, FIRST_PAGE)[8:]}
+    for number in CATALOG:
+        page = bytearray(block_of(data, FIRST_PAGE + number))
+        records = [at for at in range(RECORD, RECORD + RECORDS * RECORD_SIZE, RECORD_SIZE) if page[at]]
+        slots = {at: struct.unpack_from(">Q", page, at + 48)[0] for at in records}
+        if page[0] != CATALOG_KINDS[1] or any(page[at + 80] or slots[at] > MOST_SLOTS[1] for at in records):
+            raise Bad(FIRST_PAGE + number)
+        page[0] = CATALOG_KINDS[2]
+        for at in records:
+            page[at + 80] = page_levels(slots[at])
+        pages[number] = bytes(page)
+    return data[: BLOCK * FIRST_PAGE] + b"".join(pages.values()) + data[BLOCK * (FIRST_PAGE + len(pages)) :]
 
 
 @functools.lru_cache(64)
@@ -86,13 +111,14 @@ class Series:
         self.name = name[:length].decode("latin-1")
         self.span = (least, greatest) if self.root else None
         self.fits = (
-            (used, zero, zero_too, rest) == (1, 0, 0, 0) and not any(record[80:])
+            (used, zero, zero_too, rest) == (1, 0, 0, 0) and not any(record[81:])
             and 1 <= length <= 31 and LETTERS.issuperset(name[:length]) and not any(name[length:]) and self.scale <= 9
-            and 1 <= self.step <= 2**31 and abs(self.start) <= MOST and self.slots <= 2**28
-            and (FIRST_TREE_PAGE <= self.root < store.fresh if self.root and self.slots else not self.root)
+            and 1 <= self.step <= 2**31 and abs(self.start) <= MOST
+            and self.slots <= MOST_SLOTS[2] and (not self.slots or self.start + (self.slots - 1) * self.step <= LATEST)
+            and record[80] == page_levels(self.slots) and (FIRST_TREE_PAGE <= self.root < store.fresh if self.root and self.slots else not self.root)
             and (-MOST <= least <= greatest <= MOST if self.root else least == greatest == 0)
         )
-        self.levels = page_levels(self.slots) if self.slots <= 2**28 else 0
+        self.levels = page_levels(self.slots) if self.slots <= MOST_SLOTS[2] else 0
         self.top = 7 * self.levels, 0
 
     def remember(self, sought, look):
@@ -173,7 +199,7 @@ class Store:
         first = self.page(0)
         self.total, self.fresh, self.head, self.chain, series = struct.unpack_from(">5I", first, 8)
         if not (
-            first[:8] == b"CHARTST1" and are_zero(first[28:]) and 62 <= self.total <= count and FIRST_TREE_PAGE <= self.fresh <= self.total
+            first[:8] == b"CHARTST2" and are_zero(first[28:]) and 62 <= self.total <= count and FIRST_TREE_PAGE <= self.fresh <= self.total
             and (self.head == 0) == (self.chain == 0) and (self.head == 0 or FIRST_TREE_PAGE <= self.head < self.fresh)
             and self.chain <= self.fresh - FIRST_TREE_PAGE and series <= 512
         ):
@@ -193,7 +219,7 @@ class Store:
         own = [Series(self, page[at : at + RECORD_SIZE]) for at in range(RECORD, behind, RECORD_SIZE)]
         self.series += own
         names = [series.name for series in self.series]
-        whole = page[0] == 3 and not any(page[1:RECORD]) and are_zero(page[behind:]) and all(series.fits for series in own)
+        whole = page[0] == CATALOG_KINDS[2] and not any(page[1:RECORD]) and are_zero(page[behind:]) and all(series.fits for series in own)
         repeated = any(names.index(name) < at for at, name in enumerate(names) if at >= len(names) - len(own))
         return set() if whole and not repeated else {FIRST_PAGE + number}
 

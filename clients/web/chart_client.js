@@ -18,6 +18,8 @@ const MOST = 10 ** 18; // the greatest size of a value; exact as a number
 const EXACT = 2 ** 53; // up to this size whole numbers are exact
 const SMALL = 2 ** 39; // two values of this size, their difference times a height or a width: still exact
 const MOST_KEYS = 131072;
+const MOST_SLOTS = 2 ** 35;
+const SIZES = Array.from({ length: 36 }, (_, level) => 2 ** level); // the slots of a key, by its level
 const KINDS = ["", "done", "refused", "opened", "closed", "view", "rows", "live"];
 const [, DONE, REFUSED, OPENED, CLOSED, VIEW, ROWS, LIVE] = KINDS.keys();
 
@@ -48,7 +50,7 @@ const REFUSALS = [
   ["BeforeStart", "the time is before the start"],
   ["ValueTooLarge", "a value passes 10^18 in size"],
   ["RangeTooLong", "there are too many values, or too many slots to clear"],
-  ["SeriesFull", "the series' length would pass 2^28"],
+  ["SeriesFull", "the series' length would pass 2^35, or the time of its last slot 2 * 10^18"],
   ["NoView", "there is nothing to zoom or pan"],
   ["BadWindow", "the window is empty, or an end of it too far from 0"],
   ["BadCanvas", "the width or the height isn't 1 to 4,096"],
@@ -209,10 +211,10 @@ export class Picture {
 }
 
 /**
- * One whole number below 2^28 for a key of level 1 to 28. The names of keys rise from the top level down, and in a level from
+ * One whole number below 2^35 for a key of level 1 to 35. The names of keys rise from the top level down, and in a level from
  * left to right.
  */
-const nameOf = (level, index) => (1 << (28 - level)) + index;
+const nameOf = (level, index) => SIZES[35 - level] + index;
 
 /** The list of a session: a ring of coefficients, on which its front stands behind `ring`, and its end before it. */
 class Session {
@@ -237,16 +239,16 @@ class Session {
 
   /** The list after a view: the wanted keys that it has come to the front, and before them those that are new. */
   renew(series, wanted) {
-    // A name and its place in one number, since numbers are sorted fastest; there are fewer than 2^20.
+    // A name and its place in one number, since numbers are sorted fastest. Each one was sent or held, so there are at most 2^18.
     const order = new Float64Array(wanted.length);
     for (let place = 0; place < order.length; place += 1) {
-      order[place] = wanted[place].name * 2 ** 20 + place;
+      order[place] = wanted[place].name * 2 ** 18 + place;
     }
     order.sort();
     const held = this.of(series);
     const unknown = [];
     for (const number of order) {
-      const coefficient = wanted[number % 2 ** 20];
+      const coefficient = wanted[number % 2 ** 18];
       const old = coefficient.held ? coefficient : held.get(coefficient.name);
       if (old) {
         this.replace(old, coefficient);
@@ -316,7 +318,9 @@ class View {
     this.hi = fields.signed(this.lo, MOST);
     this.start = fields.signed(-MOST, MOST);
     this.step = fields.long(1, 2 ** 31);
-    this.slots = fields.unsigned(2 ** 28);
+    this.slots = fields.unsigned(MOST_SLOTS);
+    const lastTime = BigInt(this.start) + BigInt(this.slots - 1) * BigInt(this.step);
+    fields.require(this.slots === 0 || lastTime <= 2 * MOST, 8);
     this.has = fields.byte(0, this.slots > 0 ? 1 : 0);
     const size = MOST * this.has;
     this.min = fields.signed(-size, size);
@@ -436,8 +440,9 @@ class View {
 
   /** Splits a node until what is left of it lies within columns, from the left to the right. */
   findPieces(node) {
-    const first = node.index << node.level;
-    const behind = first + (1 << node.level);
+    const size = SIZES[node.level];
+    const first = node.index * size;
+    const behind = first + size;
     if (this.first >= Math.min(behind, this.behind) || this.behind <= first) {
       return;
     }
@@ -533,7 +538,7 @@ function readFrame(fields) {
   const kind = fields.byte(0, 255);
   fields.require(LENGTHS.has(kind) && itemsOf(kind, length) !== null, 1);
   if (kind === DONE) {
-    return { kind: KINDS[kind], slots: fields.unsigned(2 ** 28) };
+    return { kind: KINDS[kind], slots: fields.unsigned(MOST_SLOTS) };
   }
   if (kind === REFUSED) {
     return readRefusal(fields);

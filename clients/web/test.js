@@ -122,3 +122,36 @@ test("a picture is the same in numbers and in BigInts", () => {
   assert.deepStrictEqual(pictures[0], pictures[1]);
   assert.ok(pictures[0].some((byte, at) => at > 9 && byte !== 0));
 });
+
+const LATEST = 2n * 10n ** 18n;
+const number = (size, value) => Array.from({ length: size }, (_, at) => Number((BigInt.asUintN(64, BigInt(value)) >> BigInt(8 * (size - 1 - at))) & 255n));
+
+/**
+ * A view of 2^35 slots, of which the last but one alone has a value, on the four columns before the last slot. There is one
+ * coefficient a level, which says that the value is in the right half, and on level 1 that it is in the left one.
+ */
+function longest(start, step, slots = 2 ** 35) {
+  const last = BigInt(start) + (2n ** 35n - 1n) * BigInt(step);
+  const end = last < LATEST ? last : LATEST;
+  const window = [[8, end - 4n * BigInt(step)], [8, end], [8, 0], [8, 3]];
+  const head = [[4, 1], [2, 0], [2, 4], [2, 4], ...window, [8, start], [4, step], [8, slots], [1, 1], [8, 2], [8, 2], [4, 35]];
+  const coefs = Array.from({ length: 35 }, (_, at) => [[8, BigInt(35 - at) * 2n ** 40n + 2n ** BigInt(at) - 1n], [1, at < 34 ? 2 : 1], [8, 0], [8, 0]]);
+  return Uint8Array.from([...number(4, 84 + 25 * 35), 5, ...[...head, ...coefs.flat()].flatMap((field) => number(...field))]);
+}
+
+test("a series of 2^35 slots, up to the latest time", () => {
+  const shown = ".... ...# .... ....";
+  assert.deepStrictEqual(drawn(join(OPENED, longest(0, 1)), 1000).pictures, [shown]);
+  assert.deepStrictEqual(drawn(join(OPENED, longest(-5, 2 ** 24 + 1)), 1000).pictures, [shown]);
+  const start = LATEST - (2n ** 35n - 1n) * 29103831n;
+  assert.deepStrictEqual(drawn(join(OPENED, longest(start, 29103831)), 1000).pictures, [shown]);
+  const refused = new Stopped("the frame at byte 13: the field at byte 72 breaks its rule");
+  assert.throws(() => drawn(join(OPENED, longest(start + 1n, 29103831)), 1000), refused);
+  assert.throws(() => drawn(join(OPENED, longest(0, 1, 2 ** 35 + 1)), 1000), refused);
+});
+
+test("an edit of a series of 2^35 slots", () => {
+  const [{ frame }] = new Client().push(bytesOf("00000009 01 0000000800000000"));
+  assert.strictEqual(frame.slots, 2 ** 35);
+  assert.throws(() => drawn(bytesOf("00000009 01 0000000800000001"), 1000), new Stopped("the frame at byte 0: the field at byte 5 breaks its rule"));
+});

@@ -1,12 +1,13 @@
 """Frames of a session that follows its view: the worked stream of docs/FORMATS.md, and what breaks a rule."""
 import io
 import pathlib
+import struct
 import sys
 import unittest
 
 sys.path.insert(0, str(pathlib.Path(__file__).resolve().parent.parent))
 
-from zurtkvani_client.frames import Fields, Live, Refused, Stopped, accept  # noqa: E402
+from zurtkvani_client.frames import Done, Fields, Live, Refused, Stopped, accept  # noqa: E402
 
 OPENED = "00000009 03 00000001 00010000"
 # 4, 7 and 2 over 2 to 7; then 1 in the place of the 2, and of what the view needs the one coefficient that changed.
@@ -29,6 +30,16 @@ PUSH = """
     0000000000000000 00000001 0000000000000004 01 0000000000000001 0000000000000007 00000001
     0000020000000000 03 0000000000000003 0000000000000006
 """
+
+
+def longest(start, step, slots=2**35):
+    """A view of 2^35 slots, of which the last but one alone has a value, on the four columns before the last slot."""
+    end = min(start + (2**35 - 1) * step, 2 * 10**18)
+    data = struct.pack(">BIHHHqqqqqIQBqqI", 5, 1, 0, 4, 4, end - 4 * step, end, 0, 3, start, step, slots, 1, 2, 2, 35)
+    for level in range(35, 0, -1):
+        # The value is in the right half, and on level 1 in the left one.
+        data += struct.pack(">QBqq", level * 2**40 + 2 ** (35 - level) - 1, 2 if level > 1 else 1, 0, 0)
+    return (struct.pack(">I", len(data)) + data).hex()
 
 
 def read_all(*frames):
@@ -84,6 +95,19 @@ class Frames(unittest.TestCase):
     def test_a_refusal_to_follow_has_both_numbers(self):
         # A view of 4 columns may need 13 * 35 coefficients, and the cache keeps 100.
         self.assertEqual(read_all("00000012 02 16 00000000000001C7 0000000000000064"), [(Refused(22, 455, 100), None)])
+
+    def test_a_series_reaches_the_latest_time(self):
+        start = 2 * 10**18 - (2**35 - 1) * 29103831
+        for view in (longest(0, 1), longest(-5, 2**24 + 1), longest(start, 29103831)):
+            self.assertEqual(read_all(OPENED, view)[1][1].to_pbm(), b"P4\n4 4\n" + bytes.fromhex("00100000"))
+        for view in (longest(start + 1, 29103831), longest(0, 1, 2**35 + 1)):
+            with self.assertRaisesRegex(Stopped, "the field at byte 72 breaks its rule"):
+                read_all(OPENED, view)
+
+    def test_an_edit_of_the_longest_series(self):
+        self.assertEqual(read_all("00000009 01 0000000800000000"), [(Done(2**35), None)])
+        with self.assertRaisesRegex(Stopped, "the field at byte 5 breaks its rule"):
+            read_all("00000009 01 0000000800000001")
 
 
 if __name__ == "__main__":

@@ -66,9 +66,9 @@ class Readings(unittest.TestCase):
         self.assertEqual(told[-1], "readings: 2 readings, 2 times without one, 8 lines that don't fit; the series: create NAME 60 60 1")
 
     def test_a_slot_that_no_series_has(self):
-        status, sent, told = converted(f"0,1\n{2**28 - 1},2\n{2**28},3\n", "--step", "1")
-        self.assertEqual((status, sent), (1, f"0,1\n{2**28 - 1},2\n"))
-        self.assertEqual(told[0], "line 3: '268435456' lies too far behind the start")
+        status, sent, told = converted(f"0,1\n{2**35 - 1},2\n{2**35},3\n", "--step", "1")
+        self.assertEqual((status, sent), (1, f"0,1\n{2**35 - 1},2\n"))
+        self.assertEqual(told[0], "line 3: '34359738368' lies too far behind the start")
 
     def test_dry_run(self):
         status, sent, told = converted("0,1\n1,x\n", "--step", "1", "--dry-run")

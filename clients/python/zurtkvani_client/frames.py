@@ -10,6 +10,7 @@ from itertools import islice
 from .picture import Picture, height
 
 MOST = 10**18  # the greatest size of a value
+MOST_SLOTS = 2**35
 DONE, REFUSED, OPENED, CLOSED, VIEW, ROWS, LIVE = range(1, 8)
 # For each kind the length without items, the length of an item, and the most items.
 LENGTHS = {
@@ -97,13 +98,14 @@ class View:
         self.hi = fields.number(8, self.lo, MOST)
         self.start = fields.number(8, -MOST, MOST)
         self.step = fields.number(4, 1, 2**31)
-        self.slots = fields.number(8, 0, 2**28)
+        # The last slot stands no later than 2 * 10^18.
+        self.slots = fields.number(8, 0, min(MOST_SLOTS, (2 * MOST - self.start) // self.step + 1))
         size = MOST * fields.number(1, 0, 1 if self.slots else 0)
         least = fields.number(8, -size, size)
         greatest = fields.number(8, least, size)
         self.span = (least, greatest) if size else None
         fields.number(4, count, count)
-        self.top = next(7 * k for k in range(1, 5) if 128**k >= self.slots)
+        self.top = next(7 * k for k in range(1, 6) if 128**k >= self.slots)
         self.sent = dict(self.coefficients(fields, count))
         self.first = max(0, -((self.start - self.t0) // self.step))  # the window's slots go from here to below behind
         self.behind = min(self.slots, -((self.start - self.t1) // self.step))
@@ -247,7 +249,7 @@ def accept(fields, sessions, before_view=None):
     kind = fields.number(1, 0, 255)
     fields.require(kind in counts, 1)
     if kind == DONE:
-        return Done(fields.number(8, 0, 2**28)), None
+        return Done(fields.number(8, 0, MOST_SLOTS)), None
     if kind == REFUSED:
         number = fields.number(1, 1, 22)
         a = fields.number(8, 0, 2**64 - 1 if number in (2, 3, 20, 21, 22) else 0)

@@ -26,7 +26,7 @@ VALUE = re.compile(r"[+-]?(?:\d+\.?\d*|\.\d+)(?:e[+-]?\d{1,4})?", re.ASCII | re.
 MISSING = {"", "-", "nan", "na", "null"}
 PARTS = {"seconds": 1, "milliseconds": 1000}
 MOST = 10**18  # the greatest size of a value
-LAST_SLOT = 2**28 - 1
+LAST_SLOT = 2**35 - 1
 
 
 class Unfit(Exception):

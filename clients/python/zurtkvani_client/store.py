@@ -25,7 +25,7 @@ REFUSALS = (
     ("BeforeStart", "the time is before the start"),
     ("ValueTooLarge", "a value passes 10^18 in size"),
     ("RangeTooLong", "there are too many values, or too many slots to clear"),
-    ("SeriesFull", "the series' length would pass 2^28"),
+    ("SeriesFull", "the series' length would pass 2^35, or the time of its last slot 2 * 10^18"),
     ("NoView", "there is nothing to zoom or pan"),
     ("BadWindow", "the window is empty, or an end of it too far from 0"),
     ("BadCanvas", "the width or the height isn't 1 to 4,096"),

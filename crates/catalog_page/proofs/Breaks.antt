@@ -2,7 +2,7 @@
 use Rattle.std.proofs.Common.{ℕ, List}
 use Rattle.catalog_page.specs.Fields.{record_bytes}
 use Rattle.catalog_page.specs.declared.errors.BadField.{BadField}
-use Rattle.catalog_page.specs.declared.errors.BadField.TheVariants.{Used, Length, Scale, Name, Step, Start, Slots, Root, Min, Max, Spare}
+use Rattle.catalog_page.specs.declared.errors.BadField.TheVariants.{Used, Length, Scale, Name, Step, Start, Slots, Root, Min, Max, Levels, Spare}
 use Rattle.catalog_page.specs.declared.errors.BadCatalog.{BadCatalog}
 use Rattle.catalog_page.specs.declared.errors.BadCatalog.TheVariants.{Kind, Reserved, Record, Unused}
 use Rattle.catalog_page.specs.Layout.{IsRecord, IsFirstBadField, KeepsLayout, IsFirstBad}
@@ -18,7 +18,8 @@ field_breaks Slots fresh b bad rules = bad.6 rules.slots
 field_breaks Root fresh b bad rules = bad.7 rules.root
 field_breaks Min fresh b bad rules = bad.8 rules.min
 field_breaks Max fresh b bad rules = bad.9 rules.max
-field_breaks Spare fresh b bad rules = bad.10 rules.spare
+field_breaks Levels fresh b bad rules = bad.10 rules.levels
+field_breaks Spare fresh b bad rules = bad.11 rules.spare
 
 pub bad_breaks : (page : List ℕ) (count fresh : ℕ) (bad : BadCatalog) → IsFirstBad bad count fresh page → KeepsLayout count fresh page → ⊥
 bad_breaks page count fresh Kind bad keeps = bad keeps.kind

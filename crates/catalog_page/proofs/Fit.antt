@@ -1,6 +1,6 @@
 -- Which records keep the rules, and what they say.
-use Rattle.std.proofs.Common.{◌≡◌, ℕ, ℤ, pos, zero, suc, ◌+◌, ◌-◌, ◌<◌, ◌≤◌, ◌^◌, ◌==◌, ◌&&◌, ◌↔◌, IsTrue, Bool, false, Option, None, Some, List, length, drop, get_or, inl, inr, refl, sym, ap, subst, ◌∙◌, arith, length-drop}
-use Rattle.std.specs.Prelude.{◌≤ℤ◌, unsigned_abs, nat_le}
+use Rattle.std.proofs.Common.{◌≡◌, ℕ, ℤ, pos, zero, suc, ◌+◌, ◌-◌, ◌<◌, ◌≤◌, ◌==◌, ◌&&◌, ◌↔◌, IsTrue, Bool, false, Option, None, Some, List, length, drop, get_or, inl, inr, refl, sym, ap, subst, ◌∙◌, arith, length-drop}
+use Rattle.std.specs.Prelude.{◌≤ℤ◌, nat_le}
 use Rattle.std.specs.List.{list_all}
 use Rattle.std.specs.Int.Signed.{≤ℤ_refl}
 use Rattle.std.proofs.lemmas.Bool.{and_parts, leb-true, cases_lt}
@@ -8,10 +8,12 @@ use Rattle.std.proofs.lemmas.Bool.Decides.{eqb_tells}
 use Rattle.std.proofs.lemmas.List.{get_or-take, get_or-drop, length-take-le}
 use Rattle.std.proofs.lemmas.Grind.{same_number_lists}
 use Rattle.whole_number.specs.Range.{IsValue}
+use Rattle.whole_number.specs.SlotTimes.{EndsInTime}
 use Rattle.om3_coeff.specs.declared.span.Span.{Span}
 use Rattle.om3_coeff.specs.Spans.{IsProperIfAny}
+use Rattle.om3_coeff.specs.Keys.{page_levels}
 use Rattle.series_book.specs.Names.{is_name, is_name_byte}
-use Rattle.catalog_page.specs.Fields.{length_at, name_at, root_at, slots_at, min_at, max_at}
+use Rattle.catalog_page.specs.Fields.{length_at, name_at, step_at, start_at, root_at, slots_at, min_at, max_at}
 use Rattle.catalog_page.specs.Entries.{Entry, IsEntry, IsRoot, entry_in, least_of, greatest_of}
 use Rattle.catalog_page.specs.Layout.{IsRecord}
 use Rattle.catalog_page.specs.Spelling.{Spells}
@@ -38,6 +40,11 @@ ends_ordered : (s : Option Span) → IsProperIfAny s → least_of s ≤ℤ great
 ends_ordered None proper = ≤ℤ_refl (pos 0)
 ends_ordered (Some s) proper = proper.ordered
 
+ends_same : (start start' : ℤ) (step step' slots slots' : ℕ) → start ≡ start' → step ≡ step' → slots ≡ slots' → EndsInTime start step slots → EndsInTime start' step' slots'
+ends_same start start' step step' slots slots' same same' same'' ends =
+    subst (λ (z : ℤ). EndsInTime z step' slots') same
+    (subst (λ (n : ℕ). EndsInTime start n slots') same' (subst (λ (n : ℕ). EndsInTime start step n) same'' ends))
+
 -- what is in range is spelled by a record that keeps the rules
 pub spelled_record : (fresh : ℕ) (e : Entry) (b : List ℕ) → IsEntry fresh e → (e.span ≡ None) ↔ (e.root ≡ 0) → Spells e b → IsRecord fresh b
 spelled_record fresh e b fits rooted s =
@@ -53,7 +60,10 @@ spelled_record fresh e b fits rooted s =
       };
       step = (omega (arith, s.step, fits.step_low), omega (arith, s.step, fits.step_high));
       start = subst IsValue (sym s.start) fits.start;
-      slots = omega (arith, s.slots, fits.slots);
+      slots = record {
+        few = omega (arith, s.slots, fits.slots);
+        last = ends_same e.start (start_at b) e.step (step_at b) e.slots (slots_at b) (sym s.start) (sym s.step) (sym s.slots) fits.last;
+      };
       root = subst (λ (n : ℕ). IsRoot fresh n (slots_at b)) (sym s.root) (subst (λ (n : ℕ). IsRoot fresh e.root n) (sym s.slots) fits.root);
       min = (
         subst IsValue (sym s.min) (least_fits e.span fits.span),
@@ -64,6 +74,7 @@ spelled_record fresh e b fits rooted s =
         subst (λ (z : ℤ). z ≤ℤ max_at b) (sym s.min) ordered,
         λ none. s.max ∙ ap greatest_of (rooted.1 (sym s.root ∙ none)),
       );
+      levels = s.levels ∙ ap page_levels (sym s.slots);
       spare = s.spare;
     }
 
@@ -91,7 +102,8 @@ record_entry fresh b r = record {
   step_low = r.step.0;
   step_high = r.step.1;
   start = r.start;
-  slots = r.slots;
+  slots = r.slots.few;
+  last = r.slots.last;
   root = r.root;
   rooted = span_rooted (root_at b) (min_at b) (max_at b);
   span = span_fits (root_at b) (min_at b) (max_at b) r.min.0 r.max.0 r.max.1;
@@ -127,6 +139,7 @@ record_spells fresh b whole r =
       root = refl;
       min = least_told (root_at b) (min_at b) (max_at b) r.min.1;
       max = greatest_told (root_at b) (min_at b) (max_at b) r.max.2;
+      levels = r.levels;
       spare = r.spare;
     }
 
@@ -175,7 +188,12 @@ span_byte e a b fits fits' s s' k low high = elim (cases_lt k 64) [
     | inl less ↦ signed_bytes 64 a b fits fits' (s.min ∙ sym s'.min) k min less
     | inr max ↦ elim (cases_lt k 80) [
       | inl less ↦ signed_bytes 72 a b fits fits' (s.max ∙ sym s'.max) k max less
-      | inr gap ↦ s.spare.2 k gap high ∙ sym (s'.spare.2 k gap high)
+      | inr past ↦ elim (cases_lt k 81) [
+        | inl less ↦
+            let at : k ≡ 80 = omega (arith, past, less) in
+            ap (λ (i : ℕ). get_or a i 0) at ∙ s.levels ∙ sym s'.levels ∙ ap (λ (i : ℕ). get_or b i 0) (sym at)
+        | inr gap ↦ s.spare.2 k gap high ∙ sym (s'.spare.2 k gap high)
+      ]
     ]
   ]
 ]

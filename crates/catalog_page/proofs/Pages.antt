@@ -168,7 +168,7 @@ unfolding catalog_page
 blank_byte zero low high = absurd (omega (arith, low))
 blank_byte (suc k) low high = get_or-replicate 4095 k 0 0 (omega (arith, high))
 
-blank_kind : get_or catalog_page 0 0 ≡ 3
+blank_kind : get_or catalog_page 0 0 ≡ 4
 unfolding catalog_page
 blank_kind = refl
 

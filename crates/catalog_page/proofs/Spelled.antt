@@ -1,17 +1,18 @@
 -- What the steps of spelling a record make, and what follows from a spelling.
-use Rattle.std.proofs.Common.{◌≡◌, ℕ, ℤ, ◌+◌, ◌<◌, ◌≤◌, ◌↔◌, ◌==◌, if◌then◌else◌, Bool, true, false, Option, None, Some, List, ◌++◌, length, take, drop, get_or, inl, inr, refl, sym, ap, ◌∙◌, arith}
+use Rattle.std.proofs.Common.{◌≡◌, ◌≢◌, ℕ, ℤ, ◌+◌, ◌<◌, ◌≤◌, ◌↔◌, ◌==◌, if◌then◌else◌, Bool, true, false, Option, None, Some, List, ◌++◌, length, take, drop, get_or, inl, inr, refl, sym, ap, ◌∙◌, arith}
 use Rattle.std.proofs.Math.Seq.{take-append_seam, drop-append_seam}
 use Rattle.std.proofs.lemmas.List.{length-take-le}
 use Rattle.std.proofs.lemmas.Bool.Decides.{eqb_tells}
 use Rattle.om3_coeff.specs.declared.span.Span.{Span}
+use Rattle.om3_coeff.specs.Keys.{page_levels}
 use Rattle.node_page.specs.Fields.{with_bytes}
 use Rattle.node_page.proofs.Bytes.{number_same, written_before, written_behind, written_length}
-use Rattle.catalog_page.specs.Fields.{used_at, length_at, scale_at, step_at, start_at, slots_at, root_at, min_at, max_at}
+use Rattle.catalog_page.specs.Fields.{used_at, length_at, scale_at, step_at, start_at, slots_at, root_at, min_at, max_at, levels_at}
 use Rattle.catalog_page.specs.Entries.{Entry, entry_in, least_of, greatest_of}
 use Rattle.catalog_page.specs.Spelling.{Spells}
 use Rattle.catalog_page.proofs.Numbers.{signed_same}
 
--- the numbers are set first, then the span, the front and last the name
+-- the numbers are set first, then the span, the fields of one byte and last the name
 pub record Steps (e : Entry) (b0 b1 b2 b3 b4 : List ℕ) : Type 0 where
   pub short : length e.name ≤ 31
   pub blank : (k : ℕ) → k < 96 → get_or b0 k 0 ≡ 0
@@ -29,7 +30,8 @@ pub record Steps (e : Entry) (b0 b1 b2 b3 b4 : List ℕ) : Type 0 where
   pub used : used_at b3 ≡ 1
   pub len : length_at b3 ≡ length e.name
   pub scale : scale_at b3 ≡ e.scale
-  pub rest : (k : ℕ) → 3 ≤ k → get_or b3 k 0 ≡ get_or b2 k 0
+  pub levels : levels_at b3 ≡ page_levels e.slots
+  pub rest : (k : ℕ) → 3 ≤ k → k ≢ 80 → get_or b3 k 0 ≡ get_or b2 k 0
   pub named : b4 ≡ with_bytes b3 4 e.name
 
 -- bytes before the name
@@ -45,16 +47,16 @@ behind e b0 b1 b2 b3 b4 s k high =
 -- bytes of the numbers
 number_bytes : (e : Entry) (b0 b1 b2 b3 b4 : List ℕ) → Steps e b0 b1 b2 b3 b4 → (k : ℕ) → 36 ≤ k → k < 64 → get_or b4 k 0 ≡ get_or b1 k 0
 number_bytes e b0 b1 b2 b3 b4 s k low high =
-    behind e b0 b1 b2 b3 b4 s k (omega (arith, low, s.short)) ∙ s.rest k (omega (arith, low)) ∙ s.below k high
+    behind e b0 b1 b2 b3 b4 s k (omega (arith, low, s.short)) ∙ s.rest k (omega (arith, low)) (λ is. omega (arith, is, high)) ∙ s.below k high
 
 -- bytes of the span
-span_bytes : (e : Entry) (b0 b1 b2 b3 b4 : List ℕ) → Steps e b0 b1 b2 b3 b4 → (k : ℕ) → 64 ≤ k → get_or b4 k 0 ≡ get_or b2 k 0
-span_bytes e b0 b1 b2 b3 b4 s k low = behind e b0 b1 b2 b3 b4 s k (omega (arith, low, s.short)) ∙ s.rest k (omega (arith, low))
+span_bytes : (e : Entry) (b0 b1 b2 b3 b4 : List ℕ) → Steps e b0 b1 b2 b3 b4 → (k : ℕ) → 64 ≤ k → k ≢ 80 → get_or b4 k 0 ≡ get_or b2 k 0
+span_bytes e b0 b1 b2 b3 b4 s k low other = behind e b0 b1 b2 b3 b4 s k (omega (arith, low, s.short)) ∙ s.rest k (omega (arith, low)) other
 
 -- bytes of no field
 blank_byte : (e : Entry) (b0 b1 b2 b3 b4 : List ℕ) → Steps e b0 b1 b2 b3 b4 → (k : ℕ) → 4 + length e.name ≤ k → k < 36 → get_or b4 k 0 ≡ 0
 blank_byte e b0 b1 b2 b3 b4 s k low high =
-    behind e b0 b1 b2 b3 b4 s k low ∙ s.rest k (omega (arith, low)) ∙ s.below k (omega (arith, high)) ∙ s.low k high ∙ s.blank k (omega (arith, high))
+    behind e b0 b1 b2 b3 b4 s k low ∙ s.rest k (omega (arith, low)) (λ is. omega (arith, is, high)) ∙ s.below k (omega (arith, high)) ∙ s.low k high ∙ s.blank k (omega (arith, high))
 
 read_back : (n : ℕ) (old name : List ℕ) → 4 ≤ length old → n ≡ length name → take n (drop 4 (with_bytes old 4 name)) ≡ name
 unfolding with_bytes
@@ -79,15 +81,16 @@ spelled e b0 b1 b2 b3 b4 s =
       start = signed_same 40 b1 b4 (λ k low high. number_bytes e b0 b1 b2 b3 b4 s k (omega (arith, low)) (omega (arith, high))) ∙ s.start;
       slots = number_same 8 48 b1 b4 (λ k low high. number_bytes e b0 b1 b2 b3 b4 s k (omega (arith, low)) (omega (arith, high))) ∙ s.slots;
       root = number_same 4 56 b1 b4 (λ k low high. number_bytes e b0 b1 b2 b3 b4 s k (omega (arith, low)) (omega (arith, high))) ∙ s.root;
-      min = signed_same 64 b2 b4 (λ k low high. span_bytes e b0 b1 b2 b3 b4 s k low) ∙ s.min;
-      max = signed_same 72 b2 b4 (λ k low high. span_bytes e b0 b1 b2 b3 b4 s k (omega (arith, low))) ∙ s.max;
+      min = signed_same 64 b2 b4 (λ k low high. span_bytes e b0 b1 b2 b3 b4 s k low (λ is. omega (arith, is, high))) ∙ s.min;
+      max = signed_same 72 b2 b4 (λ k low high. span_bytes e b0 b1 b2 b3 b4 s k (omega (arith, low)) (λ is. omega (arith, is, high))) ∙ s.max;
+      levels = behind e b0 b1 b2 b3 b4 s 80 (omega (arith, s.short)) ∙ s.levels;
       spare = (
         (
-          before e b0 b1 b2 b3 b4 s 3 (omega arith) ∙ s.rest 3 (omega arith) ∙ s.below 3 (omega arith) ∙ s.low 3 (omega arith) ∙ s.blank 3 (omega arith),
+          before e b0 b1 b2 b3 b4 s 3 (omega arith) ∙ s.rest 3 (omega arith) (λ is. omega (arith, is)) ∙ s.below 3 (omega arith) ∙ s.low 3 (omega arith) ∙ s.blank 3 (omega arith),
           blank_byte e b0 b1 b2 b3 b4 s 35 (omega (arith, s.short)) (omega arith),
         ),
         λ k low high. number_bytes e b0 b1 b2 b3 b4 s k (omega (arith, low)) high ∙ s.high k low ∙ s.blank k (omega (arith, high)),
-        λ k low high. span_bytes e b0 b1 b2 b3 b4 s k (omega (arith, low)) ∙ s.above k low ∙ s.high k (omega (arith, low)) ∙ s.blank k high,
+        λ k low high. span_bytes e b0 b1 b2 b3 b4 s k (omega (arith, low)) (λ is. omega (arith, is, low)) ∙ s.above k (omega (arith, low)) ∙ s.high k (omega (arith, low)) ∙ s.blank k high,
       );
     }
 

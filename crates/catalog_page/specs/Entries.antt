@@ -1,9 +1,11 @@
 -- What a record says of its series.
-use Rattle.std.specs.Prelude.{ℕ, ℤ, ◌≡◌, ◌≢◌, ◌≤◌, ◌<◌, ◌^◌, ◌==◌, ◌↔◌, if◌then◌else◌, IsTrue, List, Option, None, Some, unsigned_abs, pos}
+use Rattle.std.specs.Prelude.{ℕ, ℤ, ◌≡◌, ◌≢◌, ◌≤◌, ◌<◌, ◌^◌, ◌==◌, ◌↔◌, if◌then◌else◌, IsTrue, List, Option, None, Some, pos}
 use Rattle.whole_number.specs.Range.{IsValue}
+use Rattle.whole_number.specs.SlotTimes.{EndsInTime}
 use Rattle.om3_coeff.specs.declared.span.Span.{Span}
 use Rattle.om3_coeff.specs.Spans.{IsProperIfAny}
 use Rattle.series_book.specs.Names.{is_name}
+use Rattle.series_book.specs.declared.limits.TheConstants.{MOST_SLOTS}
 use Rattle.catalog_page.specs.declared.series_record.Record.{Record}
 use Rattle.catalog_page.specs.Fields.{record_bytes, name_at, scale_at, step_at, start_at, slots_at, root_at, min_at, max_at}
 
@@ -70,7 +72,8 @@ pub record IsEntry (fresh : ℕ) (e : Entry) : Type 0 where
   pub step_low : 1 ≤ e.step
   pub step_high : e.step ≤ 2 ^ 31
   pub start : IsValue e.start
-  pub slots : e.slots ≤ 2 ^ 28
+  pub slots : e.slots ≤ MOST_SLOTS
+  pub last : EndsInTime e.start e.step e.slots
   pub root : IsRoot fresh e.root e.slots
   pub rooted : (e.span ≡ None) ↔ (e.root ≡ 0)
   pub span : IsProperIfAny e.span

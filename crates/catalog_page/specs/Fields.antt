@@ -41,3 +41,7 @@ min_at bytes = signed_at bytes 64
 
 abbrev pub max_at : List ℕ → ℤ
 max_at bytes = signed_at bytes 72
+
+-- the page levels of the slots
+abbrev pub levels_at : List ℕ → ℕ
+levels_at bytes = slice_index bytes 80

@@ -1,12 +1,15 @@
 -- The rules of a catalog page and of the fields of a record, in the order in which they are named.
-use Rattle.std.specs.Prelude.{ℕ, ◌≡◌, ◌+◌, ◌<◌, ◌≤◌, ◌≤ℤ◌, ◌^◌, pos, unsigned_abs, IsTrue, List, slice_index}
+use Rattle.std.specs.Prelude.{ℕ, ◌≡◌, ◌+◌, ◌<◌, ◌≤◌, ◌≤ℤ◌, ◌^◌, pos, IsTrue, List, slice_index}
 use Rattle.whole_number.specs.Range.{IsValue}
+use Rattle.whole_number.specs.SlotTimes.{EndsInTime}
 use Rattle.block_disk.specs.Blocks.{block_size}
+use Rattle.om3_coeff.specs.Keys.{page_levels}
 use Rattle.series_book.specs.Names.{is_name}
-use Rattle.catalog_page.specs.Fields.{record_bytes, used_at, length_at, scale_at, name_at, step_at, start_at, slots_at, root_at, min_at, max_at}
+use Rattle.series_book.specs.declared.limits.TheConstants.{MOST_SLOTS}
+use Rattle.catalog_page.specs.Fields.{record_bytes, used_at, length_at, scale_at, name_at, step_at, start_at, slots_at, root_at, min_at, max_at, levels_at}
 use Rattle.catalog_page.specs.Entries.{IsRoot}
 use Rattle.catalog_page.specs.declared.errors.BadField.{BadField}
-use Rattle.catalog_page.specs.declared.errors.BadField.TheVariants.{Used, Length, Scale, Name, Step, Start, Slots, Root, Min, Max, Spare}
+use Rattle.catalog_page.specs.declared.errors.BadField.TheVariants.{Used, Length, Scale, Name, Step, Start, Slots, Root, Min, Max, Levels, Spare}
 use Rattle.catalog_page.specs.declared.errors.BadCatalog.{BadCatalog}
 use Rattle.catalog_page.specs.declared.errors.BadCatalog.TheVariants.{Kind, Reserved, Record, Unused}
 
@@ -36,8 +39,10 @@ IsStep bytes = (1 ≤ step_at bytes) × (step_at bytes ≤ 2 ^ 31)
 abbrev pub IsStart : List ℕ → Type 0
 IsStart bytes = IsValue (start_at bytes)
 
-abbrev pub IsSlots : List ℕ → Type 0
-IsSlots bytes = slots_at bytes ≤ 2 ^ 28
+-- no more than a series may have, and the last one stands at a time
+pub record IsSlots (bytes : List ℕ) : Type 0 where
+  pub few : slots_at bytes ≤ MOST_SLOTS
+  pub last : EndsInTime (start_at bytes) (step_at bytes) (slots_at bytes)
 
 abbrev pub HasRoot : ℕ → List ℕ → Type 0
 HasRoot fresh bytes = IsRoot fresh (root_at bytes) (slots_at bytes)
@@ -48,13 +53,17 @@ IsMin bytes = IsValue (min_at bytes) × (root_at bytes ≡ 0 → min_at bytes �
 abbrev pub IsMax : List ℕ → Type 0
 IsMax bytes = IsValue (max_at bytes) × (min_at bytes ≤ℤ max_at bytes) × (root_at bytes ≡ 0 → max_at bytes ≡ pos 0)
 
+-- the page levels are those of the slots
+abbrev pub IsLevels : List ℕ → Type 0
+IsLevels bytes = levels_at bytes ≡ page_levels (slots_at bytes)
+
 -- the byte in front of the name, and that behind its place
 abbrev pub HasGaps : List ℕ → Type 0
 HasGaps bytes = (slice_index bytes 3 ≡ 0) × (slice_index bytes 35 ≡ 0)
 
 -- the bytes of no field are 0
 abbrev pub IsSpare : List ℕ → Type 0
-IsSpare bytes = HasGaps bytes × IsClear bytes 60 64 × IsClear bytes 80 96
+IsSpare bytes = HasGaps bytes × IsClear bytes 60 64 × IsClear bytes 81 96
 
 -- a record of a series, where the first page that was never used is this one
 pub record IsRecord (fresh : ℕ) (bytes : List ℕ) : Type 0 where
@@ -68,6 +77,7 @@ pub record IsRecord (fresh : ℕ) (bytes : List ℕ) : Type 0 where
   pub root : HasRoot fresh bytes
   pub min : IsMin bytes
   pub max : IsMax bytes
+  pub levels : IsLevels bytes
   pub spare : IsSpare bytes
 
 -- the field breaks its rule, and those before it keep theirs
@@ -85,13 +95,15 @@ IsFirstBadField Min fresh b =
     IsUsed b × IsLength b × IsScale b × IsName b × IsStep b × IsStart b × IsSlots b × HasRoot fresh b × (IsMin b → ⊥)
 IsFirstBadField Max fresh b =
     IsUsed b × IsLength b × IsScale b × IsName b × IsStep b × IsStart b × IsSlots b × HasRoot fresh b × IsMin b × (IsMax b → ⊥)
+IsFirstBadField Levels fresh b =
+    IsUsed b × IsLength b × IsScale b × IsName b × IsStep b × IsStart b × IsSlots b × HasRoot fresh b × IsMin b × IsMax b × (IsLevels b → ⊥)
 IsFirstBadField Spare fresh b =
-    IsUsed b × IsLength b × IsScale b × IsName b × IsStep b × IsStart b × IsSlots b × HasRoot fresh b × IsMin b × IsMax b × (IsSpare b → ⊥)
+    IsUsed b × IsLength b × IsScale b × IsName b × IsStep b × IsStart b × IsSlots b × HasRoot fresh b × IsMin b × IsMax b × IsLevels b × (IsSpare b → ⊥)
 
 -- The rules of a page with so many series.
 
 abbrev pub IsKind : List ℕ → Type 0
-IsKind page = slice_index page 0 ≡ 3
+IsKind page = slice_index page 0 ≡ 4
 
 -- the bytes of no record are 0
 abbrev pub IsReserved : List ℕ → Type 0

@@ -1,6 +1,7 @@
 -- Which bytes say what a record says.
 use Rattle.std.specs.Prelude.{ℕ, ◌≡◌, ◌+◌, List, length}
-use Rattle.catalog_page.specs.Fields.{used_at, length_at, scale_at, name_at, step_at, start_at, slots_at, root_at, min_at, max_at}
+use Rattle.om3_coeff.specs.Keys.{page_levels}
+use Rattle.catalog_page.specs.Fields.{used_at, length_at, scale_at, name_at, step_at, start_at, slots_at, root_at, min_at, max_at, levels_at}
 use Rattle.catalog_page.specs.Entries.{Entry, least_of, greatest_of}
 use Rattle.catalog_page.specs.Layout.{IsClear, IsSpare}
 
@@ -17,4 +18,5 @@ pub record Spells (e : Entry) (bytes : List ℕ) : Type 0 where
   pub root : root_at bytes ≡ e.root
   pub min : min_at bytes ≡ least_of e.span
   pub max : max_at bytes ≡ greatest_of e.span
+  pub levels : levels_at bytes ≡ page_levels e.slots
   pub spare : IsSpare bytes

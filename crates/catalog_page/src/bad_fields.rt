@@ -8,8 +8,8 @@ use crate::errors::{BadCatalog, BadField};
 use crate::fields::bytes_of;
 use crate::layout::{MOST_RECORDS, USED};
 use crate::rules::{
-    has_length, has_max, has_min, has_name, has_root, has_slots, has_start, has_step, is_spare,
-    is_unused,
+    has_length, has_levels, has_max, has_min, has_name, has_root, has_slots, has_start, has_step,
+    is_spare, is_unused,
 };
 use series_book::limits::GREATEST_SCALE;
 
@@ -47,6 +47,9 @@ pub(crate) fn bad_field(bytes: &[u8], fresh: u32) -> Option<BadField>
     }
     if !has_max(bytes) {
         return Some(BadField::Max);
+    }
+    if !has_levels(bytes) {
+        return Some(BadField::Levels);
     }
     if !is_spare(bytes) {
         return Some(BadField::Spare);

@@ -21,8 +21,8 @@ pub enum BadField {
     /// The start is above 10^18 in size.
     #[error("the start is out of range")]
     Start,
-    /// There are more than 2^28 slots.
-    #[error("there are more than 2^28 slots")]
+    /// There are more than 2^35 slots, or the last one's time is past 2 * 10^18.
+    #[error("there are too many slots")]
     Slots,
     /// The root is no page that was given out, or isn't 0 where there is no slot.
     #[error("the root is no page that can be one")]
@@ -33,6 +33,9 @@ pub enum BadField {
     /// The greatest value is above 10^18 in size, below the least, or isn't 0 without a root.
     #[error("the greatest value is out of range")]
     Max,
+    /// The page levels aren't those of the slots.
+    #[error("the page levels aren't those of the slots")]
+    Levels,
     /// A byte of no field isn't 0.
     #[error("a byte of no field isn't 0")]
     Spare,
@@ -41,7 +44,7 @@ pub enum BadField {
 /// What of a catalog page first breaks its rule, in this order.
 #[derive(Clone, Copy, Debug, PartialEq, Eq, Error)]
 pub enum BadCatalog {
-    /// Byte 0 isn't 3.
+    /// Byte 0 isn't 4.
     #[error("the page is no catalog page")]
     Kind,
     /// A byte of no record isn't 0.

@@ -22,7 +22,7 @@ pub fn records_say_what_fits()
     ensures { (page : List ℕ) (fresh i : ℕ) → HasRecord fresh page i → IsEntry fresh (entry_at page i) }
 {}
 
-/// A page without a series is 3 and zeros.
+/// A page without a series is 4 and zeros.
 pub fn blank_pages_have_no_series()
     ensures { (page : List ℕ) (fresh : ℕ) → IsBlock page → KeepsLayout 0 fresh page ↔ (page ≡ catalog_page) }
 {}

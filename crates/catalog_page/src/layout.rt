@@ -1,7 +1,7 @@
 //! Where the records of a catalog page and their fields stand.
 
 /// The kind of a catalog page, its byte 0.
-pub(crate) const KIND: u8 = 3;
+pub(crate) const KIND: u8 = 4;
 
 /// The bytes 1 to 7 and those from 3,080 on are 0.
 pub(crate) const RECORDS: usize = 8;
@@ -32,6 +32,11 @@ pub(crate) const ROOT: usize = 56;
 pub(crate) const MIN: usize = 64;
 
 pub(crate) const MAX: usize = 72;
+
+pub(crate) const LEVELS: usize = 80;
+
+/// The bytes from here on are 0.
+pub(crate) const SPARE: usize = 81;
 
 /// The first page that can be a root.
 pub(crate) const FIRST: u32 = 17;

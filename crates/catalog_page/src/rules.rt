@@ -1,18 +1,21 @@
 //! The rules of the fields, each as a test.
 ghost use Rattle.std.specs.Prelude.{◌≡◌, ◌<◌, ◌≤◌, ◌↔◌, length, IsTrue};
 ghost use Rattle.block_disk.specs.Blocks.{IsBlock};
-ghost use Rattle.catalog_page.specs.Fields.{length_at};
-ghost use Rattle.catalog_page.specs.Layout.{IsLength, IsName, IsStep, IsStart, IsSlots, HasRoot, IsMin, IsMax, IsClear, HasGaps, IsSpare, IsReserved, IsUnused};
+ghost use Rattle.series_book.specs.declared.limits.TheConstants.{MOST_SLOTS};
+ghost use Rattle.catalog_page.specs.Fields.{length_at, slots_at};
+ghost use Rattle.catalog_page.specs.Layout.{IsLength, IsName, IsStep, IsStart, IsSlots, HasRoot, IsMin, IsMax, IsLevels, IsClear, HasGaps, IsSpare, IsReserved, IsUnused};
 
 use crate::fields::{bytes_of, long_at, name_of, short_at, value_at};
 use crate::layout::{
-    END, FIRST, MAX, MIN, NAME, NAME_END, RECORD, RECORDS, ROOT, SLOTS, START, STEP,
+    END, FIRST, LEVELS, MAX, MIN, NAME, NAME_END, RECORD, RECORDS, ROOT, SLOTS, SPARE, START, STEP,
 };
 use block_disk::BLOCK;
 use node_page::byte_fields::are_zero;
+use om3_coeff::page_levels;
 use series_book::limits::{GREATEST_START, GREATEST_STEP, MOST_NAME_BYTES, MOST_SLOTS};
 use series_book::names::is_name;
 use whole_number::limits::GREATEST_VALUE;
+use whole_number::slot_times::ends_in_time;
 
 /// Whether the bytes from an offset on and below another are 0.
 fn is_clear(bytes: &[u8], from: usize, to: usize) -> bool
@@ -75,12 +78,13 @@ pub(crate) fn has_start(bytes: &[u8]) -> bool
     value_at(bytes, START).unsigned_abs() <= GREATEST_START
 }
 
-/// Whether the slots are as many as there may be.
+/// Whether the slots are as many as there may be, and the last one stands at a time.
 pub(crate) fn has_slots(bytes: &[u8]) -> bool
     requires whole { length bytes.now ≡ 96 }
     ensures { IsTrue result ↔ IsSlots bytes.now }
 {
-    long_at(bytes, SLOTS) <= MOST_SLOTS
+    let slots = long_at(bytes, SLOTS);
+    slots <= MOST_SLOTS && ends_in_time(value_at(bytes, START), short_at(bytes, STEP), slots)
 }
 
 /// Whether the root is a page that can be one.
@@ -112,6 +116,15 @@ pub(crate) fn has_max(bytes: &[u8]) -> bool
         && (short_at(bytes, ROOT) != 0 || max == 0)
 }
 
+/// Whether the page levels are those of the slots.
+pub(crate) fn has_levels(bytes: &[u8]) -> bool
+    requires whole { length bytes.now ≡ 96 }
+    requires few { slots_at bytes.now ≤ MOST_SLOTS }
+    ensures { IsTrue result ↔ IsLevels bytes.now }
+{
+    bytes[LEVELS] == page_levels(long_at(bytes, SLOTS))
+}
+
 /// Whether the bytes in front of the name and behind it are 0.
 fn has_gaps(bytes: &[u8]) -> bool
     requires whole { length bytes.now ≡ 96 }
@@ -128,5 +141,5 @@ pub(crate) fn is_spare(bytes: &[u8]) -> bool
     if !has_gaps(bytes) {
         return false;
     }
-    is_clear(bytes, 60, MIN) && is_clear(bytes, 80, RECORD)
+    is_clear(bytes, 60, MIN) && is_clear(bytes, SPARE, RECORD)
 }

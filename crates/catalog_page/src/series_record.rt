@@ -11,7 +11,7 @@ pub struct Record<'a> {
     pub step: u32,
     /// The time of slot 0, at most 10^18 in size.
     pub start: i64,
-    /// How many slots there are, at most 2^28.
+    /// How many slots there are, at most 2^35, the last one at a time of at most 2 * 10^18.
     pub slots: u64,
     /// The page of the root, 0 where nothing is stored.
     pub root: u32,

@@ -2,16 +2,17 @@
 ghost use Rattle.std.specs.Prelude.{◌≡◌, ◌≢◌, ◌≤◌, ◌<◌, ◌+◌, ◌*◌, ◌⊎◌, ◌↔◌, ℕ, length, slice_index, None, Option};
 ghost use Rattle.block_disk.specs.Blocks.{IsBlock};
 ghost use Rattle.om3_coeff.specs.declared.span.Span.{Span};
+ghost use Rattle.series_book.specs.declared.limits.TheConstants.{MOST_SLOTS};
 ghost use Rattle.node_page.specs.Fields.{number_at, signed_at};
-ghost use Rattle.catalog_page.specs.Fields.{record_bytes, used_at, length_at, scale_at, step_at, start_at, slots_at, root_at, min_at, max_at};
+ghost use Rattle.catalog_page.specs.Fields.{record_bytes, used_at, length_at, scale_at, step_at, start_at, slots_at, root_at, min_at, max_at, levels_at};
 ghost use Rattle.catalog_page.specs.Entries.{entry_of, entry_at, IsEntry, least_of, greatest_of};
 ghost use Rattle.catalog_page.specs.Layout.{HasRecord, KeepsLayout};
 ghost use Rattle.catalog_page.specs.Spelling.{Spells};
 
-use crate::layout::{MAX, MIN, NAME, RECORD, RECORDS, ROOT, SLOTS, START, STEP, USED};
+use crate::layout::{LEVELS, MAX, MIN, NAME, RECORD, RECORDS, ROOT, SLOTS, START, STEP, USED};
 use crate::series_record::Record;
 use node_page::byte_fields::put;
-use om3_coeff::Span;
+use om3_coeff::{Span, page_levels};
 
 /// Sets the number in the four bytes from an offset on.
 fn set_short(bytes: &mut [u8], offset: usize, number: u32)
@@ -86,40 +87,50 @@ fn set_span(bytes: &mut [u8], span: Option<Span>)
     set_value(bytes, MAX, max);
 }
 
-/// Sets the three bytes in front of the name.
-fn set_front(bytes: &mut [u8], len: u8, scale: u8)
+/// Sets the fields of one byte.
+fn set_small(bytes: &mut [u8], len: u8, scale: u8, levels: u8)
     requires whole { length bytes.old ≡ 96 }
     ensures whole { length bytes.new ≡ 96 }
     ensures used { used_at bytes.new ≡ 1 }
     ensures length { length_at bytes.new ≡ len }
     ensures scale { scale_at bytes.new ≡ scale }
-    ensures rest { (k : ℕ) → 3 ≤ k → slice_index bytes.new k ≡ slice_index bytes.old k }
+    ensures levels { levels_at bytes.new ≡ levels }
+    ensures rest { (k : ℕ) → 3 ≤ k → k ≢ 80 → slice_index bytes.new k ≡ slice_index bytes.old k }
 {
     bytes[0] = USED;
     bytes[1] = len;
     bytes[2] = scale;
+    bytes[LEVELS] = levels;
 }
 
 /// The bytes of a record that says this.
 fn spelling(series: &Record) -> [u8; 96]
     requires named { length series.now.name.now ≤ 31 }
+    requires few { series.now.slots ≤ MOST_SLOTS }
     ensures { Spells (entry_of series.now) result }
 {
     let mut bytes = [0; RECORD];
     set_numbers(&mut bytes, series);
     set_span(&mut bytes, series.span);
-    set_front(&mut bytes, series.name.len() as u8, series.scale);
+    set_small(
+        &mut bytes,
+        series.name.len() as u8,
+        series.scale,
+        page_levels(series.slots),
+    );
     put(&mut bytes, NAME, series.name);
     bytes
 }
 
 /// Makes record `number`, 0 to 31, of a page of 4,096 bytes one that says this. All other bytes stay. The
-/// name has at most 31 bytes, and there is a span exactly where there is a root; where the rest is in
-/// range too, the page keeps its layout, with one more series where it is the first record of none.
+/// name has at most 31 bytes, there are at most 2^35 slots, and there is a span exactly where there is a
+/// root; where the rest is in range too, the page keeps its layout, with one more series where it is the
+/// first record of none.
 pub fn set_record(bytes: &mut [u8], number: u8, series: &Record)
     requires whole { IsBlock bytes.old }
     requires number { number < 32 }
     requires named { length series.now.name.now ≤ 31 }
+    requires few { series.now.slots ≤ MOST_SLOTS }
     requires rooted { (series.now.span ≡ None) ↔ (series.now.root ≡ 0) }
     ensures whole { IsBlock bytes.new }
     ensures entry { entry_at bytes.new number ≡ entry_of series.now }

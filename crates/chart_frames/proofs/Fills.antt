@@ -5,7 +5,7 @@ use Rattle.chart_frames.specs.declared.fields.Stop.{Stop}
 use Rattle.chart_frames.specs.declared.fields.Stop.TheVariants.{More, Bad}
 use Rattle.chart_frames.specs.Format.{Format, field, number_in}
 use Rattle.chart_frames.specs.Reading.{read}
-use Rattle.chart_frames.specs.Fields.{is_rows_length, is_length, admits, session_fields, side_field, side_fields, series_fields, window_fields, range_fields, axis_fields, has_field, rmin_field, rmax_field, stored_fields, count_fields, key_field, difference_field, coef_fields, coefs_fields, place_fields, source_fields, view_fields, row_count_fields, column_field, value_field, at_most_field, at_least_field, between_field, row_fields, rows_fields, head_fields, done_fields, refused_fields, opened_fields, flag_fields, live_fields, kind_fields, length_field, kind_field, frame_fields}
+use Rattle.chart_frames.specs.Fields.{is_length, admits, session_fields, side_field, side_fields, series_fields, window_fields, range_fields, axis_fields, slots_field, has_field, rmin_field, rmax_field, stored_fields, count_fields, key_field, difference_field, coef_fields, coefs_fields, place_fields, source_fields, view_fields, row_count_fields, column_field, value_field, at_most_field, at_least_field, between_field, row_fields, rows_fields, head_fields, done_fields, refused_fields, opened_fields, flag_fields, live_fields, kind_fields, length_field, kind_field, frame_fields}
 use Rattle.chart_frames.proofs.FormatLaws.{Fills, Sized, read_there, read_short, read_sized}
 
 coefs_fill : (count slots : ℕ) (last : Option ℕ) (m : ℕ) → m ≡ 25 * count → Fills m (coefs_fields slots last count)
@@ -48,7 +48,7 @@ rows_fill (suc count) w last m e = (
 )
 
 view_fill : (length : ℕ) → 84 ≤ length → Fills (length - 1) (view_fields length (λ slots count. coefs_fields slots None count))
-unfolding view_fields place_fields source_fields session_fields series_fields side_fields side_field window_fields range_fields axis_fields stored_fields has_field rmin_field rmax_field count_fields
+unfolding view_fields place_fields source_fields session_fields series_fields side_fields side_field window_fields range_fields axis_fields slots_field stored_fields has_field rmin_field rmax_field count_fields
 view_fill length long = (
   omega arith,
   λ session _. (

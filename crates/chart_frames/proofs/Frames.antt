@@ -12,7 +12,7 @@ use Rattle.chart_frames.specs.declared.frame.ViewFrame.{ViewFrame}
 use Rattle.chart_frames.specs.declared.frame.RowsFrame.{RowsFrame}
 use Rattle.chart_frames.specs.Format.{Format, stop, field, number_bytes, spell, after, Meets, IsEnd}
 use Rattle.chart_frames.specs.Reading.{read}
-use Rattle.chart_frames.specs.Fields.{session_fields, side_field, side_fields, series_fields, window_fields, range_fields, axis_fields, has_field, rmin_field, rmax_field, stored_fields, count_fields, key_field, difference_field, coef_fields, coefs_fields, place_fields, source_fields, view_fields, row_count_fields, column_field, value_field, at_most_field, at_least_field, between_field, row_fields, rows_fields, head_fields, done_fields, refused_fields, opened_fields, flag_fields, live_fields, kind_fields, length_field, kind_field, frame_fields}
+use Rattle.chart_frames.specs.Fields.{session_fields, side_field, side_fields, series_fields, window_fields, range_fields, axis_fields, slots_field, has_field, rmin_field, rmax_field, stored_fields, count_fields, key_field, difference_field, coef_fields, coefs_fields, place_fields, source_fields, view_fields, row_count_fields, column_field, value_field, at_most_field, at_least_field, between_field, row_fields, rows_fields, head_fields, done_fields, refused_fields, opened_fields, flag_fields, live_fields, kind_fields, length_field, kind_field, frame_fields}
 use Rattle.chart_frames.specs.Frames.{unsigned, key_number, flags_of, coefs_numbers, all_rows_numbers, view_numbers, rows_numbers, numbers_of, spelling, Fits, IsCoef, FitsCoef, FitCoefs, FitsViewHead, FitsView, FitsRow, FitRows, FitsRowsHead, FitsRows}
 use Rattle.chart_frames.specs.Spelled.{framed, place_before, source_before, view_before, coef_before, coefs_before, rows_before, row_before, rows_all_before, frame_before}
 use Rattle.chart_frames.specs.Items.{last_key, last_column}
@@ -79,7 +79,7 @@ rows_spelled w last (r ∷ rs) (suc count) tail room =
 
 view_framed : (v : ViewFrame) (coefs : List (Key × Coef)) (tail : List ℕ)
     → spell_before frame_fields (view_numbers v coefs) tail ≡ framed (84 + 25 * v.count) 5 (view_before v (spell_before (coefs_fields v.slots None v.count) (coefs_numbers coefs) tail))
-unfolding frame_fields length_field kind_field kind_fields view_fields place_fields source_fields session_fields series_fields side_fields side_field window_fields range_fields axis_fields stored_fields has_field rmin_field rmax_field count_fields place_before source_before
+unfolding frame_fields length_field kind_field kind_fields view_fields place_fields source_fields session_fields series_fields side_fields side_field window_fields range_fields axis_fields slots_field stored_fields has_field rmin_field rmax_field count_fields place_before source_before
 view_framed v coefs tail = refl
 
 pub view_spelled : (v : ViewFrame) (coefs : List (Key × Coef)) (tail : List ℕ) → length coefs ≤ v.count

@@ -1,6 +1,6 @@
 -- The numbers of a frame whose fields meet their rules meet the rules of the format.
 use Rattle.std.proofs.Common.{◌≡◌, ℕ, ℤ, zero, suc, pos, ◌+◌, ◌-◌, ◌*◌, ◌/◌, ◌%◌, ◌^◌, ◌<◌, ◌≤◌, ◌⊎◌, inl, inr, Bool, true, false, ◌&&◌, ◌||◌, cond, ltb, leb, eqb, List, [], ◌∷◌, length, Option, Some, None, refl, sym, ap, ◌∙◌, subst, arith}
-use Rattle.std.specs.Prelude.{◌≤ℤ◌, ◌<ℤ◌, unsigned_abs, int_lt, int_le, slice_get, option_map}
+use Rattle.std.specs.Prelude.{◌≤ℤ◌, ◌<ℤ◌, int_lt, int_le, slice_get, option_map}
 use Rattle.std.specs.Bool.{IsTrue}
 use Rattle.std.specs.Int.{w64, cast_signed}
 use Rattle.std.proofs.Math.Facts.{Fits-of_z}
@@ -11,10 +11,12 @@ use Rattle.om3_coeff.specs.declared.coef.Coef.{Coef}
 use Rattle.om3_coeff.specs.Keys.{height, IsNode}
 use Rattle.m4_groups.specs.declared.row.Row.{Row}
 use Rattle.whole_number.specs.Range.{IsValue, is_time, is_value, IsTime}
+use Rattle.chart_frames.specs.declared.limits.TheConstants.{MOST_SLOTS}
+use Rattle.whole_number.specs.SlotTimes.{ends_in_time}
 use Rattle.chart_frames.specs.declared.frame.ViewFrame.{ViewFrame}
 use Rattle.chart_frames.specs.declared.frame.RowsFrame.{RowsFrame}
 use Rattle.chart_frames.specs.Format.{Format, stop, field, Meets, after}
-use Rattle.chart_frames.specs.Fields.{signed, within, is_zero, is_view_length, is_rows_length, is_length, admits, session_fields, side_field, side_fields, series_fields, window_fields, range_fields, axis_fields, has_field, rmin_field, rmax_field, stored_fields, count_fields, level_of, index_of, is_key, follows, is_difference, key_field, difference_field, coef_fields, coefs_fields, place_fields, source_fields, view_fields, row_count_fields, rises, column_field, value_field, at_most_field, at_least_field, between_field, row_fields, rows_fields, head_fields, done_fields, names_first, names_second, refused_fields, opened_fields, flag_fields, live_fields, kind_fields, length_field, kind_field, frame_fields}
+use Rattle.chart_frames.specs.Fields.{signed, within, is_zero, is_view_length, is_rows_length, is_length, admits, session_fields, side_field, side_fields, series_fields, window_fields, range_fields, axis_fields, slots_field, has_field, rmin_field, rmax_field, stored_fields, count_fields, level_of, index_of, is_key, follows, is_difference, key_field, difference_field, coef_fields, coefs_fields, place_fields, source_fields, view_fields, row_count_fields, rises, column_field, value_field, at_most_field, at_least_field, between_field, row_fields, rows_fields, head_fields, done_fields, names_first, names_second, refused_fields, opened_fields, flag_fields, live_fields, kind_fields, length_field, kind_field, frame_fields}
 use Rattle.chart_frames.specs.Frames.{unsigned, key_number, flags_of, coefs_numbers, all_rows_numbers, view_numbers, rows_numbers, IsSession, IsSide, IsWindow, IsRange, IsAxis, IsStored, IsCoef, FitsCoef, Precedes, FitCoefs, FitsViewHead, FitsRow, FitRows, FitsRowsHead, FitsRefused, FitsOpened, number_of_flag}
 use Rattle.chart_frames.specs.Items.{last_key, last_column}
 use Rattle.chart_frames.proofs.Orders.{height_bound, index_bound, level_of-number, index_of-number}
@@ -89,11 +91,15 @@ range_meets lo hi next ns h rest =
     meets_signed is_value (λ lo. signed (λ hi. is_value hi && int_le lo hi) (λ hi. next)) lo (unsigned hi ∷ ns) (value_small lo h.low) (le-leb _ _ h.low)
     (meets_signed (λ hi. is_value hi && int_le lo hi) (λ hi. next) hi ns (value_small hi h.high) (and_from (is_value hi) (int_le lo hi) (le-leb _ _ h.high) (le_from lo hi h.ordered)) rest)
 
+slots_meets : (start : ℤ) (step slots : ℕ) (next : ℕ → Format) (ns : List ℕ) → IsAxis start step slots → Meets (next slots) ns → Meets (slots_field start step next) (slots ∷ ns)
+unfolding slots_field
+slots_meets start step slots next ns h rest = (omega (arith, h.limit), (and_from (leb slots MOST_SLOTS) (ends_in_time start step slots) (le-leb slots MOST_SLOTS h.limit) h.last, rest))
+
 axis_meets : (start : ℤ) (step slots : ℕ) (next : ℕ → Format) (ns : List ℕ) → IsAxis start step slots → Meets (next slots) ns → Meets (axis_fields next) (unsigned start ∷ (step ∷ (slots ∷ ns)))
 unfolding axis_fields
 axis_meets start step slots next ns h rest =
-    meets_signed is_value (λ start. field 4 (within 1 (2 ^ 31)) (λ step. field 8 (λ slots. leb slots (2 ^ 28)) (λ slots. next slots))) start (step ∷ (slots ∷ ns)) (value_small start h.first) (le-leb _ _ h.first)
-    (omega (arith, h.most), (within_from 1 (2 ^ 31) step h.least h.most, (omega (arith, h.limit), (le-leb slots (2 ^ 28) h.limit, rest))))
+    meets_signed is_value (λ start. field 4 (within 1 (2 ^ 31)) (λ step. slots_field start step next)) start (step ∷ (slots ∷ ns)) (value_small start h.first) (le-leb _ _ h.first)
+    (omega (arith, h.most), (within_from 1 (2 ^ 31) step h.least h.most, slots_meets start step slots next ns h rest))
 
 -- there is a stored value, or none
 flag_cases : (has : ℕ) → has ≤ 1 → (has ≡ 0) ⊎ (has ≡ 1)
@@ -302,7 +308,7 @@ view_numbers_meet v coefs head fit room =
 
 pub view_numbers_after : (v : ViewFrame) (coefs : List (Key × Coef)) → length coefs ≤ v.count
     → after frame_fields (view_numbers v coefs) ≡ coefs_fields v.slots (last_key coefs) (v.count - length coefs)
-unfolding frame_fields length_field kind_field kind_fields view_fields place_fields source_fields session_fields series_fields side_fields side_field window_fields range_fields axis_fields stored_fields has_field rmin_field rmax_field count_fields
+unfolding frame_fields length_field kind_field kind_fields view_fields place_fields source_fields session_fields series_fields side_fields side_field window_fields range_fields axis_fields slots_field stored_fields has_field rmin_field rmax_field count_fields
 view_numbers_after v coefs room =
     chain_after v.slots None coefs v.count room ∙ ap (λ (last : Option ℕ). coefs_fields v.slots last (v.count - length coefs)) (last_of coefs)
 
@@ -429,9 +435,9 @@ rows_numbers_after r rows room =
 
 -- ---- frames without items
 
-pub done_meets : (slots : ℕ) → slots ≤ 2 ^ 28 → Meets frame_fields (9 ∷ (1 ∷ (slots ∷ [])))
+pub done_meets : (slots : ℕ) → slots ≤ MOST_SLOTS → Meets frame_fields (9 ∷ (1 ∷ (slots ∷ [])))
 unfolding frame_fields length_field kind_field kind_fields admits done_fields
-done_meets slots h = (omega arith, (refl, (omega arith, (refl, (omega arith, (le-leb slots (2 ^ 28) h, tt))))))
+done_meets slots h = (omega arith, (refl, (omega arith, (refl, (omega arith, (le-leb slots MOST_SLOTS h, tt))))))
 
 named_test : (named : Bool) (n : ℕ) → (named ≡ false → n ≡ 0) → (named || eqb n 0) ≡ true
 named_test true n h = refl

@@ -2,7 +2,9 @@
 use Rattle.std.specs.Prelude.{ℕ, zero, suc, ℤ, ◌+◌, ◌-◌, ◌*◌, ◌/◌, ◌%◌, ◌^◌, ◌==◌, Bool, true, false, ◌&&◌, ◌||◌, nat_lt, nat_le, int_lt, int_le, unsigned_abs, if◌then◌else◌, Option, None, Some}
 use Rattle.std.specs.Int.{w64, cast_signed}
 use Rattle.whole_number.specs.Range.{is_time, is_value}
+use Rattle.whole_number.specs.SlotTimes.{ends_in_time}
 use Rattle.om3_coeff.specs.Keys.{height}
+use Rattle.chart_frames.specs.declared.limits.TheConstants.{MOST_SLOTS}
 use Rattle.chart_frames.specs.Format.{Format, stop, field}
 
 -- eight bytes in two's complement
@@ -62,10 +64,13 @@ window_fields next = signed is_time (λ t0. signed (λ t1. is_time t1 && int_lt 
 unfoldable pub range_fields : Format → Format
 range_fields next = signed is_value (λ lo. signed (λ hi. is_value hi && int_le lo hi) (λ hi. next))
 
+-- the number of slots of the series: the last one stands no later than 2 * 10^18
+unfoldable pub slots_field : ℤ → ℕ → (ℕ → Format) → Format
+slots_field start step next = field 8 (λ slots. nat_le slots MOST_SLOTS && ends_in_time start step slots) next
+
 -- start, step and number of slots of the series; what follows may depend on the slots
 unfoldable pub axis_fields : (ℕ → Format) → Format
-axis_fields next =
-    signed is_value (λ start. field 4 (within 1 (2 ^ 31)) (λ step. field 8 (λ slots. nat_le slots (2 ^ 28)) (λ slots. next slots)))
+axis_fields next = signed is_value (λ start. field 4 (within 1 (2 ^ 31)) (λ step. slots_field start step next))
 
 -- whether the series has a stored value; 0 where it has no slots
 unfoldable pub has_field : ℕ → (ℕ → Format) → Format
@@ -178,7 +183,7 @@ head_fields length next =
     session_fields (side_fields (λ w. range_fields (row_count_fields length w (next w))))
 
 unfoldable pub done_fields : Format
-done_fields = field 8 (λ slots. nat_le slots (2 ^ 28)) (λ slots. stop)
+done_fields = field 8 (λ slots. nat_le slots MOST_SLOTS) (λ slots. stop)
 
 -- the numbers of refusals that tell a first and a second number more
 abbrev pub names_second : ℕ → Bool

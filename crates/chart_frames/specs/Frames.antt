@@ -1,5 +1,5 @@
 -- Frames: the numbers of their fields, their one spelling, and the rules that their fields meet.
-use Rattle.std.specs.Prelude.{ℕ, ℤ, pos, ◌≡◌, ◌+◌, ◌*◌, ◌^◌, ◌<◌, ◌≤◌, ◌≤ℤ◌, ◌<ℤ◌, ◌⊎◌, Bool, false, ◌&&◌, ◌||◌, IsTrue, unsigned_abs, List, [], ◌∷◌, length, All, AllPairs, if◌then◌else◌}
+use Rattle.std.specs.Prelude.{ℕ, ℤ, pos, ◌≡◌, ◌+◌, ◌*◌, ◌^◌, ◌<◌, ◌≤◌, ◌≤ℤ◌, ◌<ℤ◌, ◌⊎◌, Bool, false, ◌&&◌, ◌||◌, IsTrue, List, [], ◌∷◌, length, All, AllPairs, if◌then◌else◌}
 use Rattle.std.specs.Int.{w64, cast_unsigned}
 use Rattle.om3_coeff.specs.declared.key.Key.{Key}
 use Rattle.om3_coeff.specs.declared.coef.Coef.{Coef}
@@ -7,6 +7,8 @@ use Rattle.om3_coeff.specs.Keys.{height, IsNode}
 use Rattle.m4_groups.specs.declared.row.Row.{Row}
 use Rattle.m4_groups.specs.Rows.{AreRising}
 use Rattle.whole_number.specs.Range.{IsValue, IsTime}
+use Rattle.whole_number.specs.SlotTimes.{EndsInTime}
+use Rattle.chart_frames.specs.declared.limits.TheConstants.{MOST_SLOTS}
 use Rattle.chart_frames.specs.declared.frame.Frame.{Frame}
 use Rattle.chart_frames.specs.declared.frame.Frame.TheVariants.{Done, Refused, Opened, Closed, View, Rows, Live}
 use Rattle.chart_frames.specs.declared.frame.ViewFrame.{ViewFrame}
@@ -88,12 +90,13 @@ pub record IsRange (lo hi : ℤ) : Type 0 where
   pub high : IsValue hi
   pub ordered : lo ≤ℤ hi
 
--- start, step and number of slots of a series
+-- start, step and number of slots of a series, the last of which stands at a time
 pub record IsAxis (start : ℤ) (step slots : ℕ) : Type 0 where
   pub first : IsValue start
   pub least : 1 ≤ step
   pub most : step ≤ 2 ^ 31
-  pub limit : slots ≤ 2 ^ 28
+  pub limit : slots ≤ MOST_SLOTS
+  pub last : EndsInTime start step slots
 
 -- The least and the greatest stored value, where one is stored; without slots none is.
 pub record IsStored (slots has : ℕ) (rmin rmax : ℤ) : Type 0 where
@@ -198,7 +201,7 @@ pub record FitsOpened (session cache : ℕ) : Type 0 where
 
 -- the fields meet their rules
 abbrev pub Fits : Frame → Type 0
-Fits (Done slots) = slots ≤ 2 ^ 28
+Fits (Done slots) = slots ≤ MOST_SLOTS
 Fits (Refused number a b) = FitsRefused number a b
 Fits (Opened session cache) = FitsOpened session cache
 Fits (Closed session) = IsSession session

@@ -1,6 +1,7 @@
 // The coefficients of a view.
 ghost use Rattle.std.specs.Prelude.{◌≡◌, ◌≢◌, ◌<◌, ◌≤◌, ◌+◌, ◌-◌, ◌*◌, ◌^◌, ◌++◌, ◌&&◌, ◌||◌, false, true, ℕ, pos, List, length, All, IsTrue, OnErr, IfOk, IfErr, IfSome, MatchOption};
 ghost use Rattle.om3_coeff.specs.Keys.{height, IsNode};
+ghost use Rattle.chart_frames.specs.declared.limits.TheConstants.{MOST_SLOTS};
 ghost use Rattle.chart_frames.specs.Format.{Format, number_bytes};
 ghost use Rattle.chart_frames.specs.Reading.{Reads, read};
 ghost use Rattle.chart_frames.specs.Fields.{follows, is_key, key_field, difference_field, coef_fields, coefs_fields};
@@ -30,7 +31,7 @@ fn follows(last: Option<u64>, number: u64) -> bool
 // The key of a number, where the tree over so many slots has a coefficient there.
 #[tactic(auto, using(std::proofs::lemmas::Nat::one_shl))]
 fn key_of(slots: u64, number: u64) -> Option<Key>
-    requires { slots ≤ 2 ^ 28 }
+    requires { slots ≤ MOST_SLOTS }
     ensures { MatchOption result (is_key slots number ≡ false) (λ k. (is_key slots number ≡ true) × IsNode (height slots) k × (key_number k ≡ number)) }
 {
     let height = height(slots);
@@ -48,7 +49,7 @@ fn key_of(slots: u64, number: u64) -> Option<Key>
 
 #[tactic(auto, unfolding(crate::specs::Fields::key_field))]
 fn key_at(slots: u64, last: Option<u64>, bytes: &[u8]) -> Result<(Key, &[u8]), Stop>
-    requires { slots ≤ 2 ^ 28 }
+    requires { slots ≤ MOST_SLOTS }
     ensures reads { (next : ℕ → Format) → Reads result (read (key_field slots last next) bytes.now) (λ x. read (next (key_number x.0)) x.1.now) }
     ensures takes { IfOk result (λ x. IsNode (height slots) x.0 × IsTrue (follows last (key_number x.0)) × (bytes.now ≡ number_bytes 8 (key_number x.0) ++ x.1.now)) }
 {
@@ -113,7 +114,7 @@ fn coef_at(bytes: &[u8]) -> Result<(Coef, &[u8]), Stop>
 
 #[tactic(auto, unfolding(crate::specs::Spelled::coef_before))]
 fn pair_at(slots: u64, last: Option<u64>, bytes: &[u8]) -> Result<((Key, Coef), &[u8]), Stop>
-    requires { slots ≤ 2 ^ 28 }
+    requires { slots ≤ MOST_SLOTS }
     ensures reads { (next : ℕ → Format) → Reads result (read (key_field slots last (λ key. coef_fields (next key))) bytes.now) (λ x. read (next (key_number x.0.0)) x.1.now) }
     ensures takes { IfOk result (λ x. FitsCoef slots x.0 × IsTrue (follows last (key_number x.0.0)) × (bytes.now ≡ coef_before x.0 x.1.now)) }
 {
@@ -139,7 +140,7 @@ fn push_coef<'a>(
     slots: u64,
     bytes: &'a [u8],
 ) -> Result<&'a [u8], ItemStop>
-    requires slots { slots ≤ 2 ^ 28 }
+    requires slots { slots ≤ MOST_SLOTS }
     requires fits { FitCoefs slots coefs.old.items }
     ensures fits { FitCoefs slots coefs.new.items }
     ensures ok { IfOk result (λ rest. (length coefs.new.items ≡ length coefs.old.items + 1) × (coefs_before coefs.new.items rest.now ≡ coefs_before coefs.old.items bytes.now)) }
@@ -162,7 +163,7 @@ pub fn fill_coefs<'a>(
     count: u32,
     bytes: &'a [u8],
 ) -> Result<&'a [u8], ItemStop>
-    requires slots { slots ≤ 2 ^ 28 }
+    requires slots { slots ≤ MOST_SLOTS }
     requires fits { FitCoefs slots coefs.old.items }
     requires room { length coefs.old.items ≤ count }
     ensures fits { FitCoefs slots coefs.new.items }

@@ -4,7 +4,7 @@ use om3_coeff::Coefs;
 /// An answer of the server.
 #[derive(Drop)]
 pub enum Frame {
-    /// A request was done. `slots` is the number of slots of its series, at most 2^28.
+    /// A request was done. `slots` is the number of slots of its series, at most 2^35.
     Done { slots: u64 },
     /// A request was refused, with the refusal's number, 1 to 22. `a` is 0 unless the number is 2, 3,
     /// 20, 21 or 22, and `b` unless it is 20, 21 or 22.
@@ -44,7 +44,7 @@ pub struct ViewFrame {
     pub start: i64,
     /// The time from one slot to the next, 1 to 2^31.
     pub step: u32,
-    /// The slots of the series, at most 2^28.
+    /// The slots of the series, at most 2^35. The last one stands no later than 2 * 10^18.
     pub slots: u64,
     /// 1 where the series has a stored value, else 0.
     pub has: u8,

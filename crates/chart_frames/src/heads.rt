@@ -3,13 +3,16 @@ ghost use Rattle.std.specs.Prelude.{◌≡◌, ◌<◌, ◌≤◌, ◌≤ℤ◌,
 ghost use Rattle.whole_number.specs.Range.{IsValue, IsTime};
 ghost use Rattle.chart_frames.specs.Format.{Format, number_bytes};
 ghost use Rattle.chart_frames.specs.Reading.{Reads, read};
-ghost use Rattle.chart_frames.specs.Fields.{session_fields, series_fields, side_field, side_fields, window_fields, range_fields, axis_fields, has_field, rmin_field, rmax_field, stored_fields, count_fields, row_count_fields, flag_fields};
+ghost use Rattle.chart_frames.specs.Fields.{session_fields, series_fields, side_field, side_fields, window_fields, range_fields, slots_field, axis_fields, has_field, rmin_field, rmax_field, stored_fields, count_fields, row_count_fields, flag_fields};
 ghost use Rattle.chart_frames.specs.Frames.{IsSession, IsSide, IsWindow, IsRange, IsAxis, IsStored, number_of_flag};
+ghost use Rattle.whole_number.specs.SlotTimes.{EndsInTime};
+ghost use Rattle.chart_frames.specs.declared.limits.TheConstants.{MOST_SLOTS};
 ghost use Rattle.chart_frames.specs.Spelled.{signed_bytes, two_before};
 
 use crate::fields::{Stop, byte_at, long_at, short_at, signed_at, word_at};
 use crate::limits::{GREATEST_STEP, MOST_PIXELS, MOST_SLOTS, SERIES_END};
 use whole_number::limits::{GREATEST_TIME, GREATEST_VALUE};
+use whole_number::slot_times::ends_in_time;
 
 /// Whether this is a value that a series can hold: at most 10^18 in size.
 pub fn is_value(v: i64) -> bool
@@ -120,6 +123,19 @@ pub fn range_at(bytes: &[u8]) -> Result<((i64, i64), &[u8]), Stop>
     Ok(((lo, hi), after))
 }
 
+// The number of slots of a series that starts there.
+#[tactic(auto, unfolding(crate::specs::Fields::slots_field))]
+fn slots_at(start: i64, step: u32, bytes: &[u8]) -> Result<(u64, &[u8]), Stop>
+    ensures reads { (next : ℕ → Format) → Reads result (read (slots_field start step next) bytes.now) (λ x. read (next x.0) x.1.now) }
+    ensures takes { IfOk result (λ x. (x.0 ≤ MOST_SLOTS) × EndsInTime start step x.0 × (bytes.now ≡ number_bytes 8 x.0 ++ x.1.now)) }
+{
+    let (slots, rest) = long_at(bytes)?;
+    if slots > MOST_SLOTS || !ends_in_time(start, step, slots) {
+        return Err(Stop::Bad(bytes.len()));
+    }
+    Ok((slots, rest))
+}
+
 /// The times of a series' slots.
 #[derive(Clone, Copy)]
 pub struct Axis {
@@ -141,10 +157,7 @@ pub fn axis_at(bytes: &[u8]) -> Result<(Axis, &[u8]), Stop>
     if step == 0 || step > GREATEST_STEP {
         return Err(Stop::Bad(rest.len()));
     }
-    let (slots, end) = long_at(after)?;
-    if slots > MOST_SLOTS {
-        return Err(Stop::Bad(after.len()));
-    }
+    let (slots, end) = slots_at(start, step, after)?;
     Ok((Axis { start, step, slots }, end))
 }
 

@@ -39,8 +39,8 @@ pub const SERIES_END: u16 = 512;
 /// The greatest step.
 pub const GREATEST_STEP: u32 = 2_147_483_648;
 
-/// The most slots of a series: 128^4.
-pub const MOST_SLOTS: u64 = 268_435_456;
+/// The most slots of a series: 128^5.
+pub const MOST_SLOTS: u64 = 34_359_738_368;
 
 /// The keys of a level: a key's number is its level times this, and its index.
 pub const LEVEL_KEYS: u64 = 1_099_511_627_776;

@@ -56,6 +56,7 @@ pub fn plot<S: World>(alloc: Global, w: u16, h: u16, streams: &mut S) -> Result<
 }
 
 /// The picture of the chart of the slots.
+#[tactic(auto, unfolding(whole_number::specs::SlotTimes::ends_in_time))]
 fn picture_of(alloc: Global, w: u16, h: u16, slots: &[Option<i64>]) -> Result<Vec<u8>, InputEnd>
     requires wide { IsSide w }
     requires high { IsSide h }

@@ -1,5 +1,5 @@
 -- What an accepted edit leaves: the book has no fewer series, and the edited one is in range.
-use Rattle.std.proofs.Common.{◌≡◌, ℕ, ℤ, ◌^◌, ◌≤◌, true, false, List, [], ◌∷◌, ◌++◌, length, get_or, Option, None, Some, Result, Ok, Err, refl, ap, sym, ◌∙◌, subst, arith, length-append}
+use Rattle.std.proofs.Common.{◌≡◌, ℕ, ℤ, ◌≤◌, true, false, List, [], ◌∷◌, ◌++◌, length, get_or, Option, None, Some, Result, Ok, Err, refl, ap, sym, ◌∙◌, subst, arith, length-append}
 use Rattle.std.specs.Prelude.{nat_lt, nat_le, is_some, slice_get, if◌then◌else◌}
 use Rattle.std.proofs.Math.ListN.{length-set}
 use Rattle.std.proofs.lemmas.List.Elements.{All-get_or}
@@ -100,5 +100,5 @@ edit_leaves book total (Clear name time count) e is =
     (λ id series there made. unbounded_so book id series (cleared_at series time count) e there made) is)
 
 -- the slots of an accepted edit are as many as a frame may tell
-pub edit_fits : (book : List Series) (total : ℕ) (edit : Edit) (more : List Series) (slots : ℕ) → apply book total edit ≡ Ok (record { book = more; slots = slots }) → IsBook more → slots ≤ 2 ^ 28
+pub edit_fits : (book : List Series) (total : ℕ) (edit : Edit) (more : List Series) (slots : ℕ) → apply book total edit ≡ Ok (record { book = more; slots = slots }) → IsBook more → slots ≤ MOST_SLOTS
 edit_fits book total edit more slots is sound = (edit_leaves book total edit (record { book = more; slots = slots }) is).slots sound

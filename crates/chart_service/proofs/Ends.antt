@@ -1,5 +1,5 @@
 -- The ends of the answering of lines, told apart.
-use Rattle.std.proofs.Common.{◌≡◌, ◌≤◌, ℕ, List, false, Result, Ok, Err, IfErr, refl, ap, subst, arith}
+use Rattle.std.proofs.Common.{◌≡◌, ◌≤◌, ℕ, false, Result, Ok, Err, IfErr, refl, ap, subst, arith}
 use Rattle.std.specs.Prelude.{IsErrAnd, OnOk}
 use Rattle.std.proofs.Math.Dec.{eqb}
 use Rattle.std.proofs.lemmas.Bool.{eqb-false}

@@ -6,14 +6,14 @@ use Rattle.std.proofs.lemmas.List.Sums.{passes_at_first}
 use Rattle.std.proofs.lemmas.Bool.{eqb-true}
 use Rattle.chart_world.proofs.NextLine.{contains_early}
 use Rattle.chart_world.specs.FrontLaws.{passes, whole_joined}
-use Rattle.chart_world.specs.Fronts.{says, IsWhole, BeginsWith, Gives, first_piece}
+use Rattle.chart_world.specs.Fronts.{says, IsWhole, Gives, first_piece}
 use Rattle.chart_world.specs.LineLaws.{lines_none, lines_first, lines_joined, pieces, piece_ends, piece_line, told_behind}
 use Rattle.chart_world.specs.Lines.{is_line_feed, text_of, lines}
-use Rattle.chart_world.specs.Reading.{Reading, HasLine, unread}
+use Rattle.chart_world.specs.Reading.{Reading, unread}
 use Rattle.series_book.specs.declared.edits.Edit.{Edit}
 use Rattle.chart_service.specs.EditGroups.{SpellsEdit, SpellEdits, IsEditAhead, Gathers, IsGroup, IsGroupOf}
 use Rattle.chart_service.specs.Serving.{told}
-use Rattle.chart_service.proofs.Progress.{PassesLines, PassedLines}
+use Rattle.chart_service.proofs.Progress.{PassesLines}
 
 spells_more : (all : List (Option (List ℕ))) (edits : List Edit) (line : Option (List ℕ)) (edit : Edit) → SpellEdits all edits → SpellsEdit line edit → SpellEdits (all ++ line ∷ []) (edits ++ edit ∷ [])
 spells_more [] [] line edit all one = (one, tt)

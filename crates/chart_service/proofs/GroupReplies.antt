@@ -1,6 +1,6 @@
 -- Edits that were done together are answered, frame by frame.
-use Rattle.std.proofs.Common.{◌≡◌, ◌≤◌, ◌<◌, ◌+◌, ℕ, List, [], ◌∷◌, ◌++◌, length, Option, None, Some, Result, Ok, Err, IfErr, IfSome, refl, ap, sym, subst, ◌∙◌, inl, inr, arith, length-append}
-use Rattle.std.specs.Prelude.{OnOk, ⊤}
+use Rattle.std.proofs.Common.{◌≡◌, ◌+◌, ℕ, List, [], ◌∷◌, ◌++◌, length, Option, None, Some, Result, Ok, IfErr, IfSome, refl, ap, sym, subst, ◌∙◌, inl, inr, arith, length-append}
+use Rattle.std.specs.Prelude.{OnOk}
 use Rattle.std.proofs.lemmas.Bool.{cases_lt}
 use Rattle.std.proofs.lemmas.List.{append-nil}
 use Rattle.block_disk.specs.Streams.{sent_after}
@@ -15,12 +15,12 @@ use Rattle.request_lines.specs.declared.requests.Request.TheVariants.{Edit as Ed
 use Rattle.stored_book.specs.Standing.{StandsForBook}
 use Rattle.zoom_session.specs.declared.session.Session.{Session}
 use Rattle.chart_service.specs.EditGroups.{SpellsEdit, SpellEdits, RepliesToEdits, AnswersSome}
-use Rattle.chart_service.specs.Making.{Makes, AreMade, LinesDone, LinesCut, DoesFirst, LinesStopAt, LinesStop, LinesNext, LinesMoments, FrameStops, ReplySent, FrameMoments, FramesSent, FramesCut, FirstSent, FramesMoments}
+use Rattle.chart_service.specs.Making.{Makes, LinesDone, LinesCut, LinesStop, LinesMoments, FrameStops, ReplySent, FrameMoments, FramesSent, FramesCut, FirstSent, FramesMoments}
 use Rattle.chart_service.specs.Moments.{Through}
 use Rattle.chart_service.specs.MomentLaws.{through_by, through_so, through_then}
 use Rattle.chart_service.specs.Replies.{Replied, RepliesTo}
 use Rattle.chart_service.specs.SentLaws.{sent_none, sent_more}
-use Rattle.chart_service.specs.Serving.{RepliesToAll, FirstOf, end_of_step}
+use Rattle.chart_service.specs.Serving.{RepliesToAll, end_of_step}
 use Rattle.chart_service.specs.State.{State}
 use Rattle.chart_service.specs.Stepping.{StandsAfter, RepliedTo, IsOutside, state_of}
 use Rattle.chart_service.specs.declared.failure.AnswerEnd.{AnswerEnd}

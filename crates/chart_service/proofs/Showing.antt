@@ -1,6 +1,6 @@
 -- The fields of an answered view are those that a frame may have.
-use Rattle.std.proofs.Common.{◌≡◌, ℕ, zero, suc, ℤ, ◌*◌, ◌^◌, ◌<◌, ◌≤◌, List, [], ◌∷◌, get_or, Option, None, Some, refl, sym, subst, inl, inr, arith}
-use Rattle.std.specs.Prelude.{AllPairs, IsSome, unsigned_abs, ◌-ℤ◌}
+use Rattle.std.proofs.Common.{◌≡◌, ℕ, zero, suc, ℤ, ◌^◌, ◌<◌, ◌≤◌, List, [], ◌∷◌, get_or, Option, None, Some, refl, sym, subst, inl, inr, arith}
+use Rattle.std.specs.Prelude.{AllPairs, IsSome, ◌-ℤ◌}
 use Rattle.std.proofs.lemmas.Int.{ints}
 use Rattle.std.proofs.lemmas.List.Kept.{AllPairs-cons}
 use Rattle.whole_number.specs.Range.{IsValue, IsTime}

@@ -34,7 +34,7 @@ use Rattle.zoom_session.specs.declared.session.Session.{Session}
 use Rattle.chart_service.specs.State.{State, IsSound}
 use Rattle.chart_service.specs.Replies.{refused, Replies, RepliesTo, RepliesToLine, Replied, line_text}
 use Rattle.chart_service.specs.Stepping.{StandsAfter, state_of, RepliedTo, IsBeforeOrAfter, IsDamagedIn, IsDamagedToView, IsStepCause, IsBadPage, NamesBad, IsOutside, IsUnchangedBy, IsUnchangedFor, Steps, series_at, ReadsFew}
-use Rattle.chart_service.specs.Looking.{Looks, Replying, IsNoEdit, IsViewCause, ReadsByText}
+use Rattle.chart_service.specs.Looking.{Looks, Replying, IsViewCause, ReadsByText}
 use Rattle.chart_service.specs.declared.failure.ServiceError.{ServiceError}
 use Rattle.chart_service.specs.declared.failure.ServiceError.TheVariants.{DiskFault, Damaged, NoMemory}
 use Rattle.block_disk.proofs.Passing.{passes_weaker}

@@ -9,9 +9,9 @@ use Rattle.block_disk.specs.View.{Image, View, DiskKept}
 use Rattle.chart_world.proofs.NextLine.{contains_early, here_lines}
 use Rattle.chart_world.specs.FrontLaws.{passes}
 use Rattle.chart_world.specs.Fronts.{says, IsWhole, BeginsWith, Gives, first_piece}
-use Rattle.chart_world.specs.LineLaws.{lines_none, lines_first, lines_joined, piece_line, told_so}
+use Rattle.chart_world.specs.LineLaws.{lines_none, lines_joined, piece_line, told_so}
 use Rattle.chart_world.specs.Lines.{is_line_feed, text_of, lines}
-use Rattle.chart_world.specs.Reading.{Reading, HasLine, Took, unread, unread_input, in_front_of, behind_first, told_lines, with_first}
+use Rattle.chart_world.specs.Reading.{Reading, HasLine, Took, unread, unread_input, behind_first}
 use Rattle.chart_frames.specs.declared.frame.Frame.{Frame}
 use Rattle.request_lines.specs.declared.requests.Request.{Request}
 use Rattle.request_lines.specs.declared.requests.Request.TheVariants.{Edit as EditRequest, Open, View as ViewRequest, Zoom, Pan, Close}
@@ -23,14 +23,14 @@ use Rattle.series_book.specs.declared.refusals.Refusal.{Refusal}
 use Rattle.series_book.specs.EditLists.{after_edits, book_behind, edits_give}
 use Rattle.series_book.specs.Edits.{Edited, apply}
 use Rattle.series_book.proofs.EditListLemmas.{after_append}
-use Rattle.series_store.specs.Groups.{AreMany, touch_of, weight, weight_of}
+use Rattle.series_store.specs.Groups.{AreMany, weight}
 use Rattle.series_store.specs.Results.{IsUnchanged}
 use Rattle.stored_book.specs.Standing.{StandsForBook}
 use Rattle.chart_service.specs.EditGroups.{DoesSome, IsGroupOf, RepliesToEdits, SpellsEdit, SpellEdits, frame_of, frames_of}
 use Rattle.chart_service.specs.Replies.{Edits, line_text}
-use Rattle.chart_service.specs.Serving.{most_ahead, told}
+use Rattle.chart_service.specs.Serving.{told}
 use Rattle.chart_service.specs.State.{State}
-use Rattle.chart_service.specs.Syncing.{EndsGroup, FirstLinesSyncLess, IsOtherNext, SyncsLines, edit_asked, edit_of, edit_read, edits_of, group_syncs, most_syncs}
+use Rattle.chart_service.specs.Syncing.{EndsGroup, FirstLinesSyncLess, IsOtherNext, SyncsLines, edit_asked, edit_of, edit_read, edits_of, group_syncs}
 use Rattle.chart_service.proofs.GatherLemmas.{both_none, spelled_length}
 use Rattle.chart_service.proofs.Progress.{PassesLines}
 
@@ -116,8 +116,8 @@ divided n k m some most = (le-div_iff_mul-le some).1 most
 pub record GroupSynced (total : ℕ) (book : List Series) (edits : List Edit) (done from count : ℕ) : Type 0 where
   pub turns : ℕ
   pub few : count ≤ from + 4 * turns
-  pub filled : done < length edits → 24 * turns ≤ weight total book (take done edits)
-  pub most : 24 * turns ≤ 24 + weight total book edits
+  pub filled : done < length edits → 22 * turns ≤ weight total book (take done edits)
+  pub most : 22 * turns ≤ 22 + weight total book edits
 
 pub group_none : (total : ℕ) (book : List Series) (edits : List Edit) (frames : List Frame) (from : ℕ) → frames ≡ [] → GroupSynced total book edits (length frames) from from
 group_none total book edits [] from none = record { turns = 0; few = omega arith; filled = λ more. omega arith; most = omega arith }
@@ -169,7 +169,7 @@ group_end total book edits done from count g =
     let s = weight total book edits in
     elim (none_or_one g.turns) [
       | inl none ↦ omega (arith, g.few, none)
-      | inr some ↦ omega (arith, g.few, some.1, divided some.0 24 s (omega arith) (omega (arith, g.most, some.1)))
+      | inr some ↦ omega (arith, g.few, some.1, divided some.0 22 s (omega arith) (omega (arith, g.most, some.1)))
     ]
   where
     none_or_one : (n : ℕ) → (n ≡ 0) ⊎ ((m : ℕ) × (n ≡ m + 1))
@@ -179,7 +179,7 @@ group_end total book edits done from count g =
 pub group_stop : (total : ℕ) (book : List Series) (edits : List Edit) (done from count count' : ℕ) → done < length edits → count' ≤ count + 4 → GroupSynced total book edits done from count → count' ≤ from + group_syncs total book edits
 group_stop total book edits done from count count' more most g =
     let s = weight total book edits in
-    omega (arith, g.few, most, divided g.turns 24 s (omega arith) (omega (arith, g.filled more, first_weight total book edits done)))
+    omega (arith, g.few, most, divided g.turns 22 s (omega arith) (omega (arith, g.filled more, first_weight total book edits done)))
 
 -- ---- the lines of an input
 
@@ -204,7 +204,7 @@ pub record SyncedSoFar (input : List ℕ) (r : Reading) (left : Option (List ℕ
   pub few : count ≤ from + 4 * (others + risen + full + heavy + debt)
   pub taken : before + risen ≤ now
   pub full_paid : full * 64 ≤ length (edits_of (lines front))
-  pub heavy_paid : heavy * 24 ≤ weight total book (edits_of (lines front))
+  pub heavy_paid : heavy * 22 ≤ weight total book (edits_of (lines front))
   pub owes : Owes r rest debt
 
 owes_most : (r : Reading) (rest : List ℕ) (debt : ℕ) → Owes r rest debt → debt ≤ 2
@@ -295,7 +295,7 @@ module _ (o : Option (List ℕ)) (total : ℕ) (book : List Series) (from before
         begins = p.begins;
         others = p.others;
         counted = p.others_are;
-        few = omega (arith, p.few, same, later, p.taken, divided p.full 64 (length edits) (omega arith) p.full_paid, divided p.heavy 24 (weight total book edits) (omega arith) p.heavy_paid, owes_most r p.rest p.debt p.owes);
+        few = omega (arith, p.few, same, later, p.taken, divided p.full 64 (length edits) (omega arith) p.full_paid, divided p.heavy 22 (weight total book edits) (omega arith) p.heavy_paid, owes_most r p.rest p.debt p.owes);
       }
 
   -- no line was given, or it wasn't answered
@@ -356,7 +356,7 @@ module _ (o : Option (List ℕ)) (total : ℕ) (book : List Series) (from before
       more : ℕ
       lines_are : length (lines (p.front ++ piece)) ≡ length (lines p.front) + length edits + more
       heavy : ℕ
-      heavy_paid : (p.heavy + heavy) * 24 ≤ weight total book (edits_of (lines p.front) ++ edits)
+      heavy_paid : (p.heavy + heavy) * 22 ≤ weight total book (edits_of (lines p.front) ++ edits)
       some : p.rest ≢ []
       few_more : count' ≤ count + 4 * (1 + heavy)
 
@@ -368,7 +368,7 @@ module _ (o : Option (List ℕ)) (total : ℕ) (book : List Series) (from before
         let told_edits : edits_of (lines q.piece) ≡ edits = sym (edits_told (lines q.piece)) ∙ ap edits_of q.told_piece ∙ spelled_edits all edits spells in
         let lines_are : lines (p.front ++ q.piece) ≡ lines p.front ++ lines q.piece = lines_joined p.front q.piece q.whole in
         let some : length edits ≤ length (lines q.piece) = omega (arith, told_less (lines q.piece), ap length q.told_piece, spelled_length all edits spells) in
-        let heavy = weight total b edits / 24 in
+        let heavy = weight total b edits / 22 in
         record {
           piece = q.piece;
           behind = q.later;
@@ -379,7 +379,7 @@ module _ (o : Option (List ℕ)) (total : ℕ) (book : List Series) (from before
           more = length (lines q.piece) - length edits;
           lines_are = omega (arith, ap length lines_are, length-append (lines p.front) (lines q.piece), some);
           heavy = heavy;
-          heavy_paid = omega (arith, p.heavy_paid, weight_joined total book here edits, div-mul-le_self (weight total b edits) 24);
+          heavy_paid = omega (arith, p.heavy_paid, weight_joined total book here edits, div-mul-le_self (weight total b edits) 22);
           some = (passes input p.front p.rest r m left left' (Some m.line) p.told_rest p.counted p.begins given).some;
           few_more = few b p.stands;
         }
@@ -389,7 +389,7 @@ module _ (o : Option (List ℕ)) (total : ℕ) (book : List Series) (from before
         let w = with_edits input p in
         let here = edits_of (lines p.front) in
         let full = divided p.full 64 (length (here ++ edits)) (omega arith) (omega (arith, p.full_paid, length-append here edits)) in
-        let heavy = divided (p.heavy + w.heavy) 24 (weight total book (here ++ edits)) (omega arith) w.heavy_paid in
+        let heavy = divided (p.heavy + w.heavy) 22 (weight total book (here ++ edits)) (omega arith) w.heavy_paid in
         record {
           front = p.front ++ w.piece;
           rest = w.behind;
@@ -406,7 +406,7 @@ module _ (o : Option (List ℕ)) (total : ℕ) (book : List Series) (from before
             heavy,
             owes_one r p.rest p.debt w.some p.owes,
             ap (λ e. length e / 64) w.edits_are,
-            ap (λ e. weight total book e / 24) w.edits_are,
+            ap (λ e. weight total book e / 22) w.edits_are,
           );
         }
 
@@ -516,5 +516,5 @@ less_synced input total book pieces from to others s counted =
     let more = length-append here there in
     let heavier = weight_joined total book here there in
     let few = divided (length here / 64) 64 (length (edits_of (lines input))) (omega arith) (omega (arith, div-mul-le_self (length here) 64, ap length edits, more)) in
-    let light = divided (weight total book here / 24) 24 (weight total book (edits_of (lines input))) (omega arith) (omega (arith, div-mul-le_self (weight total book here) 24, ap (weight total book) edits, heavier)) in
+    let light = divided (weight total book here / 22) 22 (weight total book (edits_of (lines input))) (omega arith) (omega (arith, div-mul-le_self (weight total book here) 22, ap (weight total book) edits, heavier)) in
     omega (arith, s.few, few, light, s.counted, counted, ap length all, length-append (lines s.front) (lines s.rest), ap length edits, more, edits_few (lines s.rest))

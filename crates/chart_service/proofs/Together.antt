@@ -30,7 +30,7 @@ use Rattle.stored_book.specs.Standing.{StandsForBook}
 use Rattle.zoom_session.specs.declared.session.Session.{Session}
 use Rattle.chart_service.specs.EditGroups.{RepliesToEdits, IsAfterSome, AnswersSome, DoesSome, frame_of, frames_of, group_end}
 use Rattle.chart_service.specs.Replies.{refused, Edits}
-use Rattle.chart_service.specs.State.{State, IsSound}
+use Rattle.chart_service.specs.State.{IsSound}
 use Rattle.chart_service.specs.Stepping.{RepliedTo, StandsAfter, IsOutside, state_of}
 use Rattle.chart_service.specs.declared.failure.ServiceError.{ServiceError}
 use Rattle.chart_service.proofs.EditLemmas.{views_grown}

@@ -1,5 +1,5 @@
 -- Edits that are done together, and the lines that spell them.
-use Rattle.std.specs.Prelude.{ℕ, ◌≡◌, ◌+◌, ◌*◌, ◌≤◌, List, [], ◌∷◌, ◌++◌, length, map, take, Option, None, Some, Result, Ok, Err, ⊤}
+use Rattle.std.specs.Prelude.{ℕ, ◌≡◌, ◌+◌, ◌≤◌, List, [], ◌∷◌, ◌++◌, length, map, take, Option, None, Some, Result, Ok, Err, ⊤}
 use Rattle.block_disk.specs.View.{Image}
 use Rattle.chart_world.specs.Fronts.{IsWhole}
 use Rattle.std.specs.List.{before_first}

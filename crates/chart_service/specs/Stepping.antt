@@ -125,7 +125,7 @@ pub record Steps (told_old told_new : Type 0) (old new : View) : Type 0 where
   pub beside : new.beside ≡ old.beside
   pub faults : old.faults ≤ new.faults
   pub syncs : Rises 4 old.syncs new.syncs
-  pub writes : Rises 83 old.writes new.writes
+  pub writes : Rises 87 old.writes new.writes
 
 -- and what edits move that are done together
 pub record GroupSteps (told_old told_new : Type 0) (old new : View) : Type 0 where

@@ -12,10 +12,10 @@ use Rattle.series_book.specs.declared.one_series.Series.{Series}
 use Rattle.series_store.specs.Groups.{weight}
 use Rattle.chart_service.specs.Serving.{most_ahead}
 
--- How often edits may sync that are done together, from this book on: four times, and four times more for each 24 of their
+-- How often edits may sync that are done together, from this book on: four times, and four times more for each 22 of their
 -- weight, the sum of 1 and the pages touched over the accepted ones.
 abbrev pub group_syncs : ℕ → List Series → List Edit → ℕ
-group_syncs total book edits = 4 * (1 + weight total book edits / 24)
+group_syncs total book edits = 4 * (1 + weight total book edits / 22)
 
 -- the edit that a request asks for; none where it asks for none
 abbrev pub edit_asked : Request → List Edit
@@ -49,9 +49,9 @@ abbrev pub EndsGroup : Reading → List Edit → Type 0
 EndsGroup reading edits = (length edits ≡ most_ahead) ⊎ IsOtherNext reading
 
 -- How often lines may sync from this book on, of which these are edits and so many others, while so many pieces are taken:
--- four times for each other line, for each piece, for each 64 edits and for each 24 of their weight, and eight times more.
+-- four times for each other line, for each piece, for each 64 edits and for each 22 of their weight, and eight times more.
 abbrev pub most_syncs : ℕ → List Series → List Edit → ℕ → ℕ → ℕ
-most_syncs total book edits others pieces = 4 * (others + pieces + 2 + length edits / 64 + weight total book edits / 24)
+most_syncs total book edits others pieces = 4 * (others + pieces + 2 + length edits / 64 + weight total book edits / 22)
 
 -- Some first lines of the input sync no more often than they may, while so many pieces are taken; other lines are those that
 -- spell no edit, empty ones too.

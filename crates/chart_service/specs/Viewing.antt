@@ -1,5 +1,5 @@
 -- An answered view: its frame, and the chart that it stands for.
-use Rattle.std.specs.Prelude.{◌≡◌, ◌⊎◌, ℕ, ℤ, pos, ◌^◌, ◌<◌, ◌≤◌, ◌≤ℤ◌, ◌<ℤ◌, unsigned_abs, ⊤, List, length, filter, Option, None, Some}
+use Rattle.std.specs.Prelude.{◌≡◌, ◌⊎◌, ℕ, ℤ, pos, ◌<◌, ◌≤◌, ◌≤ℤ◌, ◌<ℤ◌, unsigned_abs, ⊤, List, length, filter, Option, None, Some}
 use Rattle.whole_number.specs.declared.limits.TheConstants.{GREATEST_VALUE}
 use Rattle.series_book.specs.declared.one_series.Series.{Series}
 use Rattle.request_lines.specs.declared.ranges.RangeWord.{RangeWord}

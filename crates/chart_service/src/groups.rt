@@ -3,6 +3,7 @@ ghost use Rattle.std.specs.Prelude.{◌≡◌, ◌≢◌, ◌≤◌, ◌<◌, �
 ghost use Rattle.block_disk.specs.Counts.{HasRisen};
 ghost use Rattle.chart_frames.specs.Frames.{Fits};
 ghost use Rattle.gate_pages.specs.Pages.{GoesOn};
+ghost use Rattle.series_book.specs.declared.limits.TheConstants.{MOST_SLOTS};
 ghost use Rattle.series_book.specs.Books.{IsNamed};
 ghost use Rattle.series_book.specs.Edits.{IsEdit};
 ghost use Rattle.series_store.specs.Groups.{HaveFewSlots, answer_of};
@@ -129,7 +130,7 @@ fn add_frames(
 
 /// The frame that tells an answer.
 fn answer_frame(answer: &Result<Outcome, Refusal>) -> Frame
-    requires { IfOk answer.now (λ outcome. outcome.slots ≤ 2 ^ 28) }
+    requires { IfOk answer.now (λ outcome. outcome.slots ≤ MOST_SLOTS) }
     ensures frame { result ≡ frame_of (answer_of answer.now) }
     ensures fits { Fits result }
     ensures reply { IsEditReply result }

@@ -41,7 +41,7 @@ pub fn replies_are_one()
 }
 
 /// What some first lines of an input may sync, the whole input may: four times for each line that is no
-/// edit, for each piece that is taken, for each 64 edits and for each 24 of their weight, and eight times
+/// edit, for each piece that is taken, for each 64 edits and for each 22 of their weight, and eight times
 /// more.
 pub fn first_lines_sync_less()
     ensures { FirstLinesSyncLess }

@@ -1,13 +1,14 @@
 -- What is known of a disk, of its pages.
-use Rattle.std.proofs.Common.{◌≡◌, ℕ, ◌≤◌, Bool, true, false, List, [], ◌∷◌, get_or, refl, sym, ap, subst, arith, ◌∙◌}
-use Rattle.block_disk.specs.View.{Image, View, Now, Honest}
+use Rattle.std.proofs.Common.{◌≡◌, ℕ, ◌≤◌, List, [], ◌∷◌, get_or, refl, sym, ap, subst, arith, ◌∙◌}
+use Rattle.block_disk.specs.View.{Image, View, Honest}
 use Rattle.gate_pages.specs.GateLaws.{closed_readable}
 use Rattle.gate_pages.specs.GatePages.{PagesOf, IsReadable, IsClosed}
-use Rattle.gate_pages.specs.Journal.{pages_of, is_open}
+use Rattle.gate_pages.specs.Journal.{pages_of}
 use Rattle.page_space.specs.Layout.{superblock_page}
 use Rattle.page_space.specs.declared.superblock.Superblock.{Superblock}
 use Rattle.series_book.specs.declared.one_series.Series.{Series}
 use Rattle.stored_book.specs.Standing.{StandsForBook, RecoversTo}
+use Rattle.stored_book.proofs.CurrentLemmas.{recovers_new}
 use Rattle.disk_store.specs.Held.{HoldsBook}
 
 -- page 0 of a store begins with the byte 67
@@ -41,7 +42,7 @@ pub holds_closed : (count total : ℕ) (book : List Series) (disk : View) → Is
 holds_closed count total book disk closed honest within stands = record {
   honest = honest;
   images = λ image left.
-      let here : RecoversTo count disk.image total book = record { readable = closed_readable count disk.image (closed.gate honest); within = within; stands = stands } in
+      let here : RecoversTo count disk.image total book = recovers_new count disk.image total book (closed_readable count disk.image (closed.gate honest)) within stands in
       let P : Image → Type 0 = λ i. RecoversTo count i total book in
       subst P (sym (closed.only image left)) here;
 }

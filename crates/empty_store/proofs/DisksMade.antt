@@ -23,7 +23,7 @@ stood count old mid passes at image low high left = elim (cases_lt old.clock at)
       record { from = image; was = subst P same (passes.past at image stands left); same = refl; readable = λ is. is }
 ]
 
-sent_so : (old mid : View) (images : Image → Type 0) → Passes old mid images (Quiet old) → (at : ℕ) → old.clock ≤ at → at ≤ mid.clock → mid.sent_by at ≡ sent_now old
+pub sent_so : (old mid : View) (images : Image → Type 0) → Passes old mid images (Quiet old) → (at : ℕ) → old.clock ≤ at → at ≤ mid.clock → mid.sent_by at ≡ sent_now old
 sent_so old mid images passes at low high = elim (cases_lt old.clock at) [
   | inl moved ↦ passes.sent_here at moved high
   | inr stands ↦

@@ -8,7 +8,10 @@ use Rattle.gate_pages.specs.Batch.{page_in, put_all}
 use Rattle.gate_pages.specs.Pages.{Quiet, BeforeOrAfter, Reads}
 use Rattle.gate_pages.proofs.Moving.{time_then}
 use Rattle.page_space.specs.Firsts.{first_page, first_below, first_pages}
-use Rattle.page_space.specs.Layout.{superblock_page, catalog_page, empty_of}
+use Rattle.page_space.specs.Layout.{HasMagic, superblock_page, catalog_page, empty_of}
+use Rattle.store_upgrade.specs.OldStores.{HasOldMagic}
+use Rattle.store_upgrade.specs.Upgraded.{current}
+use Rattle.store_upgrade.proofs.Magics.{either_magic}
 use Rattle.empty_store.specs.Kept.{Stays}
 use Rattle.empty_store.specs.Stores.{IsEmptyStore, Makes}
 
@@ -68,3 +71,15 @@ makes_then told told' old mid new holds only reads makes =
       | inr after ↦ let P : ℕ → Type 0 = λ n. IsEmptyStore n pages in inr (subst P reads.size after)
     ])
     (λ count quiet. quiet) makes)
+
+-- pages that were read and lack the magic of version 2 lack that of version 1 too, where they lack it once they are current
+pub lacks_both : (told told' : Type 0) (old mid : View) → Reads told told' old mid → (told → HasMagic (old.image 0) → ⊥) → told → HasMagic (current old.image 0) → HasOldMagic (mid.image 0)
+lacks_both told told' old mid reads lacks is magic = elim (either_magic old.image magic) [
+  | inl new ↦ absurd (lacks is new)
+  | inr one ↦ let P : Image → Type 0 = λ image. HasOldMagic (image 0) in subst P (sym (reads.image is)) one
+]
+
+pub stays_then : (told told' : Type 0) (old mid new : View) → told → Only old.image (Now old) → Reads told told' old mid → Stays mid new → Stays old new
+stays_then told told' old mid new holds only reads stays =
+    time_then old mid new (λ pages. pages ≡ old.image) (stays_read told told' old mid only reads)
+    (passes_weaker mid new (λ pages. pages ≡ mid.image) (λ pages. pages ≡ old.image) (Quiet mid) (Quiet mid) (λ pages same. same ∙ reads.image holds) (λ count quiet. quiet) stays)

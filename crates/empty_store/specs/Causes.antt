@@ -7,6 +7,7 @@ use Rattle.block_disk.specs.declared.disk.Disk.{Ghosts}
 use Rattle.gate_pages.specs.declared.gate_pages.GatePages.{GatePages}
 use Rattle.gate_pages.specs.Journal.{page_count}
 use Rattle.page_space.specs.Layout.{HasMagic}
+use Rattle.store_upgrade.specs.Upgraded.{current}
 use Rattle.empty_store.specs.Stores.{HasStore}
 use Rattle.empty_store.specs.declared.errors.InitCause.{InitCause}
 use Rattle.empty_store.specs.declared.errors.InitCause.TheVariants.{TooSmall, IsStore, DiskFault, NoMemory}
@@ -31,6 +32,6 @@ Prevents NoMemory old new = Unit {0}
 -- the same for pages, where reads may give what they are
 abbrev pub PreventsPages : InitCause → Type 0 → View → View → Type 0
 PreventsPages (TooSmall size) told old new = ⊥
-PreventsPages IsStore told old new = told → HasMagic (old.image 0)
+PreventsPages IsStore told old new = told → HasMagic (current old.image 0)
 PreventsPages DiskFault told old new = HasRisen old.faults new.faults
 PreventsPages NoMemory told old new = Unit {0}

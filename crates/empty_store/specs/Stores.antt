@@ -5,6 +5,7 @@ use Rattle.gate_pages.specs.GatePages.{IsReadable, StandsAsBefore}
 use Rattle.gate_pages.specs.Journal.{page_count, pages_of}
 use Rattle.gate_pages.specs.Pages.{Quiet, GoesOn}
 use Rattle.page_space.specs.Layout.{HasMagic, superblock_page, catalog_page, empty_of}
+use Rattle.store_upgrade.specs.Upgraded.{current}
 
 -- page 0 counts no series, and no page in use but itself and the 16 pages of the catalog, which have no series
 pub record IsEmptyStore (count : ℕ) (pages : Image) : Type 0 where
@@ -16,10 +17,11 @@ pub record IsNewStore (count : ℕ) (image : Image) : Type 0 where
   pub readable : IsReadable count image
   pub store : IsEmptyStore count (pages_of count image)
 
--- there is a store, or what is left of one: the journal can be read, and page 0 has the magic once it is replayed
+-- there is a store of either version, or what is left of one: the journal can be read, and once it is replayed, page 0 has
+-- the magic of version 2 or that of version 1
 pub record HasStore (count : ℕ) (image : Image) : Type 0 where
   pub readable : IsReadable count image
-  pub magic : HasMagic (pages_of count image 0)
+  pub magic : HasMagic (current (pages_of count image) 0)
 
 -- the disk stands for the pages that it stood for
 abbrev pub KeepsPages : View → View → Type 0

@@ -9,7 +9,7 @@ pub enum InitCause {
     /// The disk has fewer than 128 blocks: so many.
     #[error("a disk of {0} blocks is too small for a store")]
     TooSmall(u32),
-    /// Page 0 has the magic of a store already.
+    /// Page 0 has the magic of a store already, of either version.
     #[error("there is a store already")]
     IsStore,
     /// A call of the disk failed: its count of faults has risen.

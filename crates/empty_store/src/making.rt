@@ -16,7 +16,7 @@ use std::alloc::Global;
 /// Makes the disk an empty store, and gives it back.
 ///
 /// `TooSmall` comes exactly where the disk has fewer than 128 blocks, and `IsStore` exactly where
-/// page 0 has the magic of a store once the journal is replayed. Each yields to a fault of the disk
+/// page 0 has the magic of a store, of either version, once the journal is replayed. Each yields to a fault of the disk
 /// and to want of memory, which leaves the pages as they were. After `DiskFault` the disk may hold the
 /// pages from before or an empty store.
 pub fn make_store<D: Disk>(alloc: Global, disk: D) -> Result<D, Back<D, InitCause>>

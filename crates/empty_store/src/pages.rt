@@ -3,6 +3,8 @@ ghost use Rattle.std.specs.Prelude.{◌≡◌, ◌≢◌, ◌≤◌, IfOk, IfErr
 ghost use Rattle.block_disk.specs.View.{View};
 ghost use Rattle.gate_pages.specs.Pages.{GoesOn};
 ghost use Rattle.page_space.specs.Layout.{HasMagic};
+ghost use Rattle.store_upgrade.specs.OldStores.{HasOldMagic};
+ghost use Rattle.store_upgrade.specs.Upgraded.{current};
 ghost use Rattle.empty_store.specs.Causes.{PreventsPages, given};
 ghost use Rattle.empty_store.specs.Kept.{Stays};
 ghost use Rattle.empty_store.specs.Stores.{IsEmptyStore, Makes};
@@ -12,16 +14,17 @@ use block_disk::Back;
 use gate_pages::Pages;
 use page_space::{Space, SpaceError};
 use std::alloc::Global;
+use store_upgrade::{UpgradeError, is_old};
 
-/// Makes pages an empty store where page 0 lacks the magic of one.
+/// Makes pages an empty store where page 0 lacks the magic of either version.
 pub(crate) fn make_pages<P: Pages>(alloc: Global, pages: P) -> Result<P, Back<P, InitCause>>
     requires sound { (P.view pages).fit }
     requires many { 62 ≤ (P.view pages).size }
     ensures cause { IfErr result (λ back. PreventsPages back.cause (P.told pages) (P.view pages) (P.view back.value)) }
     ensures no_memory { IfErr result (λ back. back.cause ≡ InitCause.NoMemory → P.told pages → (P.view back.value).image ≡ (P.view pages).image) }
-    ensures fresh { IfOk result (λ made. P.told pages → HasMagic ((P.view pages).image 0) → ⊥) }
+    ensures fresh { IfOk result (λ made. P.told pages → HasMagic (current (P.view pages).image 0) → ⊥) }
     ensures makes { P.told pages → Makes (P.view pages) (P.view (given result)) }
-    ensures kept { P.told pages → HasMagic ((P.view pages).image 0) → Stays (P.view pages) (P.view (given result)) }
+    ensures kept { P.told pages → HasMagic (current (P.view pages).image 0) → Stays (P.view pages) (P.view (given result)) }
     ensures told { P.told pages → P.told (given result) }
     ensures goes_on { GoesOn (P.under pages) (P.under (given result)) }
     ensures store { IfOk result (λ made. P.told pages → IsEmptyStore (P.view pages).size (P.view made).image) }
@@ -35,24 +38,50 @@ pub(crate) fn make_pages<P: Pages>(alloc: Global, pages: P) -> Result<P, Back<P,
             value: space.into_pages(),
             cause: InitCause::IsStore,
         }),
-        Err(
-            Back {
+        Err(Back { value, cause }) => match cause {
+            SpaceError::NotAStore => make_new(alloc, value),
+            SpaceError::Damaged { .. } => Err(Back {
                 value,
-                cause: SpaceError::NotAStore,
-            },
-        ) => write_pages(alloc, value),
-        Err(
-            Back {
+                cause: InitCause::IsStore,
+            }),
+            other => Err(Back {
                 value,
-                cause: SpaceError::Damaged { .. },
-            },
-        ) => Err(Back {
-            value,
+                cause: cause_of(other),
+            }),
+        },
+    }
+}
+
+/// Makes pages an empty store where page 0 lacks the magic of version 1.
+fn make_new<P: Pages>(alloc: Global, mut pages: P) -> Result<P, Back<P, InitCause>>
+    requires sound { (P.view pages).fit }
+    requires many { 62 ≤ (P.view pages).size }
+    ensures cause { IfErr result (λ back. PreventsPages back.cause (P.told pages) (P.view pages) (P.view back.value)) }
+    ensures no_memory { IfErr result (λ back. back.cause ≡ InitCause.NoMemory → P.told pages → (P.view back.value).image ≡ (P.view pages).image) }
+    ensures fresh { IfOk result (λ made. P.told pages → HasOldMagic ((P.view pages).image 0) → ⊥) }
+    ensures makes { P.told pages → Makes (P.view pages) (P.view (given result)) }
+    ensures kept { P.told pages → HasOldMagic ((P.view pages).image 0) → Stays (P.view pages) (P.view (given result)) }
+    ensures told { P.told pages → P.told (given result) }
+    ensures goes_on { GoesOn (P.under pages) (P.under (given result)) }
+    ensures store { IfOk result (λ made. P.told pages → IsEmptyStore (P.view pages).size (P.view made).image) }
+    ensures sound { IfOk result (λ made. (P.view made).fit) }
+    ensures size { (P.view (given result)).size ≡ (P.view pages).size }
+    ensures beside { (P.view (given result)).beside ≡ (P.view pages).beside }
+    ensures faults { (P.view pages).faults ≤ (P.view (given result)).faults }
+{
+    match is_old(alloc, &mut pages) {
+        Ok(false) => write_pages(alloc, pages),
+        Ok(true) => Err(Back {
+            value: pages,
             cause: InitCause::IsStore,
         }),
-        Err(Back { value, cause }) => Err(Back {
-            value,
-            cause: cause_of(cause),
+        Err(UpgradeError::NoMemory) => Err(Back {
+            value: pages,
+            cause: InitCause::NoMemory,
+        }),
+        Err(_) => Err(Back {
+            value: pages,
+            cause: InitCause::DiskFault,
         }),
     }
 }

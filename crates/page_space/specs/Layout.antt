@@ -3,9 +3,9 @@ use Rattle.std.specs.Prelude.{ℕ, ◌+◌, ◌-◌, ◌^◌, ◌≡◌, ◌≢�
 use Rattle.byteorder.specs.Endian.{big_bytes}
 use Rattle.page_space.specs.declared.superblock.Superblock.{Superblock}
 
--- CHARTST1
+-- CHARTST2
 abbrev pub magic : List ℕ
-magic = 67 ∷ 72 ∷ 65 ∷ 82 ∷ 84 ∷ 83 ∷ 84 ∷ 49 ∷ []
+magic = 67 ∷ 72 ∷ 65 ∷ 82 ∷ 84 ∷ 83 ∷ 84 ∷ 50 ∷ []
 
 -- page 0 begins with the magic
 abbrev pub HasMagic : List ℕ → Type 0
@@ -63,7 +63,7 @@ pub record Links (s : Superblock) (next : ℕ) (page : List ℕ) : Type 0 where
 
 -- a page of the catalog without a series
 unfoldable pub catalog_page : List ℕ
-catalog_page = 3 ∷ replicate 4095 0
+catalog_page = 4 ∷ replicate 4095 0
 
 -- The numbers of page 0 and what becomes of them.
 

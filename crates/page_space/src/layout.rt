@@ -16,7 +16,7 @@ pub(crate) const PLACES: usize = 1024;
 pub(crate) const MOST_SERIES: u32 = 512;
 
 /// The first eight bytes of the superblock.
-pub(crate) const MAGIC: [u8; 8] = *b"CHARTST1";
+pub(crate) const MAGIC: [u8; 8] = *b"CHARTST2";
 
 /// Where the superblock's number of pages stands. The other four numbers follow it.
 pub(crate) const TOTAL: usize = 8;
@@ -36,4 +36,4 @@ pub(crate) const FREED: [u8; 4] = [1, 0, 0, 0];
 pub(crate) const NEXT: usize = 4;
 
 /// The first byte of a page of the catalog.
-pub(crate) const CATALOG: [u8; 1] = [3];
+pub(crate) const CATALOG: [u8; 1] = [4];

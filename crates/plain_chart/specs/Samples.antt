@@ -3,6 +3,7 @@ use Rattle.std.specs.Prelude.{◌≡◌, ℕ, ℤ, pos, ◌^◌, ◌≤◌, ◌�
 use Rattle.std.specs.List.{enumerate_from, filter_map}
 use Rattle.chart_grid.specs.Slots.{slot_time}
 use Rattle.whole_number.specs.Range.{IsValue}
+use Rattle.whole_number.specs.SlotTimes.{EndsInTime}
 use Rattle.chart_grid.specs.declared.grid.Grid.{Grid}
 use Rattle.chart_grid.specs.declared.axis.Axis.{Axis}
 use Rattle.plain_chart.specs.declared.sample.Sample.{Sample}
@@ -52,8 +53,13 @@ abbrev pub SpansSoFar : Option ValueRange → List ℤ → Type 0
 SpansSoFar None values = values ≡ []
 SpansSoFar (Some range) values = Spans values range
 
--- the start, the step and the number of slots are those of a series
+-- the most slots of a series
+abbrev pub most_slots : ℕ
+most_slots = 2 ^ 35
+
+-- the start, the step and the number of slots are those of a series, the last slot of which stands at a time
 pub record IsSeries (axis : Axis) : Type 0 where
   pub start : IsValue axis.start
   pub step : axis.step ≤ 2 ^ 31
-  pub slots : axis.slots ≤ 2 ^ 28
+  pub slots : axis.slots ≤ most_slots
+  pub last : EndsInTime axis.start axis.step axis.slots

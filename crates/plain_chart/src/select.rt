@@ -5,6 +5,7 @@ ghost use Rattle.chart_grid.specs.Slots.{slot_time};
 
 use crate::Sample;
 use chart_grid::{Axis, Grid};
+use whole_number::slot_times::{slot_time, slots_stand_in_time};
 
 /// The sample of a slot, where it holds a value and its time lies in the window.
 pub fn sample_at(grid: Grid, axis: Axis, slot: usize, stored: Option<i64>) -> Option<Sample>
@@ -32,7 +33,8 @@ pub fn time_of(axis: Axis, slot: usize) -> i64
     requires slot { slot < axis.slots }
     ensures { result ≡ slot_time axis slot }
 {
-    axis.start + slot as i64 * i64::from(axis.step)
+    slots_stand_in_time();
+    slot_time(axis.start, axis.step, slot as u64)
 }
 
 /// Whether the time lies in the window.

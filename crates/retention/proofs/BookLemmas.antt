@@ -71,7 +71,7 @@ clear_accepted total book name id series first end is at there few =
 pub cleared_is_book : (book : List Series) (id : ℕ) (series : Series) (first end : ℕ) → IsBook book → slice_get book id ≡ Some series → IsBook (cleared_book book id series first end)
 cleared_is_book book id series first end is there =
     let was = IsSeries-there book id series is there in
-    IsBook-with_slots book id series (cleared series.slots first (end - first)) is there (cleared_fits series.slots first (end - first) was.values_in_range was.slots_in_range)
+    IsBook-with_slots book id series (cleared series.slots first (end - first)) is there (cleared_fits series series.slots first (end - first) was.values_in_range was.slots_in_range was.last_in_range)
 
 abbrev pub cleared_series : Series → ℕ → ℕ → Series
 cleared_series series first end = record series { slots = cleared series.slots first (end - first) }

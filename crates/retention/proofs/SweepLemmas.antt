@@ -1,5 +1,5 @@
 -- The clears of a rule one after the other.
-use Rattle.std.proofs.Common.{◌≡◌, ◌≢◌, ℕ, ℤ, ◌+◌, ◌*◌, ◌^◌, ◌≤◌, Bool, true, false, List, [], ◌∷◌, ◌++◌, length, take, get_or, Option, None, Some, Result, Ok, Err, IfErr, refl, sym, ap, subst, ◌∙◌, arith, inl, inr, append_assoc, length-append}
+use Rattle.std.proofs.Common.{◌≡◌, ◌≢◌, ℕ, ℤ, ◌+◌, ◌*◌, ◌≤◌, Bool, true, false, List, [], ◌∷◌, ◌++◌, length, take, get_or, Option, None, Some, Result, Ok, Err, IfErr, refl, sym, ap, subst, ◌∙◌, arith, inl, inr, append_assoc, length-append}
 use Rattle.std.specs.Option.{is_some}
 use Rattle.std.proofs.lemmas.List.{append-nil}
 use Rattle.std.specs.Prelude.{MatchOption, not}
@@ -13,7 +13,7 @@ use Rattle.gate_pages.specs.Pages.{Quiet}
 use Rattle.gate_pages.proofs.Moving.{time_then}
 use Rattle.page_space.specs.Layout.{Keeps as KeepsPage}
 use Rattle.page_space.specs.declared.superblock.Superblock.{Superblock}
-use Rattle.series_book.specs.declared.limits.TheConstants.{MOST_SLOTS}
+use Rattle.series_book.specs.declared.limits.TheConstants.{MOST_SERIES, MOST_SLOTS}
 use Rattle.series_book.specs.declared.edits.Edit.{Edit}
 use Rattle.series_book.specs.declared.one_series.Series.{Series}
 use Rattle.series_book.specs.declared.outcomes.Outcome.{Outcome}
@@ -244,14 +244,14 @@ swept_end total book rule clears used more old now new going is steps counted =
     let had : HadNone total going.after rule new.image = none_so more total going.after rule new.image is steps.done in
     swept_so total book rule clears used old now new.image going had.none (counted going.after had.stands) had.stands
 
-few_values : (book : List Series) → IsBook book → values_of book ≤ 512 * 2 ^ 28
+few_values : (book : List Series) → IsBook book → values_of book ≤ MOST_SERIES * MOST_SLOTS
 few_values book is =
     let most : values_of book ≤ length book * MOST_SLOTS =
     sum_by-le (λ (one : Series). values_in one.slots) MOST_SLOTS book (λ k d within. let one = is.all_in_range k d within in omega (arith, count_by-le-length (λ (x : Option ℤ). is_some x) (get_or book k d).slots, one.slots_in_range)) in
     omega (arith, most, is.few)
 
 -- so many clears leave nothing to clear
-pub swept_last : (total : ℕ) (book : List Series) (rule : Rule) (clears used : ℕ) (old now : View) (going : Going total book rule clears old now) → IsBook book → 137438953472 ≤ clears → ((after : List Series) → StandsForBook now.image total after → used ≡ pages_of after)
+pub swept_last : (total : ℕ) (book : List Series) (rule : Rule) (clears used : ℕ) (old now : View) (going : Going total book rule clears old now) → IsBook book → MOST_SERIES * MOST_SLOTS ≤ clears → ((after : List Series) → StandsForBook now.image total after → used ≡ pages_of after)
     → IsSwept total book rule (record { clears = clears; used = used }) now.image
 swept_last total book rule clears used old now going is many counted =
     let none : sweeps total going.after rule ≡ [] = elim (none_or_next total going.after rule going.is_book) [

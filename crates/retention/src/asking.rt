@@ -1,8 +1,9 @@
 //! A series of a store is asked for its first stored slot.
-ghost use Rattle.std.specs.Prelude.{◌≡◌, ◌≤◌, ◌<◌, ◌^◌, ℕ, ℤ, List, Option, length, IfOk, IfErr, IfSome};
+ghost use Rattle.std.specs.Prelude.{◌≡◌, ◌≤◌, ◌<◌, ℕ, ℤ, List, Option, length, IfOk, IfErr, IfSome};
 ghost use Rattle.block_disk.specs.View.{View};
 ghost use Rattle.om3_coeff.specs.View.{Agrees};
 ghost use Rattle.om3_coeff.specs.Walks.{IsFirstStored};
+ghost use Rattle.series_book.specs.declared.limits.TheConstants.{MOST_SLOTS};
 ghost use Rattle.series_book.specs.declared.one_series.Series.{Series};
 ghost use Rattle.series_book.specs.Axes.{IsAxisOf};
 ghost use Rattle.series_store.specs.Shown as shown;
@@ -34,7 +35,7 @@ pub(crate) fn selected<P: Pages>(store: &mut Store<P>, id: u16) -> Axis
     requires there { id < length (shown.catalog store.old) }
     ensures fit { (shown.nodes store.new).fit }
     ensures slots { result.slots ≡ (shown.nodes store.new).slots }
-    ensures few { result.slots ≤ 2 ^ 28 }
+    ensures few { result.slots ≤ MOST_SLOTS }
     ensures step { 1 ≤ result.step }
     ensures axis { shown.ForSeries store.old id (λ total book series. IsAxisOf series result) }
     ensures agrees { shown.ForSeries store.old id (λ total book series. Agrees (shown.nodes store.new) series.slots) }

@@ -1,6 +1,7 @@
 //! The next clear of a rule that names a series.
-ghost use Rattle.std.specs.Prelude.{◌≡◌, ◌≤◌, ◌<◌, ◌^◌, ◌/◌, ℕ, List, length, IfOk, IfErr, IfSome};
+ghost use Rattle.std.specs.Prelude.{◌≡◌, ◌≤◌, ◌<◌, ◌/◌, ℕ, List, length, IfOk, IfErr, IfSome};
 ghost use Rattle.block_disk.specs.View.{View};
+ghost use Rattle.series_book.specs.declared.limits.TheConstants.{MOST_SLOTS};
 ghost use Rattle.series_book.specs.declared.one_series.Series.{Series};
 ghost use Rattle.series_book.specs.Axes.{IsAxisOf};
 ghost use Rattle.series_book.specs.Edits.{IsEdit};
@@ -22,7 +23,7 @@ use series_store::Store;
 /// The clear of the old slots of the aligned range that holds a slot.
 fn clear_range(name: &Name, axis: Axis, old: u64, slot: u64) -> Result<Edit, NoMemory>
     requires low { slot < old }
-    requires few { old ≤ 2 ^ 28 }
+    requires few { old ≤ MOST_SLOTS }
     ensures clear { (series : Series) → IsAxisOf series axis → IfOk result (λ clear. clear ≡ clear_of name.now series (range_first (slot / 4096)) (range_end old (slot / 4096))) }
     ensures is_edit { IfOk result IsEdit }
 {

@@ -1,5 +1,5 @@
 //! Slots of a series, and clears of them. The clauses speak of every series with this axis.
-ghost use Rattle.std.specs.Prelude.{◌≡◌, ◌≤◌, ◌<◌, ◌<ℤ◌, ◌+◌, ◌*◌, ◌^◌, ◌+ℤ◌, ◌-ℤ◌, pos, IfOk, IsTrue};
+ghost use Rattle.std.specs.Prelude.{◌≡◌, ◌≤◌, ◌<◌, ◌<ℤ◌, ◌+◌, ◌*◌, ◌+ℤ◌, ◌-ℤ◌, pos, IfOk, IsTrue};
 ghost use Rattle.series_book.specs.declared.one_series.Series.{Series};
 ghost use Rattle.series_book.specs.Axes.{IsAxisOf};
 ghost use Rattle.series_book.specs.Edits.{IsEdit, distance};
@@ -48,16 +48,14 @@ pub(crate) fn old_slots(axis: Axis, rule: &Rule) -> u64
 
 /// The time of a slot.
 pub(crate) fn slot_time(axis: Axis, slot: u64) -> i128
-    requires few { slot ≤ 2 ^ 28 }
     ensures time { result ≡ axis.start +ℤ pos (slot * axis.step) }
     ensures of_series { (series : Series) → IsAxisOf series axis → result ≡ slot_time series slot }
 {
-    i128::from(axis.start) + i128::from(slot * u64::from(axis.step))
+    i128::from(axis.start) + i128::from(slot) * i128::from(axis.step)
 }
 
 /// The clear of the slots of a series from one on and below another.
 pub(crate) fn clear_of(name: &Name, axis: Axis, first: u64, end: u64) -> Result<Edit, NoMemory>
-    requires few { first ≤ 2 ^ 28 }
     requires order { first ≤ end }
     ensures clear { (series : Series) → IsAxisOf series axis → IfOk result (λ clear. clear ≡ clear_of name.now series first end) }
     ensures is_edit { IfOk result IsEdit }

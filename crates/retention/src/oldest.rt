@@ -1,5 +1,6 @@
 //! The first stored slot of a series.
-ghost use Rattle.std.specs.Prelude.{◌<◌, ◌≤◌, ◌^◌};
+ghost use Rattle.std.specs.Prelude.{◌<◌, ◌≤◌};
+ghost use Rattle.series_book.specs.declared.limits.TheConstants.{MOST_SLOTS};
 
 use series_book::Axis;
 
@@ -10,5 +11,5 @@ pub(crate) struct Oldest {
     pub(crate) axis: Axis,
     pub(crate) slot: u64,
     ghost low: { slot < axis.slots },
-    ghost few: { axis.slots ≤ 2 ^ 28 },
+    ghost few: { axis.slots ≤ MOST_SLOTS },
 }

@@ -18,10 +18,11 @@ use crate::sweep_error::SweepError;
 use crate::swept::Swept;
 use gate_pages::Pages;
 use series_book::Edit;
+use series_book::limits::{MOST_SERIES, MOST_SLOTS};
 use series_store::{Store, StoreError};
 
-/// As many slots as a book may have: 512 series of 2^28 slots. Each clear takes a value.
-const MOST_CLEARS: u64 = 137_438_953_472;
+/// As many slots as a book may have. Each clear takes a value.
+const MOST_CLEARS: u64 = MOST_SERIES as u64 * MOST_SLOTS;
 
 /// What an error of a clear is for a sweep.
 fn clear_error(cause: StoreError) -> SweepError

@@ -1,5 +1,6 @@
-use Rattle.std.proofs.Common.{◌≡◌, ◌≢◌, ℕ, ◌+◌, ◌-◌, ◌*◌, ◌<◌, ◌≤◌, min, Bool, true, false, cond, ltb, List, [], ◌∷◌, ◌++◌, length, take, drop, replicate, map, set, get_or, Option, Some, None, ℤ, All, AllPairs, sum_by, refl, sym, ap, ◌∙◌, subst, arith}
+use Rattle.std.proofs.Common.{◌≡◌, ◌≢◌, ℕ, ◌+◌, ◌-◌, ◌*◌, ◌<◌, ◌≤◌, min, max, Bool, true, false, cond, ltb, List, [], ◌∷◌, ◌++◌, length, take, drop, replicate, map, set, get_or, Option, Some, None, ℤ, All, AllPairs, sum_by, refl, sym, ap, ◌∙◌, subst, arith}
 use Rattle.std.specs.List.{position_or_len, slice_get}
+use Rattle.std.specs.Prelude.{unsigned_abs, IsTrue}
 use Rattle.std.specs.Str.{bytes_eq}
 use Rattle.std.specs.Option.{IsSomeAnd}
 use Rattle.std.proofs.Math.Seq.{map-set_same}
@@ -10,12 +11,16 @@ use Rattle.std.proofs.lemmas.List.Quantifiers.{all_pairs_push}
 use Rattle.std.proofs.lemmas.List.Sums.{fails_before_first, sum_by-set, sum_by_push, sum_by-le, get_or-le-sum_by}
 use Rattle.std.proofs.lemmas.Option.{get_or_from_slice_get, slice_get_within, slice_get_read}
 use Rattle.std.proofs.lemmas.Slice.Eq.{bytes_eq-Decides}
-use Rattle.series_book.specs.declared.limits.TheConstants.{MOST_SLOTS, MOST_SERIES, FIXED_PAGES}
+use Rattle.series_book.specs.declared.limits.TheConstants.{MOST_SLOTS, MOST_SERIES, FIXED_PAGES, GREATEST_START, GREATEST_STEP, GREATEST_SCALE}
+use Rattle.whole_number.specs.SlotTimes.{EndsInTime}
+use Rattle.whole_number.proofs.SlotTimes.{none_in_time, fewer_in_time}
 use Rattle.series_book.specs.declared.one_series.Series.{Series}
 use Rattle.series_book.specs.Books.{IsSeries, IsBook}
+use Rattle.series_book.specs.Names.{is_name}
 use Rattle.series_book.specs.Edits.{id_of, is_too_large, overwritten}
 use Rattle.series_book.specs.Pages.{series_pages, pages_of}
 use Rattle.series_book.proofs.PageLemmas.{series_pages_few}
+use Rattle.series_book.proofs.SlotLemmas.{length-overwritten}
 
 -- a place that isn't there is past the end
 past_all : (n m : ℕ) → cond (ltb n m) (Some n) None ≡ None → m ≤ n
@@ -62,12 +67,29 @@ IsBook-set book id old new is there in_range named = record {
       subst P (sym (map-set_same (λ series. series.name) book id new old same)) is.distinct;
 }
 
+-- a series without slots
+pub IsSeries-new : (name : List ℕ) (start : ℤ) (step scale : ℕ) (series : Series) → series ≡ record { name = name; start = start; step = step; scale = scale; slots = [] }
+    → IsTrue (is_name name) → unsigned_abs start ≤ GREATEST_START → 1 ≤ step → step ≤ GREATEST_STEP → scale ≤ GREATEST_SCALE → IsSeries series
+IsSeries-new name start step scale series series_is named start_fits step_above step_fits scale_fits =
+    subst IsSeries (sym series_is)
+    (record {
+      named = named;
+      start_in_range = start_fits;
+      step_above_zero = step_above;
+      step_in_range = step_fits;
+      scale_in_range = scale_fits;
+      slots_in_range = omega arith;
+      last_in_range = none_in_time start step;
+      values_in_range = λ k d within. absurd (omega arith);
+    })
+
 -- a series with a run over its slots
 pub IsSeries-overwritten : (series : Series) (place : ℕ) (run : List (Option ℤ)) → IsSeries series
     → All (λ value. is_too_large value ≡ false) run → place + length run ≤ MOST_SLOTS
+    → EndsInTime series.start series.step (max (length series.slots) (place + length run))
     → IsSeries (record series { slots = overwritten series.slots place run })
 unfolding overwritten
-IsSeries-overwritten series place run is in_range room =
+IsSeries-overwritten series place run is in_range room last =
     let fits : Option ℤ → Type 0 = λ value. is_too_large value ≡ false in
     record {
       named = is.named;
@@ -77,6 +99,7 @@ IsSeries-overwritten series place run is in_range room =
       scale_in_range = is.scale_in_range;
       slots_in_range =
           omega (arith, is.slots_in_range, length-append {A = Option ℤ}, length-take {A = Option ℤ}, length-drop {A = Option ℤ}, length-replicate {A = Option ℤ});
+      last_in_range = subst (EndsInTime series.start series.step) (sym (length-overwritten series.slots run place)) last;
       values_in_range =
           All-append fits (take place series.slots ++ replicate (place - length series.slots) None ++ run) (drop (place + length run) series.slots)
           (All-append fits (take place series.slots ++ replicate (place - length series.slots) None) run
@@ -105,6 +128,9 @@ IsSeries-taken_back series place before displaced after is in_range shorter with
       scale_in_range = is.scale_in_range;
       slots_in_range =
           omega (arith, is.slots_in_range, ap length after_is, length-append {A = Option ℤ}, length-take {A = Option ℤ}, length-drop {A = Option ℤ});
+      last_in_range = fewer_in_time series.start series.step (length series.slots) (length after)
+          (omega (arith, ap length after_is, length-append {A = Option ℤ}, length-take {A = Option ℤ}, length-drop {A = Option ℤ}))
+          is.last_in_range;
       values_in_range =
           rw after_is
           (All-append fits (take from cut ++ displaced) (drop (from + length displaced) cut)
@@ -136,15 +162,15 @@ unfolding pages_of
 pages_of-push book series = omega (arith, sum_by_push (λ series. series_pages series.slots) book series)
 
 -- a book has few pages
-pub pages_of_few : (book : List Series) → IsBook book → pages_of book ≤ FIXED_PAGES + MOST_SERIES * (4 * MOST_SLOTS)
+pub pages_of_few : (book : List Series) → IsBook book → pages_of book ≤ FIXED_PAGES + MOST_SERIES * (5 * MOST_SLOTS)
 unfolding pages_of
 pages_of_few book is =
     let pages : Series → ℕ = λ series. series_pages series.slots in
-    let few : All (λ series. pages series ≤ 4 * MOST_SLOTS) book =
+    let few : All (λ series. pages series ≤ 5 * MOST_SLOTS) book =
     λ k d within.
     let here : IsSeries (get_or book k d) = is.all_in_range k d within in
     omega (arith, here.slots_in_range, series_pages_few (get_or book k d).slots here.slots_in_range) in
-    omega (arith, is.few, sum_by-le pages (4 * MOST_SLOTS) book few)
+    omega (arith, is.few, sum_by-le pages (5 * MOST_SLOTS) book few)
 
 -- what holds of the value in a `Some`
 pub at_some : {X : Type 0} (o : Option X) (x : X) (P : X → Type 0) → o ≡ Some x → P x → IsSomeAnd o P

@@ -130,11 +130,11 @@ first_covering_is (suc tries) j n k from to covers least =
     here (leb n (PAGE_SLOTS ^ j)) refl
 
 -- a series of more than one level has more slots than levels
-levels_few : (n k : ℕ) → k ≤ 4 → (1 < k → PAGE_SLOTS ^ 1 < n) → k ≤ 1 + n
+levels_few : (n k : ℕ) → k ≤ 5 → (1 < k → PAGE_SLOTS ^ 1 < n) → k ≤ 1 + n
 levels_few n k few least = grind arith
 
 -- the least number of at least 1 of which the power covers n slots is the number of page levels
-pub page_levels_is : (n k : ℕ) → 1 ≤ k → k ≤ 4 → n ≤ PAGE_SLOTS ^ k
+pub page_levels_is : (n k : ℕ) → 1 ≤ k → k ≤ 5 → n ≤ PAGE_SLOTS ^ k
     → ((i : ℕ) → 1 ≤ i → i < k → PAGE_SLOTS ^ i < n) → page_levels n ≡ k
 unfolding page_levels
 page_levels_is n k above_zero few covers least =
@@ -145,12 +145,13 @@ pub page_slots-suc : (k : ℕ) → PAGE_SLOTS ^ (k + 1) ≡ PAGE_SLOTS ^ k * PAG
 page_slots-suc k = pow-add PAGE_SLOTS k 1
 
 -- a page of a level below the highest is small
-pub page_slots_small : (k : ℕ) → k < 4 → (0 < PAGE_SLOTS ^ k) × (PAGE_SLOTS ^ k ≤ 2097152)
+pub page_slots_small : (k : ℕ) → k < 5 → (0 < PAGE_SLOTS ^ k) × (PAGE_SLOTS ^ k ≤ 268435456)
 page_slots_small zero few = (lit< tt, lit≤ tt)
 page_slots_small (suc zero) few = (lit< tt, lit≤ tt)
 page_slots_small (suc (suc zero)) few = (lit< tt, lit≤ tt)
 page_slots_small (suc (suc (suc zero))) few = (lit< tt, lit≤ tt)
-page_slots_small (suc (suc (suc (suc k)))) few = absurd (omega arith)
+page_slots_small (suc (suc (suc (suc zero)))) few = (lit< tt, lit≤ tt)
+page_slots_small (suc (suc (suc (suc (suc k))))) few = absurd (omega arith)
 
 -- one more level
 pub level_pages-suc : (k : ℕ) (slots : List (Option ℤ)) → level_pages (k + 1) slots ≡ level_pages k slots + ranges_with_value (PAGE_SLOTS ^ k * PAGE_SLOTS) slots
@@ -188,9 +189,9 @@ level_pages-le zero slots = omega arith
 level_pages-le (suc k) slots =
     omega (arith, level_pages-le k slots, count_below-le (range_has_value (PAGE_SLOTS ^ suc k) slots) (length slots))
 
--- a series has at most four pages for each slot
-pub series_pages_few : (slots : List (Option ℤ)) → length slots ≤ MOST_SLOTS → series_pages slots ≤ 4 * length slots
+-- a series has at most five pages for each slot
+pub series_pages_few : (slots : List (Option ℤ)) → length slots ≤ MOST_SLOTS → series_pages slots ≤ 5 * length slots
 unfolding series_pages page_levels
 series_pages_few slots short =
-    let few : first_covering (length slots) 1 (length slots) ≤ 4 = first_covering-le (length slots) 1 (length slots) 4 (lit≤ tt) short in
+    let few : first_covering (length slots) 1 (length slots) ≤ 5 = first_covering-le (length slots) 1 (length slots) 5 (lit≤ tt) short in
     omega (arith, level_pages-le (first_covering (length slots) 1 (length slots)) slots, mul-le-mul_right (length slots) few)

@@ -1,16 +1,16 @@
 -- With what an edit is refused: only a full book tells numbers, and these are small.
-use Rattle.std.proofs.Common.{◌≡◌, ℕ, ℤ, ◌+◌, ◌<◌, ◌^◌, Bool, true, false, cond, ltb, leb, List, [], ◌∷◌, ◌++◌, length, max, Option, Some, None, Result, Ok, Err, refl, sym, ap, subst, arith}
+use Rattle.std.proofs.Common.{◌≡◌, ℕ, ℤ, ◌+◌, ◌<◌, ◌^◌, Bool, true, false, cond, ltb, leb, List, [], ◌∷◌, ◌++◌, length, max, Option, Some, None, Result, Ok, Err, refl, subst, arith}
 use Rattle.std.specs.Prelude.{int_lt, ⊤}
 use Rattle.std.specs.List.{list_any, slice_get}
 use Rattle.std.specs.Option.{is_some}
-use Rattle.series_book.specs.declared.limits.TheConstants.{MOST_SLOTS, MOST_SERIES, MOST_VALUES, MOST_CLEARED}
+use Rattle.series_book.specs.declared.limits.TheConstants.{MOST_SERIES, MOST_VALUES, MOST_CLEARED}
 use Rattle.series_book.specs.declared.one_series.Series.{Series}
 use Rattle.series_book.specs.declared.edits.Edit.{Edit}
 use Rattle.series_book.specs.declared.edits.Edit.TheVariants.{Create, Append, Set, Clear}
 use Rattle.series_book.specs.declared.refusals.Refusal.{Refusal}
 use Rattle.series_book.specs.declared.refusals.Refusal.TheVariants.{LineTooLong, BadLine, BadFilter, UnknownSession, SessionOpen, TooManySessions, BadCache, UnknownSeries, SeriesExists, TooManySeries, OffGrid, BeforeStart, ValueTooLarge, RangeTooLong, SeriesFull, NoView, BadWindow, BadCanvas, BadRange, ViewTooLarge, Full}
 use Rattle.series_book.specs.Books.{IsBook}
-use Rattle.series_book.specs.Edits.{Edited, apply, id_of, is_too_large, is_off_grid, overwritten, cleared, unless, appended, set_at, cleared_at, place_of, created, fitted, within, unbounded, change_series, change_at, with_slots}
+use Rattle.series_book.specs.Edits.{Edited, apply, id_of, is_too_large, is_off_grid, is_overfull, overwritten, cleared, unless, appended, set_at, cleared_at, place_of, created, fitted, within, unbounded, change_series, change_at, with_slots}
 use Rattle.series_book.specs.Pages.{pages_of}
 use Rattle.series_book.proofs.BookLemmas.{IsSeries-there, pages_of_few}
 use Rattle.series_book.proofs.LawLemmas.{AreInRange, IsBook-with_slots, appended_fits, set_fits}
@@ -72,7 +72,7 @@ fitted_refuses total book slots refusal is given =
     here (ltb total (pages_of book)) given
 
 within_refuses : (total : ℕ) (book : List Series) (id : ℕ) (series : Series) (slots : Result (List (Option ℤ)) Refusal) (refusal : Refusal) → IsBook book → slice_get book id ≡ Some series
-    → ((given : List (Option ℤ)) → slots ≡ Ok given → AreInRange given) → ((r : Refusal) → slots ≡ Err r → IsEditRefusal total r) → within total book id series slots ≡ Err refusal → IsEditRefusal total refusal
+    → ((given : List (Option ℤ)) → slots ≡ Ok given → AreInRange series given) → ((r : Refusal) → slots ≡ Err r → IsEditRefusal total r) → within total book id series slots ≡ Err refusal → IsEditRefusal total refusal
 within_refuses total book id series (Err r) refusal is there fits refuses given = let one : r ≡ refusal = cc in so_refused total r refusal one (refuses r refl)
 within_refuses total book id series (Ok slots) refusal is there fits refuses given =
     fitted_refuses total (with_slots book id series slots) (length slots) refusal (IsBook-with_slots book id series slots is there (fits slots refl)) given
@@ -110,7 +110,7 @@ created_refuses total book series refusal given =
 append_refuses : (total : ℕ) (series : Series) (values : List (Option ℤ)) (refusal : Refusal) → appended series values ≡ Err refusal → IsEditRefusal total refusal
 unfolding appended
 append_refuses total series values refusal is =
-    unless_refuses total ((list_any is_too_large values, ValueTooLarge) ∷ (ltb MOST_VALUES (length values), RangeTooLong) ∷ (ltb MOST_SLOTS (length series.slots + length values), SeriesFull) ∷ [])
+    unless_refuses total ((list_any is_too_large values, ValueTooLarge) ∷ (ltb MOST_VALUES (length values), RangeTooLong) ∷ (is_overfull series (length series.slots + length values), SeriesFull) ∷ [])
     (series.slots ++ values) refusal (tt, (tt, (tt, tt))) is
 
 set_refuses : (total : ℕ) (series : Series) (time : ℤ) (values : List (Option ℤ)) (refusal : Refusal) → set_at series time values ≡ Err refusal → IsEditRefusal total refusal
@@ -118,7 +118,7 @@ unfolding set_at
 set_refuses total series time values refusal is =
     unless_refuses total
     ((is_off_grid series time, OffGrid) ∷ (int_lt time series.start, BeforeStart) ∷ (list_any is_too_large values, ValueTooLarge) ∷ (ltb MOST_VALUES (length values), RangeTooLong)
-    ∷ (ltb MOST_SLOTS (max (length series.slots) (place_of series time + length values)), SeriesFull) ∷ [])
+    ∷ (is_overfull series (max (length series.slots) (place_of series time + length values)), SeriesFull) ∷ [])
     (overwritten series.slots (place_of series time) values) refusal (tt, (tt, (tt, (tt, (tt, tt))))) is
 
 clear_refuses : (total : ℕ) (series : Series) (time : ℤ) (count : ℕ) (refusal : Refusal) → cleared_at series time count ≡ Err refusal → IsEditRefusal total refusal

@@ -1,5 +1,6 @@
 use Rattle.std.specs.Prelude.{◌≡◌, ◌≢◌, ℕ, ◌≤◌, false, List, length, map, All, AllPairs, unsigned_abs, IsTrue}
 use Rattle.series_book.specs.declared.limits.TheConstants.{MOST_SLOTS, MOST_SERIES, GREATEST_START, GREATEST_STEP, GREATEST_SCALE}
+use Rattle.whole_number.specs.SlotTimes.{EndsInTime}
 use Rattle.series_book.specs.declared.one_series.Series.{Series}
 use Rattle.series_book.specs.Names.{is_name}
 use Rattle.series_book.specs.declared.edits.Edit.{Edit}
@@ -14,6 +15,7 @@ pub record IsSeries (series : Series) : Type 0 where
   pub step_in_range : series.step ≤ GREATEST_STEP
   pub scale_in_range : series.scale ≤ GREATEST_SCALE
   pub slots_in_range : length series.slots ≤ MOST_SLOTS
+  pub last_in_range : EndsInTime series.start series.step (length series.slots)
   pub values_in_range : All (λ value. is_too_large value ≡ false) series.slots
 
 -- a book: at most 512 series, each in range, and no two of one name

@@ -1,8 +1,9 @@
-use Rattle.std.specs.Prelude.{◌≡◌, ◌⊎◌, ℕ, ℤ, ◌+◌, ◌-◌, ◌/◌, ◌%◌, ◌<◌, ◌≤◌, min, max, Bool, true, false, not, ◌==◌, nat_lt, nat_le, int_lt, unsigned_abs, ◌-ℤ◌, if◌then◌else◌, List, [], ◌∷◌, ◌++◌, length, take, drop, replicate, slice_get, slice_set, position, All, Option, None, Some, is_some, IsSome, Result, Ok, Err, ⊤}
+use Rattle.std.specs.Prelude.{◌≡◌, ◌⊎◌, ℕ, ℤ, ◌+◌, ◌-◌, ◌/◌, ◌%◌, ◌<◌, ◌≤◌, min, max, Bool, true, false, not, ◌||◌, ◌==◌, nat_lt, nat_le, int_lt, unsigned_abs, ◌-ℤ◌, if◌then◌else◌, List, [], ◌∷◌, ◌++◌, length, take, drop, replicate, slice_get, slice_set, position, All, Option, None, Some, is_some, IsSome, Result, Ok, Err, ⊤}
 use Rattle.std.specs.Str.{bytes_eq}
 use Rattle.std.specs.List.{list_any}
 use Rattle.series_book.specs.declared.limits.TheConstants.{MOST_SLOTS, MOST_SERIES, MOST_VALUES, MOST_CLEARED, GREATEST_START, GREATEST_STEP, GREATEST_SCALE}
 use Rattle.whole_number.specs.declared.limits.TheConstants.{GREATEST_VALUE}
+use Rattle.whole_number.specs.SlotTimes.{ends_in_time}
 use Rattle.series_book.specs.declared.one_series.Series.{Series}
 use Rattle.series_book.specs.declared.edits.Edit.{Edit}
 use Rattle.series_book.specs.declared.edits.Edit.TheVariants.{Create, Append, Set, Clear}
@@ -38,6 +39,10 @@ distance series time = unsigned_abs (time -ℤ series.start)
 abbrev pub place_of : Series → ℤ → ℕ
 place_of series time = distance series time / series.step
 
+-- so many slots are more than 2^35, or the last of them would stand later than 2 * 10^18
+abbrev pub is_overfull : Series → ℕ → Bool
+is_overfull series n = nat_lt MOST_SLOTS n || not (ends_in_time series.start series.step n)
+
 -- a time between the times of slots
 abbrev pub is_off_grid : Series → ℤ → Bool
 is_off_grid series time = not (distance series time % series.step == 0)
@@ -64,7 +69,7 @@ appended series values =
     unless
     ((list_any is_too_large values, ValueTooLarge)
     ∷ (nat_lt MOST_VALUES (length values), RangeTooLong)
-    ∷ (nat_lt MOST_SLOTS (length series.slots + length values), SeriesFull)
+    ∷ (is_overfull series (length series.slots + length values), SeriesFull)
     ∷ [])
     (series.slots ++ values)
 
@@ -87,7 +92,7 @@ set_at series time values =
     ∷ (int_lt time series.start, BeforeStart)
     ∷ (list_any is_too_large values, ValueTooLarge)
     ∷ (nat_lt MOST_VALUES (length values), RangeTooLong)
-    ∷ (nat_lt MOST_SLOTS (max (length series.slots) (place_of series time + length values)), SeriesFull)
+    ∷ (is_overfull series (max (length series.slots) (place_of series time + length values)), SeriesFull)
     ∷ [])
     (overwritten series.slots (place_of series time) values)
 

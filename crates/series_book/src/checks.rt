@@ -1,8 +1,9 @@
 //! Which refusal of an edit stands before the pages are counted. The clauses speak of every series with
 //! this start, this step and so many slots.
-ghost use Rattle.std.specs.Prelude.{◌≡◌, ◌+◌, ◌≤◌, Ok, Err, length, false, IfNone, MatchOption};
+ghost use Rattle.std.specs.Prelude.{◌≡◌, ◌+◌, ◌≤◌, max, Ok, Err, length, false, IfNone, MatchOption};
 ghost use Rattle.std.specs.List.{list_any};
 ghost use Rattle.series_book.specs.declared.limits.TheConstants.{MOST_SLOTS, MOST_CLEARED, MOST_VALUES};
+ghost use Rattle.whole_number.specs.SlotTimes.{EndsInTime};
 ghost use Rattle.series_book.specs.declared.one_series.Series.{Series};
 ghost use Rattle.series_book.specs.Edits.{is_too_large, place_of, distance, overwritten, cleared, appended, set_at, cleared_at, IsOnGrid, RefusesTime};
 ghost use Rattle.series_book.specs.Axes.{IsAxisOf};
@@ -12,6 +13,7 @@ use crate::limits::{MOST_CLEARED, MOST_SLOTS, MOST_VALUES};
 use crate::refusals::Refusal;
 use crate::value_list::Values;
 use whole_number::limits::GREATEST_VALUE;
+use whole_number::slot_times::ends_in_time;
 
 /// The refusal of an append that stands before the pages are counted.
 #[tactic(auto, unfolding(crate::specs::Edits::appended))]
@@ -22,6 +24,7 @@ pub fn append_refusal(axis: Axis, values: &Values) -> Option<Refusal>
     ensures in_range { IfNone result (list_any is_too_large values.now ≡ false) }
     ensures few { IfNone result (length values.now ≤ MOST_VALUES) }
     ensures room { IfNone result (axis.slots + length values.now ≤ MOST_SLOTS) }
+    ensures last { IfNone result (EndsInTime axis.start axis.step (axis.slots + length values.now)) }
 {
     if has_too_large(values.as_slice()) {
         return Some(Refusal::ValueTooLarge);
@@ -29,7 +32,11 @@ pub fn append_refusal(axis: Axis, values: &Values) -> Option<Refusal>
     if values.as_slice().len() > MOST_VALUES {
         return Some(Refusal::RangeTooLong);
     }
-    if axis.slots + values.as_slice().len() as u64 > MOST_SLOTS {
+    let slots = axis.slots + values.as_slice().len() as u64;
+    if slots > MOST_SLOTS {
+        return Some(Refusal::SeriesFull);
+    }
+    if !ends_in_time(axis.start, axis.step, slots) {
         return Some(Refusal::SeriesFull);
     }
     None
@@ -45,6 +52,7 @@ pub fn set_refusal(axis: Axis, time: i128, values: &Values) -> Option<Refusal>
     ensures in_range { IfNone result (list_any is_too_large values.now ≡ false) }
     ensures few { IfNone result (length values.now ≤ MOST_VALUES) }
     ensures room { (series : Series) → IsAxisOf series axis → IfNone result (place_of series time + length values.now ≤ MOST_SLOTS) }
+    ensures last { (series : Series) → IsAxisOf series axis → IfNone result (EndsInTime axis.start axis.step (max axis.slots (place_of series time + length values.now))) }
 {
     if let Some(refusal) = time_refusal(axis, time) {
         return Some(refusal);
@@ -56,7 +64,12 @@ pub fn set_refusal(axis: Axis, time: i128, values: &Values) -> Option<Refusal>
     if count > MOST_VALUES {
         return Some(Refusal::RangeTooLong);
     }
-    if place_of(axis, time) > u128::from(MOST_SLOTS) - count as u128 {
+    let place = place_of(axis, time);
+    if place > u128::from(MOST_SLOTS) - count as u128 {
+        return Some(Refusal::SeriesFull);
+    }
+    let slots = axis.slots.max(place as u64 + count as u64);
+    if !ends_in_time(axis.start, axis.step, slots) {
         return Some(Refusal::SeriesFull);
     }
     None

@@ -1,7 +1,7 @@
 use whole_number::limits::GREATEST_VALUE;
 
-/// The most slots that a series has: 128^4.
-pub const MOST_SLOTS: u64 = 268_435_456;
+/// The most slots that a series has: 128^5.
+pub const MOST_SLOTS: u64 = 34_359_738_368;
 
 /// The most series that a book has.
 pub const MOST_SERIES: usize = 512;

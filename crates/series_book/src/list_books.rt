@@ -1,4 +1,5 @@
-ghost use Rattle.std.specs.Prelude.{◌≡◌, ◌+◌, ◌<◌, ◌≤◌, [], ◌∷◌, ◌++◌, length, take, drop, slice_get, All, false, unsigned_abs, IfOk, IfErr, IfSome, IsSomeAnd, OnOk, OnErr, Ok};
+ghost use Rattle.std.specs.Prelude.{◌≡◌, ◌+◌, ◌<◌, ◌≤◌, [], ◌∷◌, ◌++◌, length, max, take, drop, slice_get, All, false, unsigned_abs, IfOk, IfErr, IfSome, IsSomeAnd, OnOk, OnErr, Ok};
+ghost use Rattle.whole_number.specs.SlotTimes.{EndsInTime};
 ghost use Rattle.series_book.specs.declared.limits.TheConstants.{FIXED_PAGES, MOST_SLOTS, GREATEST_START, GREATEST_STEP, GREATEST_SCALE};
 ghost use Rattle.series_book.specs.declared.edits.Edit.TheVariants.{Create, Append, Set, Clear};
 ghost use Rattle.series_book.specs.Edits.{IsEdit, RefusesEdit, apply, is_too_large, overwritten, with_slots, within};
@@ -188,6 +189,7 @@ impl ListBook {
     ) -> Result<Outcome, BookError>
         requires there { id < length self.old.book }
         requires room { place + length run.now ≤ MOST_SLOTS }
+        requires last { IfSome (slice_get self.old.book id) (λ series. EndsInTime series.start series.step (max (length series.slots) (place + length run.now))) }
         requires in_range { All (λ value. is_too_large value ≡ false) run.now }
         ensures ok { IfOk result (λ outcome. IfSome (slice_get self.old.book id)
             (λ series. within self.old.total self.old.book id series (Ok (overwritten series.slots place run.now)) ≡ Ok (record { book = self.new.book; slots = outcome.slots }))) }
@@ -222,6 +224,7 @@ impl ListBook {
     ) -> Result<Vec<Option<i64>>, BookError>
         requires there { id < length self.old.book }
         requires room { place + length run.now ≤ MOST_SLOTS }
+        requires last { IfSome (slice_get self.old.book id) (λ series. EndsInTime series.start series.step (max (length series.slots) (place + length run.now))) }
         requires in_range { All (λ value. is_too_large value ≡ false) run.now }
         ensures ok { OnOk result (IsSomeAnd (slice_get self.old.book id) (λ series. self.new.book ≡ with_slots self.old.book id series (overwritten series.slots place run.now))) }
         ensures displaced { IfOk result (λ old. IsSomeAnd (slice_get self.old.book id) (λ series. old.items ≡ take (length run.now) (drop place series.slots))) }

@@ -22,7 +22,7 @@ pub fn pages(book: &Book) -> u64
 pub fn series_pages(slots: &[Option<i64>]) -> u64
     requires { length slots.now ≤ MOST_SLOTS }
     ensures pages { result ≡ series_pages slots.now }
-    ensures few { result ≤ 4 * length slots.now }
+    ensures few { result ≤ 5 * length slots.now }
 {
     let mut pages = 0;
     let mut size = 1;
@@ -40,7 +40,7 @@ pub fn page_levels(slots: u64) -> u8
     ensures levels { result ≡ page_levels slots }
     ensures above_zero { 1 ≤ result }
     ensures covers { slots ≤ PAGE_SLOTS ^ result }
-    ensures few { result ≤ 4 }
+    ensures few { result ≤ 5 }
     ensures least { (k : ℕ) → 1 ≤ k → slots ≤ PAGE_SLOTS ^ k → result ≤ k }
 {
     let mut levels = 1;

@@ -49,7 +49,7 @@ pub enum Refusal {
     /// More than 256 values, or more than 4,096 slots to clear.
     #[error("the range is too long")]
     RangeTooLong,
-    /// The series' length would pass 2^28.
+    /// The series' length would pass 2^35, or the time of its last slot 2 * 10^18.
     #[error("the series is full")]
     SeriesFull,
     /// The session has had no answered view.

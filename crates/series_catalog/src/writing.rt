@@ -5,6 +5,7 @@ ghost use Rattle.block_disk.specs.View.{View};
 ghost use Rattle.catalog_page.specs.Places.{page_of};
 ghost use Rattle.page_space.specs.Transactions.{held, held_page, HasRoom};
 ghost use Rattle.stored_book.specs.Changing.{IsRecordSet, KeepsRecords, AddsRecord};
+ghost use Rattle.series_book.specs.declared.limits.TheConstants.{MOST_SLOTS};
 ghost use Rattle.series_catalog.specs.Catalogs.{ForEntry, entry_with};
 ghost use Rattle.page_space.specs.Changing.{KeepsStanding};
 ghost use Rattle.page_space.specs.Shown as shown;
@@ -16,7 +17,8 @@ use gate_pages::{DiskFault, Pages};
 use page_space::{Space, Txn};
 use tree_walk::Tree;
 
-/// Writes the record of a series with this tree in a transaction. After `DiskFault` nothing is written.
+/// Writes the record of a series with this tree, of at most 2^35 slots, in a transaction. After `DiskFault`
+/// nothing is written.
 pub fn put_record<P: Pages>(
     space: &mut Space<P>,
     txn: &mut Txn,
@@ -28,6 +30,7 @@ pub fn put_record<P: Pages>(
     requires total { txn.old.superblock.total ≡ (shown.numbers space.old).total }
     requires few { id < 512 }
     requires room { HasRoom txn.old (page_of id) }
+    requires slots { tree.slots ≤ MOST_SLOTS }
     requires rooted { (tree.span ≡ None) ↔ (tree.root ≡ 0) }
     ensures superblock { txn.new.superblock ≡ txn.old.superblock }
     ensures others { (p : ℕ) → p ≢ page_of id → held_page txn.new p ≡ held_page txn.old p }

@@ -1,5 +1,5 @@
 -- In a store with room the sets of a load are accepted, one after the other.
-use Rattle.std.proofs.Common.{◌≡◌, ℕ, ℤ, pos, ◌+ℤ◌, ◌+◌, ◌*◌, ◌%◌, ◌≤◌, Bool, false, not, cond, ltb, ◌||◌, ◌==◌, List, [], ◌∷◌, ◌++◌, length, map, max, replicate, Option, None, Some, Ok, Err, refl, sym, ap, subst, arith, inl, inr, ◌∙◌}
+use Rattle.std.proofs.Common.{◌≡◌, ℕ, ℤ, pos, ◌+ℤ◌, ◌+◌, ◌*◌, ◌%◌, ◌≤◌, Bool, true, false, not, cond, ltb, ◌||◌, ◌==◌, List, [], ◌∷◌, ◌++◌, length, map, max, replicate, Option, None, Some, Ok, Err, refl, sym, ap, subst, arith, inl, inr, ◌∙◌}
 use Rattle.std.specs.Prelude.{int_lt, slice_get}
 use Rattle.std.specs.List.{All, list_any}
 use Rattle.std.proofs.lemmas.Bool.Decides.{nat_tests}
@@ -7,12 +7,14 @@ use Rattle.std.proofs.lemmas.Int.{ints}
 use Rattle.std.proofs.lemmas.Nat.{mod-mul-add}
 use Rattle.std.proofs.lemmas.List.{append_assoc, append-nil, length-append}
 use Rattle.std.proofs.lemmas.List.Elements.{All-nil, All-cons, All-head, All-tail, All-same}
+use Rattle.whole_number.specs.SlotTimes.{ends_in_time, EndsInTime}
+use Rattle.whole_number.proofs.SlotTimes.{fewer_in_time}
 use Rattle.series_book.specs.declared.limits.TheConstants.{MOST_SLOTS, MOST_VALUES}
 use Rattle.series_book.specs.declared.one_series.Series.{Series}
 use Rattle.series_book.specs.declared.refusals.Refusal.{Refusal}
 use Rattle.series_book.specs.declared.refusals.Refusal.TheVariants.{OffGrid, BeforeStart, ValueTooLarge, RangeTooLong, SeriesFull}
 use Rattle.series_book.specs.Books.{IsSeries}
-use Rattle.series_book.specs.Edits.{Edited, apply, unless, set_at, place_of, overwritten, with_slots, is_off_grid, is_too_large}
+use Rattle.series_book.specs.Edits.{Edited, apply, unless, set_at, place_of, is_overfull, overwritten, with_slots, is_off_grid, is_too_large}
 use Rattle.series_book.specs.Pages.{pages_of, series_pages}
 use Rattle.series_book.proofs.BookLemmas.{pages_of-set}
 use Rattle.series_book.proofs.EditLemmas.{fitted-ok, series_pages-nil}
@@ -47,6 +49,11 @@ all_behind (x ∷ xs) ys all = all_behind xs ys (All-tail Fits x (xs ++ ys) all)
 not_more : (m n : ℕ) → n ≤ m → ltb m n ≡ false
 not_more m n few = grind (arith, nat_tests, few)
 
+not_overfull : (series : Series) (most n : ℕ) → n ≤ most → most ≤ MOST_SLOTS → EndsInTime series.start series.step most → is_overfull series n ≡ false
+not_overfull series most n few short last =
+    let ends : ends_in_time series.start series.step n ≡ true = fewer_in_time series.start series.step most n few last in
+    ap (λ b. ltb MOST_SLOTS n || not b) ends ∙ ap (λ b. b || false) (not_more MOST_SLOTS n (omega (arith, few, short)))
+
 not_early : (start time : ℤ) (a b : ℕ) → time ≡ (start +ℤ pos a) +ℤ pos b → int_lt time start ≡ false
 not_early start time a b is = grind (arith, ints, nat_tests, is)
 
@@ -69,22 +76,22 @@ unless_none [] slots none = refl
 unless_none (cause ∷ causes) slots none = ap (λ b. cond b (Err cause.1) (unless causes slots)) none.0 ∙ unless_none causes slots none.1
 
 set_there : (step : ℕ) (begun : Series) (run : Run) (later : List Stored) (rest : List (Option ℤ)) → 1 ≤ step → begun.step ≡ step → IsRun step run → (next : Next step begun run later rest) → All Fits rest → length begun.slots + length rest ≤ MOST_SLOTS
-    → set_at begun run.first.time (map some_value (readings run)) ≡ Ok (with_run begun next.missing run)
+    → EndsInTime begun.start begun.step (length begun.slots + length rest) → set_at begun run.first.time (map some_value (readings run)) ≡ Ok (with_run begun next.missing run)
 unfolding set_at
-set_there step begun run later rest some same is next fit short =
+set_there step begun run later rest some same is next fit short last =
     let values : List (Option ℤ) = map some_value (readings run) in
     let time = run.first.time in
     let place = place_is begun step time (length begun.slots) next.missing some same next.at in
     let size : length values ≡ length (readings run) = mapped (readings run) in
     let all = all_behind (replicate next.missing None) (values ++ next.behind) (All-same Fits (replicate next.missing None ++ (values ++ next.behind)) rest (sym next.rest_are) fit) in
-    let end : length begun.slots + (next.missing + length (readings run)) ≤ MOST_SLOTS =
-    omega (arith, short, next.long, ap length next.slots_are, length-append begun.slots rest, length-append (with_run begun next.missing run) next.behind) in
+    let end : length begun.slots + (next.missing + length (readings run)) ≤ length begun.slots + length rest =
+    omega (arith, next.long, ap length next.slots_are, length-append begun.slots rest, length-append (with_run begun next.missing run) next.behind) in
     unless_none
     ((is_off_grid begun time, OffGrid)
     ∷ (int_lt time begun.start, BeforeStart)
     ∷ (list_any is_too_large values, ValueTooLarge)
     ∷ (ltb MOST_VALUES (length values), RangeTooLong)
-    ∷ (ltb MOST_SLOTS (max (length begun.slots) (place_of begun time + length values)), SeriesFull)
+    ∷ (is_overfull begun (max (length begun.slots) (place_of begun time + length values)), SeriesFull)
     ∷ [])
     (overwritten begun.slots (place_of begun time) values) (
       on_grid begun step time (length begun.slots) next.missing some same next.at,
@@ -94,7 +101,7 @@ set_there step begun run later rest some same is next fit short =
           none_large values (all_first values next.behind all),
           (
             not_more MOST_VALUES (length values) (omega (arith, size, is.few)),
-            (not_more MOST_SLOTS (max (length begun.slots) (place_of begun time + length values)) (omega (arith, size, place, end, short)), tt),
+            (not_overfull begun (length begun.slots + length rest) (max (length begun.slots) (place_of begun time + length values)) (omega (arith, size, place, end)) short last, tt),
           ),
         ),
       ),
@@ -103,27 +110,31 @@ set_there step begun run later rest some same is next fit short =
 
 sets_accepted : (step total : ℕ) (name : List ℕ) → 1 ≤ step → (runs : List Run) (old : List Series) (begun : Series) (rest : List (Option ℤ)) (later : List Stored) → begun.step ≡ step → IsNamed old name begun → AreRuns step runs
     → values_of_runs runs ++ later ≡ stored_from step (slot_time begun.start step (length begun.slots)) rest → All Fits rest → length begun.slots + length rest ≤ MOST_SLOTS
-    → pages_of old + series_pages (begun.slots ++ rest) ≤ total + series_pages begun.slots → Accepts total name old runs
-sets_accepted step total name some [] old begun rest later same named are is fit short room = record { new = old; loads = refl }
-sets_accepted step total name some (run ∷ runs) old begun rest later same named are is fit short room =
+    → EndsInTime begun.start begun.step (length begun.slots + length rest) → pages_of old + series_pages (begun.slots ++ rest) ≤ total + series_pages begun.slots → Accepts total name old runs
+sets_accepted step total name some [] old begun rest later same named are is fit short last room = record { new = old; loads = refl }
+sets_accepted step total name some (run ∷ runs) old begun rest later same named are is fit short last room =
     let values : List (Option ℤ) = map some_value (readings run) in
     let next = next_run step some begun run (values_of_runs runs ++ later) rest same are.0 (sym (append_assoc (map stored_of (readings run)) (values_of_runs runs) later) ∙ is) in
     let slots : List (Option ℤ) = with_run begun next.missing run in
     let book : List Series = with_slots old named.id begun slots in
     let edited : Edited = record { book = book; slots = length slots } in
-    let size : length slots + length next.behind ≤ MOST_SLOTS =
-    omega (arith, short, ap length next.slots_are, length-append begun.slots rest, length-append slots next.behind) in
-    let more = series_pages_more slots next.behind (omega (arith, size, length-append slots next.behind)) in
+    let size : length begun.slots + length rest ≡ length slots + length next.behind =
+    omega (arith, ap length next.slots_are, length-append begun.slots rest, length-append slots next.behind) in
+    let more = series_pages_more slots next.behind (omega (arith, size, short, length-append slots next.behind)) in
     let all : series_pages (begun.slots ++ rest) ≡ series_pages (slots ++ next.behind) = ap series_pages next.slots_are in
     let pages : pages_of book + series_pages begun.slots ≡ pages_of old + series_pages slots = pages_of-set old named.id begun (record begun { slots = slots }) named.there in
     let room_left : pages_of book + series_pages (slots ++ next.behind) ≤ total + series_pages slots = omega (arith, all, pages, room) in
     let fits : pages_of book ≤ total = omega (arith, more, room_left) in
     let accepted : apply old total (set_of name run) ≡ Ok edited =
-    set_answer old total name run.first.time values named.id begun (Ok slots) named.id_is named.there (set_there step begun run (values_of_runs runs ++ later) rest some same are.0 next fit short)
+    set_answer old total name run.first.time values named.id begun (Ok slots) named.id_is named.there (set_there step begun run (values_of_runs runs ++ later) rest some same are.0 next fit short last)
     ∙ fitted-ok total book (length slots) fits in
     let left = all_behind values next.behind (all_behind (replicate next.missing None) (values ++ next.behind) (All-same Fits (replicate next.missing None ++ (values ++ next.behind)) rest (sym next.rest_are) fit)) in
-    let on = sets_accepted step total name some runs book (record begun { slots = slots }) next.behind later same (named_after name old book begun slots named refl) are.1 next.left left size room_left in
+    let on = sets_accepted step total name some runs book (record begun { slots = slots }) next.behind later same (named_after name old book begun slots named refl) are.1 next.left left (omega (arith, size, short)) (subst (EndsInTime begun.start begun.step) size last) room_left in
     record { new = on.new; loads = (edited, accepted, on.loads) }
+
+ends_alike : (start start' : ℤ) (step step' slots : ℕ) → start ≡ start' → step ≡ step' → EndsInTime start step slots → EndsInTime start' step' slots
+ends_alike start start' step step' slots same same' ends =
+    subst (λ (z : ℤ). EndsInTime z step' slots) same (subst (λ (n : ℕ). EndsInTime start n slots) same' ends)
 
 -- so are those of any first runs of a series' stored values
 first_accepted : (total : ℕ) (name : List ℕ) (book : List Series) (series : Series) (runs : List Run) (later : List Stored) → IsSeries series → HasRoomFor total name book series → AreRuns series.step runs
@@ -133,10 +144,13 @@ first_accepted total name book series runs later is has are values =
     let slots = has.after.slots in
     let begun = has.new.begun in
     let none : slot_time begun.start step (length begun.slots) ≡ series.start = ap (λ l. slot_time begun.start step (length l)) has.new.alike.none ∙ first_time begun.start step ∙ has.new.alike.start in
+    let few : length begun.slots + length slots ≤ length series.slots =
+    omega (arith, ap length has.new.alike.none, ap length has.same.slots, length-append slots (replicate has.same.missing None)) in
     sets_accepted step total name is.step_above_zero runs book begun slots later has.new.alike.step has.new.named are
     (values ∙ ap (λ l. stored_from step series.start l) has.same.slots ∙ stored_more step has.same.missing slots series.start ∙ ap (λ t. stored_from step t slots) (sym none))
     (all_first slots (replicate has.same.missing None) (All-same Fits (slots ++ replicate has.same.missing None) series.slots (sym has.same.slots) is.values_in_range))
-    (omega (arith, ap length has.new.alike.none, ap length has.same.slots, length-append slots (replicate has.same.missing None), is.slots_in_range))
+    (omega (arith, few, is.slots_in_range))
+    (ends_alike series.start begun.start series.step begun.step _ (sym has.new.alike.start) (sym has.new.alike.step) (fewer_in_time series.start series.step (length series.slots) (length begun.slots + length slots) few is.last_in_range))
     (omega (arith, ap (λ l. series_pages (l ++ slots)) has.new.alike.none, has.room))
 
 pub accepted : (total : ℕ) (name : List ℕ) (book : List Series) (series : Series) (runs : List Run) → IsSeries series → HasRoomFor total name book series → AreRunsOf series runs → Accepts total name book runs

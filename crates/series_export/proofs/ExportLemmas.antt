@@ -6,6 +6,10 @@ use Rattle.std.specs.Prelude.{int_le, int_lt}
 use Rattle.std.proofs.lemmas.Bool.Decides.{nat_tests}
 use Rattle.std.proofs.lemmas.Int.{ints, to_z-of_z, fits_signed_from_abs}
 use Rattle.std.proofs.Math.Nat.{mul-le-mul_right}
+use Rattle.whole_number.specs.declared.limits.TheConstants.{GREATEST_TIME}
+use Rattle.whole_number.specs.Range.{IsValue}
+use Rattle.whole_number.specs.SlotTimes.{EndsInTime}
+use Rattle.whole_number.proofs.SlotTimes.{in_time}
 use Rattle.path_repair.specs.Changes.{slot_at}
 use Rattle.path_repair.specs.Sums.{join_below}
 use Rattle.path_repair.proofs.SumLemmas.{join_same}
@@ -153,15 +157,12 @@ no_line start step scale first end window none slot value low high =
     (silent_time window (slot_time start step first) (slot_time start step slot) (slot_time start step (end - 1)) none (slots_rise start step first slot low) (slots_rise start step slot (end - 1) (omega (arith, high))))
 
 -- the time of a slot is a number of 64 bits
-size_of : (start : ℤ) (n : ℕ) → unsigned_abs start ≤ 10 ^ 18 → n ≤ 2 ^ 59 → unsigned_abs (start +ℤ pos n) < 2 ^ 63
-size_of start n few more = grind (arith, ints, few, more)
+size_of : (start : ℤ) (n : ℕ) → IsValue start → (start +ℤ pos n) ≤ℤ pos GREATEST_TIME → unsigned_abs (start +ℤ pos n) < 2 ^ 63
+size_of start n few early = grind (arith, ints, few, early)
 
-pub time_same : (start : ℤ) (step slot : ℕ) → unsigned_abs start ≤ 10 ^ 18 → step ≤ 2 ^ 31 → slot ≤ 2 ^ 28 → to_z w64 (of_z w64 (slot_time start step slot)) ≡ slot_time start step slot
-time_same start step slot few short within =
-    to_z-of_z w64 (slot_time start step slot) (fits_signed_from_abs w64 (slot_time start step slot) (size_of start (slot * step) few (product slot step short within)))
-  where
-    product : (slot step : ℕ) → step ≤ 2 ^ 31 → slot ≤ 2 ^ 28 → slot * step ≤ 2 ^ 59
-    product slot step short within = omega (arith, mul-le-mul_right step within, short)
+pub time_same : (start : ℤ) (step slots slot : ℕ) → IsValue start → EndsInTime start step slots → slot < slots → to_z w64 (of_z w64 (slot_time start step slot)) ≡ slot_time start step slot
+time_same start step slots slot few last within =
+    to_z-of_z w64 (slot_time start step slot) (fits_signed_from_abs w64 (slot_time start step slot) (size_of start (slot * step) few (in_time start step slots slot last within)))
 
 pub may_meet_so : (window : Option Window) (first last first' last' : ℤ) → first ≡ first' → last ≡ last' → may_meet window first last ≡ false → may_meet window first' last' ≡ false
 may_meet_so window first last first' last' one two is =

@@ -1,10 +1,9 @@
 -- The lines of an export are read as the series' stored values.
-use Rattle.std.proofs.Common.{◌≡◌, ◌≢◌, ℕ, ℤ, pos, ◌+ℤ◌, zero, suc, ◌+◌, ◌-◌, ◌*◌, ◌^◌, ◌<◌, ◌≤◌, ◌==◌, true, false, cond, ltb, unsigned_abs, List, [], ◌∷◌, ◌++◌, map, length, take, get_or, Option, None, Some, refl, sym, ap, subst, arith, inl, inr, ◌∙◌}
+use Rattle.std.proofs.Common.{◌≡◌, ◌≢◌, ℕ, ℤ, pos, ◌+ℤ◌, zero, suc, ◌+◌, ◌-◌, ◌*◌, ◌^◌, ◌<◌, ◌≤◌, ◌≤ℤ◌, ◌==◌, true, false, cond, ltb, unsigned_abs, List, [], ◌∷◌, ◌++◌, map, length, take, get_or, Option, None, Some, refl, sym, ap, subst, arith, inl, inr, ◌∙◌}
 use Rattle.std.specs.Prelude.{codes, slice_index, IsTrue}
 use Rattle.std.specs.Int.{IsInRange}
 use Rattle.std.specs.Fmt.{signed_decimal}
 use Rattle.std.specs.Option.{IsSomeAnd}
-use Rattle.std.proofs.Math.Nat.{mul-le-mul_right}
 use Rattle.std.specs.List.{All, AllPass, AllByRecursion, filter, slice_split}
 use Rattle.std.proofs.lemmas.Bool.Decides.{nat_tests}
 use Rattle.std.proofs.lemmas.Int.{ints}
@@ -17,6 +16,10 @@ use Rattle.csv_load.specs.Rows.{Says, Fails, FieldsSay}
 use Rattle.csv_load.specs.declared.row.Row.{Row}
 use Rattle.csv_load.specs.declared.row.RowCause.{RowCause}
 use Rattle.csv_load.specs.declared.row.Row.TheVariants.{Point, Skip, Header}
+use Rattle.whole_number.specs.declared.limits.TheConstants.{GREATEST_TIME}
+use Rattle.whole_number.specs.Range.{IsValue}
+use Rattle.whole_number.specs.SlotTimes.{EndsInTime}
+use Rattle.whole_number.proofs.SlotTimes.{in_time}
 use Rattle.reading_lines.specs.Lines.{reading_row, reading_line, decimal_text}
 use Rattle.series_book.specs.declared.one_series.Series.{Series}
 use Rattle.series_book.specs.Books.{IsSeries}
@@ -258,10 +261,16 @@ near_from step (Some v ∷ slots) time few fits =
     (omega (arith, few), small_value v (fits 0 None (omega arith)), near_from step slots (time +ℤ pos step) (omega (arith, few, more_abs time step)) (λ k d low. fits (suc k) d (omega (arith, low))))
 
 near_values : (series : Series) → IsSeries series → AreNear (stored_values series)
-near_values series is = near_from series.step series.slots series.start (total (unsigned_abs series.start) (length series.slots) series.step is.start_in_range is.slots_in_range is.step_in_range) is.values_in_range
+near_values series is = near_from series.step series.slots series.start (total series.start (length series.slots) series.step is.start_in_range is.last_in_range is.step_in_range) is.values_in_range
   where
-    total : (a n step : ℕ) → a ≤ 10 ^ 18 → n ≤ 2 ^ 28 → step ≤ 2 ^ 31 → a + n * step < 10 ^ 19
-    total a n step few long short = omega (arith, few, mul-le-mul_right step long, short)
+    early : (start : ℤ) (n step : ℕ) → IsValue start → (start +ℤ pos n) ≤ℤ pos GREATEST_TIME → step ≤ 2 ^ 31 → unsigned_abs start + (n + step) < 10 ^ 19
+    early start n step few last short = grind (arith, ints, few, last, short)
+
+    total : (start : ℤ) (n step : ℕ) → IsValue start → EndsInTime start step n → step ≤ 2 ^ 31 → unsigned_abs start + n * step < 10 ^ 19
+    total start zero step few last short = omega (arith, few)
+    total start (suc n) step few last short =
+        let all : suc n * step ≡ n * step + step = omega arith in
+        omega (arith, all, early start (n * step) step few (in_time start step (suc n) n last (omega arith)) short)
 
 -- the rows of a front of the export read the first stored values
 pub first_rows : Knows → (series : Series) (front rest : List ℕ) (rows : List (Option Reading)) → IsSeries series → ReadsRows series.scale (export_text series None) front rest rows

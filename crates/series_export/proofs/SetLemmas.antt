@@ -11,10 +11,10 @@ use Rattle.std.proofs.lemmas.Option.{get_or_from_slice_get}
 use Rattle.series_book.specs.declared.one_series.Series.{Series}
 use Rattle.std.specs.Prelude.{max, nat_lt, int_lt}
 use Rattle.std.specs.List.{list_any}
-use Rattle.series_book.specs.declared.limits.TheConstants.{MOST_SLOTS, MOST_VALUES}
+use Rattle.series_book.specs.declared.limits.TheConstants.{MOST_VALUES}
 use Rattle.series_book.specs.declared.refusals.Refusal.{Refusal}
 use Rattle.series_book.specs.declared.refusals.Refusal.TheVariants.{OffGrid, BeforeStart, ValueTooLarge, RangeTooLong, SeriesFull, Full}
-use Rattle.series_book.specs.Edits.{Edited, id_of, unless, set_at, overwritten, place_of, with_slots, fitted, within, is_off_grid, is_too_large}
+use Rattle.series_book.specs.Edits.{Edited, id_of, unless, set_at, overwritten, place_of, is_overfull, with_slots, fitted, within, is_off_grid, is_too_large}
 use Rattle.series_book.specs.Pages.{pages_of, series_pages}
 use Rattle.series_book.proofs.BookLemmas.{pages_of-set}
 use Rattle.series_book.proofs.EditLemmas.{slice_get-set}
@@ -146,7 +146,7 @@ set_ok series time values given is = unless_ok
     ∷ (int_lt time series.start, BeforeStart)
     ∷ (list_any is_too_large values, ValueTooLarge)
     ∷ (nat_lt MOST_VALUES (length values), RangeTooLong)
-    ∷ (nat_lt MOST_SLOTS (max (length series.slots) (place_of series time + length values)), SeriesFull)
+    ∷ (is_overfull series (max (length series.slots) (place_of series time + length values)), SeriesFull)
     ∷ [])
     (overwritten series.slots (place_of series time) values) given is
 

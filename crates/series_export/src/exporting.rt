@@ -56,6 +56,7 @@ pub fn export_series<P: PageWorld>(
         start: info.start,
         step: info.step,
         scale: info.scale,
+        slots: info.slots,
         window,
     };
     let mut out = started(alloc)?;

@@ -1,11 +1,14 @@
 //! The lines of a series' readings.
-ghost use Rattle.std.specs.Prelude.{◌≡◌, ◌≤◌, ◌<◌, ◌^◌, unsigned_abs};
+ghost use Rattle.std.specs.Prelude.{◌≡◌, ◌≤◌, ◌<◌};
+ghost use Rattle.whole_number.specs.Range.{IsValue};
+ghost use Rattle.whole_number.specs.SlotTimes.{EndsInTime};
 ghost use Rattle.series_export.specs.Exports.{slot_time, line_at};
 
 use crate::window::{Window, is_within, may_meet};
 use reading_lines::add_reading;
 use series_book::NoMemory;
 use series_store::Texts;
+use whole_number::slot_times::{slot_time, slots_stand_in_time};
 
 /// The lines of the readings of a series in a window.
 #[derive(Drop)]
@@ -13,24 +16,28 @@ pub(crate) struct ReadingTexts {
     pub(crate) start: i64,
     pub(crate) step: u32,
     pub(crate) scale: u8,
+    pub(crate) slots: u64,
     pub(crate) window: Option<Window>,
-    ghost near: { unsigned_abs start ≤ 10 ^ 18 },
-    ghost short: { step ≤ 2 ^ 31 },
+    ghost near: { IsValue start },
+    ghost last: { EndsInTime start step slots },
     ghost places: { scale ≤ 9 },
 }
 
 impl ReadingTexts {
     /// The time of a slot.
     fn time(&self, slot: u64) -> i64
-        requires { slot ≤ 2 ^ 28 }
+        requires { slot < self.now.slots }
         ensures { result ≡ slot_time self.now.start self.now.step slot }
     {
-        self.start + (slot * u64::from(self.step)) as i64
+        slots_stand_in_time();
+        slot_time(self.start, self.step, slot)
     }
 }
 
 impl Texts for ReadingTexts {
     ghost use Rattle.series_export.specs.Exports.{line_at};
+
+    ghost slots = { λ texts. texts.slots };
 
     ghost text = { λ texts slot value. line_at texts.start texts.step texts.scale texts.window slot value };
 

@@ -1,5 +1,5 @@
 //! The chart of a sum of two series of a store.
-ghost use Rattle.std.specs.Prelude.{◌≡◌, ◌<◌, ◌≤◌, ◌^◌, ℕ, List, false, length, All, IfErr, IfSome};
+ghost use Rattle.std.specs.Prelude.{◌≡◌, ◌<◌, ◌≤◌, ℕ, List, false, length, All, IfErr, IfSome};
 ghost use Rattle.chart_grid.specs.declared.grid.Grid.{Grid};
 ghost use Rattle.derived_chart.specs.Rows.{IsCause};
 ghost use Rattle.derived_chart.specs.Sums.{IsSmall};
@@ -9,6 +9,7 @@ ghost use Rattle.plain_chart.specs.Samples.{sample_points, values_of};
 ghost use Rattle.plain_chart.specs.declared.sample.Sample.{Sample};
 ghost use Rattle.retention.specs.Moving.{LooksOnly};
 ghost use Rattle.retention.specs.Sweeping.{IsOfPages};
+ghost use Rattle.series_book.specs.declared.limits.TheConstants.{MOST_SLOTS};
 ghost use Rattle.series_store.specs.Shown as shown;
 ghost use Rattle.series_pair.specs.Asking.{GoesPair, count};
 ghost use Rattle.series_pair.specs.Derived.{AreShifted, IsChartAnswer, IsChartCause, MayShow, ShowsRange, axis_of};
@@ -34,7 +35,7 @@ fn first_axis<P: Pages>(pair: &mut StorePair<P>) -> Axis
     requires sound { shown.IsSound pair.old.store }
     ensures fit { (shown.nodes pair.new.store).fit }
     ensures slots { result.slots ≡ count false pair.new }
-    ensures few { result.slots ≤ 2 ^ 28 }
+    ensures few { result.slots ≤ MOST_SLOTS }
     ensures step { 0 < result.step }
     ensures axis { shown.ForSeries pair.old.store pair.old.x (λ total book series. result ≡ axis_of series) }
     ensures goes { GoesPair pair.old pair.new }

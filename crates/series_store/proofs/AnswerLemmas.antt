@@ -1,5 +1,5 @@
 -- What a book answers, by what became of a tree.
-use Rattle.std.proofs.Common.{◌≡◌, ℕ, ℤ, ◌≤◌, ◌^◌, List, length, slice_get, Option, Some, Ok, sym, subst, ◌∙◌, arith}
+use Rattle.std.proofs.Common.{◌≡◌, ℕ, ℤ, ◌≤◌, List, length, slice_get, Option, Some, Ok, sym, subst, ◌∙◌, arith}
 use Rattle.block_disk.specs.View.{Image}
 use Rattle.page_space.specs.declared.superblock.Superblock.{Superblock}
 use Rattle.page_space.specs.declared.txn.Txn.{Txn}
@@ -7,6 +7,7 @@ use Rattle.page_space.specs.Layout.{in_use}
 use Rattle.path_repair.specs.declared.errors.RepairError.{RepairError}
 use Rattle.path_repair.specs.declared.errors.RepairError.TheVariants.{Full as FullTree, DiskFault as TreeFault, Damaged as DamagedTree, NoMemory as TreeMemory}
 use Rattle.path_repair.specs.Edited.{IsFullFor, IsErrorFor}
+use Rattle.series_book.specs.declared.limits.TheConstants.{MOST_SLOTS}
 use Rattle.series_book.specs.declared.one_series.Series.{Series}
 use Rattle.series_book.specs.Edits.{with_slots, within}
 use Rattle.series_book.proofs.EditLemmas.{fitted-ok, fitted-full}
@@ -22,7 +23,7 @@ fits_within total book id series slots image stands = fitted-ok total (with_slot
 
 -- a tree that wants pages is a book that does
 pub tree_refused : (image : Image) (s : Superblock) (total : ℕ) (book : List Series) (id : ℕ) (series : Series) (slots : List (Option ℤ)) (old new : Txn) (e : RepairError) → IsStore image s book → s.total ≡ total → slice_get book id ≡ Some series
-    → length slots ≤ 2 ^ 28 → old.superblock ≡ s → IsErrorFor old new series.slots slots e → IsRefusedBy (within total book id series (Ok slots)) (error_of e)
+    → length slots ≤ MOST_SLOTS → old.superblock ≡ s → IsErrorFor old new series.slots slots e → IsRefusedBy (within total book id series (Ok slots)) (error_of e)
 tree_refused image s total book id series slots old new (FullTree needed have) store same there few numbers error =
     let P : Superblock → Type 0 = λ s. IsFullFor s.total (in_use s) series.slots slots needed have in
     let full = full_book image s book id series slots needed have store there few (subst P numbers error.0) in

@@ -12,6 +12,7 @@ use Rattle.om3_coeff.specs.View.{Agrees}
 use Rattle.om3_coeff.specs.Spans.{IsProperIfAny}
 use Rattle.page_space.specs.Layout.{superblock_page, IsSuperblock}
 use Rattle.page_space.specs.declared.superblock.Superblock.{Superblock}
+use Rattle.series_book.specs.declared.limits.TheConstants.{MOST_SLOTS}
 use Rattle.series_book.specs.Edits.{id_of}
 use Rattle.series_book.specs.declared.one_series.Series.{Series}
 use Rattle.series_store.specs.Asking.{IsInfo}
@@ -106,7 +107,7 @@ tree_fits size s series id one rules fits at =
     zero_or_more zero = inl refl
     zero_or_more (suc n) = inr (omega arith)
 
-pub fit : (told : Type 0) (view : View) (s : Superblock) (tree : Tree) (trail : Trail) → view.fit → tree.slots ≤ 2 ^ 28 → tree.root < s.total → IsProperIfAny tree.span → IsTrail told (space_view s view) tree trail → IsFit told (space_view s view) tree trail
+pub fit : (told : Type 0) (view : View) (s : Superblock) (tree : Tree) (trail : Trail) → view.fit → tree.slots ≤ MOST_SLOTS → tree.root < s.total → IsProperIfAny tree.span → IsTrail told (space_view s view) tree trail → IsFit told (space_view s view) tree trail
 fit told view s tree trail sound few root proper is = record { sound = sound; few = omega (arith, few); root = root; proper = proper; trail_is = is }
 
 -- a start that is in range is one of 64 bits

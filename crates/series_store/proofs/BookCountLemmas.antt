@@ -15,6 +15,7 @@ use Rattle.page_space.specs.Spaces.{Stands}
 use Rattle.path_repair.specs.Sums.{sum_below}
 use Rattle.path_repair.specs.TreePages.{tree_pages}
 use Rattle.path_repair.proofs.SumLemmas.{sum_suc, sum_same, sum_upto, length_join}
+use Rattle.series_book.specs.declared.limits.TheConstants.{MOST_SLOTS}
 use Rattle.series_book.specs.declared.one_series.Series.{Series}
 use Rattle.series_catalog.specs.Catalogs.{AreAsTold}
 use Rattle.series_catalog.specs.declared.stored_series.StoredSeries.{StoredSeries}
@@ -60,18 +61,18 @@ root_pages image items id one there = ap (λ (found : Option StoredSeries). page
 -- the trees of the first so many series are counted, and each page of theirs was read once
 pub record AreCounted (told told' : Type 0) (old new under under' : View) (s s' : Superblock) (items : List StoredSeries) (values count : ℕ) : Type 0 where
   pub looks : Looks told told' old new under under' s s'
-  pub few : values ≤ count * 2 ^ 35
+  pub few : values ≤ count * MOST_SLOTS
   pub counts : (book : List Series) → told → IsStore old.image s book → AreAsTold old.image items → length items ≡ length book → values ≡ values_of (take count book)
   pub reads : told → new.reads ≤ old.reads + sum_below (pages_of_root old.image items) count
   pub whole : told → (id : ℕ) (one : StoredSeries) → id < count → slice_get items id ≡ Some one → IsSoundTree old.image s.total one.tree.slots (page_levels one.tree.slots) 0 one.tree.root one.tree.span
 
-pub near_root : (levels : ℕ) → levels ≤ 5 → (0 + 1) * 128 ^ levels ≤ 2 ^ 35
+pub near_root : (levels : ℕ) → levels ≤ 5 → (0 + 1) * 128 ^ levels ≤ MOST_SLOTS
 near_root levels low =
     let some : 0 < 128 = omega arith in
     let most : 128 ^ levels ≤ 128 ^ 5 = pow-le-pow_right some low in
     omega (arith, most)
 
-pub few_values : (more levels : ℕ) → levels ≤ 5 → more ≤ 128 ^ levels → more ≤ 2 ^ 35
+pub few_values : (more levels : ℕ) → levels ≤ 5 → more ≤ 128 ^ levels → more ≤ MOST_SLOTS
 few_values more levels low few =
     let some : 0 < 128 = omega arith in
     let most : 128 ^ levels ≤ 128 ^ 5 = pow-le-pow_right some low in
@@ -115,7 +116,7 @@ pub trees_on : (told told' told'' : Type 0) (old mid new under under' under'' : 
     → AreCounted told told'' old new under under'' s s'' items (values + more) (count + 1)
 trees_on told told' told'' old mid new under under' under'' s s' s'' items one values more count levels way there is low covers looks few counts reads whole = record {
   looks = looks_then told told' told'' old mid new under under' under'' s s' s'' way.looks looks;
-  few = few_more values more count (2 ^ 35) way.few (few_values more levels low few);
+  few = few_more values more count (MOST_SLOTS) way.few (few_values more levels low few);
   counts = λ book t store are long.
       let two = some_at book count (omega (arith, long, slice_get_within items count one there)) in
       let stands = tree_stands old.image s book items count one two.0 store are there two.1 in

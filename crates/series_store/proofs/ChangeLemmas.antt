@@ -1,19 +1,15 @@
 -- The tree of a series is changed.
-use Rattle.std.proofs.Common.{◌≡◌, ℕ, ℤ, ◌+◌, ◌<◌, ◌≤◌, ◌⊎◌, ◌^◌, max, List, [], length, slice_get, Option, Some, All, IsSome, false, sym, subst, ◌∙◌, arith, inl, inr}
+use Rattle.std.proofs.Common.{◌≡◌, ℕ, ℤ, ◌+◌, ◌<◌, ◌≤◌, ◌⊎◌, max, List, [], length, slice_get, Option, Some, All, IsSome, false, sym, subst, ◌∙◌, arith, inl, inr}
 use Rattle.std.proofs.lemmas.Bool.{cases_lt}
 use Rattle.block_disk.specs.View.{Image}
-use Rattle.om3_coeff.specs.Keys.{page_levels}
-use Rattle.om3_coeff.proofs.KeyLemmas.{levels_4}
 use Rattle.page_space.specs.declared.superblock.Superblock.{Superblock}
 use Rattle.path_repair.specs.Changes.{IsEdited}
 use Rattle.path_repair.specs.Edited.{IsHeldTree}
-use Rattle.path_repair.proofs.EditLemmas.{levels_more}
 use Rattle.catalog_page.specs.Entries.{Entry, IsEntry}
 use Rattle.series_book.specs.declared.one_series.Series.{Series}
 use Rattle.series_book.specs.Books.{IsSeries}
 use Rattle.series_book.specs.Edits.{is_too_large, overwritten, cleared}
 use Rattle.series_book.proofs.BookLemmas.{IsSeries-there}
-use Rattle.series_book.proofs.LawLemmas.{AreInRange}
 use Rattle.series_catalog.specs.declared.stored_series.StoredSeries.{StoredSeries}
 use Rattle.series_catalog.specs.Catalogs.{entry_of}
 use Rattle.stored_book.proofs.TreesLemmas.{held}
@@ -28,14 +24,10 @@ root_below fresh total e is below many = elim (cases_lt 0 e.root) [
   | inr none ↦ omega (arith, none, many)
 ]
 
--- a series has four page levels at most
-pub levels_four : (n : ℕ) → n ≤ 2 ^ 28 → page_levels n ≤ 4
-levels_four n few = omega (arith, levels_more n 268435456 few, levels_4 268435456 (omega arith) (omega arith))
-
-in_range : (image : Image) (s : Superblock) (book : List Series) (id : ℕ) (series : Series) → IsStore image s book → slice_get book id ≡ Some series → AreInRange series.slots
+in_range : (image : Image) (s : Superblock) (book : List Series) (id : ℕ) (series : Series) → IsStore image s book → slice_get book id ≡ Some series → All (λ value. is_too_large value ≡ false) series.slots
 in_range image s book id series store there =
     let is : IsSeries series = IsSeries-there book id series store.is_book there in
-    record { short = is.slots_in_range; fit = is.values_in_range }
+    is.values_in_range
 
 pub own_tree : (image : Image) (s : Superblock) (book : List Series) (id : ℕ) (series : Series) (one : StoredSeries) → IsStore image s book → slice_get book id ≡ Some series → entry image id ≡ entry_of one
     → IsHeldTree s.total image s one.tree series.slots (pages_of_others image (length book) id)
@@ -45,13 +37,13 @@ own_tree image s book id series one store there told =
 
 -- what is put into the slots of a series is put into those of its tree
 pub put_edited : (image : Image) (s : Superblock) (book : List Series) (id : ℕ) (series : Series) (one : StoredSeries) (slot : ℕ) (run : List (Option ℤ)) → IsStore image s book → slice_get book id ≡ Some series → entry image id ≡ entry_of one
-    → All (λ value. is_too_large value ≡ false) run → slot + length run ≤ 2 ^ 28 → ((slot ≡ one.tree.slots) ⊎ All (λ value. IsSome value) run)
+    → All (λ value. is_too_large value ≡ false) run → ((slot ≡ one.tree.slots) ⊎ All (λ value. IsSome value) run)
     → IsEdited slot (slot + length run) (max one.tree.slots (slot + length run)) run series.slots (overwritten series.slots slot run)
-put_edited image s book id series one slot run store there told fit room whole =
+put_edited image s book id series one slot run store there told fit whole =
     let long : one.tree.slots ≡ length series.slots = (own_tree image s book id series one store there told).is_tree.slots in
     let P : ℕ → Type 0 = λ n. IsEdited slot (slot + length run) (max n (slot + length run)) run series.slots (overwritten series.slots slot run) in
     let at : (slot ≡ length series.slots) ⊎ All (λ value. IsSome value) run = elim whole [ inl end ↦ inl (end ∙ long) | inr all ↦ inr all ] in
-    subst P (sym long) (overwritten_edited series.slots run slot (in_range image s book id series store there) fit room at)
+    subst P (sym long) (overwritten_edited series.slots run slot (in_range image s book id series store there) fit at)
 
 pub clear_edited : (image : Image) (s : Superblock) (book : List Series) (id : ℕ) (series : Series) (one : StoredSeries) (slot count : ℕ) → IsStore image s book → slice_get book id ≡ Some series → entry image id ≡ entry_of one
     → slot + count ≤ one.tree.slots → IsEdited slot (slot + count) one.tree.slots [] series.slots (cleared series.slots slot count)

@@ -1,5 +1,5 @@
 -- A series without slots is added to a store.
-use Rattle.std.proofs.Common.{◌≡◌, ◌≢◌, ℕ, zero, suc, ◌+◌, ◌<◌, ◌^◌, false, List, [], ◌∷◌, ◌++◌, length, Option, Some, None, Result, Ok, ℤ, IsTrue, All, is_some, unwrap_or, refl, sym, ap, subst, ◌∙◌, arith, inl, inr}
+use Rattle.std.proofs.Common.{◌≡◌, ◌≢◌, ℕ, zero, suc, ◌+◌, ◌<◌, ◌^◌, List, [], ◌∷◌, ◌++◌, length, Option, Some, None, Result, Ok, ℤ, IsTrue, All, is_some, unwrap_or, refl, sym, ap, subst, ◌∙◌, arith, inl, inr}
 use Rattle.std.specs.List.{slice_get}
 use Rattle.std.proofs.lemmas.Bool.{cases_lt}
 use Rattle.std.proofs.lemmas.Bool.Decides.{eqb_tells}
@@ -16,11 +16,12 @@ use Rattle.catalog_page.specs.Places.{page_of, number_of, records_of}
 use Rattle.catalog_page.proofs.RecordPlaces.{next_record, other_pages}
 use Rattle.series_book.specs.declared.one_series.Series.{Series}
 use Rattle.series_book.specs.declared.refusals.Refusal.{Refusal}
+use Rattle.whole_number.proofs.SlotTimes.{none_in_time}
 use Rattle.series_book.specs.Books.{IsBook, IsSeries}
-use Rattle.series_book.specs.Edits.{Edited, IsEdit, id_of, is_too_large, created}
+use Rattle.series_book.specs.Edits.{Edited, IsEdit, id_of, created}
 use Rattle.series_book.specs.Names.{is_name}
 use Rattle.series_book.specs.declared.edits.Edit.TheVariants.{Create}
-use Rattle.series_book.proofs.BookLemmas.{IsBook-push}
+use Rattle.series_book.proofs.BookLemmas.{IsBook-push, IsSeries-new}
 use Rattle.series_book.proofs.EditLemmas.{created-ok}
 use Rattle.series_catalog.specs.declared.stored_series.StoredSeries.{StoredSeries}
 use Rattle.series_catalog.specs.Catalogs.{ForEntry, entry_of, entry_with, AreFit, AreAsTold}
@@ -142,15 +143,25 @@ no_values value = λ k d within. absurd (omega (arith, within))
 
 -- a series without slots whose fields are in range
 pub is_new_series : (name : List ℕ) (start : ℤ) (step scale : ℕ) → IsTrue (is_name name) → IsEdit (Create name start step scale) → IsSeries (record { name = name; start = start; step = step; scale = scale; slots = [] })
-is_new_series name start step scale named is = record {
-  named = named;
-  start_in_range = is.0;
-  step_above_zero = is.1;
-  step_in_range = is.2;
-  scale_in_range = is.3;
-  slots_in_range = omega arith;
-  values_in_range = no_values (λ value. is_too_large value ≡ false);
-}
+is_new_series name start step scale named is = IsSeries-new name start step scale _ refl named is.0 is.1 is.2 is.3
+
+-- and its record
+pub is_new_entry : (fresh : ℕ) (name : List ℕ) (start begun : ℤ) (step scale : ℕ) → begun ≡ start → IsTrue (is_name name) → IsEdit (Create name start step scale)
+    → IsEntry fresh (record { name = name; scale = scale; step = step; start = begun; slots = 0; root = 0; span = None })
+is_new_entry fresh name start begun step scale same named is =
+    let P : ℤ → Type 0 = λ start. IsEntry fresh (record { name = name; scale = scale; step = step; start = start; slots = 0; root = 0; span = None }) in
+    subst P (sym same) (record {
+      named = named;
+      scale = is.3;
+      step_low = is.1;
+      step_high = omega (arith, is.2);
+      start = omega (arith, is.0);
+      slots = omega arith;
+      last = none_in_time start step;
+      root = record { low = λ some. absurd (some refl); high = λ some. absurd (some refl); none = λ none. refl };
+      rooted = (λ none. refl, λ none. refl);
+      span = tt;
+    })
 
 -- a series of a new name is added to a book with room
 pub created_answer : (total : ℕ) (book : List Series) (one : Series) (result : Result Staged StoreError) (txn txn' : Txn) (image : Image) → id_of one.name book ≡ None → IsBook book → IsSeries one → length book < 512

@@ -1,9 +1,10 @@
 -- The series of a name in the catalog and in the book, and what the book answers of it.
-use Rattle.std.proofs.Common.{◌≡◌, ℕ, ℤ, zero, suc, ◌+◌, ◌-◌, ◌<◌, ◌≤◌, ◌⊎◌, min, List, [], ◌∷◌, length, replicate, slice_get, Option, None, Some, Result, Ok, Err, refl, sym, ap, ◌∙◌, arith}
+use Rattle.std.proofs.Common.{◌≡◌, ℕ, ℤ, zero, suc, ◌+◌, ◌-◌, ◌<◌, ◌≤◌, ◌⊎◌, min, max, List, [], ◌∷◌, length, replicate, slice_get, Option, None, Some, Result, Ok, Err, IfSome, refl, sym, ap, subst, ◌∙◌, arith}
 use Rattle.std.proofs.lemmas.List.{length-replicate}
 use Rattle.std.proofs.lemmas.Option.{slice_get_within}
 use Rattle.block_disk.specs.View.{Image}
 use Rattle.page_space.specs.declared.superblock.Superblock.{Superblock}
+use Rattle.whole_number.specs.SlotTimes.{EndsInTime}
 use Rattle.series_book.specs.declared.axis.Axis.{Axis}
 use Rattle.series_book.specs.declared.edits.Edit.TheVariants.{Append, Set, Clear}
 use Rattle.series_book.specs.declared.one_series.Series.{Series}
@@ -63,6 +64,17 @@ a_series axis = (
   record { name = []; start = axis.start; step = axis.step; scale = 0; slots = replicate axis.slots None },
   record { start = refl; step = refl; slots = sym (length-replicate axis.slots None) },
 )
+
+-- the last of so many slots stands at a time by the axis, and so it does by the series of the catalog
+pub ends_as : (items : List StoredSeries) (id : ℕ) (one : StoredSeries) (axis : Axis) (n m : ℕ) → slice_get items id ≡ Some one → axis.start ≡ one.start → axis.step ≡ one.step → axis.slots ≡ one.tree.slots → n ≡ m
+    → EndsInTime axis.start axis.step (max axis.slots n) → IfSome (slice_get items id) (λ one. EndsInTime one.start one.step (max one.tree.slots m))
+ends_as items id one axis n m there start step slots same ends =
+    let S : ℤ → Type 0 = λ z. EndsInTime z axis.step (max axis.slots n) in
+    let T : ℕ → Type 0 = λ k. EndsInTime one.start k (max axis.slots n) in
+    let L : ℕ → Type 0 = λ k. EndsInTime one.start one.step (max k n) in
+    let N : ℕ → Type 0 = λ k. EndsInTime one.start one.step (max one.tree.slots k) in
+    let Q : Option StoredSeries → Type 0 = λ o. IfSome o (λ one. EndsInTime one.start one.step (max one.tree.slots m)) in
+    subst Q (sym there) (subst N same (subst L slots (subst T step (subst S start ends))))
 
 -- the book has no series of the name
 pub change_unknown : (book : List Series) (found : Option ℕ) (change : ℕ → Series → Result Edited Refusal) → found ≡ None → change_at book found change ≡ Err UnknownSeries

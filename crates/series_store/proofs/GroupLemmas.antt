@@ -1,5 +1,5 @@
 -- Edits are staged one after the other, and committed together.
-use Rattle.std.proofs.Common.{◌≡◌, ℕ, zero, suc, ◌+◌, ◌*◌, ◌<◌, ◌≤◌, ◌⊎◌, ◌^◌, Bool, true, false, List, [], ◌∷◌, ◌++◌, length, take, drop, Result, Ok, Err, is_ok, IsOk, IsErr, IfOk, IfErr, OnOk, OnErr, if◌then◌else◌, refl, sym, ap, ap₂, subst, ◌∙◌, arith, inl, inr}
+use Rattle.std.proofs.Common.{◌≡◌, ℕ, zero, suc, ◌+◌, ◌*◌, ◌<◌, ◌≤◌, ◌⊎◌, Bool, true, false, List, [], ◌∷◌, ◌++◌, length, take, drop, Result, Ok, Err, is_ok, IsOk, IsErr, IfOk, IfErr, OnOk, OnErr, if◌then◌else◌, refl, sym, ap, ap₂, subst, ◌∙◌, arith, inl, inr}
 use Rattle.std.specs.Result.{IsErrAnd}
 use Rattle.std.proofs.lemmas.Bool.{false≢true}
 use Rattle.std.proofs.lemmas.List.{length_push, length-set}
@@ -13,6 +13,7 @@ use Rattle.page_space.specs.Transactions.{held, left_by}
 use Rattle.page_space.specs.declared.superblock.Superblock.{Superblock}
 use Rattle.page_space.specs.declared.txn.Txn.{Txn}
 use Rattle.path_repair.specs.Standing.{ReadsMost}
+use Rattle.series_book.specs.declared.limits.TheConstants.{MOST_SLOTS}
 use Rattle.series_book.specs.declared.edits.Edit.{Edit}
 use Rattle.series_book.specs.declared.one_series.Series.{Series}
 use Rattle.series_book.specs.declared.outcomes.Outcome.{Outcome}
@@ -205,7 +206,7 @@ pub no_slots : HaveFewSlots []
 no_slots = λ k d within. absurd (omega (arith, within))
 
 pub closed : (told told' : Type 0) (old new under under' : View) (s s' : Superblock) (txn : Txn) (is_changed : Bool) (items : List StoredSeries) (edits : List Edit) (before : List (Result Outcome Refusal)) (result : Result (Unit {0}) StoreError)
-    → (0 < length edits → length (held txn) ≤ 24 → ⊥) → length (held txn) ≤ 64 → Commits (held txn) told told' old new → GoesOn under under' → (is_changed ≡ true → told → OnOk result (new.image ≡ left_by txn old.image)) → (is_changed ≡ true → OnOk result (s' ≡ txn.superblock))
+    → (0 < length edits → length (held txn) ≤ 22 → ⊥) → length (held txn) ≤ 64 → Commits (held txn) told told' old new → GoesOn under under' → (is_changed ≡ true → told → OnOk result (new.image ≡ left_by txn old.image)) → (is_changed ≡ true → OnOk result (s' ≡ txn.superblock))
     → (is_changed ≡ false → (new.image ≡ old.image) × (s' ≡ s)) → OnErr result (s' ≡ s) → OnOk result new.fit → OnErr result (new.fit → ⊥) → IfErr result (λ e. e ≡ DiskFault) → OnErr result (HasRisen old.faults new.faults)
     → IsWholeOf s.total told (left_by txn old.image) txn.superblock items → (is_changed ≡ false → IsCatalogOf told old.image s items)
     → IsGrouping told told' old new under under' s s' (length (held txn)) items items edits before before (drop (length before) before) result
@@ -256,7 +257,7 @@ closed told told' old new under under' s s' txn is_changed items edits before re
     total_by (Err e) numbers same = ap (λ (s : Superblock). s.total) same
 
 pub closed_by : (told told' : Type 0) (old new : View) (txn : Txn) (is_changed : Bool) (total : ℕ) (book : List Series) (edits : List Edit) (before : List (Result Outcome Refusal)) (result : Result (Unit {0}) StoreError) → told
-    → ((length edits ≡ 0) ⊎ (24 < length (held txn))) → Commits (held txn) told told' old new → (is_changed ≡ true → told → OnOk result (new.image ≡ left_by txn old.image)) → (is_changed ≡ false → new ≡ old) → (is_changed ≡ false → left_by txn old.image ≡ old.image)
+    → ((length edits ≡ 0) ⊎ (22 < length (held txn))) → Commits (held txn) told told' old new → (is_changed ≡ true → told → OnOk result (new.image ≡ left_by txn old.image)) → (is_changed ≡ false → new ≡ old) → (is_changed ≡ false → left_by txn old.image ≡ old.image)
     → IfErr result (λ e. e ≡ DiskFault) → StandsForBook (left_by txn old.image) total book → IsGroupedBy total book (length (held txn)) is_changed edits (drop (length before) before) result old new
 closed_by told told' old new txn is_changed total book edits before result t why commits done same clean error stands =
     let A : List (Result Outcome Refusal) → Type 0 = λ added. IsGroupedBy total book (length (held txn)) is_changed edits added result old new in
@@ -269,7 +270,7 @@ closed_by told told' old new txn is_changed total book edits before result t why
     subst A (sym (drop_all before)) (record {
       done = ok_so result (new.image ≡ left_by txn old.image) (AreDone total book edits [] new.image)
           (λ is. record { answered = sym (ap (λ some. edits_give total book some) (take_none edits)); stands = subst D (sym is) all }) left;
-      many = on_ok result ((0 ≡ length edits) ⊎ (24 < length (held txn) + weight total book (take 0 edits))) (elim why [ inl none ↦ inl (sym none) | inr full ↦ inr (omega (arith, full)) ]);
+      many = on_ok result ((0 ≡ length edits) ⊎ (22 < length (held txn) + weight total book (take 0 edits))) (elim why [ inl none ↦ inl (sym none) | inr full ↦ inr (omega (arith, full)) ]);
       outside = closed_outside result error;
       reads = omega (arith, commits.reads);
       few_reads = on_ok result (new.reads ≤ old.reads + 96 * 0) (omega (arith, commits.reads));
@@ -407,7 +408,7 @@ added_after before middle answers answer first second =
     let later = drop (length middle) answers in
     ap (λ (list : List (Result Outcome Refusal)). drop (length before) list) (answers_after before middle answers answer first second) ∙ drop_front before (answer ∷ later)
 
-pub slots_after : (answer : Result Outcome Refusal) (later : List (Result Outcome Refusal)) → IfOk answer (λ outcome. outcome.slots ≤ 2 ^ 28) → HaveFewSlots later → HaveFewSlots (answer ∷ later)
+pub slots_after : (answer : Result Outcome Refusal) (later : List (Result Outcome Refusal)) → IfOk answer (λ outcome. outcome.slots ≤ MOST_SLOTS) → HaveFewSlots later → HaveFewSlots (answer ∷ later)
 slots_after answer later first rest zero d within = first
 slots_after answer later first rest (suc k) d within = rest k d (omega (arith, within))
 
@@ -455,8 +456,8 @@ stepped_by told told' old mid new txn txn' image' is_changed was_changed total b
     subst A (sym (added_after before middle answers by.answer by.answers_are answers_are)) (subst E (sym are) (record {
       done = ok_so result (AreDone total next rest later new.image) (AreDone total book (edit ∷ rest) (by.answer ∷ later) new.image)
           (λ done. record { answered = ap₂ (λ first list. first ∷ list) by.says done.answered; stands = done.stands }) grouped.done;
-      many = ok_so result ((length later ≡ length rest) ⊎ (24 < length (held txn') + weight total next (take (length later) rest)))
-          ((length (by.answer ∷ later) ≡ length (edit ∷ rest)) ⊎ (24 < length (held txn) + (weight_of (apply book total edit) (touch_of book edit) + weight total next (take (length later) rest))))
+      many = ok_so result ((length later ≡ length rest) ⊎ (22 < length (held txn') + weight total next (take (length later) rest)))
+          ((length (by.answer ∷ later) ≡ length (edit ∷ rest)) ⊎ (22 < length (held txn) + (weight_of (apply book total edit) (touch_of book edit) + weight total next (take (length later) rest))))
           (λ either. elim either [
             | inl all ↦ inl (ap suc all)
             | inr full ↦ inr (omega (arith, full, by.few))

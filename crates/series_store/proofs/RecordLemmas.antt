@@ -6,6 +6,7 @@ use Rattle.std.proofs.lemmas.Option.{same_Some, slice_get_within, slice_get-get_
 use Rattle.block_disk.specs.View.{Image}
 use Rattle.om3_coeff.specs.Spans.{AreSlots}
 use Rattle.whole_number.specs.Range.{IsValue}
+use Rattle.whole_number.specs.SlotTimes.{EndsInTime}
 use Rattle.page_space.specs.declared.superblock.Superblock.{Superblock}
 use Rattle.path_repair.specs.Keeping.{KeepsCatalog}
 use Rattle.catalog_page.specs.Entries.{Entry, IsEntry, entry_at}
@@ -59,6 +60,7 @@ entry_later fresh fresh' e more is = record {
   step_high = is.step_high;
   start = is.start;
   slots = is.slots;
+  last = is.last;
   root = record { low = is.root.low; high = λ some. omega (arith, is.root.high some, more); none = is.root.none };
   rooted = is.rooted;
   span = is.span;
@@ -121,15 +123,21 @@ record_of image s book id series one tree store there told =
 pub saved_book : (before mid after : Image) (s s' : Superblock) (total : ℕ) (book : List Series) (id : ℕ) (series : Series) (slots : List (Option ℤ)) (one : StoredSeries) (tree : Tree)
     → IsStore before s book → s.total ≡ total → slice_get book id ≡ Some series → entry before id ≡ entry_of one → IsLater s s' → IsTreeChanged before mid (length book) id s' tree slots
     → IsEntry s'.fresh (entry_of (record one { tree = tree })) → IsRecordSet mid after id (entry_of (record one { tree = tree })) → KeepsRecords mid after id s'.fresh → StandsForBook after total (with_slots book id series slots)
-saved_book before mid after s s' total book id series slots one tree store same there told later changed is put kept = record {
-  superblock = s';
-  total_is = later.total ∙ same;
-  store = changed_store before mid after s s' book id series slots tree (entry_of (record one { tree = tree })) store there later changed (record_of before s book id series one tree store there told) refl put kept
-      (IsBook-with_slots book id series slots store.is_book there (record {
-        short = omega (arith, changed.edited.holds.is_tree.slots, is.slots);
-        fit = slots_fit slots changed.edited.holds.is_tree.values;
-      }));
-}
+saved_book before mid after s s' total book id series slots one tree store same there told later changed is put kept =
+    let says : IsRecordOf series (entry_of (record one { tree = tree })) = record_of before s book id series one tree store there told in
+    let S : ℤ → Type 0 = λ start. EndsInTime start one.step tree.slots in
+    let T : ℕ → Type 0 = λ step. EndsInTime series.start step tree.slots in
+    let L : ℕ → Type 0 = λ n. EndsInTime series.start series.step n in
+    record {
+      superblock = s';
+      total_is = later.total ∙ same;
+      store = changed_store before mid after s s' book id series slots tree (entry_of (record one { tree = tree })) store there later changed says refl put kept
+          (IsBook-with_slots book id series slots store.is_book there (record {
+            short = omega (arith, changed.edited.holds.is_tree.slots, is.slots);
+            last = subst L changed.edited.holds.is_tree.slots (subst T says.step (subst S says.start is.last));
+            fit = slots_fit slots changed.edited.holds.is_tree.values;
+          }));
+    }
 
 -- what holds of the value, where it is known
 pub known_some : {X : Type 0} (o : Option X) (x : X) (P : X → Type 0) → o ≡ Some x → IfSome o P → P x

@@ -1,8 +1,9 @@
 -- What is said of the values of a list is given slot by slot.
-use Rattle.std.proofs.Common.{◌≡◌, ◌≢◌, ℕ, ℤ, zero, suc, ◌+◌, ◌-◌, ◌*◌, ◌^◌, ◌<◌, ◌≤◌, is_some, List, [], ◌++◌, length, take, drop, slice_get, Option, None, Some, refl, sym, ap, subst, arith, inl, inr, ◌∙◌}
+use Rattle.std.proofs.Common.{◌≡◌, ◌≢◌, ℕ, ℤ, zero, suc, ◌+◌, ◌-◌, ◌*◌, ◌^◌, ◌<◌, ◌≤◌, min, ltb, true, false, is_some, List, [], ◌++◌, length, take, drop, slice_get, Option, None, Some, refl, sym, ap, subst, arith, inl, inr, ◌∙◌}
 use Rattle.std.specs.Prelude.{Result, Ok, Err, IfErr}
 use Rattle.std.specs.Result.{IsErrAnd}
 use Rattle.std.proofs.lemmas.Bool.{cases_lt}
+use Rattle.std.proofs.lemmas.Bool.Decides.{nat_tests}
 use Rattle.std.proofs.lemmas.List.{append_assoc, append-nil, take-append-drop}
 use Rattle.block_disk.specs.Counts.{HasRisen}
 use Rattle.block_disk.specs.Streams.{sent_after, PartSent}
@@ -27,7 +28,7 @@ use Rattle.path_repair.proofs.SumLemmas.{sum_suc, sum_none, sum_upto}
 use Rattle.stored_book.proofs.OneBook.{slot_key_span}
 use Rattle.tree_walk.specs.Trees.{top_of_page, IsTree}
 use Rattle.series_store.specs.Counting.{Looks, IsBadFor, IsPageCause}
-use Rattle.series_store.specs.Sending.{said_of, said, IsGiven, GivesBy, Sends, IsTextCause, IsSendCause, IsNoDamage, send_error_of, SendsPart, HasUnfitPage}
+use Rattle.series_store.specs.Sending.{said_of, first_said, said, texts_of, IsGiven, GivesBy, Sends, IsTextCause, IsSendCause, IsNoDamage, send_error_of, SendsPart, HasUnfitPage}
 use Rattle.series_store.specs.declared.errors.StoreError.{StoreError}
 use Rattle.series_store.specs.declared.errors.StoreError.TheVariants as store
 use Rattle.series_store.specs.declared.send_errors.SendError.{SendError}
@@ -82,6 +83,13 @@ by_as (Err e) text other waiting before now same given = (given.0, given_as text
 join_suc : (f : ℕ → List ℕ) (n : ℕ) → join_below f (suc n) ≡ join_below f n ++ f n
 unfolding join_below
 join_suc f n = refl
+
+pub join_alike : (f g : ℕ → List ℕ) (n : ℕ) → ((i : ℕ) → i < n → f i ≡ g i) → join_below f n ≡ join_below g n
+unfolding join_below
+join_alike f g zero alike = refl
+join_alike f g (suc n) alike =
+    let before : join_below f n ≡ join_below g n = join_alike f g n (λ i within. alike i (omega (arith, within))) in
+    join_suc f n ∙ ap (λ l. l ++ f n) before ∙ ap (λ l. join_below g n ++ l) (alike n (omega arith)) ∙ sym (join_suc g n)
 
 join_silent : (f : ℕ → List ℕ) (first n : ℕ) → ((i : ℕ) → first ≤ i → i < first + n → f i ≡ []) → join_below f (first + n) ≡ join_below f first
 join_silent f first zero silent = let none : first + 0 ≡ first = omega arith in ap (λ n. join_below f n) none
@@ -180,6 +188,38 @@ silent_slot text i (Some v) silent = silent v
 
 pub said_silent : (text : ℕ → ℤ → List ℕ) (list : List (Option ℤ)) (first end : ℕ) → ((slot : ℕ) (value : ℤ) → first ≤ slot → slot < end → text slot value ≡ []) → (i : ℕ) → first ≤ i → i < end → said text list i ≡ []
 said_silent text list first end silent i low high = silent_slot text i (slot_at list i) (λ value. silent i value low high)
+
+-- of the first slots all is said, and of the others nothing
+pub is_said : (slots : ℕ) (text : ℕ → ℤ → List ℕ) (slot : ℕ) (value : ℤ) → slot < slots → first_said slots text slot value ≡ text slot value
+is_said slots text slot value within = let here : ltb slot slots ≡ true = grind (arith, nat_tests) in rw here refl
+
+pub not_said : (slots : ℕ) (text : ℕ → ℤ → List ℕ) (slot : ℕ) (value : ℤ) → slots ≤ slot → first_said slots text slot value ≡ []
+not_said slots text slot value past = let here : ltb slot slots ≡ false = grind (arith, nat_tests) in rw here refl
+
+-- nothing is said of slots of a range, where nothing is of those among the first
+pub silent_first : (slots first end most : ℕ) (text : ℕ → ℤ → List ℕ) → most ≡ min end slots → ((slot : ℕ) (value : ℤ) → first ≤ slot → slot < most → text slot value ≡ [])
+    → (slot : ℕ) (value : ℤ) → first ≤ slot → slot < end → first_said slots text slot value ≡ []
+silent_first slots first end most text is silent slot value low high = elim (cases_lt slot slots) [
+  | inl within ↦ is_said slots text slot value within ∙ silent slot value low (omega (arith, is, high, within))
+  | inr past ↦ not_said slots text slot value past
+]
+
+slot_said : (slots : ℕ) (text : ℕ → ℤ → List ℕ) (slot : ℕ) (x : Option ℤ) → slot < slots → said_of (first_said slots text) slot x ≡ said_of text slot x
+slot_said slots text slot None within = refl
+slot_said slots text slot (Some v) within = is_said slots text slot v within
+
+-- a list of so many slots has no others
+pub texts_same : (slots : ℕ) (text : ℕ → ℤ → List ℕ) (list : List (Option ℤ)) → length list ≤ slots → texts_of (first_said slots text) list ≡ texts_of text list
+texts_same slots text list few = join_alike (said (first_said slots text) list) (said text list) (length list) (λ i within. slot_said slots text i (slot_at list i) (omega (arith, few, within)))
+
+-- a range of a slot
+slot_range : (index slots : ℕ) → index * 2 ^ 0 < slots → index < slots
+slot_range index slots within = omega (arith, within)
+
+pub slot_there : (level index slots : ℕ) → level ≡ 0 → first_slot (top_of_page level index) < slots → index < slots
+slot_there level index slots is within =
+    let P : ℕ → Type 0 = λ l. first_slot (top_of_page l index) < slots in
+    slot_range index slots (subst P is within)
 
 in_order : (index p : ℕ) → index * p ≤ (index + 1) * p
 in_order index p = omega arith

@@ -16,6 +16,7 @@ use Rattle.page_space.specs.declared.superblock.Superblock.{Superblock}
 use Rattle.path_repair.specs.Changes.{value_of, slot_at}
 use Rattle.path_repair.specs.Sums.{join_below}
 use Rattle.path_repair.specs.TreePages.{page_count}
+use Rattle.series_book.specs.declared.limits.TheConstants.{MOST_SLOTS}
 use Rattle.series_book.specs.Pages.{series_pages}
 use Rattle.series_catalog.specs.Catalogs.{entry_of}
 use Rattle.series_catalog.specs.declared.stored_series.StoredSeries.{StoredSeries}
@@ -23,18 +24,18 @@ use Rattle.stored_book.specs.Records.{entry}
 use Rattle.stored_book.proofs.PageCounts.{counts_same}
 use Rattle.tree_walk.specs.declared.tree.Tree.{Tree}
 use Rattle.tree_walk.specs.Trees.{top_of_page, IsTree, StandsFor}
-use Rattle.series_store.specs.Sending.{said_of, said, texts_of, IsGiven, GivesBy, IsSendCause, IsSeriesCause, IsNoDamage, SendsPart, HasUnfitPage}
+use Rattle.series_store.specs.Sending.{said_of, first_said, said, texts_of, IsGiven, GivesBy, IsSendCause, IsSeriesCause, IsNoDamage, SendsPart, HasUnfitPage}
 use Rattle.series_store.specs.declared.send_errors.SendError.{SendError}
 use Rattle.series_store.specs.declared.send_errors.SendError.TheVariants.{SendFault, DiskFault, Damaged, NoMemory}
 use Rattle.series_store.proofs.BookCountLemmas.{root_stands}
-use Rattle.series_store.proofs.SendLemmas.{join_same, by_as}
+use Rattle.series_store.proofs.SendLemmas.{join_same, by_as, texts_same}
 
 -- the range of a root page
-pub root_range : (levels : ℕ) → levels ≤ 4 → end_slot (top_of_page levels 0) ≤ 2 ^ 28
+pub root_range : (levels : ℕ) → levels ≤ 5 → end_slot (top_of_page levels 0) ≤ MOST_SLOTS
 root_range levels few =
     let some : 0 < 2 = omega arith in
-    let high : 7 * levels ≤ 28 = omega (arith, few) in
-    once (2 ^ (7 * levels)) (2 ^ 28) (pow-le-pow_right some high)
+    let high : 7 * levels ≤ 35 = omega (arith, few) in
+    once (2 ^ (7 * levels)) (2 ^ 35) (pow-le-pow_right some high)
   where
     once : (p most : ℕ) → p ≤ most → (0 + 1) * p ≤ most
     once p most few = omega (arith, few)
@@ -81,21 +82,21 @@ pub record IsTreeSent (text : ℕ → ℤ → List ℕ) (list : List (Option ℤ
   pub gives : GivesBy r (front ++ texts_of text list) old.beside.sent new.beside.sent waits
   pub sound : IfErr r IsNoDamage
 
-pub tree_sent : (text : ℕ → ℤ → List ℕ) (list : List (Option ℤ)) (image : Image) (total levels : ℕ) (tree : Tree) (front waits : List ℕ) (old new : View) (r : Result (Unit {0}) SendError) → levels ≡ page_levels tree.slots → tree.slots ≤ 2 ^ 28 → StandsFor image total tree list
-    → ((list : List (Option ℤ)) → AreSlots list → IsTree image total list levels 0 tree.root → tree.span ≡ span list (top_of_page levels 0) → SendsPart (said text list) (first_slot (top_of_page levels 0)) (end_slot (top_of_page levels 0)) (page_count list levels 0) old new front waits r)
+pub tree_sent : (text : ℕ → ℤ → List ℕ) (list : List (Option ℤ)) (image : Image) (total levels : ℕ) (tree : Tree) (front waits : List ℕ) (old new : View) (r : Result (Unit {0}) SendError) → levels ≡ page_levels tree.slots → tree.slots ≤ MOST_SLOTS → StandsFor image total tree list
+    → ((list : List (Option ℤ)) → AreSlots list → IsTree image total list levels 0 tree.root → tree.span ≡ span list (top_of_page levels 0) → SendsPart (said (first_said tree.slots text) list) (first_slot (top_of_page levels 0)) (end_slot (top_of_page levels 0)) (page_count list levels 0) old new front waits r)
     → IsTreeSent text list front old new waits r
 tree_sent text list image total levels tree front waits old new r is few stands part =
     let root = root_stands image total tree list levels is stands in
     let whole = part list stands.values root.pages root.top_is in
-    let short : length list ≤ 2 ^ 28 = omega (arith, few, stands.slots) in
+    let short : length list ≤ MOST_SLOTS = omega (arith, few, stands.slots) in
     let levels_are : page_levels (length list) ≡ levels = ap page_levels (sym stands.slots) ∙ sym is in
     let covers : length list ≤ 2 ^ (7 * levels) = omega (arith, height_covers (length list) stands.few, ap (λ l. 2 ^ (7 * l)) levels_are) in
     let pages : page_count list levels 0 ≡ series_pages list = ap (λ l. page_count list l 0) (sym levels_are) ∙ counts_same list (omega (arith, short)) in
     record {
       reads = omega (arith, whole.reads, pages);
-      gives = by_as r (front ++ join_below (said text list) (end_slot (top_of_page levels 0))) (front ++ texts_of text list) waits old.beside.sent new.beside.sent
-          (ap (λ l. front ++ l) (all_said text list (end_slot (top_of_page levels 0)) (once (length list) (2 ^ (7 * levels)) covers)))
-          (whole.gives front old.beside.sent (all_waits (said text list) (2 ^ (7 * levels)) front old.beside.sent));
+      gives = by_as r (front ++ join_below (said (first_said tree.slots text) list) (end_slot (top_of_page levels 0))) (front ++ texts_of text list) waits old.beside.sent new.beside.sent
+          (ap (λ l. front ++ l) (all_said (first_said tree.slots text) list (end_slot (top_of_page levels 0)) (once (length list) (2 ^ (7 * levels)) covers) ∙ texts_same tree.slots text list (omega (arith, stands.slots))))
+          (whole.gives front old.beside.sent (all_waits (said (first_said tree.slots text) list) (2 ^ (7 * levels)) front old.beside.sent));
       sound = whole.sound;
     }
   where

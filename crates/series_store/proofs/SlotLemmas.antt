@@ -6,11 +6,10 @@ use Rattle.std.proofs.lemmas.Option.{slice_get_within, slice_get-get_or, get_or_
 use Rattle.om3_coeff.specs.Spans.{AreSlots}
 use Rattle.path_repair.specs.Changes.{value_of, slot_at, given, IsEdited}
 use Rattle.path_repair.proofs.StayLemmas.{slot_before, slot_behind, slot_in}
-use Rattle.series_book.specs.declared.limits.TheConstants.{MOST_SLOTS}
 use Rattle.whole_number.specs.declared.limits.TheConstants.{GREATEST_VALUE}
 use Rattle.series_book.specs.declared.one_series.Series.{Series}
 use Rattle.series_book.specs.Edits.{is_too_large, overwritten, cleared, with_slots}
-use Rattle.series_book.proofs.LawLemmas.{AreInRange, overwritten_fits, cleared_fits}
+use Rattle.series_book.proofs.LawLemmas.{overwritten_values, cleared_values}
 use Rattle.series_book.proofs.SlotLemmas.{length-overwritten}
 
 slot_get : (list : List (Option ℤ)) (i : ℕ) → slot_at list i ≡ get_or list i None
@@ -50,9 +49,9 @@ some_is : (value : Option ℤ) → IsSome value → value ≡ None → ⊥
 some_is None is none = cc
 some_is (Some v) is none = cc
 
-pub overwritten_edited : (slots run : List (Option ℤ)) (place : ℕ) → AreInRange slots → All (λ value. is_too_large value ≡ false) run → place + length run ≤ MOST_SLOTS → ((place ≡ length slots) ⊎ All (λ value. IsSome value) run)
+pub overwritten_edited : (slots run : List (Option ℤ)) (place : ℕ) → All (λ value. is_too_large value ≡ false) slots → All (λ value. is_too_large value ≡ false) run → ((place ≡ length slots) ⊎ All (λ value. IsSome value) run)
     → IsEdited place (place + length run) (max (length slots) (place + length run)) run slots (overwritten slots place run)
-overwritten_edited slots run place old new room whole =
+overwritten_edited slots run place old new whole =
     let list : List (Option ℤ) = overwritten slots place run in
     let held : (i : ℕ) → place ≤ i → i < place + length run → get_or run (i - place) None ≡ None → slot_at slots i ≡ None =
     λ i from to none. elim whole [
@@ -60,8 +59,8 @@ overwritten_edited slots run place old new room whole =
       | inr some ↦ absurd (some_is (get_or run (i - place) None) (some (i - place) None (omega (arith, from, to))) none)
     ] in
     record {
-      old_values = are_values slots old.fit;
-      new_values = are_values list (overwritten_fits slots run place old.fit new old.short room).fit;
+      old_values = are_values slots old;
+      new_values = are_values list (overwritten_values slots run place old new);
       length_is = length-overwritten slots run place;
       slots_are = λ i. slot_get list i ∙ elim (cases_lt i place) [
         | inl before ↦ overwritten_front slots run place i before ∙ sym (slot_get slots i) ∙ sym (slot_before place (place + length run) run i (slot_at slots i) before)
@@ -92,12 +91,12 @@ pub length-cleared : (slots : List (Option ℤ)) (place count : ℕ) → place +
 unfolding cleared
 length-cleared slots place count room = omega (arith, room, length-append {A = Option ℤ}, length-take {A = Option ℤ}, length-drop {A = Option ℤ}, length-replicate {A = Option ℤ})
 
-pub cleared_edited : (slots : List (Option ℤ)) (place count : ℕ) → AreInRange slots → place + count ≤ length slots → IsEdited place (place + count) (length slots) [] slots (cleared slots place count)
+pub cleared_edited : (slots : List (Option ℤ)) (place count : ℕ) → All (λ value. is_too_large value ≡ false) slots → place + count ≤ length slots → IsEdited place (place + count) (length slots) [] slots (cleared slots place count)
 cleared_edited slots place count old room =
     let list : List (Option ℤ) = cleared slots place count in
     record {
-      old_values = are_values slots old.fit;
-      new_values = are_values list (cleared_fits slots place count old.fit old.short).fit;
+      old_values = are_values slots old;
+      new_values = are_values list (cleared_values slots place count old);
       length_is = length-cleared slots place count room;
       slots_are = λ i. slot_get list i ∙ elim (cases_lt i place) [
         | inl before ↦ cleared_front slots place count i room before ∙ sym (slot_get slots i) ∙ sym (slot_before place (place + count) [] i (slot_at slots i) before)

@@ -20,6 +20,7 @@ use Rattle.path_repair.specs.declared.errors.RepairError.TheVariants.{Full as Fu
 use Rattle.catalog_page.specs.Entries.{IsEntry, entry_at}
 use Rattle.catalog_page.specs.Layout.{KeepsLayout}
 use Rattle.catalog_page.specs.Places.{page_of, number_of, records_of}
+use Rattle.series_book.specs.declared.limits.TheConstants.{MOST_SLOTS}
 use Rattle.series_book.specs.declared.one_series.Series.{Series}
 use Rattle.series_book.specs.declared.outcomes.Outcome.{Outcome}
 use Rattle.series_book.specs.declared.refusals.Refusal.{Refusal}
@@ -119,7 +120,7 @@ stage_cause told image s (DamagedTree page) old new why bad = (why, bad)
 stage_cause told image s TreeMemory old new why bad = tt
 
 -- the tree wasn't changed
-pub staging_error : {most puts : ℕ} (told told' : Type 0) (old new under under' : View) (s s' : Superblock) (txn txn' : Txn) (items : List StoredSeries) (result : Result Staged StoreError) (e : RepairError) → most ≤ 96 → puts ≤ 39 → IsErrAnd result (λ cause. cause ≡ error_of e)
+pub staging_error : {most puts : ℕ} (told told' : Type 0) (old new under under' : View) (s s' : Superblock) (txn txn' : Txn) (items : List StoredSeries) (result : Result Staged StoreError) (e : RepairError) → most ≤ 96 → puts ≤ 41 → IsErrAnd result (λ cause. cause ≡ error_of e)
     → Moved most puts told told' old new under under' s s' txn txn' → (told → KeepsCatalog (left_by txn old.image) (left_by txn' old.image)) → IsWholeOf s.total told (left_by txn old.image) txn.superblock items
     → IsCause s.total e old.faults new.faults → NamesBelow told (left_by txn old.image) txn.superblock e → IsStaging told told' old new under under' s s' txn txn' items items result
 staging_error told told' old new under under' s s' txn txn' items (Ok staged) e few short is moved keeps are why bad = absurd is
@@ -154,12 +155,12 @@ saved_back : (P : Type 0) (now before : List StoredSeries) (result : Result Stag
 saved_back P now before (Ok staged) back = (back.1, λ none. absurd (back.0 none))
 saved_back P now before (Err e) back = (tt, tt)
 
-few_slots : (n : ℕ) (result : Result Staged StoreError) → n ≤ 2 ^ 28 → IfOk result (λ staged. staged.outcome.slots ≡ n) → IfOk result (λ staged. staged.outcome.slots ≤ 2 ^ 28)
+few_slots : (n : ℕ) (result : Result Staged StoreError) → n ≤ MOST_SLOTS → IfOk result (λ staged. staged.outcome.slots ≡ n) → IfOk result (λ staged. staged.outcome.slots ≤ MOST_SLOTS)
 few_slots n (Ok staged) few is = omega (arith, few, is)
 few_slots n (Err e) few is = tt
 
 -- the tree was changed, and its record written
-pub staging_saved : {most puts : ℕ} (told told' told'' : Type 0) (old mid new under under' under'' : View) (s s' s'' : Superblock) (txn txn' txn'' : Txn) (items items' : List StoredSeries) (slots : ℕ) (result : Result Staged StoreError) → most ≤ 95 → puts ≤ 38 → slots ≤ 2 ^ 28
+pub staging_saved : {most puts : ℕ} (told told' told'' : Type 0) (old mid new under under' under'' : View) (s s' s'' : Superblock) (txn txn' txn'' : Txn) (items items' : List StoredSeries) (slots : ℕ) (result : Result Staged StoreError) → most ≤ 95 → puts ≤ 40 → slots ≤ MOST_SLOTS
     → Moved most puts told told' old mid under under' s s' txn txn' → Reads told' told'' mid new → GoesOn under' under'' → s'' ≡ s' → txn''.superblock ≡ txn'.superblock → length (held txn'') ≤ length (held txn') + 1
     → IfErr result (λ e. e ≡ DiskFault) → OnErr result (HasRisen mid.faults new.faults) → OnErr result (items' ≡ items) → IfOk result (λ staged. (staged.undo ≢ undo.Nothing) × TakesBack staged.undo items' items)
     → OnOk result (IsWholeOf s''.total told'' (left_by txn'' new.image) txn''.superblock items') → IfOk result (λ staged. staged.outcome.slots ≡ slots) → IsStaging told told'' old new under under'' s s'' txn txn'' items items' result
@@ -214,7 +215,7 @@ clear_touch first end slots n same low =
     ap (λ k. touch first end (page_levels k) (page_levels k) 0) same ∙ ap (λ k. touch first end (page_levels n) (page_levels k) 0) (sym most)
 
 -- nothing was to be done
-pub staging_nothing : (told : Type 0) (at under : View) (s : Superblock) (txn : Txn) (items : List StoredSeries) (outcome : Outcome) → IsCatalogOf told (left_by txn at.image) txn.superblock items → outcome.slots ≤ 2 ^ 28
+pub staging_nothing : (told : Type 0) (at under : View) (s : Superblock) (txn : Txn) (items : List StoredSeries) (outcome : Outcome) → IsCatalogOf told (left_by txn at.image) txn.superblock items → outcome.slots ≤ MOST_SLOTS
     → IsStaging told told at at under under s s txn txn items items (Ok (record { outcome = outcome; undo = undo.Nothing }))
 staging_nothing told at under s txn items outcome are few = record {
   reads = no_read 96 told at;

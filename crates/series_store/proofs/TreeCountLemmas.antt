@@ -23,6 +23,7 @@ use Rattle.path_repair.proofs.SumLemmas.{below_next, sum_suc, sum_none, sum_upto
 use Rattle.stored_book.proofs.OneBook.{slot_key_span}
 use Rattle.tree_walk.specs.Holding.{KeptWalking}
 use Rattle.tree_walk.specs.Trees.{top_of_page, HoldsNodes, IsTree}
+use Rattle.series_book.specs.declared.limits.TheConstants.{MOST_SLOTS}
 use Rattle.series_store.specs.Counting.{values_below, Looks, IsBadFor, IsSlot, AreParts, HasNoSlot, HasBadPage, IsSoundPage, IsSoundTree, NamesWithin, IsPageCause, IsTreeCause}
 use Rattle.series_store.specs.declared.errors.StoreError.{StoreError}
 use Rattle.series_store.specs.declared.errors.StoreError.TheVariants.{Refused, NotAStore, DiskFault, Damaged, NoMemory}
@@ -108,13 +109,13 @@ pub never_bad : (slots index : ℕ) (spans : ℕ → Option Span) → AreParts s
 never_bad slots index spans parts none = none.bad (parts none.child none.within)
 
 -- a range that isn't a slot is of one of the first 2^28 pages
-pub near_index : (index level : ℕ) → level ≢ 0 → (index + 1) * 128 ^ level ≤ 2 ^ 35 → index < 2 ^ 28
+pub near_index : (index level : ℕ) → level ≢ 0 → (index + 1) * 128 ^ level ≤ MOST_SLOTS → index < 2 ^ 28
 near_index index zero high near = absurd (high refl)
 near_index index (suc level) high near =
     let some : 1 ≤ 128 ^ level = one-le-pow level 128 (omega arith) in
-    few index (128 ^ level) some (subst (λ (p : ℕ). (index + 1) * p ≤ 2 ^ 35) (power level) near)
+    few index (128 ^ level) some (subst (λ (p : ℕ). (index + 1) * p ≤ MOST_SLOTS) (power level) near)
   where
-    few : (index p : ℕ) → 1 ≤ p → (index + 1) * (128 * p) ≤ 2 ^ 35 → index < 2 ^ 28
+    few : (index p : ℕ) → 1 ≤ p → (index + 1) * (128 * p) ≤ MOST_SLOTS → index < 2 ^ 28
     few index p some near = omega (arith, near, mul-le-mul_left (index + 1) some)
 
     power : (level : ℕ) → 128 ^ suc level ≡ 128 * 128 ^ level
@@ -122,18 +123,18 @@ near_index index (suc level) high near =
         let next : suc level ≡ 1 + level = omega arith in
         ap (λ k. 128 ^ k) next ∙ pow-add 128 1 level
 
-near_part : (index level below child : ℕ) → level ≡ suc below → child < 128 → (index + 1) * 128 ^ level ≤ 2 ^ 35 → (128 * index + child + 1) * 128 ^ below ≤ 2 ^ 35
+near_part : (index level below child : ℕ) → level ≡ suc below → child < 128 → (index + 1) * 128 ^ level ≤ MOST_SLOTS → (128 * index + child + 1) * 128 ^ below ≤ MOST_SLOTS
 near_part index level below child is within near =
     let next : level ≡ 1 + below = omega (arith, is) in
     let power : 128 ^ level ≡ 128 * 128 ^ below = ap (λ k. 128 ^ k) next ∙ pow-add 128 1 below in
-    part index child (128 ^ below) within (subst (λ (p : ℕ). (index + 1) * p ≤ 2 ^ 35) power near)
+    part index child (128 ^ below) within (subst (λ (p : ℕ). (index + 1) * p ≤ MOST_SLOTS) power near)
   where
-    part : (index child p : ℕ) → child < 128 → (index + 1) * (128 * p) ≤ 2 ^ 35 → (128 * index + child + 1) * p ≤ 2 ^ 35
+    part : (index child p : ℕ) → child < 128 → (index + 1) * (128 * p) ≤ MOST_SLOTS → (128 * index + child + 1) * p ≤ MOST_SLOTS
     part index child p within near = omega (arith, near, mul-le-mul_right p (let high : 128 * index + child + 1 ≤ 128 * (index + 1) = omega (arith, within) in high))
 
-pub near_here : (index here level below child : ℕ) → here ≡ 128 * index + child → level ≡ suc below → child < 128 → (index + 1) * 128 ^ level ≤ 2 ^ 35 → (here + 1) * 128 ^ below ≤ 2 ^ 35
+pub near_here : (index here level below child : ℕ) → here ≡ 128 * index + child → level ≡ suc below → child < 128 → (index + 1) * 128 ^ level ≤ MOST_SLOTS → (here + 1) * 128 ^ below ≤ MOST_SLOTS
 near_here index here level below child at is within near =
-    let P : ℕ → Type 0 = λ i. (i + 1) * 128 ^ below ≤ 2 ^ 35 in
+    let P : ℕ → Type 0 = λ i. (i + 1) * 128 ^ below ≤ MOST_SLOTS in
     subst P (sym at) (near_part index level below child is within near)
 
 pub part_slot : (slots index here child : ℕ) (held : Option Span) (spans : ℕ → Option Span) → here ≡ 128 * index + child → held ≡ spans (127 + child) → child < 128 → AreParts slots index spans → IsSlot slots here held

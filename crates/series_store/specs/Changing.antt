@@ -1,8 +1,9 @@
 -- What an edit tells by what the book answers, and a store in which no series is selected.
-use Rattle.std.specs.Prelude.{ℕ, ℤ, ◌≡◌, ◌≤◌, ◌⊎◌, ◌^◌, ◌++◌, ◌∷◌, [], length, List, Option, Result, Ok, Err, None, IfOk, IfErr, OnOk}
+use Rattle.std.specs.Prelude.{ℕ, ℤ, ◌≡◌, ◌≤◌, ◌⊎◌, ◌++◌, ◌∷◌, [], length, List, Option, Result, Ok, Err, None, IfOk, IfErr, OnOk}
 use Rattle.block_disk.specs.View.{Image, View, Passes}
 use Rattle.gate_pages.specs.Pages.{Quiet, GoesOn}
 use Rattle.page_space.specs.declared.superblock.Superblock.{Superblock}
+use Rattle.series_book.specs.declared.limits.TheConstants.{MOST_SLOTS}
 use Rattle.series_book.specs.declared.one_series.Series.{Series}
 use Rattle.series_book.specs.declared.outcomes.Outcome.{Outcome}
 use Rattle.series_book.specs.declared.refusals.Refusal.{Refusal}
@@ -76,4 +77,4 @@ pub record IsCarriedOut (told told' : Type 0) (old new under under' : View) (s s
   pub unchanged : IfErr result (λ e. IsUnchangedFor e told old new)
   pub sound : OnOk result new.fit
   pub total : s'.total ≡ s.total
-  pub slots : IfOk result (λ outcome. outcome.slots ≤ 2 ^ 28)
+  pub slots : IfOk result (λ outcome. outcome.slots ≤ MOST_SLOTS)

@@ -1,5 +1,5 @@
 -- How a group of edits is staged one after the other, and committed.
-use Rattle.std.specs.Prelude.{ℕ, ◌≡◌, ◌+◌, ◌*◌, ◌^◌, ◌<◌, ◌≤◌, ◌⊎◌, ◌++◌, ◌∷◌, Bool, false, List, [], length, take, drop, Result, IsErr, IfOk, IfErr, OnOk, OnErr, Vec}
+use Rattle.std.specs.Prelude.{ℕ, ◌≡◌, ◌+◌, ◌*◌, ◌<◌, ◌≤◌, ◌⊎◌, ◌++◌, ◌∷◌, Bool, false, List, [], length, take, drop, Result, IsErr, IfOk, IfErr, OnOk, OnErr, Vec}
 use Rattle.block_disk.specs.Counts.{HasRisen}
 use Rattle.block_disk.specs.View.{Image, View, Passes}
 use Rattle.gate_pages.specs.Pages.{GoesOn, Quiet}
@@ -9,6 +9,7 @@ use Rattle.page_space.specs.Transactions.{held, left_by}
 use Rattle.page_space.specs.declared.space.Space.{Space}
 use Rattle.page_space.specs.declared.superblock.Superblock.{Superblock}
 use Rattle.page_space.specs.declared.txn.Txn.{Txn}
+use Rattle.series_book.specs.declared.limits.TheConstants.{MOST_SLOTS}
 use Rattle.series_book.specs.declared.edits.Edit.{Edit}
 use Rattle.series_book.specs.declared.one_series.Series.{Series}
 use Rattle.series_book.specs.declared.outcomes.Outcome.{Outcome}
@@ -72,13 +73,13 @@ pub record IsGrouping (told told' : Type 0) (old new under under' : View) (s s' 
   pub more : length items ≤ length items'
   pub answers_are : answers ≡ before ++ added
   pub within : length added ≤ length edits
-  pub some : 0 < length edits → held_pages ≤ 24 → OnOk result (0 < length added)
+  pub some : 0 < length edits → held_pages ≤ 22 → OnOk result (0 < length added)
   pub slots : HaveFewSlots added
 
 -- What it does where the pages that the edits before would leave stand for a book.
 pub record IsGroupedBy (total : ℕ) (book : List Series) (held_pages : ℕ) (is_changed : Bool) (edits : List Edit) (answers : List (Result Outcome Refusal)) (result : Result (Unit {0}) StoreError) (old new : View) : Type 0 where
   pub done : OnOk result (AreDone total book edits answers new.image)
-  pub many : OnOk result ((length answers ≡ length edits) ⊎ (24 < held_pages + weight total book (take (length answers) edits)))
+  pub many : OnOk result ((length answers ≡ length edits) ⊎ (22 < held_pages + weight total book (take (length answers) edits)))
   pub outside : IfErr result IsOutside
   pub reads : new.reads ≤ old.reads + 96 * length edits
   pub few_reads : OnOk result (new.reads ≤ old.reads + 96 * length answers)
@@ -99,7 +100,7 @@ pub record IsNext (told told' : Type 0) (old new under under' : View) (s s' : Su
   pub staged : OnOk result (IsWholeOf s'.total told' (left_by txn' new.image) txn'.superblock items')
   pub answer : Result Outcome Refusal
   pub answers_are : OnOk result (answers ≡ before ++ answer ∷ [])
-  pub slots : IfOk answer (λ outcome. outcome.slots ≤ 2 ^ 28)
+  pub slots : IfOk answer (λ outcome. outcome.slots ≤ MOST_SLOTS)
 
 -- What it does where the pages that the edits before would leave stand for a book.
 pub record IsNextBy (total : ℕ) (book : List Series) (edit : Edit) (result : Result Undo StoreError) (txn txn' : Txn) (image' : Image) (before answers : List (Result Outcome Refusal)) : Type 0 where

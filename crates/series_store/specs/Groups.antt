@@ -1,11 +1,12 @@
 -- What a group of edits does, in one commit.
-use Rattle.std.specs.Prelude.{ℕ, ◌≡◌, ◌+◌, ◌<◌, ◌≤◌, ◌⊎◌, ◌^◌, min, max, List, [], ◌∷◌, length, map, take, slice_get, All, Option, None, Some, Result, Ok, Err, IsErr, IfOk, ⊤}
+use Rattle.std.specs.Prelude.{ℕ, ◌≡◌, ◌+◌, ◌<◌, ◌≤◌, ◌⊎◌, min, max, List, [], ◌∷◌, length, map, take, slice_get, All, Option, None, Some, Result, Ok, Err, IsErr, IfOk, ⊤}
 use Rattle.block_disk.specs.Counts.{HasRisen}
 use Rattle.block_disk.specs.View.{Image, View, Passes, Rises}
 use Rattle.gate_pages.specs.Pages.{Quiet}
 use Rattle.om3_coeff.specs.Keys.{page_levels}
 use Rattle.page_space.specs.declared.superblock.Superblock.{Superblock}
 use Rattle.path_repair.specs.Costs.{touch}
+use Rattle.series_book.specs.declared.limits.TheConstants.{MOST_SLOTS}
 use Rattle.series_book.specs.declared.one_series.Series.{Series}
 use Rattle.series_book.specs.declared.edits.Edit.{Edit}
 use Rattle.series_book.specs.declared.edits.Edit.TheVariants.{Create, Append, Set, Clear}
@@ -62,9 +63,9 @@ pub record AreDone (total : ℕ) (book : List Series) (edits : List Edit) (answe
 abbrev pub AreSome : List Edit → ℕ → Type 0
 AreSome edits covered = (0 < covered) × (covered ≤ length edits)
 
--- these are all of the edits, or so many that their pages may be more than 24 with page 0
+-- these are all of the edits, or so many that their pages may be more than 22 with page 0
 abbrev pub AreMany : ℕ → List Series → List Edit → ℕ → Type 0
-AreMany total book edits covered = (covered ≡ length edits) ⊎ (24 < 1 + weight total book (take covered edits))
+AreMany total book edits covered = (covered ≡ length edits) ⊎ (22 < 1 + weight total book (take covered edits))
 
 -- the pages stand for the book from before, or for the one behind so many first edits
 abbrev pub IsNoneOrAll : ℕ → List Series → List Edit → ℕ → Image → Type 0
@@ -91,7 +92,7 @@ ChangeNone total book (edit ∷ edits) = (IsErr (apply book total edit) ⊎ Clea
 
 -- no series has more slots than a book allows
 abbrev pub HaveFewSlots : List (Result Outcome Refusal) → Type 0
-HaveFewSlots answers = All (λ answer. IfOk answer (λ outcome. outcome.slots ≤ 2 ^ 28)) answers
+HaveFewSlots answers = All (λ answer. IfOk answer (λ outcome. outcome.slots ≤ MOST_SLOTS)) answers
 
 -- what a group of edits moves, whatever the pages are
 pub record GroupMoves (told_old told_new : Type 0) (old new : View) : Type 0 where

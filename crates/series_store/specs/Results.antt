@@ -82,4 +82,4 @@ pub record Moves (told_old told_new : Type 0) (old new : View) : Type 0 where
   pub faults : old.faults ≤ new.faults
   pub reads : Rises 96 old.reads new.reads
   pub syncs : Rises 4 old.syncs new.syncs
-  pub writes : Rises 83 old.writes new.writes
+  pub writes : Rises 87 old.writes new.writes

@@ -1,5 +1,5 @@
 -- What is sent of the values of a series.
-use Rattle.std.specs.Prelude.{ℕ, zero, suc, ℤ, ◌≡◌, ◌≢◌, ◌+◌, ◌<◌, ◌≤◌, ◌⊎◌, List, [], ◌++◌, length, Option, None, Some, Result, Ok, Err, IfErr, ⊤}
+use Rattle.std.specs.Prelude.{ℕ, zero, suc, ℤ, ◌≡◌, ◌≢◌, ◌+◌, ◌<◌, ◌≤◌, ◌⊎◌, nat_lt, if◌then◌else◌, List, [], ◌++◌, length, Option, None, Some, Result, Ok, Err, IfErr, ⊤}
 use Rattle.block_disk.specs.Counts.{HasRisen}
 use Rattle.block_disk.specs.Streams.{sent_after}
 use Rattle.block_disk.specs.View.{Image, View, Now, sent_now, Passes}
@@ -33,6 +33,10 @@ said text list slot = said_of text slot (slot_at list slot)
 -- the texts of all values of a list, in the order of their slots
 abbrev pub texts_of : (ℕ → ℤ → List ℕ) → List (Option ℤ) → List ℕ
 texts_of text list = join_below (said text list) (length list)
+
+-- what is said of the first so many slots, and nothing of the others
+abbrev pub first_said : ℕ → (ℕ → ℤ → List ℕ) → ℕ → ℤ → List ℕ
+first_said slots text slot value = if nat_lt slot slots then text slot value else []
 
 -- a front of the text was sent behind what was sent before, and the rest of it waits
 pub record IsGiven (text : List ℕ) (before now : Option (List ℕ)) (waiting : List ℕ) : Type 0 where

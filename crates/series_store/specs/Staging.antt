@@ -9,6 +9,7 @@ use Rattle.page_space.specs.declared.space.Space.{Space}
 use Rattle.page_space.specs.declared.superblock.Superblock.{Superblock}
 use Rattle.page_space.specs.declared.txn.Txn.{Txn}
 use Rattle.path_repair.specs.Standing.{ReadsMost}
+use Rattle.series_book.specs.declared.limits.TheConstants.{MOST_SLOTS}
 use Rattle.series_book.specs.declared.one_series.Series.{Series}
 use Rattle.series_book.specs.declared.refusals.Refusal.{Refusal}
 use Rattle.series_book.specs.Edits.{Edited, with_slots}
@@ -92,8 +93,8 @@ pub record IsStaging (told told' : Type 0) (old new under under' : View) (s s' :
   pub back : IfOk result (λ staged. TakesBack staged.undo items' items)
   pub nothing : IfOk result (λ staged. staged.undo ≡ undo.Nothing → txn' ≡ txn)
   pub stands : IsAnswer result → IsCatalogOf told' (left_by txn' new.image) txn'.superblock items'
-  pub few : length (held txn') ≤ length (held txn) + 39
-  pub slots : IfOk result (λ staged. staged.outcome.slots ≤ 2 ^ 28)
+  pub few : length (held txn') ≤ length (held txn) + 41
+  pub slots : IfOk result (λ staged. staged.outcome.slots ≤ MOST_SLOTS)
 
 -- where a transaction would leave pages that stand for a book which answers so, an edit was staged, or refused
 pub record IsStagedBy (answer : Result Edited Refusal) (touched total : ℕ) (result : Result Staged StoreError) (txn txn' : Txn) (image' : Image) : Type 0 where

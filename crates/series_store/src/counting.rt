@@ -11,6 +11,7 @@ ghost use Rattle.path_repair.specs.Keeping.{IsMatched};
 ghost use Rattle.path_repair.specs.TreePages.{tree_pages};
 ghost use Rattle.tree_walk.specs.Paths.{NamesBeyond};
 ghost use Rattle.tree_walk.specs.Trees.{top_of_page, HoldsNodes, IsTree};
+ghost use Rattle.series_book.specs.declared.limits.TheConstants.{MOST_SLOTS};
 ghost use Rattle.series_store.specs.Counting.{values_below, NamesBelow, IsSlot, AreParts, HasNoSlot, IsBadFor, IsSoundPage, IsSoundTree, NamesWithin, IsPageCause, IsTreeCause};
 ghost use Rattle.page_space.specs.Shown as spaces;
 ghost use Rattle.series_store.specs.Looking as looks;
@@ -151,7 +152,7 @@ pub(crate) fn count_values<P: Pages>(
     requires page { page < spaces.total space.old }
     requires proper { IsProperIfAny top }
     requires matched { 1 ≤ level → IsMatched page top }
-    requires near { (index + 1) * 128 ^ level ≤ 2 ^ 35 }
+    requires near { (index + 1) * 128 ^ level ≤ MOST_SLOTS }
     requires slot { level ≡ 0 → IsSlot slots index top }
     ensures looks { looks.OnlyLooks space.old space.new }
     ensures few { IfOk result (λ values. values ≤ 128 ^ level) }

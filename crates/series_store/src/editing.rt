@@ -3,6 +3,7 @@ ghost use Rattle.std.specs.Prelude.{◌≡◌, ◌≤◌, ◌<◌, ◌^◌, ℕ,
 ghost use Rattle.block_disk.specs.View.{View, Passes};
 ghost use Rattle.gate_pages.specs.Pages.{GoesOn, Quiet};
 ghost use Rattle.page_space.specs.Transactions.{held, left_by};
+ghost use Rattle.series_book.specs.declared.limits.TheConstants.{MOST_SLOTS};
 ghost use Rattle.series_book.specs.declared.one_series.Series.{Series};
 ghost use Rattle.series_book.specs.Edits.{IsEdit, apply};
 ghost use Rattle.series_store.specs.Results.{IsDone, IsRefusedWith, IsBeforeOrAfter, IsEditCause, IsUnchangedFor, ClearsNone, CommitsNone};
@@ -20,7 +21,7 @@ impl<P: Pages> Store<P> {
     /// Does the edit in one commit. It is refused exactly where a refusal stands, with the first that does;
     /// then nothing is changed. Afterwards no series is selected.
     ///
-    /// It reads 96 blocks at most, and writes 83. After `DiskFault` the store may be unsound, and has to be
+    /// It reads 96 blocks at most, and writes 87. After `DiskFault` the store may be unsound, and has to be
     /// opened again: it has the book from before the edit, or the edited one. Where the pages stand for a
     /// book, no page is damaged.
     pub fn edit(&mut self, edit: &Edit) -> Result<Outcome, StoreError>
@@ -38,7 +39,7 @@ impl<P: Pages> Store<P> {
         ensures idle { shown.ForBook self.old (λ total book. ClearsNone book edit.now → CommitsNone (shown.view self.old) (shown.view self.new)) }
         ensures sound { OnOk result (shown.IsSound self.new) }
         ensures total { shown.total self.new ≡ shown.total self.old }
-        ensures slots { IfOk result (λ outcome. outcome.slots ≤ 2 ^ 28) }
+        ensures slots { IfOk result (λ outcome. outcome.slots ≤ MOST_SLOTS) }
         ensures none { (self.new.tree.slots ≡ 0) × (self.new.tree.span ≡ None) }
         // no series goes away, whatever the pages are
         ensures more { length (shown.catalog self.old) ≤ length (shown.catalog self.new) }

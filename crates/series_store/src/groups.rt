@@ -27,8 +27,8 @@ use series_book::{Edit, Outcome, Refusal};
 use series_catalog::Catalog;
 use std::alloc::Global;
 
-/// An edit is staged only where the transaction holds no more pages: it may put 39 into it, and there is room for 64.
-const MOST_HELD: usize = 24;
+/// An edit is staged only where the transaction holds no more pages: it may put 41 into it, and there is room for 64.
+const MOST_HELD: usize = 22;
 
 /// The refusal, or what else the error is.
 fn refusal_in(cause: StoreError) -> Result<Refusal, StoreError>
@@ -66,7 +66,7 @@ fn stage_next<P: Pages>(
 ) -> Result<Undo, StoreError>
     requires sound { spaces.IsSound space.old }
     requires staged { stages.IsStaged space.old txn.old catalog.old }
-    requires few { length (held txn.old) ≤ 24 }
+    requires few { length (held txn.old) ≤ 22 }
     requires is_edit { IsEdit edit.now }
     ensures next { grouping.GoesNext result space.old space.new txn.old txn.new catalog.old catalog.new answers.old.items answers.new.items }
     ensures answered { stages.ForStaged space.old txn.old (λ total book. grouping.AnswersNext total book edit.now result space.new txn.old txn.new answers.old.items answers.new.items) }

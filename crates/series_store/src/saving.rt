@@ -1,9 +1,11 @@
 //! Changes of the slots of a series are staged.
 ghost use Rattle.std.specs.Prelude.{◌≡◌, ◌≢◌, ◌≤◌, ◌<◌, ◌+◌, ◌^◌, ◌⊎◌, ℕ, ℤ, max, List, Option, Some, Ok, All, false, IsSome, length, slice_get, IfOk, IfErr, OnOk, OnErr, IfSome};
+ghost use Rattle.whole_number.specs.SlotTimes.{EndsInTime};
 ghost use Rattle.block_disk.specs.Counts.{HasRisen};
 ghost use Rattle.block_disk.specs.View.{View};
 ghost use Rattle.page_space.specs.Shown as spaces;
 ghost use Rattle.page_space.specs.Transactions.{held, left_by};
+ghost use Rattle.series_book.specs.declared.limits.TheConstants.{MOST_SLOTS};
 ghost use Rattle.series_book.specs.declared.one_series.Series.{Series};
 ghost use Rattle.series_catalog.specs.Shown.{series_in};
 ghost use Rattle.series_store.specs.Staging as stages;
@@ -37,11 +39,12 @@ pub(crate) fn put<P: Pages>(
 ) -> Result<Staged, StoreError>
     requires sound { spaces.IsSound space.old }
     requires staged { stages.IsStaged space.old txn.old catalog.old }
-    requires few { length (held txn.old) ≤ 24 }
+    requires few { length (held txn.old) ≤ 22 }
     requires there { id < length (series_in catalog.old) }
     requires some { 0 < length values.now }
     requires short { length values.now ≤ 256 }
-    requires within { slot + length values.now ≤ 2 ^ 28 }
+    requires within { slot + length values.now ≤ MOST_SLOTS }
+    requires last { IfSome (slice_get (series_in catalog.old) id) (λ one. EndsInTime one.start one.step (max one.tree.slots (slot + length values.now))) }
     requires values { All (λ value. is_too_large value ≡ false) values.now }
     // none of the slots before the last one is left as it is
     requires whole { IfSome (slice_get (series_in catalog.old) id) (λ one. (slot ≡ one.tree.slots) ⊎ All (λ value. IsSome value) values.now) }
@@ -64,7 +67,7 @@ pub(crate) fn clear_slots<P: Pages>(
 ) -> Result<Staged, StoreError>
     requires sound { spaces.IsSound space.old }
     requires staged { stages.IsStaged space.old txn.old catalog.old }
-    requires few { length (held txn.old) ≤ 24 }
+    requires few { length (held txn.old) ≤ 22 }
     requires there { id < length (series_in catalog.old) }
     requires some { 0 < count }
     requires short { count ≤ 4096 }

@@ -1,12 +1,13 @@
 //! The values of a tree are sent as texts, page by page.
-ghost use Rattle.std.specs.Prelude.{◌≡◌, ◌<◌, ◌≤◌, ◌+◌, ◌^◌, ◌++◌, ℕ, ℤ, List, [], Option, length, false, IfErr, OnOk};
+ghost use Rattle.std.specs.Prelude.{◌≡◌, ◌<◌, ◌≤◌, ◌+◌, ◌++◌, ℕ, ℤ, List, [], Option, length, false, IsTrue, IfErr, OnOk};
 ghost use Rattle.block_disk.specs.View.{View};
 ghost use Rattle.om3_coeff.specs.Keys.{first_slot, end_slot};
 ghost use Rattle.om3_coeff.specs.Spans.{AreSlots, IsProperIfAny, span};
 ghost use Rattle.path_repair.specs.Keeping.{IsMatched};
 ghost use Rattle.path_repair.specs.TreePages.{page_count};
 ghost use Rattle.tree_walk.specs.Trees.{top_of_page, IsTree};
-ghost use Rattle.series_store.specs.Sending.{said, IsGiven, GivesBy, Sends, IsTextCause, IsSendCause, SendsPart};
+ghost use Rattle.series_book.specs.declared.limits.TheConstants.{MOST_SLOTS};
+ghost use Rattle.series_store.specs.Sending.{said, first_said, IsGiven, GivesBy, Sends, IsTextCause, IsSendCause, SendsPart};
 
 use crate::counting::read_page;
 use crate::send_errors::SendError;
@@ -47,7 +48,7 @@ fn send_value<P: PageWorld, T: Texts>(
     texts: &T,
     out: &mut Vec<u8>,
 ) -> Result<(), SendError>
-    requires slot { slot < 2 ^ 28 }
+    requires within { slot < T.slots texts.now }
     ensures few { OnOk result (length out.new.items < 16384) }
     ensures sends { Sends (P.told space.old.pages) (P.told space.new.pages) (P.view space.old.pages) (P.view space.new.pages) (P.under space.old.pages) (P.under space.new.pages) space.old.superblock space.new.superblock }
     ensures reads { (P.view space.new.pages).reads ≡ (P.view space.old.pages).reads }
@@ -61,33 +62,40 @@ fn send_value<P: PageWorld, T: Texts>(
     send_waiting(space, out)
 }
 
-/// Whether something may be said of the slots of the page of this page level and index.
-fn may_say<T: Texts>(level: u8, index: u64, texts: &T) -> bool
-    requires level { level ≤ 4 }
-    requires few { end_slot (top_of_page level index) ≤ 2 ^ 28 }
-    ensures silent { result ≡ false → (slot : ℕ) (value : ℤ) → first_slot (top_of_page level index) ≤ slot → slot < end_slot (top_of_page level index) → T.text texts.now slot value ≡ [] }
+/// Whether something may be said of the slots of the page of this page level and index, among the first so many.
+fn may_say<T: Texts>(level: u8, index: u64, slots: u64, texts: &T) -> bool
+    requires level { level ≤ 5 }
+    requires few { end_slot (top_of_page level index) ≤ MOST_SLOTS }
+    requires slots { slots ≤ T.slots texts.now }
+    ensures silent { result ≡ false → (slot : ℕ) (value : ℤ) → first_slot (top_of_page level index) ≤ slot → slot < end_slot (top_of_page level index) → first_said slots (T.text texts.now) slot value ≡ [] }
+    ensures within { IsTrue result → first_slot (top_of_page level index) < slots }
 {
     let top = Key {
         level: 7 * level,
         index,
     };
-    texts.may_say(top.first(), top.end())
+    if top.first() >= slots {
+        return false;
+    }
+    texts.may_say(top.first(), top.end().min(slots))
 }
 
 /// Sends what is said of the values in the range of this page level and index, which has this span: of a
-/// slot, or of those below this page. What waits at the end is fewer bytes than a piece.
+/// slot, or of those below this page, and of none but the first so many slots. What waits at the end is fewer bytes than a piece.
 pub(crate) fn send_below<P: PageWorld, T: Texts>(
     space: &mut Space<P>,
     level: u8,
     index: u64,
+    slots: u64,
     page: u32,
     top: Option<Span>,
     texts: &T,
     out: &mut Vec<u8>,
 ) -> Result<(), SendError>
     requires sound { (P.view space.old.pages).fit }
-    requires level { level ≤ 4 }
-    requires range { end_slot (top_of_page level index) ≤ 2 ^ 28 }
+    requires level { level ≤ 5 }
+    requires range { end_slot (top_of_page level index) ≤ MOST_SLOTS }
+    requires slots { slots ≤ T.slots texts.now }
     requires page { page < space.old.superblock.total }
     requires proper { IsProperIfAny top }
     requires matched { 1 ≤ level → IsMatched page top }
@@ -96,12 +104,12 @@ pub(crate) fn send_below<P: PageWorld, T: Texts>(
     ensures sends { Sends (P.told space.old.pages) (P.told space.new.pages) (P.view space.old.pages) (P.view space.new.pages) (P.under space.old.pages) (P.under space.new.pages) space.old.superblock space.new.superblock }
     ensures cause { IfErr result (λ e. IsSendCause e (P.told space.old.pages) (P.view space.old.pages) (P.view space.new.pages) space.old.superblock.total level page top) }
     ensures part { (list : List (Option ℤ)) → P.told space.old.pages → AreSlots list → IsTree (P.view space.old.pages).image space.old.superblock.total list level index page → top ≡ span list (top_of_page level index)
-        → SendsPart (said (T.text texts.now) list) (first_slot (top_of_page level index)) (end_slot (top_of_page level index)) (page_count list level index) (P.view space.old.pages) (P.view space.new.pages) out.old.items out.new.items result }
+        → SendsPart (said (first_said slots (T.text texts.now)) list) (first_slot (top_of_page level index)) (end_slot (top_of_page level index)) (page_count list level index) (P.view space.old.pages) (P.view space.new.pages) out.old.items out.new.items result }
 {
     let Some(span) = top else {
         return Ok(());
     };
-    if !may_say(level, index, texts) {
+    if !may_say(level, index, slots, texts) {
         return Ok(());
     }
     if level == 0 {
@@ -114,7 +122,7 @@ pub(crate) fn send_below<P: PageWorld, T: Texts>(
         let under = child_of(&bytes, child);
         let part = spans.leaf(child);
         let at = 128 * index + child as u64;
-        send_below(space, level - 1, at, under, part, texts, out)?;
+        send_below(space, level - 1, at, slots, under, part, texts, out)?;
     }
     Ok(())
 }

@@ -12,7 +12,7 @@ pub struct SeriesInfo {
     pub step: u32,
     /// How many decimals a value has, 0 to 9.
     pub scale: u8,
-    /// How many slots there are, at most 2^28.
+    /// How many slots there are, at most 2^35; the last one stands at a time, at most at 2 * 10^18.
     pub slots: u64,
     /// The least and the greatest stored value; none where nothing is stored.
     pub span: Option<Span>,

@@ -24,7 +24,7 @@ use series_book::{Edit, Name, Outcome, Refusal, Values};
 use series_catalog::Catalog;
 
 /// Stages an edit. It is refused exactly where a refusal stands, with the first that does. It reads 96 blocks at
-/// most, and the transaction gets at most 39 pages more.
+/// most, and the transaction gets at most 41 pages more.
 pub(crate) fn stage<P: Pages>(
     space: &mut Space<P>,
     txn: &mut Txn,
@@ -33,7 +33,7 @@ pub(crate) fn stage<P: Pages>(
 ) -> Result<Staged, StoreError>
     requires sound { spaces.IsSound space.old }
     requires staged { stages.IsStaged space.old txn.old catalog.old }
-    requires few { length (held txn.old) ≤ 24 }
+    requires few { length (held txn.old) ≤ 22 }
     requires is_edit { IsEdit edit.now }
     ensures answered { stages.ForStaged space.old txn.old (λ total book. stages.AnswersSo (apply book total edit.now) (touch_of book edit.now) total result space.new txn.old txn.new) }
     ensures carried { stages.Stages result space.old space.new txn.old txn.new catalog.old catalog.new }
@@ -62,7 +62,7 @@ fn append<P: Pages>(
 ) -> Result<Staged, StoreError>
     requires sound { spaces.IsSound space.old }
     requires staged { stages.IsStaged space.old txn.old catalog.old }
-    requires few { length (held txn.old) ≤ 24 }
+    requires few { length (held txn.old) ≤ 22 }
     requires is_edit { IsEdit (Append name.now values.now) }
     ensures answered { stages.ForStaged space.old txn.old (λ total book. stages.AnswersSo (apply book total (Append name.now values.now)) (touch_of book (Append name.now values.now)) total result space.new txn.old txn.new) }
     ensures carried { stages.Stages result space.old space.new txn.old txn.new catalog.old catalog.new }
@@ -88,7 +88,7 @@ fn set<P: Pages>(
 ) -> Result<Staged, StoreError>
     requires sound { spaces.IsSound space.old }
     requires staged { stages.IsStaged space.old txn.old catalog.old }
-    requires few { length (held txn.old) ≤ 24 }
+    requires few { length (held txn.old) ≤ 22 }
     requires is_edit { IsEdit (Set name.now time values.now) }
     ensures answered { stages.ForStaged space.old txn.old (λ total book. stages.AnswersSo (apply book total (Set name.now time values.now)) (touch_of book (Set name.now time values.now)) total result space.new txn.old txn.new) }
     ensures carried { stages.Stages result space.old space.new txn.old txn.new catalog.old catalog.new }
@@ -115,7 +115,7 @@ fn clear<P: Pages>(
 ) -> Result<Staged, StoreError>
     requires sound { spaces.IsSound space.old }
     requires staged { stages.IsStaged space.old txn.old catalog.old }
-    requires few { length (held txn.old) ≤ 24 }
+    requires few { length (held txn.old) ≤ 22 }
     ensures answered { stages.ForStaged space.old txn.old (λ total book. stages.AnswersSo (apply book total (Clear name.now time count)) (touch_of book (Clear name.now time count)) total result space.new txn.old txn.new) }
     ensures carried { stages.Stages result space.old space.new txn.old txn.new catalog.old catalog.new }
     ensures none_cleared { stages.ForStaged space.old txn.old (λ total book. ClearsNone book (Clear name.now time count) → IfOk result (λ staged. staged.undo ≡ Undo.Nothing)) }

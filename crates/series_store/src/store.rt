@@ -4,6 +4,7 @@ ghost use Rattle.std.specs.Prelude.{◌≡◌, ◌<◌, ◌≤◌, ◌^◌, leng
 ghost use Rattle.block_disk.specs.View.{View};
 ghost use Rattle.om3_coeff.specs.Spans.{IsProperIfAny};
 ghost use Rattle.stored_book.proofs.TrailLemmas.{trail_prop};
+ghost use Rattle.series_book.specs.declared.limits.TheConstants.{MOST_SLOTS};
 ghost use Rattle.series_catalog.specs.Catalogs.{AreFit, AreAsTold};
 ghost use Rattle.series_catalog.specs.Shown.{series_in};
 ghost use Rattle.page_space.specs.Shown as spaces;
@@ -30,7 +31,7 @@ pub struct Store<P: Pages> {
     ghost fits: { AreFit (spaces.numbers space).fresh (series_in catalog) } by { Prim.hlevel props },
     ghost told: { spaces.IsSound space → spaces.IsTold space → AreAsTold (spaces.image space) (series_in catalog) },
     ghost whole: { spaces.IsSound space → spaces.IsTold space → AreCatalog (spaces.image space) (spaces.numbers space).fresh (spaces.numbers space).series },
-    ghost few: { tree.slots ≤ 2 ^ 28 },
+    ghost few: { tree.slots ≤ MOST_SLOTS },
     ghost root: { tree.root < spaces.total space },
     ghost proper: { IsProperIfAny tree.span } by { Prim.hlevel props },
     ghost trail_is: { IsTrail (spaces.IsTold space) (space_view (spaces.numbers space) (spaces.view space)) tree trail } by { trail_prop (spaces.IsTold space) (spaces.image space) (spaces.total space) tree trail.pages.items trail.len trail.asked },

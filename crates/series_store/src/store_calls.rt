@@ -4,6 +4,8 @@ ghost use Rattle.whole_number.specs.Range.{IsValue};
 ghost use Rattle.block_disk.specs.View.{View};
 ghost use Rattle.om3_coeff.specs.Spans.{IsProperIfAny};
 ghost use Rattle.om3_coeff.specs.View.{Agrees};
+ghost use Rattle.whole_number.specs.SlotTimes.{EndsInTime};
+ghost use Rattle.series_book.specs.declared.limits.TheConstants.{MOST_SLOTS};
 ghost use Rattle.series_book.specs.declared.one_series.Series.{Series};
 ghost use Rattle.series_book.specs.Edits.{id_of};
 ghost use Rattle.series_book.specs.Pages.{pages_of};
@@ -70,7 +72,9 @@ impl<P: Pages> Store<P> {
         ensures step { (1 ≤ result.step) × (result.step ≤ 2 ^ 31) }
         ensures start { IsValue result.start }
         ensures scale { result.scale ≤ 9 }
-        ensures slots { result.slots ≤ 2 ^ 28 }
+        ensures slots { result.slots ≤ MOST_SLOTS }
+        ensures last { EndsInTime result.start result.step result.slots }
+        ensures tree { (series : StoredSeries) → slice_get (shown.catalog self.now) id ≡ Some series → result.slots ≡ series.tree.slots }
         ensures proper { IsProperIfAny result.span }
         ensures none { result.slots ≡ 0 → result.span ≡ None }
         ensures info { shown.ForSoundSeries self.now id (λ total book series. IsInfo series id result) }
@@ -93,7 +97,8 @@ impl<P: Pages> Store<P> {
         ensures step { IfSome result (λ info. (1 ≤ info.step) × (info.step ≤ 2 ^ 31)) }
         ensures start { IfSome result (λ info. IsValue info.start) }
         ensures scale { IfSome result (λ info. info.scale ≤ 9) }
-        ensures slots { IfSome result (λ info. info.slots ≤ 2 ^ 28) }
+        ensures slots { IfSome result (λ info. info.slots ≤ MOST_SLOTS) }
+        ensures last { IfSome result (λ info. EndsInTime info.start info.step info.slots) }
         ensures proper { IfSome result (λ info. IsProperIfAny info.span) }
         ensures none { IfSome result (λ info. info.slots ≡ 0 → info.span ≡ None) }
         ensures info { shown.ForSoundBook self.now (λ total book. MatchOption result (id_of name.now book ≡ None) (IsFound name.now book)) }

@@ -1,5 +1,5 @@
 //! The texts of a series' values.
-ghost use Rattle.std.specs.Prelude.{◌≡◌, ◌≤◌, ◌<◌, ◌^◌, ◌++◌, ℕ, ℤ, List, [], false, OnOk, OnErr};
+ghost use Rattle.std.specs.Prelude.{◌≡◌, ◌≤◌, ◌<◌, ◌++◌, ℕ, ℤ, List, [], false, OnOk, OnErr};
 
 use series_book::NoMemory;
 
@@ -8,16 +8,19 @@ pub trait Texts {
     /// The text of the value that a slot holds.
     ghost text: { Self → ℕ → ℤ → List ℕ };
 
+    /// It may be asked for the texts of so many slots.
+    ghost slots: { Self → ℕ };
+
     /// Whether something may be said of slots from `first` on and below `end`. Where nothing may, their pages
     /// are passed over.
     fn may_say(&self, first: u64, end: u64) -> bool
         requires some { first < end }
-        requires few { end ≤ 2 ^ 28 }
+        requires within { end ≤ slots self.now }
         ensures silent { result ≡ false → (slot : ℕ) (value : ℤ) → first ≤ slot → slot < end → text self.now slot value ≡ [] };
 
     /// Appends the text of a value, whole or not at all.
     fn add(&self, slot: u64, value: i64, out: &mut Vec<u8>) -> Result<(), NoMemory>
-        requires few { slot < 2 ^ 28 }
+        requires within { slot < slots self.now }
         ensures added { OnOk result (out.new.items ≡ out.old.items ++ text self.now slot value) }
         ensures kept { OnErr result (out.new.items ≡ out.old.items) };
 }

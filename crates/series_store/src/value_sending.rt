@@ -1,11 +1,13 @@
 //! The values of a series are sent as texts.
-ghost use Rattle.std.specs.Prelude.{◌≡◌, ◌<◌, ◌≤◌, ◌+◌, ◌^◌, ◌++◌, ℤ, List, Option, length, IfErr, OnOk, OnErr};
+ghost use Rattle.std.specs.Prelude.{◌≡◌, ◌<◌, ◌≤◌, ◌+◌, ◌++◌, ℤ, List, Option, Some, length, slice_get, IfErr, OnOk, OnErr};
 ghost use Rattle.block_disk.specs.Streams.{sent_after, PartSent};
 ghost use Rattle.block_disk.specs.View.{View};
 ghost use Rattle.om3_coeff.specs.Keys.{page_levels};
 ghost use Rattle.om3_coeff.specs.Spans.{IsProperIfAny};
 ghost use Rattle.path_repair.specs.Keeping.{IsMatched};
+ghost use Rattle.series_book.specs.declared.limits.TheConstants.{MOST_SLOTS};
 ghost use Rattle.series_book.specs.Pages.{series_pages};
+ghost use Rattle.series_catalog.specs.declared.stored_series.StoredSeries.{StoredSeries};
 ghost use Rattle.tree_walk.specs.Trees.{StandsFor};
 ghost use Rattle.series_store.specs.Sending.{texts_of, Sends, SendsOn, IsSendCause, IsSeriesCause, IsNoDamage};
 ghost use Rattle.series_store.specs.Shown as shown;
@@ -27,7 +29,8 @@ fn send_tree<P: PageWorld, T: Texts>(
     out: &mut Vec<u8>,
 ) -> Result<(), SendError>
     requires sound { (P.view space.old.pages).fit }
-    requires slots { tree.slots ≤ 2 ^ 28 }
+    requires few_slots { tree.slots ≤ MOST_SLOTS }
+    requires slots { tree.slots ≤ T.slots texts.now }
     requires root { tree.root < space.old.superblock.total }
     requires proper { IsProperIfAny tree.span }
     requires matched { IsMatched tree.root tree.span }
@@ -43,7 +46,9 @@ fn send_tree<P: PageWorld, T: Texts>(
     ensures cause { IfErr result (λ e. IsSendCause e (P.told space.old.pages) (P.view space.old.pages) (P.view space.new.pages) space.old.superblock.total (page_levels tree.slots) tree.root tree.span) }
 {
     let levels = page_levels(tree.slots);
-    match send_below(space, levels, 0, tree.root, tree.span, texts, out) {
+    match send_below(
+        space, levels, 0, tree.slots, tree.root, tree.span, texts, out,
+    ) {
         Ok(()) => send_waiting(space, out),
         Err(SendError::Damaged { page }) => {
             // What is said of the values in front of the damage goes out, where it can.
@@ -58,11 +63,11 @@ impl<P: PageWorld> Store<P> {
     /// Sends the bytes of `out`, fewer than 16,384 of them, and behind them what `texts` says of each value of
     /// the series of this id, in the order of their slots. They go out in pieces: `out` never holds more than
     /// 16,384 bytes and a text. Each page of the series' tree is read once at most, and none where nothing
-    /// may be said of its slots.
+    /// may be said of its slots. A value that stands past the series' last slot is passed over.
     ///
     /// After an error a front of the bytes was sent. Each page that is read is checked; the first that is bad
-    /// for its place is `Damaged`, and what is said of the values in front of it was sent, unless a send failed. Where the pages stand for a book none is. Nothing is written, and the
-    /// selected series stays.
+    /// for its place is `Damaged`, and what is said of the values in front of it was sent, unless a send failed.
+    /// Where the pages stand for a book none is. Nothing is written, and the selected series stays.
     pub fn send_values<T: Texts>(
         &mut self,
         id: u16,
@@ -71,6 +76,7 @@ impl<P: PageWorld> Store<P> {
     ) -> Result<(), SendError>
         requires sound { (shown.view self.old).fit }
         requires there { id < length (shown.catalog self.old) }
+        requires slots { (series : StoredSeries) → slice_get (shown.catalog self.old) id ≡ Some series → series.tree.slots ≤ T.slots texts.now }
         requires few { length out.old.items < 16384 }
         ensures sent { shown.ForSeries self.old id (λ total book series.
             OnOk result (P.sent (shown.pages self.new) ≡ sent_after (out.old.items ++ texts_of (T.text texts.now) series.slots) (P.sent (shown.pages self.old)))) }

@@ -16,11 +16,12 @@ pub const MANY: u64 = 100_000;
 
 /// A store is made on the disk, or opened; or it is opened, and its series `a` is edited. That begins at
 /// time 0 with a step of 1. Values are so many from one on, each greater by one than the one before it; of a
-/// group each of its three appends has them.
+/// group each of its three appends has them. A store that is aged is of version 1 from then on.
 #[derive(Clone, Copy)]
 pub enum Deed {
     Make,
     Open,
+    Age,
     Create,
     Append(usize, i128),
     Group(usize, i128),
@@ -38,11 +39,11 @@ fn values(alloc: Global, count: usize, first: i128) -> Result<Values, Fail> {
 }
 
 impl Deed {
-    /// The edit of `a`, where the deed has one: making a store and opening one have none.
+    /// The edit of `a`, where the deed has one: making a store, opening one and aging it have none.
     pub fn edit(self, alloc: Global) -> Result<Option<Edit>, Fail> {
         let name = Name::new(alloc, b"a")?;
         let edit = match self {
-            Deed::Make | Deed::Open => return Ok(None),
+            Deed::Make | Deed::Open | Deed::Age => return Ok(None),
             Deed::Create => Edit::Create {
                 name,
                 start: 0,
@@ -186,15 +187,40 @@ pub fn bytes_of(alloc: Global, mut disk: MemDisk, from: u32) -> Result<Vec<u8>, 
     Ok(bytes)
 }
 
+fn set(image: &mut [u8], at: usize, byte: u8) {
+    if let Some(place) = image.get_mut(at) {
+        *place = byte;
+    }
+}
+
+/// Makes a store of version 2 with at most one series one of version 1: the magic, the kind of each page of
+/// the catalog, and the page levels of the series.
+fn age(image: &mut [u8]) {
+    set(image, 66 * BLOCK + 7, b'1');
+    for page in 67..83 {
+        set(image, page * BLOCK, 3);
+    }
+    set(image, 67 * BLOCK + 88, 0);
+}
+
+/// The bytes of a disk after a deed, which has to be done.
+fn behind(alloc: Global, mut image: Vec<u8>, deed: Deed) -> Result<Vec<u8>, Fail> {
+    if let Deed::Age = deed {
+        age(image.as_mut_slice());
+        return Ok(image);
+    }
+    let (done, disk) = run(alloc, image.as_slice(), deed, MANY, &[])?;
+    if !done {
+        return Err(Fail::new("not done"));
+    }
+    bytes_of(alloc, disk, 0)
+}
+
 /// The bytes of a disk of zeros after some deeds.
 pub fn after(alloc: Global, deeds: &[Deed]) -> Result<Vec<u8>, Fail> {
     let mut image = vec![in alloc; 0; 128 * BLOCK]?;
     for deed in deeds {
-        let (done, disk) = run(alloc, image.as_slice(), *deed, MANY, &[])?;
-        if !done {
-            return Err(Fail::new("not done"));
-        }
-        image = bytes_of(alloc, disk, 0)?;
+        image = behind(alloc, image, *deed)?;
     }
     Ok(image)
 }

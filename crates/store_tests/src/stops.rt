@@ -84,6 +84,14 @@ fn calls_behind(alloc: Global, image: &[u8], deed: Deed, tear: Tear) -> Result<u
 /// A series of 200 slots in two pages and a root.
 const FILLED: [Deed; 3] = [Deed::Make, Deed::Create, Deed::Append(200, 5)];
 
+/// The same in a store of version 1.
+const AGED: [Deed; 4] = [
+    Deed::Make,
+    Deed::Create,
+    Deed::Append(200, 5),
+    Deed::Age,
+];
+
 /// A change of six pages: three of slots, the root, that of its record and page 0.
 const CHANGE: Deed = Deed::Set(100, 200, -50);
 
@@ -134,22 +142,30 @@ fn half_done(alloc: Global) -> Result<Vec<u8>, Fail> {
     )
 }
 
-/// What is done before a deed that is stopped, and how many pages that deed changes.
-const STOPPED: [(&[Deed], Deed, u64); 6] = [
-    (&[], Deed::Make, 17),
-    (&[Deed::Make], Deed::Create, 2),
-    (&[Deed::Make, Deed::Create, FILL], GROWTH, 4),
-    (&[Deed::Make, Deed::Create, FILL, GROWTH], FREEING, 4),
-    (&FILLED, CHANGE, 6),
-    (&[Deed::Make, Deed::Create], GROUP, 6),
+/// What is done before a deed that is stopped, how many pages that deed changes, and how many it reads behind
+/// its commit: an opening that brings a store to version 2 goes on to read page 0 and the catalog.
+const STOPPED: [(&[Deed], Deed, u64, u64); 7] = [
+    (&[], Deed::Make, 17, 0),
+    (&[Deed::Make], Deed::Create, 2, 0),
+    (&[Deed::Make, Deed::Create, FILL], GROWTH, 4, 0),
+    (&[Deed::Make, Deed::Create, FILL, GROWTH], FREEING, 4, 0),
+    (&FILLED, CHANGE, 6, 0),
+    (&[Deed::Make, Deed::Create], GROUP, 6, 0),
+    (&AGED, Deed::Open, 17, 17),
 ];
 
-/// Behind the write that opens the gate come its sync, each page, a sync, the gate and a sync. A tear that
-/// keeps what was pending keeps the open gate before its sync too.
-fn turns_at_the_gate(alloc: Global, image: &[u8], deed: Deed, pages: u64) -> Result<(), Fail> {
+/// Behind the write that opens the gate come its sync, each page, a sync, the gate, a sync and so many reads. A
+/// tear that keeps what was pending keeps the open gate before its sync too.
+fn turns_at_the_gate(
+    alloc: Global,
+    image: &[u8],
+    deed: Deed,
+    pages: u64,
+    reads: u64,
+) -> Result<(), Fail> {
     for (tear, kept) in TEARS {
         let behind = calls_behind(alloc, image, deed, tear)?;
-        if behind != pages.saturating_add(3 + kept) {
+        if behind != pages.saturating_add(3 + kept).saturating_add(reads) {
             return Err(Fail::from((pages, tear, behind)));
         }
     }
@@ -159,9 +175,24 @@ fn turns_at_the_gate(alloc: Global, image: &[u8], deed: Deed, pages: u64) -> Res
 #[test]
 fn a_stop_leaves_the_pages_before_or_after(rt: HostRuntime) -> Result<(), Fail> {
     let alloc = rt.alloc();
-    for (before, deed, pages) in STOPPED {
+    for (before, deed, pages, reads) in STOPPED {
         let image = after(alloc, before)?;
-        turns_at_the_gate(alloc, image.as_slice(), deed, pages)?;
+        turns_at_the_gate(alloc, image.as_slice(), deed, pages, reads)?;
+    }
+    Ok(())
+}
+
+/// The opening of a store of version 1 leaves the pages that the same deeds leave in version 2.
+#[test]
+fn an_old_store_becomes_the_new_one(rt: HostRuntime) -> Result<(), Fail> {
+    let alloc = rt.alloc();
+    let new = after(alloc, &FILLED)?;
+    let old = after(alloc, &AGED)?;
+    let ends = ends_of(alloc, old.as_slice(), Deed::Open)?;
+    if !new.as_slice().ends_with(ends.after.as_slice())
+        || !old.as_slice().ends_with(ends.before.as_slice())
+    {
+        return Err(Fail::new("other pages"));
     }
     Ok(())
 }
@@ -228,7 +259,7 @@ fn faults_are_told(alloc: Global, image: &[u8], deed: Deed) -> Result<(), Fail> 
 #[test]
 fn a_fault_of_each_call_is_told(rt: HostRuntime) -> Result<(), Fail> {
     let alloc = rt.alloc();
-    for (before, deed, _) in STOPPED {
+    for (before, deed, _, _) in STOPPED {
         let image = after(alloc, before)?;
         faults_are_told(alloc, image.as_slice(), deed)?;
     }

@@ -15,6 +15,7 @@ use Rattle.path_repair.specs.Sums.{join_below}
 use Rattle.empty_store.specs.Stores.{IsEmptyStore, IsNewStore}
 use Rattle.stored_book.specs.Records.{pages_of_trees}
 use Rattle.stored_book.specs.Standing.{IsStore, StandsForBook, RecoversTo}
+use Rattle.stored_book.proofs.CurrentLemmas.{recovers_new}
 
 no_records : (p : ℕ) → records_of p 0 ≡ 0
 unfolding records_of
@@ -84,8 +85,4 @@ pub first_book : (count : ℕ) (image : Image) → 62 ≤ count → count < 2 ^ 
 first_book count image low small = empty_book count (empty_over count image) low small (first_over count image)
 
 pub new_recovers : (count : ℕ) (image : Image) → 62 ≤ count → count < 2 ^ 32 → IsNewStore count image → RecoversTo count image count []
-new_recovers count image low small new = record {
-  readable = new.readable;
-  within = omega arith;
-  stands = empty_book count (pages_of count image) low small new.store;
-}
+new_recovers count image low small new = recovers_new count image count [] new.readable (omega arith) (empty_book count (pages_of count image) low small new.store)

@@ -96,6 +96,7 @@ layout_later page count fresh fresh' more keeps = record {
       root = record { low = is.root.low; high = λ some. omega (arith, is.root.high some, more); none = is.root.none };
       min = is.min;
       max = is.max;
+      levels = is.levels;
       spare = is.spare;
     }
 

@@ -5,6 +5,7 @@ pub mod FrameLemmas
 pub mod NumberLemmas
 pub mod ChangedLemmas
 pub mod AddedLemmas
+pub mod CurrentLemmas
 pub mod EmptyLemmas
 pub mod OneBook
 pub mod TellingLemmas

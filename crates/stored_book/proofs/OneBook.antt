@@ -3,7 +3,6 @@ use Rattle.std.proofs.Common.{◌≡◌, ℕ, ℤ, ◌+◌, ◌-◌, ◌*◌, �
 use Rattle.std.proofs.lemmas.List.{same_lists}
 use Rattle.std.proofs.lemmas.Option.{same_Some, slice_get-get_or}
 use Rattle.block_disk.specs.View.{Image}
-use Rattle.gate_pages.specs.Journal.{pages_of}
 use Rattle.om3_coeff.specs.declared.key.Key.{Key}
 use Rattle.om3_coeff.specs.declared.span.Span.{Span}
 use Rattle.om3_coeff.specs.Keys.{height, IsKey}
@@ -21,7 +20,7 @@ use Rattle.catalog_page.specs.Entries.{Entry}
 use Rattle.path_repair.specs.Changes.{value_of, slot_at}
 use Rattle.path_repair.proofs.ListLemmas.{slot_span}
 use Rattle.stored_book.specs.Records.{entry, tree_of}
-use Rattle.stored_book.specs.Standing.{IsKept, IsStore, StandsForBook, RecoversTo}
+use Rattle.stored_book.specs.Standing.{IsKept, IsStore, StandsForBook, book_pages, RecoversTo}
 use Rattle.stored_book.proofs.NumberLemmas.{one_superblock}
 
 one_slot : (x y : Option ℤ) → span_of_slot x ≡ span_of_slot y → x ≡ y
@@ -111,7 +110,7 @@ one_total image total total' book book' stands stands' =
     ∙ stands.total_is
 
 pub recovered_total : (count : ℕ) (image : Image) (total total' : ℕ) (book book' : List Series) → RecoversTo count image total book → RecoversTo count image total' book' → total' ≡ total
-recovered_total count image total total' book book' is is' = one_total (pages_of count image) total total' book book' is.stands is'.stands
+recovered_total count image total total' book book' is is' = one_total (book_pages count image) total total' book book' is.stands is'.stands
 
 pub recovered_book : (count : ℕ) (image : Image) (total total' : ℕ) (book book' : List Series) → RecoversTo count image total book → RecoversTo count image total' book' → book' ≡ book
-recovered_book count image total total' book book' is is' = one_book (pages_of count image) total total' book book' is.stands is'.stands
+recovered_book count image total total' book book' is is' = one_book (book_pages count image) total total' book book' is.stands is'.stands

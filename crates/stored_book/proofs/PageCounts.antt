@@ -9,6 +9,7 @@ use Rattle.std.proofs.lemmas.List.{drop_all}
 use Rattle.om3_coeff.specs.declared.span.Span.{Span}
 use Rattle.om3_coeff.specs.Keys.{first_slot, end_slot, page_levels}
 use Rattle.om3_coeff.specs.Spans.{hull, span_of_slot, span_of, span_over, span}
+use Rattle.series_book.specs.declared.limits.TheConstants.{MOST_SLOTS}
 use Rattle.series_book.specs.Pages as pages
 use Rattle.series_book.specs.Pages.{count_below, range_has_value, ranges_with_value, level_pages, series_pages}
 use Rattle.series_book.proofs.PageLemmas.{count_below-past, count_below-same, range_has_value-past, page_levels_is}
@@ -36,6 +37,10 @@ four_levels : (n : ℕ) → 128 ^ 3 < n → n ≤ 128 ^ 4 → page_levels n ≡ 
 unfolding page_levels
 four_levels n low high = grind (arith, nat_tests)
 
+five_levels : (n : ℕ) → 128 ^ 4 < n → page_levels n ≡ 5
+unfolding page_levels
+five_levels n low = grind (arith, nat_tests)
+
 one_below : (n i : ℕ) → i < 2 → 128 ^ 1 < n → 128 ^ i < n
 one_below n zero few low = omega (arith, low)
 one_below n (suc zero) few low = low
@@ -54,20 +59,31 @@ three_below n (suc (suc zero)) few low = omega (arith, low)
 three_below n (suc (suc (suc zero))) few low = low
 three_below n (suc (suc (suc (suc i)))) few low = absurd (omega (arith, few))
 
-pub levels_same : (n : ℕ) → n ≤ 128 ^ 4 → pages.page_levels n ≡ page_levels n
+four_below : (n i : ℕ) → i < 5 → 128 ^ 4 < n → 128 ^ i < n
+four_below n zero few low = omega (arith, low)
+four_below n (suc zero) few low = omega (arith, low)
+four_below n (suc (suc zero)) few low = omega (arith, low)
+four_below n (suc (suc (suc zero))) few low = omega (arith, low)
+four_below n (suc (suc (suc (suc zero)))) few low = low
+four_below n (suc (suc (suc (suc (suc i))))) few low = absurd (omega (arith, few))
+
+pub levels_same : (n : ℕ) → n ≤ MOST_SLOTS → pages.page_levels n ≡ page_levels n
 levels_same n few = elim (cases_lt (128 ^ 1) n) [
   | inr one ↦ page_levels_is n 1 (omega arith) (omega arith) one (λ i from to. absurd (omega (arith, from, to))) ∙ sym (one_level n one)
   | inl past ↦ elim (cases_lt (128 ^ 2) n) [
     | inr two ↦ page_levels_is n 2 (omega arith) (omega arith) two (λ i from to. one_below n i to past) ∙ sym (two_levels n past two)
     | inl past' ↦ elim (cases_lt (128 ^ 3) n) [
       | inr three ↦ page_levels_is n 3 (omega arith) (omega arith) three (λ i from to. two_below n i to past') ∙ sym (three_levels n past' three)
-      | inl past'' ↦ page_levels_is n 4 (omega arith) (omega arith) few (λ i from to. three_below n i to past'') ∙ sym (four_levels n past'' few)
+      | inl past'' ↦ elim (cases_lt (128 ^ 4) n) [
+        | inr four ↦ page_levels_is n 4 (omega arith) (omega arith) four (λ i from to. three_below n i to past'') ∙ sym (four_levels n past'' four)
+        | inl past''' ↦ page_levels_is n 5 (omega arith) (omega arith) (omega (arith, few)) (λ i from to. four_below n i to past''') ∙ sym (five_levels n past''')
+      ]
     ]
   ]
 ]
 
 -- the slots of a list's levels are covered by one page of its highest
-pub levels_cover : (n : ℕ) → n ≤ 128 ^ 4 → n ≤ 128 ^ page_levels n
+pub levels_cover : (n : ℕ) → n ≤ MOST_SLOTS → n ≤ 128 ^ page_levels n
 levels_cover n few =
     let P : ℕ → Type 0 = λ k. n ≤ 128 ^ k in
     elim (cases_lt (128 ^ 1) n) [
@@ -76,7 +92,10 @@ levels_cover n few =
         | inr two ↦ subst P (sym (two_levels n past two)) two
         | inl past' ↦ elim (cases_lt (128 ^ 3) n) [
           | inr three ↦ subst P (sym (three_levels n past' three)) three
-          | inl past'' ↦ subst P (sym (four_levels n past'' few)) few
+          | inl past'' ↦ elim (cases_lt (128 ^ 4) n) [
+            | inr four ↦ subst P (sym (four_levels n past'' four)) four
+            | inl past''' ↦ subst P (sym (five_levels n past''')) (omega (arith, few))
+          ]
         ]
       ]
     ]
@@ -234,7 +253,7 @@ rows_are_levels list (suc level) n holds =
     )
 
 -- a list needs as many pages for its tree as for its book
-pub counts_same : (list : List (Option ℤ)) → length list ≤ 128 ^ 4 → page_count list (page_levels (length list)) 0 ≡ series_pages list
+pub counts_same : (list : List (Option ℤ)) → length list ≤ MOST_SLOTS → page_count list (page_levels (length list)) 0 ≡ series_pages list
 unfolding series_pages
 counts_same list few =
     let top = page_levels (length list) in

@@ -1,5 +1,5 @@
 -- The pages in use are as many as the book needs.
-use Rattle.std.proofs.Common.{◌≡◌, ℕ, ℤ, zero, suc, ◌+◌, ◌-◌, ◌^◌, ◌<◌, ◌≤◌, List, [], ◌∷◌, ◌++◌, length, take, Option, Some, sym, ap, sum_by, get_or, arith, ◌∙◌}
+use Rattle.std.proofs.Common.{◌≡◌, ℕ, ℤ, zero, suc, ◌+◌, ◌-◌, ◌<◌, ◌≤◌, List, [], ◌∷◌, ◌++◌, length, take, Option, Some, sym, ap, sum_by, get_or, arith, ◌∙◌}
 use Rattle.std.specs.List.{slice_get}
 use Rattle.std.proofs.lemmas.List.{length-append, take_all}
 use Rattle.std.proofs.lemmas.List.Sums.{sum_by_more}
@@ -11,6 +11,7 @@ use Rattle.page_space.specs.declared.superblock.Superblock.{Superblock}
 use Rattle.page_space.specs.Layout.{in_use}
 use Rattle.page_space.specs.Spaces.{once, Stands}
 use Rattle.page_space.proofs.Counting.{times_append, count_given}
+use Rattle.series_book.specs.declared.limits.TheConstants.{MOST_SLOTS}
 use Rattle.series_book.specs.declared.one_series.Series.{Series}
 use Rattle.series_book.specs.Edits.{with_slots}
 use Rattle.series_book.specs.Pages.{series_pages, pages_of}
@@ -51,7 +52,7 @@ sum_all {X} f g [] each = sum_none g
 sum_all {X} f g (x ∷ xs) each = sum_first f g (x ∷ xs) x (length (x ∷ xs)) each (omega arith) ∙ ap (sum_by f) (take_all (length (x ∷ xs)) (x ∷ xs) (omega arith))
 
 -- a tree has as many pages as the book says
-tree_has : (image : Image) (total : ℕ) (series : Series) (e : Entry) → length series.slots ≤ 128 ^ 4 → IsKept image total series e
+tree_has : (image : Image) (total : ℕ) (series : Series) (e : Entry) → length series.slots ≤ MOST_SLOTS → IsKept image total series e
     → length (tree_pages image (page_levels e.slots) e.root) ≡ series_pages series.slots
 tree_has image total series e few kept =
     ap (λ n. length (tree_pages image (page_levels n) e.root)) kept.tree.slots
@@ -77,7 +78,7 @@ few_in_use image total book stands =
 
 -- a tree that wants pages wants those that its book lacks
 pub full_book : (image : Image) (s : Superblock) (book : List Series) (id : ℕ) (series : Series) (slots : List (Option ℤ)) (needed have : ℕ)
-    → IsStore image s book → slice_get book id ≡ Some series → length slots ≤ 2 ^ 28 → IsFullFor s.total (in_use s) series.slots slots needed have
+    → IsStore image s book → slice_get book id ≡ Some series → length slots ≤ MOST_SLOTS → IsFullFor s.total (in_use s) series.slots slots needed have
     → (pages_of (with_slots book id series slots) ≡ needed) × (have ≡ s.total) × (s.total < needed)
 full_book image s book id series slots needed have is there few full =
     let old = counts_same series.slots (IsSeries-there book id series is.is_book there).slots_in_range in

@@ -10,6 +10,8 @@ use Rattle.catalog_page.specs.Layout.{KeepsLayout}
 use Rattle.catalog_page.specs.Places.{records_of}
 use Rattle.page_space.specs.declared.superblock.Superblock.{Superblock}
 use Rattle.page_space.specs.Spaces.{Stands}
+use Rattle.store_upgrade.specs.OldStores.{HasOldMagic, IsOldStore}
+use Rattle.store_upgrade.specs.Upgraded.{current}
 use Rattle.tree_walk.specs.Trees.{StandsFor}
 use Rattle.stored_book.specs.Records.{entry, tree_of, pages_of_trees}
 
@@ -46,8 +48,14 @@ pub record StandsForBook (image : Image) (total : ℕ) (book : List Series) : Ty
   pub total_is : superblock.total ≡ total
   pub store : IsStore image superblock book
 
--- a disk's image of so many pages stands for the book: its journal can be read, and its pages stand for the book
+-- the pages of a disk's image, in version 2
+abbrev pub book_pages : ℕ → Image → Image
+book_pages count image = current (pages_of count image)
+
+-- A disk's image of so many pages stands for the book: its journal can be read, a store of version 1 keeps its rules, and
+-- the pages, in version 2, stand for the book.
 pub record RecoversTo (count : ℕ) (image : Image) (total : ℕ) (book : List Series) : Type 0 where
   pub readable : IsReadable count image
   pub within : total ≤ count
-  pub stands : StandsForBook (pages_of count image) total book
+  pub old : HasOldMagic (pages_of count image 0) → IsOldStore (pages_of count image)
+  pub stands : StandsForBook (book_pages count image) total book

@@ -2,15 +2,19 @@
 ghost use Rattle.std.specs.Prelude.{◌≡◌, ◌≢◌, ◌≤◌, ◌<◌, ◌+◌, ◌^◌, ◌++◌, ◌∷◌, [], ℕ, ℤ, List, Option, None, Some, length, slice_get};
 ghost use Rattle.block_disk.specs.View.{Image};
 ghost use Rattle.catalog_page.specs.Entries.{Entry};
+ghost use Rattle.gate_pages.specs.GatePages.{IsReadable};
+ghost use Rattle.gate_pages.specs.Journal.{pages_of as disk_pages};
 ghost use Rattle.page_space.specs.declared.superblock.Superblock.{Superblock};
 ghost use Rattle.page_space.specs.Firsts.{empty_over};
-ghost use Rattle.page_space.specs.Layout.{superblock_page, in_use, with_series, IsSmall};
+ghost use Rattle.page_space.specs.Layout.{HasMagic, superblock_page, in_use, with_series, IsSmall};
 ghost use Rattle.path_repair.specs.Edited.{IsHeldTree, IsFullFor};
+ghost use Rattle.series_book.specs.declared.limits.TheConstants.{MOST_SLOTS};
 ghost use Rattle.series_book.specs.declared.one_series.Series.{Series};
 ghost use Rattle.series_book.specs.Books.{IsBook};
 ghost use Rattle.series_book.specs.Edits.{with_slots};
 ghost use Rattle.series_book.specs.Pages.{pages_of};
 ghost use Rattle.empty_store.specs.Stores.{IsEmptyStore, IsNewStore};
+ghost use Rattle.store_upgrade.specs.Upgraded.{current};
 ghost use Rattle.tree_walk.specs.declared.tree.Tree.{Tree};
 ghost use Rattle.stored_book.specs.Records.{entry, tree_of, pages_of_others};
 ghost use Rattle.stored_book.specs.Books.{book_of};
@@ -32,6 +36,14 @@ pub fn pages_tell_their_book()
 pub fn images_recover_to_one_book()
     ensures total { (count : ℕ) (image : Image) (total total' : ℕ) (book book' : List Series) → RecoversTo count image total book → RecoversTo count image total' book' → total' ≡ total }
     ensures book { (count : ℕ) (image : Image) (total total' : ℕ) (book book' : List Series) → RecoversTo count image total book → RecoversTo count image total' book' → book' ≡ book }
+{}
+
+/// Pages that stand for a book have the magic of version 2, so they are current. An image whose pages stand for a book
+/// recovers to it.
+pub fn books_stand_on_current_pages()
+    ensures magic { (image : Image) (total : ℕ) (book : List Series) → StandsForBook image total book → HasMagic (image 0) }
+    ensures current { (image : Image) (total : ℕ) (book : List Series) → StandsForBook image total book → current image ≡ image }
+    ensures recovers { (count : ℕ) (image : Image) (total : ℕ) (book : List Series) → IsReadable count image → total ≤ count → StandsForBook (disk_pages count image) total book → RecoversTo count image total book }
 {}
 
 /// Page 0 decides the numbers with which pages stand.
@@ -82,6 +94,6 @@ pub fn added_series_stand()
 /// Where a tree isn't changed for want of pages, the changed book needs so many.
 pub fn full_trees_are_full_books()
     ensures { (image : Image) (s : Superblock) (book : List Series) (id : ℕ) (series : Series) (slots : List (Option ℤ)) (needed have : ℕ)
-        → IsStore image s book → slice_get book id ≡ Some series → length slots ≤ 2 ^ 28 → IsFullFor s.total (in_use s) series.slots slots needed have
+        → IsStore image s book → slice_get book id ≡ Some series → length slots ≤ MOST_SLOTS → IsFullFor s.total (in_use s) series.slots slots needed have
         → (pages_of (with_slots book id series slots) ≡ needed) × (have ≡ s.total) × (s.total < needed) }
 {}

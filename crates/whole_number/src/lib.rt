@@ -13,6 +13,7 @@ ghost use Rattle.whole_number.specs.Spelling.{SpellsNatural, SpellsInteger};
 
 pub mod limits;
 pub mod numbers;
+pub mod slot_times;
 
 use crate::numbers::{integer_value, is_integer, is_natural, natural_value};
 

@@ -3,4 +3,4 @@ import sys
 from store_format import BLOCK, FIRST_PAGE
 
 # Page 0 has the magic of another format.
-sys.stdout.buffer.write(bytes(BLOCK * FIRST_PAGE) + b"CHARTST2")
+sys.stdout.buffer.write(bytes(BLOCK * FIRST_PAGE) + b"CHARTST3")

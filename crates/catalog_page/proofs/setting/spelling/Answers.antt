@@ -1,4 +1,4 @@
-use Rattle.std.proofs.Common.{inl, inr, rules}
+use Rattle.std.proofs.Common.{inl, inr, ◌∙◌, rules}
 use Rattle.std.specs.Prelude.{replicate}
 use Rattle.std.proofs.lemmas.List.{get_or-replicate}
 use Rattle.catalog_page.specs.Entries.{entry_of}
@@ -10,7 +10,7 @@ returns c =
     let e = entry_of c.args.series.now in
     let b1 = c.set_numbers.new.bytes in
     let b2 = c.set_span.new.bytes in
-    let b3 = c.set_front.new.bytes in
+    let b3 = c.set_small.new.bytes in
     spelled e (replicate 96 0) b1 b2 b3 c.put.new.bytes (record {
       short = c.requires.named;
       blank = λ k low. get_or-replicate 96 k 0 0 low;
@@ -24,10 +24,11 @@ returns c =
       max = c.set_span.ensures.max;
       below = λ k low. c.set_span.ensures.rest k (inl low);
       above = λ k high. c.set_span.ensures.rest k (inr high);
-      whole = c.set_front.ensures.whole;
-      used = c.set_front.ensures.used;
+      whole = c.set_small.ensures.whole;
+      used = c.set_small.ensures.used;
       len = search rules;
-      scale = c.set_front.ensures.scale;
-      rest = c.set_front.ensures.rest;
+      scale = c.set_small.ensures.scale;
+      levels = c.set_small.ensures.levels ∙ c.page_levels.ensures.levels;
+      rest = c.set_small.ensures.rest;
       named = c.put.ensures;
     })

@@ -1,4 +1,4 @@
-use Rattle.std.proofs.Common.{◌≡◌, ◌∙◌, ℕ, List, Err, ap, sym, subst, arith}
+use Rattle.std.proofs.Common.{◌≡◌, ◌∙◌, List, ap, sym, subst, arith}
 use Rattle.block_disk.specs.View.{Image, sent_now}
 use Rattle.chart_frames.specs.declared.frame.Frame.{Frame}
 use Rattle.series_book.specs.EditLists.{after_edits}

@@ -1,11 +1,31 @@
-use Rattle.std.proofs.Common.{sym, ◌∙◌, refl, arith}
+use Rattle.std.proofs.Common.{ℕ, ℤ, sym, ap, subst, ◌∙◌, refl, arith}
+use Rattle.chart_frames.specs.Frames.{IsAxis}
 use Rattle.om3_coeff.specs.View.{NodesView}
+use Rattle.whole_number.specs.SlotTimes.{EndsInTime}
+use Rattle.tree_walk.specs.declared.tree.Tree.{Tree}
 use Rattle.tree_walk.specs.PagedNodes.{ground, paged_view}
 use Rattle.series_store.proofs.AskLemmas.{own_store, start_same}
 use Rattle.series_store.specs.Shown as stored
 use Rattle.chart_service.proofs.SelectLemmas.{there, axis_so, whole, none_stored}
 use Rattle.chart_service.proofs.Showing.{stored_fits}
 use Rattle.chart_service.proofs.selecting.selected.Goals as goal
+
+pub returns-clause-axis : goal.returns-clause-axis
+returns-clause-axis g c =
+    let info = c.info-info in
+    let start = info.result.start in
+    let step = info.result.step in
+    let one = there (stored.catalog c.args.store.now) c.args.id c.requires in
+    let count = info.ensures.tree one.0 one.1 ∙ sym (ap (λ (t : Tree). t.slots) (c.select.ensures.slots one.0 one.1)) ∙ sym c.slots.ensures.slots in
+    let A : ℤ → Type 0 = λ at. IsAxis at step c.slots.result in
+    let E : ℕ → Type 0 = λ slots. EndsInTime start step slots in
+    subst A (sym (start_same start info.ensures.start)) (record {
+      first = info.ensures.start;
+      least = info.ensures.step.0;
+      most = info.ensures.step.1;
+      limit = omega (arith, info.ensures.slots, count);
+      last = subst E count info.ensures.last;
+    })
 
 pub returns-clause-stored : goal.returns-clause-stored
 returns-clause-stored g c =

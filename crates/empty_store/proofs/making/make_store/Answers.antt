@@ -3,6 +3,7 @@ use Rattle.std.proofs.lemmas.Result.{IfErr-weaker}
 use Rattle.block_disk.specs.View.{Image, Honest}
 use Rattle.gate_pages.specs.Journal.{page_count, pages_of}
 use Rattle.page_space.specs.Layout.{HasMagic}
+use Rattle.store_upgrade.specs.Upgraded.{current}
 use Rattle.empty_store.specs.Kept.{LeavesOld}
 use Rattle.gate_pages.specs.Openings.{Explains, Leaves, LeftBroken}
 use Rattle.gate_pages.specs.declared.errors.OpenCause.{OpenCause}
@@ -58,8 +59,8 @@ returns-in-Ok-clause-kept g c = λ honest there.
     let mid = c.in-Ok.pages in
     let made = given c.make_pages.result in
     let Q : g.row.D.Denot → Type 0 = λ disk. LeavesOld (page_count old.size) old (view disk) in
-    let M : ℕ → Type 0 = λ n. HasMagic (pages_of n old.image 0) in
-    let I : Image → Type 0 = λ pages. HasMagic (pages 0) in
+    let M : ℕ → Type 0 = λ n. HasMagic (current (pages_of n old.image) 0) in
+    let I : Image → Type 0 = λ pages. HasMagic (current pages 0) in
     let magic = subst I (sym (opened.pages honest)) (subst M (sym opened.count) there.magic) in
     subst Q (given_of c.make_pages.result c.on_disk.result c.on_disk.ensures.disk)
     (kept_made (page_count old.size) mid.count made.count mid.sound made.sound old (view mid.disk) (view made.disk) opened.count c.make_pages.ensures.size honest opened.moments (opened.pages honest)

@@ -1,4 +1,5 @@
 use Rattle.std.proofs.Common.{ℕ, List, ◌+◌, ◌*◌, ◌-◌, ◌≤◌}
+use Rattle.series_book.specs.declared.limits.TheConstants.{MOST_SERIES, MOST_SLOTS}
 use Rattle.series_book.specs.declared.one_series.Series.{Series}
 use Rattle.series_store.specs.Shown as shown
 use Rattle.stored_book.specs.Standing.{StandsForBook}
@@ -16,4 +17,4 @@ invariant-clearing g l = record {
 }
 
 abbrev pub decreases-clearing : goal.decreases-clearing
-decreases-clearing g l = 137438953472 - l.clears
+decreases-clearing g l = MOST_SERIES * MOST_SLOTS - l.clears

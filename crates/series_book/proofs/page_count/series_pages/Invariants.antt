@@ -7,7 +7,7 @@ abbrev pub invariant-loop : goal.invariant-loop
 invariant-loop l = record {
   size : l.size ≡ PAGE_SLOTS ^ l.counter;
   end : l.end ≡ page_levels (length l.slots);
-  few_levels : l.end ≤ 4;
+  few_levels : l.end ≤ 5;
   pages : l.pages ≡ level_pages l.counter l.slots;
   few : l.pages ≤ l.counter * length l.slots;
 }

@@ -1,8 +1,6 @@
 use Rattle.std.proofs.Common.{◌≡◌, ◌-◌, ◌≤◌, ◌<◌, ℕ, length}
-use Rattle.gate_pages.specs.Pages.{GoesOn}
 use Rattle.catalog_page.specs.Layout.{KeepsLayout}
 use Rattle.catalog_page.specs.Places.{records_of}
-use Rattle.path_repair.specs.Standing.{ReadsMost}
 use Rattle.series_catalog.specs.Catalogs.{AreAsTold}
 use Rattle.series_catalog.specs.Reading.{AreRead}
 use Rattle.series_catalog.specs.Shown.{ReadsUpTo, series_in}

@@ -1,5 +1,6 @@
 use Rattle.series_book.specs.declared.refusals.Refusal.TheVariants.{SeriesExists, TooManySeries}
-use Rattle.std.proofs.Common.{◌≡◌, ℕ, ◌++◌, ◌∷◌, [], ℤ, List, length, Ok, Err, refl, to_z, of_z, sym, ap, subst, ◌∙◌, arith}
+use Rattle.std.proofs.Common.{◌≡◌, ℕ, ◌++◌, ◌∷◌, [], ℤ, List, length, IsTrue, Ok, Err, refl, to_z, of_z, sym, ap, subst, ◌∙◌, arith}
+use Rattle.series_book.specs.Names.{is_name}
 use Rattle.std.specs.Option.{is_some}
 use Rattle.std.specs.Int.{w64}
 use Rattle.std.proofs.lemmas.Int.{to_z-of_z}
@@ -15,7 +16,7 @@ use Rattle.series_catalog.specs.declared.stored_series.StoredSeries.{StoredSerie
 use Rattle.stored_book.specs.Standing.{IsStore}
 use Rattle.series_book.specs.declared.one_series.Series.{Series}
 use Rattle.series_book.specs.Books.{IsBook}
-use Rattle.series_store.proofs.CreateLemmas.{is_new_series, created_answer}
+use Rattle.series_store.proofs.CreateLemmas.{is_new_series, is_new_entry, created_answer}
 use Rattle.series_store.proofs.creating.create.Goals as goal
 
 pub returns-then-is_some-clause-answered : goal.returns-then-is_some-clause-answered
@@ -40,6 +41,11 @@ returns-then-len-ge-MOST_SERIES-clause-answered g c = λ total book is stands.
     let many : length items ≡ length book = as_many (left_by txn base) txn.superblock book items store c.requires.staged.catalog.count in
     staged_error (created book (record { name = c.args.name.now; start = c.args.start; step = c.args.step; scale = c.args.scale; slots = [] })) 0 total (Err (Refused TooManySeries)) (Refused TooManySeries) txn txn (left_by txn base) refl
     (created-full book _ (there ∙ sym c.is_some.ensures ∙ c.if-is_some.false) (omega (arith, many, c.len.ensures.count, c.if-len-ge-MOST_SERIES.true))) (λ same. refl)
+
+pub add_series-requires-clause-entry : goal.add_series-requires-clause-entry
+add_series-requires-clause-entry g c =
+    is_new_entry c.args.txn.now.superblock.fresh c.in_ok-copy.field-0 c.args.start (to_z w64 (of_z w64 c.args.start)) c.args.step c.args.scale (to_z-of_z w64 c.args.start c.ranges.start)
+    (let N : List ℕ → Type 0 = λ name. IsTrue (is_name name) in subst N (sym c.in_ok-copy.ensures.equal) c.in_ok-copy.ensures.named) c.requires.is_edit
 
 pub returns-clause-answered : goal.returns-clause-answered
 returns-clause-answered g c = λ total book is stands.

@@ -11,12 +11,13 @@ use Rattle.series_catalog.specs.declared.stored_series.StoredSeries.{StoredSerie
 use Rattle.stored_book.specs.Changing.{IsTreeChanged}
 use Rattle.stored_book.specs.Records.{entry, pages_of_others}
 use Rattle.stored_book.specs.Standing.{IsStore, StandsForBook}
+use Rattle.path_repair.proofs.EditLemmas.{levels_few}
 use Rattle.series_store.specs.Changing.{IsRefusedBy, with_cleared}
 use Rattle.series_store.specs.Errors.{error_of}
 use Rattle.series_store.specs.Groups.{touched_slots}
 use Rattle.series_store.specs.Staging.{IsPartChanged, IsRefusal}
 use Rattle.series_store.proofs.CarryLemmas.{names_below}
-use Rattle.series_store.proofs.ChangeLemmas.{root_below, levels_four, own_tree, clear_edited}
+use Rattle.series_store.proofs.ChangeLemmas.{root_below, own_tree, clear_edited}
 use Rattle.series_store.proofs.StageLemmas.{clear_touch}
 use Rattle.series_store.proofs.RecordLemmas.{known_some}
 use Rattle.series_store.proofs.StageLemmas.{later_staged, staged_error, staged_saved, staged_store, staging_error, staging_saved}
@@ -43,7 +44,7 @@ pub clear_run-requires-clause-room : goal.clear_run-requires-clause-room
 clear_run-requires-clause-room g c =
     let tree = c.series.result.now.tree in
     let few = (c.requires.staged.catalog.fits c.args.id c.series.result.now c.series.ensures).slots in
-    omega (arith, c.requires.few, clear_puts c.args.slot c.args.count tree.slots c.requires.short, levels_four tree.slots (omega (arith, few)))
+    omega (arith, c.requires.few, clear_puts c.args.slot c.args.count tree.slots c.requires.short, levels_few tree.slots)
 
 pub save-requires-clause-staged : goal.save-requires-clause-staged
 save-requires-clause-staged g c =
@@ -73,8 +74,8 @@ save-requires-clause-room g c =
     let tree = one.tree in
     let items : List StoredSeries = c.args.catalog.now.series.items in
     let fewer = (c.requires.staged.catalog.fits c.args.id one c.series.ensures).slots in
-    let four = levels_four tree.slots (omega (arith, fewer)) in
-    omega (arith, c.requires.few, c.clear_run.ensures.moved.held, clear_puts c.args.slot c.args.count tree.slots c.requires.short, four)
+    let five = levels_few tree.slots in
+    omega (arith, c.requires.few, c.clear_run.ensures.moved.held, clear_puts c.args.slot c.args.count tree.slots c.requires.short, five)
 
 pub returns-in_err-tree-clause-carried : goal.returns-in_err-tree-clause-carried
 returns-in_err-tree-clause-carried g c =
@@ -89,10 +90,10 @@ returns-in_err-tree-clause-carried g c =
     let tree = one.tree in
     let items : List StoredSeries = c.args.catalog.now.series.items in
     let fewer = (c.requires.staged.catalog.fits c.args.id one c.series.ensures).slots in
-    let four = levels_four tree.slots (omega (arith, fewer)) in
+    let five = levels_few tree.slots in
     let puts = clear_puts c.args.slot c.args.count tree.slots c.requires.short in
     staging_error (told old.pages) (told mid.pages) (view old.pages) (view mid.pages) (under old.pages) (under mid.pages) old.superblock mid.superblock txn changed items c.from_residual.result c.in_err-tree.field-0.0
-    (omega (arith, puts, four)) (omega (arith, puts, four)) c.from_residual.ensures.1 c.clear_run.ensures.moved (λ t. c.clear_run.ensures.catalog (view old.pages).image (record { are_told = t; are = refl })) c.requires.staged c.in_err-tree.ensures.cause
+    (omega (arith, puts, five)) (omega (arith, puts, five)) c.from_residual.ensures.1 c.clear_run.ensures.moved (λ t. c.clear_run.ensures.catalog (view old.pages).image (record { are_told = t; are = refl })) c.requires.staged c.in_err-tree.ensures.cause
     (names_below (told old.pages) (view old.pages).image txn c.args.id one c.in_err-tree.field-0.0 (omega (arith, c.requires.there, c.requires.staged.catalog.count)) c.requires.staged.catalog.small
     (λ t. c.requires.staged.catalog.are_told t c.args.id one c.series.ensures) (λ t. c.in_err-tree.ensures.stored (view old.pages).image (record { are_told = t; are = refl })))
 
@@ -109,11 +110,11 @@ returns-clause-carried g c =
     let tree = one.tree in
     let items : List StoredSeries = c.args.catalog.now.series.items in
     let fewer = (c.requires.staged.catalog.fits c.args.id one c.series.ensures).slots in
-    let four = levels_four tree.slots (omega (arith, fewer)) in
+    let five = levels_few tree.slots in
     let puts = clear_puts c.args.slot c.args.count tree.slots c.requires.short in
     let new = c.save.new.space in
     staging_saved (told old.pages) (told mid.pages) (told new.pages) (view old.pages) (view mid.pages) (view new.pages) (under old.pages) (under mid.pages) (under new.pages) old.superblock mid.superblock new.superblock txn changed c.save.new.txn
-    items c.save.new.catalog.series.items c.in_ok-tree.tree.slots c.save.result (omega (arith, puts, four)) (omega (arith, puts, four)) (omega (arith, c.in_ok-tree.ensures.tree.slots_are, fewer))
+    items c.save.new.catalog.series.items c.in_ok-tree.tree.slots c.save.result (omega (arith, puts, five)) (omega (arith, puts, five)) (omega (arith, c.in_ok-tree.ensures.tree.slots_are, fewer))
     c.clear_run.ensures.moved c.save.ensures.reads c.save.ensures.goes_on c.save.ensures.space c.save.ensures.superblock c.save.ensures.len c.save.ensures.error c.save.ensures.cause c.save.ensures.kept c.save.ensures.back
     c.save.ensures.staged c.save.ensures.slots
 

@@ -12,12 +12,13 @@ use Rattle.series_catalog.specs.declared.stored_series.StoredSeries.{StoredSerie
 use Rattle.stored_book.specs.Changing.{IsTreeChanged}
 use Rattle.stored_book.specs.Records.{entry, pages_of_others}
 use Rattle.stored_book.specs.Standing.{IsStore, StandsForBook}
+use Rattle.path_repair.proofs.EditLemmas.{levels_few}
 use Rattle.series_store.specs.Errors.{error_of}
 use Rattle.series_store.specs.Groups.{touched_slots}
 use Rattle.series_store.specs.Staging.{IsPartChanged}
 use Rattle.series_store.proofs.AnswerLemmas.{fits_within, tree_refused}
 use Rattle.series_store.proofs.CarryLemmas.{names_below}
-use Rattle.series_store.proofs.ChangeLemmas.{root_below, levels_four, own_tree, put_edited}
+use Rattle.series_store.proofs.ChangeLemmas.{root_below, own_tree, put_edited}
 use Rattle.series_store.proofs.RecordLemmas.{known_some}
 use Rattle.series_store.proofs.SlotLemmas.{are_values}
 use Rattle.series_store.proofs.StageLemmas.{full_same, later_staged, staged_error, staged_saved, staged_store, staging_error, staging_saved}
@@ -43,7 +44,7 @@ put_run-requires-clause-room g c =
     let long : ℕ = length c.args.values.now in
     let n : ℕ = max tree.slots (c.args.slot + long) in
     let few = (c.requires.staged.catalog.fits c.args.id c.series.result.now c.series.ensures).slots in
-    omega (arith, c.requires.few, run_puts c.args.slot long tree.slots n c.requires.short, levels_four n (omega (arith, few, c.requires.within)))
+    omega (arith, c.requires.few, run_puts c.args.slot long tree.slots n c.requires.short, levels_few n)
 
 pub save-requires-clause-staged : goal.save-requires-clause-staged
 save-requires-clause-staged g c =
@@ -75,8 +76,8 @@ save-requires-clause-room g c =
     let long : ℕ = length c.args.values.now in
     let n : ℕ = max tree.slots (c.args.slot + long) in
     let fewer = (c.requires.staged.catalog.fits c.args.id one c.series.ensures).slots in
-    let four = levels_four n (omega (arith, fewer, c.requires.within)) in
-    omega (arith, c.requires.few, c.put_run.ensures.moved.held, run_puts c.args.slot long tree.slots n c.requires.short, four)
+    let five = levels_few n in
+    omega (arith, c.requires.few, c.put_run.ensures.moved.held, run_puts c.args.slot long tree.slots n c.requires.short, five)
 
 pub returns-in_err-tree-clause-carried : goal.returns-in_err-tree-clause-carried
 returns-in_err-tree-clause-carried g c =
@@ -93,10 +94,10 @@ returns-in_err-tree-clause-carried g c =
     let long : ℕ = length c.args.values.now in
     let n : ℕ = max tree.slots (c.args.slot + long) in
     let fewer = (c.requires.staged.catalog.fits c.args.id one c.series.ensures).slots in
-    let four = levels_four n (omega (arith, fewer, c.requires.within)) in
+    let five = levels_few n in
     let puts = run_puts c.args.slot long tree.slots n c.requires.short in
     staging_error (told old.pages) (told mid.pages) (view old.pages) (view mid.pages) (under old.pages) (under mid.pages) old.superblock mid.superblock txn changed items c.from_residual.result c.in_err-tree.field-0.0
-    (omega (arith, puts, four)) (omega (arith, puts, four)) c.from_residual.ensures.1 c.put_run.ensures.moved (λ t. c.put_run.ensures.catalog (view old.pages).image (record { are_told = t; are = refl })) c.requires.staged c.in_err-tree.ensures.cause
+    (omega (arith, puts, five)) (omega (arith, puts, five)) c.from_residual.ensures.1 c.put_run.ensures.moved (λ t. c.put_run.ensures.catalog (view old.pages).image (record { are_told = t; are = refl })) c.requires.staged c.in_err-tree.ensures.cause
     (names_below (told old.pages) (view old.pages).image txn c.args.id one c.in_err-tree.field-0.0 (omega (arith, c.requires.there, c.requires.staged.catalog.count)) c.requires.staged.catalog.small
     (λ t. c.requires.staged.catalog.are_told t c.args.id one c.series.ensures) (λ t. c.in_err-tree.ensures.stored (view old.pages).image (record { are_told = t; are = refl })))
 
@@ -115,11 +116,11 @@ returns-clause-carried g c =
     let long : ℕ = length c.args.values.now in
     let n : ℕ = max tree.slots (c.args.slot + long) in
     let fewer = (c.requires.staged.catalog.fits c.args.id one c.series.ensures).slots in
-    let four = levels_four n (omega (arith, fewer, c.requires.within)) in
+    let five = levels_few n in
     let puts = run_puts c.args.slot long tree.slots n c.requires.short in
     let new = c.save.new.space in
     staging_saved (told old.pages) (told mid.pages) (told new.pages) (view old.pages) (view mid.pages) (view new.pages) (under old.pages) (under mid.pages) (under new.pages) old.superblock mid.superblock new.superblock txn changed c.save.new.txn
-    items c.save.new.catalog.series.items c.in_ok-tree.tree.slots c.save.result (omega (arith, puts, four)) (omega (arith, puts, four)) (omega (arith, c.in_ok-tree.ensures.tree.slots_are, fewer, c.requires.within))
+    items c.save.new.catalog.series.items c.in_ok-tree.tree.slots c.save.result (omega (arith, puts, five)) (omega (arith, puts, five)) (omega (arith, c.in_ok-tree.ensures.tree.slots_are, fewer, c.requires.within))
     c.put_run.ensures.moved c.save.ensures.reads c.save.ensures.goes_on c.save.ensures.space c.save.ensures.superblock c.save.ensures.len c.save.ensures.error c.save.ensures.cause c.save.ensures.kept c.save.ensures.back
     c.save.ensures.staged c.save.ensures.slots
 
@@ -143,7 +144,7 @@ returns-in_err-tree-clause-answered g c = λ total book series told' stands foun
     let W : StoredSeries → Type 0 = λ one. (c.args.slot ≡ one.tree.slots) ⊎ All (λ value. IsSome value) run in
     let whole : W one = known_some (slice_get items c.args.id) one W c.series.ensures c.requires.whole in
     let slots : List (Option ℤ) = overwritten series.slots c.args.slot run in
-    let edited = put_edited before txn.superblock book c.args.id series one c.args.slot run store.0 found says c.requires.values c.requires.within whole in
+    let edited = put_edited before txn.superblock book c.args.id series one c.args.slot run store.0 found says c.requires.values whole in
     let held_tree = own_tree before txn.superblock book c.args.id series one store.0 found says in
     let answer : Result Edited Refusal = within total book c.args.id series (Ok slots) in
     let error = c.in_err-tree.ensures.errors (view old.pages).image txn.superblock.total series.slots slots (pages_of_others before (length book) c.args.id) (record { are_told = told'; are = refl }) held_tree edited in
@@ -170,7 +171,7 @@ returns-clause-answered g c = λ total book series told' stands found.
     let W : StoredSeries → Type 0 = λ one. (c.args.slot ≡ one.tree.slots) ⊎ All (λ value. IsSome value) run in
     let whole : W one = known_some (slice_get items c.args.id) one W c.series.ensures c.requires.whole in
     let slots : List (Option ℤ) = overwritten series.slots c.args.slot run in
-    let edited = put_edited before txn.superblock book c.args.id series one c.args.slot run store.0 found says c.requires.values c.requires.within whole in
+    let edited = put_edited before txn.superblock book c.args.id series one c.args.slot run store.0 found says c.requires.values whole in
     let held_tree = own_tree before txn.superblock book c.args.id series one store.0 found says in
     let answer : Result Edited Refusal = within total book c.args.id series (Ok slots) in
     let new = c.save.new.space in

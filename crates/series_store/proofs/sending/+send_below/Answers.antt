@@ -1,4 +1,4 @@
-use Rattle.std.proofs.Common.{rules, ◌≡◌, ◌-◌, ◌<◌, suc, is_some, Option, Some, List, ◌++◌, ℕ, ℤ, sym, ap, subst, arith, ◌∙◌}
+use Rattle.std.proofs.Common.{rules, ◌≡◌, ◌-◌, ◌<◌, suc, is_some, Option, Some, List, ◌++◌, ℕ, ℤ, to_z, of_z, w64, sym, ap, subst, arith, ◌∙◌}
 use Rattle.om3_coeff.specs.declared.span.Span.{Span}
 use Rattle.om3_coeff.specs.Keys.{first_slot, end_slot}
 use Rattle.om3_coeff.specs.Spans.{IsProper, IsProperIfAny}
@@ -9,22 +9,26 @@ use Rattle.path_repair.specs.Damage.{AreBelow}
 use Rattle.path_repair.specs.TreePages.{page_count}
 use Rattle.tree_walk.specs.Trees.{top_of_page}
 use Rattle.tree_walk.proofs.StepLemmas.{error_so}
-use Rattle.series_store.specs.Sending.{said, IsGiven, GivesBy, IsSendCause, send_error_of}
+use Rattle.series_book.specs.declared.limits.TheConstants.{MOST_SLOTS}
+use Rattle.series_store.specs.Sending.{said, first_said, IsGiven, GivesBy, IsSendCause, send_error_of}
 use Rattle.series_store.specs.declared.send_errors.SendError.{SendError}
 use Rattle.series_store.proofs.AskLemmas.{start_same}
 use Rattle.series_store.proofs.TreeCountLemmas.{is_there, child_matched, nodes_of, children_below}
-use Rattle.series_store.proofs.SendLemmas.{part_silent, said_none, said_silent, part_order, part_value, no_damage_by, value_cause_by, page_send_cause, child_send_cause, sends_then, send_start, send_on, child_range, stops_by, none_by, send_end}
+use Rattle.series_store.proofs.SendLemmas.{is_said, slot_there, by_as, part_silent, said_none, said_silent, part_order, part_value, no_damage_by, value_cause_by, page_send_cause, child_send_cause, sends_then, send_start, send_on, child_range, stops_by, none_by, send_end}
 use Rattle.series_store.proofs.sending.+send_below.Goals as goal
 
 pub returns-in_default-clause-part : goal.returns-in_default-clause-part
 returns-in_default-clause-part g t c = λ list told slots tree top.
-    part_silent (said (g.T.Texts.text c.args.texts.now) list) (first_slot (top_of_page c.args.level c.args.index)) (end_slot (top_of_page c.args.level c.args.index)) (page_count list c.args.level c.args.index) (g.P.Pages.view c.args.space.now.pages) c.args.out.now.items (part_order c.args.level c.args.index)
-    (said_none (g.T.Texts.text c.args.texts.now) list c.args.level c.args.index (sym top ∙ c.in_default.is))
+    part_silent (said (first_said c.args.slots (g.T.Texts.text c.args.texts.now)) list) (first_slot (top_of_page c.args.level c.args.index)) (end_slot (top_of_page c.args.level c.args.index)) (page_count list c.args.level c.args.index) (g.P.Pages.view c.args.space.now.pages) c.args.out.now.items (part_order c.args.level c.args.index)
+    (said_none (first_said c.args.slots (g.T.Texts.text c.args.texts.now)) list c.args.level c.args.index (sym top ∙ c.in_default.is))
 
 pub returns-then-not-may_say-clause-part : goal.returns-then-not-may_say-clause-part
 returns-then-not-may_say-clause-part g t c = λ list told slots tree top.
-    part_silent (said (g.T.Texts.text c.args.texts.now) list) (first_slot (top_of_page c.args.level c.args.index)) (end_slot (top_of_page c.args.level c.args.index)) (page_count list c.args.level c.args.index) (g.P.Pages.view c.args.space.now.pages) c.args.out.now.items (part_order c.args.level c.args.index)
-    (said_silent (g.T.Texts.text c.args.texts.now) list (first_slot (top_of_page c.args.level c.args.index)) (end_slot (top_of_page c.args.level c.args.index)) (c.may_say.ensures.silent c.if-not-may_say.true))
+    part_silent (said (first_said c.args.slots (g.T.Texts.text c.args.texts.now)) list) (first_slot (top_of_page c.args.level c.args.index)) (end_slot (top_of_page c.args.level c.args.index)) (page_count list c.args.level c.args.index) (g.P.Pages.view c.args.space.now.pages) c.args.out.now.items (part_order c.args.level c.args.index)
+    (said_silent (first_said c.args.slots (g.T.Texts.text c.args.texts.now)) list (first_slot (top_of_page c.args.level c.args.index)) (end_slot (top_of_page c.args.level c.args.index)) (c.may_say.ensures.silent c.if-not-may_say.true))
+
+pub send_value-requires : goal.send_value-requires
+send_value-requires g t c = omega (arith, slot_there c.args.level c.args.index c.args.slots c.if-level-eq0.true (c.may_say.ensures.within c.if-not-may_say.false), c.requires.slots)
 
 pub returns-then-level-eq0-clause-cause : goal.returns-then-level-eq0-clause-cause
 returns-then-level-eq0-clause-cause g t c =
@@ -34,9 +38,11 @@ pub returns-then-level-eq0-clause-part : goal.returns-then-level-eq0-clause-part
 returns-then-level-eq0-clause-part g t c = λ list told slots tree top.
     let I : Option Span → Type 0 = λ s. IsProperIfAny s in
     let proper : IsProper c.in-Some.span = subst I c.in-Some.is c.requires.proper in
-    let V : ℤ → Type 0 = λ v. (text : List ℕ) (before : Option (List ℕ)) → IsGiven text before (g.P.Pages.view c.args.space.now.pages).beside.sent c.args.out.now.items → GivesBy c.send_value.result (text ++ g.T.Texts.text c.args.texts.now c.args.index v) before (g.P.Pages.view c.send_value.new.space.pages).beside.sent c.send_value.new.out.items in
-    part_value (g.T.Texts.text c.args.texts.now) list c.args.level c.args.index c.in-Some.span (g.P.Pages.view c.args.space.now.pages) (g.P.Pages.view c.send_value.new.space.pages) c.args.out.now.items c.send_value.new.out.items c.send_value.result c.if-level-eq0.true (sym c.in-Some.is ∙ top) c.send_value.ensures.reads
-    (subst V (start_same c.in-Some.span.min proper.low) c.send_value.ensures.gives) (no_damage_by c.send_value.result (g.P.Pages.view c.args.space.now.pages) (g.P.Pages.view c.send_value.new.space.pages) c.send_value.ensures.cause)
+    let V : ℤ → Type 0 = λ v. (text : List ℕ) (before : Option (List ℕ)) → IsGiven text before (g.P.Pages.view c.args.space.now.pages).beside.sent c.args.out.now.items → GivesBy c.send_value.result (text ++ first_said c.args.slots (g.T.Texts.text c.args.texts.now) c.args.index v) before (g.P.Pages.view c.send_value.new.space.pages).beside.sent c.send_value.new.out.items in
+    part_value (first_said c.args.slots (g.T.Texts.text c.args.texts.now)) list c.args.level c.args.index c.in-Some.span (g.P.Pages.view c.args.space.now.pages) (g.P.Pages.view c.send_value.new.space.pages) c.args.out.now.items c.send_value.new.out.items c.send_value.result c.if-level-eq0.true (sym c.in-Some.is ∙ top) c.send_value.ensures.reads
+    (subst V (start_same c.in-Some.span.min proper.low) (λ text before given.
+    by_as c.send_value.result _ _ c.send_value.new.out.items before (g.P.Pages.view c.send_value.new.space.pages).beside.sent (ap (λ l. text ++ l) (sym (is_said c.args.slots (g.T.Texts.text c.args.texts.now) c.args.index (to_z w64 (of_z w64 c.in-Some.span.min)) (slot_there c.args.level c.args.index c.args.slots c.if-level-eq0.true (c.may_say.ensures.within c.if-not-may_say.false)))))
+    (c.send_value.ensures.gives text before given))) (no_damage_by c.send_value.result (g.P.Pages.view c.args.space.now.pages) (g.P.Pages.view c.send_value.new.space.pages) c.send_value.ensures.cause)
 
 pub returns-in_err-read_page-clause-cause : goal.returns-in_err-read_page-clause-cause
 returns-in_err-read_page-clause-cause g t c =
@@ -52,13 +58,13 @@ returns-in_err-read_page-clause-part g t c = λ list told slots tree top.
     let is : c.args.level ≡ suc (c.args.level - 1) = omega (arith, c.if-level-eq0.false) in
     let some = is_there c.args.page c.args.top c.in-Some.span (c.requires.matched (omega (arith, is))) c.in-Some.is in
     let low : 0 < c.args.space.now.superblock.total = omega (arith, c.args.space.now.rules.total_low) in
-    none_by _ c.in_err-read_page.field-0.0 (said (g.T.Texts.text c.args.texts.now) list) list c.args.level (c.args.level - 1) c.args.index c.in-Some.span (g.P.Pages.view c.args.space.now.pages) (g.P.Pages.view c.read_page.new.space.pages) c.args.out.now.items c.args.out.now.items is (sym c.in-Some.is ∙ top) c.read_page.ensures.looks.kept.beside c.read_page.ensures.one_read c.from_residual.ensures.1
+    none_by _ c.in_err-read_page.field-0.0 (said (first_said c.args.slots (g.T.Texts.text c.args.texts.now)) list) list c.args.level (c.args.level - 1) c.args.index c.in-Some.span (g.P.Pages.view c.args.space.now.pages) (g.P.Pages.view c.read_page.new.space.pages) c.args.out.now.items c.args.out.now.items is (sym c.in-Some.is ∙ top) c.read_page.ensures.looks.kept.beside c.read_page.ensures.one_read c.from_residual.ensures.1
     (c.in_err-read_page.ensures.stands list (c.args.level - 1) c.args.index told is slots (nodes_of (g.P.Pages.view c.args.space.now.pages).image c.args.space.now.superblock.total list c.args.level (c.args.level - 1) c.args.index c.args.page is some tree) (sym c.in-Some.is ∙ top) (children_below (g.P.Pages.view c.args.space.now.pages).image c.args.space.now.superblock.total list c.args.level (c.args.level - 1) c.args.index c.args.page low is some tree))
 
 pub loop-child-init : goal.loop-child-init
 loop-child-init g t c =
     let is : c.args.level ≡ suc (c.args.level - 1) = omega (arith, c.if-level-eq0.false) in
-    send_start (g.P.Pages.told c.args.space.now.pages) (g.P.Pages.told c.read_page.new.space.pages) (g.P.Pages.view c.args.space.now.pages) (g.P.Pages.view c.read_page.new.space.pages) (g.P.Pages.under c.args.space.now.pages) (g.P.Pages.under c.read_page.new.space.pages) c.args.space.now.superblock c.read_page.new.space.superblock (g.T.Texts.text c.args.texts.now) c.args.level (c.args.level - 1) c.args.index c.args.page c.args.top c.args.out.now.items is c.read_page.ensures.looks c.read_page.ensures.one_read c.requires.few
+    send_start (g.P.Pages.told c.args.space.now.pages) (g.P.Pages.told c.read_page.new.space.pages) (g.P.Pages.view c.args.space.now.pages) (g.P.Pages.view c.read_page.new.space.pages) (g.P.Pages.under c.args.space.now.pages) (g.P.Pages.under c.read_page.new.space.pages) c.args.space.now.superblock c.read_page.new.space.superblock (first_said c.args.slots (g.T.Texts.text c.args.texts.now)) c.args.level (c.args.level - 1) c.args.index c.args.page c.args.top c.args.out.now.items is c.read_page.ensures.looks c.read_page.ensures.one_read c.requires.few
 
 pub send_below-requires : goal.send_below-requires
 send_below-requires g t c κs within =
@@ -74,17 +80,20 @@ send_below-requires g t c κs within =
             (
               omega (arith, c.requires.level),
               (
-                child_range c.args.level (c.args.level - 1) c.args.index c.loop-child.child 268435456 is c.loop-child-test.true c.requires.range,
+                child_range c.args.level (c.args.level - 1) c.args.index c.loop-child.child MOST_SLOTS is c.loop-child-test.true c.requires.range,
                 (
-                  omega (arith, c.child_of-under.ensures, c.in_ok-read_page.ensures.sound.below c.loop-child.child c.loop-child-test.true, ap (λ (s : Superblock). s.total) way.sends.superblock),
+                  c.requires.slots,
                   (
-                    c.leaf-part.ensures.proper,
+                    omega (arith, c.child_of-under.ensures, c.in_ok-read_page.ensures.sound.below c.loop-child.child c.loop-child-test.true, ap (λ (s : Superblock). s.total) way.sends.superblock),
                     (
-                      λ high.
-                          let H : Option Span → Type 0 = λ s. has_child c.read_page.new.bytes c.loop-child.child ≡ is_some s in
-                          let has : H c.leaf-part.result = subst H (sym c.leaf-part.ensures.span) (c.in_ok-read_page.ensures.children c.loop-child.child c.loop-child-test.true) in
-                          child_matched c.args.space.now.superblock.total c.args.level c.loop-child.child c.child_of-under.result c.read_page.new.bytes c.leaf-part.result c.in_ok-read_page.ensures.sound (omega (arith, high)) c.loop-child-test.true c.child_of-under.ensures has,
-                      way.few,
+                      c.leaf-part.ensures.proper,
+                      (
+                        λ high.
+                            let H : Option Span → Type 0 = λ s. has_child c.read_page.new.bytes c.loop-child.child ≡ is_some s in
+                            let has : H c.leaf-part.result = subst H (sym c.leaf-part.ensures.span) (c.in_ok-read_page.ensures.children c.loop-child.child c.loop-child-test.true) in
+                            child_matched c.args.space.now.superblock.total c.args.level c.loop-child.child c.child_of-under.result c.read_page.new.bytes c.leaf-part.result c.in_ok-read_page.ensures.sound (omega (arith, high)) c.loop-child-test.true c.child_of-under.ensures has,
+                        way.few,
+                      ),
                     ),
                   ),
                 ),
@@ -114,7 +123,7 @@ pub returns-in_err-send_below-clause-part : goal.returns-in_err-send_below-claus
 returns-in_err-send_below-clause-part g t c = λ list told slots tree top.
     let is : c.args.level ≡ suc (c.args.level - 1) = omega (arith, c.if-level-eq0.false) in
     let some = is_there c.args.page c.args.top c.in-Some.span (c.requires.matched (omega (arith, is))) c.in-Some.is in
-    stops_by c.from_residual-in_err-send_below.result c.in_err-send_below.field-0.0 (g.P.Pages.told c.args.space.now.pages) (g.P.Pages.told c.loop-child.space.pages) (g.P.Pages.view c.args.space.now.pages) (g.P.Pages.view c.loop-child.space.pages) (g.P.Pages.view c.send_below.new.space.pages) (g.P.Pages.under c.args.space.now.pages) (g.P.Pages.under c.loop-child.space.pages) c.args.space.now.superblock c.loop-child.space.superblock (g.T.Texts.text c.args.texts.now) c.args.level (c.args.level - 1) c.args.index c.args.page c.child_of-under.result c.loop-child.child c.args.top c.leaf-part.result c.read_page.new.bytes (span_at c.read_page.new.spans) c.in-Some.span c.args.out.now.items c.loop-child.out.items c.send_below.new.out.items list c.from_residual-in_err-send_below.ensures.1
+    stops_by c.from_residual-in_err-send_below.result c.in_err-send_below.field-0.0 (g.P.Pages.told c.args.space.now.pages) (g.P.Pages.told c.loop-child.space.pages) (g.P.Pages.view c.args.space.now.pages) (g.P.Pages.view c.loop-child.space.pages) (g.P.Pages.view c.send_below.new.space.pages) (g.P.Pages.under c.args.space.now.pages) (g.P.Pages.under c.loop-child.space.pages) c.args.space.now.superblock c.loop-child.space.superblock (first_said c.args.slots (g.T.Texts.text c.args.texts.now)) c.args.level (c.args.level - 1) c.args.index c.args.page c.child_of-under.result c.loop-child.child c.args.top c.leaf-part.result c.read_page.new.bytes (span_at c.read_page.new.spans) c.in-Some.span c.args.out.now.items c.loop-child.out.items c.send_below.new.out.items list c.from_residual-in_err-send_below.ensures.1
     c.loop-child.invariant is some c.loop-child-test.true c.child_of-under.ensures c.leaf-part.ensures.span c.in_ok-read_page.ensures.bytes
     (c.in_ok-read_page.ensures.tops list (c.args.level - 1) c.args.index told is slots (nodes_of (g.P.Pages.view c.args.space.now.pages).image c.args.space.now.superblock.total list c.args.level (c.args.level - 1) c.args.index c.args.page is some tree) (sym c.in-Some.is ∙ top)) told slots tree top (sym c.in-Some.is ∙ top)
     c.in_err-send_below.ensures.part
@@ -123,7 +132,7 @@ pub loop-child-preserved : goal.loop-child-preserved
 loop-child-preserved g t c =
     let is : c.args.level ≡ suc (c.args.level - 1) = omega (arith, c.if-level-eq0.false) in
     let some = is_there c.args.page c.args.top c.in-Some.span (c.requires.matched (omega (arith, is))) c.in-Some.is in
-    send_on (g.P.Pages.told c.args.space.now.pages) (g.P.Pages.told c.loop-child.space.pages) (g.P.Pages.told c.send_below.new.space.pages) (g.P.Pages.view c.args.space.now.pages) (g.P.Pages.view c.loop-child.space.pages) (g.P.Pages.view c.send_below.new.space.pages) (g.P.Pages.under c.args.space.now.pages) (g.P.Pages.under c.loop-child.space.pages) (g.P.Pages.under c.send_below.new.space.pages) c.args.space.now.superblock c.loop-child.space.superblock c.send_below.new.space.superblock (g.T.Texts.text c.args.texts.now) c.args.level (c.args.level - 1) c.args.index c.args.page c.child_of-under.result c.loop-child.child c.args.top c.leaf-part.result c.read_page.new.bytes (span_at c.read_page.new.spans) c.args.out.now.items c.loop-child.out.items c.send_below.new.out.items
+    send_on (g.P.Pages.told c.args.space.now.pages) (g.P.Pages.told c.loop-child.space.pages) (g.P.Pages.told c.send_below.new.space.pages) (g.P.Pages.view c.args.space.now.pages) (g.P.Pages.view c.loop-child.space.pages) (g.P.Pages.view c.send_below.new.space.pages) (g.P.Pages.under c.args.space.now.pages) (g.P.Pages.under c.loop-child.space.pages) (g.P.Pages.under c.send_below.new.space.pages) c.args.space.now.superblock c.loop-child.space.superblock c.send_below.new.space.superblock (first_said c.args.slots (g.T.Texts.text c.args.texts.now)) c.args.level (c.args.level - 1) c.args.index c.args.page c.child_of-under.result c.loop-child.child c.args.top c.leaf-part.result c.read_page.new.bytes (span_at c.read_page.new.spans) c.args.out.now.items c.loop-child.out.items c.send_below.new.out.items
     c.loop-child.invariant is some c.loop-child-test.true c.child_of-under.ensures c.leaf-part.ensures.span c.in_ok-read_page.ensures.bytes
     (λ list told slots tree top. (c.in_ok-read_page.ensures.tops list (c.args.level - 1) c.args.index told is slots (nodes_of (g.P.Pages.view c.args.space.now.pages).image c.args.space.now.superblock.total list c.args.level (c.args.level - 1) c.args.index c.args.page is some tree) (sym c.in-Some.is ∙ top)))
     c.send_below.ensures.sends c.in_ok-send_below.ensures.few c.in_ok-send_below.ensures.part
@@ -132,5 +141,5 @@ pub returns-clause-part : goal.returns-clause-part
 returns-clause-part g t c = λ list told slots tree top.
     let is : c.args.level ≡ suc (c.args.level - 1) = omega (arith, c.if-level-eq0.false) in
     let end : c.loop-child.child ≡ 128 = omega (arith, c.loop-child-test.false, c.loop-child.auto.child-end) in
-    send_end (g.P.Pages.told c.args.space.now.pages) (g.P.Pages.told c.loop-child.space.pages) (g.P.Pages.view c.args.space.now.pages) (g.P.Pages.view c.loop-child.space.pages) (g.P.Pages.under c.args.space.now.pages) (g.P.Pages.under c.loop-child.space.pages) c.args.space.now.superblock c.loop-child.space.superblock (g.T.Texts.text c.args.texts.now) c.args.level (c.args.level - 1) c.args.index c.args.page c.loop-child.child c.args.top c.in-Some.span c.args.out.now.items c.loop-child.out.items list
+    send_end (g.P.Pages.told c.args.space.now.pages) (g.P.Pages.told c.loop-child.space.pages) (g.P.Pages.view c.args.space.now.pages) (g.P.Pages.view c.loop-child.space.pages) (g.P.Pages.under c.args.space.now.pages) (g.P.Pages.under c.loop-child.space.pages) c.args.space.now.superblock c.loop-child.space.superblock (first_said c.args.slots (g.T.Texts.text c.args.texts.now)) c.args.level (c.args.level - 1) c.args.index c.args.page c.loop-child.child c.args.top c.in-Some.span c.args.out.now.items c.loop-child.out.items list
     c.loop-child.invariant is end told slots tree top (sym c.in-Some.is ∙ top)

@@ -15,7 +15,7 @@ use Rattle.stored_book.specs.Standing.{IsStore}
 use Rattle.series_store.specs.Groups.{touch_of, touched_slots}
 use Rattle.series_store.specs.Staging.{IsStagedBy}
 use Rattle.series_store.proofs.StageLemmas.{staged_error, staged_store}
-use Rattle.series_store.proofs.FindLemmas.{IsFound, found, touch_found, unknown, is_axis, a_series, change_unknown, set_answer}
+use Rattle.series_store.proofs.FindLemmas.{IsFound, ends_as, found, touch_found, unknown, is_axis, a_series, change_unknown, set_answer}
 use Rattle.series_store.proofs.staging.set.Goals as goal
 
 pub returns-in_default-clause-answered : goal.returns-in_default-clause-answered
@@ -47,6 +47,13 @@ put-requires-clause-within g c =
     let some = a_series c.axis-axis.result in
     let long : length c.deref.result.now ≡ length c.args.values.now = ap length (c.deref.ensures.value ∙ c.in_ok-run.ensures.slots) in
     omega (arith, c.in_default-set_refusal.ensures.room some.0 some.1, c.place_of.ensures some.0 some.1, long)
+
+pub put-requires-clause-last : goal.put-requires-clause-last
+put-requires-clause-last g c =
+    let some = a_series c.axis-axis.result in
+    let long : length c.deref.result.now ≡ length c.args.values.now = ap length (c.deref.ensures.value ∙ c.in_ok-run.ensures.slots) in
+    ends_as c.args.catalog.now.series.items c.in-Some.id c.series.result.now c.axis-axis.result _ (c.place_of.result + length c.deref.result.now) c.series.ensures c.axis-axis.ensures.start c.axis-axis.ensures.step c.axis-axis.ensures.slots
+    (omega (arith, c.place_of.ensures some.0 some.1, long)) (c.in_default-set_refusal.ensures.last some.0 some.1)
 
 pub returns-in-Some-set_refusal-clause-answered : goal.returns-in-Some-set_refusal-clause-answered
 returns-in-Some-set_refusal-clause-answered g c = λ total book told stands.

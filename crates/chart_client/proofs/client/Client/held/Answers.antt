@@ -1,4 +1,4 @@
-use Rattle.std.proofs.Common.{◌≡◌, ◌∙◌, sym, ap}
+use Rattle.std.proofs.Common.{◌∙◌, sym, ap}
 use Rattle.std.specs.Prelude.{Option}
 use Rattle.chart_client.specs.declared.holding.Holding.{Holding}
 use Rattle.chart_client.specs.Held.{held_by}

@@ -1,4 +1,4 @@
-use Rattle.std.proofs.Common.{◌≡◌, ◌≤◌, ◌<◌, ◌+◌, ◌*◌, ◌^◌, ◌∙◌, ℕ, List, length, take, drop, Err, IfErr, OnOk, ap, sym, subst, arith}
+use Rattle.std.proofs.Common.{◌∙◌, List, length, take, Err, ap, sym, subst, arith}
 use Rattle.std.proofs.lemmas.List.{length-drop}
 use Rattle.block_disk.specs.View.{Passes}
 use Rattle.gate_pages.specs.GateLaws.{goes_then}
@@ -12,7 +12,7 @@ use Rattle.chart_service.proofs.DiskKept.{group_then}
 use Rattle.chart_service.proofs.Ends.{err_is, error_is}
 use Rattle.chart_service.proofs.Sending.{error_goes}
 use Rattle.chart_service.proofs.SyncLemmas.{group_next, group_stop, group_end}
-use Rattle.chart_service.proofs.Together.{HasDone, after_more, after_first, more_done, tail_is, all_done, more_passes, some_replied, some_passes}
+use Rattle.chart_service.proofs.Together.{after_more, after_first, more_done, tail_is, all_done, more_passes, some_replied, some_passes}
 use Rattle.chart_service.proofs.service.Service.step_edits.Goals as goal
 
 pub edits-preserved : goal.edits-preserved

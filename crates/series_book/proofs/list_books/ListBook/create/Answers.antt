@@ -1,11 +1,13 @@
-use Rattle.std.proofs.Common.{◌≡◌, ◌+◌, length, w64, sym, ap, ◌∙◌, arith}
+use Rattle.std.proofs.Common.{ℕ, List, subst, ◌≡◌, ◌+◌, length, w64, sym, ap, ◌∙◌, arith}
+use Rattle.std.specs.Prelude.{unsigned_abs, IsTrue}
+use Rattle.series_book.specs.Names.{is_name}
 use Rattle.std.specs.Option.{is_some}
 use Rattle.std.proofs.lemmas.Int.{to_z-of_z}
 use Rattle.series_book.specs.declared.one_series.Series.{Series}
 use Rattle.series_book.specs.Books.{LimitedBook}
 use Rattle.series_book.specs.Edits.{id_of}
 use Rattle.series_book.specs.Pages.{series_pages, pages_of}
-use Rattle.series_book.proofs.BookLemmas.{pages_of-push}
+use Rattle.series_book.proofs.BookLemmas.{IsSeries-new, pages_of-push}
 use Rattle.series_book.proofs.EditLemmas.{created-exists, created-full, created_as, series_pages-nil, none_from_test}
 use Rattle.series_book.proofs.list_books.ListBook.create.Goals as goal
 
@@ -14,6 +16,12 @@ add-requires-clause-new c =
     ap (λ (series : Series). id_of series.name c.self.inside.book) c.empty.ensures
     ∙ ap (λ name. id_of name c.self.inside.book) c.in_ok-name.ensures.equal ∙ sym c.find.ensures.id
     ∙ none_from_test c.find.result (sym c.is_some.ensures ∙ c.if-is_some.false)
+
+pub add-requires-clause-in_range : goal.add-requires-clause-in_range
+add-requires-clause-in_range c =
+    let P : List ℕ → Type 0 = λ name. IsTrue (is_name name) in
+    let start = to_z-of_z w64 c.args.start c.ranges.start in
+    IsSeries-new _ _ _ _ _ c.empty.ensures (subst P (sym c.in_ok-name.ensures.equal) c.in_ok-name.ensures.named) (omega (arith, c.requires.start_in_range, ap unsigned_abs start)) c.requires.step_above_zero c.requires.step_in_range c.requires.scale_in_range
 
 pub returns-then-is_some-clause-refused : goal.returns-then-is_some-clause-refused
 returns-then-is_some-clause-refused c =

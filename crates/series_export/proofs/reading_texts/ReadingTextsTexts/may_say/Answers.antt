@@ -7,7 +7,7 @@ pub returns : goal.returns
 returns c = record {
   silent = λ none.
       let self = c.args.self.now in
-      let first = ap (λ t. to_z w64 (of_z w64 t)) c.time.ensures ∙ time_same self.start self.step c.args.first self.near self.short (omega (arith, c.requires.some, c.requires.few)) in
-      let last = ap (λ t. to_z w64 (of_z w64 t)) c.time-2.ensures ∙ time_same self.start self.step (c.args.end - 1) self.near self.short (omega (arith, c.requires.few)) in
+      let first = ap (λ t. to_z w64 (of_z w64 t)) c.time.ensures ∙ time_same self.start self.step self.slots c.args.first self.near self.last (omega (arith, c.requires.some, c.requires.within)) in
+      let last = ap (λ t. to_z w64 (of_z w64 t)) c.time-2.ensures ∙ time_same self.start self.step self.slots (c.args.end - 1) self.near self.last (omega (arith, c.requires.some, c.requires.within)) in
       no_line self.start self.step self.scale c.args.first c.args.end self.window (may_meet_so self.window _ _ _ _ first last (sym c.may_meet.ensures ∙ none));
 }

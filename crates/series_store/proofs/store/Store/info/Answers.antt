@@ -1,5 +1,6 @@
 use Rattle.std.proofs.Common.{ℤ, refl, sym, subst, arith}
 use Rattle.whole_number.specs.Range.{IsValue}
+use Rattle.whole_number.specs.SlotTimes.{EndsInTime}
 use Rattle.series_store.proofs.AskLemmas.{own_store, info_is, start_same}
 use Rattle.series_store.proofs.store.Store.info.Goals as goal
 
@@ -19,6 +20,13 @@ returns-clause-scale g c = (c.args.self.now.fits c.args.id c.series-series.resul
 
 pub returns-clause-slots : goal.returns-clause-slots
 returns-clause-slots g c = (c.args.self.now.fits c.args.id c.series-series.result.now c.series-series.ensures).slots
+
+pub returns-clause-last : goal.returns-clause-last
+returns-clause-last g c =
+    let one = c.series-series.result.now in
+    let is = c.args.self.now.fits c.args.id one c.series-series.ensures in
+    let P : ℤ → Type 0 = λ start. EndsInTime start one.step one.tree.slots in
+    subst P (sym (start_same one.start is.start)) is.last
 
 pub returns-clause-none : goal.returns-clause-none
 returns-clause-none g c = λ none.

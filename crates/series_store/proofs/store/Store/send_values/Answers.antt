@@ -8,8 +8,8 @@ use Rattle.series_store.proofs.SeriesSendLemmas.{series_cause_by, sent_told, par
 use Rattle.series_store.proofs.StayLemmas.{Stay, told_on, whole_on, trail_on}
 use Rattle.series_store.proofs.store.Store.send_values.Goals as goal
 
-pub send_tree-requires-clause-slots : goal.send_tree-requires-clause-slots
-send_tree-requires-clause-slots g c =
+pub send_tree-requires-clause-few_slots : goal.send_tree-requires-clause-few_slots
+send_tree-requires-clause-few_slots g c =
     let is = c.args.self.now.fits c.args.id c.series.result.now c.series.ensures in
     omega (arith, is.slots)
 

@@ -1,0 +1,3 @@
+pub mod OldStores
+pub mod Upgraded
+pub mod Upgrading
