@@ -14,5 +14,6 @@ pub mod DemoSent
 pub mod DemoEnds
 pub mod TurnedAway
 pub mod WorldLemmas
+pub mod Damages
 pub mod InputLemmas
 pub mod HoldsAgain
