@@ -54,6 +54,7 @@ fn rows_are_found_by_points(rt: HostRuntime) -> Result<(), Fail> {
 }
 
 #[test]
+#[tactic(auto, unfolding(whole_number::specs::SlotTimes::ends_in_time))]
 fn segments_are_drawn(rt: HostRuntime) -> Result<(), Fail> {
     let grid = Grid::new(0, 4, 4, 4)?;
     let range = range_of(grid, AXIS, &SLOTS);

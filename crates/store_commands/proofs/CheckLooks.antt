@@ -71,9 +71,14 @@ not_counted count count' sound sound' old new s before now sends sends_now of_st
 not_counted count count' sound sound' old new s before now sends sends_now (of_store.Damaged page) same keeps few low is outside = inr (inr (inr (inr (record {
   page = page;
   end_is = refl;
-  bad = record { page = page; place_is = refl; within = omega (arith, low, few); bad = λ honest.
-      let B : Image → Type 0 = λ image. IsBadForCheck count image page in
-      subst B (sym (spelled_current (pages_of count old.image) s (keeps honest).spelled)) (record { numbers = s; keeps = keeps honest; so = (low, is honest) }) };
+  bad = record {
+    page = page;
+    place_is = refl;
+    within = omega (arith, low, few);
+    bad = λ honest.
+        let B : Image → Type 0 = λ image. IsBadForCheck count image page in
+        subst B (sym (spelled_current (pages_of count old.image) s (keeps honest).spelled)) (record { numbers = s; keeps = keeps honest; so = (low, is honest) });
+  };
   none = λ total book holds. elim (outside total book holds) [ inl fault ↦ cc | inr memory ↦ cc ];
   unsent = same;
 }))))

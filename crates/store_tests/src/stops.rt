@@ -85,12 +85,7 @@ fn calls_behind(alloc: Global, image: &[u8], deed: Deed, tear: Tear) -> Result<u
 const FILLED: [Deed; 3] = [Deed::Make, Deed::Create, Deed::Append(200, 5)];
 
 /// The same in a store of version 1.
-const AGED: [Deed; 4] = [
-    Deed::Make,
-    Deed::Create,
-    Deed::Append(200, 5),
-    Deed::Age,
-];
+const AGED: [Deed; 4] = [Deed::Make, Deed::Create, Deed::Append(200, 5), Deed::Age];
 
 /// A change of six pages: three of slots, the root, that of its record and page 0.
 const CHANGE: Deed = Deed::Set(100, 200, -50);
