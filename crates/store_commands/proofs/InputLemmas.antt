@@ -1,5 +1,5 @@
 -- Lines of an input that a reader gives.
-use Rattle.std.proofs.Common.{◌≡◌, ℕ, ◌≤◌, ◌^◌, List, length, Option, Some, None, IfSome, arith, length-append}
+use Rattle.std.proofs.Common.{ℕ, ◌≤◌, ◌^◌, List, length, Option, Some, None, IfSome, arith, length-append}
 use Rattle.std.specs.List.{after_first}
 use Rattle.chart_world.specs.FrontLaws.{Passed}
 use Rattle.chart_world.specs.Fronts.{first_piece}

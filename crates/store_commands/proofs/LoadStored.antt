@@ -1,6 +1,6 @@
 -- What a load does over a store on a disk, in the words of the disk.
-use Rattle.std.proofs.Common.{◌≡◌, ◌≢◌, ◌↔◌, ℕ, zero, suc, ◌+◌, ◌≤◌, ◌<◌, ◌⊎◌, ◌^◌, pos, Bool, List, [], ◌∷◌, length, Option, Some, None, Result, Ok, Err, IfSome, refl, sym, ap, subst, inl, inr, arith, ◌∙◌}
-use Rattle.std.specs.Prelude.{IfErr, OnOk, slice_get, bytes_eq}
+use Rattle.std.proofs.Common.{◌≡◌, ◌≢◌, ◌↔◌, ℕ, ◌+◌, ◌≤◌, ◌<◌, ◌⊎◌, ◌^◌, pos, Bool, List, [], length, Option, Some, None, Result, Ok, Err, IfSome, refl, sym, ap, subst, inl, inr, arith, ◌∙◌}
+use Rattle.std.specs.Prelude.{IfErr, OnOk, bytes_eq}
 use Rattle.std.proofs.lemmas.List.Quantifiers.{position-Some}
 use Rattle.block_disk.specs.View.{Image, View, Honest, Passes, sent_now}
 use Rattle.gate_pages.specs.GatePages.{IsClosed, pages_view}
@@ -8,6 +8,7 @@ use Rattle.gate_pages.specs.Journal.{pages_of}
 use Rattle.gate_pages.specs.Pages.{GoesOn, Quiet}
 use Rattle.series_book.specs.declared.one_series.Series.{Series}
 use Rattle.series_book.specs.Edits.{id_of}
+use Rattle.empty_store.proofs.DisksMade.{sent_so}
 use Rattle.disk_store.specs.Held.{HoldsBook}
 use Rattle.stored_book.specs.Damage.{IsBadForEdit}
 use Rattle.stored_book.specs.Standing.{StandsForBook, book_pages, RecoversTo}
@@ -24,7 +25,7 @@ use Rattle.series_store.proofs.BookCountLemmas.{some_at}
 use Rattle.store_commands.specs.Damaged.{IsDamagedLater}
 use Rattle.store_commands.specs.Books.{OfBook, Never, IsOnBook, HoldsPages}
 use Rattle.store_commands.proofs.Held.{RestsNew, stands_held, within_held, holds_pages}
-use Rattle.store_commands.proofs.Moments.{since_worked, on_book, sent_so}
+use Rattle.store_commands.proofs.Moments.{since_worked, on_book}
 use Rattle.store_commands.specs.Loaded.{OfSeries, Unnamed}
 use Rattle.store_commands.specs.Storing.{StopsAt, IsEndCause, Stores}
 
