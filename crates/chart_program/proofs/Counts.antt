@@ -13,7 +13,7 @@ use Rattle.disk_store.specs.Openings.{Opens}
 use Rattle.gate_pages.specs.Journal.{page_count, pages_of}
 use Rattle.series_book.specs.declared.one_series.Series.{Series}
 use Rattle.stored_book.specs.Standing.{StandsForBook}
-use Rattle.store_commands.proofs.Held.{held, stands_held}
+use Rattle.store_commands.proofs.Held.{RestsNew, held, stands_held}
 use Rattle.store_commands.specs.Books.{begun}
 use Rattle.zoom_session.specs.declared.session.Session.{Session}
 use Rattle.chart_program.specs.Served.{ReadsFrom, ReadsServing, SyncsFrom, SyncsServing}
@@ -69,15 +69,15 @@ syncs_unopened None old new opens = tt
 syncs_unopened (Some input) old new opens = (new.syncs, opens.syncs.high, λ total book holds small. none_synced input total book (new.beside.pieces - old.beside.pieces) new.syncs)
 
 -- by a service with no session open, over the pages of a disk
-pub reads_served : (left : Option (List ℕ)) (count : ℕ) (old new : View) (own : List Session) → own ≡ [] → ((total : ℕ) (book : List Series) → Honest old → StandsForBook (pages_of count old.image) total book → IfSome left (λ input. ReadsLines input (state_of book total own) old.reads new.reads)) → IfSome left (λ input. ReadsFrom count old new input old.reads)
-reads_served None count old new own alone reads = tt
-reads_served (Some input) count old new own alone reads = λ total book holds.
+pub reads_served : (left : Option (List ℕ)) (count : ℕ) (old new : View) (own : List Session) → RestsNew count old → own ≡ [] → ((total : ℕ) (book : List Series) → Honest old → StandsForBook (pages_of count old.image) total book → IfSome left (λ input. ReadsLines input (state_of book total own) old.reads new.reads)) → IfSome left (λ input. ReadsFrom count old new input old.reads)
+reads_served None count old new own rests alone reads = tt
+reads_served (Some input) count old new own rests alone reads = λ total book holds.
     let S : List Session → Type 0 = λ s. ReadsLines input (state_of book total s) old.reads new.reads in
-    subst S alone (reads total book holds.honest (stands_held count total book old holds))
+    subst S alone (reads total book holds.honest (stands_held count total book old rests holds))
 
-pub syncs_served : (left : Option (List ℕ)) (count : ℕ) (old new : View) (before now : ℕ) → old.beside.pieces ≡ before → new.beside.pieces ≡ now → ((total : ℕ) (book : List Series) → Honest old → StandsForBook (pages_of count old.image) total book → IfSome left (λ input. now < 2 ^ 64 - 1 → SyncsLines input total book (now - before) old.syncs new.syncs)) → IfSome left (λ input. SyncsFrom count old new input old.syncs)
-syncs_served None count old new before now was is syncs = tt
-syncs_served (Some input) count old new before now was is syncs = λ total book holds small.
+pub syncs_served : (left : Option (List ℕ)) (count : ℕ) (old new : View) (before now : ℕ) → RestsNew count old → old.beside.pieces ≡ before → new.beside.pieces ≡ now → ((total : ℕ) (book : List Series) → Honest old → StandsForBook (pages_of count old.image) total book → IfSome left (λ input. now < 2 ^ 64 - 1 → SyncsLines input total book (now - before) old.syncs new.syncs)) → IfSome left (λ input. SyncsFrom count old new input old.syncs)
+syncs_served None count old new before now rests was is syncs = tt
+syncs_served (Some input) count old new before now rests was is syncs = λ total book holds small.
     let B : ℕ → Type 0 = λ n. SyncsLines input total book (new.beside.pieces - n) old.syncs new.syncs in
     let N : ℕ → Type 0 = λ n. SyncsLines input total book (n - before) old.syncs new.syncs in
-    subst B (sym was) (subst N (sym is) (syncs total book holds.honest (stands_held count total book old holds) (omega (arith, small, is))))
+    subst B (sym was) (subst N (sym is) (syncs total book holds.honest (stands_held count total book old rests holds) (omega (arith, small, is))))

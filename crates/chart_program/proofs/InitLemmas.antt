@@ -5,6 +5,8 @@ use Rattle.gate_pages.specs.GatePages.{StandsAsBefore}
 use Rattle.gate_pages.specs.Journal.{page_count}
 use Rattle.page_space.specs.Layout.{HasMagic}
 use Rattle.series_book.specs.declared.one_series.Series.{Series}
+use Rattle.store_upgrade.specs.OldStores.{HasOldMagic, IsOldStore}
+use Rattle.store_upgrade.specs.Upgraded.{current}
 use Rattle.stored_book.specs.Standing.{StandsForBook, RecoversTo}
 use Rattle.disk_store.specs.Held.{HoldsBook}
 use Rattle.empty_store.specs.Stores.{HasStore}
@@ -16,8 +18,9 @@ use Rattle.chart_program.specs.Ran.{LeavesMade}
 recovers_on : (count total : ℕ) (book : List Series) (old : View) (image : Image) → HoldsBook count total book old → StandsAsBefore count old image → RecoversTo count image total book
 recovers_on count total book old image holds stands =
     let was = holds.images stands.from stands.was in
-    let P : Image → Type 0 = λ pages. StandsForBook pages total book in
-    record { readable = stands.readable was.readable; within = was.within; stands = subst P (sym stands.same) was.stands }
+    let P : Image → Type 0 = λ pages. StandsForBook (current pages) total book in
+    let K : Image → Type 0 = λ pages. HasOldMagic (pages 0) → IsOldStore pages in
+    record { readable = stands.readable was.readable; within = was.within; old = subst K (sym stands.same) was.old; stands = subst P (sym stands.same) was.stands }
 
 has_store : (count total : ℕ) (book : List Series) (old : View) → HoldsBook count total book old → HasStore count old.image
 has_store count total book old holds =

@@ -32,7 +32,8 @@ use Rattle.store_commands.specs.Books.{OfBook, HoldsAgain, begun}
 use Rattle.store_commands.proofs.HoldsAgain.{again_from}
 use Rattle.chart_program.proofs.Counts.{reads_none, syncs_none}
 use Rattle.chart_program.proofs.Lowering.{crash_for, serve_ends, serve_again, text_ends, run_again, leaves_lowered}
-use Rattle.store_commands.proofs.Held.{stands_held, from_book}
+use Rattle.store_commands.proofs.Damages.{later_bad}
+use Rattle.store_commands.proofs.Held.{RestsNew, stands_held, from_book}
 use Rattle.chart_service.proofs.Sending.{stands_on}
 use Rattle.chart_program.specs.Known.{EndsKnown}
 use Rattle.chart_program.proofs.Knowing.{holds_of, never_unknown}
@@ -57,12 +58,6 @@ for_told (Some input) P all = all input refl
 of_told : (o : Option (List ℕ)) (input : List ℕ) (P : List ℕ → Type 0) → o ≡ Some input → IfSome o P → P input
 of_told o input P is all = let Q : Option (List ℕ) → Type 0 = λ x. IfSome x P in subst Q is all
 
--- a page that was found bad is so of the disk
-pub bad_later : (count count' : ℕ) (new : View) (page : ℕ) → count' ≡ count → serving.EndsAtBad (Honest new) count' (pages_of count' new.image) (serve_end.Damaged page) → IsDamagedLater IsBadForRequest count new (66 + page)
-bad_later count count' new page same bad =
-    let P : ℕ → Type 0 = λ n. IsBadForRequest n (pages_of n new.image) page in
-    record { page = page; place_is = refl; within = omega (arith, bad.0, same); bad = λ honest. subst P same (bad.1 honest) }
-
 -- the causes of a serving
 pub serve_cause : (count count' : ℕ) (old new : View) (faults : Faults) (CanShow : Type 0) (end : ServeEnd) → count' ≡ count
     → (end ≡ serve_end.ReadFault → IsLinesCause CanShow count old new faults (run_end.Serve serve_end.ReadFault)) → (end ≡ serve_end.SendFault → IsLinesCause CanShow count old new faults (run_end.Serve serve_end.SendFault)) → (end ≡ serve_end.DiskFault → IsLinesCause CanShow count old new faults (run_end.Serve serve_end.DiskFault))
@@ -70,7 +65,7 @@ pub serve_cause : (count count' : ℕ) (old new : View) (faults : Faults) (CanSh
 serve_cause count count' old new faults CanShow serve_end.ReadFault same read send disk bad = read refl
 serve_cause count count' old new faults CanShow serve_end.SendFault same read send disk bad = send refl
 serve_cause count count' old new faults CanShow serve_end.DiskFault same read send disk bad = disk refl
-serve_cause count count' old new faults CanShow (serve_end.Damaged page) same read send disk bad = bad_later count count' new page same bad
+serve_cause count count' old new faults CanShow (serve_end.Damaged page) same read send disk bad = later_bad count count' new page same bad.0 bad.1
 serve_cause count count' old new faults CanShow serve_end.InputTooLong same read send disk bad = tt
 serve_cause count count' old new faults CanShow serve_end.NoMemory same read send disk bad = tt
 
@@ -83,7 +78,7 @@ serve_causes count count' old new faults CanShow (Err end) same read send disk b
 
 -- what is known of a service over the pages of a disk
 module _ (count count' : ℕ) (sound sound' : Bool) (old new : View) (left left' before now : Option (List ℕ)) (faults : Faults) (sessions : List Session)
-    (same : count' ≡ count) (told : Honest old → Honest new) (goes : GoesOn old new) (risen : old.faults ≤ new.faults) where
+    (same : count' ≡ count) (told : Honest old → Honest new) (goes : GoesOn old new) (risen : old.faults ≤ new.faults) (rests : RestsNew count old) where
   -- ---- a serving with no session open
 
   abbrev pub AllDone : {T : Type 0} → Result T ServeEnd → List Session → Type 0
@@ -103,7 +98,7 @@ module _ (count count' : ℕ) (sound sound' : Bool) (old new : View) (left left'
       let X : ℕ → List Series → List ℕ → Type 0 = λ total book input. Since (pages_view count sound old) (pages_view count' sound' new) (IsAhead AreSpelled input total (begun total book) (sent_now (pages_view count sound old))) in
       both_so left before (λ input. OfBook count old (λ total book. X total book input)) (λ input. LeavesBooks Spelled count input old new)
       (λ input all. leaves_lowered Spelled count count' sound sound' old new input same goes all)
-      (crash_for left before (λ total book. HoldsBook count total book old) X (λ total book holds. lasts total book holds.honest (stands_held count total book old holds)))
+      (crash_for left before (λ total book. HoldsBook count total book old) X (λ total book holds. lasts total book holds.honest (stands_held count total book old rests holds)))
 
   serve_alone : {T : Type 0} (answer : Result T ServeEnd) → AllDone answer [] → OnOk answer (IfSome left (λ input. length input ≤ 2 ^ 32)) → AllEnds answer [] → AllLasts [] → ((answer ≡ Err serve_end.DiskFault → ⊥) → IsClosed new)
       → IfErr answer (λ end. IsLinesCause ⊥ count old new faults (run_end.Serve end)) → IfSome left (λ input. ReadsFrom count old new input old.reads) → IfSome left (λ input. SyncsFrom count old new input old.syncs) → ServesLines Spelled ⊥ count old new left left' before now faults (served answer)
@@ -112,14 +107,14 @@ module _ (count count' : ℕ) (sound sound' : Bool) (old new : View) (left left'
       record {
         done = told_so (λ input. OfBook count old (λ total book. X total book input)) (λ input. AnswersAll Spelled count old new input before now) left
             (λ input all. from_book count count' old new same told sessions (λ start state. SendsText AreSpelled input start state before now) (closed (λ e. cc)) all)
-            (told_for left (λ total book. HoldsBook count total book old) X (λ total book holds. done total book holds.honest (stands_held count total book old holds)));
+            (told_for left (λ total book. HoldsBook count total book old) X (λ total book holds. done total book holds.honest (stands_held count total book old rests holds)));
         within = within;
         ends = tt;
         crash = serve_crash lasts;
         cause = tt;
         holds = λ other. told_so (λ input. OfBook count old (λ total book. X total book input)) (λ input. HoldsAgain count old new) left
             (λ input all. again_from count old new (λ start state. SendsText AreSpelled input start state before now) (from_book count count' old new same told sessions (λ start state. SendsText AreSpelled input start state before now) (closed (λ e. cc)) all))
-            (told_for left (λ total book. HoldsBook count total book old) X (λ total book holds. done total book holds.honest (stands_held count total book old holds)));
+            (told_for left (λ total book. HoldsBook count total book old) X (λ total book holds. done total book holds.honest (stands_held count total book old rests holds)));
         reads = reads;
         syncs = syncs;
         goes_on = goes;
@@ -132,12 +127,12 @@ module _ (count count' : ℕ) (sound sound' : Bool) (old new : View) (left left'
         within = tt;
         ends = told_so (λ input. OfBook count old (λ total book. X total book input)) (λ input. EndsServing Spelled count old new input left' before now end) left
             (λ input all. serve_ends count count' old new same told sessions input left' before now end (λ other. closed (λ e. other (cc))) all)
-            (told_for left (λ total book. HoldsBook count total book old) X (λ total book holds. ends total book holds.honest (stands_held count total book old holds)));
+            (told_for left (λ total book. HoldsBook count total book old) X (λ total book holds. ends total book holds.honest (stands_held count total book old rests holds)));
         crash = serve_crash lasts;
         cause = cause;
         holds = λ other. told_so (λ input. OfBook count old (λ total book. X total book input)) (λ input. HoldsAgain count old new) left
             (λ input all. serve_again count count' old new same told sessions input left' before now end (λ more. closed (λ e. more (cc))) (λ e. other (ap (λ f. Err (run_end.Serve f)) e)) all)
-            (told_for left (λ total book. HoldsBook count total book old) X (λ total book holds. ends total book holds.honest (stands_held count total book old holds)));
+            (told_for left (λ total book. HoldsBook count total book old) X (λ total book holds. ends total book holds.honest (stands_held count total book old rests holds)));
         reads = reads;
         syncs = syncs;
         goes_on = goes;
@@ -171,7 +166,7 @@ module _ (count count' : ℕ) (sound sound' : Bool) (old new : View) (left left'
 
   module _ (one : OneFrame) (draws : AllDraw) (lacks : OneLacks) where
     started : AreSoundStarts [] → (total : ℕ) (book : List Series) → HoldsBook count total book old → IsSound (begun total book)
-    started starts total book holds = starts total book holds.honest (stands_held count total book old holds)
+    started starts total book holds = starts total book holds.honest (stands_held count total book old rests holds)
 
     run_crash : AreSoundStarts [] → RunLasts [] [] → IfSome left (λ input. IfSome before (λ bytes. LeavesBooks AreTexts count input old new))
     run_crash starts lasts =
@@ -184,7 +179,7 @@ module _ (count count' : ℕ) (sound sound' : Bool) (old new : View) (left left'
           here = λ at image low high left_by. ahead_told (AreShownFrom ScreenGives []) (AreTexts (begun total book)) input total (begun total book) (sent_now (pages_view count sound old)) image (new.sent_by at)
               (any_texts one draws (begun total book) refl (started starts total book holds)) (since.here at image low high left_by);
         }))
-        (crash_for left before (λ total book. HoldsBook count total book old) X (λ total book holds. lasts total book holds.honest (stands_held count total book old holds)))
+        (crash_for left before (λ total book. HoldsBook count total book old) X (λ total book holds. lasts total book holds.honest (stands_held count total book old rests holds)))
 
     run_alone : {T : Type 0} (answer : Result T RunEnd) (h : List Holding) → AreSoundStarts [] → RunDone answer [] h [] → OnOk answer (IfSome left (λ input. length input ≤ 2 ^ 32)) → RunEnds answer [] h [] → RunLasts [] [] → ((answer ≡ Err (run_end.Serve serve_end.DiskFault) → ⊥) → IsClosed new)
         → IfErr answer (IsLinesCause (Unit {0}) count old new faults) → IfSome left (λ input. ReadsFrom count old new input old.reads) → IfSome left (λ input. SyncsFrom count old new input old.syncs) → ServesLines AreTexts (Unit {0}) count old new left left' before now faults answer
@@ -193,7 +188,7 @@ module _ (count count' : ℕ) (sound sound' : Bool) (old new : View) (left left'
           from_book count count' old new same told sessions (λ start state. SendsText (AreTexts start) input start state before now) (closed (λ e. cc)) (λ total book holds.
           stands_on total (pages_of count' new.image) (pages_of count' new.image) sessions sessions (λ state. IfSome left (λ given. SendsText (AreShown ScreenGives [] h) given (begun total book) state before now)) (λ state. SendsText (AreTexts (begun total book)) input (begun total book) state before now) refl refl
           (λ state sends. texts_all one draws (begun total book) refl (started starts total book holds) input state h before now (of_told left input (λ given. SendsText (AreShown ScreenGives [] h) given (begun total book) state before now) is sends))
-          (done total book holds.honest (stands_held count total book old holds))));
+          (done total book holds.honest (stands_held count total book old rests holds))));
       within = within;
       ends = tt;
       crash = run_crash starts lasts;
@@ -201,7 +196,7 @@ module _ (count count' : ℕ) (sound sound' : Bool) (old new : View) (left left'
       holds = λ other. for_told left (λ input. HoldsAgain count old new) (λ input is.
           again_from count old new (λ start state. Unit {0}) (from_book count count' old new same told sessions (λ start state. Unit {0}) (closed (λ e. cc)) (λ total book holds.
           stands_on total (pages_of count' new.image) (pages_of count' new.image) sessions sessions (λ state. IfSome left (λ given. SendsText (AreShown ScreenGives [] h) given (begun total book) state before now)) (λ state. Unit {0}) refl refl
-          (λ state sends. tt) (done total book holds.honest (stands_held count total book old holds)))));
+          (λ state sends. tt) (done total book holds.honest (stands_held count total book old rests holds)))));
       reads = reads;
       syncs = syncs;
       goes_on = goes;
@@ -213,12 +208,12 @@ module _ (count count' : ℕ) (sound sound' : Bool) (old new : View) (left left'
       ends = for_told left (λ input. EndsLines AreTexts count old new input left' before now end) (λ input is.
           text_ends count count' old new same told one draws lacks (started starts) h sessions input left' before now end (λ other. closed (λ e. other (cc))) (λ total book holds.
           let O : Option (List ℕ) → Type 0 = λ o. EndsRun ScreenGives [] h o (begun total book) (pages_of count' new.image) sessions left' before now end in
-          subst O is (ends total book holds.honest (stands_held count total book old holds))));
+          subst O is (ends total book holds.honest (stands_held count total book old rests holds))));
       crash = run_crash starts lasts;
       cause = cause;
       holds = λ other. for_told left (λ input. HoldsAgain count old new) (λ input is.
           run_again count count' old new same told h sessions left left' before now end (λ more. closed (λ e. more (cc))) (λ e. other (ap Err e)) (λ total book holds.
-          ends total book holds.honest (stands_held count total book old holds)));
+          ends total book holds.honest (stands_held count total book old rests holds)));
       reads = reads;
       syncs = syncs;
       goes_on = goes;

@@ -5,7 +5,7 @@ use Rattle.gate_pages.specs.Journal.{page_count, pages_of}
 use Rattle.series_book.specs.declared.one_series.Series.{Series}
 use Rattle.series_book.specs.Edits.{id_of}
 use Rattle.disk_store.specs.Held.{HoldsBook}
-use Rattle.stored_book.specs.Standing.{StandsForBook, RecoversTo}
+use Rattle.stored_book.specs.Standing.{StandsForBook, book_pages, RecoversTo}
 use Rattle.series_load.specs.Sets.{IsNamed, Loads}
 use Rattle.program_words.specs.declared.words.Command.{Command}
 use Rattle.program_words.specs.declared.words.Command.TheVariants.{Plot, Load, Demo, Run, Serve, Draw, Init, Check, ListSeries, Export, Retain, Cover, Live, Derive}
@@ -83,7 +83,7 @@ left_lines IsText input count total book from left sent is =
       | inl here ↦ (
         a.between.book,
         record { front = a.front; rest = a.rest; begins_with = a.begins; between = a.between; text = a.text; answers = a.answers; state = inl (refl, here.1) },
-        record { readable = is.readable; within = is.within; stands = here.0 },
+        record { readable = is.readable; within = is.within; old = is.old; stands = here.0 },
       )
       | inr next ↦ (
         next.after.book,
@@ -96,7 +96,7 @@ left_lines IsText input count total book from left sent is =
           answers = a.answers;
           state = inr (next.after, next.next, refl, next.sent);
         },
-        record { readable = is.readable; within = is.within; stands = next.stands },
+        record { readable = is.readable; within = is.within; old = is.old; stands = next.stands },
       )
     ]
 
@@ -113,11 +113,11 @@ left_sets one name input count total book series from left sent named is =
         loads = after.loads;
         all = λ more.
             let whole = (is.all more).1 in
-            let same = one (pages_of count left) total total after.new whole.after.new after.stands whole.after.stands in
+            let same = one (book_pages count left) total total after.new whole.after.new after.stands whole.after.stands in
             let P : List Series → Type 0 = λ b. Loads total name book whole.runs b in
             record { rows = whole.rows; reads = whole.reads; runs = whole.runs; all = whole.all; loads = subst P same whole.after.loads };
       },
-      record { readable = is.readable; within = is.within; stands = after.stands },
+      record { readable = is.readable; within = is.within; old = is.old; stands = after.stands },
     )
 
 left_requests : OneBook → (seed rounds count total : ℕ) (book : List Series) (from : ℕ) (left : Image) (sent : ℕ) → IsAheadDemo (workload seed rounds) count total (begun total book) from left sent
@@ -131,9 +131,9 @@ left_requests one seed rounds count total book from left sent is =
         new_is = refl;
         all = λ more.
             let whole = is.all more in
-            (whole.0, whole.1, whole.2, one (pages_of count left) total total whole.1.book p.new.book whole.3 p.stands);
+            (whole.0, whole.1, whole.2, one (book_pages count left) total total whole.1.book p.new.book whole.3 p.stands);
       },
-      record { readable = is.readable; within = is.within; stands = p.stands },
+      record { readable = is.readable; within = is.within; old = is.old; stands = p.stands },
     )
 
 left_load : OneBook → (name input : List ℕ) (count total : ℕ) (book : List Series) (from : ℕ) (left : Image) (sent : ℕ) → LeavesFrom (Load name) input count total book from left sent → Left (Load name) input count total book from left sent

@@ -1,5 +1,5 @@
 -- What is done over a store on a disk, in the words of the disk.
-use Rattle.std.proofs.Common.{◌≡◌, ℕ, ◌≤◌, Bool, List, [], Option, Some, None, Result, Ok, Err, IfSome, refl, subst, inl, inr}
+use Rattle.std.proofs.Common.{◌≡◌, ℕ, ◌≤◌, Bool, List, [], Option, Some, None, Result, Ok, Err, IfSome, refl, sym, subst, inl, inr}
 use Rattle.std.specs.Prelude.{OnOk, IfErr}
 use Rattle.block_disk.specs.View.{Image, View, Honest, sent_now}
 use Rattle.chart_client.specs.Showing.{ScreenGives}
@@ -12,6 +12,7 @@ use Rattle.series_book.specs.declared.one_series.Series.{Series}
 use Rattle.disk_store.specs.Held.{HoldsBook}
 use Rattle.disk_store.proofs.Lowered.{lowered_readable, lowered_is}
 use Rattle.stored_book.specs.Standing.{StandsForBook}
+use Rattle.stored_book.proofs.CurrentLemmas.{book_current, book_keeps}
 use Rattle.zoom_session.specs.declared.session.Session.{Session}
 use Rattle.chart_service.specs.State.{State, IsSound}
 use Rattle.chart_service.specs.Moments.{Since, IsAhead}
@@ -131,10 +132,13 @@ ahead_on T input count total start from crash sent within all image left =
     let total_of : (pages : Image) → Q pages → ℕ = λ pages is. total in
     let book_of : (pages : Image) → Q pages → List Series = λ pages is. (ahead_book T input total start from pages sent is).0 in
     let stand : (pages : Image) (is : Q pages) → StandsForBook pages (total_of pages is) (book_of pages is) = λ pages is. (ahead_book T input total start from pages sent is).1 in
+    let here = lowered_is count crash Q total_of book_of stand all image left in
+    let stands = stand (pages_of count image) here in
     record {
       readable = lowered_readable count crash Q total_of book_of stand all image left;
       within = within;
-      ahead = lowered_is count crash Q total_of book_of stand all image left;
+      old = book_keeps count image total (book_of (pages_of count image) here) stands;
+      ahead = subst Q (sym (book_current (pages_of count image) total (book_of (pages_of count image) here) stands)) here;
     }
 
 pub leaves_lowered : (IsText : Says) (count count' : ℕ) (sound sound' : Bool) (old new : View) (input : List ℕ) → count' ≡ count → GoesOn old new

@@ -4,18 +4,14 @@ use Rattle.std.proofs.lemmas.Bool.{cases_lt}
 use Rattle.block_disk.specs.View.{Image, View, Honest, sent_now}
 use Rattle.chart_world.specs.LineLaws.{told_so}
 use Rattle.chart_client.specs.declared.errors.ClientError.TheVariants as client
-use Rattle.gate_pages.specs.GateLaws.{goes_by, goes_then}
-use Rattle.gate_pages.specs.GatePages.{StandsAsBefore}
+use Rattle.gate_pages.specs.GateLaws.{goes_then}
 use Rattle.gate_pages.specs.Journal.{page_count}
-use Rattle.gate_pages.specs.Pages.{Quiet}
-use Rattle.gate_pages.proofs.Moving.{sent_same}
 use Rattle.series_book.specs.declared.one_series.Series.{Series}
-use Rattle.empty_store.proofs.DisksMade.{stood}
 use Rattle.disk_store.specs.Held.{HoldsBook}
 use Rattle.disk_store.specs.Openings.{Opens, Prevents, IsOutside}
 use Rattle.disk_store.specs.declared.causes.OpeningCause.{OpeningCause}
 use Rattle.disk_store.specs.declared.causes.OpeningCause.TheVariants as opening
-use Rattle.disk_store.proofs.Opened.{stands_on}
+use Rattle.disk_store.proofs.Opened.{opens_goes, opens_quiet, opens_sent, opens_recover}
 use Rattle.stored_book.specs.Standing.{RecoversTo}
 use Rattle.chart_service.specs.State.{State}
 use Rattle.chart_service.specs.Serving.{told, SendsFirst}
@@ -31,7 +27,6 @@ use Rattle.chart_program.specs.Served.{Says, Faults, faults_of, AnswersAll, Answ
 use Rattle.store_commands.specs.Books.{begun, HoldsAgain}
 use Rattle.store_commands.proofs.HoldsAgain.{again_opened}
 use Rattle.store_commands.proofs.Held.{held, risen_since}
-use Rattle.store_commands.proofs.Moments.{sent_so}
 
 -- ---- before the first line
 
@@ -65,6 +60,7 @@ pub ahead_none : (IsText : Says) (input : List ℕ) (count total : ℕ) (book : 
 ahead_none IsText input count total book from image sent none is same = record {
   readable = is.readable;
   within = is.within;
+  old = is.old;
   ahead = record {
     front = [];
     rest = input;
@@ -84,12 +80,11 @@ opened_at : (IsText : Says) (input : List ℕ) (old mid : View) (total : ℕ) (b
     → IsAheadOn (IsText (begun total book)) input (page_count old.size) total (begun total book) (sent_now old) image (mid.sent_by at)
 opened_at IsText input old mid total book none opens holds at image low high left =
     let count = page_count old.size in
-    let stands = stood count old mid opens.time at image low high left in
-    ahead_none IsText input count total book (sent_now old) image (mid.sent_by at) none (stands_on count total book old image holds.images stands) (sent_so old mid (StandsAsBefore count old) opens.time at low high)
+    ahead_none IsText input count total book (sent_now old) image (mid.sent_by at) none (opens_recover count total book old mid holds opens at image low high left) (opens_sent count old mid opens at low high)
 
 pub opened_leaves : (IsText : Says) (input : List ℕ) (old mid : View) → SaysNothing IsText → Opens (page_count old.size) old mid → LeavesBooks IsText (page_count old.size) input old mid
 opened_leaves IsText input old mid none opens = λ total book holds. record {
-  goes = goes_by old mid (StandsAsBefore (page_count old.size) old) (Quiet old) opens.time;
+  goes = opens_goes (page_count old.size) old mid opens;
   here = λ at image low high left. opened_at IsText input old mid total book none opens holds at image low high left;
 }
 
@@ -97,9 +92,9 @@ leaves_on : (IsText : Says) (input : List ℕ) (old mid new : View) → SaysNoth
 leaves_on IsText input old mid new none opens leaves = λ total book holds.
     let count = page_count old.size in
     let since = leaves total book (held old mid opens total book holds) in
-    let same : sent_now mid ≡ sent_now old = sent_same old mid (StandsAsBefore count old) opens.time in
+    let same : sent_now mid ≡ sent_now old = opens_quiet count old mid opens in
     record {
-      goes = goes_then old mid new (goes_by old mid (StandsAsBefore count old) (Quiet old) opens.time) since.goes;
+      goes = goes_then old mid new (opens_goes count old mid opens) since.goes;
       here = λ at image low high left. elim (cases_lt mid.clock at) [
         | inl late ↦
             let P : ℕ → Type 0 = λ from. IsAheadOn (IsText (begun total book)) input count total (begun total book) from image (new.sent_by at) in
@@ -159,7 +154,7 @@ serves_on {T} IsText CanShow old mid new left left' before now faults (Ok done) 
   holds = λ other. again_on left old mid new opens (s.holds (λ e. cc));
   reads = reads_opened left old mid new opens s.reads;
   syncs = syncs_opened left old mid new opens s.syncs;
-  goes_on = goes_then old mid new (goes_by old mid (StandsAsBefore (page_count old.size) old) (Quiet old) opens.time) s.goes_on;
+  goes_on = goes_then old mid new (opens_goes (page_count old.size) old mid opens) s.goes_on;
 }
 serves_on {T} IsText CanShow old mid new left left' before now faults (Err end) none opens s = record {
   done = tt;
@@ -171,7 +166,7 @@ serves_on {T} IsText CanShow old mid new left left' before now faults (Err end) 
   holds = λ other. again_on left old mid new opens (s.holds (λ e. other (ap (λ (r : Result T RunEnd). in_world r) e)));
   reads = reads_opened left old mid new opens s.reads;
   syncs = syncs_opened left old mid new opens s.syncs;
-  goes_on = goes_then old mid new (goes_by old mid (StandsAsBefore (page_count old.size) old) (Quiet old) opens.time) s.goes_on;
+  goes_on = goes_then old mid new (opens_goes (page_count old.size) old mid opens) s.goes_on;
 }
 
 -- the same, where equals stand for equals
@@ -219,7 +214,7 @@ opening_at IsText CanShow old new left left' before faults cause none opens prev
   ];
   reads = reads_unopened left old new opens;
   syncs = syncs_unopened left old new opens;
-  goes_on = goes_by old new (StandsAsBefore (page_count old.size) old) (Quiet old) opens.time;
+  goes_on = opens_goes (page_count old.size) old new opens;
 }
 
 pub serves_not : {T : Type 0} (IsText : Says) (CanShow : Type 0) (old new : View) (left left' before now : Option (List ℕ)) (faults : Faults) (cause : OpeningCause) → SaysNothing IsText → Opens (page_count old.size) old new → Prevents cause old new

@@ -8,7 +8,7 @@ use Rattle.chart_client.specs.declared.errors.ClientError.TheVariants as client
 use Rattle.chart_client.specs.declared.holding.Holding.{Holding}
 use Rattle.chart_frames.specs.declared.frame.Frame.{Frame}
 use Rattle.gate_pages.specs.GatePages.{IsReadable}
-use Rattle.gate_pages.specs.Journal.{page_count, pages_of}
+use Rattle.gate_pages.specs.Journal.{page_count}
 use Rattle.gate_pages.specs.Pages.{GoesOn}
 use Rattle.line_raster.specs.Canvas.{Canvas}
 use Rattle.disk_store.specs.Openings.{Prevents}
@@ -26,6 +26,7 @@ use Rattle.chart_program.specs.declared.lines_end.LinesEnd.{LinesEnd}
 use Rattle.chart_program.specs.declared.lines_end.LinesEnd.TheVariants as lines_end
 use Rattle.chart_program.specs.declared.run_end.RunEnd.{RunEnd}
 use Rattle.chart_program.specs.declared.run_end.RunEnd.TheVariants as run_end
+use Rattle.stored_book.specs.Standing.{KeepsOldStore, book_pages}
 use Rattle.stored_book.specs.Damage.{IsBadForRequest}
 use Rattle.store_commands.specs.Damaged.{IsDamagedLater}
 use Rattle.store_commands.specs.Books.{begun, OfBook, FromBook, HoldsAgain, Never}
@@ -92,7 +93,8 @@ EndsLines IsText count old new input left before now (run_end.Show e) = Never co
 pub record IsAheadOn (IsText : List (Option (List ℕ)) → List Frame → List ℕ → Type 0) (input : List ℕ) (count total : ℕ) (start : State) (from : ℕ) (image : Image) (sent : ℕ) : Type 0 where
   pub readable : IsReadable count image
   pub within : total ≤ count
-  pub ahead : IsAhead IsText input total start from (pages_of count image) sent
+  pub old : KeepsOldStore count image
+  pub ahead : IsAhead IsText input total start from (book_pages count image) sent
 
 -- at each moment from old to new a crash leaves such an image
 abbrev pub LeavesBooks : Says → ℕ → List ℕ → View → View → Type 0
@@ -113,9 +115,9 @@ SyncsFrom count old new input from = OfBook count old (λ total book. new.beside
 abbrev pub ReadsServing : View → View → List ℕ → Type 0
 ReadsServing old new input = (opened : ℕ) × (opened ≤ old.reads + 200) × ReadsFrom (page_count old.size) old new input opened
 
--- an opening syncs three times at most, and then the lines sync
+-- an opening syncs seven times at most, and then the lines sync
 abbrev pub SyncsServing : View → View → List ℕ → Type 0
-SyncsServing old new input = (opened : ℕ) × (opened ≤ old.syncs + 3) × SyncsFrom (page_count old.size) old new input opened
+SyncsServing old new input = (opened : ℕ) × (opened ≤ old.syncs + 7) × SyncsFrom (page_count old.size) old new input opened
 
 -- ---- frames that can't be used
 

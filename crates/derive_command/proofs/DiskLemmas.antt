@@ -11,30 +11,27 @@ use Rattle.gate_pages.specs.GatePages.{IsClosed, PagesOf, pages_view}
 use Rattle.gate_pages.specs.Journal.{page_count, pages_of}
 use Rattle.series_book.specs.declared.one_series.Series.{Series}
 use Rattle.stored_book.specs.Damage.{IsBadForRequest}
+use Rattle.stored_book.proofs.CurrentLemmas.{recovers_new}
 use Rattle.stored_book.specs.Standing.{StandsForBook, RecoversTo}
 use Rattle.store_commands.proofs.CheckLooks.{left_stands}
-use Rattle.store_commands.proofs.Held.{held, holds_same, risen_since, stands_held, within_held}
+use Rattle.store_commands.proofs.Damages.{later_bad}
+use Rattle.store_commands.proofs.Held.{RestsNew, held, holds_same, risen_since, stands_held, within_held}
 use Rattle.store_commands.proofs.Moments.{on_at, opened_goes, opened_since, since_on}
 use Rattle.store_commands.specs.Books.{LeavesSame, OfBook}
 use Rattle.store_commands.specs.Damaged.{IsDamagedLater}
 use Rattle.derive_command.specs.Derived.{DerivesAll}
 use Rattle.derive_command.specs.Deriving.{Drawn, IsEndCause, StopsAt}
-use Rattle.derive_command.specs.Doing.{Goes, IsCause, Side}
+use Rattle.store_commands.specs.Sides.{Side}
+use Rattle.derive_command.specs.Doing.{Goes, IsCause}
 use Rattle.derive_command.specs.Lines.{DrawsAll, EndsSo}
 use Rattle.derive_command.specs.declared.derive_end.DeriveEnd.{DeriveEnd}
 use Rattle.derive_command.specs.declared.derive_end.DeriveEnd.TheVariants.{BadLine, Refused, ReadFault, SendFault, InputTooLong, DiskFault, Damaged, NoMemory}
-
--- a page that was called damaged is so of the disk
-bad_later : (count count' : ℕ) (new : View) (page total : ℕ) → count' ≡ count → total ≤ count → (page < total) × (Honest new → IsBadForRequest count' (pages_of count' new.image) page) → IsDamagedLater IsBadForRequest count new (66 + page)
-bad_later count count' new page total same few bad =
-    let P : ℕ → Type 0 = λ n. IsBadForRequest n (pages_of n new.image) page in
-    record { page = page; place_is = refl; within = omega (arith, bad.0, few); bad = λ honest. subst P same (bad.1 honest) }
 
 abbrev pub disk_side : ℕ → Bool → View → ℕ → ℕ → ℕ → Side
 disk_side count sound disk total reads sends = record { told = Honest disk; view = pages_view count sound disk; under = disk; total = total; read_faults = reads; send_faults = sends }
 
 -- Lines were answered over the pages of a disk, which is at rest afterwards.
-module _ (count count' : ℕ) (sound sound' : Bool) (old new : View) (total total' reads reads_now sends sends_now : ℕ) (goes : Goes (disk_side count sound old total reads sends) (disk_side count' sound' new total' reads_now sends_now)) (closed : IsClosed new) (few : total ≤ count) (faults : old.faults ≤ new.faults) where
+module _ (count count' : ℕ) (sound sound' : Bool) (old new : View) (total total' reads reads_now sends sends_now : ℕ) (goes : Goes (disk_side count sound old total reads sends) (disk_side count' sound' new total' reads_now sends_now)) (rests : RestsNew count old) (closed : IsClosed new) (few : total ≤ count) (faults : old.faults ≤ new.faults) where
   -- this is so where the pages stand for a book
   abbrev pub OfPages : (List Series → Type 0) → Type 0
   OfPages IsSo = (total : ℕ) (book : List Series) → Honest old → StandsForBook (pages_of count old.image) total book → IsSo book
@@ -46,13 +43,13 @@ module _ (count count' : ℕ) (sound sound' : Bool) (old new : View) (total tota
       let before = pages_view count sound old in
       let after = pages_view count' sound' new in
       let S : ℕ → Type 0 = λ sent. (sent_now before ≤ sent) × (sent ≤ sent_now after) in
-      let passes : Passes before after Q S = passes_weaker before after (PagesOf count (Now old)) Q S S (left_stands count total book old holds) (λ sent is. is) goes.time in
+      let passes : Passes before after Q S = passes_weaker before after (PagesOf count (Now old)) Q S S (left_stands count total book old rests holds) (λ sent is. is) goes.time in
       since_on IsSo old old new (since_none old IsSo holds.images) goes.goes_on (λ at image low high left.
       let on = on_at count count' total sound sound' old new goes.size (within_held count total book old holds) Q S (λ pages is. book) (λ pages is. is) passes at image low high left in
-      record { readable = on.readable; within = on.within; stands = on.so })
+      recovers_new count image total book on.readable on.within on.so)
 
   holds_on : OfBook count old (λ total book. HoldsBook count total book new)
-  holds_on = λ total book holds. holds_same count count' total book old new goes.size goes.is_told goes.image closed holds
+  holds_on = λ total book holds. holds_same count count' total book old new rests goes.size goes.is_told goes.image closed holds
 
   cause_on : (end : DeriveEnd) → IsCause end (disk_side count sound old total reads sends) (disk_side count' sound' new total' reads_now sends_now) → IsEndCause end count old new reads reads_now sends sends_now
   cause_on (BadLine at) is = tt
@@ -61,16 +58,16 @@ module _ (count count' : ℕ) (sound sound' : Bool) (old new : View) (total tota
   cause_on SendFault is = is
   cause_on InputTooLong is = tt
   cause_on DiskFault is = is
-  cause_on (Damaged page) is = bad_later count count' new page total goes.size few is
+  cause_on (Damaged page) is = later_bad count count' new page goes.size (omega (arith, is.0, few, goes.size)) is.1
   cause_on NoMemory is = tt
 
   done_on : (left before now : Option (List ℕ)) → OfPages (λ book. IfSome left (λ input. DrawsAll book input before now)) → IfSome left (λ input. DerivesAll count old input before now)
   done_on None before now all = tt
-  done_on (Some input) before now all = λ total book holds. all total book holds.honest (stands_held count total book old holds)
+  done_on (Some input) before now all = λ total book holds. all total book holds.honest (stands_held count total book old rests holds)
 
   stops_on : (left left' before now : Option (List ℕ)) (end : DeriveEnd) → OfPages (λ book. IfSome left (λ input. EndsSo book input left' before now end)) → IfSome left (λ input. StopsAt count old input left' before now end)
   stops_on None left' before now end all = tt
-  stops_on (Some input) left' before now end all = λ total book holds. all total book holds.honest (stands_held count total book old holds)
+  stops_on (Some input) left' before now end all = λ total book holds. all total book holds.honest (stands_held count total book old rests holds)
 
   pub drawn_by : {T : Type 0} (answer : Result T DeriveEnd) (left left' before now : Option (List ℕ))
       → OfPages (λ book. OnOk answer (IfSome left (λ input. DrawsAll book input before now)))

@@ -14,8 +14,10 @@ use Rattle.gate_pages.specs.Journal.{page_count, pages_of}
 use Rattle.gate_pages.specs.Pages.{GoesOn}
 use Rattle.series_book.specs.declared.one_series.Series.{Series}
 use Rattle.stored_book.specs.Damage.{IsBadForRequest}
+use Rattle.stored_book.proofs.CurrentLemmas.{recovers_new}
 use Rattle.stored_book.specs.Standing.{StandsForBook, RecoversTo}
-use Rattle.store_commands.proofs.Held.{held, risen_since, stands_held, within_held}
+use Rattle.store_commands.proofs.Damages.{later_bad}
+use Rattle.store_commands.proofs.Held.{RestsNew, held, holds_so, risen_since, stands_held, within_held}
 use Rattle.store_commands.proofs.Moments.{opened_goes, opened_quiet, since_opened}
 use Rattle.store_commands.specs.Damaged.{IsDamagedLater}
 use Rattle.live_command.specs.Doing.{IsCause, Side}
@@ -68,44 +70,39 @@ ahead_on total input old from sent count crash within all image left =
     let book_of : (pages : Image) → Q pages → List Series = λ pages is. is.state.state.book in
     let stand : (pages : Image) (is : Q pages) → StandsForBook pages (total_of pages is) (book_of pages is) = λ pages is. is.there in
     let readable = lowered_readable count crash Q total_of book_of stand all image left in
-    ahead_so (Stands total (pages_of count image)) (λ after. RecoversTo count image total after) input old from sent (λ after stands. record { readable = readable; within = within; stands = stands })
+    ahead_so (Stands total (pages_of count image)) (λ after. RecoversTo count image total after) input old from sent (λ after stands. recovers_new count image total after readable within stands)
     (lowered_is count crash Q total_of book_of stand all image left)
 
 -- ---- the lines of an input over the pages of a disk, which is at rest afterwards unless a call of it failed
 
-module _ (count count' : ℕ) (sound sound' : Bool) (old new : View) (same : count' ≡ count) (told : Honest old → Honest new) (goes : GoesOn old new) where
+module _ (count count' : ℕ) (sound sound' : Bool) (old new : View) (same : count' ≡ count) (told : Honest old → Honest new) (goes : GoesOn old new) (rests : RestsNew count old) where
   -- this is so where the pages stand for a book
   abbrev pub OfPages : (ℕ → List Series → Type 0) → Type 0
   OfPages IsSo = (total : ℕ) (book : List Series) → Honest old → StandsForBook (pages_of count old.image) total book → IsSo total book
 
-  holds_so : (total : ℕ) (book : List Series) → HoldsBook count total book old → IsClosed new → (after : List Series) → StandsForBook (pages_of count' new.image) total after → Holds count total new after
-  holds_so total book holds closed after stands =
-      let C : ℕ → Type 0 = λ c. StandsForBook (pages_of c new.image) total after in
-      holds_closed count total after new closed (told holds.honest) (within_held count total book old holds) (subst C same stands)
-
   pub done_on : (left before now : Option (List ℕ)) → OfPages (λ total book. IfSome left (λ input. SendsAll (Stands total (pages_of count' new.image)) input (begun_live total book) before now)) → IsClosed new → IfSome left (λ input. LivesAll count old new input before now)
   done_on None before now all closed = tt
   done_on (Some input) before now all closed = λ total book holds.
-      all_so (Stands total (pages_of count' new.image)) (Holds count total new) input (begun_live total book) before now (holds_so total book holds closed) (all total book holds.honest (stands_held count total book old holds))
+      all_so (Stands total (pages_of count' new.image)) (Holds count total new) input (begun_live total book) before now (holds_so count count' old new same told total book holds closed) (all total book holds.honest (stands_held count total book old rests holds))
 
   end_on : (total : ℕ) (book : List Series) (input : List ℕ) (left before now : Option (List ℕ)) (end : ServeEnd) → HoldsBook count total book old → (end ≢ DiskFault → IsClosed new) → EndsSo (Stands total (pages_of count' new.image)) input (begun_live total book) left before now end → EndsSo (Holds count total new) input (begun_live total book) left before now end
   end_on total book input left before now DiskFault holds closed s = s
-  end_on total book input left before now ReadFault holds closed s = ends_so (Stands total (pages_of count' new.image)) (Holds count total new) input (begun_live total book) before now (holds_so total book holds (closed (λ is. cc))) left ReadFault s
-  end_on total book input left before now SendFault holds closed s = ends_so (Stands total (pages_of count' new.image)) (Holds count total new) input (begun_live total book) before now (holds_so total book holds (closed (λ is. cc))) left SendFault s
-  end_on total book input left before now InputTooLong holds closed s = ends_so (Stands total (pages_of count' new.image)) (Holds count total new) input (begun_live total book) before now (holds_so total book holds (closed (λ is. cc))) left InputTooLong s
+  end_on total book input left before now ReadFault holds closed s = ends_so (Stands total (pages_of count' new.image)) (Holds count total new) input (begun_live total book) before now (holds_so count count' old new same told total book holds (closed (λ is. cc))) left ReadFault s
+  end_on total book input left before now SendFault holds closed s = ends_so (Stands total (pages_of count' new.image)) (Holds count total new) input (begun_live total book) before now (holds_so count count' old new same told total book holds (closed (λ is. cc))) left SendFault s
+  end_on total book input left before now InputTooLong holds closed s = ends_so (Stands total (pages_of count' new.image)) (Holds count total new) input (begun_live total book) before now (holds_so count count' old new same told total book holds (closed (λ is. cc))) left InputTooLong s
   end_on total book input left before now (Damaged page) holds closed s = absurd s
-  end_on total book input left before now NoMemory holds closed s = ends_so (Stands total (pages_of count' new.image)) (Holds count total new) input (begun_live total book) before now (holds_so total book holds (closed (λ is. cc))) left NoMemory s
+  end_on total book input left before now NoMemory holds closed s = ends_so (Stands total (pages_of count' new.image)) (Holds count total new) input (begun_live total book) before now (holds_so count count' old new same told total book holds (closed (λ is. cc))) left NoMemory s
 
   pub stops_on : (left left' before now : Option (List ℕ)) (end : ServeEnd) → OfPages (λ total book. IfSome left (λ input. EndsSo (Stands total (pages_of count' new.image)) input (begun_live total book) left' before now end)) → (end ≢ DiskFault → IsClosed new) → IfSome left (λ input. StopsAt count old new input left' before now end)
   stops_on None left' before now end all closed = tt
-  stops_on (Some input) left' before now end all closed = λ total book holds. end_on total book input left' before now end holds closed (all total book holds.honest (stands_held count total book old holds))
+  stops_on (Some input) left' before now end all closed = λ total book holds. end_on total book input left' before now end holds closed (all total book holds.honest (stands_held count total book old rests holds))
 
   pub crash_on : (left before : Option (List ℕ)) → OfPages (λ total book. IfSome left (λ input. IfSome before (λ bytes. Since (pages_view count sound old) (pages_view count' sound' new) (λ pages sent. IsAhead (λ after. StandsForBook pages total after) input (begun_live total book) (sent_now (pages_view count sound old)) sent))))
       → IfSome left (λ input. IfSome before (λ bytes. LeavesLived count input old new))
   crash_on None before all = tt
   crash_on (Some input) None all = tt
   crash_on (Some input) (Some bytes) all = λ total book holds.
-      let since = all total book holds.honest (stands_held count total book old holds) in
+      let since = all total book holds.honest (stands_held count total book old rests holds) in
       record {
         goes = goes;
         here = λ at image low high left.
@@ -163,24 +160,18 @@ module _ (old mid new : View) (opens : Opens (page_count old.size) old mid) wher
     faults = omega (arith, opens.faults, s.faults);
   }
 
--- a page that was called damaged is so of the disk
-pub bad_later : (count count' : ℕ) (new : View) (page : ℕ) → count' ≡ count → (page < count') × (Honest new → IsBadForRequest count' (pages_of count' new.image) page) → IsDamagedLater IsBadForRequest count new (66 + page)
-bad_later count count' new page same bad =
-    let P : ℕ → Type 0 = λ n. IsBadForRequest n (pages_of n new.image) page in
-    record { page = page; place_is = refl; within = omega (arith, bad.0, same); bad = λ honest. subst P same (bad.1 honest) }
-
 -- ---- all that was done over the store of a disk
 
 abbrev pub disk_side : ℕ → Bool → View → ℕ → ℕ → Side
 disk_side count sound disk reads sends = record { told = Honest disk; view = pages_view count sound disk; under = disk; read_faults = reads; send_faults = sends }
 
-module _ (count count' : ℕ) (sound sound' : Bool) (old new : View) (same : count' ≡ count) (told : Honest old → Honest new) (goes : GoesOn old new) (reads reads_now sends sends_now : ℕ) where
+module _ (count count' : ℕ) (sound sound' : Bool) (old new : View) (same : count' ≡ count) (told : Honest old → Honest new) (goes : GoesOn old new) (rests : RestsNew count old) (reads reads_now sends sends_now : ℕ) where
   cause_on : (end : ServeEnd) → IsCause end (disk_side count sound old reads sends) (disk_side count' sound' new reads_now sends_now) → IsEndCause end count old new reads reads_now sends sends_now
   cause_on ReadFault is = is
   cause_on SendFault is = is
   cause_on InputTooLong is = tt
   cause_on DiskFault is = is
-  cause_on (Damaged page) is = bad_later count count' new page same is
+  cause_on (Damaged page) is = later_bad count count' new page same is.0 is.1
   cause_on NoMemory is = tt
 
   pub served_by : {T : Type 0} (answer : Result T ServeEnd) (left left' before now : Option (List ℕ))
@@ -191,10 +182,10 @@ module _ (count count' : ℕ) (sound sound' : Bool) (old new : View) (same : cou
       → IfErr answer (λ end. IsCause end (disk_side count sound old reads sends) (disk_side count' sound' new reads_now sends_now))
       → (answer ≢ Err DiskFault → IsClosed new) → old.faults ≤ new.faults → Served count old new left left' before now reads reads_now sends sends_now answer
   served_by {T} (Ok v) left left' before now done within stops crash cause closed faults = record {
-    done = done_on count count' sound sound' old new same told goes left before now done (closed (λ is. cc));
+    done = done_on count count' sound sound' old new same told goes rests left before now done (closed (λ is. cc));
     within = within;
     stops = tt;
-    crash = crash_on count count' sound sound' old new same told goes left before crash;
+    crash = crash_on count count' sound sound' old new same told goes rests left before crash;
     cause = tt;
     goes_on = goes;
     faults = faults;
@@ -202,15 +193,15 @@ module _ (count count' : ℕ) (sound sound' : Bool) (old new : View) (same : cou
   served_by {T} (Err end) left left' before now done within stops crash cause closed faults = record {
     done = tt;
     within = tt;
-    stops = stops_on count count' sound sound' old new same told goes left left' before now end stops (λ other. closed (λ is. other (cc)));
-    crash = crash_on count count' sound sound' old new same told goes left before crash;
+    stops = stops_on count count' sound sound' old new same told goes rests left left' before now end stops (λ other. closed (λ is. other (cc)));
+    crash = crash_on count count' sound sound' old new same told goes rests left before crash;
     cause = cause_on end cause;
     goes_on = goes;
     faults = faults;
   }
 
 -- the same from the state on that a service without sessions begins with
-module _ (count count' : ℕ) (sound sound' : Bool) (old new : View) (same : count' ≡ count) (told : Honest old → Honest new) (goes : GoesOn old new) (reads reads_now sends sends_now : ℕ) (state : ℕ → List Series → LiveState) (begins : (total : ℕ) (book : List Series) → state total book ≡ begun_live total book) where
+module _ (count count' : ℕ) (sound sound' : Bool) (old new : View) (same : count' ≡ count) (told : Honest old → Honest new) (goes : GoesOn old new) (rests : RestsNew count old) (reads reads_now sends sends_now : ℕ) (state : ℕ → List Series → LiveState) (begins : (total : ℕ) (book : List Series) → state total book ≡ begun_live total book) where
   pub served_from : {T : Type 0} (answer : Result T ServeEnd) (left left' before now : Option (List ℕ))
       → ((total : ℕ) (book : List Series) → Honest old → StandsForBook (pages_of count old.image) total book → OnOk answer (IfSome left (λ input. SendsAll (Stands total (pages_of count' new.image)) input (state total book) before now)))
       → OnOk answer (IfSome left (λ input. length input ≤ 2 ^ 32))
@@ -222,7 +213,7 @@ module _ (count count' : ℕ) (sound sound' : Bool) (old new : View) (same : cou
       let Done : ℕ → LiveState → Type 0 = λ total s. OnOk answer (IfSome left (λ input. SendsAll (Stands total (pages_of count' new.image)) input s before now)) in
       let Stops : ℕ → LiveState → Type 0 = λ total s. IfErr answer (λ end. IfSome left (λ input. EndsSo (Stands total (pages_of count' new.image)) input s left' before now end)) in
       let Lasts : ℕ → LiveState → Type 0 = λ total s. IfSome left (λ input. IfSome before (λ bytes. Since (pages_view count sound old) (pages_view count' sound' new) (λ pages sent. IsAhead (λ after. StandsForBook pages total after) input s (sent_now (pages_view count sound old)) sent))) in
-      served_by count count' sound sound' old new same told goes reads reads_now sends sends_now answer left left' before now
+      served_by count count' sound sound' old new same told goes rests reads reads_now sends sends_now answer left left' before now
       (λ total book honest stands. let P : LiveState → Type 0 = Done total in subst P (begins total book) (done total book honest stands)) within
       (λ total book honest stands. let P : LiveState → Type 0 = Stops total in subst P (begins total book) (stops total book honest stands))
       (λ total book honest stands. let P : LiveState → Type 0 = Lasts total in subst P (begins total book) (crash total book honest stands)) cause closed faults
@@ -279,12 +270,12 @@ pub reads_untaken : (count : ℕ) (disk : View) (left : Option (List ℕ)) → I
 reads_untaken count disk left = told_each left (λ input. ReadsFrom count disk disk input disk.reads) (λ input total book holds. none_read input (begun_live total book) disk.reads)
 
 -- by a service without sessions
-pub reads_from : (count : ℕ) (old new : View) (left : Option (List ℕ)) (state : ℕ → List Series → LiveState) → ((total : ℕ) (book : List Series) → state total book ≡ begun_live total book)
+pub reads_from : (count : ℕ) (old new : View) → RestsNew count old → (left : Option (List ℕ)) (state : ℕ → List Series → LiveState) → ((total : ℕ) (book : List Series) → state total book ≡ begun_live total book)
     → ((total : ℕ) (book : List Series) → Honest old → StandsForBook (pages_of count old.image) total book → IfSome left (λ input. ReadsLines input (state total book) old.reads new.reads)) → IfSome left (λ input. ReadsFrom count old new input old.reads)
-reads_from count old new None state begins reads = tt
-reads_from count old new (Some input) state begins reads = λ total book holds.
+reads_from count old new rests None state begins reads = tt
+reads_from count old new rests (Some input) state begins reads = λ total book holds.
     let P : LiveState → Type 0 = λ s. ReadsLines input s old.reads new.reads in
-    subst P (begins total book) (reads total book holds.honest (stands_held count total book old holds))
+    subst P (begins total book) (reads total book holds.honest (stands_held count total book old rests holds))
 
 -- over a store that is opened first, or isn't
 pub reads_on : (count : ℕ) (old mid new : View) (left_mid left : Option (List ℕ)) → count ≡ page_count old.size → Opens (page_count old.size) old mid → left_mid ≡ left → IfSome left_mid (λ input. ReadsFrom count mid new input mid.reads) → IfSome left (λ input. ReadsLiving old new input)

@@ -65,9 +65,9 @@ ReadsFrom count old new input from = OfBook count old (λ total book. ReadsLines
 abbrev pub ReadsLiving : View → View → List ℕ → Type 0
 ReadsLiving old new input = (opened : ℕ) × (opened ≤ old.reads + 200) × ReadsFrom (page_count old.size) old new input opened
 
--- an opening syncs three times at most, and then the lines sync
+-- an opening syncs seven times at most, and then the lines sync
 abbrev pub SyncsLiving : View → View → List ℕ → Type 0
-SyncsLiving old new input = (opened : ℕ) × (opened ≤ old.syncs + 3) × SyncsLines input opened new.syncs
+SyncsLiving old new input = (opened : ℕ) × (opened ≤ old.syncs + 7) × SyncsLines input opened new.syncs
 
 -- The block at this place was found damaged at the opening, and then no input was taken and nothing was sent; or it is a
 -- page that an answer or a push found so.

@@ -15,15 +15,18 @@ use Rattle.gate_pages.specs.Pages.{GoesOn}
 use Rattle.series_book.specs.declared.one_series.Series.{Series}
 use Rattle.series_book.specs.EditLists.{after_edits}
 use Rattle.stored_book.specs.Damage.{IsBadForRequest}
+use Rattle.stored_book.proofs.CurrentLemmas.{recovers_new}
 use Rattle.stored_book.specs.Standing.{StandsForBook, RecoversTo}
 use Rattle.retention.specs.Drops.{book_swept}
 use Rattle.retention.specs.Sweeps.{sweeps}
-use Rattle.store_commands.proofs.Held.{held, risen_since, stands_held, within_held}
+use Rattle.store_commands.proofs.Damages.{later_bad}
+use Rattle.store_commands.proofs.Held.{RestsNew, held, holds_so, risen_since, stands_held, within_held}
 use Rattle.store_commands.proofs.Moments.{opened_goes, opened_quiet, since_opened}
 use Rattle.store_commands.specs.Books.{HoldsAgain, Never, OfBook}
 use Rattle.store_commands.specs.Damaged.{IsDamagedLater}
 use Rattle.retain_command.specs.Answers.{book_behind}
-use Rattle.retain_command.specs.Doing.{IsCause, Side}
+use Rattle.store_commands.specs.Sides.{Side}
+use Rattle.retain_command.specs.Doing.{IsCause}
 use Rattle.retain_command.specs.Retained.{Holds, LeavesSwept, RetainsAll}
 use Rattle.retain_command.specs.Retaining.{IsEndCause, StopsAt, Swept}
 use Rattle.retain_command.specs.Sweeping.{AnswersNext, EndsSo, IsAhead, SweepsAll, SweepsFirst, SweepsTaken, left_by}
@@ -78,7 +81,7 @@ ahead_on total book input from sent count crash within all image left =
     let book_of : (pages : Image) → Q pages → List Series = λ pages is. (ahead_book pages total book input from sent is).0 in
     let stand : (pages : Image) (is : Q pages) → StandsForBook pages (total_of pages is) (book_of pages is) = λ pages is. (ahead_book pages total book input from sent is).1 in
     let readable = lowered_readable count crash Q total_of book_of stand all image left in
-    ahead_so (Stands total (pages_of count image)) (λ after. RecoversTo count image total after) total book input from sent (λ after stands. record { readable = readable; within = within; stands = stands })
+    ahead_so (Stands total (pages_of count image)) (λ after. RecoversTo count image total after) total book input from sent (λ after stands. recovers_new count image total after readable within stands)
     (lowered_is count crash Q total_of book_of stand all image left)
 
 -- before the first line
@@ -87,41 +90,36 @@ ahead_none total book input from count image is = record { first = no_rules tota
 
 -- ---- the lines of an input over the pages of a disk, which is at rest afterwards unless a call of it failed
 
-module _ (count count' : ℕ) (sound sound' : Bool) (old new : View) (same : count' ≡ count) (told : Honest old → Honest new) (goes : GoesOn old new) where
+module _ (count count' : ℕ) (sound sound' : Bool) (old new : View) (same : count' ≡ count) (told : Honest old → Honest new) (goes : GoesOn old new) (rests : RestsNew count old) where
   -- this is so where the pages stand for a book
   abbrev pub OfPages : (ℕ → List Series → Type 0) → Type 0
   OfPages IsSo = (total : ℕ) (book : List Series) → Honest old → StandsForBook (pages_of count old.image) total book → IsSo total book
 
-  holds_so : (total : ℕ) (book : List Series) → HoldsBook count total book old → IsClosed new → (after : List Series) → StandsForBook (pages_of count' new.image) total after → Holds count total new after
-  holds_so total book holds closed after stands =
-      let C : ℕ → Type 0 = λ c. StandsForBook (pages_of c new.image) total after in
-      holds_closed count total after new closed (told holds.honest) (within_held count total book old holds) (subst C same stands)
-
   pub done_on : (left before now : Option (List ℕ)) → OfPages (λ total book. IfSome left (λ input. SweepsAll (Stands total (pages_of count' new.image)) total book input before now)) → IsClosed new → IfSome left (λ input. RetainsAll count old new input before now)
   done_on None before now all closed = tt
   done_on (Some input) before now all closed = λ total book holds.
-      all_so (Stands total (pages_of count' new.image)) (Holds count total new) total book input before now (holds_so total book holds closed) (all total book holds.honest (stands_held count total book old holds))
+      all_so (Stands total (pages_of count' new.image)) (Holds count total new) total book input before now (holds_so count count' old new same told total book holds closed) (all total book holds.honest (stands_held count total book old rests holds))
 
   end_on : (total : ℕ) (book : List Series) (input : List ℕ) (left before now : Option (List ℕ)) (end : RetainEnd) → HoldsBook count total book old → (end ≢ DiskFault → IsClosed new) → EndsSo (Stands total (pages_of count' new.image)) total book input left before now end → EndsSo (Holds count total new) total book input left before now end
   end_on total book input left before now DiskFault holds closed s = s
-  end_on total book input left before now (BadLine at) holds closed s = ends_so (Stands total (pages_of count' new.image)) (Holds count total new) total book input before now (holds_so total book holds (closed (λ is. cc))) left (BadLine at) s
-  end_on total book input left before now (UnknownSeries at) holds closed s = ends_so (Stands total (pages_of count' new.image)) (Holds count total new) total book input before now (holds_so total book holds (closed (λ is. cc))) left (UnknownSeries at) s
-  end_on total book input left before now ReadFault holds closed s = ends_so (Stands total (pages_of count' new.image)) (Holds count total new) total book input before now (holds_so total book holds (closed (λ is. cc))) left ReadFault s
-  end_on total book input left before now SendFault holds closed s = ends_so (Stands total (pages_of count' new.image)) (Holds count total new) total book input before now (holds_so total book holds (closed (λ is. cc))) left SendFault s
-  end_on total book input left before now InputTooLong holds closed s = ends_so (Stands total (pages_of count' new.image)) (Holds count total new) total book input before now (holds_so total book holds (closed (λ is. cc))) left InputTooLong s
+  end_on total book input left before now (BadLine at) holds closed s = ends_so (Stands total (pages_of count' new.image)) (Holds count total new) total book input before now (holds_so count count' old new same told total book holds (closed (λ is. cc))) left (BadLine at) s
+  end_on total book input left before now (UnknownSeries at) holds closed s = ends_so (Stands total (pages_of count' new.image)) (Holds count total new) total book input before now (holds_so count count' old new same told total book holds (closed (λ is. cc))) left (UnknownSeries at) s
+  end_on total book input left before now ReadFault holds closed s = ends_so (Stands total (pages_of count' new.image)) (Holds count total new) total book input before now (holds_so count count' old new same told total book holds (closed (λ is. cc))) left ReadFault s
+  end_on total book input left before now SendFault holds closed s = ends_so (Stands total (pages_of count' new.image)) (Holds count total new) total book input before now (holds_so count count' old new same told total book holds (closed (λ is. cc))) left SendFault s
+  end_on total book input left before now InputTooLong holds closed s = ends_so (Stands total (pages_of count' new.image)) (Holds count total new) total book input before now (holds_so count count' old new same told total book holds (closed (λ is. cc))) left InputTooLong s
   end_on total book input left before now (Damaged page) holds closed s = absurd s
-  end_on total book input left before now NoMemory holds closed s = ends_so (Stands total (pages_of count' new.image)) (Holds count total new) total book input before now (holds_so total book holds (closed (λ is. cc))) left NoMemory s
+  end_on total book input left before now NoMemory holds closed s = ends_so (Stands total (pages_of count' new.image)) (Holds count total new) total book input before now (holds_so count count' old new same told total book holds (closed (λ is. cc))) left NoMemory s
 
   pub stops_on : (left left' before now : Option (List ℕ)) (end : RetainEnd) → OfPages (λ total book. IfSome left (λ input. EndsSo (Stands total (pages_of count' new.image)) total book input left' before now end)) → (end ≢ DiskFault → IsClosed new) → IfSome left (λ input. StopsAt count old new input left' before now end)
   stops_on None left' before now end all closed = tt
-  stops_on (Some input) left' before now end all closed = λ total book holds. end_on total book input left' before now end holds closed (all total book holds.honest (stands_held count total book old holds))
+  stops_on (Some input) left' before now end all closed = λ total book holds. end_on total book input left' before now end holds closed (all total book holds.honest (stands_held count total book old rests holds))
 
   pub crash_on : (left before : Option (List ℕ)) → OfPages (λ total book. IfSome left (λ input. IfSome before (λ bytes. Since (pages_view count sound old) (pages_view count' sound' new) (λ pages sent. IsAhead (λ after. StandsForBook pages total after) total book input (sent_now (pages_view count sound old)) sent))))
       → IfSome left (λ input. IfSome before (λ bytes. LeavesSwept count input old new))
   crash_on None before all = tt
   crash_on (Some input) None all = tt
   crash_on (Some input) (Some bytes) all = λ total book holds.
-      let since = all total book holds.honest (stands_held count total book old holds) in
+      let since = all total book holds.honest (stands_held count total book old rests holds) in
       record {
         goes = goes;
         here = λ at image low high left.
@@ -181,18 +179,12 @@ module _ (old mid new : View) (opens : Opens (page_count old.size) old mid) wher
     faults = omega (arith, opens.faults, s.faults);
   }
 
--- a page that was called damaged is so of the disk
-pub bad_later : (count count' : ℕ) (new : View) (page total : ℕ) → count' ≡ count → total ≤ count' → (page < total) × (Honest new → IsBadForRequest count' (pages_of count' new.image) page) → IsDamagedLater IsBadForRequest count new (66 + page)
-bad_later count count' new page total same few bad =
-    let P : ℕ → Type 0 = λ n. IsBadForRequest n (pages_of n new.image) page in
-    record { page = page; place_is = refl; within = omega (arith, bad.0, few, same); bad = λ honest. subst P same (bad.1 honest) }
-
 -- ---- all that was done over the store of a disk
 
 abbrev pub disk_side : ℕ → Bool → View → ℕ → ℕ → ℕ → Side
 disk_side count sound disk total reads sends = record { told = Honest disk; view = pages_view count sound disk; under = disk; total = total; read_faults = reads; send_faults = sends }
 
-module _ (count count' : ℕ) (sound sound' : Bool) (old new : View) (same : count' ≡ count) (told : Honest old → Honest new) (goes : GoesOn old new) (total total' reads reads_now sends sends_now : ℕ) (few : total ≤ count') where
+module _ (count count' : ℕ) (sound sound' : Bool) (old new : View) (same : count' ≡ count) (told : Honest old → Honest new) (goes : GoesOn old new) (rests : RestsNew count old) (total total' reads reads_now sends sends_now : ℕ) (few : total ≤ count') where
   cause_on : (end : RetainEnd) → IsCause end (disk_side count sound old total reads sends) (disk_side count' sound' new total' reads_now sends_now) → IsEndCause end count old new reads reads_now sends sends_now
   cause_on (BadLine at) is = tt
   cause_on (UnknownSeries at) is = tt
@@ -200,7 +192,7 @@ module _ (count count' : ℕ) (sound sound' : Bool) (old new : View) (same : cou
   cause_on SendFault is = is
   cause_on InputTooLong is = tt
   cause_on DiskFault is = is
-  cause_on (Damaged page) is = bad_later count count' new page total same few is
+  cause_on (Damaged page) is = later_bad count count' new page same (omega (arith, is.0, few)) is.1
   cause_on NoMemory is = tt
 
   pub swept_by : {T : Type 0} (answer : Result T RetainEnd) (left left' before now : Option (List ℕ))
@@ -211,10 +203,10 @@ module _ (count count' : ℕ) (sound sound' : Bool) (old new : View) (same : cou
       → IfErr answer (λ end. IsCause end (disk_side count sound old total reads sends) (disk_side count' sound' new total' reads_now sends_now))
       → (answer ≢ Err DiskFault → IsClosed new) → old.faults ≤ new.faults → Swept count old new left left' before now reads reads_now sends sends_now answer
   swept_by {T} (Ok v) left left' before now done within stops crash cause closed faults = record {
-    done = done_on count count' sound sound' old new same told goes left before now done (closed (λ is. cc));
+    done = done_on count count' sound sound' old new same told goes rests left before now done (closed (λ is. cc));
     within = within;
     stops = tt;
-    crash = crash_on count count' sound sound' old new same told goes left before crash;
+    crash = crash_on count count' sound sound' old new same told goes rests left before crash;
     cause = tt;
     goes_on = goes;
     faults = faults;
@@ -222,8 +214,8 @@ module _ (count count' : ℕ) (sound sound' : Bool) (old new : View) (same : cou
   swept_by {T} (Err end) left left' before now done within stops crash cause closed faults = record {
     done = tt;
     within = tt;
-    stops = stops_on count count' sound sound' old new same told goes left left' before now end stops (λ other. closed (λ is. other (cc)));
-    crash = crash_on count count' sound sound' old new same told goes left before crash;
+    stops = stops_on count count' sound sound' old new same told goes rests left left' before now end stops (λ other. closed (λ is. other (cc)));
+    crash = crash_on count count' sound sound' old new same told goes rests left before crash;
     cause = cause_on end cause;
     goes_on = goes;
     faults = faults;

@@ -3,7 +3,7 @@ use Rattle.std.proofs.Common.{◌≡◌, ℕ, ◌+◌, ◌<◌, List, Option, re
 use Rattle.block_disk.specs.Counts.{HasRisen}
 use Rattle.block_disk.specs.View.{Image, View, Honest}
 use Rattle.gate_pages.specs.GateLaws.{goes_then}
-use Rattle.gate_pages.specs.Journal.{page_count, pages_of}
+use Rattle.gate_pages.specs.Journal.{page_count}
 use Rattle.gate_pages.specs.Pages.{GoesOn}
 use Rattle.series_book.specs.declared.one_series.Series.{Series}
 use Rattle.series_store.specs.Counting.{AreSound}
@@ -14,7 +14,7 @@ use Rattle.disk_store.specs.declared.causes.OpeningCause.{OpeningCause}
 use Rattle.disk_store.specs.declared.causes.OpeningCause.TheVariants as opening
 use Rattle.series_store.specs.declared.counts.Counts.{Counts}
 use Rattle.page_space.specs.Layout.{superblock_page}
-use Rattle.stored_book.specs.Standing.{AreCatalog, RecoversTo}
+use Rattle.stored_book.specs.Standing.{AreCatalog, book_pages, RecoversTo}
 use Rattle.store_commands.specs.Books.{OfBook, Never, LeavesSame}
 use Rattle.store_commands.specs.Status.{opening_status}
 use Rattle.store_commands.specs.Codes.{low_of_four, unopened}
@@ -146,7 +146,7 @@ ends_unopened old new before now sends sends_now cause end opens prevents outsid
     (λ total book holds. outside total book holds.honest (holds.images old.image holds.honest)) same)
 
 -- The store was opened and checked.
-module _ (old mid new : View) (before now : Option (List ℕ)) (sends sends_now : ℕ) (opens : Opens (page_count old.size) old mid) (pages : Honest old → pages_of (page_count old.size) mid.image ≡ pages_of (page_count old.size) old.image) where
+module _ (old mid new : View) (before now : Option (List ℕ)) (sends sends_now : ℕ) (opens : Opens (page_count old.size) old mid) (pages : Honest old → book_pages (page_count old.size) mid.image ≡ book_pages (page_count old.size) old.image) where
   pub since_both : LeavesSame (page_count old.size) mid new → GoesOn mid new → LeavesSame (page_count old.size) old new
   since_both crash goes = λ total book holds.
       let IsSo : Image → ℕ → Type 0 = λ image sent. RecoversTo (page_count old.size) image total book in
@@ -200,11 +200,11 @@ module _ (old mid new : View) (before now : Option (List ℕ)) (sends sends_now 
       ]
 
 -- the same, where equals stand for equals
-pub ends_opened : (count : ℕ) (old mid new : View) (before mid_before now : Option (List ℕ)) (sends mid_sends sends_now : ℕ) (end : Status) → Opens (page_count old.size) old mid → count ≡ page_count old.size → (Honest old → pages_of count mid.image ≡ pages_of count old.image)
+pub ends_opened : (count : ℕ) (old mid new : View) (before mid_before now : Option (List ℕ)) (sends mid_sends sends_now : ℕ) (end : Status) → Opens (page_count old.size) old mid → count ≡ page_count old.size → (Honest old → book_pages count mid.image ≡ book_pages count old.image)
     → mid_before ≡ before → mid_sends ≡ sends → ChecksStore count mid new mid_before now mid_sends sends_now end → CheckEnds old new before now sends sends_now end.code end.place
 ends_opened count old mid new before mid_before now sends mid_sends sends_now end opens counted pages same same_sends s =
     let C : ℕ → Type 0 = λ c. ChecksStore c mid new mid_before now mid_sends sends_now end in
-    let G : ℕ → Type 0 = λ c. Honest old → pages_of c mid.image ≡ pages_of c old.image in
+    let G : ℕ → Type 0 = λ c. Honest old → book_pages c mid.image ≡ book_pages c old.image in
     let B : Option (List ℕ) → Type 0 = λ b. CheckEnds old new b now mid_sends sends_now end.code end.place in
     let S : ℕ → Type 0 = λ n. CheckEnds old new before now n sends_now end.code end.place in
     let here = subst C counted s in

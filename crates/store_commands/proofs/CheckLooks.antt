@@ -2,7 +2,7 @@
 use Rattle.std.proofs.Common.{arith, ◌≡◌, ℕ, ◌≤◌, Bool, List, Option, refl, sym, subst, inl, inr}
 use Rattle.block_disk.specs.View.{Image, View, Now, Honest, Passes, sent_now}
 use Rattle.block_disk.proofs.Passing.{passes_weaker}
-use Rattle.gate_pages.specs.GateLaws.{goes_by, goes_then}
+use Rattle.gate_pages.specs.GateLaws.{gate_rests, goes_by, goes_then}
 use Rattle.gate_pages.specs.GatePages.{PagesOf, IsClosed, pages_view}
 use Rattle.gate_pages.specs.Journal.{pages_of}
 use Rattle.gate_pages.specs.Pages.{Quiet, GoesOn}
@@ -17,38 +17,38 @@ use Rattle.series_store.specs.declared.errors.StoreError.{StoreError}
 use Rattle.series_store.specs.declared.errors.StoreError.TheVariants as of_store
 use Rattle.disk_store.specs.Held.{HoldsBook}
 use Rattle.stored_book.specs.Standing.{StandsForBook, RecoversTo}
+use Rattle.stored_book.proofs.CurrentLemmas.{recovers_new, spelled_current}
 use Rattle.tree_walk.specs.Holding.{KeptWalking}
 use Rattle.chart_service.specs.MomentLaws.{since_none}
 use Rattle.store_commands.specs.Books.{OfBook, LeavesSame}
 use Rattle.store_commands.specs.declared.status.Status.{Status}
-use Rattle.store_commands.proofs.Held.{within_held, holds_same, holds_sent}
+use Rattle.store_commands.proofs.Held.{RestsNew, within_held, stands_held, holds_same, holds_sent}
 use Rattle.store_commands.proofs.Moments.{since_worked, since_sent}
-use Rattle.store_commands.specs.Checked.{counts_text, AreWhole}
+use Rattle.store_commands.specs.Checked.{counts_text, AreWhole, IsBadForCheck}
 use Rattle.store_commands.specs.Checking.{check_status, EndsCheck, ChecksStore}
 use Rattle.store_commands.specs.Sending.{SendsText}
 use Rattle.store_commands.specs.Codes.{status_is}
 
 -- what may be left of the pages stands for the book
-pub left_stands : (count total : ℕ) (book : List Series) (disk : View) → HoldsBook count total book disk → (pages : Image) → PagesOf count (Now disk) pages → StandsForBook pages total book
-left_stands count total book disk holds pages left =
-    let was = holds.images left.from left.was in
+pub left_stands : (count total : ℕ) (book : List Series) (disk : View) → RestsNew count disk → HoldsBook count total book disk → (pages : Image) → PagesOf count (Now disk) pages → StandsForBook pages total book
+left_stands count total book disk rests holds pages left =
     let P : Image → Type 0 = λ i. StandsForBook i total book in
-    subst P (sym (left.same was.readable)) was.stands
+    subst P (sym (gate_rests count disk rests.closed pages left)) (stands_held count total book disk rests holds)
 
 -- The pages of a disk are read.
-module _ (count count' : ℕ) (sound sound' : Bool) (old mid : View) (kept : KeptWalking (Honest old) (Honest mid) (pages_view count sound old) (pages_view count' sound' mid)) (goes : GoesOn old mid) where
+module _ (count count' : ℕ) (sound sound' : Bool) (old mid : View) (kept : KeptWalking (Honest old) (Honest mid) (pages_view count sound old) (pages_view count' sound' mid)) (goes : GoesOn old mid) (rests : RestsNew count old) where
   pub looked_since : LeavesSame count old mid
   looked_since = λ total book holds.
       let IsSo : Image → ℕ → Type 0 = λ image sent. RecoversTo count image total book in
       let Q : Image → Type 0 = λ pages. StandsForBook pages total book in
       let before = pages_view count sound old in
       let passes : Passes before (pages_view count' sound' mid) Q (Quiet before) =
-      passes_weaker before (pages_view count' sound' mid) (PagesOf count (Now old)) Q (Quiet before) (Quiet before) (left_stands count total book old holds) (λ sent quiet. quiet) kept.time in
+      passes_weaker before (pages_view count' sound' mid) (PagesOf count (Now old)) Q (Quiet before) (Quiet before) (left_stands count total book old rests holds) (λ sent quiet. quiet) kept.time in
       since_worked IsSo count count' total sound sound' old old mid Q (λ pages is. book) kept.size (within_held count total book old holds) (λ pages is. is) passes goes refl
-      (λ image on. record { readable = on.readable; within = on.within; stands = on.so }) (since_none old IsSo holds.images)
+      (λ image on. recovers_new count image total book on.readable on.within on.so) (since_none old IsSo holds.images)
 
   pub looked_holds : IsClosed mid → OfBook count old (λ total book. HoldsBook count total book mid)
-  looked_holds closed = λ total book holds. holds_same count count' total book old mid kept.size kept.told kept.image closed holds
+  looked_holds closed = λ total book holds. holds_same count count' total book old mid rests kept.size kept.told kept.image closed holds
 
   pub looked_quiet : sent_now mid ≡ sent_now old
   looked_quiet = sent_same (pages_view count sound old) (pages_view count' sound' mid) (PagesOf count (Now old)) kept.time
@@ -71,22 +71,29 @@ not_counted count count' sound sound' old new s before now sends sends_now of_st
 not_counted count count' sound sound' old new s before now sends sends_now (of_store.Damaged page) same keeps few low is outside = inr (inr (inr (inr (record {
   page = page;
   end_is = refl;
-  bad = record { page = page; place_is = refl; within = omega (arith, low, few); bad = λ honest. record { numbers = s; keeps = keeps honest; so = (low, is honest) } };
+  bad = record {
+    page = page;
+    place_is = refl;
+    within = omega (arith, low, few);
+    bad = λ honest.
+        let B : Image → Type 0 = λ image. IsBadForCheck count image page in
+        subst B (sym (spelled_current (pages_of count old.image) s (keeps honest).spelled)) (record { numbers = s; keeps = keeps honest; so = (low, is honest) });
+  };
   none = λ total book holds. elim (outside total book holds) [ inl fault ↦ cc | inr memory ↦ cc ];
   unsent = same;
 }))))
 not_counted count count' sound sound' old new s before now sends sends_now of_store.NoMemory same keeps few low is outside = inr (inr (inl (refl, same)))
 
 -- A store was read, and then its disk is at rest.
-module _ (count count' : ℕ) (sound sound' : Bool) (old mid : View) (kept : KeptWalking (Honest old) (Honest mid) (pages_view count sound old) (pages_view count' sound' mid)) (goes : GoesOn old mid) (closed : IsClosed mid) where
+module _ (count count' : ℕ) (sound sound' : Bool) (old mid : View) (kept : KeptWalking (Honest old) (Honest mid) (pages_view count sound old) (pages_view count' sound' mid)) (goes : GoesOn old mid) (rests : RestsNew count old) (closed : IsClosed mid) where
   pub checks_not : (s : Superblock) (before now : Option (List ℕ)) (sends sends_now : ℕ) (error : StoreError) (end : Status) → end ≡ check_status error → now ≡ before → (Honest old → Keeps count s (pages_of count old.image 0)) → s.total ≤ count → NamesWithin s.total error
       → IsCheckCause error (Honest old) s (pages_view count sound old) (pages_view count' sound' mid) → OfBook count old (λ total book. IsOutside error) → ChecksStore count old mid before now sends sends_now end
   checks_not s before now sends sends_now error end end_is same keeps few low cause outside = record {
     ends =
         let P : Status → Type 0 = λ e. EndsCheck count old mid before now sends sends_now e in
         subst P (sym end_is) (not_counted count count' sound sound' old mid s before now sends sends_now error same keeps few low cause outside);
-    crash = looked_since count count' sound sound' old mid kept goes;
-    holds = looked_holds count count' sound sound' old mid kept goes closed;
+    crash = looked_since count count' sound sound' old mid kept goes rests;
+    holds = looked_holds count count' sound sound' old mid kept goes rests closed;
     goes_on = goes;
   }
 
@@ -98,10 +105,10 @@ module _ (count count' : ℕ) (sound sound' : Bool) (old mid : View) (kept : Kep
         let S : ℕ → Type 0 = λ s. EndsCheck count old new before now s sends_now end in
         subst S same_sends (subst P same (counts_sent count old mid new counts mid_before now mid_sends sends_now end of_book whole sent));
     crash = λ total book holds.
-        since_sent (λ image bytes. RecoversTo count image total book) old mid new sent.time (looked_quiet count count' sound sound' old mid kept goes)
-        (λ image bytes left low. (looked_holds count count' sound sound' old mid kept goes closed total book holds).images image left)
-        (looked_since count count' sound sound' old mid kept goes total book holds);
+        since_sent (λ image bytes. RecoversTo count image total book) old mid new sent.time (looked_quiet count count' sound sound' old mid kept goes rests)
+        (λ image bytes left low. (looked_holds count count' sound sound' old mid kept goes rests closed total book holds).images image left)
+        (looked_since count count' sound sound' old mid kept goes rests total book holds);
     holds = λ total book holds.
-        holds_sent count total book mid new (λ bytes. (sent_now mid ≤ bytes) × (bytes ≤ sent_now new)) sent.kept sent.time (looked_holds count count' sound sound' old mid kept goes closed total book holds);
+        holds_sent count total book mid new (λ bytes. (sent_now mid ≤ bytes) × (bytes ≤ sent_now new)) sent.kept sent.time (looked_holds count count' sound sound' old mid kept goes rests closed total book holds);
     goes_on = goes_then old mid new goes (goes_by mid new (Now mid) (λ bytes. (sent_now mid ≤ bytes) × (bytes ≤ sent_now new)) sent.time);
   }

@@ -13,6 +13,7 @@ use Rattle.series_export.specs.Room.{HasRoomFor, GoesThrough}
 use Rattle.series_export.specs.declared.window.Window.{Window}
 use Rattle.series_load.specs.Ends.{IsLoaded}
 use Rattle.series_load.specs.Sets.{IsNamed}
+use Rattle.stored_book.proofs.CurrentLemmas.{recovers_new}
 use Rattle.stored_book.specs.Standing.{StandsForBook}
 use Rattle.disk_store.specs.Held.{HoldsBook}
 use Rattle.store_commands.specs.Books.{HoldsPages}
@@ -62,7 +63,7 @@ exported_same law copy count total series window disk before now holds exported 
       images = λ image left.
           let is = holds.images image left in
           let P : Image → Type 0 = λ pages. StandsForBook pages total so.book in
-          record { readable = is.0; within = holds.on.within; stands = subst P (sym is.1) so.stands };
+          recovers_new count image total so.book is.0 holds.on.within (subst P (sym is.1) so.stands);
     } in
     let T : List ℕ → Type 0 = λ l. now ≡ sent_after l before in
     subst T (law series so.holds.after window so.holds.same) (exported total so.book held so.holds.after so.holds.named)

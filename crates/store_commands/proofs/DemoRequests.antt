@@ -1,5 +1,5 @@
 -- The requests of a demo are answered over a store, by what a workload does over its pages.
-use Rattle.std.proofs.Common.{◌≡◌, ◌≢◌, ℕ, ◌≤◌, Bool, List, [], Result, Ok, Err, refl, subst, inr, arith, ◌∙◌}
+use Rattle.std.proofs.Common.{◌≡◌, ◌≢◌, ℕ, ◌≤◌, Bool, List, [], Result, Ok, Err, refl, sym, subst, inr, arith, ◌∙◌}
 use Rattle.std.specs.Prelude.{IfOk, IfErr}
 use Rattle.block_disk.specs.View.{Image, View, Honest, Passes, sent_now}
 use Rattle.chart_client.specs.Accepting.{Rejects, HasNumber}
@@ -13,11 +13,13 @@ use Rattle.gate_pages.specs.Journal.{page_count, pages_of}
 use Rattle.gate_pages.specs.Pages.{GoesOn, Quiet}
 use Rattle.request_lines.specs.declared.requests.Request.{Request}
 use Rattle.series_book.specs.declared.one_series.Series.{Series}
+use Rattle.empty_store.proofs.DisksMade.{sent_so}
 use Rattle.disk_store.specs.Held.{HoldsBook}
 use Rattle.disk_store.specs.Openings.{Opens}
 use Rattle.disk_store.proofs.Lowered.{holds_closed}
 use Rattle.stored_book.specs.Damage.{IsBadForRequest}
 use Rattle.stored_book.specs.Standing.{StandsForBook, RecoversTo}
+use Rattle.stored_book.proofs.CurrentLemmas.{spelled_current}
 use Rattle.zoom_session.specs.declared.session.Session.{Session}
 use Rattle.chart_service.specs.MomentLaws.{since_none, since_both}
 use Rattle.chart_service.specs.Moments.{Since}
@@ -29,8 +31,8 @@ use Rattle.demo_workload.specs.declared.summaries.Summary.{Summary}
 use Rattle.demo_workload.specs.Ending.{IsOutside, IsCause}
 use Rattle.demo_workload.specs.Replying.{Summarizes, IsPartWay}
 use Rattle.store_commands.specs.Books.{OfBook, FromBook, begun}
-use Rattle.store_commands.proofs.Held.{held, stands_held, within_held, from_book, risen_since}
-use Rattle.store_commands.proofs.Moments.{since_opened, since_worked, opened_quiet, opened_goes, sent_so}
+use Rattle.store_commands.proofs.Held.{RestsNew, held, stands_held, within_held, from_book, risen_since}
+use Rattle.store_commands.proofs.Moments.{since_opened, since_worked, on_book, opened_quiet, opened_goes}
 use Rattle.store_commands.specs.Demonstrated.{AnswersFirst, IsAheadDemo, LeavesDemo}
 use Rattle.store_commands.specs.Answering.{Answered, HasNumberedKey, IsEndCause}
 
@@ -43,6 +45,7 @@ pub ahead_none : (requests : List Request) (count total : ℕ) (book : List Seri
 ahead_none requests count total book from image is = record {
   readable = is.readable;
   within = is.within;
+  old = is.old;
   some = record { first = []; rest = requests; split = refl; frames = []; new = begun total book; answered = refl; stands = is.stands };
   all = λ more. absurd (omega (arith, more));
 }
@@ -77,7 +80,13 @@ cause_of : (end : DemoEnd) (count count' : ℕ) (sound sound' : Bool) (old new :
 cause_of DiskFault count count' sound sound' old new same is = is
 cause_of (Damaged page) count count' sound sound' old new same is =
     let C : ℕ → Type 0 = λ n. IsBadForRequest n (pages_of n new.image) page in
-    record { page = page; place_is = refl; within = omega (arith, is.0, same); bad = λ honest. subst C same (is.1 honest) }
+    let D : Image → Type 0 = λ i. IsBadForRequest count i page in
+    record {
+      page = page;
+      place_is = refl;
+      within = omega (arith, is.0, same);
+      bad = λ honest. let bad = subst C same (is.1 honest) in subst D (sym (spelled_current (pages_of count new.image) bad.numbers bad.keeps.spelled)) bad;
+    }
 cause_of (Missing key) count count' sound sound' old new same is = is
 cause_of (BadCoefficient key) count count' sound sound' old new same is = is
 cause_of NoMemory count count' sound sound' old new same is = tt
@@ -98,7 +107,7 @@ number_in law (Ok summary) count old new is = tt
 number_in law (Err end) count old new is = number_of law end count old new is
 
 module _ (requests : List Request) (count count' : ℕ) (sound sound' : Bool) (old new : View) (sessions : List Session)
-    (same : count' ≡ count) (told : Honest old → Honest new) (faults : old.faults ≤ new.faults) (beside : new.beside ≡ old.beside) (goes : GoesOn old new) where
+    (same : count' ≡ count) (told : Honest old → Honest new) (faults : old.faults ≤ new.faults) (beside : new.beside ≡ old.beside) (goes : GoesOn old new) (rests : RestsNew count old) where
   -- where the pages stand for a book
   abbrev pub OfPages : (ℕ → List Series → Type 0) → Type 0
   OfPages IsSo = (total : ℕ) (book : List Series) → Honest old → StandsForBook (pages_of count old.image) total book → IsSo total book
@@ -113,7 +122,7 @@ module _ (requests : List Request) (count count' : ℕ) (sound sound' : Bool) (o
   Passed total book = Passes (pages_view count sound old) (pages_view count' sound' new) (IsPartWay requests total (begun total book)) (Quiet (pages_view count sound old))
 
   of_pages : (IsSo : ℕ → List Series → Type 0) → OfPages IsSo → OfBook count old IsSo
-  of_pages IsSo all = λ total book holds. all total book holds.honest (stands_held count total book old holds)
+  of_pages IsSo all = λ total book holds. all total book holds.honest (stands_held count total book old rests holds)
 
   -- the book that some first requests left is held
   stopped_by : (end : DemoEnd) → OfPages (λ total book. Left total book end) → IsClosed new → end ≢ DiskFault → FromBook count old new (AnswersFirst requests)
@@ -130,7 +139,9 @@ module _ (requests : List Request) (count count' : ℕ) (sound sound' : Bool) (o
       let IsSo : Image → ℕ → Type 0 = IsAheadDemo requests count total (begun total book) (sent_now old) in
       since_worked IsSo count count' total sound sound' old old new (IsPartWay requests total (begun total book)) (λ pages is. is.new.book) same (within_held count total book old holds) (λ pages is. is.stands)
       (of_pages Passed passes total book holds) goes refl
-      (λ image on. record { readable = on.readable; within = on.within; some = on.so; all = λ more. absurd (omega (arith, more)) })
+      (λ image on.
+      let here = on_book count total (IsPartWay requests total (begun total book)) on.so.new.book image on.so.stands on in
+      record { readable = here.readable; within = here.within; old = here.old; some = here.so; all = λ more. absurd (omega (arith, more)) })
       (since_start requests count total book old holds)
 
   quiet_by : OfPages Passed → OfBook count old (λ total book. sent_now new ≡ sent_now old)

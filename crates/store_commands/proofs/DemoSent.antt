@@ -54,6 +54,7 @@ module _ (requests : List Request) (count : ℕ) (old mid new : View) (summary :
       record {
         readable = is.readable;
         within = is.within;
+        old = is.old;
         some = record { first = requests; rest = []; split = sym (append-nil requests); frames = all.1.frames; new = all.0; answered = answered; stands = is.stands };
         all = λ more. (all.1.frames, all.0, answered, is.stands);
       })

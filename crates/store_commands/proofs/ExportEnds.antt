@@ -29,7 +29,8 @@ use Rattle.disk_store.specs.Held.{HoldsBook}
 use Rattle.disk_store.specs.Openings.{Opens}
 use Rattle.stored_book.specs.Damage.{SaysNumbers}
 use Rattle.stored_book.specs.Records.{entry}
-use Rattle.stored_book.specs.Standing.{StandsForBook, RecoversTo}
+use Rattle.stored_book.specs.Standing.{StandsForBook, book_pages, RecoversTo}
+use Rattle.stored_book.proofs.CurrentLemmas.{recovers_new}
 use Rattle.chart_service.specs.MomentLaws.{since_none}
 use Rattle.store_commands.specs.Books.{Never, LeavesSame, SendsPartOf}
 use Rattle.store_commands.specs.Codes.{low_of_four}
@@ -38,7 +39,7 @@ use Rattle.store_commands.specs.Exporting.{ExportsStore, export_status}
 use Rattle.store_commands.specs.Loaded.{OfSeries}
 use Rattle.store_commands.specs.Status.{status}
 use Rattle.store_commands.specs.declared.status.Status.{Status}
-use Rattle.store_commands.proofs.Held.{stands_held, within_held, held, holds_same, risen_since}
+use Rattle.store_commands.proofs.Held.{RestsNew, stands_held, within_held, held, holds_same, risen_since}
 use Rattle.store_commands.proofs.Moments.{opened_goes, since_on, on_at}
 use Rattle.store_commands.proofs.CheckEnds.{since_both}
 use Rattle.store_commands.proofs.CheckLooks.{left_stands}
@@ -108,7 +109,7 @@ one_id : (o : Option ℕ) (a b : ℕ) → o ≡ Some a → o ≡ Some b → a �
 one_id o a b first second = let same : Some a ≡ Some b = sym first ∙ second in cc
 
 module _ (name : List ℕ) (window : Option Window) (count count' : ℕ) (sound sound' : Bool) (old new : View) (s s' : Superblock)
-    (kept : Sends (Honest old) (Honest new) (pages_view count sound old) (pages_view count' sound' new) old new s s') (closed : IsClosed new) (id : ℕ)
+    (kept : Sends (Honest old) (Honest new) (pages_view count sound old) (pages_view count' sound' new) old new s s') (rests : RestsNew count old) (closed : IsClosed new) (id : ℕ)
     (found : (total : ℕ) (book : List Series) → Honest old → StandsForBook (pages_of count old.image) total book → id_of name book ≡ Some id) where
   sent_since : LeavesSame count old new
   sent_since = λ total book holds.
@@ -117,10 +118,10 @@ module _ (name : List ℕ) (window : Option Window) (count count' : ℕ) (sound 
       let before = pages_view count sound old in
       let after = pages_view count' sound' new in
       let S : ℕ → Type 0 = λ sent. (sent_now before ≤ sent) × (sent ≤ sent_now after) in
-      let passes : Passes before after Q S = passes_weaker before after (PagesOf count (Now old)) Q S S (left_stands count total book old holds) (λ sent is. is) kept.time in
+      let passes : Passes before after Q S = passes_weaker before after (PagesOf count (Now old)) Q S S (left_stands count total book old rests holds) (λ sent is. is) kept.time in
       since_on IsSo old old new (since_none old IsSo holds.images) kept.goes_on (λ at image low high left.
       let on = on_at count count' total sound sound' old new kept.size (within_held count total book old holds) Q S (λ pages is. book) (λ pages is. is) passes at image low high left in
-      record { readable = on.readable; within = on.within; stands = on.so })
+      recovers_new count image total book on.readable on.within on.so)
 
   -- this is so of the series of this id
   abbrev pub OfId : (List Series → Series → Type 0) → Type 0
@@ -129,7 +130,7 @@ module _ (name : List ℕ) (window : Option Window) (count count' : ℕ) (sound 
   -- so it is of the one of this name
   of_id : (IsSo : List Series → Series → Type 0) → OfId IsSo → OfSeries count old name (λ total book series. IsSo book series)
   of_id IsSo all = λ total book holds series named.
-      let stands = stands_held count total book old holds in
+      let stands = stands_held count total book old rests holds in
       let P : ℕ → Type 0 = λ n. slice_get book n ≡ Some series in
       all total book series holds.honest stands (subst P (one_id (id_of name book) named.id id named.id_is (found total book holds.honest stands)) named.there)
 
@@ -145,11 +146,11 @@ module _ (name : List ℕ) (window : Option Window) (count count' : ℕ) (sound 
     damaged = damaged;
     undamaged = undamaged;
     unknown = λ is. absurd (other is);
-    unnamed = λ total book holds none. absurd (both (id_of name book) id (found total book holds.honest (stands_held count total book old holds)) none);
+    unnamed = λ total book holds none. absurd (both (id_of name book) id (found total book holds.honest (stands_held count total book old rests holds)) none);
     nothing = λ is. absurd (other is);
     zero_place = zero_place;
     crash = sent_since;
-    holds = λ total book holds. holds_same count count' total book old new kept.size kept.told kept.image closed holds;
+    holds = λ total book holds. holds_same count count' total book old new rests kept.size kept.told kept.image closed holds;
     reads = of_id (λ book series. new.reads ≤ old.reads + series_pages series.slots) reads;
     goes_on = kept.goes_on;
   }
@@ -182,10 +183,12 @@ module _ (name : List ℕ) (window : Option Window) (count count' : ℕ) (sound 
           let bad : IsBadInTree count old (66 + page) = record {
             page = page;
             place_is = refl;
-            bad = λ honest. record { numbers = s; keeps = spelled honest; so = record { id = id; within = within; bad = unfit_bad image s.total (entry image id).slots (page_levels (entry image id).slots) 0 (entry image id).root (entry image id).span page (cause honest) } };
+            bad = λ honest.
+                let B : Image → Type 0 = λ i. SaysNumbers count i (λ s. HasBadTree i s page) in
+                subst B (sym (rests.current honest)) (record { numbers = s; keeps = spelled honest; so = record { id = id; within = within; bad = unfit_bad image s.total (entry image id).slots (page_levels (entry image id).slots) 0 (entry image id).root (entry image id).span page (cause honest) } });
           } in
           let never : Never count old = λ total book holds. elim (named_or name book) [
-            | inl none ↦ both (id_of name book) id (found total book holds.honest (stands_held count total book old holds)) none
+            | inl none ↦ both (id_of name book) id (found total book holds.honest (stands_held count total book old rests holds)) none
             | inr named ↦ of_id (λ book series. IsNoDamage (Damaged page)) no_damage total book holds named.0 named.1
           ] in
           ended before now sends sends_now (status 7 (66 + page)) (4, omega arith, refl) (λ is. omega (arith, is)) (λ is. absurd (omega (arith, is))) (λ is. absurd (omega (arith, is))) front
@@ -195,9 +198,9 @@ module _ (name : List ℕ) (window : Option Window) (count count' : ℕ) (sound 
           (λ is. absurd (omega (arith, is))) (λ is. absurd (omega (arith, is))) (λ is. absurd (omega (arith, is))) (λ is. refl) reads
 
 -- no series has the name
-pub none_found : (name : List ℕ) (window : Option Window) (count : ℕ) (old : View) (before : Option (List ℕ)) (sends : ℕ) → ((total : ℕ) (book : List Series) → Honest old → StandsForBook (pages_of count old.image) total book → id_of name book ≡ None) → ExportsStore name window count old old before before sends sends (status 14 8)
-none_found name window count old before sends none =
-    let none_named : (total : ℕ) (book : List Series) → HoldsBook count total book old → (series : Series) → IsNamed book name series → ⊥ = λ total book holds series named. both (id_of name book) named.id named.id_is (none total book holds.honest (stands_held count total book old holds)) in
+pub none_found : (name : List ℕ) (window : Option Window) (count : ℕ) (old : View) (before : Option (List ℕ)) (sends : ℕ) → RestsNew count old → ((total : ℕ) (book : List Series) → Honest old → StandsForBook (pages_of count old.image) total book → id_of name book ≡ None) → ExportsStore name window count old old before before sends sends (status 14 8)
+none_found name window count old before sends rests none =
+    let none_named : (total : ℕ) (book : List Series) → HoldsBook count total book old → (series : Series) → IsNamed book name series → ⊥ = λ total book holds series named. both (id_of name book) named.id named.id_is (none total book holds.honest (stands_held count total book old rests holds)) in
     record {
       codes = (5, omega arith, refl);
       done = λ is. absurd (omega (arith, is));
@@ -233,7 +236,7 @@ last_of_two code other (suc zero, inside, is) = sym is
 last_of_two code other (suc (suc k), inside, is) = absurd (omega (arith, inside))
 
 -- a page that is bad once the store is open was so before
-tree_before : (count : ℕ) (old mid : View) (place : ℕ) → (Honest old → Honest mid) → (Honest old → pages_of count mid.image ≡ pages_of count old.image) → IsBadInTree count mid place → IsBadInTree count old place
+tree_before : (count : ℕ) (old mid : View) (place : ℕ) → (Honest old → Honest mid) → (Honest old → book_pages count mid.image ≡ book_pages count old.image) → IsBadInTree count mid place → IsBadInTree count old place
 tree_before count old mid place honest_then pages bad = record {
   page = bad.page;
   place_is = bad.place_is;
@@ -243,10 +246,10 @@ tree_before count old mid place honest_then pages bad = record {
 }
 
 pub ends_opened : (name : List ℕ) (window : Option Window) (count : ℕ) (old mid new : View) (before mid_before now : Option (List ℕ)) (sends mid_sends sends_now : ℕ) (end : Status) → Opens (page_count old.size) old mid → count ≡ page_count old.size
-    → (Honest old → pages_of count mid.image ≡ pages_of count old.image) → mid_before ≡ before → mid_sends ≡ sends → ExportsStore name window count mid new mid_before now mid_sends sends_now end → ExportEnds name window old new before now sends sends_now end.code end.place
+    → (Honest old → book_pages count mid.image ≡ book_pages count old.image) → mid_before ≡ before → mid_sends ≡ sends → ExportsStore name window count mid new mid_before now mid_sends sends_now end → ExportEnds name window old new before now sends sends_now end.code end.place
 ends_opened name window count old mid new before mid_before now sends mid_sends sends_now end opens counted pages same same_sends s =
     let C : ℕ → Type 0 = λ c. ExportsStore name window c mid new mid_before now mid_sends sends_now end in
-    let G : ℕ → Type 0 = λ c. Honest old → pages_of c mid.image ≡ pages_of c old.image in
+    let G : ℕ → Type 0 = λ c. Honest old → book_pages c mid.image ≡ book_pages c old.image in
     let B : Option (List ℕ) → Type 0 = λ b. ExportEnds name window old new b now mid_sends sends_now end.code end.place in
     let S : ℕ → Type 0 = λ n. ExportEnds name window old new before now n sends_now end.code end.place in
     let e = subst C counted s in

@@ -10,6 +10,7 @@ use Rattle.series_book.specs.declared.one_series.Series.{Series}
 use Rattle.series_book.specs.Edits.{id_of}
 use Rattle.disk_store.specs.Held.{HoldsBook}
 use Rattle.disk_store.specs.Openings.{Opens}
+use Rattle.stored_book.proofs.CurrentLemmas.{recovers_new}
 use Rattle.stored_book.specs.Standing.{StandsForBook}
 use Rattle.chart_service.specs.State.{State}
 use Rattle.series_load.specs.Sets.{IsAfterSome}
@@ -58,7 +59,7 @@ after_held count total name book series left new p =
       p.on.so.after.new,
       record {
         honest = p.honest;
-        images = λ image is. let there = p.images image is in record { readable = there.0; within = p.on.within; stands = subst S (sym there.1) p.on.so.after.stands };
+        images = λ image is. let there = p.images image is in recovers_new count image total p.on.so.after.new there.0 p.on.within (subst S (sym there.1) p.on.so.after.stands);
       },
     )
 

@@ -13,7 +13,8 @@ use Rattle.disk_store.specs.Openings as openings
 use Rattle.disk_store.specs.declared.causes.OpeningCause.{OpeningCause}
 use Rattle.disk_store.specs.declared.causes.OpeningCause.TheVariants as opening
 use Rattle.disk_store.proofs.Opened.{is_large}
-use Rattle.stored_book.specs.Standing.{StandsForBook, RecoversTo}
+use Rattle.stored_book.specs.Standing.{StandsForBook, book_pages, RecoversTo}
+use Rattle.stored_book.proofs.CurrentLemmas.{book_current, book_keeps, recovers_new}
 use Rattle.chart_service.specs.MomentLaws.{since_both, since_so}
 use Rattle.chart_service.specs.Moments.{Since}
 use Rattle.series_load.specs.Sets.{IsNamed, IsAfterSome}
@@ -26,7 +27,7 @@ use Rattle.series_load.specs.declared.load_end.LoadEnd.{LoadEnd}
 use Rattle.series_load.specs.declared.load_end.LoadEnd.TheVariants.{UnknownSeries, BadLine, Refused, ReadFault, InputTooLong, DiskFault, Damaged, NoMemory}
 use Rattle.series_load.proofs.Knowing.{some_at_first}
 use Rattle.store_commands.specs.declared.status.Status.{Status}
-use Rattle.store_commands.specs.Books.{OfBook, IsOn, HoldsPages}
+use Rattle.store_commands.specs.Books.{OfBook, IsOn, IsOnBook, HoldsPages}
 use Rattle.store_commands.specs.Status.{opening_status}
 use Rattle.store_commands.specs.Sending.{SendsText}
 use Rattle.store_commands.specs.Codes.{low_code, sent_code, unsent, unopened}
@@ -81,13 +82,13 @@ module _ (name : List ℕ) (old mid new : View) (opens : Opens (page_count old.s
         so.1,
       )
 
-  moments_on : (left : Option (List ℕ)) → OfSeries (page_count old.size) mid name (λ total book series. Since mid new (λ image sent. IsOn (page_count old.size) total (IsAfterSome total name book series left) image × (sent ≡ sent_now mid)))
-      → OfSeries (page_count old.size) old name (λ total book series. Since old new (λ image sent. IsOn (page_count old.size) total (IsAfterSome total name book series left) image × (sent ≡ sent_now old)))
+  moments_on : (left : Option (List ℕ)) → OfSeries (page_count old.size) mid name (λ total book series. Since mid new (λ image sent. IsOnBook (page_count old.size) total (IsAfterSome total name book series left) image × (sent ≡ sent_now mid)))
+      → OfSeries (page_count old.size) old name (λ total book series. Since old new (λ image sent. IsOnBook (page_count old.size) total (IsAfterSome total name book series left) image × (sent ≡ sent_now old)))
   moments_on left moments = λ total book holds series named.
-      let Q : Image → Type 0 = IsOn (page_count old.size) total (IsAfterSome total name book series left) in
+      let Q : Image → Type 0 = IsOnBook (page_count old.size) total (IsAfterSome total name book series left) in
       let IsSo : Image → ℕ → Type 0 = λ image sent. Q image × (sent ≡ sent_now old) in
       since_both old mid new IsSo
-      (since_opened IsSo old mid total book opens holds (λ image is. (record { readable = is.readable; within = is.within; so = some_at_first total name book series left (pages_of (page_count old.size) image) is.stands }, refl)))
+      (since_opened IsSo old mid total book opens holds (λ image is. (record { readable = is.readable; within = is.within; old = is.old; so = some_at_first total name book series left (book_pages (page_count old.size) image) is.stands }, refl)))
       (since_so mid new (λ image sent. Q image × (sent ≡ sent_now mid)) IsSo (λ image sent is. (is.0, is.1 ∙ opened_quiet old mid opens)) (moments total book (held old mid opens total book holds) series named))
 
   stores_opened : (left left' before now : Option (List ℕ)) (reads reads_now sends sends_now : ℕ) (answer : Result ℕ LoadEnd) → Stores name (page_count old.size) mid new left left' before now reads reads_now sends sends_now answer
@@ -137,11 +138,11 @@ unnamed_end name count old new left left' answer code unnamed stays is = λ tota
     let so = unnamed total book holds none in
     record { codes = (2, omega arith, sym (is so)); moments = ((stays so).0 total book holds).1 }
 
-ahead_by : (name : List ℕ) (count : ℕ) (old new : View) (left : Option (List ℕ)) → OfSeries count old name (λ total book series. Since old new (λ image sent. IsOn count total (IsAfterSome total name book series left) image × (sent ≡ sent_now old))) → IfSome left (λ input. LeavesLoads name count input old new)
+ahead_by : (name : List ℕ) (count : ℕ) (old new : View) (left : Option (List ℕ)) → OfSeries count old name (λ total book series. Since old new (λ image sent. IsOnBook count total (IsAfterSome total name book series left) image × (sent ≡ sent_now old))) → IfSome left (λ input. LeavesLoads name count input old new)
 ahead_by name count old new None moments = tt
 ahead_by name count old new (Some input) moments = λ total book holds series named.
-    since_so old new (λ image sent. IsOn count total (IsAfterSome total name book series (Some input)) image × (sent ≡ sent_now old)) (IsAheadLoad count total name book series input (sent_now old))
-    (λ image sent is. record { readable = is.0.readable; within = is.0.within; some = is.0.so; all = λ more. absurd (omega (arith, more, is.1)) }) (moments total book holds series named)
+    since_so old new (λ image sent. IsOnBook count total (IsAfterSome total name book series (Some input)) image × (sent ≡ sent_now old)) (IsAheadLoad count total name book series input (sent_now old))
+    (λ image sent is. record { readable = is.0.readable; within = is.0.within; old = is.0.old; some = is.0.so; all = λ more. absurd (omega (arith, more, is.1)) }) (moments total book holds series named)
 
 some_held : (count total : ℕ) (name : List ℕ) (book : List Series) (series : Series) (input : List ℕ) (disk : View) → HoldsPages count total (IsAfterSome total name book series (Some input)) disk → HoldsSome count total name book series input disk
 some_held count total name book series input disk p =
@@ -153,7 +154,7 @@ some_held count total name book series input disk p =
       loads = p.on.so.after.loads;
       holds = record {
         honest = p.honest;
-        images = λ image left. let there = p.images image left in record { readable = there.0; within = p.on.within; stands = subst S (sym there.1) p.on.so.after.stands };
+        images = λ image left. let there = p.images image left in recovers_new count image total p.on.so.after.new there.0 p.on.within (subst S (sym there.1) p.on.so.after.stands);
       };
     }
 
@@ -167,7 +168,7 @@ opened_ahead : (name : List ℕ) (old new : View) (left : Option (List ℕ)) →
 opened_ahead name old new None opens = tt
 opened_ahead name old new (Some input) opens = λ total book holds series named.
     since_opened (IsAheadLoad (page_count old.size) total name book series input (sent_now old)) old new total book opens holds
-    (λ image is. record { readable = is.readable; within = is.within; some = some_at_first total name book series (Some input) (pages_of (page_count old.size) image) is.stands; all = λ more. absurd (omega (arith, more)) })
+    (λ image is. record { readable = is.readable; within = is.within; old = is.old; some = some_at_first total name book series (Some input) (book_pages (page_count old.size) image) is.stands; all = λ more. absurd (omega (arith, more)) })
 
 -- no runs are the first of any input
 first_none : (scale step : ℕ) (input : List ℕ) → AreFirst scale step input []
@@ -518,7 +519,7 @@ pages_kept count total IsSo mid new kept time holds =
     }
 
 sent_ahead : (name : List ℕ) (count : ℕ) (old mid new : View) (left : Option (List ℕ)) (readings : ℕ) → Passes mid new (Now mid) (λ sent. (sent_now mid ≤ sent) × (sent ≤ sent_now new)) → OfBook count old (λ total book. sent_now mid ≡ sent_now old)
-    → OfSeries count old name (λ total book series. Since old mid (λ image sent. IsOn count total (IsAfterSome total name book series left) image × (sent ≡ sent_now old)))
+    → OfSeries count old name (λ total book series. Since old mid (λ image sent. IsOnBook count total (IsAfterSome total name book series left) image × (sent ≡ sent_now old)))
     → OfSeries count old name (λ total book series. HoldsPages count total (IsAfterSome total name book series left) mid)
     → IfSome left (λ input. OfSeries count old name (λ total book series. HoldsPages count total (IsLoaded total name book series input readings) mid)) → IfSome left (λ input. LeavesLoads name count input old new)
 sent_ahead name count old mid new None readings time quiet moments some done = tt
@@ -531,7 +532,16 @@ sent_ahead name count old mid new (Some input) readings time quiet moments some 
     let there = after.images image left in
     let S : Image → Type 0 = λ pages. IsAfterSome total name book series (Some input) pages in
     let A : Image → Type 0 = λ pages. IsLoaded total name book series input readings pages in
-    record { readable = there.0; within = after.on.within; some = subst S (sym there.1) after.on.so; all = λ more. (readings, subst A (sym there.1) all.on.so) })
+    let B : Image → Type 0 = λ pages. StandsForBook pages total after.on.so.after.new in
+    let stands = subst B (sym there.1) after.on.so.after.stands in
+    let current = book_current (pages_of count image) total after.on.so.after.new stands in
+    record {
+      readable = there.0;
+      within = after.on.within;
+      old = book_keeps count image total after.on.so.after.new stands;
+      some = subst S (sym (current ∙ there.1)) after.on.so;
+      all = λ more. (readings, subst A (sym (current ∙ there.1)) all.on.so);
+    })
     first
 
 pub sent_ends : (name : List ℕ) (old mid new : View) (left left_mid left' before between now : Option (List ℕ)) (reads reads_mid reads_now sends sends_mid sends_now readings : ℕ) (end : Status) → Stores name (page_count old.size) old mid left left_mid before between reads reads_mid sends sends_mid (Ok readings)

@@ -1,6 +1,6 @@
 -- What a load does over a store on a disk, in the words of the disk.
-use Rattle.std.proofs.Common.{◌≡◌, ◌≢◌, ◌↔◌, ℕ, zero, suc, ◌+◌, ◌≤◌, ◌<◌, ◌⊎◌, ◌^◌, pos, Bool, List, [], ◌∷◌, length, Option, Some, None, Result, Ok, Err, IfSome, refl, sym, ap, subst, inl, inr, arith, ◌∙◌}
-use Rattle.std.specs.Prelude.{IfErr, OnOk, slice_get, bytes_eq}
+use Rattle.std.proofs.Common.{◌≡◌, ◌≢◌, ◌↔◌, ℕ, ◌+◌, ◌≤◌, ◌<◌, ◌⊎◌, ◌^◌, pos, Bool, List, [], length, Option, Some, None, Result, Ok, Err, IfSome, refl, sym, ap, subst, inl, inr, arith, ◌∙◌}
+use Rattle.std.specs.Prelude.{IfErr, OnOk, bytes_eq}
 use Rattle.std.proofs.lemmas.List.Quantifiers.{position-Some}
 use Rattle.block_disk.specs.View.{Image, View, Honest, Passes, sent_now}
 use Rattle.gate_pages.specs.GatePages.{IsClosed, pages_view}
@@ -8,9 +8,11 @@ use Rattle.gate_pages.specs.Journal.{pages_of}
 use Rattle.gate_pages.specs.Pages.{GoesOn, Quiet}
 use Rattle.series_book.specs.declared.one_series.Series.{Series}
 use Rattle.series_book.specs.Edits.{id_of}
+use Rattle.empty_store.proofs.DisksMade.{sent_so}
 use Rattle.disk_store.specs.Held.{HoldsBook}
 use Rattle.stored_book.specs.Damage.{IsBadForEdit}
-use Rattle.stored_book.specs.Standing.{StandsForBook, RecoversTo}
+use Rattle.stored_book.specs.Standing.{StandsForBook, book_pages, RecoversTo}
+use Rattle.stored_book.proofs.CurrentLemmas.{spelled_current}
 use Rattle.chart_service.specs.MomentLaws.{since_none}
 use Rattle.chart_service.specs.Moments.{Since}
 use Rattle.series_load.specs.Sets.{IsNamed, IsAfterSome}
@@ -19,19 +21,15 @@ use Rattle.series_load.specs.declared.load_end.LoadEnd.{LoadEnd}
 use Rattle.series_load.specs.declared.load_end.LoadEnd.TheVariants.{UnknownSeries, BadLine, Refused, ReadFault, InputTooLong, DiskFault, Damaged, NoMemory}
 use Rattle.series_load.specs.Steps.{IsSoundFor}
 use Rattle.series_load.proofs.Knowing.{some_at_first}
+use Rattle.series_store.proofs.BookCountLemmas.{some_at}
 use Rattle.store_commands.specs.Damaged.{IsDamagedLater}
-use Rattle.store_commands.specs.Books.{OfBook, Never, IsOn, HoldsPages}
-use Rattle.store_commands.proofs.Held.{stands_held, within_held, holds_pages}
-use Rattle.store_commands.proofs.Moments.{since_worked, sent_so}
+use Rattle.store_commands.specs.Books.{OfBook, Never, IsOnBook, HoldsPages}
+use Rattle.store_commands.proofs.Held.{RestsNew, stands_held, within_held, holds_pages}
+use Rattle.store_commands.proofs.Moments.{since_worked, on_book}
 use Rattle.store_commands.specs.Loaded.{OfSeries, Unnamed}
 use Rattle.store_commands.specs.Storing.{StopsAt, IsEndCause, Stores}
 
 -- ---- a name is a series' or none's
-
-there_is : {X : Type 0} (xs : List X) (i : ℕ) → i < length xs → (x : X) × (slice_get xs i ≡ Some x)
-there_is {X} [] i low = absurd (omega (arith, low))
-there_is {X} (x ∷ xs) zero low = (x, refl)
-there_is {X} (x ∷ xs) (suc i) low = there_is xs i (omega (arith, low))
 
 abbrev some_series : Series
 some_series = record { name = []; start = pos 0; step = 1; scale = 0; slots = [] }
@@ -43,7 +41,7 @@ id_within name book id is = (position-Some (λ (series : Series). bytes_eq serie
 named_by : (name : List ℕ) (book : List Series) (o : Option ℕ) → id_of name book ≡ o → (id_of name book ≡ None) ⊎ ((series : Series) × IsNamed book name series)
 named_by name book None is = inl is
 named_by name book (Some id) is =
-    let it = there_is book id (id_within name book id is) in
+    let it = some_at book id (id_within name book id is) in
     inr (it.0, record { id = id; id_is = is; there = it.1 })
 
 pub named_or : (name : List ℕ) (book : List Series) → (id_of name book ≡ None) ⊎ ((series : Series) × IsNamed book name series)
@@ -67,7 +65,7 @@ failed e = Err e
 err_same : (e f : LoadEnd) → failed e ≡ failed f → e ≡ f
 err_same e f same = cc
 
-module _ (name : List ℕ) (count count' : ℕ) (sound sound' : Bool) (old new : View) (left left' : Option (List ℕ)) (same : count' ≡ count) (told : Honest old → Honest new) (goes : GoesOn old new) where
+module _ (name : List ℕ) (count count' : ℕ) (sound sound' : Bool) (old new : View) (left left' : Option (List ℕ)) (same : count' ≡ count) (told : Honest old → Honest new) (goes : GoesOn old new) (rests : RestsNew count old) where
   -- this is so where the pages stand for a book with the series
   abbrev pub OfPages : (ℕ → List Series → Series → Type 0) → Type 0
   OfPages IsSo = (total : ℕ) (book : List Series) (series : Series) → Honest old → StandsForBook (pages_of count old.image) total book → IsNamed book name series → IsSo total book series
@@ -79,7 +77,7 @@ module _ (name : List ℕ) (count count' : ℕ) (sound sound' : Bool) (old new :
   Finds answer = (total : ℕ) (book : List Series) → Honest old → StandsForBook (pages_of count old.image) total book → (answer ≡ Err UnknownSeries) ↔ (id_of name book ≡ None)
 
   of_pages : (IsSo : ℕ → List Series → Series → Type 0) → OfPages IsSo → OfSeries count old name IsSo
-  of_pages IsSo all = λ total book holds series named. all total book series holds.honest (stands_held count total book old holds) named
+  of_pages IsSo all = λ total book holds series named. all total book series holds.honest (stands_held count total book old rests holds) named
 
   pages_so : (total : ℕ) (book : List Series) (IsSo : Image → Type 0) → HoldsBook count total book old → IsClosed new → IsSo (pages_of count' new.image) → HoldsPages count total IsSo new
   pages_so total book IsSo holds closed so =
@@ -93,32 +91,32 @@ module _ (name : List ℕ) (count count' : ℕ) (sound sound' : Bool) (old new :
   passed (Ok readings) total book series comes = comes.moments
   passed (Err e) total book series comes = comes.moments
 
-  moments_by : (answer : Result ℕ LoadEnd) → Comes answer → OfSeries count old name (λ total book series. Since old new (λ image sent. IsOn count total (IsAfterSome total name book series left) image × (sent ≡ sent_now old)))
+  moments_by : (answer : Result ℕ LoadEnd) → Comes answer → OfSeries count old name (λ total book series. Since old new (λ image sent. IsOnBook count total (IsAfterSome total name book series left) image × (sent ≡ sent_now old)))
   moments_by answer comes = λ total book holds series named.
       let Q : Image → Type 0 = IsAfterSome total name book series left in
-      let IsSo : Image → ℕ → Type 0 = λ image sent. IsOn count total Q image × (sent ≡ sent_now old) in
+      let IsSo : Image → ℕ → Type 0 = λ image sent. IsOnBook count total Q image × (sent ≡ sent_now old) in
       let within = within_held count total book old holds in
       since_worked IsSo count count' total sound sound' old old new Q (λ pages is. is.after.new) same within (λ pages is. is.after.stands)
       (passed answer total book series (of_pages (λ total book series. Outcome total name book series left left' answer (pages_view count sound old) (pages_view count' sound' new)) comes total book holds series named)) goes refl
-      (λ image on. (on, refl))
+      (λ image on. (on_book count total Q on.so.after.new image on.so.after.stands on, refl))
       (since_none old IsSo (λ image left_so.
       let is = holds.images image left_so in
-      (record { readable = is.readable; within = within; so = some_at_first total name book series left (pages_of count image) is.stands }, refl)))
+      (record { readable = is.readable; within = within; old = is.old; so = some_at_first total name book series left (book_pages count image) is.stands }, refl)))
 
   quiet_by : (answer : Result ℕ LoadEnd) → Comes answer → Finds answer → (answer ≡ Err UnknownSeries → new ≡ old) → OfBook count old (λ total book. sent_now new ≡ sent_now old)
   quiet_by answer comes finds stays = λ total book holds. elim (named_or name book) [
-    | inl none ↦ ap (λ (v : View). sent_now v) (stays ((finds total book holds.honest (stands_held count total book old holds)).1 none))
+    | inl none ↦ ap (λ (v : View). sent_now v) (stays ((finds total book holds.honest (stands_held count total book old rests holds)).1 none))
     | inr named ↦
         sent_so (pages_view count sound old) (pages_view count' sound' new) (IsAfterSome total name book named.0 left)
-        (passed answer total book named.0 (comes total book named.0 holds.honest (stands_held count total book old holds) named.1)) new.clock goes.later (omega arith)
+        (passed answer total book named.0 (comes total book named.0 holds.honest (stands_held count total book old rests holds) named.1)) new.clock goes.later (omega arith)
   ]
 
   some_by : (answer : Result ℕ LoadEnd) → Comes answer → answer ≢ Err DiskFault → IsClosed new → OfSeries count old name (λ total book series. HoldsPages count total (IsAfterSome total name book series left) new)
   some_by (Ok readings) comes other closed = λ total book holds series named.
-      pages_so total book (IsAfterSome total name book series left) holds closed (comes total book series holds.honest (stands_held count total book old holds) named).some
+      pages_so total book (IsAfterSome total name book series left) holds closed (comes total book series holds.honest (stands_held count total book old rests holds) named).some
   some_by (Err e) comes other closed = λ total book holds series named.
       pages_so total book (IsAfterSome total name book series left) holds closed
-      (some_of total name book series left (pages_of count' new.image) e (λ is. other (ap Err is)) (comes total book series holds.honest (stands_held count total book old holds) named).some)
+      (some_of total name book series left (pages_of count' new.image) e (λ is. other (ap Err is)) (comes total book series holds.honest (stands_held count total book old rests holds) named).some)
 
   -- ---- by the answer
 
@@ -126,39 +124,45 @@ module _ (name : List ℕ) (count count' : ℕ) (sound sound' : Bool) (old new :
       → IfSome input (λ bytes. OfSeries count old name (λ total book series. HoldsPages count total (IsLoaded total name book series bytes readings) new))
   done_by None readings all closed = tt
   done_by (Some bytes) readings all closed = λ total book holds series named.
-      pages_so total book (IsLoaded total name book series bytes readings) holds closed (all total book series holds.honest (stands_held count total book old holds) named)
+      pages_so total book (IsLoaded total name book series bytes readings) holds closed (all total book series holds.honest (stands_held count total book old rests holds) named)
 
   taken_by : (bytes : List ℕ) (rest : Option (List ℕ)) → ((total : ℕ) (book : List Series) (series : Series) → Honest old → StandsForBook (pages_of count old.image) total book → IsNamed book name series → IfSome rest (λ r. IsTaken total name book series bytes r (pages_of count' new.image))) → IsClosed new
       → IfSome rest (λ r. OfSeries count old name (λ total book series. HoldsPages count total (IsTaken total name book series bytes r) new))
   taken_by bytes None all closed = tt
   taken_by bytes (Some r) all closed = λ total book holds series named.
-      pages_so total book (IsTaken total name book series bytes r) holds closed (all total book series holds.honest (stands_held count total book old holds) named)
+      pages_so total book (IsTaken total name book series bytes r) holds closed (all total book series holds.honest (stands_held count total book old rests holds) named)
 
   stops_by : (input : Option (List ℕ)) (e : LoadEnd) → ((total : ℕ) (book : List Series) (series : Series) → Honest old → StandsForBook (pages_of count old.image) total book → IsNamed book name series → IfSome input (λ bytes. EndsLoad total name book series bytes left' (pages_of count' new.image) e)) → (e ≢ DiskFault → IsClosed new)
       → IfSome input (λ bytes. StopsAt name count old new bytes left' e)
   stops_by None e all closed = tt
   stops_by (Some bytes) UnknownSeries all closed = tt
   stops_by (Some bytes) (BadLine at) all closed = λ total book holds series named.
-      pages_so total book (IsAtBad total name book series bytes at) holds (closed (λ is. cc)) (all total book series holds.honest (stands_held count total book old holds) named)
+      pages_so total book (IsAtBad total name book series bytes at) holds (closed (λ is. cc)) (all total book series holds.honest (stands_held count total book old rests holds) named)
   stops_by (Some bytes) (Refused at refusal) all closed = λ total book holds series named.
-      pages_so total book (IsAtRefusal total name book series bytes at refusal) holds (closed (λ is. cc)) (all total book series holds.honest (stands_held count total book old holds) named)
+      pages_so total book (IsAtRefusal total name book series bytes at refusal) holds (closed (λ is. cc)) (all total book series holds.honest (stands_held count total book old rests holds) named)
   stops_by (Some bytes) ReadFault all closed = taken_by bytes left' (λ total book series honest stands named. all total book series honest stands named) (closed (λ is. cc))
   stops_by (Some bytes) InputTooLong all closed = λ total book holds series named.
-      pages_so total book (IsPast total name book series bytes) holds (closed (λ is. cc)) (all total book series holds.honest (stands_held count total book old holds) named)
+      pages_so total book (IsPast total name book series bytes) holds (closed (λ is. cc)) (all total book series holds.honest (stands_held count total book old rests holds) named)
   stops_by (Some bytes) DiskFault all closed = tt
   stops_by (Some bytes) (Damaged page) all closed = tt
   stops_by (Some bytes) NoMemory all closed = tt
 
   damaged_by : (page : ℕ) → Comes (Err (Damaged page)) → Finds (Err (Damaged page)) → Never count old
   damaged_by page comes finds = λ total book holds. elim (named_or name book) [
-    | inl none ↦ let is = err_same (Damaged page) UnknownSeries ((finds total book holds.honest (stands_held count total book old holds)).1 none) in cc
-    | inr named ↦ (comes total book named.0 holds.honest (stands_held count total book old holds) named.1).some
+    | inl none ↦ let is = err_same (Damaged page) UnknownSeries ((finds total book holds.honest (stands_held count total book old rests holds)).1 none) in cc
+    | inr named ↦ (comes total book named.0 holds.honest (stands_held count total book old rests holds) named.1).some
   ]
 
   bad_by : (page total : ℕ) → total ≤ count' → (page < total) × (Honest new → IsBadForEdit count' (pages_of count' new.image) page) → IsDamagedLater IsBadForEdit count new (66 + page)
   bad_by page total few is =
       let C : ℕ → Type 0 = λ n. IsBadForEdit n (pages_of n new.image) page in
-      record { page = page; place_is = refl; within = omega (arith, is.0, few, same); bad = λ honest. subst C same (is.1 honest) }
+      let D : Image → Type 0 = λ i. IsBadForEdit count i page in
+      record {
+        page = page;
+        place_is = refl;
+        within = omega (arith, is.0, few, same);
+        bad = λ honest. let bad = subst C same (is.1 honest) in subst D (sym (spelled_current (pages_of count new.image) bad.numbers bad.keeps.spelled)) bad;
+      }
 
   cause_by : (e : LoadEnd) (total reads reads_now : ℕ) → total ≤ count' → IsLoadCause e (Honest new) total (pages_view count sound old) (pages_view count' sound' new) reads reads_now → Comes (Err e) → Finds (Err e) → IsEndCause e count old new reads reads_now
   cause_by UnknownSeries total reads reads_now few is comes finds = tt
@@ -172,12 +176,12 @@ module _ (name : List ℕ) (count count' : ℕ) (sound sound' : Bool) (old new :
 
   named_by_load : (answer : Result ℕ LoadEnd) → Finds answer → OfSeries count old name (λ total book series. answer ≢ Err UnknownSeries)
   named_by_load answer finds = λ total book holds series named is.
-      let none = (finds total book holds.honest (stands_held count total book old holds)).0 is in
+      let none = (finds total book holds.honest (stands_held count total book old rests holds)).0 is in
       let both : Some named.id ≡ None = sym named.id_is ∙ none in
       cc
 
   unnamed_by_load : (answer : Result ℕ LoadEnd) → Finds answer → Unnamed count old name (λ total book. answer ≡ Err UnknownSeries)
-  unnamed_by_load answer finds = λ total book holds none. (finds total book holds.honest (stands_held count total book old holds)).1 none
+  unnamed_by_load answer finds = λ total book holds none. (finds total book holds.honest (stands_held count total book old rests holds)).1 none
 
   abbrev Stays : ℕ → List Series → Type 0
   Stays total book = HoldsBook count total book new × Since old new (λ image sent. RecoversTo count image total book)

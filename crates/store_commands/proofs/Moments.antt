@@ -1,31 +1,20 @@
 -- The moments of a command over a store: its opening, the work on its pages, and the sending of an answer.
-use Rattle.std.proofs.Common.{◌≡◌, ℕ, ◌≤◌, ◌<◌, Bool, List, sym, ap, subst, arith, inl, inr, ◌∙◌}
-use Rattle.std.proofs.lemmas.Bool.{cases_lt}
+use Rattle.std.proofs.Common.{◌≡◌, ℕ, ◌≤◌, ◌<◌, Bool, List, sym, subst, arith, ◌∙◌}
 use Rattle.block_disk.specs.View.{Image, View, Now, Passes, sent_now}
 use Rattle.gate_pages.specs.GateLaws.{goes_by}
-use Rattle.gate_pages.specs.GatePages.{PagesOf, StandsAsBefore, pages_view}
-use Rattle.gate_pages.specs.Journal.{page_count}
+use Rattle.gate_pages.specs.GatePages.{PagesOf, pages_view}
+use Rattle.gate_pages.specs.Journal.{page_count, pages_of}
 use Rattle.gate_pages.specs.Pages.{Quiet, GoesOn}
-use Rattle.gate_pages.proofs.Moving.{sent_same}
 use Rattle.series_book.specs.declared.one_series.Series.{Series}
-use Rattle.empty_store.proofs.DisksMade.{stood}
 use Rattle.disk_store.specs.Held.{HoldsBook}
 use Rattle.disk_store.specs.Openings.{Opens}
 use Rattle.disk_store.proofs.Lowered.{lowered_readable, lowered_is}
-use Rattle.disk_store.proofs.Opened.{stands_on}
+use Rattle.disk_store.proofs.Opened.{opens_goes, opens_quiet, opens_sent, opens_recover}
 use Rattle.stored_book.specs.Standing.{StandsForBook, RecoversTo}
+use Rattle.stored_book.proofs.CurrentLemmas.{book_current, book_keeps}
 use Rattle.chart_service.specs.MomentLaws.{since_then}
 use Rattle.chart_service.specs.Moments.{Since}
-use Rattle.store_commands.specs.Books.{IsOn, LeavesSame}
-
--- no byte was sent by a moment of quiet calls
-pub sent_so : (old mid : View) (images : Image → Type 0) → Passes old mid images (Quiet old) → (at : ℕ) → old.clock ≤ at → at ≤ mid.clock → mid.sent_by at ≡ sent_now old
-sent_so old mid images passes at low high = elim (cases_lt old.clock at) [
-  | inl moved ↦ passes.sent_here at moved high
-  | inr stands ↦
-      let same : at ≡ old.clock = omega (arith, low, stands) in
-      passes.sent_past at stands ∙ ap (λ time. old.sent_by time) same
-]
+use Rattle.store_commands.specs.Books.{IsOn, IsOnBook, LeavesSame}
 
 -- At each moment of an opening a crash leaves the book.
 pub since_opened : (IsSo : Image → ℕ → Type 0) (old mid : View) (total : ℕ) (book : List Series) → Opens (page_count old.size) old mid → HoldsBook (page_count old.size) total book old
@@ -33,11 +22,10 @@ pub since_opened : (IsSo : Image → ℕ → Type 0) (old mid : View) (total : �
 since_opened IsSo old mid total book opens holds so =
     let count = page_count old.size in
     record {
-      goes = goes_by old mid (StandsAsBefore count old) (Quiet old) opens.time;
+      goes = opens_goes count old mid opens;
       here = λ at image low high left.
           let P : ℕ → Type 0 = λ sent. IsSo image sent in
-          subst P (sym (sent_so old mid (StandsAsBefore count old) opens.time at low high))
-          (so image (stands_on count total book old image holds.images (stood count old mid opens.time at image low high left)));
+          subst P (sym (opens_sent count old mid opens at low high)) (so image (opens_recover count total book old mid holds opens at image low high left));
     }
 
 -- the book of a store that is opened stays
@@ -46,7 +34,7 @@ opened_since old mid opens = λ total book holds. since_opened (λ image sent. R
 
 -- and time goes on
 pub opened_goes : (old mid : View) → Opens (page_count old.size) old mid → GoesOn old mid
-opened_goes old mid opens = goes_by old mid (StandsAsBefore (page_count old.size) old) (Quiet old) opens.time
+opened_goes old mid opens = opens_goes (page_count old.size) old mid opens
 
 -- Moments, and then others: those up to mid stay as they were.
 pub since_on : (IsSo : Image → ℕ → Type 0) (old mid new : View) → Since old mid IsSo → GoesOn mid new
@@ -70,6 +58,15 @@ module _ (count count' total : ℕ) (sound sound' : Bool) (mid new : View) (same
         so = lowered_is count (new.crash at) Q total_of book_of stand all image left;
       }
 
+-- pages that stand for a book are those of version 2
+pub on_book : (count total : ℕ) (Q : Image → Type 0) (book : List Series) (image : Image) → StandsForBook (pages_of count image) total book → IsOn count total Q image → IsOnBook count total Q image
+on_book count total Q book image stands on = record {
+  readable = on.readable;
+  within = on.within;
+  old = book_keeps count image total book stands;
+  so = subst Q (sym (book_current (pages_of count image) total book stands)) on.so;
+}
+
 -- so they are at the moments of work on the pages of an opened store
 pub since_worked : (IsSo : Image → ℕ → Type 0) (count count' total : ℕ) (sound sound' : Bool) (old mid new : View) (Q : Image → Type 0) (book_of : (pages : Image) → Q pages → List Series) → count' ≡ count → total ≤ count
     → ((pages : Image) (is : Q pages) → StandsForBook pages total (book_of pages is)) → Passes (pages_view count sound mid) (pages_view count' sound' new) Q (Quiet (pages_view count sound mid)) → GoesOn mid new → sent_now mid ≡ sent_now old
@@ -90,4 +87,4 @@ since_sent IsSo old mid new passes quiet so first =
 
 -- an opening sends nothing
 pub opened_quiet : (old mid : View) → Opens (page_count old.size) old mid → sent_now mid ≡ sent_now old
-opened_quiet old mid opens = sent_same old mid (StandsAsBefore (page_count old.size) old) opens.time
+opened_quiet old mid opens = opens_quiet (page_count old.size) old mid opens

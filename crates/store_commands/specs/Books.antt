@@ -6,7 +6,7 @@ use Rattle.gate_pages.specs.GatePages.{IsReadable}
 use Rattle.gate_pages.specs.Journal.{pages_of}
 use Rattle.series_book.specs.declared.one_series.Series.{Series}
 use Rattle.disk_store.specs.Held.{HoldsBook}
-use Rattle.stored_book.specs.Standing.{RecoversTo}
+use Rattle.stored_book.specs.Standing.{KeepsOldStore, book_pages, RecoversTo}
 use Rattle.chart_service.specs.Moments.{Since}
 use Rattle.chart_service.specs.State.{State}
 
@@ -46,6 +46,13 @@ pub record IsOn (count total : ℕ) (IsSo : Image → Type 0) (image : Image) : 
   pub readable : IsReadable count image
   pub within : total ≤ count
   pub so : IsSo (pages_of count image)
+
+-- The same of the pages in version 2; where they are of version 1, they keep its rules.
+pub record IsOnBook (count total : ℕ) (IsSo : Image → Type 0) (image : Image) : Type 0 where
+  pub readable : IsReadable count image
+  pub within : total ≤ count
+  pub old : KeepsOldStore count image
+  pub so : IsSo (book_pages count image)
 
 -- Every image that a crash now may leave has the same pages, and this is so of them.
 pub record HoldsPages (count total : ℕ) (IsSo : Image → Type 0) (disk : View) : Type 0 where

@@ -4,7 +4,7 @@ use Rattle.std.specs.Fmt.{decimal}
 use Rattle.block_disk.specs.Counts.{HasRisen}
 use Rattle.block_disk.specs.Streams.{sent_after}
 use Rattle.block_disk.specs.View.{Image, View, Honest}
-use Rattle.gate_pages.specs.Journal.{page_count, pages_of}
+use Rattle.gate_pages.specs.Journal.{page_count}
 use Rattle.gate_pages.specs.Pages.{GoesOn}
 use Rattle.page_space.specs.declared.superblock.Superblock.{Superblock}
 use Rattle.page_space.specs.Layout.{superblock_page, IsSuperblock}
@@ -13,7 +13,7 @@ use Rattle.series_store.specs.Counting.{AreCounts, AreNumbers, AreSound, HasBadT
 use Rattle.series_store.specs.declared.counts.Counts.{Counts}
 use Rattle.disk_store.specs.Held.{HoldsBook}
 use Rattle.stored_book.specs.Damage.{SaysNumbers}
-use Rattle.stored_book.specs.Standing.{AreCatalog}
+use Rattle.stored_book.specs.Standing.{AreCatalog, book_pages}
 use Rattle.store_commands.specs.Damaged.{IsDamagedPlace}
 use Rattle.store_commands.specs.Books.{OfBook, Never, LeavesSame, SendsPartOf}
 
@@ -22,15 +22,15 @@ unfoldable pub counts_text : Counts → List ℕ
 counts_text counts =
     codes "series " ++ (decimal counts.series ++ (codes "\nvalues " ++ (decimal counts.values ++ (codes "\npages " ++ (decimal counts.used ++ (codes " of " ++ (decimal counts.total ++ codes "\n")))))))
 
--- The pages for which the disk stands are sound, all of them: page 0 has these numbers, in range, which are those that were counted,
+-- The pages for which the disk stands are sound, in version 2, all of them: page 0 has these numbers, in range, which are those that were counted,
 -- the pages of the catalog keep their layout, and those of the trees and of the chain are right for their places.
 pub record AreWhole (count : ℕ) (disk : View) (counts : Counts) : Type 0 where
   pub superblock : Superblock
   pub numbers : AreNumbers superblock counts
   pub rules : IsSuperblock count superblock
-  pub spelled : Honest disk → pages_of count disk.image 0 ≡ superblock_page superblock
-  pub catalog : Honest disk → AreCatalog (pages_of count disk.image) superblock.fresh superblock.series
-  pub sound : Honest disk → AreSound (pages_of count disk.image) superblock
+  pub spelled : Honest disk → book_pages count disk.image 0 ≡ superblock_page superblock
+  pub catalog : Honest disk → AreCatalog (book_pages count disk.image) superblock.fresh superblock.series
+  pub sound : Honest disk → AreSound (book_pages count disk.image) superblock
 
 -- the counts were sent, which are those of the book that the disk holds
 pub record SendsCounts (count : ℕ) (disk : View) (before now : Option (List ℕ)) : Type 0 where

@@ -2,10 +2,11 @@
 use Rattle.std.specs.Prelude.{ℕ, ◌≡◌, ◌+◌, ◌<◌, ◌⊎◌}
 use Rattle.block_disk.specs.View.{Image, View, Honest}
 use Rattle.disk_store.specs.Openings.{IsDamagedBlock, IsFirstBlock}
-use Rattle.gate_pages.specs.Journal.{page_count, pages_of}
+use Rattle.gate_pages.specs.Journal.{page_count}
+use Rattle.stored_book.specs.Standing.{book_pages}
 
 -- no store was opened: the block is the directory, page 0 or one of the catalog, and breaks its layout on the disk as it was
--- found, once the journal is replayed, or block 66 has no store
+-- found, once the journal is replayed and the pages are of version 2, or the rules of version 1, or block 66 has no store
 abbrev pub IsDamagedAtFirst : View → ℕ → Type 0
 IsDamagedAtFirst disk place = IsFirstBlock place × (Honest disk → IsDamagedBlock (page_count disk.size) disk.image place)
 
@@ -14,7 +15,7 @@ pub record IsDamagedLater (IsBad : ℕ → Image → ℕ → Type 0) (count : �
   pub page : ℕ
   pub place_is : place ≡ 66 + page
   pub within : page < count
-  pub bad : Honest disk → IsBad count (pages_of count disk.image) page
+  pub bad : Honest disk → IsBad count (book_pages count disk.image) page
 
 -- the one or the other
 abbrev pub IsDamagedPlace : (ℕ → Image → ℕ → Type 0) → View → View → ℕ → Type 0

@@ -7,12 +7,12 @@ use Rattle.chart_client.specs.declared.errors.ClientError.TheVariants as client
 use Rattle.chart_frames.specs.declared.frame.Frame.{Frame}
 use Rattle.chart_frames.specs.Frames.{key_number}
 use Rattle.gate_pages.specs.GatePages.{IsReadable}
-use Rattle.gate_pages.specs.Journal.{page_count, pages_of}
+use Rattle.gate_pages.specs.Journal.{page_count}
 use Rattle.gate_pages.specs.Pages.{GoesOn}
 use Rattle.om3_coeff.specs.declared.key.Key.{Key}
 use Rattle.request_lines.specs.declared.requests.Request.{Request}
 use Rattle.stored_book.specs.Damage.{IsBadForRequest}
-use Rattle.stored_book.specs.Standing.{StandsForBook}
+use Rattle.stored_book.specs.Standing.{StandsForBook, KeepsOldStore, book_pages}
 use Rattle.chart_service.specs.Moments.{Since}
 use Rattle.chart_service.specs.State.{State}
 use Rattle.demo_workload.specs.declared.summaries.Summary.{Summary}
@@ -47,8 +47,9 @@ pub record AnswersFirst (requests : List Request) (start state : State) : Type 0
 pub record IsAheadDemo (requests : List Request) (count total : ℕ) (start : State) (from : ℕ) (image : Image) (sent : ℕ) : Type 0 where
   pub readable : IsReadable count image
   pub within : total ≤ count
-  pub some : IsPartWay requests total start (pages_of count image)
-  pub all : from < sent → (frames : List Frame) × (state : State) × AnswersEach start requests frames state × StandsForBook (pages_of count image) total state.book
+  pub old : KeepsOldStore count image
+  pub some : IsPartWay requests total start (book_pages count image)
+  pub all : from < sent → (frames : List Frame) × (state : State) × AnswersEach start requests frames state × StandsForBook (book_pages count image) total state.book
 
 -- at each moment from old to new a crash leaves such an image
 abbrev pub LeavesDemo : List Request → ℕ → View → View → Type 0

@@ -3,13 +3,14 @@ use Rattle.std.specs.Prelude.{◌≡◌, ℕ, ◌+◌, ◌<◌, ◌≤◌, ◌�
 use Rattle.block_disk.specs.Counts.{HasRisen}
 use Rattle.block_disk.specs.Streams.{sent_after}
 use Rattle.block_disk.specs.View.{View, Honest}
-use Rattle.gate_pages.specs.Journal.{page_count, pages_of}
+use Rattle.gate_pages.specs.Journal.{page_count}
 use Rattle.gate_pages.specs.Pages.{GoesOn}
 use Rattle.series_book.specs.Pages.{series_pages}
 use Rattle.series_export.specs.Exports.{export_text}
 use Rattle.series_export.specs.declared.window.Window.{Window}
 use Rattle.series_store.specs.Counting.{HasBadTree}
 use Rattle.disk_store.specs.Held.{HoldsBook}
+use Rattle.stored_book.specs.Standing.{book_pages}
 use Rattle.stored_book.specs.Damage.{SaysNumbers}
 use Rattle.store_commands.specs.Books.{OfBook, Never, LeavesSame, SendsPartOf}
 use Rattle.store_commands.specs.Damaged.{IsDamagedAtFirst}
@@ -35,7 +36,7 @@ ReadsSeries name count old new = OfSeries count old name (λ total book series. 
 pub record IsBadInTree (count : ℕ) (disk : View) (place : ℕ) : Type 0 where
   pub page : ℕ
   pub place_is : place ≡ 66 + page
-  pub bad : Honest disk → SaysNumbers count (pages_of count disk.image) (λ s. HasBadTree (pages_of count disk.image) s page)
+  pub bad : Honest disk → SaysNumbers count (book_pages count disk.image) (λ s. HasBadTree (book_pages count disk.image) s page)
 
 -- no store was opened, and nothing was sent; or a page was found bad as the series was read
 abbrev pub IsDamagedForExport : View → Option (List ℕ) → Option (List ℕ) → ℕ → Type 0

@@ -5,7 +5,7 @@ use Rattle.block_disk.specs.Counts.{HasRisen}
 use Rattle.block_disk.specs.Streams.{sent_after}
 use Rattle.block_disk.specs.View.{Image, View, sent_now}
 use Rattle.gate_pages.specs.GatePages.{IsReadable}
-use Rattle.gate_pages.specs.Journal.{page_count, pages_of}
+use Rattle.gate_pages.specs.Journal.{page_count}
 use Rattle.gate_pages.specs.Pages.{GoesOn}
 use Rattle.series_book.specs.declared.one_series.Series.{Series}
 use Rattle.series_book.specs.declared.refusals.Refusal.{Refusal}
@@ -13,7 +13,7 @@ use Rattle.series_book.specs.Edits.{id_of}
 use Rattle.series_book.specs.Refusals.{number_of}
 use Rattle.disk_store.specs.Held.{HoldsBook}
 use Rattle.stored_book.specs.Damage.{IsBadForEdit}
-use Rattle.stored_book.specs.Standing.{RecoversTo}
+use Rattle.stored_book.specs.Standing.{KeepsOldStore, book_pages, RecoversTo}
 use Rattle.chart_service.specs.Moments.{Since}
 use Rattle.series_load.specs.Runs.{Run, AreFirst}
 use Rattle.series_load.specs.Sets.{IsNamed, IsAfterSome, Loads}
@@ -79,8 +79,9 @@ RefusesSet name count old new input place = OfSeries count old name (λ total bo
 pub record IsAheadLoad (count total : ℕ) (name : List ℕ) (book : List Series) (series : Series) (input : List ℕ) (from : ℕ) (image : Image) (sent : ℕ) : Type 0 where
   pub readable : IsReadable count image
   pub within : total ≤ count
-  pub some : IsAfterSome total name book series (Some input) (pages_of count image)
-  pub all : from < sent → (readings : ℕ) × IsLoaded total name book series input readings (pages_of count image)
+  pub old : KeepsOldStore count image
+  pub some : IsAfterSome total name book series (Some input) (book_pages count image)
+  pub all : from < sent → (readings : ℕ) × IsLoaded total name book series input readings (book_pages count image)
 
 -- at each moment from old to new a crash leaves such an image
 abbrev pub LeavesLoads : List ℕ → ℕ → List ℕ → View → View → Type 0

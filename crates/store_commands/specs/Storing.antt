@@ -15,7 +15,7 @@ use Rattle.series_load.specs.declared.load_end.LoadEnd.TheVariants.{UnknownSerie
 use Rattle.store_commands.specs.declared.status.Status.{Status}
 use Rattle.store_commands.specs.Traffic.{Traffic}
 use Rattle.store_commands.specs.Damaged.{IsDamagedLater}
-use Rattle.store_commands.specs.Books.{OfBook, Never, IsOn, HoldsPages}
+use Rattle.store_commands.specs.Books.{OfBook, Never, IsOnBook, HoldsPages}
 use Rattle.store_commands.specs.Status.{status}
 use Rattle.store_commands.specs.Loaded.{OfSeries, Unnamed}
 
@@ -62,7 +62,7 @@ pub record Stores (name : List ℕ) (count : ℕ) (old new : View) (left left' b
   pub named : OfSeries count old name (λ total book series. answer ≢ Err UnknownSeries)
   pub unnamed : Unnamed count old name (λ total book. answer ≡ Err UnknownSeries)
   pub untouched : answer ≡ Err UnknownSeries → OfBook count old (λ total book. HoldsBook count total book new × Since old new (λ image sent. RecoversTo count image total book)) × (left' ≡ left)
-  pub moments : OfSeries count old name (λ total book series. Since old new (λ image sent. IsOn count total (IsAfterSome total name book series left) image × (sent ≡ sent_now old)))
+  pub moments : OfSeries count old name (λ total book series. Since old new (λ image sent. IsOnBook count total (IsAfterSome total name book series left) image × (sent ≡ sent_now old)))
   pub quiet : OfBook count old (λ total book. sent_now new ≡ sent_now old)
   pub sent_is : now ≡ before
   pub sends_is : sends_now ≡ sends

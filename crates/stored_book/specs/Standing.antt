@@ -52,10 +52,14 @@ pub record StandsForBook (image : Image) (total : ℕ) (book : List Series) : Ty
 abbrev pub book_pages : ℕ → Image → Image
 book_pages count image = current (pages_of count image)
 
+-- where the image's pages are of version 1, they keep its rules
+abbrev pub KeepsOldStore : ℕ → Image → Type 0
+KeepsOldStore count image = HasOldMagic (pages_of count image 0) → IsOldStore (pages_of count image)
+
 -- A disk's image of so many pages stands for the book: its journal can be read, a store of version 1 keeps its rules, and
 -- the pages, in version 2, stand for the book.
 pub record RecoversTo (count : ℕ) (image : Image) (total : ℕ) (book : List Series) : Type 0 where
   pub readable : IsReadable count image
   pub within : total ≤ count
-  pub old : HasOldMagic (pages_of count image 0) → IsOldStore (pages_of count image)
+  pub old : KeepsOldStore count image
   pub stands : StandsForBook (book_pages count image) total book

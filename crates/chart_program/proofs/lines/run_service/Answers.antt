@@ -9,6 +9,7 @@ use Rattle.chart_program.proofs.Counts.{reads_served, syncs_served}
 use Rattle.chart_program.proofs.LinesServed.{run_made, run_causes, made_none}
 use Rattle.chart_program.proofs.Telling.{texts_none}
 use Rattle.chart_program.proofs.Knowing.{holds_of, screen_follows, known_first}
+use Rattle.store_commands.proofs.Held.{rests_new}
 use Rattle.store_commands.proofs.Stores.{store_disk, store_sound}
 use Rattle.chart_program.proofs.lines.run_service.Goals as goal
 
@@ -36,13 +37,14 @@ returns-in-Ok g c =
     subst P same_disk (c.disk_of.ensures.rests (subst IsTrue (sym (store_sound store after.store c.into_store.ensures)) (made.sound other))) in
     let law = c.frames_have_one_answer.ensures in
     let change = c.frames_change_one_session.ensures in
-    let all = run_made pages.count end_pages.count pages.sound end_pages.sound (view disk) (view new) (left disk) (left new) (sent disk) (sent new) faults after.sessions made.serves.size made.serves.told made.goes_on made.serves.faults
+    let rests = rests_new pages.count (view disk) c.args.service.store.space.superblock (pages.at_rest c.requires.sound) (c.args.service.store.space.spelled c.requires.sound) in
+    let all = run_made pages.count end_pages.count pages.sound end_pages.sound (view disk) (view new) (left disk) (left new) (sent disk) (sent new) faults after.sessions made.serves.size made.serves.told made.goes_on made.serves.faults rests
     c.one_frame_a_spelling.ensures c.replies_draw_the_book.ensures c.clients_draw_the_book.ensures.accepts c.run_on-answer.result c.in-Ok.screen c.run_on-answer.new.show own c.in-Ok.ensures c.requires.alone
     (λ total book told stands. c.is_sound.ensures.state total book c.requires.sound told stands) made.done made.within made.ends made.crash closed
     (run_causes c.one_frame_a_spelling.ensures law.numbered pages.count end_pages.count (view disk) (view new) faults c.run_on-answer.result made.serves.size made.read made.send made.disk made.bad made.shown
     (made.known holds_of (screen_follows change.others change.opened change.viewed c.one_frame_a_spelling.ensures) (known_first c.in-Ok.screen own c.requires.alone)))
-    (reads_served (left disk) pages.count (view disk) (view new) own c.requires.alone made.reads)
-    (syncs_served (left disk) pages.count (view disk) (view new) (pieces disk) (pieces new) (g.met.W.World.beside_pieces disk) (g.met.W.World.beside_pieces new) made.syncs) in
+    (reads_served (left disk) pages.count (view disk) (view new) own rests c.requires.alone made.reads)
+    (syncs_served (left disk) pages.count (view disk) (view new) (pieces disk) (pieces new) rests (g.met.W.World.beside_pieces disk) (g.met.W.World.beside_pieces new) made.syncs) in
     let D : g.row.W.Denot → Type 0 = λ d. ServesLines AreTexts (Unit {0}) pages.count (view disk) (view d) (left disk) (left d) (sent disk) (sent d) (faults_of (reads disk) (reads d) (sends disk) (sends d)) c.run_on-answer.result in
     subst D (sym same_disk) all
 

@@ -6,6 +6,8 @@ use Rattle.chart_service.specs.declared.service.Service.{Service}
 use Rattle.gate_pages.specs.GatePages.{IsClosed}
 use Rattle.live_service.specs.Shown as its
 use Rattle.series_book.specs.declared.one_series.Series.{Series}
+use Rattle.series_store.specs.Shown as stored
+use Rattle.store_commands.proofs.Held.{RestsNew, rests_new}
 use Rattle.store_commands.proofs.Stores.{store_disk, store_sound}
 use Rattle.live_command.specs.Syncs.{SyncsLines}
 use Rattle.live_command.specs.Ended.{ReadsFrom, begun_live}
@@ -40,7 +42,9 @@ returns-clause-serves g c =
     let alone = ap (λ (s : Service _ _). s.sessions) is_service ∙ c.requires.alone in
     let begins : (total : ℕ) (book : List Series) → its.state start total book ≡ begun_live total book =
     λ total book. begins_so total book (its.service start).sessions start.followed.items start.pending.items alone c.new-live.ensures.none c.new-live.ensures.idle in
-    let all = served_from pages.count end_pages.count pages.sound end_pages.sound (view disk) (view new) made.goes.size made.goes.is_told made.goes.goes_on (reads disk) (reads new) (sends disk) (sends new) (its.state start) begins
+    let R : Service _ _ → Type 0 = λ s. RestsNew (shown.pages s).count (view (shown.pages s).disk) in
+    let rests : RestsNew pages.count (view disk) = subst R (sym is_service) (rests_new (shown.pages service).count (view (shown.pages service).disk) (stored.numbers service.store) ((shown.pages service).at_rest c.requires.sound) (service.store.space.spelled c.requires.sound)) in
+    let all = served_from pages.count end_pages.count pages.sound end_pages.sound (view disk) (view new) made.goes.size made.goes.is_told made.goes.goes_on rests (reads disk) (reads new) (sends disk) (sends new) (its.state start) begins
     answer (left disk) (left new) (sent disk) (sent new) made.done made.within made.stops made.crash made.cause closed made.goes.faults in
     let D : g.row.W.Denot → Type 0 = λ d. Served pages.count (view disk) (view d) (left disk) (left d) (sent disk) (sent d) (reads disk) (reads d) (sends disk) (sends d) answer in
     let S : Service _ _ → Type 0 = λ s. Served (shown.pages s).count (view (shown.pages s).disk) (view c.disk_of.result) (left (shown.pages s).disk) (left c.disk_of.result) (sent (shown.pages s).disk) (sent c.disk_of.result) (reads (shown.pages s).disk) (reads c.disk_of.result) (sends (shown.pages s).disk) (sends c.disk_of.result) answer in
@@ -65,9 +69,11 @@ returns-clause-reads g c =
     let alone = ap (λ (s : Service _ _). s.sessions) is_service ∙ c.requires.alone in
     let begins : (total : ℕ) (book : List Series) → its.state start total book ≡ begun_live total book =
     λ total book. begins_so total book (its.service start).sessions start.followed.items start.pending.items alone c.new-live.ensures.none c.new-live.ensures.idle in
+    let R : Service _ _ → Type 0 = λ s. RestsNew (shown.pages s).count (view (shown.pages s).disk) in
+    let rests : RestsNew pages.count (view disk) = subst R (sym is_service) (rests_new (shown.pages service).count (view (shown.pages service).disk) (stored.numbers service.store) ((shown.pages service).at_rest c.requires.sound) (service.store.space.spelled c.requires.sound)) in
     let D : g.row.W.Denot → Type 0 = λ d. IfSome (left disk) (λ input. ReadsFrom pages.count (view disk) (view d) input (view disk).reads) in
     let S : Service _ _ → Type 0 = λ s. IfSome (left (shown.pages s).disk) (λ input. ReadsFrom (shown.pages s).count (view (shown.pages s).disk) (view c.disk_of.result) input (view (shown.pages s).disk).reads) in
-    subst S is_service (subst D (sym same_disk) (reads_from pages.count (view disk) (view new) (left disk) (its.state start) begins made.reads))
+    subst S is_service (subst D (sym same_disk) (reads_from pages.count (view disk) (view new) rests (left disk) (its.state start) begins made.reads))
 
 pub returns-clause-syncs : goal.returns-clause-syncs
 returns-clause-syncs g c =

@@ -1,6 +1,7 @@
 use Rattle.std.proofs.Common.{◌≢◌, Err, sym, subst, arith}
 use Rattle.gate_pages.specs.GatePages.{IsClosed}
 use Rattle.series_store.specs.Shown as shown
+use Rattle.store_commands.proofs.Held.{rests_new}
 use Rattle.retain_command.proofs.DiskLemmas.{swept_by}
 use Rattle.retain_command.specs.Retaining.{Swept}
 use Rattle.retain_command.specs.declared.retain_end.RetainEnd.TheVariants.{DiskFault}
@@ -25,7 +26,7 @@ returns g c =
     λ other.
     let P : g.row.W.Denot → Type 0 = λ d. IsClosed (view d) in
     subst P c.disk_of.ensures.disk (c.disk_of.ensures.rests (made.sound other)) in
-    let all = swept_by pages.count end_pages.count pages.sound end_pages.sound (view disk) (view new) made.goes.size made.goes.is_told made.goes.goes_on (shown.total before) (shown.total after) (reads disk) (reads new) (sends disk) (sends new) (omega (arith, before.space.rules.total_high, made.goes.size))
+    let all = swept_by pages.count end_pages.count pages.sound end_pages.sound (view disk) (view new) made.goes.size made.goes.is_told made.goes.goes_on (rests_new pages.count (view disk) (shown.numbers before) (pages.at_rest c.requires) (before.space.spelled c.requires)) (shown.total before) (shown.total after) (reads disk) (reads new) (sends disk) (sends new) (omega (arith, before.space.rules.total_high, made.goes.size))
     answer (left disk) (left new) (sent disk) (sent new) made.done made.within made.stops made.crash made.cause closed made.goes.faults in
     let D : g.row.W.Denot → Type 0 = λ d. Swept pages.count (view disk) (view d) (left disk) (left d) (sent disk) (sent d) (reads disk) (reads d) (sends disk) (sends d) answer in
     subst D (sym c.disk_of.ensures.disk) all

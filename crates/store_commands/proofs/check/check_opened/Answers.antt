@@ -1,10 +1,13 @@
-use Rattle.std.proofs.Common.{sym, subst, ap, ◌∙◌}
-use Rattle.block_disk.specs.View.{Beside}
+use Rattle.std.proofs.Common.{◌≡◌, sym, subst, ap, ◌∙◌}
+use Rattle.block_disk.specs.View.{Image, Beside}
+use Rattle.page_space.specs.Layout.{superblock_page}
+use Rattle.series_store.specs.Counting.{AreSound}
+use Rattle.stored_book.specs.Standing.{AreCatalog}
 use Rattle.store_commands.specs.Checked.{counts_text}
 use Rattle.series_store.specs.Shown as shown
 use Rattle.store_commands.specs.Checking.{ChecksStore}
 use Rattle.store_commands.specs.Sending.{SendsText}
-use Rattle.store_commands.proofs.Held.{stands_held}
+use Rattle.store_commands.proofs.Held.{rests_new, stands_held}
 use Rattle.store_commands.proofs.CheckLooks.{checks_sent, checks_not}
 use Rattle.store_commands.proofs.check.check_opened.Goals as goal
 
@@ -24,18 +27,20 @@ returns-in-Ok-clause-checks g c =
     let w = g.met.W.World in
     let beside = e.looks.kept.beside in
     let closed = read.at_rest (e.looks.kept.fit c.requires) in
+    let rests = rests_new pages.count (view old) (shown.numbers c.args.store) (pages.at_rest c.requires) (c.args.store.space.spelled c.requires) in
+    let s = shown.numbers c.args.store in
     let P : g.row.W.Denot → Type 0 = λ d. SendsText (counts_text counts) (view d) (view new) (sent d) (sent new) (sends d) (sends new) c.send_text.result.0 in
-    checks_sent pages.count read.count pages.sound read.sound (view old) (view mid) e.looks.kept e.looks.over.goes_on closed (view new) counts (sent old) (sent mid) (sent new) (sends old) (sends mid) (sends new) c.send_text.result.0
+    checks_sent pages.count read.count pages.sound read.sound (view old) (view mid) e.looks.kept e.looks.over.goes_on rests closed (view new) counts (sent old) (sent mid) (sent new) (sends old) (sends mid) (sends new) c.send_text.result.0
     (sym (w.beside_sent mid) ∙ ap (λ (b : Beside). b.sent) beside ∙ w.beside_sent old)
     (sym (w.beside_send_faults mid) ∙ ap (λ (b : Beside). b.send_faults) beside ∙ w.beside_send_faults old)
-    (λ total book holds. c.in-Ok.ensures.counts total book holds.honest (stands_held pages.count total book (view old) holds))
+    (λ total book holds. c.in-Ok.ensures.counts total book holds.honest (stands_held pages.count total book (view old) rests holds))
     (record {
       superblock = (shown.numbers c.args.store);
       numbers = c.in-Ok.ensures.numbers;
       rules = c.args.store.space.rules;
-      spelled = c.args.store.space.spelled c.requires;
-      catalog = c.args.store.whole c.requires;
-      sound = c.in-Ok.ensures.whole;
+      spelled = λ honest. let P : Image → Type 0 = λ i. i 0 ≡ superblock_page s in subst P (sym (rests.current honest)) (c.args.store.space.spelled c.requires honest);
+      catalog = λ honest. let P : Image → Type 0 = λ i. AreCatalog i s.fresh s.series in subst P (sym (rests.current honest)) (c.args.store.whole c.requires honest);
+      sound = λ honest. let P : Image → Type 0 = λ i. AreSound i s in subst P (sym (rests.current honest)) (c.in-Ok.ensures.whole honest);
     })
     (subst P c.disk_of-world.ensures.disk (c.send_text.ensures.sends (counts_text counts) c.counts_text.ensures))
 
@@ -53,13 +58,14 @@ returns-in-Err-clause-checks g c =
     let w = g.met.W.World in
     let beside = e.looks.kept.beside in
     let closed = read.at_rest (e.looks.kept.fit c.requires) in
+    let rests = rests_new pages.count (view old) (shown.numbers c.args.store) (pages.at_rest c.requires) (c.args.store.space.spelled c.requires) in
     let P : g.row.W.Denot → Type 0 = λ d. ChecksStore pages.count (view old) (view d) (sent old) (sent d) (sends old) (sends d) c.check_status.result in
     subst P (sym c.disk_of-world.ensures.disk)
-    (checks_not pages.count read.count pages.sound read.sound (view old) (view mid) e.looks.kept e.looks.over.goes_on closed (shown.numbers c.args.store) (sent old) (sent mid) (sends old) (sends mid) c.in-Err.error c.check_status.result c.check_status.ensures
+    (checks_not pages.count read.count pages.sound read.sound (view old) (view mid) e.looks.kept e.looks.over.goes_on rests closed (shown.numbers c.args.store) (sent old) (sent mid) (sends old) (sends mid) c.in-Err.error c.check_status.result c.check_status.ensures
     (sym (w.beside_sent mid) ∙ ap (λ (b : Beside). b.sent) beside ∙ w.beside_sent old)
     (λ honest. record { spelled = c.args.store.space.spelled c.requires honest; rules = c.args.store.space.rules }) c.args.store.space.rules.total_high c.in-Err.ensures.within
     c.in-Err.ensures.cause
-    (λ total book holds. c.in-Err.ensures.a_store total book holds.honest (stands_held pages.count total book (view old) holds)))
+    (λ total book holds. c.in-Err.ensures.a_store total book holds.honest (stands_held pages.count total book (view old) rests holds)))
 
 pub returns-in-Ok-clause-untaken : goal.returns-in-Ok-clause-untaken
 returns-in-Ok-clause-untaken g c =

@@ -6,6 +6,7 @@ use Rattle.demo_workload.specs.declared.demo_end.DemoEnd.TheVariants.{DiskFault}
 use Rattle.demo_workload.specs.Workload.{workload}
 use Rattle.store_commands.proofs.Stores.{store_disk, store_sound}
 use Rattle.store_commands.specs.Answering.{Answered}
+use Rattle.store_commands.proofs.Held.{rests_new}
 use Rattle.store_commands.proofs.DemoRequests.{answered_by}
 use Rattle.store_commands.proofs.demo.answer_all.Goals as goal
 
@@ -28,5 +29,5 @@ returns g c =
     let R : ℕ → Type 0 = λ n. Answered (workload c.args.seed n) pages.count (view disk) (view new) answer in
     let D : g.row.W.Denot → Type 0 = λ d. Answered (workload c.args.seed c.args.rounds) pages.count (view disk) (view d) answer in
     subst D (sym same_disk) (subst R c.from.ensures (answered_by (workload c.args.seed c.from.result) pages.count end_pages.count pages.sound end_pages.sound (view disk) (view new) after.sessions
-    made.runs.size made.runs.told made.runs.faults made.runs.beside made.goes_on c.frames_have_one_answer.ensures.numbered answer
+    made.runs.size made.runs.told made.runs.faults made.runs.beside made.goes_on (rests_new pages.count (view disk) c.args.service.store.space.superblock (pages.at_rest c.requires.sound) (c.args.service.store.space.spelled c.requires.sound)) c.frames_have_one_answer.ensures.numbered answer
     made.done made.standing made.moments made.left made.cause closed))

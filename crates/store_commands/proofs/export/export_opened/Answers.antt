@@ -3,6 +3,7 @@ use Rattle.gate_pages.specs.GatePages.{IsClosed}
 use Rattle.series_store.specs.Shown as shown
 use Rattle.store_commands.specs.Exporting.{ExportsStore}
 use Rattle.store_commands.specs.declared.status.Status.{Status}
+use Rattle.store_commands.proofs.Held.{rests_new}
 use Rattle.store_commands.proofs.ExportEnds.{series_sent, none_found}
 use Rattle.store_commands.proofs.export.export_opened.Goals as goal
 
@@ -19,7 +20,7 @@ returns-in_default-clause-exports g c =
     let E : Status → Type 0 = λ s. ExportsStore name window pages.count (view disk) (view disk) (sent disk) (sent disk) (sends disk) (sends disk) s in
     subst D (sym c.disk_of.ensures.disk)
     (subst E (sym c.ended.ensures.status)
-    (none_found name window pages.count (view disk) (sent disk) (sends disk) (λ total book honest stands. c.in_default.ensures.info total book c.requires honest stands)))
+    (none_found name window pages.count (view disk) (sent disk) (sends disk) (rests_new pages.count (view disk) (shown.numbers c.args.store) (pages.at_rest c.requires) (c.args.store.space.spelled c.requires)) (λ total book honest stands. c.in_default.ensures.info total book c.requires honest stands)))
 
 pub returns-clause-exports : goal.returns-clause-exports
 returns-clause-exports g c =
@@ -43,7 +44,7 @@ returns-clause-exports g c =
     let E : Status → Type 0 = λ s. ExportsStore name window pages.count (view disk) (view new) (sent disk) (sent new) (sends disk) (sends new) s in
     subst D (sym c.disk_of-2.ensures.disk)
     (subst E (sym c.export_status.ensures)
-    (series_sent name window pages.count end_pages.count pages.sound end_pages.sound (view disk) (view new) (shown.numbers before) (shown.numbers after) e.sends closed c.in-Some.info.id
+    (series_sent name window pages.count end_pages.count pages.sound end_pages.sound (view disk) (view new) (shown.numbers before) (shown.numbers after) e.sends (rests_new pages.count (view disk) (shown.numbers before) (pages.at_rest c.requires) (before.space.spelled c.requires)) closed c.in-Some.info.id
     (λ total book honest stands. (c.in-Some.ensures.info total book c.requires honest stands).0)
     (sent disk) (sent new) (sends disk) (sends new) answer (w.beside_send_faults disk) (w.beside_send_faults new)
     (omega (arith, c.in-Some.ensures.there, before.count))

@@ -3,6 +3,7 @@ use Rattle.gate_pages.specs.GatePages.{IsClosed, pages_view}
 use Rattle.series_load.specs.declared.load_end.LoadEnd.TheVariants.{DiskFault}
 use Rattle.series_store.specs.Shown as shown
 use Rattle.store_commands.specs.Storing.{Stores}
+use Rattle.store_commands.proofs.Held.{rests_new}
 use Rattle.store_commands.proofs.Stores.{store_disk}
 use Rattle.store_commands.proofs.LoadStored.{stores_by, sound_after}
 use Rattle.store_commands.proofs.load.load_store.Goals as goal
@@ -27,7 +28,7 @@ returns g c =
     λ other.
     let P : g.row.W.Denot → Type 0 = λ d. IsClosed (view d) in
     subst P c.disk_of.ensures.disk (c.disk_of.ensures.rests (sound_after answer (pages_view end_pages.count end_pages.sound (view new)) made.sound made.sound_for other)) in
-    let all = stores_by name pages.count end_pages.count pages.sound end_pages.sound (view disk) (view new) (left disk) (left new) made.goes.size made.goes.is_told made.goes.goes_on answer (sent disk) (sent new) (shown.total before) (reads disk) (reads new) (sends disk) (sends new)
+    let all = stores_by name pages.count end_pages.count pages.sound end_pages.sound (view disk) (view new) (left disk) (left new) made.goes.size made.goes.is_told made.goes.goes_on (rests_new pages.count (view disk) (shown.numbers before) (pages.at_rest c.requires) (before.space.spelled c.requires)) answer (sent disk) (sent new) (shown.total before) (reads disk) (reads new) (sends disk) (sends new)
     made.outcome made.unknown made.within (omega (arith, before.space.rules.total_high, made.goes.size)) made.cause closed (λ is. let same = store_disk after before (made.untouched is) in (ap view same, ap left same)) made.goes.sent_is made.goes.sends made.goes.reads made.goes.faults in
     let D : g.row.W.Denot → Type 0 = λ d. Stores name pages.count (view disk) (view d) (left disk) (left d) (sent disk) (sent d) (reads disk) (reads d) (sends disk) (sends d) answer in
     subst D (sym c.disk_of.ensures.disk) all
