@@ -1,5 +1,5 @@
 -- What is done over the store of a disk, in the words of the disk.
-use Rattle.std.proofs.Common.{◌≡◌, ◌≢◌, ◌∙◌, ℕ, ◌+◌, ◌≤◌, ◌<◌, ◌^◌, Bool, List, [], length, Option, Some, None, Result, Ok, Err, IfSome, refl, ap, sym, subst, arith}
+use Rattle.std.proofs.Common.{◌≡◌, ◌≢◌, ◌∙◌, ℕ, ◌+◌, ◌≤◌, ◌<◌, ◌^◌, Bool, List, [], length, Option, Some, None, Result, Ok, Err, IfSome, refl, ap, subst, arith}
 use Rattle.std.specs.Prelude.{IfErr, OnOk}
 use Rattle.block_disk.specs.View.{Image, View, Honest, sent_now}
 use Rattle.chart_service.specs.MomentLaws.{since_both, since_none}
