@@ -14,6 +14,7 @@ use Rattle.view_keys.specs.Ranges.{IsInRange, IsWithin, IsCut}
 use Rattle.view_keys.specs.Flat.{IsFlat}
 use Rattle.view_keys.proofs.Ranging.{shared-above, above-in_range}
 use Rattle.view_keys.specs.Wanted.{Seen, IsClearBefore, IsClearBehind}
+use Rattle.needed_nodes.proofs.EndLaws.{FlatBelow}
 use Rattle.chart_client.specs.Searching.{IsSettled, IsNearer, IsEnd, IsFailing, FailsAs, Finds, IsWantedIn, failure_of}
 use Rattle.chart_client.specs.declared.failure.Failure.{Failure}
 use Rattle.chart_client.specs.declared.search.Side.{Side}
@@ -196,13 +197,6 @@ pub record IsOf (x : Option Failure) (k : Key) : Type 0 where
   pub failure : Failure
   pub is : x ≡ Some failure
   pub key : failure.key ≡ k
-
--- what is seen below a flat key is flat
-abbrev pub FlatBelow : Type 0
-FlatBelow =
-    (root : Option Span) (told : Key → Option Coef) (top : ℕ) (w k : Key) (lo hi : ℤ) (h : ℕ) (s t : Span)
-    → w.level ≤ top → IsAtOrAbove w k → known root told top w ≡ Some (Some t) → known root told top k ≡ Some (Some s)
-    → IsFlat lo hi h t → IsFlat lo hi h s
 
 unseen : (s : Span) → ◌≡◌ {A = Option (Option Span)} None (Some (Some s)) → ⊥
 unseen s e = cc

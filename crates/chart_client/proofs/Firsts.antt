@@ -10,12 +10,13 @@ use Rattle.view_keys.specs.Flat.{IsFlat}
 use Rattle.view_keys.specs.Wanted.{Seen}
 use Rattle.view_keys.specs.Listed.{ComesBefore}
 use Rattle.view_keys.proofs.Orders.{not_itself, before_on}
+use Rattle.needed_nodes.proofs.EndLaws.{FlatBelow}
 use Rattle.chart_client.specs.Failing.{Fails}
 use Rattle.chart_client.specs.Searching.{IsFailing, IsFirst, IsFirstOf, IsEarlier, IsWantedIn, IsWantedBelow, Finds, failure_of}
 use Rattle.chart_client.specs.declared.failure.Failure.{Failure}
 use Rattle.chart_client.specs.declared.search.Side.TheVariants.{First, Last}
 use Rattle.chart_client.specs.declared.search.End.{End}
-use Rattle.chart_client.proofs.Columns.{FlatBelow, IsColumn, IsOf, IsGood, wanted_ends, ends_at, stuck_good}
+use Rattle.chart_client.proofs.Columns.{IsColumn, IsOf, IsGood, wanted_ends, ends_at, stuck_good}
 
 -- ---- the order of keys
 

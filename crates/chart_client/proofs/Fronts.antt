@@ -11,12 +11,13 @@ use Rattle.chart_grid.specs.Slots.{IsInColumn}
 use Rattle.view_keys.specs.Ranges.{IsInRange}
 use Rattle.view_keys.specs.Flat.{IsFlat}
 use Rattle.view_keys.specs.Wanted.{Seen}
+use Rattle.needed_nodes.proofs.EndLaws.{FlatBelow}
 use Rattle.chart_client.specs.Searching.{IsBetween, IsAmong, IsFirstOf, IsEarlier, IsWantedIn, IsWantedBelow, Finds, failure_of}
 use Rattle.chart_client.specs.declared.failure.Failure.{Failure}
 use Rattle.chart_client.specs.declared.search.Side.{Side}
 use Rattle.chart_client.specs.declared.search.Side.TheVariants.{First, Last}
 use Rattle.chart_client.specs.declared.search.End.{End}
-use Rattle.chart_client.proofs.Columns.{FlatBelow, IsColumn, finds_same}
+use Rattle.chart_client.proofs.Columns.{IsColumn, finds_same}
 use Rattle.chart_client.proofs.Firsts.{column_first, empty_first, more_first}
 
 -- the column's slots are those from a on and below b

@@ -1,7 +1,7 @@
 -- What a service did over a disk is what a serving command does.
 use Rattle.std.proofs.Common.{◌≡◌, ℕ, ◌+◌, ◌≤◌, ◌^◌, Bool, List, [], length, Option, Some, None, Result, Ok, Err, IfSome, refl, sym, ap, subst, arith}
 use Rattle.std.specs.Prelude.{OnOk, IfErr}
-use Rattle.block_disk.specs.View.{View, Honest, sent_now}
+use Rattle.block_disk.specs.View.{Image, View, Honest, sent_now}
 use Rattle.chart_world.specs.LineLaws.{told_so}
 use Rattle.chart_client.specs.Showing.{ScreenGives}
 use Rattle.chart_client.specs.declared.errors.ClientError.TheVariants as client
@@ -25,7 +25,6 @@ use Rattle.chart_service.specs.MomentLaws.{since_none}
 use Rattle.chart_program.specs.declared.run_end.RunEnd.{RunEnd}
 use Rattle.chart_program.specs.declared.run_end.RunEnd.TheVariants as run_end
 use Rattle.chart_program.specs.Runs.{AreShown, AreShownFrom, EndsRun, EndsAtBad, IsShown}
-use Rattle.stored_book.proofs.CurrentLemmas.{spelled_current}
 use Rattle.stored_book.specs.Damage.{IsBadForRequest}
 use Rattle.store_commands.specs.Damaged.{IsDamagedLater}
 use Rattle.chart_program.specs.Served.{Says, Spelled, AreTexts, Faults, AnswersAll, EndsServing, EndsLines, LeavesBooks, IsAheadOn, IsLinesCause, ReadsFrom, SyncsFrom, ServesLines, served}
@@ -33,6 +32,7 @@ use Rattle.store_commands.specs.Books.{OfBook, HoldsAgain, begun}
 use Rattle.store_commands.proofs.HoldsAgain.{again_from}
 use Rattle.chart_program.proofs.Counts.{reads_none, syncs_none}
 use Rattle.chart_program.proofs.Lowering.{crash_for, serve_ends, serve_again, text_ends, run_again, leaves_lowered}
+use Rattle.store_commands.proofs.Damages.{later_bad}
 use Rattle.store_commands.proofs.Held.{RestsNew, stands_held, from_book}
 use Rattle.chart_service.proofs.Sending.{stands_on}
 use Rattle.chart_program.specs.Known.{EndsKnown}
@@ -58,18 +58,6 @@ for_told (Some input) P all = all input refl
 of_told : (o : Option (List ℕ)) (input : List ℕ) (P : List ℕ → Type 0) → o ≡ Some input → IfSome o P → P input
 of_told o input P is all = let Q : Option (List ℕ) → Type 0 = λ x. IfSome x P in subst Q is all
 
--- a page that was found bad is so of the disk
-pub bad_later : (count count' : ℕ) (new : View) (page : ℕ) → count' ≡ count → serving.EndsAtBad (Honest new) count' (pages_of count' new.image) (serve_end.Damaged page) → IsDamagedLater IsBadForRequest count new (66 + page)
-bad_later count count' new page same bad =
-    let P : ℕ → Type 0 = λ n. IsBadForRequest n (pages_of n new.image) page in
-    let D : Image → Type 0 = λ i. IsBadForRequest count i page in
-    record {
-      page = page;
-      place_is = refl;
-      within = omega (arith, bad.0, same);
-      bad = λ honest. let there = subst P same (bad.1 honest) in subst D (sym (spelled_current (pages_of count new.image) there.numbers there.keeps.spelled)) there;
-    }
-
 -- the causes of a serving
 pub serve_cause : (count count' : ℕ) (old new : View) (faults : Faults) (CanShow : Type 0) (end : ServeEnd) → count' ≡ count
     → (end ≡ serve_end.ReadFault → IsLinesCause CanShow count old new faults (run_end.Serve serve_end.ReadFault)) → (end ≡ serve_end.SendFault → IsLinesCause CanShow count old new faults (run_end.Serve serve_end.SendFault)) → (end ≡ serve_end.DiskFault → IsLinesCause CanShow count old new faults (run_end.Serve serve_end.DiskFault))
@@ -77,7 +65,7 @@ pub serve_cause : (count count' : ℕ) (old new : View) (faults : Faults) (CanSh
 serve_cause count count' old new faults CanShow serve_end.ReadFault same read send disk bad = read refl
 serve_cause count count' old new faults CanShow serve_end.SendFault same read send disk bad = send refl
 serve_cause count count' old new faults CanShow serve_end.DiskFault same read send disk bad = disk refl
-serve_cause count count' old new faults CanShow (serve_end.Damaged page) same read send disk bad = bad_later count count' new page same bad
+serve_cause count count' old new faults CanShow (serve_end.Damaged page) same read send disk bad = later_bad count count' new page same bad.0 bad.1
 serve_cause count count' old new faults CanShow serve_end.InputTooLong same read send disk bad = tt
 serve_cause count count' old new faults CanShow serve_end.NoMemory same read send disk bad = tt
 

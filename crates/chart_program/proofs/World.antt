@@ -27,7 +27,6 @@ use Rattle.chart_program.specs.Served.{Says, Faults, faults_of, AnswersAll, Answ
 use Rattle.store_commands.specs.Books.{begun, HoldsAgain}
 use Rattle.store_commands.proofs.HoldsAgain.{again_opened}
 use Rattle.store_commands.proofs.Held.{held, risen_since}
-use Rattle.store_commands.proofs.Moments.{sent_so}
 
 -- ---- before the first line
 

@@ -1,6 +1,5 @@
 -- What a crash leaves while lines are answered.
-use Rattle.std.proofs.Common.{◌≡◌, ◌≤◌, ℕ, ◌+◌, ◌⊎◌, List, [], ◌∷◌, ◌++◌, length, Option, Some, IfSome, refl, ap, subst, inl, inr, sym, ◌∙◌, arith, length-append}
-use Rattle.block_disk.specs.Streams.{sent_after}
+use Rattle.std.proofs.Common.{◌≡◌, ◌≤◌, ℕ, ◌+◌, ◌⊎◌, List, [], ◌∷◌, ◌++◌, length, Option, refl, ap, subst, inl, inr, sym, ◌∙◌, arith, length-append}
 use Rattle.block_disk.specs.View.{Image}
 use Rattle.chart_world.specs.Reading.{Reading, unread}
 use Rattle.chart_frames.specs.declared.frame.Frame.{Frame}
@@ -11,13 +10,6 @@ use Rattle.chart_service.specs.Serving.{told, most_ahead, RepliesToAll, Answers}
 use Rattle.chart_service.specs.State.{State}
 use Rattle.chart_service.proofs.Made.{made_joined}
 use Rattle.chart_service.proofs.Progress.{Progress, PassesLines, next_at, none_or_some}
-
--- so many bytes were sent
-pub sent_is : (bytes text : List ℕ) (now : Option (List ℕ)) (from count : ℕ) → from ≡ length bytes → now ≡ sent_after text (Some bytes) → IfSome now (λ all. count ≡ length all) → count ≡ from + length text
-sent_is bytes text now from count begins is counts =
-    let P : Option (List ℕ) → Type 0 = λ o. IfSome o (λ all. count ≡ length all) in
-    let all : count ≡ length (bytes ++ text) = subst P is counts in
-    omega (arith, all, begins, length-append bytes text)
 
 -- no lines do nothing, and nothing is sent for them
 no_frames : (front later : List Frame) → [] ≡ front ++ later → front ≡ []

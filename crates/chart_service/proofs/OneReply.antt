@@ -4,7 +4,7 @@ use Rattle.std.specs.Prelude.{◌≤ℤ◌, slice_get}
 use Rattle.std.proofs.lemmas.Int.{ints}
 use Rattle.std.proofs.lemmas.List.Elements.{All-contains}
 use Rattle.chart_grid.specs.declared.grid.Grid.{Grid}
-use Rattle.chart_grid.specs.Limits.{IsWindow, IsSide, IsBadWindow, IsBadSide}
+use Rattle.chart_grid.specs.Limits.{IsWindow, IsBadWindow}
 use Rattle.om3_coeff.specs.declared.key.Key.{Key}
 use Rattle.om3_coeff.specs.declared.coef.Coef.{Coef}
 use Rattle.om3_coeff.specs.Coefs.{coef}
@@ -19,7 +19,6 @@ use Rattle.value_filter.specs.Expressions.{Expression}
 use Rattle.value_filter.specs.Steps.{postfix}
 use Rattle.value_filter.specs.Grammar.{IsFilter, LeavesAt}
 use Rattle.request_lines.specs.declared.ranges.RangeWord.{RangeWord}
-use Rattle.request_lines.specs.declared.ranges.RangeWord.TheVariants as word
 use Rattle.request_lines.specs.declared.requests.Request.{Request}
 use Rattle.request_lines.specs.declared.requests.Request.TheVariants as request
 use Rattle.request_lines.specs.Requests.{read_line}
@@ -35,7 +34,8 @@ use Rattle.zoom_session.specs.Sessions.{is_open, session_of, open_refusal, viewe
 use Rattle.chart_frames.specs.declared.frame.Frame.{Frame}
 use Rattle.chart_frames.specs.declared.frame.Frame.TheVariants.{View, Rows}
 use Rattle.chart_service.specs.State.{State}
-use Rattle.chart_service.specs.Viewing.{ShowsRange, AreNeeded, Answers, AnswersRows, axis_of, kept_by, range_spec, view_frame, rows_frame, IsGoodRange, IsBadRange}
+use Rattle.chart_service.specs.ViewingLaws.{no_window, no_sides, no_range}
+use Rattle.chart_service.specs.Viewing.{ShowsRange, AreNeeded, Answers, AnswersRows, axis_of, kept_by, range_spec, view_frame, rows_frame}
 use Rattle.chart_service.specs.Replies.{refused, Refuses, Edits, Opens, Closes, NeedsTooMany, AnswersBy, AnswersView, Views, ViewsSeries, ViewsId, RepliesToView, RepliesByText, Moves, MovesLast, MovesIn, Replies, RepliesTo, RepliesToLine, cache_of}
 use Rattle.chart_service.specs.Serving.{RepliesToAll}
 use Rattle.chart_service.specs.Alone.{alone, own_lines, own_frames, NeverCrowded}
@@ -149,26 +149,6 @@ views_one laws series id number w h t0 t1 range filter f g old s t a b =
     let grids : b.grid ≡ a.grid = grid_same b.grid a.grid (b.window.from ∙ sym a.window.from) (b.window.to ∙ sym a.window.to) (b.canvas.columns ∙ sym a.canvas.columns) (b.canvas.rows ∙ sym a.canvas.rows) in
     let P : Grid → Type 0 = λ x. AnswersView series (record { series = id; grid = x; range = range; filter = filter }) number g old t in
     view_one laws series (record { series = id; grid = a.grid; range = range; filter = filter }) number f g old s t a.view (subst P grids b.view)
-
--- what is in range isn't out of it
-no_window : (t0 t1 : ℤ) → IsWindow t0 t1 → IsBadWindow t0 t1 → ⊥
-no_window t0 t1 is (inl turned) = let up = is.rising in grind (arith, ints)
-no_window t0 t1 is (inr (inl far)) = absurd (omega (arith, is.from_size, far))
-no_window t0 t1 is (inr (inr far)) = absurd (omega (arith, is.to_size, far))
-
-no_side : (n : ℕ) → IsSide n → IsBadSide n → ⊥
-no_side n is (inl none) = absurd (omega (arith, is.some, none))
-no_side n is (inr many) = absurd (omega (arith, is.most, many))
-
-no_sides : (w h : ℕ) → IsSide w → IsSide h → (IsBadSide w ⊎ IsBadSide h) → ⊥
-no_sides w h wide high (inl bad) = no_side w wide bad
-no_sides w h wide high (inr bad) = no_side h high bad
-
-no_range : (r : RangeWord) → IsGoodRange r → IsBadRange r → ⊥
-no_range word.Auto good bad = bad
-no_range (word.Fixed lo hi) good (inl turned) = let up = good.0 in grind (arith, ints)
-no_range (word.Fixed lo hi) good (inr (inl far)) = absurd (omega (arith, good.1, far))
-no_range (word.Fixed lo hi) good (inr (inr far)) = absurd (omega (arith, good.2, far))
 
 series_one : (laws : Laws) (o : Option Series) (id number w h : ℕ) (t0 t1 : ℤ) (r : RangeWord) (filter : Option (List Step)) (f g : Frame) (old s t : State) → ViewsSeries o id number w h t0 t1 r filter f old s → ViewsSeries o id number w h t0 t1 r filter g old t → Same f g s t
 series_one laws None id number w h t0 t1 r filter f g old s t a b = refuses_one _ f g old s t a b

@@ -9,6 +9,7 @@ use Rattle.chart_world.specs.Reading.{Reading, unread_input, unread, told_lines,
 use Rattle.series_book.specs.declared.one_series.Series.{Series}
 use Rattle.stored_book.specs.Standing.{StandsForBook}
 use Rattle.zoom_session.specs.declared.session.Session.{Session}
+use Rattle.chart_service.specs.SentLaws.{sent_is}
 use Rattle.chart_service.specs.Answering.{EndsAt, EndsAnswers}
 use Rattle.chart_service.specs.Making.{Makes, AreMade, AreMadeFrom, LinesDone, LinesStopAt, LinesStop, LinesMoments}
 use Rattle.chart_service.specs.Moments.{IsAhead, Since, Through}
@@ -20,7 +21,7 @@ use Rattle.chart_service.specs.declared.failure.AnswerEnd.{AnswerEnd}
 use Rattle.chart_service.specs.declared.failure.AnswerEnd.TheVariants.{Serve, Reply}
 use Rattle.chart_service.specs.declared.failure.ServeEnd.TheVariants.{ReadFault, SendFault, DiskFault, Damaged, InputTooLong, NoMemory}
 use Rattle.chart_service.proofs.Made.{line_done, lines_fault, line_stops, no_memory}
-use Rattle.chart_service.proofs.Moments.{sent_is, at_rest, at_line}
+use Rattle.chart_service.proofs.Moments.{at_rest, at_line}
 use Rattle.chart_service.proofs.Progress.{Progress, PassesLines, starts, end_at, first_at}
 use Rattle.chart_service.proofs.Sending.{stands_on}
 

@@ -1,5 +1,6 @@
 pub mod State
 pub mod Viewing
+pub mod ViewingLaws
 pub mod Replies
 pub mod Opening
 pub mod Planning

@@ -27,7 +27,7 @@ mod gathering;
 mod groups;
 pub mod laws;
 mod looking;
-mod ranges;
+pub mod ranges;
 mod refusals;
 mod replying;
 mod selecting;

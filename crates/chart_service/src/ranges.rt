@@ -1,3 +1,4 @@
+//! The range of values that a view asks for.
 ghost use Rattle.std.specs.Prelude.{◌≡◌, ◌^◌, IsTrue, false, nat_lt, unsigned_abs};
 ghost use Rattle.whole_number.specs.declared.limits.TheConstants.{GREATEST_VALUE};
 ghost use Rattle.whole_number.specs.Range.{IsValue};
@@ -9,7 +10,7 @@ use whole_number::limits::GREATEST_VALUE;
 use zoom_session::RangeSpec;
 
 /// Whether the ends of a range are out of order, or one passes 10^18 in size.
-pub(crate) fn is_bad_range(word: RangeWord) -> bool
+pub fn is_bad_range(word: RangeWord) -> bool
     ensures bad { IsTrue result → IsBadRange word }
     ensures good { result ≡ false → IsGoodRange word }
 {
@@ -42,7 +43,7 @@ pub(crate) fn range_spec(word: RangeWord) -> RangeSpec
 }
 
 /// A number of at most 10^18 in size, in 64 bits.
-fn narrowed(value: i128) -> i64
+pub fn narrowed(value: i128) -> i64
     requires { IsValue value }
     ensures { result ≡ value }
 {

@@ -22,7 +22,7 @@ mod std_world;
 
 pub use laws::lines_join_back;
 pub use line_answer::{LineAnswer, LineFault};
-pub use lines::Lines;
+pub use lines::{Lines, offset_of};
 pub use mem_world::MemWorld;
 pub use no_memory::NoMemory;
 pub use std_world::StdWorld;

@@ -236,3 +236,11 @@ impl Lines {
         self.feed.taken
     }
 }
+
+/// The offset of the line that was given last, which begins among the first 2^32 bytes of the input.
+pub fn offset_of(lines: &Lines) -> u32
+    requires { lines.now.offset < 2 ^ 32 }
+    ensures { result ≡ lines.now.offset }
+{
+    lines.offset() as u32
+}

@@ -1,5 +1,5 @@
 -- What is done over a store on a disk, in the words of the disk.
-use Rattle.std.proofs.Common.{◌≡◌, ℕ, ◌+◌, ◌≤◌, ◌<◌, ◌^◌, Bool, List, length, Option, Some, None, Result, Ok, Err, IfSome, refl, sym, subst, arith}
+use Rattle.std.proofs.Common.{◌≡◌, ℕ, ◌+◌, ◌≤◌, ◌<◌, ◌^◌, Bool, List, length, Option, Some, None, Result, Ok, Err, IfSome, refl, subst, arith}
 use Rattle.std.specs.Prelude.{IfErr, OnOk}
 use Rattle.block_disk.proofs.Passing.{passes_weaker}
 use Rattle.block_disk.specs.View.{Image, View, Honest, Now, Passes, sent_now}
@@ -11,26 +11,21 @@ use Rattle.gate_pages.specs.GatePages.{IsClosed, PagesOf, pages_view}
 use Rattle.gate_pages.specs.Journal.{page_count, pages_of}
 use Rattle.series_book.specs.declared.one_series.Series.{Series}
 use Rattle.stored_book.specs.Damage.{IsBadForRequest}
+use Rattle.stored_book.proofs.CurrentLemmas.{recovers_new}
 use Rattle.stored_book.specs.Standing.{StandsForBook, RecoversTo}
-use Rattle.stored_book.proofs.CurrentLemmas.{recovers_new, spelled_current}
 use Rattle.store_commands.proofs.CheckLooks.{left_stands}
+use Rattle.store_commands.proofs.Damages.{later_bad}
 use Rattle.store_commands.proofs.Held.{RestsNew, held, holds_same, risen_since, stands_held, within_held}
 use Rattle.store_commands.proofs.Moments.{on_at, opened_goes, opened_since, since_on}
 use Rattle.store_commands.specs.Books.{LeavesSame, OfBook}
 use Rattle.store_commands.specs.Damaged.{IsDamagedLater}
 use Rattle.derive_command.specs.Derived.{DerivesAll}
 use Rattle.derive_command.specs.Deriving.{Drawn, IsEndCause, StopsAt}
-use Rattle.derive_command.specs.Doing.{Goes, IsCause, Side}
+use Rattle.store_commands.specs.Sides.{Side}
+use Rattle.derive_command.specs.Doing.{Goes, IsCause}
 use Rattle.derive_command.specs.Lines.{DrawsAll, EndsSo}
 use Rattle.derive_command.specs.declared.derive_end.DeriveEnd.{DeriveEnd}
 use Rattle.derive_command.specs.declared.derive_end.DeriveEnd.TheVariants.{BadLine, Refused, ReadFault, SendFault, InputTooLong, DiskFault, Damaged, NoMemory}
-
--- a page that was called damaged is so of the disk
-bad_later : (count count' : ℕ) (new : View) (page total : ℕ) → count' ≡ count → total ≤ count → (page < total) × (Honest new → IsBadForRequest count' (pages_of count' new.image) page) → IsDamagedLater IsBadForRequest count new (66 + page)
-bad_later count count' new page total same few bad =
-    let P : ℕ → Type 0 = λ n. IsBadForRequest n (pages_of n new.image) page in
-    let D : Image → Type 0 = λ i. IsBadForRequest count i page in
-    record { page = page; place_is = refl; within = omega (arith, bad.0, few); bad = λ honest. let bad_there = subst P same (bad.1 honest) in subst D (sym (spelled_current (pages_of count new.image) bad_there.numbers bad_there.keeps.spelled)) bad_there }
 
 abbrev pub disk_side : ℕ → Bool → View → ℕ → ℕ → ℕ → Side
 disk_side count sound disk total reads sends = record { told = Honest disk; view = pages_view count sound disk; under = disk; total = total; read_faults = reads; send_faults = sends }
@@ -63,7 +58,7 @@ module _ (count count' : ℕ) (sound sound' : Bool) (old new : View) (total tota
   cause_on SendFault is = is
   cause_on InputTooLong is = tt
   cause_on DiskFault is = is
-  cause_on (Damaged page) is = bad_later count count' new page total goes.size few is
+  cause_on (Damaged page) is = later_bad count count' new page goes.size (omega (arith, is.0, few, goes.size)) is.1
   cause_on NoMemory is = tt
 
   done_on : (left before now : Option (List ℕ)) → OfPages (λ book. IfSome left (λ input. DrawsAll book input before now)) → IfSome left (λ input. DerivesAll count old input before now)

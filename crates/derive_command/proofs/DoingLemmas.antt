@@ -19,7 +19,8 @@ use Rattle.series_pair.specs.Derived.{HasLargeSum, IsChartAnswer, IsChartCause, 
 use Rattle.series_pair.specs.declared.sum_error.SumError.{SumError}
 use Rattle.series_pair.specs.declared.sum_error.SumError.TheVariants as sum
 use Rattle.derive_command.specs.Answers.{AreOnOneGrid, HasLarge, IsAnswer, IsRefused}
-use Rattle.derive_command.specs.Doing.{DoesLine, DoesRequest, Goes, IsAsked, IsCause, LineStops, RequestStops, Side, TextStops, end_at}
+use Rattle.store_commands.specs.Sides.{Side}
+use Rattle.derive_command.specs.Doing.{DoesLine, DoesRequest, Goes, IsAsked, IsCause, LineStops, RequestStops, TextStops, end_at}
 use Rattle.derive_command.specs.Requests.{Spells, SaysNone}
 use Rattle.derive_command.specs.declared.asked.Asked.{Asked}
 use Rattle.derive_command.specs.declared.derive_end.DeriveEnd.{DeriveEnd}

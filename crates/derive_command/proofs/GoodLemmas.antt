@@ -7,6 +7,7 @@ use Rattle.chart_grid.specs.Limits.{IsWindow, IsSide, IsBadWindow, IsBadSide}
 use Rattle.chart_grid.specs.declared.grid.Grid.{Grid}
 use Rattle.chart_service.specs.Serving.{told}
 use Rattle.chart_service.specs.Viewing.{IsBadRange, IsGoodRange}
+use Rattle.chart_service.specs.ViewingLaws.{no_window, no_side, no_sides, no_range}
 use Rattle.chart_world.specs.FrontLaws.{some_left, whole_front}
 use Rattle.chart_world.specs.Fronts.{says}
 use Rattle.chart_world.specs.LineLaws.{says_text, told_behind}
@@ -22,7 +23,8 @@ use Rattle.series_pair.specs.Derived.{AreAlike, AreShifted, HasLargeSum, IsDeriv
 use Rattle.view_keys.proofs.Grids.{grid_same}
 use Rattle.whole_number.specs.Range.{IsValue}
 use Rattle.derive_command.specs.Answers.{AnswersLine, AreNamed, AreOnOneGrid, IsAnswer, IsGridOf, IsRefused, asked_range}
-use Rattle.derive_command.specs.Lines.{AreAnswers, DrawsToBad, DrawsToRefused, FirstLines, NextLine}
+use Rattle.store_commands.specs.InputLines.{NextLine}
+use Rattle.derive_command.specs.Lines.{AreAnswers, DrawsToBad, DrawsToRefused, FirstLines}
 use Rattle.derive_command.specs.Requests.{Says}
 use Rattle.derive_command.specs.declared.derive_refusal.DeriveRefusal.{DeriveRefusal}
 use Rattle.derive_command.specs.declared.derive_refusal.DeriveRefusal.TheVariants as refusal
@@ -32,25 +34,6 @@ use Rattle.derive_command.proofs.PictureLemmas.{picture_same}
 use Rattle.derive_command.proofs.SpellLemmas.{one_request}
 
 -- ---- a request that is answered isn't refused
-
-no_window : (t0 t1 : ℤ) → IsWindow t0 t1 → IsBadWindow t0 t1 → ⊥
-no_window t0 t1 is (inl turned) = let up = is.rising in grind (arith, ints)
-no_window t0 t1 is (inr (inl far)) = absurd (omega (arith, is.from_size, far))
-no_window t0 t1 is (inr (inr far)) = absurd (omega (arith, is.to_size, far))
-
-no_side : (n : ℕ) → IsSide n → IsBadSide n → ⊥
-no_side n is (inl none) = absurd (omega (arith, is.some, none))
-no_side n is (inr many) = absurd (omega (arith, is.most, many))
-
-no_sides : (w h : ℕ) → IsSide w → IsSide h → (IsBadSide w ⊎ IsBadSide h) → ⊥
-no_sides w h wide high (inl bad) = no_side w wide bad
-no_sides w h wide high (inr bad) = no_side h high bad
-
-no_range : (r : RangeWord) → IsGoodRange r → IsBadRange r → ⊥
-no_range word.Auto good bad = bad
-no_range (word.Fixed lo hi) good (inl turned) = let up = good.0 in grind (arith, ints)
-no_range (word.Fixed lo hi) good (inr (inl far)) = absurd (omega (arith, good.1, far))
-no_range (word.Fixed lo hi) good (inr (inr far)) = absurd (omega (arith, good.2, far))
 
 not_none : (o : Option ℕ) (id : ℕ) → o ≡ Some id → o ≡ None → ⊥
 not_none o id some none = cc

@@ -10,7 +10,9 @@ use Rattle.chart_world.specs.Lines.{is_line_feed, lines}
 use Rattle.chart_world.specs.Reading.{Reading, unread}
 use Rattle.series_book.specs.declared.one_series.Series.{Series}
 use Rattle.derive_command.specs.Answers.{AnswersLine}
-use Rattle.derive_command.specs.Lines.{AreAnswers, FirstLines, NextLine}
+use Rattle.store_commands.proofs.InputLemmas.{passed_next}
+use Rattle.store_commands.specs.InputLines.{NextLine}
+use Rattle.derive_command.specs.Lines.{AreAnswers, FirstLines}
 use Rattle.derive_command.specs.Requests.{Spells}
 use Rattle.derive_command.specs.declared.request.Request.{Request}
 
@@ -44,11 +46,7 @@ module _ (book : List Series) (input : List ℕ) (r r' : Reading) (left left' li
   it_passes = passes input p.first.front p.first.rest r r' left left' line p.told_rest p.counted p.first.begins gives
 
   pub next_line : NextLine (length p.first.front) p.first.rest line
-  next_line = record {
-    later = lines (after_first is_line_feed p.first.rest);
-    lines_are = it_passes.lines_are;
-    early = omega (arith, early, it_passes.counted, length-append p.first.front (first_piece p.first.rest));
-  }
+  next_line = passed_next input p.first.front p.first.rest (unread r' left') r'.given line it_passes early
 
   pub told_all : told (p.first.front ++ first_piece p.first.rest) ≡ told p.first.front ++ unless_empty line
   told_all = told_more p.first.front (first_piece p.first.rest) line it_passes.whole (piece_line p.first.rest line it_passes.lines_are)

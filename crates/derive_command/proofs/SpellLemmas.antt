@@ -18,20 +18,6 @@ use Rattle.derive_command.specs.Requests.{Spells, SpellsNumbers, SpellsWords, wo
 
 -- ---- tokens
 
--- a space ends the first token
-pub cut_found : (line : List ℕ) (place : ℕ) → position_or_len is_space line ≡ place → place < length line → tokens line ≡ take place line ∷ tokens (drop (place + 1) line)
-cut_found line place is within =
-    let P : ℕ → Type 0 = λ n. tokens line ≡ take n line ∷ tokens (drop (n + 1) line) in
-    subst P is (slice_split_first is_space line 0 (omega (arith, is, within)))
-
--- where there is none, the line is one token
-pub cut_none : (line : List ℕ) → length line ≤ position_or_len is_space line → tokens line ≡ line ∷ []
-cut_none line none = slice_split_none is_space line (λ k d below. fails_before_first is_space line k d (omega (arith, none, below)))
-
--- all that stands behind a place
-pub whole_rest : (bytes : List ℕ) (place : ℕ) → drop place bytes ≡ take (length bytes - place) (drop place bytes)
-whole_rest bytes place = sym (take_all (length bytes - place) (drop place bytes) (omega (arith, length-drop place bytes)))
-
 -- the tokens of bytes are one at least
 pub some_token : (bytes : List ℕ) → 0 < length (tokens bytes)
 some_token bytes = omega (arith, length-slice_split is_space bytes)

@@ -9,6 +9,8 @@ use Rattle.disk_store.specs.declared.causes.OpeningCause.TheVariants as opening
 use Rattle.gate_pages.specs.Journal.{page_count}
 use Rattle.series_book.specs.declared.one_series.Series.{Series}
 use Rattle.stored_book.specs.Standing.{RecoversTo}
+use Rattle.store_commands.proofs.InputLemmas.{any_told}
+use Rattle.store_commands.proofs.WorldLemmas.{IsUnopened}
 use Rattle.store_commands.proofs.Held.{held}
 use Rattle.store_commands.proofs.Moments.{opened_goes, opened_since}
 use Rattle.store_commands.specs.Books.{Never}
@@ -243,13 +245,9 @@ module _ (old new : View) (left left' before now : Option (List ℕ)) (reads rea
   ends_by {T} answer end is s = let P : Status → Type 0 = Ends in subst P (sym is) (ends_of answer s)
 
 -- the store of the disk wasn't opened
-module _ (old new : View) (left left' before now : Option (List ℕ)) (reads reads_now sends sends_now : ℕ) (opens : Opens (page_count old.size) old new) (same_left : left' ≡ left) (same : now ≡ before) where
-  any_told : (o : Option (List ℕ)) (P : List ℕ → Type 0) → ((input : List ℕ) → P input) → IfSome o P
-  any_told None P all = tt
-  any_told (Some input) P all = all input
-
+module _ (old new : View) (left left' before now : Option (List ℕ)) (reads reads_now sends sends_now : ℕ) (cause : OpeningCause) (fails : IsUnopened old new left left' before now cause) where
   nothing : (input : List ℕ) → DerivesFirst (page_count old.size) old input before now
-  nothing input = λ total book holds. record { first = no_lines book input; sent = same ∙ sent_none before }
+  nothing input = λ total book holds. record { first = no_lines book input; sent = fails.sent_is ∙ sent_none before }
 
   abbrev EndsNow : Status → Type 0
   EndsNow end = DeriveEnds old new left left' before now reads reads_now sends sends_now end.code end.place
@@ -273,9 +271,9 @@ module _ (old new : View) (left left' before now : Option (List ℕ)) (reads rea
     small = λ is. (prevents.0, omega (arith, prevents.0, prevents.1));
     refused = λ is. absurd (omega (arith, is));
     zero_place = λ is. absurd (omega (arith, low_code 12 is));
-    crash = opened_since old new opens;
-    holds = held old new opens;
-    goes_on = opened_goes old new opens;
+    crash = opened_since old new fails.opens;
+    holds = held old new fails.opens;
+    goes_on = opened_goes old new fails.opens;
   }
   not_opened (opening.Damaged block) prevents outside = record {
     codes = (5, omega arith, refl);
@@ -288,16 +286,16 @@ module _ (old new : View) (left left' before now : Option (List ℕ)) (reads rea
     part = λ is. absurd (omega (arith, is));
     fault = λ is. absurd (omega (arith, is));
     faulted = λ is. absurd (omega (arith, is));
-    damaged = λ is. inl (prevents.1, (same_left, same));
+    damaged = λ is. inl (prevents.1, (fails.left_is, fails.sent_is));
     undamaged = λ is. any_told left (λ input. Never (page_count old.size) old) (λ input total book holds. unopened block (outside total book holds));
     bad = λ is. absurd (omega (arith, is));
     much = λ is. absurd (omega (arith, is));
     small = λ is. absurd (omega (arith, is));
     refused = λ is. absurd (omega (arith, is));
     zero_place = λ is. absurd (omega (arith, low_code 7 is));
-    crash = opened_since old new opens;
-    holds = held old new opens;
-    goes_on = opened_goes old new opens;
+    crash = opened_since old new fails.opens;
+    holds = held old new fails.opens;
+    goes_on = opened_goes old new fails.opens;
   }
   not_opened opening.DiskFault prevents outside = record {
     codes = (4, omega arith, refl);
@@ -317,9 +315,9 @@ module _ (old new : View) (left left' before now : Option (List ℕ)) (reads rea
     small = λ is. absurd (omega (arith, is));
     refused = λ is. absurd (omega (arith, is));
     zero_place = λ is. refl;
-    crash = opened_since old new opens;
-    holds = held old new opens;
-    goes_on = opened_goes old new opens;
+    crash = opened_since old new fails.opens;
+    holds = held old new fails.opens;
+    goes_on = opened_goes old new fails.opens;
   }
   not_opened opening.NoMemory prevents outside = record {
     codes = (1, omega arith, refl);
@@ -339,12 +337,10 @@ module _ (old new : View) (left left' before now : Option (List ℕ)) (reads rea
     small = λ is. absurd (omega (arith, is));
     refused = λ is. absurd (omega (arith, is));
     zero_place = λ is. refl;
-    crash = opened_since old new opens;
-    holds = held old new opens;
-    goes_on = opened_goes old new opens;
+    crash = opened_since old new fails.opens;
+    holds = held old new fails.opens;
+    goes_on = opened_goes old new fails.opens;
   }
 
-  pub unopened_ends : (cause : OpeningCause) (end : Status) → Prevents cause old new → ((total : ℕ) (book : List Series) → Honest old → RecoversTo (page_count old.size) old.image total book → IsOutside cause) → end ≡ opening_status cause → EndsNow end
-  unopened_ends cause end prevents outside is =
-      let P : Status → Type 0 = EndsNow in
-      subst P (sym is) (not_opened cause prevents (λ total book holds. outside total book holds.honest (holds.images old.image holds.honest)))
+  pub unopened_ends : (end : Status) → end ≡ opening_status cause → EndsNow end
+  unopened_ends end is = let P : Status → Type 0 = EndsNow in subst P (sym is) (not_opened cause fails.prevents fails.outside)

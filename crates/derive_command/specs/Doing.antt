@@ -18,6 +18,7 @@ use Rattle.series_pair.specs.declared.sum_error.SumError.{SumError}
 use Rattle.series_pair.specs.declared.sum_error.SumError.TheVariants as sum
 use Rattle.series_store.specs.Shown as shown
 use Rattle.series_store.specs.declared.store.Store.{Store}
+use Rattle.store_commands.specs.Sides.{Side}
 use Rattle.stored_book.specs.Damage.{IsBadForRequest}
 use Rattle.derive_command.specs.Answers.{AnswersLine, AreNamed, IsAnswer, IsGridOf, IsRefused, RefusesLine, asked_range}
 use Rattle.derive_command.specs.Requests.{SaysNone}
@@ -142,15 +143,6 @@ pub record DoesLine {T : Type 0} (book : List Series) (line : List ℕ) (at : �
 
 -- ---- what calls move, whatever the pages are
 
--- pages with their streams, and how many a store on them may have
-pub record Side : Type 1 where
-  pub told : Type 0
-  pub view : View
-  pub under : View
-  pub total : ℕ
-  pub read_faults : ℕ
-  pub send_faults : ℕ
-
 -- Pages are read, input is taken and bytes are sent, and nothing else changes: a crash leaves at each moment what it might
 -- have left before.
 pub record Goes (old new : Side) : Type 0 where
@@ -176,14 +168,3 @@ IsCause InputTooLong old new = ⊤
 IsCause DiskFault old new = HasRisen old.view.faults new.view.faults
 IsCause (Damaged page) old new = (page < old.total) × (new.told → IsBadForRequest new.view.size new.view.image page)
 IsCause NoMemory old new = ⊤
-
-module _ {P : Type 0} {g : Ghosts P} where
-  abbrev pub side_of : streams.Ghosts P → Store P g → Side
-  side_of beside it = record {
-    told = shown.IsTold it;
-    view = shown.view it;
-    under = shown.under it;
-    total = shown.total it;
-    read_faults = beside.read_faults (shown.pages it);
-    send_faults = beside.send_faults (shown.pages it);
-  }

@@ -5,6 +5,7 @@ use Rattle.chart_service.specs.Serving.{told}
 use Rattle.chart_world.specs.Fronts.{says, BeginsWith, first_piece}
 use Rattle.chart_world.specs.Lines.{lines, NoLineFeed}
 use Rattle.series_book.specs.declared.one_series.Series.{Series}
+use Rattle.store_commands.specs.InputLines.{NextLine, Unended}
 use Rattle.derive_command.specs.Answers.{AnswersLine, RefusesLine}
 use Rattle.derive_command.specs.Requests.{SaysNone}
 use Rattle.derive_command.specs.declared.derive_end.DeriveEnd.{DeriveEnd}
@@ -24,18 +25,6 @@ pub record FirstLines (book : List Series) (input : List ℕ) : Type 0 where
   pub early : length front ≤ 2 ^ 32
   pub text : List ℕ
   pub answers : AreAnswers book (told front) text
-
--- behind so many bytes the next line is this, and ends among the first 2^32 bytes
-pub record NextLine (given : ℕ) (rest : List ℕ) (line : Option (List ℕ)) : Type 0 where
-  pub later : List (Option (List ℕ))
-  pub lines_are : lines rest ≡ line ∷ later
-  pub early : given + length (first_piece rest) ≤ 2 ^ 32
-
--- a part of a line stands there, and these bytes behind it
-pub record Unended (rest left : List ℕ) : Type 0 where
-  pub partial : List ℕ
-  pub taken : rest ≡ partial ++ left
-  pub unended : NoLineFeed partial
 
 module _ (book : List Series) (input : List ℕ) (before now : Option (List ℕ)) where
   -- the answers to all lines were sent

@@ -4,7 +4,8 @@ ghost use Rattle.block_disk.specs.Counts.{HasRisen};
 ghost use Rattle.block_disk.specs.Streams.{sent_after, PartSent};
 ghost use Rattle.pbm_writer.specs.Picture.{picture};
 ghost use Rattle.series_store.specs.Shown as shown;
-ghost use Rattle.derive_command.specs.Doing.{DoesLine, DoesRequest, Goes, IsCause, TextStops, end_at, side_of};
+ghost use Rattle.store_commands.specs.Sides.{side_of};
+ghost use Rattle.derive_command.specs.Doing.{DoesLine, DoesRequest, Goes, IsCause, TextStops, end_at};
 ghost use Rattle.derive_command.specs.Requests.{IsFactor};
 
 use crate::asking::asked_of;

@@ -14,13 +14,13 @@ use crate::asked::Asked;
 use crate::derive_refusal::DeriveRefusal;
 use crate::request::Request;
 use chart_grid::{Grid, GridError};
+use chart_service::ranges::{is_bad_range, narrowed};
 use derived_chart::Sum;
 use gate_pages::Pages;
 use plain_chart::ValueRange;
 use request_lines::RangeWord;
 use series_pair::shift_of;
 use series_store::Store;
-use whole_number::limits::GREATEST_VALUE;
 
 /// What a request asks for, or the first refusal that stands against it. Whether a sum is too large isn't tested yet.
 pub(crate) fn asked_of<P: Pages>(
@@ -99,24 +99,6 @@ fn view_of(request: &Request) -> Result<(Grid, Option<ValueRange>), DeriveRefusa
     Ok((grid, asked_range(request.range)))
 }
 
-/// Whether the ends of a range are out of order, or one passes 10^18 in size.
-fn is_bad_range(word: RangeWord) -> bool
-    ensures bad { IsTrue result → IsBadRange word }
-    ensures good { result ≡ false → IsGoodRange word }
-{
-    match word {
-        RangeWord::Auto => false,
-        RangeWord::Fixed { lo, hi } => lo > hi || is_too_large(lo) || is_too_large(hi),
-    }
-}
-
-/// Whether a number passes 10^18 in size.
-fn is_too_large(value: i128) -> bool
-    ensures { result ≡ nat_lt GREATEST_VALUE (unsigned_abs value) }
-{
-    value.unsigned_abs() > u128::from(GREATEST_VALUE)
-}
-
 /// The range that a word names.
 fn asked_range(word: RangeWord) -> Option<ValueRange>
     requires { IsGoodRange word }
@@ -130,12 +112,4 @@ fn asked_range(word: RangeWord) -> Option<ValueRange>
             hi: narrowed(hi),
         }),
     }
-}
-
-/// A number of at most 10^18 in size, in 64 bits.
-fn narrowed(value: i128) -> i64
-    requires { IsValue value }
-    ensures { result ≡ value }
-{
-    value as i64
 }

@@ -2,12 +2,13 @@
 ghost use Rattle.std.specs.Prelude.{◌≡◌, ◌≤◌, ◌<◌, ◌^◌, length, IfErr, IfSome, OnOk};
 ghost use Rattle.chart_world.specs.Reading.{unread_input};
 ghost use Rattle.series_store.specs.Shown as shown;
-ghost use Rattle.derive_command.specs.Doing.{Goes, IsCause, end_of, side_of};
+ghost use Rattle.store_commands.specs.Sides.{side_of};
+ghost use Rattle.derive_command.specs.Doing.{Goes, IsCause, end_of};
 ghost use Rattle.derive_command.specs.Shown.{AreDrawn, StopSo};
 
 use crate::answering::answer_line;
 use crate::derive_end::DeriveEnd;
-use chart_world::{LineAnswer, LineFault, Lines};
+use chart_world::{LineAnswer, LineFault, Lines, offset_of};
 use gate_pages::PageWorld;
 use series_store::Store;
 use std::alloc::Global;
@@ -20,14 +21,6 @@ fn end_of(fault: LineFault) -> DeriveEnd
         LineFault::ReadFault => DeriveEnd::ReadFault,
         LineFault::InputTooLong => DeriveEnd::InputTooLong,
     }
-}
-
-/// The offset of the line that was given last, which begins among the first 2^32 bytes of the input.
-fn offset_of(lines: &Lines) -> u32
-    requires { lines.now.offset < 2 ^ 32 }
-    ensures { result ≡ lines.now.offset }
-{
-    lines.offset() as u32
 }
 
 /// Sends the picture that each line of the input asks for, in order; empty lines are passed over. After `Ok` the input

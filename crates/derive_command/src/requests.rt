@@ -1,7 +1,7 @@
 //! A line is read as a request.
 ghost use Rattle.std.specs.Prelude.{◌≡◌, ◌≢◌, ◌<◌, ◌≤◌, ◌^◌, ◌∷◌, [], ℤ, List, None, Err, length, nat_le, position, unsigned_abs, IfErr, IfNone, IfOk, IfSome, IsTrue};
 ghost use Rattle.request_lines.specs.Spelling.{SpellsRange};
-ghost use Rattle.request_lines.specs.Tokens.{is_space, tokens};
+ghost use Rattle.request_lines.specs.Tokens.{tokens};
 ghost use Rattle.request_lines.specs.declared.ranges.RangeWord.{RangeWord as RangeSaid};
 ghost use Rattle.series_book.specs.Names.{is_name};
 ghost use Rattle.whole_number.specs.Spelling.{SpellsInteger};
@@ -14,6 +14,7 @@ use crate::request_error::RequestError;
 use crate::tokens::{Numbers, Words};
 use request_lines::RangeWord;
 use request_lines::ranges::{is_range, range_of};
+use request_lines::tokens::cut;
 use series_book::{Name, NameError};
 use std::alloc::Global;
 use whole_number::{integer, natural};
@@ -45,25 +46,6 @@ pub fn request_of(alloc: Global, line: &[u8]) -> Result<Request, RequestError>
         t1: numbers.t1,
         range: numbers.range,
     })
-}
-
-/// The place of the first space.
-fn first_space(bytes: &[u8]) -> Option<usize>
-    ensures place { result ≡ position is_space bytes.now }
-    ensures within { IfSome result (λ place. place < length bytes.now) }
-{
-    bytes.iter().position(|byte| *byte == b' ')
-}
-
-/// The first token, and what stands behind its space; none where there is no space.
-fn cut(bytes: &[u8]) -> Option<(&[u8], &[u8])>
-    ensures cut { IfSome result (λ parts. tokens bytes.now ≡ parts.0.now ∷ tokens parts.1.now) }
-    ensures one { result ≡ None → tokens bytes.now ≡ bytes.now ∷ [] }
-{
-    match first_space(bytes) {
-        Some(place) => Some((&bytes[..place], &bytes[place + 1..])),
-        None => None,
-    }
 }
 
 /// The first two tokens, and what stands behind the space of the second; none where there are no more than two.

@@ -1,5 +1,5 @@
 -- What is done over the store of a disk, in the words of the disk.
-use Rattle.std.proofs.Common.{◌≡◌, ◌≢◌, ◌∙◌, ℕ, ◌+◌, ◌≤◌, ◌<◌, ◌^◌, Bool, List, [], length, Option, Some, None, Result, Ok, Err, IfSome, refl, ap, sym, subst, arith}
+use Rattle.std.proofs.Common.{◌≡◌, ◌≢◌, ◌∙◌, ℕ, ◌+◌, ◌≤◌, ◌<◌, ◌^◌, Bool, List, [], length, Option, Some, None, Result, Ok, Err, IfSome, refl, ap, subst, arith}
 use Rattle.std.specs.Prelude.{IfErr, OnOk}
 use Rattle.block_disk.specs.View.{Image, View, Honest, sent_now}
 use Rattle.chart_service.specs.MomentLaws.{since_both, since_none}
@@ -14,9 +14,10 @@ use Rattle.gate_pages.specs.Journal.{page_count, pages_of}
 use Rattle.gate_pages.specs.Pages.{GoesOn}
 use Rattle.series_book.specs.declared.one_series.Series.{Series}
 use Rattle.stored_book.specs.Damage.{IsBadForRequest}
+use Rattle.stored_book.proofs.CurrentLemmas.{recovers_new}
 use Rattle.stored_book.specs.Standing.{StandsForBook, RecoversTo}
-use Rattle.stored_book.proofs.CurrentLemmas.{recovers_new, spelled_current}
-use Rattle.store_commands.proofs.Held.{RestsNew, held, risen_since, stands_held, within_held}
+use Rattle.store_commands.proofs.Damages.{later_bad}
+use Rattle.store_commands.proofs.Held.{RestsNew, held, holds_so, risen_since, stands_held, within_held}
 use Rattle.store_commands.proofs.Moments.{opened_goes, opened_quiet, since_opened}
 use Rattle.store_commands.specs.Damaged.{IsDamagedLater}
 use Rattle.live_command.specs.Doing.{IsCause, Side}
@@ -79,23 +80,18 @@ module _ (count count' : ℕ) (sound sound' : Bool) (old new : View) (same : cou
   abbrev pub OfPages : (ℕ → List Series → Type 0) → Type 0
   OfPages IsSo = (total : ℕ) (book : List Series) → Honest old → StandsForBook (pages_of count old.image) total book → IsSo total book
 
-  holds_so : (total : ℕ) (book : List Series) → HoldsBook count total book old → IsClosed new → (after : List Series) → StandsForBook (pages_of count' new.image) total after → Holds count total new after
-  holds_so total book holds closed after stands =
-      let C : ℕ → Type 0 = λ c. StandsForBook (pages_of c new.image) total after in
-      holds_closed count total after new closed (told holds.honest) (within_held count total book old holds) (subst C same stands)
-
   pub done_on : (left before now : Option (List ℕ)) → OfPages (λ total book. IfSome left (λ input. SendsAll (Stands total (pages_of count' new.image)) input (begun_live total book) before now)) → IsClosed new → IfSome left (λ input. LivesAll count old new input before now)
   done_on None before now all closed = tt
   done_on (Some input) before now all closed = λ total book holds.
-      all_so (Stands total (pages_of count' new.image)) (Holds count total new) input (begun_live total book) before now (holds_so total book holds closed) (all total book holds.honest (stands_held count total book old rests holds))
+      all_so (Stands total (pages_of count' new.image)) (Holds count total new) input (begun_live total book) before now (holds_so count count' old new same told total book holds closed) (all total book holds.honest (stands_held count total book old rests holds))
 
   end_on : (total : ℕ) (book : List Series) (input : List ℕ) (left before now : Option (List ℕ)) (end : ServeEnd) → HoldsBook count total book old → (end ≢ DiskFault → IsClosed new) → EndsSo (Stands total (pages_of count' new.image)) input (begun_live total book) left before now end → EndsSo (Holds count total new) input (begun_live total book) left before now end
   end_on total book input left before now DiskFault holds closed s = s
-  end_on total book input left before now ReadFault holds closed s = ends_so (Stands total (pages_of count' new.image)) (Holds count total new) input (begun_live total book) before now (holds_so total book holds (closed (λ is. cc))) left ReadFault s
-  end_on total book input left before now SendFault holds closed s = ends_so (Stands total (pages_of count' new.image)) (Holds count total new) input (begun_live total book) before now (holds_so total book holds (closed (λ is. cc))) left SendFault s
-  end_on total book input left before now InputTooLong holds closed s = ends_so (Stands total (pages_of count' new.image)) (Holds count total new) input (begun_live total book) before now (holds_so total book holds (closed (λ is. cc))) left InputTooLong s
+  end_on total book input left before now ReadFault holds closed s = ends_so (Stands total (pages_of count' new.image)) (Holds count total new) input (begun_live total book) before now (holds_so count count' old new same told total book holds (closed (λ is. cc))) left ReadFault s
+  end_on total book input left before now SendFault holds closed s = ends_so (Stands total (pages_of count' new.image)) (Holds count total new) input (begun_live total book) before now (holds_so count count' old new same told total book holds (closed (λ is. cc))) left SendFault s
+  end_on total book input left before now InputTooLong holds closed s = ends_so (Stands total (pages_of count' new.image)) (Holds count total new) input (begun_live total book) before now (holds_so count count' old new same told total book holds (closed (λ is. cc))) left InputTooLong s
   end_on total book input left before now (Damaged page) holds closed s = absurd s
-  end_on total book input left before now NoMemory holds closed s = ends_so (Stands total (pages_of count' new.image)) (Holds count total new) input (begun_live total book) before now (holds_so total book holds (closed (λ is. cc))) left NoMemory s
+  end_on total book input left before now NoMemory holds closed s = ends_so (Stands total (pages_of count' new.image)) (Holds count total new) input (begun_live total book) before now (holds_so count count' old new same told total book holds (closed (λ is. cc))) left NoMemory s
 
   pub stops_on : (left left' before now : Option (List ℕ)) (end : ServeEnd) → OfPages (λ total book. IfSome left (λ input. EndsSo (Stands total (pages_of count' new.image)) input (begun_live total book) left' before now end)) → (end ≢ DiskFault → IsClosed new) → IfSome left (λ input. StopsAt count old new input left' before now end)
   stops_on None left' before now end all closed = tt
@@ -164,13 +160,6 @@ module _ (old mid new : View) (opens : Opens (page_count old.size) old mid) wher
     faults = omega (arith, opens.faults, s.faults);
   }
 
--- a page that was called damaged is so of the disk
-pub bad_later : (count count' : ℕ) (new : View) (page : ℕ) → count' ≡ count → (page < count') × (Honest new → IsBadForRequest count' (pages_of count' new.image) page) → IsDamagedLater IsBadForRequest count new (66 + page)
-bad_later count count' new page same bad =
-    let P : ℕ → Type 0 = λ n. IsBadForRequest n (pages_of n new.image) page in
-    let D : Image → Type 0 = λ i. IsBadForRequest count i page in
-    record { page = page; place_is = refl; within = omega (arith, bad.0, same); bad = λ honest. let bad_there = subst P same (bad.1 honest) in subst D (sym (spelled_current (pages_of count new.image) bad_there.numbers bad_there.keeps.spelled)) bad_there }
-
 -- ---- all that was done over the store of a disk
 
 abbrev pub disk_side : ℕ → Bool → View → ℕ → ℕ → Side
@@ -182,7 +171,7 @@ module _ (count count' : ℕ) (sound sound' : Bool) (old new : View) (same : cou
   cause_on SendFault is = is
   cause_on InputTooLong is = tt
   cause_on DiskFault is = is
-  cause_on (Damaged page) is = bad_later count count' new page same is
+  cause_on (Damaged page) is = later_bad count count' new page same is.0 is.1
   cause_on NoMemory is = tt
 
   pub served_by : {T : Type 0} (answer : Result T ServeEnd) (left left' before now : Option (List ℕ))
@@ -281,10 +270,10 @@ pub reads_untaken : (count : ℕ) (disk : View) (left : Option (List ℕ)) → I
 reads_untaken count disk left = told_each left (λ input. ReadsFrom count disk disk input disk.reads) (λ input total book holds. none_read input (begun_live total book) disk.reads)
 
 -- by a service without sessions
-pub reads_from : (count : ℕ) (old new : View) (left : Option (List ℕ)) (state : ℕ → List Series → LiveState) → RestsNew count old → ((total : ℕ) (book : List Series) → state total book ≡ begun_live total book)
+pub reads_from : (count : ℕ) (old new : View) → RestsNew count old → (left : Option (List ℕ)) (state : ℕ → List Series → LiveState) → ((total : ℕ) (book : List Series) → state total book ≡ begun_live total book)
     → ((total : ℕ) (book : List Series) → Honest old → StandsForBook (pages_of count old.image) total book → IfSome left (λ input. ReadsLines input (state total book) old.reads new.reads)) → IfSome left (λ input. ReadsFrom count old new input old.reads)
-reads_from count old new None state rests begins reads = tt
-reads_from count old new (Some input) state rests begins reads = λ total book holds.
+reads_from count old new rests None state begins reads = tt
+reads_from count old new rests (Some input) state begins reads = λ total book holds.
     let P : LiveState → Type 0 = λ s. ReadsLines input s old.reads new.reads in
     subst P (begins total book) (reads total book holds.honest (stands_held count total book old rests holds))
 

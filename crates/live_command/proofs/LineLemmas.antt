@@ -9,7 +9,7 @@ use Rattle.chart_frames.specs.Frames.{spelling}
 use Rattle.chart_service.specs.MomentLaws.{through_none, through_by, through_so, through_then}
 use Rattle.chart_service.specs.Moments.{Through}
 use Rattle.chart_service.specs.ReadingBlocks.{ReadsLine}
-use Rattle.chart_service.specs.SentLaws.{sent_none}
+use Rattle.chart_service.specs.SentLaws.{sent_none, sent_is}
 use Rattle.chart_service.specs.Serving.{end_of_step, unless_empty}
 use Rattle.chart_world.specs.LineLaws.{said, says_text}
 use Rattle.chart_service.specs.State.{IsSound}
@@ -298,13 +298,6 @@ module _ (lines : List (Option (List ℕ))) (total : ℕ) (old : LiveState) (ima
 -- as many bytes were sent as are told
 abbrev pub CountsSent : Option (List ℕ) → View → Type 0
 CountsSent sent at = IfSome sent (λ bytes. sent_now at ≡ length bytes)
-
--- so many bytes were sent
-pub sent_is : (bytes text : List ℕ) (now : Option (List ℕ)) (from count : ℕ) → from ≡ length bytes → now ≡ sent_after text (Some bytes) → IfSome now (λ all. count ≡ length all) → count ≡ from + length text
-sent_is bytes text now from count begins is counts =
-    let P : Option (List ℕ) → Type 0 = λ o. IfSome o (λ all. count ≡ length all) in
-    let all : count ≡ length (bytes ++ text) = subst P is counts in
-    omega (arith, all, begins, length-append bytes text)
 
 then_moments : (lines : List (Option (List ℕ))) (total : ℕ) (old : LiveState) (held : Held) (view mid new : View) (before between : Option (List ℕ)) (d : LinesDone lines total old mid.image held view.reads mid.reads before between) → CountsSent before view → CountsSent between mid
     → IfSome before (λ bytes. Through view mid (LinesMoment lines total old (sent_now view))) → IfSome between (λ bytes. Through mid new (LinesMoment [] total (held_with total d.book held) (sent_now mid))) → IfSome before (λ bytes. Through view new (LinesMoment lines total old (sent_now view)))

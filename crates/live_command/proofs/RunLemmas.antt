@@ -7,7 +7,7 @@ use Rattle.block_disk.specs.View.{Image, View, Now, Only, Passes, sent_now}
 use Rattle.chart_frames.specs.declared.frame.Frame.{Frame}
 use Rattle.chart_service.specs.MomentLaws.{since_none, since_then, through_by, through_so}
 use Rattle.chart_service.specs.Moments.{Since, Through}
-use Rattle.chart_service.specs.SentLaws.{sent_none}
+use Rattle.chart_service.specs.SentLaws.{sent_none, sent_is}
 use Rattle.chart_service.specs.Serving.{told, unless_empty, end_of}
 use Rattle.chart_service.specs.State.{IsSound}
 use Rattle.chart_service.specs.Stepping.{state_of}
@@ -27,7 +27,7 @@ use Rattle.live_command.specs.Doing.{AreFirst, DoesLines, Held, LinesDone, Lines
 use Rattle.live_command.specs.Lives.{LivesBy, spelled}
 use Rattle.live_command.specs.Running.{EndsSo, FirstLines, IsAhead, SendsAll, SendsFirst, SendsTaken}
 use Rattle.live_command.proofs.EventLemmas.{by_more, by_none, length_more, sent_then}
-use Rattle.live_command.proofs.LineLemmas.{CountsSent, sent_is}
+use Rattle.live_command.proofs.LineLemmas.{CountsSent}
 
 -- the pages stand for the book
 abbrev pub Stands : ℕ → Image → List Series → Type 0

@@ -11,6 +11,7 @@ use Rattle.chart_world.specs.Fronts.{BeginsWith}
 use Rattle.chart_world.specs.Lines.{NoLineFeed}
 use Rattle.live_service.specs.LiveReplies.{LiveState}
 use Rattle.series_book.specs.declared.one_series.Series.{Series}
+use Rattle.store_commands.specs.InputLines.{Unended}
 use Rattle.live_command.specs.Lives.{LivesBy, spelled}
 
 -- Some first lines of the input are answered by these frames, in the order of the input, and all pushes behind each line
@@ -21,12 +22,6 @@ pub record FirstLines (input : List ℕ) (frames : List Frame) (old new : LiveSt
   pub begins : BeginsWith input front rest
   pub early : length front ≤ 2 ^ 32
   pub lives : LivesBy (told front) frames old new
-
--- a part of a line stands there, and these bytes behind it
-pub record Unended (rest left : List ℕ) : Type 0 where
-  pub partial : List ℕ
-  pub taken : rest ≡ partial ++ left
-  pub unended : NoLineFeed partial
 
 -- some first lines are answered, and the spellings of all frames so far were sent
 pub record SendsLines (input : List ℕ) (old : LiveState) (before now : Option (List ℕ)) : Type 0 where

@@ -12,6 +12,7 @@ use Rattle.chart_grid.specs.Limits.{IsWindow, IsBadWindow}
 use Rattle.chart_service.proofs.Others.{viewed_others, without_others}
 use Rattle.chart_service.specs.Replies.{Refuses, Edits, Opens, Closes, AnswersBy, ViewsSeries, ViewsId, RepliesToView, RepliesByText, Moves, MovesLast, MovesIn, RepliesTo, line_text, cache_of}
 use Rattle.chart_service.specs.State.{State}
+use Rattle.chart_service.specs.ViewingLaws.{no_window}
 use Rattle.chart_service.specs.Viewing.{axis_of, range_spec}
 use Rattle.coefficient_cache.specs.Caches.{Cache}
 use Rattle.live_service.specs.Following.{CanFollow, FollowsWell, ShowsView}
@@ -331,11 +332,6 @@ push_well frame old new well p =
 -- where a followed view has no filter, none on as many columns needs more coefficients than its client keeps
 abbrev pub Fit : Type 0
 Fit = (session : Session) (view : ViewSpec) (list : List (Option ℤ)) (axis : Axis) (grid : Grid) (lo hi : ℤ) (keys : List (Key × Coef)) → FollowsUnfiltered session view → grid.w ≡ view.grid.w → NeededBy list axis grid lo hi keys → length keys ≤ session.cache.capacity
-
-no_window : (t0 t1 : ℤ) → IsWindow t0 t1 → IsBadWindow t0 t1 → ⊥
-no_window t0 t1 is (inl turned) = let up = is.rising in grind (arith, ints)
-no_window t0 t1 is (inr (inl far)) = absurd (omega (arith, is.from_size, far))
-no_window t0 t1 is (inr (inr far)) = absurd (omega (arith, is.to_size, far))
 
 unfiltered : (session : Session) (view : ViewSpec) → session.last ≡ Some view → view.filter ≡ None → is_too_large view session.cache.capacity ≡ false → FollowsUnfiltered session view
 unfiltered session view last none fits = record {

@@ -1,11 +1,12 @@
 //! The lines that follow a session and that end it.
-ghost use Rattle.std.specs.Prelude.{◌≡◌, ◌+◌, ◌<◌, ◌≤◌, length, drop, IfOk, IfSome, position};
+ghost use Rattle.std.specs.Prelude.{◌≡◌, ◌+◌, ◌<◌, ◌≤◌, length, drop, IfOk};
 ghost use Rattle.std.specs.List.{before_first};
 ghost use Rattle.request_lines.specs.Tokens.{is_space, tokens_left};
 ghost use Rattle.live_view.specs.Lines.{session_alone, follows, unfollows, live_line, NamesSession};
 ghost use Rattle.chart_frames.specs.Frames.{IsSession};
 
 use request_lines::places::Place;
+use request_lines::tokens::first_token;
 use whole_number::numbers::natural_value;
 
 /// The most bytes of a line.
@@ -97,23 +98,4 @@ fn token_at(line: &[u8], at: usize) -> &[u8]
     ensures within { at + length result.now ≤ length line.now }
 {
     first_token(&line[at..])
-}
-
-/// The bytes before the first space.
-fn first_token(bytes: &[u8]) -> &[u8]
-    ensures token { result.now ≡ before_first is_space bytes.now }
-    ensures within { length result.now ≤ length bytes.now }
-{
-    match first_space(bytes) {
-        Some(end) => &bytes[..end],
-        None => bytes,
-    }
-}
-
-/// The place of the first space.
-fn first_space(bytes: &[u8]) -> Option<usize>
-    ensures place { result ≡ position is_space bytes.now }
-    ensures within { IfSome result (λ place. place < length bytes.now) }
-{
-    bytes.iter().position(|byte| *byte == b' ')
 }

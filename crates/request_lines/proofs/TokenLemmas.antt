@@ -1,11 +1,11 @@
-use Rattle.std.proofs.Common.{◌≡◌, ℕ, ◌+◌, ◌<◌, ◌≤◌, Bool, true, false, cond, ltb, leb, List, [], ◌∷◌, length, drop, Some, None, refl, sym, ap, ◌∙◌, inl, inr, All, arith}
+use Rattle.std.proofs.Common.{◌≡◌, ℕ, ◌+◌, ◌-◌, ◌<◌, ◌≤◌, Bool, true, false, cond, ltb, leb, List, [], ◌∷◌, length, take, drop, Some, None, refl, sym, subst, ap, ◌∙◌, inl, inr, All, arith}
 use Rattle.std.specs.List.{slice_split, before_first, after_first, position_or_len, join_with_byte}
 use Rattle.std.proofs.lemmas.Bool.Decides.{nat_tests}
 use Rattle.std.proofs.lemmas.Bool.{cases_lt}
 use Rattle.std.proofs.lemmas.List.{length-take, length-drop, drop-drop, drop_all, take_all}
 use Rattle.std.proofs.lemmas.List.Sums.{fails_before_first}
 use Rattle.std.proofs.lemmas.List.Splits.{slice_split_first, slice_split_none, join_with_byte-slice_split}
-use Rattle.request_lines.specs.Tokens.{is_space, Cursor, tokens_left, next_token, past_token}
+use Rattle.request_lines.specs.Tokens.{is_space, Cursor, tokens, tokens_left, next_token, past_token}
 
 -- a place that is found is the first one
 pub place_found : (n m k : ℕ) → Some k ≡ cond (ltb n m) (Some n) None → k ≡ n
@@ -81,3 +81,17 @@ beyond b n m holds fails =
       | inl less ↦ less
       | inr more ↦ let both : true ≡ false = sym (holds more) ∙ fails in cc
     ]
+
+-- a space ends the first token
+pub cut_found : (line : List ℕ) (place : ℕ) → position_or_len is_space line ≡ place → place < length line → tokens line ≡ take place line ∷ tokens (drop (place + 1) line)
+cut_found line place is within =
+    let P : ℕ → Type 0 = λ n. tokens line ≡ take n line ∷ tokens (drop (n + 1) line) in
+    subst P is (slice_split_first is_space line 0 (omega (arith, is, within)))
+
+-- where there is none, the line is one token
+pub cut_none : (line : List ℕ) → length line ≤ position_or_len is_space line → tokens line ≡ line ∷ []
+cut_none line none = slice_split_none is_space line (λ k d below. fails_before_first is_space line k d (omega (arith, none, below)))
+
+-- all that stands behind a place
+pub whole_rest : (bytes : List ℕ) (place : ℕ) → drop place bytes ≡ take (length bytes - place) (drop place bytes)
+whole_rest bytes place = sym (take_all (length bytes - place) (drop place bytes) (omega (arith, length-drop place bytes)))

@@ -25,6 +25,7 @@ pub mod places;
 pub mod ranges;
 mod readers;
 pub mod requests;
+pub mod tokens;
 
 pub use filter_texts::FilterText;
 pub use line_errors::LineError;

@@ -1,12 +1,11 @@
-ghost use Rattle.std.specs.Prelude.{◌≡◌, ◌+◌, ◌^◌, ◌<◌, ◌≤◌, ◌++◌, length, map, IfOk, IfErr, ◌↔◌, ◌||◌, [], ◌∷◌, drop, IsTrue, IsSome, IfSome, position, OnOk, All, None, false, unsigned_abs, codes};
+ghost use Rattle.std.specs.Prelude.{◌≡◌, ◌+◌, ◌^◌, ◌<◌, ◌≤◌, ◌++◌, length, map, IfOk, IfErr, ◌↔◌, ◌||◌, [], ◌∷◌, drop, IsTrue, IsSome, IfSome, OnOk, All, None, false, unsigned_abs, codes};
 ghost use Rattle.std.specs.Str.{bytes_eq};
-ghost use Rattle.std.specs.List.{before_first};
 ghost use Rattle.series_book.specs.Names.{is_name};
 ghost use Rattle.series_book.specs.declared.limits.TheConstants.{GREATEST_START, GREATEST_STEP, GREATEST_SCALE};
 ghost use Rattle.request_lines.specs.declared.places.Place.TheVariants.{Name as NamePlace, Start, Step, Scale, Integer, Value, Natural, Session, Range, Where};
 ghost use Rattle.whole_number.specs.Numbers.{is_integer, natural_value, integer_value};
 ghost use Rattle.request_lines.specs.Ranges.{range_of};
-ghost use Rattle.request_lines.specs.Tokens.{is_space, tokens_left, next_token, past_token};
+ghost use Rattle.request_lines.specs.Tokens.{tokens_left, next_token, past_token};
 ghost use Rattle.request_lines.specs.Grammar.{fault, Takes, Misses, MissesEnd, nothing, one_or_more, any_behind, value_place};
 ghost use Rattle.request_lines.specs.Requests.{value_of, filter_of};
 
@@ -14,6 +13,7 @@ use crate::filter_texts::FilterText;
 use crate::line_errors::LineError;
 use crate::places::Place;
 use crate::ranges::{RangeWord, range_of};
+use crate::tokens::first_token;
 use series_book::{Name, Values};
 use std::alloc::Global;
 use std::marker::Model;
@@ -233,24 +233,6 @@ impl<'a> Reader<'a> {
         }
         Ok(())
     }
-}
-
-/// The bytes before the first space.
-fn first_token(bytes: &[u8]) -> &[u8]
-    ensures { result.now ≡ before_first is_space bytes.now }
-{
-    match first_space(bytes) {
-        Some(end) => &bytes[..end],
-        None => bytes,
-    }
-}
-
-/// The place of the first space.
-fn first_space(bytes: &[u8]) -> Option<usize>
-    ensures place { result ≡ position is_space bytes.now }
-    ensures within { IfSome result (λ place. place < length bytes.now) }
-{
-    bytes.iter().position(|byte| *byte == b' ')
 }
 
 /// The value that a token names: a hyphen alone is a missing slot.

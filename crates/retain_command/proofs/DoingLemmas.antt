@@ -23,7 +23,8 @@ use Rattle.retention.specs.declared.sweep_error.SweepError.{SweepError}
 use Rattle.retention.specs.declared.sweep_error.SweepError.TheVariants as sweep
 use Rattle.retention.specs.declared.swept.Swept.{Swept}
 use Rattle.retain_command.specs.Answers.{answer, swept_text}
-use Rattle.retain_command.specs.Doing.{DoesLine, DoesRule, Goes, IsCause, LineDone, LineMoment, LineStops, RuleDone, RuleMoment, RuleStops, Side, TextStops, Untouched, end_at}
+use Rattle.store_commands.specs.Sides.{Side}
+use Rattle.retain_command.specs.Doing.{DoesLine, DoesRule, Goes, IsCause, LineDone, LineMoment, LineStops, RuleDone, RuleMoment, RuleStops, TextStops, Untouched, end_at}
 use Rattle.retain_command.specs.Rules.{Spells, SaysNone}
 use Rattle.retain_command.specs.declared.retain_end.RetainEnd.{RetainEnd}
 use Rattle.retain_command.specs.declared.retain_end.RetainEnd.TheVariants.{BadLine, UnknownSeries, ReadFault, SendFault, InputTooLong, DiskFault, Damaged, NoMemory}

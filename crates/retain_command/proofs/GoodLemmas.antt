@@ -11,7 +11,8 @@ use Rattle.retention.specs.Drops.{book_swept}
 use Rattle.retention.specs.Sweeps.{NamesNone}
 use Rattle.retain_command.specs.Answers.{AreRules, book_behind}
 use Rattle.retain_command.specs.Rules.{Says}
-use Rattle.retain_command.specs.Sweeping.{FirstRules, NextLine, SweepsToBad, SweepsToUnknown, left_by}
+use Rattle.store_commands.specs.InputLines.{NextLine}
+use Rattle.retain_command.specs.Sweeping.{FirstRules, SweepsToBad, SweepsToUnknown, left_by}
 use Rattle.retain_command.proofs.RuleLemmas.{spells_some}
 use Rattle.retain_command.proofs.SpellLemmas.{one_rule}
 

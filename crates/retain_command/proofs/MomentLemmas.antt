@@ -4,6 +4,7 @@ use Rattle.block_disk.specs.Streams.{sent_after, left_after}
 use Rattle.block_disk.specs.View.{Image, View, Now, Only, Passes, sent_now}
 use Rattle.chart_service.specs.MomentLaws.{since_none, since_then, through_by, through_so}
 use Rattle.chart_service.specs.Moments.{Since, Through}
+use Rattle.chart_service.specs.SentLaws.{sent_is}
 use Rattle.chart_world.specs.Fronts.{Gives}
 use Rattle.chart_world.specs.Reading.{Reading, unread, unread_input, told_lines, input_length, NoLineIn}
 use Rattle.chart_world.specs.declared.line_answer.LineFault.{LineFault}
@@ -16,13 +17,6 @@ use Rattle.retain_command.specs.declared.retain_end.RetainEnd.{RetainEnd}
 use Rattle.retain_command.specs.declared.retain_end.RetainEnd.TheVariants.{BadLine, NoMemory}
 use Rattle.retain_command.proofs.EndLemmas.{Going, Stands, goes_first, goes_kept, goes_line, line_ends, long_ends, all_swept, fault_ends, no_memory_first}
 use Rattle.retain_command.proofs.RuleLemmas.{Progress, no_rules, next_rule}
-
--- so many bytes were sent
-pub sent_is : (bytes text : List ℕ) (now : Option (List ℕ)) (from count : ℕ) → from ≡ length bytes → now ≡ sent_after text (Some bytes) → IfSome now (λ all. count ≡ length all) → count ≡ from + length text
-sent_is bytes text now from count begins is counts =
-    let P : Option (List ℕ) → Type 0 = λ o. IfSome o (λ all. count ≡ length all) in
-    let all : count ≡ length (bytes ++ text) = subst P is counts in
-    omega (arith, all, begins, length-append bytes text)
 
 -- at each moment since the start a crash leaves a book that is ahead of it
 abbrev pub AheadOf : ℕ → List Series → List ℕ → ℕ → Image → ℕ → Type 0

@@ -15,7 +15,9 @@ use Rattle.retention.specs.Drops.{book_swept}
 use Rattle.retention.specs.Sweeps.{NamesNone}
 use Rattle.retain_command.specs.Answers.{AreRules, answer, answers, book_behind}
 use Rattle.retain_command.specs.Rules.{Says, Spells}
-use Rattle.retain_command.specs.Sweeping.{FirstRules, NextLine, NextRule, left_by}
+use Rattle.store_commands.proofs.InputLemmas.{passed_next}
+use Rattle.store_commands.specs.InputLines.{NextLine}
+use Rattle.retain_command.specs.Sweeping.{FirstRules, NextRule, left_by}
 
 -- a rule more
 pub rules_more : (total : ℕ) (book : List Series) (before : List (Option (List ℕ))) (rules : List Rule) (line : Option (List ℕ)) (rule : Rule) → AreRules total book before rules → Says line rule → (NamesNone (book_behind total book rules) rule → ⊥) → AreRules total book (before ++ line ∷ []) (rules ++ rule ∷ [])
@@ -65,11 +67,7 @@ module _ (total : ℕ) (book : List Series) (input : List ℕ) (r r' : Reading) 
   it_passes = passes input p.first.front p.first.rest r r' left left' line p.told_rest p.counted p.first.begins gives
 
   pub next_line : NextLine (length p.first.front) p.first.rest line
-  next_line = record {
-    later = lines (after_first is_line_feed p.first.rest);
-    lines_are = it_passes.lines_are;
-    early = omega (arith, early, it_passes.counted, length-append p.first.front (first_piece p.first.rest));
-  }
+  next_line = passed_next input p.first.front p.first.rest (unread r' left') r'.given line it_passes early
 
   pub next_rule : (rule : Rule) → Says line rule → (NamesNone (left_by total book input p.first) rule → ⊥) → NextRule (length p.first.front) (left_by total book input p.first) p.first.rest rule
   next_rule rule says_it there = record { line = line; next = next_line; says_it = says_it; there = there }

@@ -17,16 +17,6 @@ use Rattle.retention.specs.declared.rule.Rule.{Rule}
 use Rattle.retention.specs.declared.rule.Rule.TheVariants.{Before, Last, Free}
 use Rattle.retain_command.specs.Rules.{Spells, SpellsWords}
 
--- a space ends the first token
-pub cut_found : (line : List ℕ) (place : ℕ) → position_or_len is_space line ≡ place → place < length line → tokens line ≡ take place line ∷ tokens (drop (place + 1) line)
-cut_found line place is within =
-    let P : ℕ → Type 0 = λ n. tokens line ≡ take n line ∷ tokens (drop (n + 1) line) in
-    subst P is (slice_split_first is_space line 0 (omega (arith, is, within)))
-
--- where there is none, the line is one token
-pub cut_none : (line : List ℕ) → length line ≤ position_or_len is_space line → tokens line ≡ line ∷ []
-cut_none line none = slice_split_none is_space line (λ k d below. fails_before_first is_space line k d (omega (arith, none, below)))
-
 first_same : (one other : List ℕ) (ones others : List (List ℕ)) → one ∷ ones ≡ other ∷ others → one ≡ other
 first_same one other ones others is = cc
 
@@ -106,7 +96,3 @@ of_some {T} (Some t) P X some is more = more t is
 -- the word is this text, which was compared with it
 pub word_is : (word text spelled : List ℕ) (same : Bool) → same ≡ bytes_eq word text → same ≡ true → text ≡ spelled → word ≡ spelled
 word_is word text spelled same compared holds is = (bytes_eq-Decides word text).0 (sym compared ∙ holds) ∙ is
-
--- all that stands behind a place
-pub whole_rest : (bytes : List ℕ) (place : ℕ) → drop place bytes ≡ take (length bytes - place) (drop place bytes)
-whole_rest bytes place = sym (take_all (length bytes - place) (drop place bytes) (omega (arith, length-drop place bytes)))

@@ -13,6 +13,7 @@ use Rattle.series_book.specs.declared.one_series.Series.{Series}
 use Rattle.series_book.specs.EditLists.{after_edits}
 use Rattle.series_store.specs.Shown as shown
 use Rattle.series_store.specs.declared.store.Store.{Store}
+use Rattle.store_commands.specs.Sides.{Side}
 use Rattle.stored_book.specs.Damage.{IsBadForRequest}
 use Rattle.stored_book.specs.Standing.{StandsForBook}
 use Rattle.retention.specs.Drops.{book_swept}
@@ -147,15 +148,6 @@ pub record DoesLine {T : Type 0} (total : ℕ) (book : List Series) (text : List
 
 -- ---- what calls move, whatever the pages are
 
--- pages with their streams, and the numbers of a store on them
-pub record Side : Type 1 where
-  pub told : Type 0
-  pub view : View
-  pub under : View
-  pub total : ℕ
-  pub read_faults : ℕ
-  pub send_faults : ℕ
-
 -- no count falls
 pub record Goes (old new : Side) : Type 0 where
   pub is_told : old.told → new.told
@@ -177,14 +169,3 @@ IsCause InputTooLong old new = ⊤
 IsCause DiskFault old new = HasRisen old.view.faults new.view.faults
 IsCause (Damaged page) old new = (page < old.total) × (new.told → IsBadForRequest new.view.size new.view.image page)
 IsCause NoMemory old new = ⊤
-
-module _ {P : Type 0} {g : Ghosts P} where
-  abbrev pub side_of : streams.Ghosts P → Store P g → Side
-  side_of beside it = record {
-    told = shown.IsTold it;
-    view = shown.view it;
-    under = shown.under it;
-    total = shown.total it;
-    read_faults = beside.read_faults (shown.pages it);
-    send_faults = beside.send_faults (shown.pages it);
-  }

@@ -10,6 +10,7 @@ use Rattle.series_book.specs.EditLists.{after_edits}
 use Rattle.retention.specs.declared.rule.Rule.{Rule}
 use Rattle.retention.specs.Drops.{book_swept}
 use Rattle.retention.specs.Sweeps.{NamesNone, sweeps}
+use Rattle.store_commands.specs.InputLines.{NextLine, Unended}
 use Rattle.retain_command.specs.Answers.{AreRules, answer, answers, book_behind}
 use Rattle.retain_command.specs.Rules.{Says, SaysNone}
 use Rattle.retain_command.specs.declared.retain_end.RetainEnd.{RetainEnd}
@@ -33,24 +34,12 @@ left_by total book input first = book_behind total book first.rules
 abbrev pub said_to : (total : ℕ) (book : List Series) (input : List ℕ) → FirstRules total book input → List ℕ
 said_to total book input first = answers total book first.rules
 
--- behind so many bytes the next line says this, and ends among the first 2^32 bytes
-pub record NextLine (given : ℕ) (rest : List ℕ) (line : Option (List ℕ)) : Type 0 where
-  pub later : List (Option (List ℕ))
-  pub lines_are : lines rest ≡ line ∷ later
-  pub early : given + length (first_piece rest) ≤ 2 ^ 32
-
 -- it is this rule, and a series that it names is in the book
 pub record NextRule (given : ℕ) (book : List Series) (rest : List ℕ) (rule : Rule) : Type 0 where
   pub line : Option (List ℕ)
   pub next : NextLine given rest line
   pub says_it : Says line rule
   pub there : NamesNone book rule → ⊥
-
--- a part of a line stands there, and these bytes behind it
-pub record Unended (rest left : List ℕ) : Type 0 where
-  pub partial : List ℕ
-  pub taken : rest ≡ partial ++ left
-  pub unended : NoLineFeed partial
 
 -- ---- what was done and sent
 

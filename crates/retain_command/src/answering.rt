@@ -4,7 +4,8 @@ ghost use Rattle.block_disk.specs.Counts.{HasRisen};
 ghost use Rattle.block_disk.specs.Streams.{sent_after, PartSent};
 ghost use Rattle.series_store.specs.Shown as shown;
 ghost use Rattle.retain_command.specs.Answers.{swept_text};
-ghost use Rattle.retain_command.specs.Doing.{DoesLine, DoesRule, Goes, IsCause, TextStops, end_at, side_of};
+ghost use Rattle.store_commands.specs.Sides.{side_of};
+ghost use Rattle.retain_command.specs.Doing.{DoesLine, DoesRule, Goes, IsCause, TextStops, end_at};
 
 use crate::retain_end::RetainEnd;
 use crate::rule_error::RuleError;

@@ -2,11 +2,12 @@
 ghost use Rattle.std.specs.Prelude.{◌≡◌, ◌<◌, ◌∷◌, [], ℕ, ℤ, List, None, Some, Err, length, position, codes, IsTrue, IfErr, IfOk, IfSome};
 ghost use Rattle.series_book.specs.Names.{is_name};
 ghost use Rattle.whole_number.specs.Spelling.{SpellsInteger, SpellsNatural};
-ghost use Rattle.request_lines.specs.Tokens.{is_space, tokens};
+ghost use Rattle.request_lines.specs.Tokens.{tokens};
 ghost use Rattle.retention.specs.declared.rule.Rule.{Rule as RuleSaid};
 ghost use Rattle.retain_command.specs.Rules.{Spells, SpellsWords};
 
 use crate::rule_error::RuleError;
+use request_lines::tokens::cut;
 use retention::Rule;
 use series_book::{Name, NameError};
 use std::alloc::Global;
@@ -31,25 +32,6 @@ pub fn rule_of(alloc: Global, line: &[u8]) -> Result<Rule, RuleError>
         return free(rest);
     }
     Err(RuleError::NoRule)
-}
-
-/// The place of the first space.
-fn first_space(bytes: &[u8]) -> Option<usize>
-    ensures place { result ≡ position is_space bytes.now }
-    ensures within { IfSome result (λ place. place < length bytes.now) }
-{
-    bytes.iter().position(|byte| *byte == b' ')
-}
-
-/// The first token, and what stands behind its space; none where there is no space.
-fn cut(bytes: &[u8]) -> Option<(&[u8], &[u8])>
-    ensures cut { IfSome result (λ parts. tokens bytes.now ≡ parts.0.now ∷ tokens parts.1.now) }
-    ensures one { result ≡ None → tokens bytes.now ≡ bytes.now ∷ [] }
-{
-    match first_space(bytes) {
-        Some(place) => Some((&bytes[..place], &bytes[place + 1..])),
-        None => None,
-    }
 }
 
 /// The name and the last token, where there are these two.

@@ -4,12 +4,13 @@ ghost use Rattle.block_disk.specs.View.{sent_now};
 ghost use Rattle.chart_service.specs.Moments.{Since};
 ghost use Rattle.chart_world.specs.Reading.{unread_input};
 ghost use Rattle.series_store.specs.Shown as shown;
-ghost use Rattle.retain_command.specs.Doing.{Goes, IsCause, end_of, side_of};
+ghost use Rattle.store_commands.specs.Sides.{side_of};
+ghost use Rattle.retain_command.specs.Doing.{Goes, IsCause, end_of};
 ghost use Rattle.retain_command.specs.Shown.{AreSwept, LastsFor, StopSo};
 
 use crate::answering::answer_line;
 use crate::retain_end::RetainEnd;
-use chart_world::{LineAnswer, LineFault, Lines};
+use chart_world::{LineAnswer, LineFault, Lines, offset_of};
 use gate_pages::PageWorld;
 use series_store::Store;
 use std::alloc::Global;
@@ -22,14 +23,6 @@ fn end_of(fault: LineFault) -> RetainEnd
         LineFault::ReadFault => RetainEnd::ReadFault,
         LineFault::InputTooLong => RetainEnd::InputTooLong,
     }
-}
-
-/// The offset of the line that was given last, which begins among the first 2^32 bytes of the input.
-fn offset_of(lines: &Lines) -> u32
-    requires { lines.now.offset < 2 ^ 32 }
-    ensures { result ≡ lines.now.offset }
-{
-    lines.offset() as u32
 }
 
 /// Sweeps the rule of each line of the input that isn't empty, in order, and sends `swept CLEARS USED` for it once it

@@ -102,10 +102,10 @@ pub overwritten_fits : (series : Series) (slots run : List (Option ℤ)) (place 
     → length slots ≤ MOST_SLOTS → place + length run ≤ MOST_SLOTS → EndsInTime series.start series.step (max (length slots) (place + length run)) → AreInRange series (overwritten slots place run)
 unfolding overwritten
 overwritten_fits series slots run place old new short room last = record {
-      short = omega (arith, length-append {A = Option ℤ}, length-take {A = Option ℤ}, length-drop {A = Option ℤ}, length-replicate {A = Option ℤ});
-      last = subst (EndsInTime series.start series.step) (sym (length-overwritten slots run place)) last;
-      fit = overwritten_values slots run place old new;
-    }
+  short = omega (arith, length-append {A = Option ℤ}, length-take {A = Option ℤ}, length-drop {A = Option ℤ}, length-replicate {A = Option ℤ});
+  last = subst (EndsInTime series.start series.step) (sym (length-overwritten slots run place)) last;
+  fit = overwritten_values slots run place old new;
+}
 
 -- so do those that a clear leaves
 pub cleared_values : (slots : List (Option ℤ)) (place count : ℕ) → All (λ value. is_too_large value ≡ false) slots → All (λ value. is_too_large value ≡ false) (cleared slots place count)
@@ -121,12 +121,12 @@ pub cleared_fits : (series : Series) (slots : List (Option ℤ)) (place count : 
     → EndsInTime series.start series.step (length slots) → AreInRange series (cleared slots place count)
 unfolding cleared
 cleared_fits series slots place count old short last = record {
-      short = omega (arith, length-append {A = Option ℤ}, length-take {A = Option ℤ}, length-drop {A = Option ℤ}, length-replicate {A = Option ℤ});
-      last = fewer_in_time series.start series.step (length slots) (length (cleared slots place count))
-          (omega (arith, length-append {A = Option ℤ}, length-take {A = Option ℤ}, length-drop {A = Option ℤ}, length-replicate {A = Option ℤ}))
-          last;
-      fit = cleared_values slots place count old;
-    }
+  short = omega (arith, length-append {A = Option ℤ}, length-take {A = Option ℤ}, length-drop {A = Option ℤ}, length-replicate {A = Option ℤ});
+  last = fewer_in_time series.start series.step (length slots) (length (cleared slots place count))
+      (omega (arith, length-append {A = Option ℤ}, length-take {A = Option ℤ}, length-drop {A = Option ℤ}, length-replicate {A = Option ℤ}))
+      last;
+  fit = cleared_values slots place count old;
+}
 
 -- what a set gives is in range
 pub set_fits : (series : Series) (time : ℤ) (values slots : List (Option ℤ)) → IsSeries series → set_at series time values ≡ Ok slots → AreInRange series slots

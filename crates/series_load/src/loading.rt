@@ -10,7 +10,7 @@ ghost use Rattle.series_load.specs.declared.load_end.LoadEnd.TheVariants.{Unknow
 
 use crate::load_end::LoadEnd;
 use crate::loader::Loader;
-use chart_world::{LineAnswer, Lines};
+use chart_world::{LineAnswer, Lines, offset_of};
 use gate_pages::PageWorld;
 use series_book::Name;
 use series_store::Store;
@@ -53,14 +53,6 @@ pub fn load<P: PageWorld>(alloc: Global, store: &mut Store<P>, name: &Name) -> R
     let mut loader = Loader::new(alloc, name, info.step, info.scale)?;
     let mut lines = new_lines(alloc)?;
     load_lines(store, &mut loader, &mut lines)
-}
-
-/// The offset of the line that was given last, which begins among the first 2^32 bytes of the input.
-fn offset_of(lines: &Lines) -> u32
-    requires { lines.now.offset < 2 ^ 32 }
-    ensures { result ≡ lines.now.offset }
-{
-    lines.offset() as u32
 }
 
 /// Loads all lines.

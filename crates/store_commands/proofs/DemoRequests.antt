@@ -13,6 +13,7 @@ use Rattle.gate_pages.specs.Journal.{page_count, pages_of}
 use Rattle.gate_pages.specs.Pages.{GoesOn, Quiet}
 use Rattle.request_lines.specs.declared.requests.Request.{Request}
 use Rattle.series_book.specs.declared.one_series.Series.{Series}
+use Rattle.empty_store.proofs.DisksMade.{sent_so}
 use Rattle.disk_store.specs.Held.{HoldsBook}
 use Rattle.disk_store.specs.Openings.{Opens}
 use Rattle.disk_store.proofs.Lowered.{holds_closed}
@@ -31,7 +32,7 @@ use Rattle.demo_workload.specs.Ending.{IsOutside, IsCause}
 use Rattle.demo_workload.specs.Replying.{Summarizes, IsPartWay}
 use Rattle.store_commands.specs.Books.{OfBook, FromBook, begun}
 use Rattle.store_commands.proofs.Held.{RestsNew, held, stands_held, within_held, from_book, risen_since}
-use Rattle.store_commands.proofs.Moments.{since_opened, since_worked, on_book, opened_quiet, opened_goes, sent_so}
+use Rattle.store_commands.proofs.Moments.{since_opened, since_worked, on_book, opened_quiet, opened_goes}
 use Rattle.store_commands.specs.Demonstrated.{AnswersFirst, IsAheadDemo, LeavesDemo}
 use Rattle.store_commands.specs.Answering.{Answered, HasNumberedKey, IsEndCause}
 

@@ -85,3 +85,9 @@ module _ (count count' : ℕ) (old new : View) (same : count' ≡ count) (told :
   pub from_book : (sessions : List Session) (Done : State → State → Type 0) → IsClosed new → OfBook count old (λ total book. StandsAfter total (pages_of count' new.image) sessions (λ state. Done (begun total book) state)) → FromBook count old new Done
   from_book sessions Done closed all = λ total book holds.
       held_after total sessions (λ state. Done (begun total book) state) closed (told holds.honest) (within_held count total book old holds) (all total book holds)
+
+  -- it holds the book for which its pages stand then
+  pub holds_so : (total : ℕ) (book : List Series) → HoldsBook count total book old → IsClosed new → (after : List Series) → StandsForBook (pages_of count' new.image) total after → HoldsBook count total after new
+  holds_so total book holds closed after stands =
+      let S : ℕ → Type 0 = λ c. StandsForBook (pages_of c new.image) total after in
+      holds_closed count total after new closed (told holds.honest) (within_held count total book old holds) (subst S same stands)

@@ -13,4 +13,7 @@ pub mod DemoRequests
 pub mod DemoSent
 pub mod DemoEnds
 pub mod TurnedAway
+pub mod WorldLemmas
+pub mod Damages
+pub mod InputLemmas
 pub mod HoldsAgain

@@ -1,6 +1,6 @@
 -- What a load does over a store on a disk, in the words of the disk.
-use Rattle.std.proofs.Common.{◌≡◌, ◌≢◌, ◌↔◌, ℕ, zero, suc, ◌+◌, ◌≤◌, ◌<◌, ◌⊎◌, ◌^◌, pos, Bool, List, [], ◌∷◌, length, Option, Some, None, Result, Ok, Err, IfSome, refl, sym, ap, subst, inl, inr, arith, ◌∙◌}
-use Rattle.std.specs.Prelude.{IfErr, OnOk, slice_get, bytes_eq}
+use Rattle.std.proofs.Common.{◌≡◌, ◌≢◌, ◌↔◌, ℕ, ◌+◌, ◌≤◌, ◌<◌, ◌⊎◌, ◌^◌, pos, Bool, List, [], length, Option, Some, None, Result, Ok, Err, IfSome, refl, sym, ap, subst, inl, inr, arith, ◌∙◌}
+use Rattle.std.specs.Prelude.{IfErr, OnOk, bytes_eq}
 use Rattle.std.proofs.lemmas.List.Quantifiers.{position-Some}
 use Rattle.block_disk.specs.View.{Image, View, Honest, Passes, sent_now}
 use Rattle.gate_pages.specs.GatePages.{IsClosed, pages_view}
@@ -8,6 +8,7 @@ use Rattle.gate_pages.specs.Journal.{pages_of}
 use Rattle.gate_pages.specs.Pages.{GoesOn, Quiet}
 use Rattle.series_book.specs.declared.one_series.Series.{Series}
 use Rattle.series_book.specs.Edits.{id_of}
+use Rattle.empty_store.proofs.DisksMade.{sent_so}
 use Rattle.disk_store.specs.Held.{HoldsBook}
 use Rattle.stored_book.specs.Damage.{IsBadForEdit}
 use Rattle.stored_book.specs.Standing.{StandsForBook, book_pages, RecoversTo}
@@ -20,19 +21,15 @@ use Rattle.series_load.specs.declared.load_end.LoadEnd.{LoadEnd}
 use Rattle.series_load.specs.declared.load_end.LoadEnd.TheVariants.{UnknownSeries, BadLine, Refused, ReadFault, InputTooLong, DiskFault, Damaged, NoMemory}
 use Rattle.series_load.specs.Steps.{IsSoundFor}
 use Rattle.series_load.proofs.Knowing.{some_at_first}
+use Rattle.series_store.proofs.BookCountLemmas.{some_at}
 use Rattle.store_commands.specs.Damaged.{IsDamagedLater}
 use Rattle.store_commands.specs.Books.{OfBook, Never, IsOnBook, HoldsPages}
 use Rattle.store_commands.proofs.Held.{RestsNew, stands_held, within_held, holds_pages}
-use Rattle.store_commands.proofs.Moments.{since_worked, on_book, sent_so}
+use Rattle.store_commands.proofs.Moments.{since_worked, on_book}
 use Rattle.store_commands.specs.Loaded.{OfSeries, Unnamed}
 use Rattle.store_commands.specs.Storing.{StopsAt, IsEndCause, Stores}
 
 -- ---- a name is a series' or none's
-
-there_is : {X : Type 0} (xs : List X) (i : ℕ) → i < length xs → (x : X) × (slice_get xs i ≡ Some x)
-there_is {X} [] i low = absurd (omega (arith, low))
-there_is {X} (x ∷ xs) zero low = (x, refl)
-there_is {X} (x ∷ xs) (suc i) low = there_is xs i (omega (arith, low))
 
 abbrev some_series : Series
 some_series = record { name = []; start = pos 0; step = 1; scale = 0; slots = [] }
@@ -44,7 +41,7 @@ id_within name book id is = (position-Some (λ (series : Series). bytes_eq serie
 named_by : (name : List ℕ) (book : List Series) (o : Option ℕ) → id_of name book ≡ o → (id_of name book ≡ None) ⊎ ((series : Series) × IsNamed book name series)
 named_by name book None is = inl is
 named_by name book (Some id) is =
-    let it = there_is book id (id_within name book id is) in
+    let it = some_at book id (id_within name book id is) in
     inr (it.0, record { id = id; id_is = is; there = it.1 })
 
 pub named_or : (name : List ℕ) (book : List Series) → (id_of name book ≡ None) ⊎ ((series : Series) × IsNamed book name series)

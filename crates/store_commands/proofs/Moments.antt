@@ -1,6 +1,5 @@
 -- The moments of a command over a store: its opening, the work on its pages, and the sending of an answer.
-use Rattle.std.proofs.Common.{◌≡◌, ℕ, ◌≤◌, ◌<◌, Bool, List, sym, ap, subst, arith, inl, inr, ◌∙◌}
-use Rattle.std.proofs.lemmas.Bool.{cases_lt}
+use Rattle.std.proofs.Common.{◌≡◌, ℕ, ◌≤◌, ◌<◌, Bool, List, sym, subst, arith, ◌∙◌}
 use Rattle.block_disk.specs.View.{Image, View, Now, Passes, sent_now}
 use Rattle.gate_pages.specs.GateLaws.{goes_by}
 use Rattle.gate_pages.specs.GatePages.{PagesOf, pages_view}
@@ -16,15 +15,6 @@ use Rattle.stored_book.proofs.CurrentLemmas.{book_current, book_keeps}
 use Rattle.chart_service.specs.MomentLaws.{since_then}
 use Rattle.chart_service.specs.Moments.{Since}
 use Rattle.store_commands.specs.Books.{IsOn, IsOnBook, LeavesSame}
-
--- no byte was sent by a moment of quiet calls
-pub sent_so : (old mid : View) (images : Image → Type 0) → Passes old mid images (Quiet old) → (at : ℕ) → old.clock ≤ at → at ≤ mid.clock → mid.sent_by at ≡ sent_now old
-sent_so old mid images passes at low high = elim (cases_lt old.clock at) [
-  | inl moved ↦ passes.sent_here at moved high
-  | inr stands ↦
-      let same : at ≡ old.clock = omega (arith, low, stands) in
-      passes.sent_past at stands ∙ ap (λ time. old.sent_by time) same
-]
 
 -- At each moment of an opening a crash leaves the book.
 pub since_opened : (IsSo : Image → ℕ → Type 0) (old mid : View) (total : ℕ) (book : List Series) → Opens (page_count old.size) old mid → HoldsBook (page_count old.size) total book old

@@ -2,6 +2,8 @@ pub mod Status
 pub mod Books
 pub mod Traffic
 pub mod Away
+pub mod InputLines
+pub mod Sides
 pub mod Sending
 pub mod Codes
 pub mod Damaged

@@ -7,7 +7,7 @@ use Rattle.series_pair.specs.Derived.{IsChartAnswer}
 use Rattle.series_pair.specs.declared.sum_error.SumError.{SumError}
 use Rattle.series_store.specs.Shown as shown
 use Rattle.derive_command.proofs.DoingLemmas.{causes_later, chart_cause, goes_further, goes_looks, goes_sends, request_drawn, request_refused, request_undrawn, sent_cause}
-use Rattle.derive_command.specs.Doing.{side_of}
+use Rattle.store_commands.specs.Sides.{side_of}
 use Rattle.derive_command.proofs.answering.answer_request.Goals as goal
 
 pub returns-in-Err-clause-does : goal.returns-in-Err-clause-does

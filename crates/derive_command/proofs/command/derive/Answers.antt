@@ -1,7 +1,8 @@
 use Rattle.std.proofs.Common.{◌∙◌, ap, sym}
 use Rattle.block_disk.specs.View.{Beside}
 use Rattle.series_store.specs.Shown as shown
-use Rattle.store_commands.proofs.TurnedAway.{away_never, away_so}
+use Rattle.store_commands.proofs.TurnedAway.{away_never}
+use Rattle.store_commands.proofs.WorldLemmas.{away_over, unopened_over}
 use Rattle.derive_command.proofs.DiskLemmas.{drawn_on}
 use Rattle.derive_command.proofs.StatusLemmas.{ends_by, unopened_ends}
 use Rattle.derive_command.proofs.command.derive.Goals as goal
@@ -29,32 +30,11 @@ returns-in-Ok-clause-ends g c =
 
 pub returns-in-Err-clause-ends : goal.returns-in-Err-clause-ends
 returns-in-Err-clause-ends g c =
-    let view = g.W.Disk.view in
-    let left = g.W.Streams.left in
-    let sent = g.W.Streams.sent in
-    let reads = g.W.Streams.read_faults in
-    let sends = g.W.Streams.send_faults in
-    let old = c.args.world in
-    let new = c.in-Err.field-0.value in
-    let beside = c.in-Err.ensures.opens.beside_is in
-    let w = g.met.W.World in
-    unopened_ends (view old) (view new) (left old) (left new) (sent old) (sent new) (reads old) (reads new) (sends old) (sends new) c.in-Err.ensures.opens
-    (sym (w.beside_left new) ∙ ap (λ (b : Beside). b.left) beside ∙ w.beside_left old)
-    (sym (w.beside_sent new) ∙ ap (λ (b : Beside). b.sent) beside ∙ w.beside_sent old)
-    c.in-Err.field-0.cause c.opening_status.result c.in-Err.ensures.cause c.in-Err.ensures.a_store c.opening_status.ensures
+    unopened_ends _ _ _ _ _ _ (g.W.Streams.read_faults c.args.world) (g.W.Streams.read_faults c.in-Err.field-0.value) (g.W.Streams.send_faults c.args.world) (g.W.Streams.send_faults c.in-Err.field-0.value) c.in-Err.field-0.cause (unopened_over g.W.Disk.view g.W.Streams.left g.W.Streams.sent g.met.W.World.beside_left g.met.W.World.beside_sent c.args.world c.in-Err.field-0.value c.in-Err.field-0.cause c.in-Err.ensures.opens.beside_is c.in-Err.ensures.opens c.in-Err.ensures.cause c.in-Err.ensures.a_store) c.opening_status.result c.opening_status.ensures
 
 pub returns-in-Ok-clause-away : goal.returns-in-Ok-clause-away
 returns-in-Ok-clause-away g c = away_never _ _ c.in-Ok.ensures.large
 
 pub returns-in-Err-clause-away : goal.returns-in-Err-clause-away
 returns-in-Err-clause-away g c =
-    let view = g.W.Disk.view in
-    let left = g.W.Streams.left in
-    let sent = g.W.Streams.sent in
-    let old = c.args.world in
-    let new = c.in-Err.field-0.value in
-    let beside = c.in-Err.ensures.opens.beside_is in
-    let w = g.met.W.World in
-    away_so (view old) (view new) (left old) (left new) (sent old) (sent new) c.in-Err.field-0.cause c.opening_status.result c.opening_status.ensures c.in-Err.ensures.cause
-    (sym (w.beside_left new) ∙ ap (λ (b : Beside). b.left) beside ∙ w.beside_left old)
-    (sym (w.beside_sent new) ∙ ap (λ (b : Beside). b.sent) beside ∙ w.beside_sent old)
+    away_over g.W.Disk.view g.W.Streams.left g.W.Streams.sent g.met.W.World.beside_left g.met.W.World.beside_sent c.args.world c.in-Err.field-0.value c.in-Err.field-0.cause c.in-Err.ensures.opens.beside_is c.opening_status.result c.opening_status.ensures c.in-Err.ensures.cause

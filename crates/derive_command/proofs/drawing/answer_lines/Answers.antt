@@ -6,7 +6,8 @@ use Rattle.page_space.specs.declared.superblock.Superblock.{Superblock}
 use Rattle.series_store.specs.Shown as shown
 use Rattle.derive_command.proofs.DoingLemmas.{cause_later, goes_further, goes_nowhere, goes_takes}
 use Rattle.derive_command.proofs.EndLemmas.{Far, all_on, far_first, far_kept, far_line, fault_on, line_stops, long_on}
-use Rattle.derive_command.specs.Doing.{DoesLine, end_of, side_of}
+use Rattle.store_commands.specs.Sides.{side_of}
+use Rattle.derive_command.specs.Doing.{DoesLine, end_of}
 use Rattle.derive_command.specs.Shown.{StopSo}
 use Rattle.derive_command.specs.declared.derive_end.DeriveEnd.{DeriveEnd}
 use Rattle.derive_command.proofs.drawing.answer_lines.Goals as goal

@@ -4,7 +4,8 @@ use Rattle.series_book.specs.declared.one_series.Series.{Series}
 use Rattle.series_store.specs.Shown as shown
 use Rattle.stored_book.specs.Standing.{StandsForBook}
 use Rattle.derive_command.proofs.EndLemmas.{Far}
-use Rattle.derive_command.specs.Doing.{Goes, side_of}
+use Rattle.store_commands.specs.Sides.{side_of}
+use Rattle.derive_command.specs.Doing.{Goes}
 use Rattle.derive_command.proofs.drawing.answer_lines.Given as goal
 
 -- the lines given so far were answered

@@ -6,7 +6,8 @@ use Rattle.chart_service.specs.declared.service.Service.{Service}
 use Rattle.gate_pages.specs.GatePages.{IsClosed}
 use Rattle.live_service.specs.Shown as its
 use Rattle.series_book.specs.declared.one_series.Series.{Series}
-use Rattle.store_commands.proofs.Held.{rests_new}
+use Rattle.series_store.specs.Shown as stored
+use Rattle.store_commands.proofs.Held.{RestsNew, rests_new}
 use Rattle.store_commands.proofs.Stores.{store_disk, store_sound}
 use Rattle.live_command.specs.Syncs.{SyncsLines}
 use Rattle.live_command.specs.Ended.{ReadsFrom, begun_live}
@@ -38,12 +39,11 @@ returns-clause-serves g c =
     let closed : answer ≢ Err DiskFault → IsClosed (view new) = λ other.
     let P : g.row.W.Denot → Type 0 = λ d. IsClosed (view d) in
     subst P same_disk (c.disk_of.ensures.rests (subst IsTrue (sym (store_sound store (its.service after).store is_store)) (made.sound other))) in
-    let K : Service _ _ → Type 0 = λ s. IsTrue (shown.pages s).sound in
-    let sound = subst K (sym is_service) c.requires.sound in
-    let rests = rests_new pages.count (view disk) (its.service start).store.space.superblock (pages.at_rest sound) ((its.service start).store.space.spelled sound) in
     let alone = ap (λ (s : Service _ _). s.sessions) is_service ∙ c.requires.alone in
     let begins : (total : ℕ) (book : List Series) → its.state start total book ≡ begun_live total book =
     λ total book. begins_so total book (its.service start).sessions start.followed.items start.pending.items alone c.new-live.ensures.none c.new-live.ensures.idle in
+    let R : Service _ _ → Type 0 = λ s. RestsNew (shown.pages s).count (view (shown.pages s).disk) in
+    let rests : RestsNew pages.count (view disk) = subst R (sym is_service) (rests_new (shown.pages service).count (view (shown.pages service).disk) (stored.numbers service.store) ((shown.pages service).at_rest c.requires.sound) (service.store.space.spelled c.requires.sound)) in
     let all = served_from pages.count end_pages.count pages.sound end_pages.sound (view disk) (view new) made.goes.size made.goes.is_told made.goes.goes_on rests (reads disk) (reads new) (sends disk) (sends new) (its.state start) begins
     answer (left disk) (left new) (sent disk) (sent new) made.done made.within made.stops made.crash made.cause closed made.goes.faults in
     let D : g.row.W.Denot → Type 0 = λ d. Served pages.count (view disk) (view d) (left disk) (left d) (sent disk) (sent d) (reads disk) (reads d) (sends disk) (sends d) answer in
@@ -66,15 +66,14 @@ returns-clause-reads g c =
     let is_service = begun_service start c.new.result service c.new-live.ensures.stepper c.new.ensures in
     let is_store = ended_store after c.into_stepper.result c.into_service-service.result store c.into_stepper.ensures c.into_service-service.ensures c.into_store.ensures in
     let same_disk = c.disk_of.ensures.disk ∙ store_disk store (its.service after).store is_store in
-    let K : Service _ _ → Type 0 = λ s. IsTrue (shown.pages s).sound in
-    let sound = subst K (sym is_service) c.requires.sound in
-    let rests = rests_new pages.count (view disk) (its.service start).store.space.superblock (pages.at_rest sound) ((its.service start).store.space.spelled sound) in
     let alone = ap (λ (s : Service _ _). s.sessions) is_service ∙ c.requires.alone in
     let begins : (total : ℕ) (book : List Series) → its.state start total book ≡ begun_live total book =
     λ total book. begins_so total book (its.service start).sessions start.followed.items start.pending.items alone c.new-live.ensures.none c.new-live.ensures.idle in
+    let R : Service _ _ → Type 0 = λ s. RestsNew (shown.pages s).count (view (shown.pages s).disk) in
+    let rests : RestsNew pages.count (view disk) = subst R (sym is_service) (rests_new (shown.pages service).count (view (shown.pages service).disk) (stored.numbers service.store) ((shown.pages service).at_rest c.requires.sound) (service.store.space.spelled c.requires.sound)) in
     let D : g.row.W.Denot → Type 0 = λ d. IfSome (left disk) (λ input. ReadsFrom pages.count (view disk) (view d) input (view disk).reads) in
     let S : Service _ _ → Type 0 = λ s. IfSome (left (shown.pages s).disk) (λ input. ReadsFrom (shown.pages s).count (view (shown.pages s).disk) (view c.disk_of.result) input (view (shown.pages s).disk).reads) in
-    subst S is_service (subst D (sym same_disk) (reads_from pages.count (view disk) (view new) (left disk) (its.state start) rests begins made.reads))
+    subst S is_service (subst D (sym same_disk) (reads_from pages.count (view disk) (view new) rests (left disk) (its.state start) begins made.reads))
 
 pub returns-clause-syncs : goal.returns-clause-syncs
 returns-clause-syncs g c =

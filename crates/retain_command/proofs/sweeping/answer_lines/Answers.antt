@@ -6,7 +6,8 @@ use Rattle.page_space.specs.declared.superblock.Superblock.{Superblock}
 use Rattle.series_store.specs.Shown as shown
 use Rattle.retain_command.proofs.DoingLemmas.{cause_later, goes_further, goes_nowhere, goes_streams}
 use Rattle.retain_command.proofs.MomentLemmas.{all_on, far_first, far_kept, far_line, fault_on, lasts_on_first, lasts_on_line, lasts_on_take, line_stops, long_on}
-use Rattle.retain_command.specs.Doing.{end_of, side_of}
+use Rattle.store_commands.specs.Sides.{side_of}
+use Rattle.retain_command.specs.Doing.{end_of}
 use Rattle.retain_command.proofs.sweeping.answer_lines.Goals as goal
 
 pub lines-init : goal.lines-init

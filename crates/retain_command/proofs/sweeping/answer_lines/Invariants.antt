@@ -4,7 +4,8 @@ use Rattle.series_book.specs.declared.one_series.Series.{Series}
 use Rattle.series_store.specs.Shown as shown
 use Rattle.stored_book.specs.Standing.{StandsForBook}
 use Rattle.retain_command.proofs.MomentLemmas.{Far, LastsOn}
-use Rattle.retain_command.specs.Doing.{Goes, side_of}
+use Rattle.store_commands.specs.Sides.{side_of}
+use Rattle.retain_command.specs.Doing.{Goes}
 use Rattle.retain_command.proofs.sweeping.answer_lines.Given as goal
 
 -- the lines given so far were swept and answered

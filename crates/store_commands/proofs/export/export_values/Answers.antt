@@ -3,7 +3,8 @@ use Rattle.block_disk.specs.View.{Beside}
 use Rattle.series_store.specs.Shown as shown
 use Rattle.store_commands.proofs.Held.{opened_book}
 use Rattle.store_commands.proofs.ExportEnds.{ends_opened, unexported}
-use Rattle.store_commands.proofs.TurnedAway.{away_so, away_never}
+use Rattle.store_commands.proofs.TurnedAway.{away_never}
+use Rattle.store_commands.proofs.WorldLemmas.{away_over}
 use Rattle.store_commands.proofs.Unopened.{ends_unopened}
 use Rattle.store_commands.proofs.export.export_values.Goals as goal
 
@@ -44,16 +45,7 @@ returns-in-Ok-clause-away g c = away_never _ _ c.in-Ok.ensures.large
 
 pub returns-in-Err-clause-away : goal.returns-in-Err-clause-away
 returns-in-Err-clause-away g c =
-    let view = g.W.Disk.view in
-    let left = g.W.Streams.left in
-    let sent = g.W.Streams.sent in
-    let old = c.args.world in
-    let new = c.in-Err.field-0.value in
-    let beside = c.in-Err.ensures.opens.beside_is in
-    let w = g.met.W.World in
-    away_so (view old) (view new) (left old) (left new) (sent old) (sent new) c.in-Err.field-0.cause c.opening_status.result c.opening_status.ensures c.in-Err.ensures.cause
-    (sym (w.beside_left new) ∙ ap (λ (b : Beside). b.left) beside ∙ w.beside_left old)
-    (sym (w.beside_sent new) ∙ ap (λ (b : Beside). b.sent) beside ∙ w.beside_sent old)
+    away_over g.W.Disk.view g.W.Streams.left g.W.Streams.sent g.met.W.World.beside_left g.met.W.World.beside_sent c.args.world c.in-Err.field-0.value c.in-Err.field-0.cause c.in-Err.ensures.opens.beside_is c.opening_status.result c.opening_status.ensures c.in-Err.ensures.cause
 
 pub returns-in-Err-clause-untaken : goal.returns-in-Err-clause-untaken
 returns-in-Err-clause-untaken g c =

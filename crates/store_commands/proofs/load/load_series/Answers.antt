@@ -11,7 +11,8 @@ use Rattle.series_load.specs.declared.load_end.LoadEnd.TheVariants as load_end
 use Rattle.store_commands.specs.declared.status.Status.{Status}
 use Rattle.store_commands.specs.Storing.{end_status}
 use Rattle.store_commands.proofs.HoldsAgain.{again_opened, again_sent, again_loaded}
-use Rattle.store_commands.proofs.TurnedAway.{away_so, away_never}
+use Rattle.store_commands.proofs.TurnedAway.{away_never}
+use Rattle.store_commands.proofs.WorldLemmas.{away_over}
 use Rattle.store_commands.proofs.load.load_series.Goals as goal
 
 pub returns-in-Ok-answer-clause-ends : goal.returns-in-Ok-answer-clause-ends
@@ -80,16 +81,7 @@ returns-in-Err-answer-clause-away g c = away_never _ _ c.in-Ok.ensures.large
 
 pub returns-in-Err-clause-away : goal.returns-in-Err-clause-away
 returns-in-Err-clause-away g c =
-    let view = g.W.Disk.view in
-    let left = g.W.Streams.left in
-    let sent = g.W.Streams.sent in
-    let old = c.args.world in
-    let new = c.in-Err.field-0.value in
-    let beside = c.in-Err.ensures.opens.beside_is in
-    let w = g.met.W.World in
-    away_so (view old) (view new) (left old) (left new) (sent old) (sent new) c.in-Err.field-0.cause c.opening_status.result c.opening_status.ensures c.in-Err.ensures.cause
-    (sym (w.beside_left new) ∙ ap (λ (b : Beside). b.left) beside ∙ w.beside_left old)
-    (sym (w.beside_sent new) ∙ ap (λ (b : Beside). b.sent) beside ∙ w.beside_sent old)
+    away_over g.W.Disk.view g.W.Streams.left g.W.Streams.sent g.met.W.World.beside_left g.met.W.World.beside_sent c.args.world c.in-Err.field-0.value c.in-Err.field-0.cause c.in-Err.ensures.opens.beside_is c.opening_status.result c.opening_status.ensures c.in-Err.ensures.cause
 
 pub returns-in-Ok-answer-clause-holds : goal.returns-in-Ok-answer-clause-holds
 returns-in-Ok-answer-clause-holds g c = λ other.

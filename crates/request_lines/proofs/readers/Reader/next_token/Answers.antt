@@ -7,6 +7,6 @@ use Rattle.request_lines.proofs.readers.Reader.next_token.Goals as goal
 pub returns-clause-token : goal.returns-clause-token
 unfolding next_token
 returns-clause-token c =
-    c.first_token.ensures
+    c.first_token.ensures.token
     ∙ ap (before_first is_space) (take_rest c.self.inside.line.now c.self.inside.at)
     ∙ ap (λ (cursor : Cursor). before_first is_space (drop cursor.at cursor.line)) c.self.view_is

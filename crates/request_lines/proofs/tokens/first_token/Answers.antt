@@ -1,7 +1,7 @@
 use Rattle.std.proofs.Common.{take, sym, ap}
 use Rattle.std.proofs.lemmas.List.{take_all}
 use Rattle.request_lines.proofs.TokenLemmas.{place_found, place_missing}
-use Rattle.live_view.proofs.live_lines.first_token.Goals as goal
+use Rattle.request_lines.proofs.tokens.first_token.Goals as goal
 
 pub returns-in-Some-clause-token : goal.returns-in-Some-clause-token
 returns-in-Some-clause-token c = ap (λ n. take n c.args.bytes.now) (place_found _ _ _ c.in-Some.ensures.place)

@@ -1,8 +1,7 @@
 use Rattle.std.proofs.Common.{◌∙◌, ◌∷◌, ◌+◌, take, sym, ap}
-use Rattle.request_lines.proofs.TokenLemmas.{place_found, place_missing}
 use Rattle.request_lines.specs.Tokens.{tokens}
-use Rattle.derive_command.proofs.SpellLemmas.{cut_found, cut_none, whole_rest}
-use Rattle.derive_command.proofs.requests.cut.Goals as goal
+use Rattle.request_lines.proofs.TokenLemmas.{cut_found, cut_none, place_found, place_missing, whole_rest}
+use Rattle.request_lines.proofs.tokens.cut.Goals as goal
 
 pub returns-in-Some-clause-cut : goal.returns-in-Some-clause-cut
 returns-in-Some-clause-cut c =
