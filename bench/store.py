@@ -16,7 +16,8 @@ DONE = 13  # bytes of the frame that answers an edit
 BLOCKS = 16384
 SERIES = {10**5: 2048, 10**6: 16384, 10**7: 131072}  # slots, and the blocks of a store that has room for them
 SPARSE, FEW_BLOCKS = (2**28, 2**35 - 1), 128  # slots of series of three values, and the blocks of their stores
-VIEWS, ROUNDS = 20, 5
+CATALOG_PAGES = 17  # page 0 and the catalog
+VIEWS, SPARSE_VIEWS, ROUNDS = 20, 5000, 5
 
 
 def lines_of(given):
@@ -108,21 +109,21 @@ def print_edits():
                 )
 
 
-def measure_view(slots, store):
-    """Seconds and block reads of a first view, and the peak of memory of a run with it, over a store with a series of so many slots."""
+def measure_view(slots, store, views=VIEWS):
+    """Seconds of a first view, the blocks that so many of them read, and the peak of memory of a run with them, over a store with a series of so many slots."""
     serve = [PROGRAM, store, "serve"]
     asked = {"without": "", "with": f"view 1 s {WIDTH} {HEIGHT} 0 {slots} auto\n"}
     runs, read = {}, {}
     for kind, view in asked.items():
         with open(kind, "w") as file:
-            file.write(VIEWS * f"open 1\n{view}close 1\n")
+            file.write(views * f"open 1\n{view}close 1\n")
         read[kind] = counted_calls(serve, kind, READS)
     for _ in range(ROUNDS):
         for kind in asked:
             runs.setdefault(kind, []).append(measure(serve, kind))
     least = least_seconds(runs)
     reads = None if read["with"] is None else read["with"] - read["without"]
-    return (least["with"] - least["without"]) / VIEWS, reads, max(run[1] for run in runs["with"])
+    return (least["with"] - least["without"]) / views, reads, max(run[1] for run in runs["with"])
 
 
 def print_views():
@@ -153,15 +154,16 @@ def pages_in(store):
 
 
 def print_sparse():
-    print("the same of series with three values, in the first slot, the middle and the last; 17 pages have the catalog")
+    print(f"the same of series with three values, in the first slot, the middle and the last, with {SPARSE_VIEWS} views: the pages of the tree, and the blocks")
+    print("that all these views read")
     print(f"{'slots':>12}{'pages':>7}{'a view s':>12}{'blocks read':>13}{'time, over that of the shortest':>33}")
     base = None
     for slots in SPARSE:
         store = f"sparse{slots}.store"
         build_store(store, FEW_BLOCKS, lines_of_sparse_series(slots))
-        seconds, reads, _ = measure_view(slots, store)
+        seconds, reads, _ = measure_view(slots, store, SPARSE_VIEWS)
         base = base or seconds
-        print(f"{slots:12}{pages_in(store):7}{seconds:12.6f}{shown(reads, VIEWS):>13}{seconds / base:33.2f}")
+        print(f"{slots:12}{pages_in(store) - CATALOG_PAGES:7}{seconds:12.6f}{shown(reads, 1):>13}{seconds / base:33.2f}")
 
 
 def measure_store():
