@@ -59,8 +59,8 @@ fn ran(
     Ok((code, world.sent().len()))
 }
 
-/// The first call of a command that fails, and how many it makes. The opening of the store takes the first 20.
-const CALLS: [(Command, u64, u64); 3] = [(Load, 20, 33), (Check, 0, 20), (Demo, 20, 48)];
+/// The first call of a command that fails, and how many it makes. The opening of the store takes the first 21.
+const CALLS: [(Command, u64, u64); 3] = [(Load, 21, 34), (Check, 0, 21), (Demo, 21, 49)];
 
 #[test]
 fn a_disk_that_fails_is_told(rt: HostRuntime) -> Result<(), Fail> {

@@ -33,9 +33,9 @@ fn ran(alloc: Global, call: u64, take: u64, send: u64) -> Result<(u8, Vec<u8>), 
     Ok((code, Vec::from_slice(alloc, world.sent())?))
 }
 
-/// An opening makes 20 calls. Both edits are one commit of three pages: it writes nine blocks with four syncs, and finds
+/// An opening makes 21 calls. Both edits are one commit of three pages: it writes nine blocks with four syncs, and finds
 /// the catalog's page in memory. The view reads one page.
-const CALLS: u64 = 20 + 13 + 1;
+const CALLS: u64 = 21 + 13 + 1;
 
 /// Whether a call of the disk that fails is told, behind whole frames.
 fn is_told(alloc: Global, call: u64, whole: &[u8]) -> Result<bool, Fail> {
