@@ -1,5 +1,5 @@
 //! The values of a tree are sent as texts, page by page.
-ghost use Rattle.std.specs.Prelude.{◌≡◌, ◌<◌, ◌≤◌, ◌+◌, ◌++◌, ℕ, ℤ, List, [], Option, length, false, IsTrue, IfErr, OnOk};
+ghost use Rattle.std.specs.Prelude.{◌≡◌, ◌<◌, ◌≤◌, ◌+◌, ◌++◌, ℕ, ℤ, List, [], Option, length, false, IsTrue, IfErr, OnOk, ◌≢◌};
 ghost use Rattle.block_disk.specs.View.{View};
 ghost use Rattle.om3_coeff.specs.Keys.{first_slot, end_slot};
 ghost use Rattle.om3_coeff.specs.Spans.{AreSlots, IsProperIfAny, span};
@@ -32,6 +32,7 @@ pub(crate) fn send_waiting<P: PageWorld>(
     ensures reads { (P.view space.new.pages).reads ≡ (P.view space.old.pages).reads }
     ensures gives { (text : List ℕ) (before : Option (List ℕ)) → IsGiven text before (P.view space.old.pages).beside.sent out.old.items → GivesBy result text before (P.view space.new.pages).beside.sent out.new.items }
     ensures cause { IfErr result (λ e. IsTextCause e (P.view space.old.pages) (P.view space.new.pages)) }
+    ensures quiet { (P.view space.new.pages).faults ≡ (P.view space.old.pages).faults }
 {
     let Ok(()) = space.send(out.as_slice()) else {
         return Err(SendError::SendFault);
@@ -54,6 +55,7 @@ fn send_value<P: PageWorld, T: Texts>(
     ensures reads { (P.view space.new.pages).reads ≡ (P.view space.old.pages).reads }
     ensures gives { (text : List ℕ) (before : Option (List ℕ)) → IsGiven text before (P.view space.old.pages).beside.sent out.old.items → GivesBy result (text ++ T.text texts.now slot value) before (P.view space.new.pages).beside.sent out.new.items }
     ensures cause { IfErr result (λ e. IsTextCause e (P.view space.old.pages) (P.view space.new.pages)) }
+    ensures quiet { (P.view space.new.pages).faults ≡ (P.view space.old.pages).faults }
 {
     texts.add(slot, value, out)?;
     if out.len() < PIECE {
@@ -103,6 +105,8 @@ pub(crate) fn send_below<P: PageWorld, T: Texts>(
     ensures few { OnOk result (length out.new.items < 16384) }
     ensures sends { Sends (P.told space.old.pages) (P.told space.new.pages) (P.view space.old.pages) (P.view space.new.pages) (P.under space.old.pages) (P.under space.new.pages) space.old.superblock space.new.superblock }
     ensures cause { IfErr result (λ e. IsSendCause e (P.told space.old.pages) (P.view space.old.pages) (P.view space.new.pages) space.old.superblock.total level page top) }
+    ensures quiet { OnOk result ((P.view space.new.pages).faults ≡ (P.view space.old.pages).faults) }
+    ensures quiet_err { IfErr result (λ e. e ≢ SendError.DiskFault → (P.view space.new.pages).faults ≡ (P.view space.old.pages).faults) }
     ensures part { (list : List (Option ℤ)) → P.told space.old.pages → AreSlots list → IsTree (P.view space.old.pages).image space.old.superblock.total list level index page → top ≡ span list (top_of_page level index)
         → SendsPart (said (first_said slots (T.text texts.now)) list) (first_slot (top_of_page level index)) (end_slot (top_of_page level index)) (page_count list level index) (P.view space.old.pages) (P.view space.new.pages) out.old.items out.new.items result }
 {
