@@ -118,24 +118,28 @@ loop-child-preserved-then-is_apart g t c =
     let page = child_at c.look.new.bytes c.loop-child.child in
     let most = count_most page c.args.slots.first c.args.slots.end c.child-below.result.height c.child-below.result.level c.child-below.result.index in
     let N : ℕ → Type 0 = λ n. IsCounting (shown.IsTold c.args.space.now) (shown.IsTold c.loop-child.space) (shown.view c.args.space.now) (shown.view c.loop-child.space) (shown.under c.args.space.now) (shown.under c.loop-child.space) (shown.numbers c.args.space.now) (shown.numbers c.loop-child.space) c.args.txn.now c.args.slots.first c.args.slots.end c.args.values.now c.args.at.height c.args.at.level (c.args.at.level - 1) c.args.at.index c.args.page c.look.new.bytes c.in_ok-pages.pages n (c.loop-child.child + 1) in
-    let none : c.loop-child.pages + 0 ≡ c.loop-child.pages = omega arith in
-    (subst N none
-    (count_on (shown.IsTold c.args.space.now) (shown.IsTold c.loop-child.space) (shown.IsTold c.loop-child.space) (shown.view c.args.space.now) (shown.view c.loop-child.space) (shown.view c.loop-child.space) (shown.under c.args.space.now) (shown.under c.loop-child.space) (shown.under c.loop-child.space) (shown.numbers c.args.space.now) (shown.numbers c.loop-child.space) (shown.numbers c.loop-child.space) c.args.txn.now c.args.slots.first c.args.slots.end c.args.values.now c.args.at.height c.args.at.level (c.args.at.level - 1) c.args.at.index c.args.page c.look.new.bytes c.in_ok-pages.pages c.loop-child.pages 0 c.loop-child.child c.child-below.result.height c.child-below.result.level c.child-below.result.index page
-    c.loop-child.invariant.0 c.loop-child-test.true c.child-below.ensures.height child_level c.child-below.ensures.index refl
-    (moved_more 0 most 0 0 (shown.IsTold c.loop-child.space) (shown.IsTold c.loop-child.space) (shown.view c.loop-child.space) (shown.view c.loop-child.space) (shown.under c.loop-child.space) (shown.under c.loop-child.space) (shown.numbers c.loop-child.space) (shown.numbers c.loop-child.space) c.args.txn.now c.args.txn.now (omega arith) (omega arith)
-    (moved_none (shown.IsTold c.loop-child.space) (shown.view c.loop-child.space) (shown.under c.loop-child.space) (shown.numbers c.loop-child.space) c.args.txn.now))
-    (omega arith)
-    (λ base list list' told lists fills rooted. apart_count (left_by c.args.txn.now base) (shown.total c.loop-child.space) c.args.slots.first c.args.slots.end c.args.values.now list list' c.child-below.result.height c.child-below.result.level c.child-below.result.index page lists rooted untouched no_root)
-    (λ base list told rooted. c.in_ok-pages.ensures.seen base list (c.args.at.level - 1) told is rooted)), c.loop-child.invariant.1)
+    let none : c.loop-child.pages + 0 ≡ c.loop-child.pages = omega arith in (
+      subst N none
+          (count_on (shown.IsTold c.args.space.now) (shown.IsTold c.loop-child.space) (shown.IsTold c.loop-child.space) (shown.view c.args.space.now) (shown.view c.loop-child.space) (shown.view c.loop-child.space) (shown.under c.args.space.now) (shown.under c.loop-child.space) (shown.under c.loop-child.space) (shown.numbers c.args.space.now) (shown.numbers c.loop-child.space) (shown.numbers c.loop-child.space) c.args.txn.now c.args.slots.first c.args.slots.end c.args.values.now c.args.at.height c.args.at.level (c.args.at.level - 1) c.args.at.index c.args.page c.look.new.bytes c.in_ok-pages.pages c.loop-child.pages 0 c.loop-child.child c.child-below.result.height c.child-below.result.level c.child-below.result.index page
+          c.loop-child.invariant.0 c.loop-child-test.true c.child-below.ensures.height child_level c.child-below.ensures.index refl
+          (moved_more 0 most 0 0 (shown.IsTold c.loop-child.space) (shown.IsTold c.loop-child.space) (shown.view c.loop-child.space) (shown.view c.loop-child.space) (shown.under c.loop-child.space) (shown.under c.loop-child.space) (shown.numbers c.loop-child.space) (shown.numbers c.loop-child.space) c.args.txn.now c.args.txn.now (omega arith) (omega arith)
+          (moved_none (shown.IsTold c.loop-child.space) (shown.view c.loop-child.space) (shown.under c.loop-child.space) (shown.numbers c.loop-child.space) c.args.txn.now))
+          (omega arith)
+          (λ base list list' told lists fills rooted. apart_count (left_by c.args.txn.now base) (shown.total c.loop-child.space) c.args.slots.first c.args.slots.end c.args.values.now list list' c.child-below.result.height c.child-below.result.level c.child-below.result.index page lists rooted untouched no_root)
+          (λ base list told rooted. c.in_ok-pages.ensures.seen base list (c.args.at.level - 1) told is rooted)),
+      c.loop-child.invariant.1,
+    )
 
 pub loop-child-preserved : goal.loop-child-preserved
 loop-child-preserved g t c =
     let is : c.args.at.level ≡ suc (c.args.at.level - 1) = omega (arith, c.if-at-eq0.false) in
-    let child_level : c.child-below.result.level ≡ c.args.at.level - 1 = omega (arith, c.child-below.ensures.level) in
-    (count_on (shown.IsTold c.args.space.now) (shown.IsTold c.loop-child.space) (shown.IsTold c.new_pages.new.space) (shown.view c.args.space.now) (shown.view c.loop-child.space) (shown.view c.new_pages.new.space) (shown.under c.args.space.now) (shown.under c.loop-child.space) (shown.under c.new_pages.new.space) (shown.numbers c.args.space.now) (shown.numbers c.loop-child.space) (shown.numbers c.new_pages.new.space) c.args.txn.now c.args.slots.first c.args.slots.end c.args.values.now c.args.at.height c.args.at.level (c.args.at.level - 1) c.args.at.index c.args.page c.look.new.bytes c.in_ok-pages.pages c.loop-child.pages c.in_ok-more.more c.loop-child.child c.child-below.result.height c.child-below.result.level c.child-below.result.index c.child_of.result
-    c.loop-child.invariant.0 c.loop-child-test.true c.child-below.ensures.height child_level c.child-below.ensures.index c.child_of.ensures c.new_pages.ensures.moved c.in_ok-more.ensures.few
-    (λ base list list' told lists fills rooted. c.in_ok-more.ensures.counts base list list' told lists fills rooted)
-    (λ base list told rooted. c.in_ok-pages.ensures.seen base list (c.args.at.level - 1) told is rooted), c.in_ok-more.ensures.quiet ∙ c.loop-child.invariant.1)
+    let child_level : c.child-below.result.level ≡ c.args.at.level - 1 = omega (arith, c.child-below.ensures.level) in (
+      count_on (shown.IsTold c.args.space.now) (shown.IsTold c.loop-child.space) (shown.IsTold c.new_pages.new.space) (shown.view c.args.space.now) (shown.view c.loop-child.space) (shown.view c.new_pages.new.space) (shown.under c.args.space.now) (shown.under c.loop-child.space) (shown.under c.new_pages.new.space) (shown.numbers c.args.space.now) (shown.numbers c.loop-child.space) (shown.numbers c.new_pages.new.space) c.args.txn.now c.args.slots.first c.args.slots.end c.args.values.now c.args.at.height c.args.at.level (c.args.at.level - 1) c.args.at.index c.args.page c.look.new.bytes c.in_ok-pages.pages c.loop-child.pages c.in_ok-more.more c.loop-child.child c.child-below.result.height c.child-below.result.level c.child-below.result.index c.child_of.result
+          c.loop-child.invariant.0 c.loop-child-test.true c.child-below.ensures.height child_level c.child-below.ensures.index c.child_of.ensures c.new_pages.ensures.moved c.in_ok-more.ensures.few
+          (λ base list list' told lists fills rooted. c.in_ok-more.ensures.counts base list list' told lists fills rooted)
+          (λ base list told rooted. c.in_ok-pages.ensures.seen base list (c.args.at.level - 1) told is rooted),
+      c.in_ok-more.ensures.quiet ∙ c.loop-child.invariant.1,
+    )
 
 pub returns-clause-moved : goal.returns-clause-moved
 returns-clause-moved g t c =

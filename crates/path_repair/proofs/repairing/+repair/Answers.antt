@@ -134,8 +134,8 @@ loop-child-preserved-then-is_apart g t c =
             (λ base at. none_spares c.loop-child.txn base c.child-below.result.level) (λ n other. refl) (λ n other. refl),
         (
           λ base fits stored from mine kept at apart. apart_settled stored (left_by c.loop-child.txn base) from c.loop-child.txn.superblock c.child-below.result.height c.child-below.result.level c.child-below.result.index page (and_page c.in_ok-number.number mine) (and_children fits stored c.args.at.height (c.args.at.level - 1) c.args.at.index c.open_page.new.bytes (c.loop-child.child + 1) kept)
-            (apart_child stored (left_by c.loop-child.txn base) from c.loop-child.txn.superblock c.args.at.height (c.args.at.level - 1) c.args.at.index c.loop-child.child c.child-below.result.height c.child-below.result.level c.child-below.result.index page c.open_page.new.bytes (and_page c.in_ok-number.number mine) kept
-            c.loop-child-test.true c.child-below.ensures.height child_level c.child-below.ensures.index page_is (c.loop-child.invariant.1.1.0 base fits stored from mine kept at apart)),
+              (apart_child stored (left_by c.loop-child.txn base) from c.loop-child.txn.superblock c.args.at.height (c.args.at.level - 1) c.args.at.index c.loop-child.child c.child-below.result.height c.child-below.result.level c.child-below.result.index page c.open_page.new.bytes (and_page c.in_ok-number.number mine) kept
+              c.loop-child-test.true c.child-below.ensures.height child_level c.child-below.ensures.index page_is (c.loop-child.invariant.1.1.0 base fits stored from mine kept at apart)),
           c.loop-child.invariant.1.1.1,
         ),
       ),
@@ -156,9 +156,9 @@ loop-child-preserved g t c =
             c.set_root.ensures.pages c.set_root.ensures.spans,
         (
           λ base fits stored from mine kept at apart. c.in_ok-next.ensures.apart base fits stored from (and_page c.in_ok-number.number mine) (and_children fits stored c.args.at.height (c.args.at.level - 1) c.args.at.index c.open_page.new.bytes (c.loop-child.child + 1) kept)
-            (told_on (1 + passed_below c.args.slots.first c.args.slots.end c.args.at.height (c.args.at.level - 1) c.args.at.index c.loop-child.child) (shown.IsTold c.args.space.now) (shown.IsTold c.loop-child.space) (shown.view c.args.space.now) (shown.view c.loop-child.space) base c.loop-child.invariant.0.moved.reads at)
-            (apart_child stored (left_by c.loop-child.txn base) from c.loop-child.txn.superblock c.args.at.height (c.args.at.level - 1) c.args.at.index c.loop-child.child c.child-below.result.height c.child-below.result.level c.child-below.result.index c.child_root-old.result.page c.open_page.new.bytes (and_page c.in_ok-number.number mine) kept
-            c.loop-child-test.true c.child-below.ensures.height child_level c.child-below.ensures.index page_is (c.loop-child.invariant.1.1.0 base fits stored from mine kept at apart)),
+              (told_on (1 + passed_below c.args.slots.first c.args.slots.end c.args.at.height (c.args.at.level - 1) c.args.at.index c.loop-child.child) (shown.IsTold c.args.space.now) (shown.IsTold c.loop-child.space) (shown.view c.args.space.now) (shown.view c.loop-child.space) base c.loop-child.invariant.0.moved.reads at)
+              (apart_child stored (left_by c.loop-child.txn base) from c.loop-child.txn.superblock c.args.at.height (c.args.at.level - 1) c.args.at.index c.loop-child.child c.child-below.result.height c.child-below.result.level c.child-below.result.index c.child_root-old.result.page c.open_page.new.bytes (and_page c.in_ok-number.number mine) kept
+              c.loop-child-test.true c.child-below.ensures.height child_level c.child-below.ensures.index page_is (c.loop-child.invariant.1.1.0 base fits stored from mine kept at apart)),
           c.in_ok-next.ensures.quiet ∙ c.loop-child.invariant.1.1.1,
         ),
       ),

@@ -57,12 +57,14 @@ overflow_add-values g c =
     omega (arith, c.loop-id.invariant.0.few, few_values c.in_ok-more.more c.page_levels-levels.result c.page_levels-levels.ensures.few c.in_ok-more.ensures.few, c.loop-id-test.true, c.len-id-end.ensures.few)
 
 pub loop-id-preserved : goal.loop-id-preserved
-loop-id-preserved g c =
-    (trees_on (g.P.Pages.told c.args.space.now.pages) (g.P.Pages.told c.loop-id.space.pages) (g.P.Pages.told c.count_values.new.space.pages) (g.P.Pages.view c.args.space.now.pages) (g.P.Pages.view c.loop-id.space.pages) (g.P.Pages.view c.count_values.new.space.pages) (g.P.Pages.under c.args.space.now.pages) (g.P.Pages.under c.loop-id.space.pages) (g.P.Pages.under c.count_values.new.space.pages) c.args.space.now.superblock c.loop-id.space.superblock c.count_values.new.space.superblock c.args.catalog.now.series.items c.series.result.now c.loop-id.values c.in_ok-more.more c.loop-id.id c.page_levels-levels.result
-    c.loop-id.invariant.0 c.series.ensures c.page_levels-levels.ensures.levels c.page_levels-levels.ensures.few c.page_levels-levels.ensures.covers c.count_values.ensures.looks c.in_ok-more.ensures.few
-    (λ list told slots long tree top. c.in_ok-more.ensures.counts list told slots long tree top)
-    (λ told. c.count_values.ensures.reads told)
-    (λ told. c.in_ok-more.ensures.whole told), c.in_ok-more.ensures.quiet ∙ c.loop-id.invariant.1)
+loop-id-preserved g c = (
+  trees_on (g.P.Pages.told c.args.space.now.pages) (g.P.Pages.told c.loop-id.space.pages) (g.P.Pages.told c.count_values.new.space.pages) (g.P.Pages.view c.args.space.now.pages) (g.P.Pages.view c.loop-id.space.pages) (g.P.Pages.view c.count_values.new.space.pages) (g.P.Pages.under c.args.space.now.pages) (g.P.Pages.under c.loop-id.space.pages) (g.P.Pages.under c.count_values.new.space.pages) c.args.space.now.superblock c.loop-id.space.superblock c.count_values.new.space.superblock c.args.catalog.now.series.items c.series.result.now c.loop-id.values c.in_ok-more.more c.loop-id.id c.page_levels-levels.result
+      c.loop-id.invariant.0 c.series.ensures c.page_levels-levels.ensures.levels c.page_levels-levels.ensures.few c.page_levels-levels.ensures.covers c.count_values.ensures.looks c.in_ok-more.ensures.few
+      (λ list told slots long tree top. c.in_ok-more.ensures.counts list told slots long tree top)
+      (λ told. c.count_values.ensures.reads told)
+      (λ told. c.in_ok-more.ensures.whole told),
+  c.in_ok-more.ensures.quiet ∙ c.loop-id.invariant.1,
+)
 
 pub returns-clause-whole : goal.returns-clause-whole
 returns-clause-whole g c = λ told.

@@ -11,9 +11,11 @@ use Rattle.series_store.proofs.checking.pass_chain.Goals as goal
 pub loop-init : goal.loop-init
 loop-init g c =
     let numbers : c.begin.new.self.superblock ≡ c.args.space.now.superblock = rw c.begin.ensures.same refl in
-    let is : c.args.space.now.superblock.chain ≡ c.fresh.result - c.used.result - 0 = omega (arith, c.fresh.ensures.fresh, c.used.ensures.used, ap (λ (s : Superblock). s.fresh) numbers, ap (λ (s : Superblock). s.chain) numbers, c.args.space.now.rules.chain_high) in
-    (rw c.begin.ensures.same (pass_start (g.P.Pages.told c.args.space.now.pages) (g.P.Pages.told c.args.space.now.pages) (g.P.Pages.view c.args.space.now.pages) (g.P.Pages.view c.args.space.now.pages) (g.P.Pages.under c.args.space.now.pages) (g.P.Pages.under c.args.space.now.pages) c.args.space.now.superblock c.args.space.now.superblock c.in_ok-txn.txn (c.fresh.result - c.used.result - 0) (looks_none (g.P.Pages.told c.args.space.now.pages) (g.P.Pages.view c.args.space.now.pages) (g.P.Pages.under c.args.space.now.pages) c.args.space.now.superblock) c.in_ok-txn.ensures.superblock is
-    (λ t p. c.in_ok-txn.ensures.left c.requires.sound t p) (λ count image taken freed standing. c.in_ok-txn.ensures.stands count image taken freed standing) (omega arith)), ap (λ s. (g.P.Pages.view s.pages).faults) c.begin.ensures.same)
+    let is : c.args.space.now.superblock.chain ≡ c.fresh.result - c.used.result - 0 = omega (arith, c.fresh.ensures.fresh, c.used.ensures.used, ap (λ (s : Superblock). s.fresh) numbers, ap (λ (s : Superblock). s.chain) numbers, c.args.space.now.rules.chain_high) in (
+      rw c.begin.ensures.same (pass_start (g.P.Pages.told c.args.space.now.pages) (g.P.Pages.told c.args.space.now.pages) (g.P.Pages.view c.args.space.now.pages) (g.P.Pages.view c.args.space.now.pages) (g.P.Pages.under c.args.space.now.pages) (g.P.Pages.under c.args.space.now.pages) c.args.space.now.superblock c.args.space.now.superblock c.in_ok-txn.txn (c.fresh.result - c.used.result - 0) (looks_none (g.P.Pages.told c.args.space.now.pages) (g.P.Pages.view c.args.space.now.pages) (g.P.Pages.under c.args.space.now.pages) c.args.space.now.superblock) c.in_ok-txn.ensures.superblock is
+          (λ t p. c.in_ok-txn.ensures.left c.requires.sound t p) (λ count image taken freed standing. c.in_ok-txn.ensures.stands count image taken freed standing) (omega arith)),
+      ap (λ s. (g.P.Pages.view s.pages).faults) c.begin.ensures.same,
+    )
 
 pub returns-in-Err-clause-cause : goal.returns-in-Err-clause-cause
 returns-in-Err-clause-cause g c =
@@ -31,13 +33,15 @@ returns-in-Err-clause-stands g c = λ count taken freed told standing.
 
 pub loop-preserved : goal.loop-preserved
 loop-preserved g c =
-    let is : c.fresh.result - c.used.result - c.loop.counter ≡ suc (c.fresh.result - c.used.result - (c.loop.counter + 1)) = omega (arith, c.loop-test.true) in
-    (pass_on (g.P.Pages.told c.args.space.now.pages) (g.P.Pages.told c.loop.space.pages) (g.P.Pages.told c.alloc.new.self.pages) (g.P.Pages.view c.args.space.now.pages) (g.P.Pages.view c.loop.space.pages) (g.P.Pages.view c.alloc.new.self.pages) (g.P.Pages.under c.args.space.now.pages) (g.P.Pages.under c.loop.space.pages) (g.P.Pages.under c.alloc.new.self.pages) c.args.space.now.superblock c.loop.space.superblock c.alloc.new.self.superblock c.loop.txn c.alloc.new.txn (c.fresh.result - c.used.result - c.loop.counter) (c.fresh.result - c.used.result - (c.loop.counter + 1)) c.in_default.field-0
-    c.loop.invariant.0 is
-    (looks_read (g.P.Pages.told c.loop.space.pages) (g.P.Pages.told c.alloc.new.self.pages) (g.P.Pages.view c.loop.space.pages) (g.P.Pages.view c.alloc.new.self.pages) (g.P.Pages.under c.loop.space.pages) (g.P.Pages.under c.alloc.new.self.pages) c.loop.space.superblock c.alloc.new.self.superblock c.alloc.ensures.reads c.alloc.ensures.superblock c.alloc.ensures.goes_on)
-    c.in_default.ensures.takes c.alloc.ensures.same_total c.alloc.ensures.pages
-    (λ t count taken freed standing. c.in_default.ensures.stands t count taken freed standing)
-    c.alloc.ensures.reads.reads, c.in_default.ensures.quiet ∙ c.loop.invariant.1)
+    let is : c.fresh.result - c.used.result - c.loop.counter ≡ suc (c.fresh.result - c.used.result - (c.loop.counter + 1)) = omega (arith, c.loop-test.true) in (
+      pass_on (g.P.Pages.told c.args.space.now.pages) (g.P.Pages.told c.loop.space.pages) (g.P.Pages.told c.alloc.new.self.pages) (g.P.Pages.view c.args.space.now.pages) (g.P.Pages.view c.loop.space.pages) (g.P.Pages.view c.alloc.new.self.pages) (g.P.Pages.under c.args.space.now.pages) (g.P.Pages.under c.loop.space.pages) (g.P.Pages.under c.alloc.new.self.pages) c.args.space.now.superblock c.loop.space.superblock c.alloc.new.self.superblock c.loop.txn c.alloc.new.txn (c.fresh.result - c.used.result - c.loop.counter) (c.fresh.result - c.used.result - (c.loop.counter + 1)) c.in_default.field-0
+          c.loop.invariant.0 is
+          (looks_read (g.P.Pages.told c.loop.space.pages) (g.P.Pages.told c.alloc.new.self.pages) (g.P.Pages.view c.loop.space.pages) (g.P.Pages.view c.alloc.new.self.pages) (g.P.Pages.under c.loop.space.pages) (g.P.Pages.under c.alloc.new.self.pages) c.loop.space.superblock c.alloc.new.self.superblock c.alloc.ensures.reads c.alloc.ensures.superblock c.alloc.ensures.goes_on)
+          c.in_default.ensures.takes c.alloc.ensures.same_total c.alloc.ensures.pages
+          (λ t count taken freed standing. c.in_default.ensures.stands t count taken freed standing)
+          c.alloc.ensures.reads.reads,
+      c.in_default.ensures.quiet ∙ c.loop.invariant.1,
+    )
 
 pub returns-in-Err-clause-reads : goal.returns-in-Err-clause-reads
 returns-in-Err-clause-reads g c = omega (arith, c.loop.invariant.0.reads, c.alloc.ensures.reads.reads.high, c.loop-test.true)

@@ -163,14 +163,16 @@ overflow_add-values g t c =
 pub loop-child-preserved : goal.loop-child-preserved
 loop-child-preserved g t c =
     let is : c.args.level ≡ suc (c.args.level - 1) = omega (arith, c.if-level-eq0.false) in
-    let some = is_there c.args.page c.args.top c.in-Some.span (c.requires.matched (omega (arith, is))) c.in-Some.is in
-    (count_on (g.P.Pages.told c.args.space.now.pages) (g.P.Pages.told c.loop-child.space.pages) (g.P.Pages.told c.count_values.new.space.pages) (g.P.Pages.view c.args.space.now.pages) (g.P.Pages.view c.loop-child.space.pages) (g.P.Pages.view c.count_values.new.space.pages) (g.P.Pages.under c.args.space.now.pages) (g.P.Pages.under c.loop-child.space.pages) (g.P.Pages.under c.count_values.new.space.pages) c.args.space.now.superblock c.loop-child.space.superblock c.count_values.new.space.superblock c.args.slots c.args.level (c.args.level - 1) c.args.index c.part_of.result c.args.page c.child_of-under.result c.args.top c.leaf-part.result c.read_page.new.bytes (span_at c.read_page.new.spans) c.loop-child.values c.in_ok-more.more c.loop-child.child
-    c.part_of.ensures c.loop-child.invariant.0 is some c.loop-child-test.true c.child_of-under.ensures c.leaf-part.ensures.span c.in_ok-read_page.ensures.bytes
-    (λ list told slots long tree top. c.in_ok-read_page.ensures.tops list (c.args.level - 1) c.args.index told is slots (nodes_of (g.P.Pages.view c.args.space.now.pages).image c.args.space.now.superblock.total list c.args.level (c.args.level - 1) c.args.index c.args.page is some tree) (sym c.in-Some.is ∙ top))
-    c.count_values.ensures.looks c.in_ok-more.ensures.few
-    (λ list told slots long tree top. c.in_ok-more.ensures.counts list told slots long tree top)
-    (λ told. c.count_values.ensures.reads told)
-    (λ told. c.in_ok-more.ensures.whole told), c.in_ok-more.ensures.quiet ∙ c.loop-child.invariant.1)
+    let some = is_there c.args.page c.args.top c.in-Some.span (c.requires.matched (omega (arith, is))) c.in-Some.is in (
+      count_on (g.P.Pages.told c.args.space.now.pages) (g.P.Pages.told c.loop-child.space.pages) (g.P.Pages.told c.count_values.new.space.pages) (g.P.Pages.view c.args.space.now.pages) (g.P.Pages.view c.loop-child.space.pages) (g.P.Pages.view c.count_values.new.space.pages) (g.P.Pages.under c.args.space.now.pages) (g.P.Pages.under c.loop-child.space.pages) (g.P.Pages.under c.count_values.new.space.pages) c.args.space.now.superblock c.loop-child.space.superblock c.count_values.new.space.superblock c.args.slots c.args.level (c.args.level - 1) c.args.index c.part_of.result c.args.page c.child_of-under.result c.args.top c.leaf-part.result c.read_page.new.bytes (span_at c.read_page.new.spans) c.loop-child.values c.in_ok-more.more c.loop-child.child
+          c.part_of.ensures c.loop-child.invariant.0 is some c.loop-child-test.true c.child_of-under.ensures c.leaf-part.ensures.span c.in_ok-read_page.ensures.bytes
+          (λ list told slots long tree top. c.in_ok-read_page.ensures.tops list (c.args.level - 1) c.args.index told is slots (nodes_of (g.P.Pages.view c.args.space.now.pages).image c.args.space.now.superblock.total list c.args.level (c.args.level - 1) c.args.index c.args.page is some tree) (sym c.in-Some.is ∙ top))
+          c.count_values.ensures.looks c.in_ok-more.ensures.few
+          (λ list told slots long tree top. c.in_ok-more.ensures.counts list told slots long tree top)
+          (λ told. c.count_values.ensures.reads told)
+          (λ told. c.in_ok-more.ensures.whole told),
+      c.in_ok-more.ensures.quiet ∙ c.loop-child.invariant.1,
+    )
 
 pub returns-clause-counts : goal.returns-clause-counts
 returns-clause-counts g t c = λ list told slots long tree top.

@@ -131,11 +131,13 @@ returns-in_err-send_below-clause-part g t c = λ list told slots tree top.
 pub loop-child-preserved : goal.loop-child-preserved
 loop-child-preserved g t c =
     let is : c.args.level ≡ suc (c.args.level - 1) = omega (arith, c.if-level-eq0.false) in
-    let some = is_there c.args.page c.args.top c.in-Some.span (c.requires.matched (omega (arith, is))) c.in-Some.is in
-    (send_on (g.P.Pages.told c.args.space.now.pages) (g.P.Pages.told c.loop-child.space.pages) (g.P.Pages.told c.send_below.new.space.pages) (g.P.Pages.view c.args.space.now.pages) (g.P.Pages.view c.loop-child.space.pages) (g.P.Pages.view c.send_below.new.space.pages) (g.P.Pages.under c.args.space.now.pages) (g.P.Pages.under c.loop-child.space.pages) (g.P.Pages.under c.send_below.new.space.pages) c.args.space.now.superblock c.loop-child.space.superblock c.send_below.new.space.superblock (first_said c.args.slots (g.T.Texts.text c.args.texts.now)) c.args.level (c.args.level - 1) c.args.index c.args.page c.child_of-under.result c.loop-child.child c.args.top c.leaf-part.result c.read_page.new.bytes (span_at c.read_page.new.spans) c.args.out.now.items c.loop-child.out.items c.send_below.new.out.items
-    c.loop-child.invariant.0 is some c.loop-child-test.true c.child_of-under.ensures c.leaf-part.ensures.span c.in_ok-read_page.ensures.bytes
-    (λ list told slots tree top. (c.in_ok-read_page.ensures.tops list (c.args.level - 1) c.args.index told is slots (nodes_of (g.P.Pages.view c.args.space.now.pages).image c.args.space.now.superblock.total list c.args.level (c.args.level - 1) c.args.index c.args.page is some tree) (sym c.in-Some.is ∙ top)))
-    c.send_below.ensures.sends c.in_ok-send_below.ensures.few c.in_ok-send_below.ensures.part, c.in_ok-send_below.ensures.quiet ∙ c.loop-child.invariant.1)
+    let some = is_there c.args.page c.args.top c.in-Some.span (c.requires.matched (omega (arith, is))) c.in-Some.is in (
+      send_on (g.P.Pages.told c.args.space.now.pages) (g.P.Pages.told c.loop-child.space.pages) (g.P.Pages.told c.send_below.new.space.pages) (g.P.Pages.view c.args.space.now.pages) (g.P.Pages.view c.loop-child.space.pages) (g.P.Pages.view c.send_below.new.space.pages) (g.P.Pages.under c.args.space.now.pages) (g.P.Pages.under c.loop-child.space.pages) (g.P.Pages.under c.send_below.new.space.pages) c.args.space.now.superblock c.loop-child.space.superblock c.send_below.new.space.superblock (first_said c.args.slots (g.T.Texts.text c.args.texts.now)) c.args.level (c.args.level - 1) c.args.index c.args.page c.child_of-under.result c.loop-child.child c.args.top c.leaf-part.result c.read_page.new.bytes (span_at c.read_page.new.spans) c.args.out.now.items c.loop-child.out.items c.send_below.new.out.items
+          c.loop-child.invariant.0 is some c.loop-child-test.true c.child_of-under.ensures c.leaf-part.ensures.span c.in_ok-read_page.ensures.bytes
+          (λ list told slots tree top. (c.in_ok-read_page.ensures.tops list (c.args.level - 1) c.args.index told is slots (nodes_of (g.P.Pages.view c.args.space.now.pages).image c.args.space.now.superblock.total list c.args.level (c.args.level - 1) c.args.index c.args.page is some tree) (sym c.in-Some.is ∙ top)))
+          c.send_below.ensures.sends c.in_ok-send_below.ensures.few c.in_ok-send_below.ensures.part,
+      c.in_ok-send_below.ensures.quiet ∙ c.loop-child.invariant.1,
+    )
 
 pub returns-clause-part : goal.returns-clause-part
 returns-clause-part g t c = λ list told slots tree top.
