@@ -1,5 +1,5 @@
 //! A service answers a view of a series in an open session.
-ghost use Rattle.std.specs.Prelude.{◌≡◌, ◌≤◌, ◌<◌, ◌+◌, ℕ, List, None, Some, length, slice_get, IfOk, IfErr, IsTrue, IsSomeAnd, ◌≢◌, Err, OnOk};
+ghost use Rattle.std.specs.Prelude.{◌≡◌, ◌≤◌, ◌<◌, ◌+◌, ℕ, List, None, Some, length, slice_get, IfOk, IfErr, IsTrue, IsSomeAnd};
 ghost use Rattle.block_disk.specs.View.{View};
 ghost use Rattle.series_book.specs.declared.one_series.Series.{Series};
 ghost use Rattle.stored_book.specs.Standing.{StandsForBook};
@@ -46,7 +46,6 @@ impl<P: Pages> Service<P> {
         requires view { IsViewIn (length (shown.catalog self.old)) spec }
         ensures replying { RepliesOver (HasRows spec number) ReadsAny result self.old self.new }
         ensures looked { LooksIn (Some number) result self.old self.new }
-        ensures quiet { result ≢ Err ServiceError.DiskFault → (shown.view self.new).faults ≡ (shown.view self.old).faults }
         ensures stays { StaysIn number result self.old.sessions self.new.sessions }
     {
         let shown = match self.rows(&spec) {
@@ -68,8 +67,6 @@ impl<P: Pages> Service<P> {
         ensures shown { shown.ForBook self.old (λ total book. IsSomeAnd (slice_get book spec.now.series) (λ series. ShowsOrStops series spec.now result)) }
         ensures fit { IfOk result (FitInFrame spec.now.grid.w) }
         ensures cause { IfErr result (λ error. IsScanCause error (shown.IsTold self.old) (shown.catalog self.old) (shown.total self.old) (shown.view self.old) (shown.view self.new)) }
-        ensures quiet { OnOk result ((shown.view self.new).faults ≡ (shown.view self.old).faults) }
-        ensures quiet_err { IfErr result (λ e. e ≢ ScanError.Node NodeError.DiskFault → (shown.view self.new).faults ≡ (shown.view self.old).faults) }
         ensures looks { LooksOnly self.old self.new }
         ensures sessions { self.new.sessions ≡ self.old.sessions }
     {
@@ -90,7 +87,6 @@ impl<P: Pages> Service<P> {
         requires unfiltered { spec.filter ≡ None }
         ensures replying { RepliesOver (HasCoefs spec number) (ReadsForSpec spec) result self.old self.new }
         ensures looked { LooksIn (Some number) result self.old self.new }
-        ensures quiet { result ≢ Err ServiceError.DiskFault → (shown.view self.new).faults ≡ (shown.view self.old).faults }
         ensures stays { StaysIn number result self.old.sessions self.new.sessions }
     {
         let planned = match self.plan(number, &spec) {
@@ -121,8 +117,6 @@ impl<P: Pages> Service<P> {
         ensures planned { shown.ForBook self.old (λ total book. IsSomeAnd (slice_get book spec.now.series) (λ series. PlansOrStops series spec.now (session_of number self.old.sessions) result)) }
         ensures good { IfOk result IsGoodPlan }
         ensures cause { IfErr result (λ error. IsPlanCause error (shown.IsTold self.old) (shown.catalog self.old) (shown.total self.old) (shown.view self.old) (shown.view self.new)) }
-        ensures quiet { OnOk result ((shown.view self.new).faults ≡ (shown.view self.old).faults) }
-        ensures quiet_err { IfErr result (λ e. e ≢ PlanError.Node NodeError.DiskFault → (shown.view self.new).faults ≡ (shown.view self.old).faults) }
         ensures looks { LooksOnly self.old self.new }
         ensures reads { shown.ForBook self.old (λ total book. ReadsFor spec.now.grid.w (slice_get book spec.now.series) (shown.view self.old).reads (shown.view self.new).reads) }
         ensures sessions { self.new.sessions ≡ self.old.sessions }

@@ -53,7 +53,6 @@ pub fn answer_lines<P: PageWorld, S, F, R: Reply<S, F>>(
     ensures read { result ≡ Err (AnswerEnd.Serve ServeEnd.ReadFault) → HasRisen (P.read_faults (shown.pages service.old)) (P.read_faults (shown.pages service.new)) }
     ensures send { result ≡ Err (AnswerEnd.Serve ServeEnd.SendFault) → HasRisen (P.send_faults (shown.pages service.old)) (P.send_faults (shown.pages service.new)) }
     ensures disk { result ≡ Err (AnswerEnd.Serve ServeEnd.DiskFault) → HasRisen (shown.view service.old).faults (shown.view service.new).faults }
-    ensures quiet { result ≢ Err (AnswerEnd.Serve ServeEnd.DiskFault) → (shown.view service.new).faults ≡ (shown.view service.old).faults }
     // where the open sessions are known, a frame whose bytes weren't made names known ones
     ensures known { (knows : S → ℕ → Bool) → Follows R.makes knows → KnowsOpen knows kept.old service.old.sessions → IfErr result (EndsKnown R.makes knows) }
     ensures bad { IfErr result (EndsAtBad (shown.IsTold service.new) (shown.view service.new).size (shown.image service.new)) }
@@ -98,7 +97,6 @@ fn answer_edits<P: PageWorld, S, F, R: Reply<S, F>>(
     ensures named { (knows : S → ℕ → Bool) → Follows R.makes knows → KnowsOpen knows kept.old service.old.sessions → IfErr result (EndsKnown R.makes knows) }
     ensures send { result ≡ Err (AnswerEnd.Serve ServeEnd.SendFault) → HasRisen (P.send_faults (shown.pages service.old)) (P.send_faults (shown.pages service.new)) }
     ensures disk { result ≡ Err (AnswerEnd.Serve ServeEnd.DiskFault) → HasRisen (shown.view service.old).faults (shown.view service.new).faults }
-    ensures quiet { result ≢ Err (AnswerEnd.Serve ServeEnd.DiskFault) → (shown.view service.new).faults ≡ (shown.view service.old).faults }
     ensures read { result ≢ Err (AnswerEnd.Serve ServeEnd.ReadFault) }
     ensures bad { IfErr result (EndsAtBad (shown.IsTold service.new) (shown.view service.new).size (shown.image service.new)) }
     ensures serves { Serves (shown.IsTold service.old) (shown.IsTold service.new) (shown.view service.old) (shown.view service.new) }
@@ -166,7 +164,6 @@ fn answer_line<P: PageWorld, S, F, R: Reply<S, F>>(
     ensures named { (knows : S → ℕ → Bool) → Follows R.makes knows → KnowsOpen knows kept.old service.old.sessions → IfErr result (EndsKnown R.makes knows) }
     ensures send { result ≡ Err (AnswerEnd.Serve ServeEnd.SendFault) → HasRisen (P.send_faults (shown.pages service.old)) (P.send_faults (shown.pages service.new)) }
     ensures disk { result ≡ Err (AnswerEnd.Serve ServeEnd.DiskFault) → HasRisen (shown.view service.old).faults (shown.view service.new).faults }
-    ensures quiet { result ≢ Err (AnswerEnd.Serve ServeEnd.DiskFault) → (shown.view service.new).faults ≡ (shown.view service.old).faults }
     ensures read { result ≢ Err (AnswerEnd.Serve ServeEnd.ReadFault) }
     ensures bad { IfErr result (EndsAtBad (shown.IsTold service.new) (shown.view service.new).size (shown.image service.new)) }
     ensures serves { Serves (shown.IsTold service.old) (shown.IsTold service.new) (shown.view service.old) (shown.view service.new) }

@@ -1,5 +1,5 @@
 //! A service does edits together.
-ghost use Rattle.std.specs.Prelude.{◌≡◌, ◌≢◌, ◌≤◌, ◌<◌, ◌+◌, ◌*◌, ◌^◌, ℕ, List, ◌++◌, All, length, map, IfOk, IfErr, OnOk, Err};
+ghost use Rattle.std.specs.Prelude.{◌≡◌, ◌≢◌, ◌≤◌, ◌<◌, ◌+◌, ◌*◌, ◌^◌, ℕ, List, ◌++◌, All, length, map, IfOk, IfErr, OnOk};
 ghost use Rattle.block_disk.specs.Counts.{HasRisen};
 ghost use Rattle.chart_frames.specs.Frames.{Fits};
 ghost use Rattle.gate_pages.specs.Pages.{GoesOn};
@@ -47,7 +47,6 @@ impl<P: Pages> Service<P> {
         ensures replies { IfOk result (λ frames. All IsEditReply frames.items) }
         ensures sessions { self.new.sessions ≡ self.old.sessions }
         ensures disk { result ≡ Err ServiceError.DiskFault → HasRisen (shown.view self.old).faults (shown.view self.new).faults }
-        ensures quiet { result ≢ Err ServiceError.DiskFault → (shown.view self.new).faults ≡ (shown.view self.old).faults }
         ensures bad { IfErr result (NamesBad (shown.IsTold self.new) (shown.view self.new).size (shown.image self.new)) }
         ensures moves { shown.MovesSo self.old self.new }
         ensures goes_on { GoesOn (shown.under self.old) (shown.under self.new) }
@@ -82,7 +81,6 @@ impl<P: Pages> Service<P> {
         ensures replies { All IsEditReply frames.old.items → OnOk result (All IsEditReply frames.new.items) }
         ensures sessions { self.new.sessions ≡ self.old.sessions }
         ensures disk { result ≡ Err ServiceError.DiskFault → HasRisen (shown.view self.old).faults (shown.view self.new).faults }
-        ensures quiet { result ≢ Err ServiceError.DiskFault → (shown.view self.new).faults ≡ (shown.view self.old).faults }
         ensures bad { IfErr result (NamesBad (shown.IsTold self.new) (shown.view self.new).size (shown.image self.new)) }
         ensures moves { shown.MovesSo self.old self.new }
         ensures goes_on { GoesOn (shown.under self.old) (shown.under self.new) }

@@ -1,5 +1,5 @@
 //! A service answers requests, lines, and repeats of views.
-ghost use Rattle.std.specs.Prelude.{◌≡◌, ◌≤◌, ◌^◌, ℕ, List, [], length, Some, IfOk, IfErr, IfSome, IsTrue, OnErr, OnOk, is_some, ◌≢◌, Err};
+ghost use Rattle.std.specs.Prelude.{◌≡◌, ◌≤◌, ◌^◌, ℕ, List, [], length, Some, IfOk, IfErr, IfSome, IsTrue, OnErr, OnOk, is_some};
 ghost use Rattle.block_disk.specs.Counts.{HasRisen};
 ghost use Rattle.block_disk.specs.View.{View, Now, Passes};
 ghost use Rattle.chart_frames.specs.Frames.{Fits};
@@ -51,7 +51,6 @@ impl<P: Pages> Service<P> {
         // a request that is no edit commits nothing
         ensures idle { edit_asked request.now ≡ [] → IsUnchanged (shown.IsTold self.old) (shown.view self.old) (shown.view self.new) }
         ensures cause { IfErr result (IsCause request.now self.old self.new) }
-        ensures quiet { result ≢ Err ServiceError.DiskFault → (shown.view self.new).faults ≡ (shown.view self.old).faults }
         ensures bad { IfErr result (NamesBad (shown.IsTold self.new) (shown.view self.new).size (shown.image self.new)) }
         ensures steps { Steps (shown.IsTold self.old) (shown.IsTold self.new) (shown.view self.old) (shown.view self.new) }
         ensures goes_on { GoesOn (shown.under self.old) (shown.under self.new) }
@@ -84,7 +83,6 @@ impl<P: Pages> Service<P> {
         ensures unchanged { CommitsOnly result self.old self.new }
         ensures idle { edit_of (line_text line.now) ≡ [] → IsUnchanged (shown.IsTold self.old) (shown.view self.old) (shown.view self.new) }
         ensures cause { IfErr result (IsCauseOfLine (line_text line.now) self.old self.new) }
-        ensures quiet { result ≢ Err ServiceError.DiskFault → (shown.view self.new).faults ≡ (shown.view self.old).faults }
         ensures disk { result ≡ Err ServiceError.DiskFault → HasRisen (shown.view self.old).faults (shown.view self.new).faults }
         ensures bad { IfErr result (NamesBad (shown.IsTold self.new) (shown.view self.new).size (shown.image self.new)) }
         ensures steps { Steps (shown.IsTold self.old) (shown.IsTold self.new) (shown.view self.old) (shown.view self.new) }
@@ -121,7 +119,6 @@ impl<P: Pages> Service<P> {
         ensures moments { shown.PassesTo (Now (shown.view self.old)) self.old self.new }
         ensures idle { IsUnchanged (shown.IsTold self.old) (shown.view self.old) (shown.view self.new) }
         ensures cause { ForLast session self.old (λ last. IfErr result (IsCause (own_zoom session last) self.old self.new)) }
-        ensures quiet { result ≢ Err ServiceError.DiskFault → (shown.view self.new).faults ≡ (shown.view self.old).faults }
         ensures bad { IfErr result (NamesBad (shown.IsTold self.new) (shown.view self.new).size (shown.image self.new)) }
         ensures steps { Steps (shown.IsTold self.old) (shown.IsTold self.new) (shown.view self.old) (shown.view self.new) }
         ensures goes_on { GoesOn (shown.under self.old) (shown.under self.new) }

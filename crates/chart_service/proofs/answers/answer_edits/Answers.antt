@@ -1,4 +1,4 @@
-use Rattle.std.proofs.Common.{◌≡◌, ◌∙◌, List, Err, ap, sym, subst, arith}
+use Rattle.std.proofs.Common.{◌≡◌, ◌∙◌, List, ap, sym, subst, arith}
 use Rattle.block_disk.specs.View.{Image, sent_now}
 use Rattle.chart_frames.specs.declared.frame.Frame.{Frame}
 use Rattle.series_book.specs.EditLists.{after_edits}
@@ -11,7 +11,7 @@ use Rattle.chart_service.specs.Serving.{end_of_step}
 use Rattle.chart_service.specs.Shown as shown
 use Rattle.chart_service.specs.Stepping.{StandsAfter, state_of}
 use Rattle.chart_service.specs.declared.failure.AnswerEnd.TheVariants.{Serve}
-use Rattle.chart_service.proofs.Ends.{err_is, error_is}
+use Rattle.chart_service.proofs.Ends.{err_is}
 use Rattle.chart_service.proofs.GroupReplies.{if_told, group_done, group_stops, edits_stop, edits_moments, group_moments}
 use Rattle.chart_service.proofs.Sending.{error_goes}
 use Rattle.chart_service.proofs.SyncLemmas.{always_ok, replied_book}
@@ -102,10 +102,3 @@ returns-clause-pieces g c =
     let pages = shown.pages c.args.service.now in
     let mid = shown.pages c.step_edits.new.self in
     c.send_replies.ensures.pieces ∙ sym (g.met.P.PageWorld.beside_pieces mid) ∙ ap (λ b. b.pieces) c.step_edits.ensures.moves.beside ∙ g.met.P.PageWorld.beside_pieces pages
-
-pub returns-in_err-frames-clause-quiet : goal.returns-in_err-frames-clause-quiet
-returns-in_err-frames-clause-quiet g c = λ other.
-    c.in_err-frames.ensures.quiet (λ same. other (error_is c.from_residual.result (Serve (end_of_step c.in_err-frames.field-0.0)) c.from_residual.ensures.1 ∙ ap (λ x. Err (Serve (end_of_step x))) (err_is same)))
-
-pub returns-clause-quiet : goal.returns-clause-quiet
-returns-clause-quiet g c = λ other. c.send_replies.ensures.keeps.disk.faults ∙ c.in_ok-frames.ensures.quiet (λ e. cc)

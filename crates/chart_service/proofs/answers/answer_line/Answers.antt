@@ -14,7 +14,7 @@ use Rattle.chart_service.specs.MomentLaws.{through_none}
 use Rattle.chart_service.specs.Syncing.{edit_of}
 use Rattle.chart_service.specs.declared.failure.AnswerEnd.TheVariants.{Serve}
 use Rattle.chart_service.proofs.DiskKept.{serves_none, serves_then, serves_kept, serves_step}
-use Rattle.chart_service.proofs.Ends.{err_is, differ, error_is, on_err, step_unread, step_unsent, step_fault, step_bad, step_sound, reply_bad, not_of_disk, not_of_input, stays}
+use Rattle.chart_service.proofs.Ends.{differ, error_is, on_err, step_unread, step_unsent, step_fault, step_bad, step_sound, reply_bad, not_of_disk, not_of_input, stays}
 use Rattle.chart_service.proofs.Known.{known_next, named_known, ends_known, same_opens}
 use Rattle.chart_service.proofs.SyncLemmas.{unchanged_kept}
 use Rattle.chart_service.proofs.TurnLemmas.{first_none, text_reads}
@@ -56,8 +56,6 @@ returns-in_err-frame g c =
       goes_on = c.step_line.ensures.goes_on;
       sound = λ other. step_sound (g.P.Pages.told pages) (g.P.Pages.view pages) (g.P.Pages.view pages') c.in_err-frame.field-0.0 c.requires.sound c.in_err-frame.ensures.unchanged
           (λ same. other (error_is c.from_residual.result (Serve (end_of_step c.in_err-frame.field-0.0)) c.from_residual.ensures.1 ∙ ap (λ x. Err (Serve (end_of_step x))) same));
-      quiet = λ other. c.in_err-frame.ensures.quiet
-          (λ same. other (error_is c.from_residual.result (Serve (end_of_step c.in_err-frame.field-0.0)) c.from_residual.ensures.1 ∙ ap (λ x. Err (Serve (end_of_step x))) (err_is same)));
       total = c.step_line.ensures.total;
       left = sym (g.met.P.PageWorld.beside_left pages') ∙ ap (λ b. b.left) c.step_line.ensures.steps.beside ∙ g.met.P.PageWorld.beside_left pages;
       read_faults = sym (g.met.P.PageWorld.beside_read_faults pages') ∙ ap (λ b. b.read_faults) c.step_line.ensures.steps.beside ∙ g.met.P.PageWorld.beside_read_faults pages;
@@ -125,7 +123,6 @@ returns g c =
           (serves_kept (told_in mid) (told_in pages') (view mid) (view pages') kept.disk kept.told kept.was_told);
       goes_on = goes_then (g.P.Pages.under pages) (g.P.Pages.under mid) (g.P.Pages.under pages') c.step_line.ensures.goes_on c.send_reply.ensures.keeps.goes_on;
       sound = λ other. c.send_reply.ensures.keeps.disk.fit c.in_ok-frame.ensures.sound;
-      quiet = λ other. c.send_reply.ensures.keeps.disk.faults ∙ c.in_ok-frame.ensures.quiet (λ e. cc);
       total = c.send_reply.ensures.total ∙ c.step_line.ensures.total;
       left = c.send_reply.ensures.left ∙ sym (g.met.P.PageWorld.beside_left mid) ∙ ap (λ b. b.left) c.step_line.ensures.steps.beside ∙ g.met.P.PageWorld.beside_left pages;
       read_faults = c.send_reply.ensures.read_faults ∙ sym (g.met.P.PageWorld.beside_read_faults mid) ∙ ap (λ b. b.read_faults) c.step_line.ensures.steps.beside ∙ g.met.P.PageWorld.beside_read_faults pages;
@@ -157,7 +154,6 @@ returns-then-is_empty g c =
       serves = serves_none (g.P.Pages.told at) (g.P.Pages.view at);
       goes_on = goes_none (g.P.Pages.under at);
       sound = λ other. c.requires.sound;
-      quiet = λ other. refl;
       total = refl;
       left = refl;
       read_faults = refl;

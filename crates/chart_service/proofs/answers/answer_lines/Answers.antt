@@ -46,7 +46,6 @@ lines-init g c =
       within = omega (arith, ap (λ r. r.given) fresh);
       whole = ap (λ r. input_length r.taken o) fresh;
       fit = c.requires;
-      quiet = refl;
       far = λ total book told stands. far_first g.R.Reply.makes c.args.kept.now o total book own before (view pages).image c.in_ok-lines.lines stands fresh;
       lasts = λ total book told stands. lasts_first g.R.Reply.makes c.args.kept.now o before total book own (view pages) c.in_ok-lines.lines
           (far_first g.R.Reply.makes c.args.kept.now o total book own before (view pages).image c.in_ok-lines.lines stands fresh) (g.met.P.Pages.rests pages c.requires) (g.met.P.PageWorld.counts_sent pages);
@@ -89,7 +88,6 @@ returns-in_err-lines g c =
       serves = serves_none (g.P.Pages.told (shown.pages c.args.service.now)) (g.P.Pages.view (shown.pages c.args.service.now));
       goes_on = goes_none (g.P.Pages.under (shown.pages c.args.service.now));
       sound = λ other. c.requires;
-      quiet = λ other. refl;
       rests = λ other. g.met.P.Pages.rests pages c.requires;
       total = refl;
     }
@@ -132,7 +130,6 @@ returns-in_err-next g c =
       serves = serves_then (told_in pages) (told_in mid) (told_in taken) (view pages) (view mid) (view taken) inv.serves (serves_disk (told_in mid) (told_in taken) (view mid) (view taken) kept (g.met.P.PageWorld.take_told mid taken takes) (g.met.P.PageWorld.take_was_told mid taken takes));
       goes_on = goes_then (g.P.Pages.under pages) (g.P.Pages.under mid) (g.P.Pages.under taken) inv.goes_on (g.met.P.PageWorld.take_goes_on mid taken takes);
       sound = λ other. kept.fit inv.fit;
-      quiet = λ other. (g.met.P.PageWorld.take_keeps (shown.pages c.lines.service) (shown.pages c.next.new.from) c.next.ensures.beside.store_is.pages_are).faults ∙ c.lines.invariant.quiet;
       rests = λ other. g.met.P.Pages.rests taken (kept.fit inv.fit);
       total = ap (λ (s : Superblock). s.total) c.next.ensures.beside.store_is.superblock ∙ c.lines.invariant.total_is;
     }
@@ -168,7 +165,6 @@ returns-in-End g c =
       serves = serves_then (told_in pages) (told_in mid) (told_in taken) (view pages) (view mid) (view taken) inv.serves (serves_disk (told_in mid) (told_in taken) (view mid) (view taken) kept (g.met.P.PageWorld.take_told mid taken takes) (g.met.P.PageWorld.take_was_told mid taken takes));
       goes_on = goes_then (g.P.Pages.under pages) (g.P.Pages.under mid) (g.P.Pages.under taken) inv.goes_on (g.met.P.PageWorld.take_goes_on mid taken takes);
       sound = λ other. kept.fit inv.fit;
-      quiet = λ other. (g.met.P.PageWorld.take_keeps (shown.pages c.lines.service) (shown.pages c.next.new.from) c.next.ensures.beside.store_is.pages_are).faults ∙ c.lines.invariant.quiet;
       rests = λ other. g.met.P.Pages.rests taken (kept.fit inv.fit);
       total = ap (λ (s : Superblock). s.total) c.next.ensures.beside.store_is.superblock ∙ c.lines.invariant.total_is;
     }
@@ -205,7 +201,6 @@ lines-preserved-in-Continue-branch-4 g c =
       within = next.within;
       whole = ap (λ l. input_length c.next.new.self.taken l) made.left ∙ next.total ∙ inv.whole;
       fit = made.keeps.disk.fit (kept.fit inv.fit);
-      quiet = made.keeps.disk.faults ∙ (g.met.P.PageWorld.take_keeps (shown.pages c.lines.service) (shown.pages c.next.new.from) c.next.ensures.beside.store_is.pages_are).faults ∙ c.lines.invariant.quiet;
       far = λ total book told stands.
           let far = far_kept g.R.Reply.makes c.args.kept.now o total book own before c.lines.kept c.lines.lines (g.P.Streams.left mid) (g.P.Streams.sent mid) (g.P.Streams.sent taken) (view mid).image (view taken).image c.lines.service.sessions c.next.new.from.sessions kept.image beside.sessions c.next.ensures.sent (inv.far total book told stands) in
           let told' = g.met.P.PageWorld.take_told mid taken takes (inv.serves.told told) in
@@ -288,7 +283,6 @@ returns-in_err-answer_long_line-in-TooLong g c =
       serves = serves_then (told_in pages) (told_in taken) (told_in new) (view pages) (view taken) (view new) (serves_then (told_in pages) (told_in mid) (told_in taken) (view pages) (view mid) (view taken) inv.serves (serves_disk (told_in mid) (told_in taken) (view mid) (view taken) kept (g.met.P.PageWorld.take_told mid taken takes) (g.met.P.PageWorld.take_was_told mid taken takes))) (serves_disk (told_in taken) (told_in new) (view taken) (view new) made.keeps.disk made.keeps.told made.keeps.was_told);
       goes_on = goes_then (g.P.Pages.under pages) (g.P.Pages.under taken) (g.P.Pages.under new) (goes_then (g.P.Pages.under pages) (g.P.Pages.under mid) (g.P.Pages.under taken) inv.goes_on (g.met.P.PageWorld.take_goes_on mid taken takes)) made.keeps.goes_on;
       sound = λ other. c.answer_long_line.ensures.keeps.disk.fit (kept.fit inv.fit);
-      quiet = λ other. c.answer_long_line.ensures.keeps.disk.faults ∙ (g.met.P.PageWorld.take_keeps (shown.pages c.lines.service) (shown.pages c.next.new.from) c.next.ensures.beside.store_is.pages_are).faults ∙ c.lines.invariant.quiet;
       rests = λ other. g.met.P.Pages.rests new (made.keeps.disk.fit (kept.fit inv.fit));
       total = c.answer_long_line.ensures.total ∙ ap (λ (s : Superblock). s.total) c.next.ensures.beside.store_is.superblock ∙ c.lines.invariant.total_is;
     }
@@ -331,7 +325,6 @@ lines-preserved g c =
       within = c.in_ok-edits-in-Line.ensures.within;
       whole = ap (λ l. input_length r.taken l) made.left ∙ ap (λ (x : Reading). input_length x.taken (g.P.Streams.left taken)) same ∙ next.total ∙ inv.whole;
       fit = c.in_ok-answer_line-in-None.ensures.sound (λ e. cc);
-      quiet = c.in_ok-answer_line-in-None.ensures.quiet (λ e. cc) ∙ (g.met.P.PageWorld.take_keeps (shown.pages c.lines.service) (shown.pages c.next.new.from) c.next.ensures.beside.store_is.pages_are).faults ∙ c.lines.invariant.quiet;
       far = λ total book told stands.
           let far = far_kept g.R.Reply.makes c.args.kept.now o total book own before c.lines.kept c.lines.lines (g.P.Streams.left mid) (g.P.Streams.sent mid) (g.P.Streams.sent taken) (view mid).image (view taken).image c.lines.service.sessions c.next.new.from.sessions kept.image beside.sessions c.next.ensures.sent (inv.far total book told stands) in
           let told' = g.met.P.PageWorld.take_told mid taken takes (inv.serves.told told) in
@@ -421,7 +414,6 @@ returns-in_err-answer_line-in-None g c =
       serves = serves_then (told_in pages) (told_in taken) (told_in new) (view pages) (view taken) (view new) (serves_then (told_in pages) (told_in mid) (told_in taken) (view pages) (view mid) (view taken) inv.serves (serves_disk (told_in mid) (told_in taken) (view mid) (view taken) kept (g.met.P.PageWorld.take_told mid taken takes) (g.met.P.PageWorld.take_was_told mid taken takes))) made.serves;
       goes_on = goes_then (g.P.Pages.under pages) (g.P.Pages.under taken) (g.P.Pages.under new) (goes_then (g.P.Pages.under pages) (g.P.Pages.under mid) (g.P.Pages.under taken) inv.goes_on (g.met.P.PageWorld.take_goes_on mid taken takes)) made.goes_on;
       sound = λ other. c.in_err-answer_line-in-None.ensures.sound (λ fault. other (error_is c.from_residual-in_err-answer_line-in-None.result c.in_err-answer_line-in-None.field-0.0 c.from_residual-in_err-answer_line-in-None.ensures.1 ∙ fault));
-      quiet = λ other. c.in_err-answer_line-in-None.ensures.quiet (λ fault. other (error_is c.from_residual-in_err-answer_line-in-None.result c.in_err-answer_line-in-None.field-0.0 c.from_residual-in_err-answer_line-in-None.ensures.1 ∙ fault)) ∙ (g.met.P.PageWorld.take_keeps (shown.pages c.lines.service) (shown.pages c.next.new.from) c.next.ensures.beside.store_is.pages_are).faults ∙ c.lines.invariant.quiet;
       rests = λ other. g.met.P.Pages.rests new (c.in_err-answer_line-in-None.ensures.sound (λ fault. other (error_is c.from_residual-in_err-answer_line-in-None.result c.in_err-answer_line-in-None.field-0.0 c.from_residual-in_err-answer_line-in-None.ensures.1 ∙ fault)));
       total = c.answer_line.ensures.total ∙ ap (λ (s : Superblock). s.total) c.next.ensures.beside.store_is.superblock ∙ c.lines.invariant.total_is;
     }
@@ -467,7 +459,6 @@ lines-preserved-in-Some g c =
       within = c.in_ok-edits-in-Line.ensures.within;
       whole = ap (λ l. input_length r.taken l) made.left ∙ ap (λ n. input_length n (g.P.Streams.left taken)) group.group.gathers.taken ∙ next.total ∙ inv.whole;
       fit = c.in_ok-answer_edits-in-Some.ensures.sound (λ e. cc);
-      quiet = c.in_ok-answer_edits-in-Some.ensures.quiet (λ e. cc) ∙ (g.met.P.PageWorld.take_keeps (shown.pages c.lines.service) (shown.pages c.next.new.from) c.next.ensures.beside.store_is.pages_are).faults ∙ c.lines.invariant.quiet;
       far = λ total book told stands.
           let far = far_kept g.R.Reply.makes c.args.kept.now o total book own before c.lines.kept c.lines.lines (g.P.Streams.left mid) (g.P.Streams.sent mid) (g.P.Streams.sent taken) (view mid).image (view taken).image c.lines.service.sessions c.next.new.from.sessions kept.image beside.sessions c.next.ensures.sent (inv.far total book told stands) in
           let told' = g.met.P.PageWorld.take_told mid taken takes (inv.serves.told told) in
@@ -562,7 +553,6 @@ returns-in_err-answer_edits-in-Some g c =
       serves = serves_then (told_in pages) (told_in taken) (told_in new) (view pages) (view taken) (view new) (serves_then (told_in pages) (told_in mid) (told_in taken) (view pages) (view mid) (view taken) inv.serves (serves_disk (told_in mid) (told_in taken) (view mid) (view taken) kept (g.met.P.PageWorld.take_told mid taken takes) (g.met.P.PageWorld.take_was_told mid taken takes))) made.serves;
       goes_on = goes_then (g.P.Pages.under pages) (g.P.Pages.under taken) (g.P.Pages.under new) (goes_then (g.P.Pages.under pages) (g.P.Pages.under mid) (g.P.Pages.under taken) inv.goes_on (g.met.P.PageWorld.take_goes_on mid taken takes)) made.goes_on;
       sound = λ other. c.in_err-answer_edits-in-Some.ensures.sound (λ fault. other (error_is c.from_residual-in_err-answer_edits-in-Some.result c.in_err-answer_edits-in-Some.field-0.0 c.from_residual-in_err-answer_edits-in-Some.ensures.1 ∙ fault));
-      quiet = λ other. c.in_err-answer_edits-in-Some.ensures.quiet (λ fault. other (error_is c.from_residual-in_err-answer_edits-in-Some.result c.in_err-answer_edits-in-Some.field-0.0 c.from_residual-in_err-answer_edits-in-Some.ensures.1 ∙ fault)) ∙ (g.met.P.PageWorld.take_keeps (shown.pages c.lines.service) (shown.pages c.next.new.from) c.next.ensures.beside.store_is.pages_are).faults ∙ c.lines.invariant.quiet;
       rests = λ other. g.met.P.Pages.rests new (c.in_err-answer_edits-in-Some.ensures.sound (λ fault. other (error_is c.from_residual-in_err-answer_edits-in-Some.result c.in_err-answer_edits-in-Some.field-0.0 c.from_residual-in_err-answer_edits-in-Some.ensures.1 ∙ fault)));
       total = c.answer_edits.ensures.total ∙ ap (λ (s : Superblock). s.total) c.next.ensures.beside.store_is.superblock ∙ c.lines.invariant.total_is;
     }
@@ -606,7 +596,6 @@ returns-in_err-edits-in-Line g c =
       serves = serves_then (told_in pages) (told_in mid) (told_in taken) (view pages) (view mid) (view taken) inv.serves (serves_disk (told_in mid) (told_in taken) (view mid) (view taken) kept (g.met.P.PageWorld.take_told mid taken takes) (g.met.P.PageWorld.take_was_told mid taken takes));
       goes_on = goes_then (g.P.Pages.under pages) (g.P.Pages.under mid) (g.P.Pages.under taken) inv.goes_on (g.met.P.PageWorld.take_goes_on mid taken takes);
       sound = λ other. kept.fit inv.fit;
-      quiet = λ other. (g.met.P.PageWorld.take_keeps (shown.pages c.lines.service) (shown.pages c.next.new.from) c.next.ensures.beside.store_is.pages_are).faults ∙ c.lines.invariant.quiet;
       rests = λ other. g.met.P.Pages.rests taken (kept.fit inv.fit);
       total = ap (λ (s : Superblock). s.total) c.next.ensures.beside.store_is.superblock ∙ c.lines.invariant.total_is;
     }

@@ -34,7 +34,6 @@ invariant-lines g l =
           → HasSynced (g.P.Streams.left first) total book (view first).syncs (g.P.Streams.pieces first) l.lines (g.P.Streams.left pages) (view pages).image (view pages).syncs (g.P.Streams.pieces pages);
       known : (knows : g.row.S.Denot → ℕ → Bool) → Follows g.R.Reply.makes knows → KnowsOpen knows l.initial.kept l.initial.service.sessions → KnowsOpen knows l.kept l.service.sessions;
       serves : Serves (told first) (told pages) (view first) (view pages);
-      quiet : (view pages).faults ≡ (view first).faults;
       goes_on : GoesOn (g.P.Pages.under first) (g.P.Pages.under pages);
       total_is : shown.total l.service ≡ shown.total l.initial.service;
       read_faults : g.P.Streams.read_faults first ≤ g.P.Streams.read_faults pages;

@@ -61,6 +61,3 @@ returns-clause-sound g c = λ other. c.answer_lines-answer.ensures.sound (λ is.
 
 pub returns-clause-rests : goal.returns-clause-rests
 returns-clause-rests g c = λ other. c.answer_lines-answer.ensures.rests (λ is. other (c.served.ensures ∙ ap serve_end is))
-
-pub returns-clause-quiet : goal.returns-clause-quiet
-returns-clause-quiet g c = λ other. c.answer_lines-answer.ensures.quiet (λ is. other (c.served.ensures ∙ ap serve_end is))

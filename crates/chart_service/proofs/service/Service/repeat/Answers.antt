@@ -68,7 +68,6 @@ returns g c =
       moments = looks.time;
       idle = unchanged _ _ _ _ _ _ _ _ _ _ looks;
       cause = subst C (sym viewed) (subst Why at (zoom_why r number t0 t1 (g.P.Pages.told (stored.pages store)) (stored.catalog store) (stored.numbers store) (g.P.Pages.view (stored.pages store)) (g.P.Pages.view (stored.pages new)) looked.cause));
-      quiet = c.zoom-reply.ensures.quiet;
       bad = look_bad r _ _ _ _ _ _ _ _ _ _ own looks looked.cause;
       steps = steps_so _ _ _ _ _ _ _ _ _ _ looks;
       goes_on = looks.goes_on;

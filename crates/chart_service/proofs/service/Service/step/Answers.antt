@@ -69,7 +69,6 @@ returns-in_default g c =
       unchanged = unchanged_so r (g.P.Pages.told (stored.pages store)) (g.P.Pages.view (stored.pages store)) (g.P.Pages.view (stored.pages new)) (unchanged _ _ _ _ _ _ _ _ _ _ looks);
       idle = λ none. unchanged _ _ _ _ _ _ _ _ _ _ looks;
       cause = c.look-reply.ensures.cause;
-      quiet = c.look-reply.ensures.quiet;
       bad = look_bad r _ _ _ _ _ _ _ _ _ _ own looks looked.cause;
       steps = steps_so _ _ _ _ _ _ _ _ _ _ looks;
       goes_on = looks.goes_on;

@@ -52,7 +52,6 @@ edits-preserved g c =
       fits = yes.fits inv.fits;
       replies = yes.replies inv.replies;
       sessions = c.edit_some.ensures.sessions ∙ inv.sessions;
-      quiet = c.edit_some.ensures.quiet (λ e. let no = sym c.in_ok-edit_some.was ∙ e in cc) ∙ inv.quiet;
       moves = group_then (told_in first) (told_in mid) (told_in new) (view first) (view mid) (view new) inv.moves c.edit_some.ensures.moves;
       goes_on = goes_then (g.P.Pages.under first) (g.P.Pages.under mid) (g.P.Pages.under new) inv.goes_on c.edit_some.ensures.goes_on;
       total = c.edit_some.ensures.total ∙ inv.total;
@@ -129,8 +128,3 @@ returns-in_err-edit_some-clause-syncs g c = λ total book told stands.
 
 pub returns-clause-syncs : goal.returns-clause-syncs
 returns-clause-syncs g c = λ total book told stands. group_end total book c.args.edits.now (length c.edits.frames.items) _ _ (c.edits.invariant.syncs total book told stands)
-
-pub returns-in_err-edit_some-clause-quiet : goal.returns-in_err-edit_some-clause-quiet
-returns-in_err-edit_some-clause-quiet g c = λ other.
-    c.in_err-edit_some.ensures.quiet (λ e. other (error_is c.from_residual.result c.in_err-edit_some.field-0.0 c.from_residual.ensures.1 ∙ ap Err (err_is e)))
-    ∙ c.edits.invariant.quiet
