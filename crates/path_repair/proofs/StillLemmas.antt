@@ -1,5 +1,5 @@
 -- A change of which no slot is told to be changed.
-use Rattle.std.proofs.Common.{◌≡◌, ◌≢◌, ℕ, ℤ, zero, suc, ◌+◌, ◌*◌, ◌^◌, ◌<◌, ◌≤◌, ◌++◌, ◌∷◌, ◌&&◌, Bool, true, false, eqb, ltb, List, length, get_or, slice_get, Option, None, Some, refl, sym, ap, subst, arith, inl, inr, ◌∙◌}
+use Rattle.std.proofs.Common.{◌≡◌, ◌≢◌, ℕ, ℤ, suc, ◌+◌, ◌*◌, ◌^◌, ◌<◌, ◌≤◌, ◌++◌, ◌∷◌, ◌&&◌, Bool, true, false, eqb, List, length, get_or, slice_get, Option, None, Some, refl, sym, ap, subst, arith, inl, inr, ◌∙◌}
 use Rattle.std.proofs.lemmas.Bool.{cases_lt, le-ltb}
 use Rattle.std.proofs.lemmas.Bool.Decides.{eqb_tells}
 use Rattle.std.proofs.lemmas.List.{same_lists}
@@ -16,9 +16,9 @@ use Rattle.page_space.specs.Spaces.{times}
 use Rattle.tree_walk.specs.Trees.{top_of_page}
 use Rattle.node_page.specs.Fields.{child_at}
 use Rattle.path_repair.specs.Changes.{value_of, slot_at, new_slot, HasNew, AreSame}
-use Rattle.path_repair.specs.Costs.{touch, is_touched, is_new_root, IsSettled}
+use Rattle.path_repair.specs.Costs.{touch, is_new_root, IsSettled}
 use Rattle.path_repair.specs.TreePages.{tree_pages, low, IsRooted}
-use Rattle.path_repair.specs.Standing.{AreTold, AreLists, IsPlaced, IsRepaired, ForPlaced, Moved}
+use Rattle.path_repair.specs.Standing.{AreLists, IsPlaced, IsRepaired, ForPlaced, Moved}
 use Rattle.path_repair.proofs.ListLemmas.{width, tree_same, over_same}
 use Rattle.path_repair.proofs.MoveLemmas.{told_on, moved_more}
 use Rattle.path_repair.proofs.PartLemmas.{rest}

@@ -6,7 +6,7 @@ ghost use Rattle.page_space.specs.Transactions.{held, left_by};
 ghost use Rattle.series_book.specs.declared.limits.TheConstants.{MOST_SLOTS};
 ghost use Rattle.series_book.specs.declared.one_series.Series.{Series};
 ghost use Rattle.series_book.specs.Edits.{IsEdit, apply};
-ghost use Rattle.series_store.specs.Results.{IsDone, IsRefusedWith, IsBeforeOrAfter, IsEditCause, IsUnchangedFor, ClearsNone, CommitsNone};
+ghost use Rattle.series_store.specs.Results.{IsDone, IsRefusedWith, IsBeforeOrAfter, IsEditCause, IsUnchangedFor, ClearsNone, CommitsNone, KeepsBook};
 ghost use Rattle.series_store.specs.Shown as shown;
 ghost use Rattle.stored_book.specs.Standing.{StandsForBook};
 
@@ -35,7 +35,9 @@ impl<P: Pages> Store<P> {
         ensures goes_on { shown.TimeGoesOn self.old self.new }
         ensures cause { IfErr result (λ e. IsEditCause e (shown.IsTold self.old) (shown.numbers self.old) (shown.view self.old) (shown.view self.new)) }
         ensures unchanged { IfErr result (λ e. IsUnchangedFor e (shown.IsTold self.old) (shown.view self.old) (shown.view self.new)) }
-        // an edit that changes no slot writes and syncs nothing
+        // an edit that leaves the book as it is writes and syncs nothing
+        ensures same_book { shown.ForBook self.old (λ total book. KeepsBook book (apply book total edit.now) → CommitsNone (shown.view self.old) (shown.view self.new)) }
+        // nor does a clear of slots that aren't there
         ensures idle { shown.ForBook self.old (λ total book. ClearsNone book edit.now → CommitsNone (shown.view self.old) (shown.view self.new)) }
         ensures sound { OnOk result (shown.IsSound self.new) }
         ensures total { shown.total self.new ≡ shown.total self.old }
@@ -56,6 +58,7 @@ impl<P: Pages> Store<P> {
         ensures answered { shown.ForBook self.old (λ total book. shown.Answers (apply book total edit.now) total book result self.old self.new) }
         ensures carried { shown.CarriesOut result self.old self.new }
         ensures none_cleared { shown.ForBook self.old (λ total book. ClearsNone book edit.now → CommitsNone (shown.view self.old) (shown.view self.new)) }
+        ensures kept { shown.ForBook self.old (λ total book. KeepsBook book (apply book total edit.now) → CommitsNone (shown.view self.old) (shown.view self.new)) }
         ensures idle { shown.SelectsNone self.new }
         ensures more { length (shown.catalog self.old) ≤ length (shown.catalog self.new) }
     {

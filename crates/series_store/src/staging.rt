@@ -10,7 +10,7 @@ ghost use Rattle.stored_book.specs.Standing.{StandsForBook};
 ghost use Rattle.series_book.specs.declared.edits.Edit.TheVariants.{Append, Set, Clear};
 ghost use Rattle.series_book.specs.Edits.{IsEdit, apply};
 ghost use Rattle.series_store.specs.Groups.{touch_of};
-ghost use Rattle.series_store.specs.Results.{ClearsNone};
+ghost use Rattle.series_store.specs.Results.{ClearsNone, KeepsBook};
 ghost use Rattle.series_store.specs.declared.staged.Undo.{Undo};
 
 use crate::creating::create;
@@ -39,6 +39,7 @@ pub(crate) fn stage<P: Pages>(
     ensures carried { stages.Stages result space.old space.new txn.old txn.new catalog.old catalog.new }
     // an edit that changes no slot stages nothing
     ensures none_cleared { stages.ForStaged space.old txn.old (λ total book. ClearsNone book edit.now → IfOk result (λ staged. staged.undo ≡ Undo.Nothing)) }
+    ensures kept { stages.ForStaged space.old txn.old (λ total book. KeepsBook book (apply book total edit.now) → IfOk result (λ staged. staged.undo ≡ Undo.Nothing)) }
 {
     match edit {
         Edit::Create {
@@ -66,6 +67,7 @@ fn append<P: Pages>(
     requires is_edit { IsEdit (Append name.now values.now) }
     ensures answered { stages.ForStaged space.old txn.old (λ total book. stages.AnswersSo (apply book total (Append name.now values.now)) (touch_of book (Append name.now values.now)) total result space.new txn.old txn.new) }
     ensures carried { stages.Stages result space.old space.new txn.old txn.new catalog.old catalog.new }
+    ensures kept { stages.ForStaged space.old txn.old (λ total book. KeepsBook book (apply book total (Append name.now values.now)) → IfOk result (λ staged. staged.undo ≡ Undo.Nothing)) }
 {
     let Some(id) = catalog.find(name) else {
         return Err(StoreError::Refused(Refusal::UnknownSeries));
@@ -92,6 +94,7 @@ fn set<P: Pages>(
     requires is_edit { IsEdit (Set name.now time values.now) }
     ensures answered { stages.ForStaged space.old txn.old (λ total book. stages.AnswersSo (apply book total (Set name.now time values.now)) (touch_of book (Set name.now time values.now)) total result space.new txn.old txn.new) }
     ensures carried { stages.Stages result space.old space.new txn.old txn.new catalog.old catalog.new }
+    ensures kept { stages.ForStaged space.old txn.old (λ total book. KeepsBook book (apply book total (Set name.now time values.now)) → IfOk result (λ staged. staged.undo ≡ Undo.Nothing)) }
 {
     let Some(id) = catalog.find(name) else {
         return Err(StoreError::Refused(Refusal::UnknownSeries));
@@ -118,6 +121,7 @@ fn clear<P: Pages>(
     requires few { length (held txn.old) ≤ 22 }
     ensures answered { stages.ForStaged space.old txn.old (λ total book. stages.AnswersSo (apply book total (Clear name.now time count)) (touch_of book (Clear name.now time count)) total result space.new txn.old txn.new) }
     ensures carried { stages.Stages result space.old space.new txn.old txn.new catalog.old catalog.new }
+    ensures kept { stages.ForStaged space.old txn.old (λ total book. KeepsBook book (apply book total (Clear name.now time count)) → IfOk result (λ staged. staged.undo ≡ Undo.Nothing)) }
     ensures none_cleared { stages.ForStaged space.old txn.old (λ total book. ClearsNone book (Clear name.now time count) → IfOk result (λ staged. staged.undo ≡ Undo.Nothing)) }
 {
     let Some(id) = catalog.find(name) else {
