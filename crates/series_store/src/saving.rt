@@ -69,6 +69,8 @@ pub(crate) fn put<P: Pages>(
     ensures answered { stages.AnswersPut id slot values.now result space.old space.new txn.old txn.new }
     ensures carried { stages.Stages result space.old space.new txn.old txn.new catalog.old catalog.new }
     ensures kept { stages.ForStagedSeries space.old txn.old id (λ total book series. KeepsBook book (after_put total book id series slot values.now) → IfOk result (λ staged. staged.undo ≡ Undo.Nothing)) }
+    ensures quiet { OnOk result ((spaces.view space.new).faults ≡ (spaces.view space.old).faults) }
+    ensures quiet_err { IfErr result (λ e. e ≢ StoreError.DiskFault → (spaces.view space.new).faults ≡ (spaces.view space.old).faults) }
 {
     let old = catalog.series(id).tree;
     let mut changed = false;
@@ -98,6 +100,8 @@ pub(crate) fn clear_slots<P: Pages>(
     ensures answered { stages.AnswersCleared id slot count result space.old space.new txn.old txn.new }
     ensures carried { stages.Stages result space.old space.new txn.old txn.new catalog.old catalog.new }
     ensures kept { stages.ForStagedSeries space.old txn.old id (λ total book series. KeepsBook book (Ok (with_cleared book id series slot count)) → IfOk result (λ staged. staged.undo ≡ Undo.Nothing)) }
+    ensures quiet { OnOk result ((spaces.view space.new).faults ≡ (spaces.view space.old).faults) }
+    ensures quiet_err { IfErr result (λ e. e ≢ StoreError.DiskFault → (spaces.view space.new).faults ≡ (spaces.view space.old).faults) }
 {
     let old = catalog.series(id).tree;
     let mut changed = false;
@@ -133,6 +137,8 @@ fn save<P: Pages>(
     ensures space { spaces.numbers space.new ≡ spaces.numbers space.old }
     ensures error { IfErr result (λ e. e ≡ StoreError.DiskFault) }
     ensures cause { OnErr result (HasRisen (spaces.view space.old).faults (spaces.view space.new).faults) }
+    ensures quiet { OnOk result ((spaces.view space.new).faults ≡ (spaces.view space.old).faults) }
+    ensures quiet_err { IfErr result (λ e. e ≢ StoreError.DiskFault → (spaces.view space.new).faults ≡ (spaces.view space.old).faults) }
 {
     put_record(space, txn, id, catalog.series(id), tree)?;
     let old = catalog.series(id).tree;

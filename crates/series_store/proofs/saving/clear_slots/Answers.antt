@@ -22,6 +22,7 @@ use Rattle.series_store.proofs.StageLemmas.{clear_touch}
 use Rattle.series_store.proofs.KeptLemmas.{with_same, staging_kept, staged_kept, kept_stands, slots_back}
 use Rattle.series_store.proofs.RecordLemmas.{known_some}
 use Rattle.series_store.proofs.StageLemmas.{later_staged, staged_error, staged_saved, staged_store, staging_error, staging_saved}
+use Rattle.tree_walk.proofs.StepLemmas.{error_so}
 use Rattle.series_store.proofs.saving.clear_slots.Goals as goal
 
 pub clear_run-requires-clause-root : goal.clear_run-requires-clause-root
@@ -264,3 +265,8 @@ returns-clause-kept g c = λ total book series told' stands found keeps.
     let no_more : c.is_kept.result ≡ false = c.if-is_kept.false in
     cc (yes, no_more) in
     absurd (other (slots_back book c.args.id series slots found (keeps (with_cleared book c.args.id series c.args.slot c.args.count) refl)))
+
+pub returns-in_err-tree-clause-quiet_err : goal.returns-in_err-tree-clause-quiet_err
+returns-in_err-tree-clause-quiet_err g c =
+    error_so _ _ c.from_residual.result c.from_residual.ensures.1
+    (λ e same other. c.in_err-tree.ensures.quiet_err (λ is. other (same ∙ ap error_of is)))

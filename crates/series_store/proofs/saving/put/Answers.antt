@@ -23,6 +23,7 @@ use Rattle.series_store.proofs.KeptLemmas.{with_same, staging_kept, staged_kept,
 use Rattle.series_store.proofs.RecordLemmas.{known_some}
 use Rattle.series_store.proofs.SlotLemmas.{are_values}
 use Rattle.series_store.proofs.StageLemmas.{full_same, later_staged, staged_error, staged_saved, staged_store, staging_error, staging_saved}
+use Rattle.tree_walk.proofs.StepLemmas.{error_so}
 use Rattle.series_store.proofs.saving.put.Goals as goal
 
 pub put_run-requires-clause-root : goal.put_run-requires-clause-root
@@ -277,3 +278,8 @@ returns-clause-kept g c = λ total book series told' stands found keeps.
     cc (yes, no_more) in
     put_keeps total book c.args.id series slots (touched_slots series c.args.slot (c.args.slot + length run)) c.save.result txn c.save.new.txn (left_by c.save.new.txn (view c.save.new.space.pages).image) found
     (returns-clause-answered g c total book series told' stands found) keeps other
+
+pub returns-in_err-tree-clause-quiet_err : goal.returns-in_err-tree-clause-quiet_err
+returns-in_err-tree-clause-quiet_err g c =
+    error_so _ _ c.from_residual.result c.from_residual.ensures.1
+    (λ e same other. c.in_err-tree.ensures.quiet_err (λ is. other (same ∙ ap error_of is)))
