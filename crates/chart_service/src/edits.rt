@@ -5,6 +5,7 @@ ghost use Rattle.chart_frames.specs.Frames.{Fits};
 ghost use Rattle.gate_pages.specs.Pages.{GoesOn, Quiet};
 ghost use Rattle.series_book.specs.declared.one_series.Series.{Series};
 ghost use Rattle.series_book.specs.Edits.{IsEdit, apply};
+ghost use Rattle.series_store.specs.Results.{KeepsBook, CommitsNone};
 ghost use Rattle.stored_book.specs.Standing.{StandsForBook};
 ghost use Rattle.request_lines.specs.declared.requests.Request.TheVariants.{Edit as EditRequest};
 ghost use Rattle.chart_service.specs.Opening.{OpensBy};
@@ -33,6 +34,7 @@ impl<P: Pages> Service<P> {
         ensures opens { IfOk result (λ frame. OpensBy frame self.old.sessions self.new.sessions) }
         ensures sessions { self.new.sessions ≡ self.old.sessions }
         ensures unchanged { CommitsOnly result self.old self.new }
+        ensures same_book { shown.ForBook self.old (λ total book. KeepsBook book (apply book total edit.now) → CommitsNone (shown.view self.old) (shown.view self.new)) }
         ensures cause { IfErr result (IsCause (EditRequest edit.now) self.old self.new) }
         ensures steps { Steps (shown.IsTold self.old) (shown.IsTold self.new) (shown.view self.old) (shown.view self.new) }
         ensures goes_on { GoesOn (shown.under self.old) (shown.under self.new) }

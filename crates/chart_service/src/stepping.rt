@@ -1,12 +1,13 @@
 //! A service answers requests, lines, and repeats of views.
-ghost use Rattle.std.specs.Prelude.{◌≡◌, ◌≤◌, ◌^◌, ℕ, List, [], length, Some, IfOk, IfErr, IfSome, IsTrue, OnErr, OnOk, is_some};
+ghost use Rattle.std.specs.Prelude.{◌≡◌, ◌≤◌, ◌^◌, ℕ, List, [], All, length, Some, IfOk, IfErr, IfSome, IsTrue, OnErr, OnOk, is_some};
 ghost use Rattle.block_disk.specs.Counts.{HasRisen};
 ghost use Rattle.block_disk.specs.View.{View, Now, Passes};
 ghost use Rattle.chart_frames.specs.Frames.{Fits};
 ghost use Rattle.gate_pages.specs.Pages.{GoesOn, Quiet};
 ghost use Rattle.request_lines.specs.Requests.{IsInRange};
 ghost use Rattle.series_book.specs.declared.one_series.Series.{Series};
-ghost use Rattle.series_store.specs.Results.{IsUnchanged};
+ghost use Rattle.series_book.specs.Edits.{apply};
+ghost use Rattle.series_store.specs.Results.{IsUnchanged, KeepsBook, CommitsNone};
 ghost use Rattle.stored_book.specs.Standing.{StandsForBook};
 ghost use Rattle.chart_service.specs.Alone.{session_in, session_named};
 ghost use Rattle.chart_service.specs.Opening.{OpensBy, LosesAtMost, StaysIn};
@@ -50,6 +51,8 @@ impl<P: Pages> Service<P> {
         ensures unchanged { CommitsOnly result self.old self.new }
         // a request that is no edit commits nothing
         ensures idle { edit_asked request.now ≡ [] → IsUnchanged (shown.IsTold self.old) (shown.view self.old) (shown.view self.new) }
+        // nor does an edit that leaves the book as it is
+        ensures same_book { shown.ForBook self.old (λ total book. All (λ edit. KeepsBook book (apply book total edit)) (edit_asked request.now) → CommitsNone (shown.view self.old) (shown.view self.new)) }
         ensures cause { IfErr result (IsCause request.now self.old self.new) }
         ensures bad { IfErr result (NamesBad (shown.IsTold self.new) (shown.view self.new).size (shown.image self.new)) }
         ensures steps { Steps (shown.IsTold self.old) (shown.IsTold self.new) (shown.view self.old) (shown.view self.new) }

@@ -19,3 +19,4 @@ pub mod CallLemmas
 pub mod DamageLemmas
 pub mod ApartLemmas
 pub mod StoredLemmas
+pub mod StillLemmas

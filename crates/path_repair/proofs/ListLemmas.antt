@@ -15,11 +15,7 @@ use Rattle.om3_coeff.proofs.KeyLemmas.{left_first, right_end, left_some, right_s
 use Rattle.node_page.specs.Fields.{child_at}
 use Rattle.node_page.specs.Places.{page_level, page_index, below_top}
 use Rattle.tree_walk.specs.Trees.{top_of_page, IsTree, HoldsNodes}
-use Rattle.path_repair.specs.Changes.{value_of, slot_at}
-
--- the lists hold the same in the slots from a on and below b
-abbrev pub AreSame : List (Option ℤ) → List (Option ℤ) → ℕ → ℕ → Type 0
-AreSame list list' a b = (i : ℕ) → a ≤ i → i < b → slot_at list' i ≡ slot_at list i
+use Rattle.path_repair.specs.Changes.{value_of, slot_at, AreSame}
 
 pub same_within : (list list' : List (Option ℤ)) (a b c d : ℕ) → AreSame list list' a b → a ≤ c → d ≤ b → AreSame list list' c d
 same_within list list' a b c d same low high i from to = same i (omega (arith, low, from)) (omega (arith, to, high))

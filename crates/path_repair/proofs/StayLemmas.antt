@@ -10,12 +10,12 @@ use Rattle.om3_coeff.proofs.ExtremeLemmas.{none-clear, clear-none}
 use Rattle.page_space.specs.declared.superblock.Superblock.{Superblock}
 use Rattle.page_space.specs.Spaces.{times, Stands}
 use Rattle.tree_walk.specs.Trees.{top_of_page, IsTree}
-use Rattle.path_repair.specs.Changes.{value_of, slot_at, given, new_slot, IsChanged, HasNew}
+use Rattle.path_repair.specs.Changes.{value_of, slot_at, given, new_slot, IsChanged, HasNew, AreSame}
 use Rattle.path_repair.specs.Costs.{is_touched, is_new_root, IsSettled}
 use Rattle.path_repair.specs.TreePages.{tree_pages, low, IsRooted}
 use Rattle.path_repair.specs.Standing.{AreLists, IsPlaced, IsRepaired}
 use Rattle.path_repair.proofs.TreeLemmas.{no_pages, no_slots, low_fits}
-use Rattle.path_repair.proofs.ListLemmas.{AreSame, slot_span, tree_same, over_same}
+use Rattle.path_repair.proofs.ListLemmas.{slot_span, tree_same, over_same}
 
 pub same_pages : (count : ℕ) (image : Image) (s : Superblock) (taken taken' freed : List ℕ) → Stands count image s taken freed → ((p : ℕ) → times p taken ≡ times p taken') → Stands count image s taken' freed
 same_pages count image s taken taken' freed stands same = record {
@@ -153,7 +153,7 @@ settled count image s first end values list list' height level index page top ot
 ]
 
 -- a slot's key
-slot_top : (list : List (Option ℤ)) (index : ℕ) → span list (top_of_page 0 index) ≡ span_of_slot (slot_at list index)
+pub slot_top : (list : List (Option ℤ)) (index : ℕ) → span list (top_of_page 0 index) ≡ span_of_slot (slot_at list index)
 slot_top list index =
     let one : 2 ^ (7 * 0) ≡ 1 = refl in
     ap₂ (λ a b. span_over list a b) (omega (arith, ap (λ w. index * w) one)) (omega (arith, ap (λ w. (index + 1) * w) one)) ∙ slot_span list index

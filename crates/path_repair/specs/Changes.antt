@@ -32,6 +32,10 @@ pub record IsEdited (first end slots : ℕ) (values list list' : List (Option �
   pub length_is : length list' ≡ slots
   pub slots_are : IsChanged first end values list list'
 
+-- the lists hold the same in the slots from a on and below b
+abbrev pub AreSame : List (Option ℤ) → List (Option ℤ) → ℕ → ℕ → Type 0
+AreSame list list' a b = (i : ℕ) → a ≤ i → i < b → slot_at list' i ≡ slot_at list i
+
 -- a slot from a on and below b is given a value
 pub record HasNew (first end : ℕ) (values : List (Option ℤ)) (a b : ℕ) : Type 0 where
   pub slot : ℕ

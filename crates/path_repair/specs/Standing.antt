@@ -10,7 +10,7 @@ use Rattle.page_space.specs.declared.superblock.Superblock.{Superblock}
 use Rattle.page_space.specs.Spaces.{times, Stands}
 use Rattle.tree_walk.specs.Trees.{top_of_page, IsTree}
 use Rattle.page_space.specs.declared.txn.Txn.{Txn}
-use Rattle.page_space.specs.Transactions.{held}
+use Rattle.page_space.specs.Transactions.{held, left_by}
 use Rattle.tree_walk.specs.SpaceViews.{StaysOn}
 use Rattle.path_repair.specs.declared.errors.RepairError.{RepairError}
 use Rattle.path_repair.specs.declared.errors.RepairError.TheVariants.{Full, DiskFault, Damaged, NoMemory}
@@ -55,6 +55,13 @@ pub record IsPlaced (count : ℕ) (image : Image) (s : Superblock) (list list' :
   pub freed : List ℕ
   pub stands : Stands count image s (tree_pages image (low height level) page ++ others) freed
   pub roomy : 17 + length others + count_where (is_stored_in_either list list') level index ≤ s.total
+
+-- so of each list that the pages stand for there, as a transaction would leave them, and of the one that a change of these
+-- slots makes of it
+abbrev pub ForPlaced : Type 0 → View → Txn → ℕ → ℕ → List (Option ℤ) → ℕ → ℕ → ℕ → ℕ → Option Span → (List (Option ℤ) → List (Option ℤ) → Type 0) → Type 0
+ForPlaced told view txn first end values height level index page top IsSo =
+    (base : Image) (count : ℕ) (list list' : List (Option ℤ)) (others : List ℕ) → AreTold told view base → AreLists first end values list list'
+    → IsPlaced count (left_by txn base) txn.superblock list list' height level index page top others → IsSo list list'
 
 -- the pages stand for the list there, and those of the others are as they were
 pub record IsRepaired (count : ℕ) (before image : Image) (s : Superblock) (list : List (Option ℤ)) (level index page : ℕ) (top : Option Span) (others : List ℕ) : Type 0 where

@@ -1,5 +1,5 @@
 //! The changes of a tree.
-ghost use Rattle.std.specs.Prelude.{◌≡◌, ◌<◌, ◌≤◌, ◌+◌, ◌-◌, ◌*◌, ◌^◌, ℕ, ℤ, [], ◌∷◌, max, Some, length, slice_get, IfOk, IfErr, ◌≢◌, OnOk};
+ghost use Rattle.std.specs.Prelude.{◌≡◌, ◌<◌, ◌≤◌, ◌+◌, ◌-◌, ◌*◌, ◌^◌, ℕ, ℤ, [], ◌∷◌, max, Some, false, length, slice_get, IfOk, IfErr, OnOk, ◌≢◌};
 ghost use Rattle.om3_coeff.specs.Keys.{page_levels as levels_of};
 ghost use Rattle.om3_coeff.specs.Spans.{IsProperIfAny};
 ghost use Rattle.whole_number.specs.Range.{IsValue};
@@ -35,6 +35,7 @@ fn fill<P: Pages>(
     slots: Slots,
     values: &[Option<i64>],
     len: u64,
+    changed: &mut bool,
 ) -> Result<Tree, RepairError>
     requires sound { shown.IsSound space.old }
     requires total { txn.old.superblock.total ≡ shown.total space.old }
@@ -60,6 +61,12 @@ fn fill<P: Pages>(
         (λ base count list list' others. IfOk result (λ new. IsAfter txn.old txn.new base count new list' others)) }
     ensures errors { repairs.ForEdit space.old txn.old tree (edit_of slots.first slots.end len values.now)
         (λ base count list list' others. IfErr result (λ e. IsErrorFor txn.old txn.new list list' e)) }
+    ensures was { changed.new ≡ false → changed.old ≡ false }
+    ensures kept { changed.new ≡ false → OnOk result (txn.new ≡ txn.old) }
+    ensures same { changed.new ≡ false → repairs.ForEdit space.old txn.old tree (edit_of slots.first slots.end len values.now)
+        (λ base count list list' others. length list' ≡ length list → OnOk result (list' ≡ list)) }
+    ensures idle { changed.old ≡ false → repairs.ForEdit space.old txn.old tree (edit_of slots.first slots.end len values.now)
+        (λ base count list list' others. list' ≡ list → OnOk result (changed.new ≡ false)) }
 {
     let height = page_levels(tree.slots);
     let level = page_levels(len);
@@ -78,7 +85,7 @@ fn fill<P: Pages>(
         page: tree.root,
         span: tree.span,
     };
-    let next = repair(space, txn, at, root, slots, values)?;
+    let next = repair(space, txn, at, root, slots, values, changed)?;
     Ok(Tree {
         slots: len,
         root: next.page,
@@ -87,7 +94,7 @@ fn fill<P: Pages>(
 }
 
 /// Gives values to the slots from one on, in a tree that has these slots at least afterwards. A missing
-/// value leaves its slot as it is.
+/// value leaves its slot as it is. It notes in `changed` that a slot is changed, or the tree gets higher.
 ///
 /// `Full` comes first, before anything is changed: with the pages in use, those that the changed tree has
 /// more than the given one would be so many, and there are fewer. Where the pages stand for a list no
@@ -98,6 +105,7 @@ pub fn put_run<P: Pages>(
     tree: Tree,
     slot: u64,
     values: &[Option<i64>],
+    changed: &mut bool,
 ) -> Result<Tree, RepairError>
     requires sound { shown.IsSound space.old }
     requires total { txn.old.superblock.total ≡ shown.total space.old }
@@ -119,10 +127,23 @@ pub fn put_run<P: Pages>(
     ensures few_puts { length values.now ≤ 256 → length (held txn.new) ≤ length (held txn.old) + (30 + 2 * levels_of (max tree.slots (slot + length values.now))) }
     ensures edited { repairs.ForEdit space.old txn.old tree (run_in tree slot values.now) (λ base count list list' others. IfOk result (λ new. IsAfter txn.old txn.new base count new list' others)) }
     ensures errors { repairs.ForEdit space.old txn.old tree (run_in tree slot values.now) (λ base count list list' others. IfErr result (λ e. IsErrorFor txn.old txn.new list list' e)) }
+    // where no change is noted nothing is put and no slot is another, and none is noted of a change that makes the same list
+    ensures was { changed.new ≡ false → changed.old ≡ false }
+    ensures kept { changed.new ≡ false → OnOk result (txn.new ≡ txn.old) }
+    ensures same { changed.new ≡ false → repairs.ForEdit space.old txn.old tree (run_in tree slot values.now) (λ base count list list' others. length list' ≡ length list → OnOk result (list' ≡ list)) }
+    ensures idle { changed.old ≡ false → repairs.ForEdit space.old txn.old tree (run_in tree slot values.now) (λ base count list list' others. list' ≡ list → OnOk result (changed.new ≡ false)) }
 {
     let end = slot + values.len() as u64;
     let slots = Slots { first: slot, end };
-    fill(space, txn, tree, slots, values, tree.slots.max(end))
+    fill(
+        space,
+        txn,
+        tree,
+        slots,
+        values,
+        tree.slots.max(end),
+        changed,
+    )
 }
 
 /// Gives a value to a slot, in a tree that has this slot at least afterwards. Errors are as for `put_run`.
@@ -157,7 +178,15 @@ pub fn put_slot<P: Pages>(
 {
     let end = slot + 1;
     let slots = Slots { first: slot, end };
-    fill(space, txn, tree, slots, &only(value), tree.slots.max(end))
+    fill(
+        space,
+        txn,
+        tree,
+        slots,
+        &only(value),
+        tree.slots.max(end),
+        &mut false,
+    )
 }
 
 /// Makes a tree one of so many slots, not fewer than it has. The new ones are missing. Errors are as for
@@ -189,17 +218,19 @@ pub fn grow<P: Pages>(
     ensures edited { repairs.ForEdit space.old txn.old tree (grow_to slots) (λ base count list list' others. IfOk result (λ new. IsAfter txn.old txn.new base count new list' others)) }
     ensures errors { repairs.ForEdit space.old txn.old tree (grow_to slots) (λ base count list list' others. IfErr result (λ e. IsErrorFor txn.old txn.new list list' e)) }
 {
-    fill(space, txn, tree, Slots { first: 0, end: 0 }, &[], slots)
+    let none = Slots { first: 0, end: 0 };
+    fill(space, txn, tree, none, &[], slots, &mut false)
 }
 
-/// Takes the values of so many slots from one on. The number of slots stays, and pages below which
-/// nothing is stored are given back. Where the pages stand for a list no error comes but `DiskFault`.
+/// Takes the values of so many slots from one on, and notes in `changed` that one had a value. The number of slots
+/// stays, and pages below which nothing is stored are given back. Where the pages stand for a list no error comes but `DiskFault`.
 pub fn clear_run<P: Pages>(
     space: &mut Space<P>,
     txn: &mut Txn,
     tree: Tree,
     slot: u64,
     count: u64,
+    changed: &mut bool,
 ) -> Result<Tree, RepairError>
     requires sound { shown.IsSound space.old }
     requires total { txn.old.superblock.total ≡ shown.total space.old }
@@ -220,6 +251,11 @@ pub fn clear_run<P: Pages>(
     ensures few_puts { count ≤ 4096 → length (held txn.new) ≤ length (held txn.old) + (30 + 2 * levels_of tree.slots) }
     ensures edited { repairs.ForEdit space.old txn.old tree (clear_in tree slot count) (λ base size list list' others. IfOk result (λ new. IsAfter txn.old txn.new base size new list' others)) }
     ensures errors { repairs.ForEdit space.old txn.old tree (clear_in tree slot count) (λ base size list list' others. IfErr result (λ e. e ≡ RepairError.DiskFault)) }
+    // as for `put_run`
+    ensures was { changed.new ≡ false → changed.old ≡ false }
+    ensures kept { changed.new ≡ false → OnOk result (txn.new ≡ txn.old) }
+    ensures same { changed.new ≡ false → repairs.ForEdit space.old txn.old tree (clear_in tree slot count) (λ base size list list' others. OnOk result (list' ≡ list)) }
+    ensures idle { changed.old ≡ false → repairs.ForEdit space.old txn.old tree (clear_in tree slot count) (λ base size list list' others. list' ≡ list → OnOk result (changed.new ≡ false)) }
 {
     let levels = page_levels(tree.slots);
     let at = Place {
@@ -235,7 +271,7 @@ pub fn clear_run<P: Pages>(
         first: slot,
         end: slot + count,
     };
-    let next = repair(space, txn, at, root, slots, &[])?;
+    let next = repair(space, txn, at, root, slots, &[], changed)?;
     Ok(Tree {
         slots: tree.slots,
         root: next.page,

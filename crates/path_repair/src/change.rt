@@ -1,5 +1,5 @@
 //! A change of slots.
-ghost use Rattle.std.specs.Prelude.{◌≡◌, ◌+◌, ◌-◌, ◌*◌, ◌^◌, ◌<◌, ◌≤◌, ℕ, ℤ, List, Some, IfSome, None, Option, IsTrue, false, slice_get};
+ghost use Rattle.std.specs.Prelude.{◌≡◌, ◌≢◌, ◌+◌, ◌-◌, ◌*◌, ◌^◌, ◌<◌, ◌≤◌, ℕ, ℤ, List, Some, IfSome, None, Option, IsTrue, false, slice_get};
 ghost use Rattle.om3_coeff.specs.Spans.{IsProperIfAny, span_of_slot};
 ghost use Rattle.whole_number.specs.Range.{IsValue};
 ghost use Rattle.om3_coeff.specs.Keys.{first_slot, end_slot};
@@ -33,7 +33,7 @@ pub(crate) struct Root {
 }
 
 impl Place {
-    ghost use Rattle.std.specs.Prelude.{◌≡◌, ◌+◌, ◌*◌, ◌^◌, ◌<◌, ◌≤◌, IsTrue, true, false, ◌||◌};
+    ghost use Rattle.std.specs.Prelude.{◌≡◌, ◌≢◌, ◌+◌, ◌*◌, ◌^◌, ◌<◌, ◌≤◌, IsTrue, true, false, ◌||◌};
 
     /// The place of a child, 0 to 127, of the page here.
     pub(crate) fn child(self, child: u8) -> Place
@@ -78,6 +78,14 @@ impl Place {
         ensures { result ≡ is_new_root self.height self.level self.index }
     {
         self.index == 0 && self.height < self.level
+    }
+
+    /// Whether its page is new: there is none, or the tree gets a new root here.
+    pub(crate) fn is_new(self, page: u32) -> bool
+        ensures old { result ≡ false → (page ≢ 0) × (is_new_root self.height self.level self.index ≡ false) }
+        ensures new { page ≢ 0 → is_new_root self.height self.level self.index ≡ false → result ≡ false }
+    {
+        page == 0 || self.is_new_root()
     }
 
     /// Whether none of the slots is in its range, and the tree gets no new root here.
@@ -157,5 +165,16 @@ pub(crate) fn slot_after(
             min: *value,
             max: *value,
         }),
+    }
+}
+
+/// Notes that a slot is changed, where its span isn't what it was.
+pub(crate) fn note_change(changed: &mut bool, old: Option<Span>, new: Option<Span>)
+    ensures was { changed.new ≡ false → changed.old ≡ false }
+    ensures same { changed.new ≡ false → new ≡ old }
+    ensures idle { changed.old ≡ false → new ≡ old → changed.new ≡ false }
+{
+    if new != old {
+        *changed = true;
     }
 }

@@ -1,5 +1,5 @@
 //! A page is opened to be changed: it is read, or a new one is taken.
-ghost use Rattle.std.specs.Prelude.{◌≡◌, ◌<◌, ◌≤◌, ◌+◌, ◌⊎◌, ℕ, ℤ, suc, Option, List, None, true, length, slice_index, IfOk, IfErr, OnOk, ◌≢◌};
+ghost use Rattle.std.specs.Prelude.{◌≡◌, ◌≢◌, ◌<◌, ◌≤◌, ◌+◌, ◌⊎◌, ℕ, ℤ, suc, Option, List, None, true, false, length, slice_index, IfOk, IfErr, OnOk};
 ghost use Rattle.block_disk.specs.Blocks.{IsBlock};
 ghost use Rattle.block_disk.specs.View.{Image};
 ghost use Rattle.om3_coeff.specs.Spans.{IsProperIfAny, AreSlots};
@@ -7,6 +7,7 @@ ghost use Rattle.node_page.specs.Fields.{child_at};
 ghost use Rattle.page_space.specs.Layout.{IsGiven};
 ghost use Rattle.page_space.specs.Transactions.{left_by, OnlyFirst};
 ghost use Rattle.page_spans.specs.Heaps.{span_at};
+ghost use Rattle.path_repair.specs.Costs.{is_new_root};
 ghost use Rattle.path_repair.specs.Forms.{IsForm};
 ghost use Rattle.path_repair.specs.TreePages.{is_stored};
 ghost use Rattle.path_repair.specs.Standing.{AreTold, IsPlaced, IsPartWay, IsTaken};
@@ -119,6 +120,7 @@ pub(crate) fn open_page<P: Pages>(
         (λ base fits stored from mine kept. IfOk result (λ number. StandsApart fits stored (left_by txn.new base) from txn.new.superblock (and_page number mine) (and_children fits stored at.height below at.index bytes.new 0 kept))) }
     ensures broken { (below : ℕ) → at.level ≡ suc below → repairs.ForApart space.old txn.old (λ fits stored. and_tree fits stored at.height at.level at.index root.page)
         (λ base fits stored from mine kept. IfErr result (NamesDamaged stored from (shown.total space.old) (root_level at.height at.level at.index) root.page root.span)) }
+    ensures read { root.page ≢ 0 → is_new_root at.height at.level at.index ≡ false → txn.new ≡ txn.old }
     ensures part { (base : Image) (count : ℕ) (list list' : List (Option ℤ)) (others : List ℕ) (below : ℕ) → AreTold (shown.IsTold space.old) (shown.view space.old) base
         → at.level ≡ suc below → AreSlots list
         → IsPlaced count (left_by txn.old base) txn.old.superblock list list' at.height at.level at.index root.page root.span others → (root.page ≡ 0 → is_stored list' at.level at.index ≡ true)

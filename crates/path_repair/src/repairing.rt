@@ -1,8 +1,8 @@
 //! The change of a tree, page by page.
-ghost use Rattle.std.specs.Prelude.{◌≡◌, ◌≢◌, ◌<◌, ◌≤◌, ◌+◌, ◌^◌, ℕ, ℤ, Some, Option, List, length, slice_get, IfOk, IfErr, OnOk};
+ghost use Rattle.std.specs.Prelude.{◌≡◌, ◌≢◌, ◌<◌, ◌≤◌, ◌+◌, ◌^◌, ℕ, ℤ, Some, Option, List, false, length, slice_get, IfOk, IfErr, OnOk};
 ghost use Rattle.block_disk.specs.Blocks.{IsBlock};
 ghost use Rattle.block_disk.specs.View.{Image};
-ghost use Rattle.om3_coeff.specs.Keys.{end_slot};
+ghost use Rattle.om3_coeff.specs.Keys.{first_slot, end_slot};
 ghost use Rattle.om3_coeff.specs.Spans.{IsProperIfAny};
 ghost use Rattle.whole_number.specs.Range.{IsValue};
 ghost use Rattle.node_page.specs.Fields.{child_at};
@@ -10,8 +10,9 @@ ghost use Rattle.page_space.specs.Transactions.{left_by, held};
 ghost use Rattle.tree_walk.specs.Trees.{top_of_page};
 ghost use Rattle.page_spans.specs.Heaps.{span_at};
 ghost use Rattle.path_repair.specs.Forms.{IsForm};
+ghost use Rattle.path_repair.specs.Changes.{AreSame};
 ghost use Rattle.path_repair.specs.Costs.{touch};
-ghost use Rattle.path_repair.specs.Standing.{AreTold, AreLists, IsPlaced, IsRepaired};
+ghost use Rattle.path_repair.specs.Standing.{AreTold, AreLists, IsPlaced, IsRepaired, ForPlaced};
 ghost use Rattle.path_repair.specs.Keeping.{IsNewRoot, IsMatched, Spares, root_level};
 ghost use Rattle.path_repair.specs.Apart.{StandsApart, NamesDamaged, and_tree};
 ghost use Rattle.page_space.specs.Shown as shown;
@@ -19,7 +20,7 @@ ghost use Rattle.path_repair.specs.Edits.{IsDamageAt};
 ghost use Rattle.path_repair.specs.Repairs as repairs;
 ghost use Rattle.path_repair.specs.declared.errors.RepairError.{RepairError};
 
-use crate::change::{Place, Root, Slots, slot_after};
+use crate::change::{Place, Root, Slots, note_change, slot_after};
 use crate::closing::close_page;
 use crate::errors::RepairError;
 use crate::opening::open_page;
@@ -66,6 +67,7 @@ pub(crate) fn repair<P: Pages>(
     root: Root,
     slots: Slots,
     values: &[Option<i64>],
+    changed: &mut bool,
 ) -> Result<Root, RepairError>
     requires sound { shown.IsSound space.old }
     requires total { txn.old.superblock.total ≡ shown.total space.old }
@@ -96,9 +98,17 @@ pub(crate) fn repair<P: Pages>(
     ensures only_faults { (base : Image) (count : ℕ) (list list' : List (Option ℤ)) (others : List ℕ) → AreTold (shown.IsTold space.old) (shown.view space.old) base
         → AreLists slots.first slots.end values.now list list' → IsPlaced count (left_by txn.old base) txn.old.superblock list list' at.height at.level at.index root.page root.span others
         → IfErr result (λ e. e ≡ RepairError.DiskFault) }
+    // where no slot is told to be changed, none is and nothing is put, and a change that changes none is told so
+    ensures was { changed.new ≡ false → changed.old ≡ false }
+    ensures kept { changed.new ≡ false → OnOk result (txn.new ≡ txn.old) }
+    ensures same { changed.new ≡ false → OnOk result (ForPlaced (shown.IsTold space.old) (shown.view space.old) txn.old slots.first slots.end values.now at.height at.level at.index root.page root.span
+        (λ list list'. AreSame list list' (first_slot (top_of_page at.level at.index)) (end_slot (top_of_page at.level at.index)))) }
+    ensures idle { changed.old ≡ false → ForPlaced (shown.IsTold space.old) (shown.view space.old) txn.old slots.first slots.end values.now at.height at.level at.index root.page root.span
+        (λ list list'. at.level ≤ at.height → list' ≡ list → OnOk result (changed.new ≡ false)) }
 {
     if at.level == 0 {
         let span = slot_after(root.span, at.index, slots, values);
+        note_change(changed, root.span, span);
         return Ok(Root { page: 0, span });
     }
     if at.is_settled(root.page, slots, values) {
@@ -106,6 +116,7 @@ pub(crate) fn repair<P: Pages>(
     }
     let mut bytes = [0; BLOCK];
     let mut spans = PageSpans::new();
+    let mut is_changed = at.is_new(root.page);
     let number = open_page(space, txn, at, root, &mut bytes, &mut spans)?;
     for child in 0..128 {
         let below = at.child(child);
@@ -113,8 +124,12 @@ pub(crate) fn repair<P: Pages>(
             continue;
         }
         let old = child_root(&bytes, &spans, child);
-        let next = repair(space, txn, below, old, slots, values)?;
+        let next = repair(space, txn, below, old, slots, values, &mut is_changed)?;
         set_root(&mut bytes, &mut spans, child, next);
     }
+    if !is_changed {
+        return Ok(root);
+    }
+    *changed = true;
     Ok(close_page(space, txn, at, number, &mut bytes, &mut spans))
 }

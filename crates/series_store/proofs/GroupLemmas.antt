@@ -27,7 +27,7 @@ use Rattle.series_store.specs.Changing.{IsRefusedBy}
 use Rattle.series_store.specs.Groups.{AreDone, ChangeNone, HaveFewSlots, weight, weight_of, touch_of}
 use Rattle.series_store.specs.Grouping.{IsFailure, IsGrouping, IsGroupedBy, IsNext, IsNextBy, IsSameOr}
 use Rattle.series_store.specs.Opening.{IsOutside}
-use Rattle.series_store.specs.Results.{ClearsNone, CommitsNone, IsUnchanged, IsUnchangedFor}
+use Rattle.series_store.specs.Results.{ClearsNone, KeepsBook, CommitsNone, IsUnchanged, IsUnchangedFor}
 use Rattle.series_store.specs.Staging.{IsCatalogOf, IsWholeOf, IsStaging, IsStagedBy, IsStageCause, IsRefusal, TakesBack}
 use Rattle.series_store.specs.declared.errors.StoreError.{StoreError}
 use Rattle.series_store.specs.declared.errors.StoreError.TheVariants.{Refused, NotAStore, DiskFault, Damaged, NoMemory}
@@ -115,8 +115,8 @@ not_error : (answer : Result Edited Refusal) (edited : Edited) → answer ≡ Ok
 not_error answer edited is error = let E : Result Edited Refusal → Type 0 = λ answer. IsErr answer in absurd (false≢true (subst E is error))
 
 pub next_by_ok : (total : ℕ) (book : List Series) (edit : Edit) (staged : Staged) (txn txn' : Txn) (image' : Image) (before answers : List (Result Outcome Refusal)) → answers ≡ before ++ Ok staged.outcome ∷ []
-    → IsStagedBy (apply book total edit) (touch_of book edit) total (Ok staged) txn txn' image' → (ClearsNone book edit → staged.undo ≡ undo.Nothing) → (staged.undo ≡ undo.Nothing → txn' ≡ txn) → IsNextBy total book edit (Ok staged.undo) txn txn' image' before answers
-next_by_ok total book edit staged txn txn' image' before answers are by idle nothing =
+    → IsStagedBy (apply book total edit) (touch_of book edit) total (Ok staged) txn txn' image' → (ClearsNone book edit → staged.undo ≡ undo.Nothing) → (KeepsBook book (apply book total edit) → staged.undo ≡ undo.Nothing) → (staged.undo ≡ undo.Nothing → txn' ≡ txn) → IsNextBy total book edit (Ok staged.undo) txn txn' image' before answers
+next_by_ok total book edit staged txn txn' image' before answers are by idle kept nothing =
     let done = by.done in
     let S : Result Edited Refusal → Type 0 = λ answer. StandsForBook image' total (book_behind book answer) in
     let W : Result Edited Refusal → Type 0 = λ answer. length (held txn') ≤ length (held txn) + weight_of answer (touch_of book edit) in
@@ -129,7 +129,7 @@ next_by_ok total book edit staged txn txn' image' before answers are by idle not
       few = subst W (sym done.accepted) by.few;
       idle = λ either. elim either [
         | inl refused ↦ absurd (not_error (apply book total edit) done.edited done.accepted refused)
-        | inr none ↦ idle none
+        | inr none ↦ elim none [ inl cleared ↦ idle cleared | inr keeps ↦ kept keeps ]
       ];
       nothing = nothing;
     }

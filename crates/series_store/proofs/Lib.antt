@@ -24,3 +24,4 @@ pub mod SeriesSendLemmas
 pub mod DoneLemmas
 pub mod GroupLemmas
 pub mod CoverLemmas
+pub mod KeptLemmas

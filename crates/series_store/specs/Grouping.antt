@@ -24,7 +24,7 @@ use Rattle.stored_book.specs.Standing.{StandsForBook}
 use Rattle.tree_walk.specs.SpaceViews.{StaysOn}
 use Rattle.series_store.specs.Groups.{AreDone, AreMany, AreSome, ChangeNone, GroupMoves, HaveFewSlots, IsGroupCause, IsNoneOrAll, PassesWhole, answer_of, touch_of, weight, weight_of}
 use Rattle.series_store.specs.Opening.{IsOutside}
-use Rattle.series_store.specs.Results.{ClearsNone, CommitsNone, IsUnchangedFor}
+use Rattle.series_store.specs.Results.{ChangesNone, CommitsNone, IsUnchangedFor}
 use Rattle.series_store.specs.Shown as shown
 use Rattle.series_store.specs.Staging.{IsCatalogOf, IsWholeOf, TakesBack}
 use Rattle.series_store.specs.declared.staged.Undo.{Undo}
@@ -110,7 +110,7 @@ pub record IsNextBy (total : ℕ) (book : List Series) (edit : Edit) (result : R
   pub says : OnOk result (answer_of answer ≡ slots_behind (apply book total edit))
   pub stands : OnOk result (StandsForBook image' total (book_behind book (apply book total edit)))
   pub few : OnOk result (length (held txn') ≤ length (held txn) + weight_of (apply book total edit) (touch_of book edit))
-  pub idle : IfOk result (λ undo. (IsErr (apply book total edit) ⊎ ClearsNone book edit) → undo ≡ Nothing)
+  pub idle : IfOk result (λ undo. (IsErr (apply book total edit) ⊎ ChangesNone total book edit) → undo ≡ Nothing)
   pub nothing : IfOk result (λ undo. undo ≡ Nothing → txn' ≡ txn)
 
 -- What a group of edits does, whatever the pages are.

@@ -15,7 +15,7 @@ use Rattle.series_book.specs.declared.refusals.Refusal.{Refusal}
 use Rattle.series_book.specs.Edits.{Edited, apply, id_of, place_of}
 use Rattle.series_book.specs.EditLists.{book_behind, after_edits, edits_give}
 use Rattle.stored_book.specs.Standing.{StandsForBook}
-use Rattle.series_store.specs.Results.{ClearsNone, IsEditCause}
+use Rattle.series_store.specs.Results.{ChangesNone, IsEditCause}
 use Rattle.series_store.specs.declared.errors.StoreError.{StoreError}
 use Rattle.series_store.specs.declared.errors.StoreError.TheVariants.{Refused, NotAStore, DiskFault, Damaged, NoMemory}
 
@@ -85,10 +85,10 @@ IsGroupCause DiskFault told s old new = HasRisen old.faults new.faults
 IsGroupCause (Damaged page) told s old new = IsEditCause (Damaged page) told s old new
 IsGroupCause NoMemory told s old new = Unit {0}
 
--- each edit is refused, or clears slots that aren't there
+-- each edit is refused, clears slots that aren't there, or leaves the book as it is
 abbrev pub ChangeNone : ℕ → List Series → List Edit → Type 0
 ChangeNone total book [] = ⊤
-ChangeNone total book (edit ∷ edits) = (IsErr (apply book total edit) ⊎ ClearsNone book edit) × ChangeNone total (book_behind book (apply book total edit)) edits
+ChangeNone total book (edit ∷ edits) = (IsErr (apply book total edit) ⊎ ChangesNone total book edit) × ChangeNone total (book_behind book (apply book total edit)) edits
 
 -- no series has more slots than a book allows
 abbrev pub HaveFewSlots : List (Result Outcome Refusal) → Type 0

@@ -1,11 +1,12 @@
 -- What an edit does.
-use Rattle.std.specs.Prelude.{ℕ, ◌≡◌, ◌<◌, ◌≤◌, ◌⊎◌, List, length, slice_get, Some, Ok, Err}
+use Rattle.std.specs.Prelude.{ℕ, ◌≡◌, ◌<◌, ◌≤◌, ◌⊎◌, List, length, slice_get, Some, Result, Ok, Err}
 use Rattle.block_disk.specs.Counts.{HasRisen}
 use Rattle.block_disk.specs.View.{Image, View, Rises}
 use Rattle.series_book.specs.declared.one_series.Series.{Series}
 use Rattle.series_book.specs.declared.edits.Edit.{Edit}
 use Rattle.series_book.specs.declared.edits.Edit.TheVariants.{Create, Append, Set, Clear}
 use Rattle.series_book.specs.declared.outcomes.Outcome.{Outcome}
+use Rattle.series_book.specs.declared.refusals.Refusal.{Refusal}
 use Rattle.series_book.specs.Edits.{Edited, apply, id_of, place_of}
 use Rattle.page_space.specs.declared.superblock.Superblock.{Superblock}
 use Rattle.stored_book.specs.Damage.{IsDamagedOnce}
@@ -64,6 +65,14 @@ ClearsNone book (Create name start step scale) = ⊥
 ClearsNone book (Append name values) = ⊥
 ClearsNone book (Set name time values) = ⊥
 ClearsNone book (Clear name time count) = (id : ℕ) (series : Series) → id_of name book ≡ Some id → slice_get book id ≡ Some series → (count ≡ 0) ⊎ (length series.slots ≤ place_of series time)
+
+-- an edited book is the one from before
+abbrev pub KeepsBook : List Series → Result Edited Refusal → Type 0
+KeepsBook book answer = (edited : Edited) → answer ≡ Ok edited → edited.book ≡ book
+
+-- the edit is such a clear, or leaves the book as it is
+abbrev pub ChangesNone : ℕ → List Series → Edit → Type 0
+ChangesNone total book edit = ClearsNone book edit ⊎ KeepsBook book (apply book total edit)
 
 -- unless a call of the disk failed, nothing was committed
 abbrev pub IsUnchangedFor : StoreError → Type 0 → View → View → Type 0

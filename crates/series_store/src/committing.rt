@@ -8,7 +8,7 @@ ghost use Rattle.series_book.specs.declared.one_series.Series.{Series};
 ghost use Rattle.series_book.specs.Edits.{IsEdit, apply};
 ghost use Rattle.series_catalog.specs.Shown.{series_in};
 ghost use Rattle.series_store.specs.Changing.{IsAnswered, IsCarriedOut};
-ghost use Rattle.series_store.specs.Results.{ClearsNone, CommitsNone};
+ghost use Rattle.series_store.specs.Results.{ClearsNone, CommitsNone, KeepsBook};
 ghost use Rattle.series_store.specs.Staging as stages;
 ghost use Rattle.stored_book.specs.Standing.{StandsForBook};
 
@@ -62,6 +62,7 @@ pub(crate) fn commit_one<P: Pages>(
     ensures quiet { OnOk result ((spaces.view space.new).faults ≡ (spaces.view space.old).faults) }
     ensures quiet_err { IfErr result (λ e. e ≢ StoreError.DiskFault → (spaces.view space.new).faults ≡ (spaces.view space.old).faults) }
     ensures none_cleared { stages.ForKept space.old (λ total book. ClearsNone book edit.now → CommitsNone (spaces.view space.old) (spaces.view space.new)) }
+    ensures kept { stages.ForKept space.old (λ total book. KeepsBook book (apply book total edit.now) → CommitsNone (spaces.view space.old) (spaces.view space.new)) }
     ensures stored { stages.IsStored space.new catalog.new }
     ensures more { length (series_in catalog.old) ≤ length (series_in catalog.new) }
 {

@@ -1,5 +1,5 @@
 //! Changes of the slots of a series are staged.
-ghost use Rattle.std.specs.Prelude.{◌≡◌, ◌≢◌, ◌≤◌, ◌<◌, ◌+◌, ◌^◌, ◌⊎◌, ℕ, ℤ, max, List, Option, Some, Ok, All, false, IsSome, length, slice_get, IfOk, IfErr, OnOk, OnErr, IfSome};
+ghost use Rattle.std.specs.Prelude.{◌≡◌, ◌≢◌, ◌≤◌, ◌<◌, ◌+◌, ◌^◌, ◌⊎◌, ◌↔◌, ℕ, ℤ, max, List, Option, Some, Ok, All, false, IsTrue, IsSome, length, slice_get, IfOk, IfErr, OnOk, OnErr, IfSome};
 ghost use Rattle.whole_number.specs.SlotTimes.{EndsInTime};
 ghost use Rattle.block_disk.specs.Counts.{HasRisen};
 ghost use Rattle.block_disk.specs.View.{View};
@@ -15,6 +15,8 @@ ghost use Rattle.catalog_page.specs.Entries.{IsEntry};
 ghost use Rattle.path_repair.specs.Edits.{passed, run_in, clear_in};
 ghost use Rattle.series_book.specs.Edits.{is_too_large};
 ghost use Rattle.series_catalog.specs.Catalogs.{entry_of};
+ghost use Rattle.series_store.specs.Changing.{after_put, with_cleared};
+ghost use Rattle.series_store.specs.Results.{KeepsBook};
 
 use crate::errors::StoreError;
 use crate::staged::{Staged, Undo};
@@ -25,7 +27,26 @@ use series_book::Outcome;
 use series_catalog::{Catalog, put_record};
 use tree_walk::Tree;
 
-/// Gives values to the slots of a series from one on. Missing ones leave their slots as they are.
+/// Whether a change changed no slot and added none.
+fn is_kept(changed: bool, old: Tree, new: Tree) -> bool
+    ensures { IsTrue result ↔ ((changed ≡ false) × (new.slots ≡ old.slots)) }
+{
+    !changed && new.slots == old.slots
+}
+
+/// What is staged where no slot of a tree changes: nothing.
+fn nothing(tree: Tree) -> Staged
+    ensures slots { result.outcome.slots ≡ tree.slots }
+    ensures undo { result.undo ≡ Undo.Nothing }
+{
+    Staged {
+        outcome: Outcome { slots: tree.slots },
+        undo: Undo::Nothing,
+    }
+}
+
+/// Gives values to the slots of a series from one on. Missing ones leave their slots as they are. Where none changes nothing is
+/// staged.
 pub(crate) fn put<P: Pages>(
     space: &mut Space<P>,
     txn: &mut Txn,
@@ -47,15 +68,20 @@ pub(crate) fn put<P: Pages>(
     requires whole { IfSome (slice_get (series_in catalog.old) id) (λ one. (slot ≡ one.tree.slots) ⊎ All (λ value. IsSome value) values.now) }
     ensures answered { stages.AnswersPut id slot values.now result space.old space.new txn.old txn.new }
     ensures carried { stages.Stages result space.old space.new txn.old txn.new catalog.old catalog.new }
+    ensures kept { stages.ForStagedSeries space.old txn.old id (λ total book series. KeepsBook book (after_put total book id series slot values.now) → IfOk result (λ staged. staged.undo ≡ Undo.Nothing)) }
     ensures quiet { OnOk result ((spaces.view space.new).faults ≡ (spaces.view space.old).faults) }
     ensures quiet_err { IfErr result (λ e. e ≢ StoreError.DiskFault → (spaces.view space.new).faults ≡ (spaces.view space.old).faults) }
 {
-    let tree = catalog.series(id).tree;
-    let tree = put_run(space, txn, tree, slot, values)?;
+    let old = catalog.series(id).tree;
+    let mut changed = false;
+    let tree = put_run(space, txn, old, slot, values, &mut changed)?;
+    if is_kept(changed, old, tree) {
+        return Ok(nothing(old));
+    }
     save(space, txn, catalog, id, tree)
 }
 
-/// Takes the values of so many slots of a series from one on.
+/// Takes the values of so many slots of a series from one on. Where none has one nothing is staged.
 pub(crate) fn clear_slots<P: Pages>(
     space: &mut Space<P>,
     txn: &mut Txn,
@@ -73,11 +99,16 @@ pub(crate) fn clear_slots<P: Pages>(
     requires within { IfSome (slice_get (series_in catalog.old) id) (λ one. slot + count ≤ one.tree.slots) }
     ensures answered { stages.AnswersCleared id slot count result space.old space.new txn.old txn.new }
     ensures carried { stages.Stages result space.old space.new txn.old txn.new catalog.old catalog.new }
+    ensures kept { stages.ForStagedSeries space.old txn.old id (λ total book series. KeepsBook book (Ok (with_cleared book id series slot count)) → IfOk result (λ staged. staged.undo ≡ Undo.Nothing)) }
     ensures quiet { OnOk result ((spaces.view space.new).faults ≡ (spaces.view space.old).faults) }
     ensures quiet_err { IfErr result (λ e. e ≢ StoreError.DiskFault → (spaces.view space.new).faults ≡ (spaces.view space.old).faults) }
 {
-    let tree = catalog.series(id).tree;
-    let tree = clear_run(space, txn, tree, slot, count)?;
+    let old = catalog.series(id).tree;
+    let mut changed = false;
+    let tree = clear_run(space, txn, old, slot, count, &mut changed)?;
+    if is_kept(changed, old, tree) {
+        return Ok(nothing(old));
+    }
     save(space, txn, catalog, id, tree)
 }
 

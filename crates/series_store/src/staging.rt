@@ -8,8 +8,8 @@ ghost use Rattle.series_catalog.specs.Shown.{series_in};
 ghost use Rattle.series_store.specs.Staging as stages;
 ghost use Rattle.stored_book.specs.Standing.{StandsForBook};
 ghost use Rattle.series_book.specs.declared.edits.Edit.TheVariants.{Append, Set, Clear};
-ghost use Rattle.series_book.specs.Edits.{IsEdit};
-ghost use Rattle.series_store.specs.Results.{ClearsNone};
+ghost use Rattle.series_book.specs.Edits.{IsEdit, apply};
+ghost use Rattle.series_store.specs.Results.{ClearsNone, KeepsBook};
 ghost use Rattle.series_store.specs.declared.staged.Undo.{Undo};
 
 use crate::creating::create;
@@ -40,6 +40,7 @@ pub(crate) fn stage<P: Pages>(
     ensures quiet_err { IfErr result (λ e. e ≢ StoreError.DiskFault → (spaces.view space.new).faults ≡ (spaces.view space.old).faults) }
     // an edit that changes no slot stages nothing
     ensures none_cleared { stages.ForStaged space.old txn.old (λ total book. ClearsNone book edit.now → IfOk result (λ staged. staged.undo ≡ Undo.Nothing)) }
+    ensures kept { stages.ForStaged space.old txn.old (λ total book. KeepsBook book (apply book total edit.now) → IfOk result (λ staged. staged.undo ≡ Undo.Nothing)) }
 {
     match edit {
         Edit::Create {
@@ -67,6 +68,7 @@ fn append<P: Pages>(
     requires is_edit { IsEdit (Append name.now values.now) }
     ensures answered { stages.AnswersEdit (Append name.now values.now) result space.old space.new txn.old txn.new }
     ensures carried { stages.Stages result space.old space.new txn.old txn.new catalog.old catalog.new }
+    ensures kept { stages.ForStaged space.old txn.old (λ total book. KeepsBook book (apply book total (Append name.now values.now)) → IfOk result (λ staged. staged.undo ≡ Undo.Nothing)) }
     ensures quiet { OnOk result ((spaces.view space.new).faults ≡ (spaces.view space.old).faults) }
     ensures quiet_err { IfErr result (λ e. e ≢ StoreError.DiskFault → (spaces.view space.new).faults ≡ (spaces.view space.old).faults) }
 {
@@ -95,6 +97,7 @@ fn set<P: Pages>(
     requires is_edit { IsEdit (Set name.now time values.now) }
     ensures answered { stages.AnswersEdit (Set name.now time values.now) result space.old space.new txn.old txn.new }
     ensures carried { stages.Stages result space.old space.new txn.old txn.new catalog.old catalog.new }
+    ensures kept { stages.ForStaged space.old txn.old (λ total book. KeepsBook book (apply book total (Set name.now time values.now)) → IfOk result (λ staged. staged.undo ≡ Undo.Nothing)) }
     ensures quiet { OnOk result ((spaces.view space.new).faults ≡ (spaces.view space.old).faults) }
     ensures quiet_err { IfErr result (λ e. e ≢ StoreError.DiskFault → (spaces.view space.new).faults ≡ (spaces.view space.old).faults) }
 {
@@ -123,6 +126,7 @@ fn clear<P: Pages>(
     requires few { length (held txn.old) ≤ 22 }
     ensures answered { stages.AnswersEdit (Clear name.now time count) result space.old space.new txn.old txn.new }
     ensures carried { stages.Stages result space.old space.new txn.old txn.new catalog.old catalog.new }
+    ensures kept { stages.ForStaged space.old txn.old (λ total book. KeepsBook book (apply book total (Clear name.now time count)) → IfOk result (λ staged. staged.undo ≡ Undo.Nothing)) }
     ensures quiet { OnOk result ((spaces.view space.new).faults ≡ (spaces.view space.old).faults) }
     ensures quiet_err { IfErr result (λ e. e ≢ StoreError.DiskFault → (spaces.view space.new).faults ≡ (spaces.view space.old).faults) }
     ensures none_cleared { stages.ForStaged space.old txn.old (λ total book. ClearsNone book (Clear name.now time count) → IfOk result (λ staged. staged.undo ≡ Undo.Nothing)) }

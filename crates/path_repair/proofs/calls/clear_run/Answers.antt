@@ -1,5 +1,8 @@
 use Rattle.std.proofs.Common.{◌≡◌, ◌≤◌, ◌+◌, ◌*◌, ◌^◌, ℕ, [], refl, sym, ap, subst, arith, ◌∙◌}
-use Rattle.om3_coeff.specs.Keys.{page_levels, end_slot}
+use Rattle.om3_coeff.specs.Keys.{page_levels, first_slot, end_slot}
+use Rattle.om3_coeff.proofs.KeyLemmas.{height_covers}
+use Rattle.path_repair.specs.Changes.{AreSame}
+use Rattle.path_repair.proofs.StillLemmas.{lists_equal}
 use Rattle.page_space.specs.Transactions.{left_by}
 use Rattle.tree_walk.proofs.StepLemmas.{error_so}
 use Rattle.tree_walk.specs.Trees.{top_of_page}
@@ -90,3 +93,23 @@ returns-in_err-next-clause-stored g c = λ base told.
     error_so _ D c.from_residual.result c.from_residual.ensures.1
     (λ e same. subst D (sym same) (λ fits tells apart. stored_call image s (shown.total c.args.space.now) s.total (root_level c.page_levels-levels.result c.page_levels-levels.result 0) (page_levels c.args.tree.slots) c.args.tree.root c.args.tree.span c.in_err-next.field-0.0 (sym c.requires.total) root_is
     (c.in_err-next.ensures.broken base fits image s (λ p. 0) (λ p. 0) told (apart_call fits image s c.page_levels-levels.result c.page_levels-levels.result (page_levels c.args.tree.slots) c.args.tree.root root_is tells apart))))
+
+pub returns-clause-same : goal.returns-clause-same
+returns-clause-same g c = λ unchanged base size list list' others told holds edited.
+    let levels_is : c.page_levels-levels.result ≡ page_levels c.args.tree.slots = c.page_levels-levels.ensures.levels in
+    let lists = lists_of c.args.slot (c.args.slot + c.args.count) c.args.tree.slots [] list list' edited in
+    let place = cleared_for size (left_by c.args.txn.now base) c.args.txn.now.superblock c.args.tree c.args.slot (c.args.slot + c.args.count) list list' others holds edited c.requires.few (cleared_fewer c.args.slot (c.args.slot + c.args.count) list list' edited.slots_are) in
+    let P : ℕ → Type 0 = λ l. IsPlaced size (left_by c.args.txn.now base) c.args.txn.now.superblock list list' l l 0 c.args.tree.root c.args.tree.span others in
+    let placed = subst P (sym levels_is) place in
+    let S : ℕ → Type 0 = λ l. AreSame list list' (first_slot (top_of_page l 0)) (end_slot (top_of_page l 0)) in
+    let same = subst S levels_is (c.in_ok-next.ensures.same unchanged base size list list' others told lists placed) in
+    lists_equal list list' (end_slot (top_of_page (page_levels c.args.tree.slots) 0)) (omega (arith, holds.is_tree.slots, height_covers c.args.tree.slots c.requires.few)) (edited.length_is ∙ holds.is_tree.slots) (λ i low high. same i (omega arith) high)
+
+pub returns-clause-idle : goal.returns-clause-idle
+returns-clause-idle g c = λ unchanged base size list list' others told holds edited equal.
+    let levels_is : c.page_levels-levels.result ≡ page_levels c.args.tree.slots = c.page_levels-levels.ensures.levels in
+    let lists = lists_of c.args.slot (c.args.slot + c.args.count) c.args.tree.slots [] list list' edited in
+    let place = cleared_for size (left_by c.args.txn.now base) c.args.txn.now.superblock c.args.tree c.args.slot (c.args.slot + c.args.count) list list' others holds edited c.requires.few (cleared_fewer c.args.slot (c.args.slot + c.args.count) list list' edited.slots_are) in
+    let P : ℕ → Type 0 = λ l. IsPlaced size (left_by c.args.txn.now base) c.args.txn.now.superblock list list' l l 0 c.args.tree.root c.args.tree.span others in
+    let placed = subst P (sym levels_is) place in
+    c.in_ok-next.ensures.idle unchanged base size list list' others told lists placed (omega arith) equal

@@ -1,5 +1,8 @@
 use Rattle.std.proofs.Common.{◌≡◌, ◌≤◌, ◌+◌, ◌^◌, ℕ, length, refl, sym, ap, subst, arith, ◌∙◌}
-use Rattle.om3_coeff.specs.Keys.{page_levels, end_slot}
+use Rattle.om3_coeff.specs.Keys.{page_levels, first_slot, end_slot}
+use Rattle.om3_coeff.proofs.KeyLemmas.{height_covers}
+use Rattle.path_repair.specs.Changes.{AreSame}
+use Rattle.path_repair.proofs.StillLemmas.{lists_equal}
 use Rattle.page_space.specs.declared.superblock.Superblock.{Superblock}
 use Rattle.page_space.specs.Transactions.{left_by}
 use Rattle.page_space.specs.Layout.{in_use}
@@ -208,3 +211,50 @@ returns-in_err-next-clause-stored g c = λ base told.
     error_so _ D c.from_residual-in_err-next.result c.from_residual-in_err-next.ensures.1
     (λ e same. subst D (sym same) (λ fits tells apart. stored_call image s (shown.total c.new_pages.new.space) s.total (root_level c.page_levels-height.result c.page_levels-level.result 0) (page_levels c.args.tree.slots) c.args.tree.root c.args.tree.span c.in_err-next.field-0.0 total_is root_is
     (c.in_err-next.ensures.broken base fits image s (λ p. 0) (λ p. 0) told' (apart_call fits image s c.page_levels-height.result c.page_levels-level.result (page_levels c.args.tree.slots) c.args.tree.root root_is tells apart))))
+
+pub returns-clause-same : goal.returns-clause-same
+returns-clause-same g c = λ unchanged base count list list' others told holds edited lengths.
+    let height_is : c.page_levels-height.result ≡ page_levels c.args.tree.slots = c.page_levels-height.ensures.levels in
+    let level_is : c.page_levels-level.result ≡ page_levels c.args.len = c.page_levels-level.ensures.levels in
+    let root_is = root_for (left_by c.args.txn.now base) c.args.txn.now.superblock.total c.args.tree list c.args.len holds.is_tree c.requires.longer c.requires.few_new in
+    let RH : ℕ → Type 0 = λ h. IsRooted (left_by c.args.txn.now base) c.args.txn.now.superblock.total list h (page_levels c.args.len) 0 c.args.tree.root in
+    let RL : ℕ → Type 0 = λ l. IsRooted (left_by c.args.txn.now base) c.args.txn.now.superblock.total list c.page_levels-height.result l 0 c.args.tree.root in
+    let RT : ℕ → Type 0 = λ t. IsRooted (left_by c.args.txn.now base) t list c.page_levels-height.result c.page_levels-level.result 0 c.args.tree.root in
+    let rooted = subst RT c.requires.total (subst RL (sym level_is) (subst RH (sym height_is) root_is)) in
+    let lists = lists_of c.args.slots.first c.args.slots.end c.args.len c.args.values.now list list' edited in
+    let CH : ℕ → Type 0 = λ h. c.in_ok-more.more + length (tree_pages (left_by c.args.txn.now base) (low h c.page_levels-level.result) c.args.tree.root) ≡ page_count list' c.page_levels-level.result 0 in
+    let CL : ℕ → Type 0 = λ l. c.in_ok-more.more + length (tree_pages (left_by c.args.txn.now base) (low (page_levels c.args.tree.slots) l) c.args.tree.root) ≡ page_count list' l 0 in
+    let counted = subst CL level_is (subst CH height_is (c.in_ok-more.ensures.counts base list list' told lists c.requires.fills rooted)) in
+    let used : c.from.result ≡ in_use c.args.txn.now.superblock = c.from.ensures ∙ c.used.ensures.used in
+    let room : in_use c.args.txn.now.superblock + c.in_ok-more.more ≤ c.args.txn.now.superblock.total = omega (arith, c.if-needed-have.false, used, c.from-have.ensures, c.total.ensures.total, c.requires.total, ap (λ (s : Superblock). s.total) c.new_pages.ensures.moved.over.superblock) in
+    let place = placed_for count (left_by c.args.txn.now base) c.args.txn.now.superblock c.args.tree c.args.slots.first c.args.slots.end c.args.len c.in_ok-more.more c.args.values.now list list' others holds edited c.requires.longer c.requires.few_new c.requires.fills counted room in
+    let PH : ℕ → Type 0 = λ h. IsPlaced count (left_by c.args.txn.now base) c.args.txn.now.superblock list list' h (page_levels c.args.len) 0 c.args.tree.root c.args.tree.span others in
+    let PL : ℕ → Type 0 = λ l. IsPlaced count (left_by c.args.txn.now base) c.args.txn.now.superblock list list' c.page_levels-height.result l 0 c.args.tree.root c.args.tree.span others in
+    let placed = subst PL (sym level_is) (subst PH (sym height_is) place) in
+    let told' = told_on (count_most c.args.tree.root c.args.slots.first c.args.slots.end c.page_levels-height.result c.page_levels-level.result 0) (shown.IsTold c.args.space.now) (shown.IsTold c.new_pages.new.space) (shown.view c.args.space.now) (shown.view c.new_pages.new.space) base c.new_pages.ensures.moved.reads told in
+    let S : ℕ → Type 0 = λ l. AreSame list list' (first_slot (top_of_page l 0)) (end_slot (top_of_page l 0)) in
+    let same = subst S level_is (c.in_ok-next.ensures.same unchanged base count list list' others told' lists placed) in
+    lists_equal list list' (end_slot (top_of_page (page_levels c.args.len) 0)) (omega (arith, holds.is_tree.slots, c.requires.longer, height_covers c.args.len c.requires.few_new)) lengths (λ i low high. same i (omega arith) high)
+
+pub returns-clause-idle : goal.returns-clause-idle
+returns-clause-idle g c = λ unchanged base count list list' others told holds edited equal.
+    let height_is : c.page_levels-height.result ≡ page_levels c.args.tree.slots = c.page_levels-height.ensures.levels in
+    let level_is : c.page_levels-level.result ≡ page_levels c.args.len = c.page_levels-level.ensures.levels in
+    let root_is = root_for (left_by c.args.txn.now base) c.args.txn.now.superblock.total c.args.tree list c.args.len holds.is_tree c.requires.longer c.requires.few_new in
+    let RH : ℕ → Type 0 = λ h. IsRooted (left_by c.args.txn.now base) c.args.txn.now.superblock.total list h (page_levels c.args.len) 0 c.args.tree.root in
+    let RL : ℕ → Type 0 = λ l. IsRooted (left_by c.args.txn.now base) c.args.txn.now.superblock.total list c.page_levels-height.result l 0 c.args.tree.root in
+    let RT : ℕ → Type 0 = λ t. IsRooted (left_by c.args.txn.now base) t list c.page_levels-height.result c.page_levels-level.result 0 c.args.tree.root in
+    let rooted = subst RT c.requires.total (subst RL (sym level_is) (subst RH (sym height_is) root_is)) in
+    let lists = lists_of c.args.slots.first c.args.slots.end c.args.len c.args.values.now list list' edited in
+    let CH : ℕ → Type 0 = λ h. c.in_ok-more.more + length (tree_pages (left_by c.args.txn.now base) (low h c.page_levels-level.result) c.args.tree.root) ≡ page_count list' c.page_levels-level.result 0 in
+    let CL : ℕ → Type 0 = λ l. c.in_ok-more.more + length (tree_pages (left_by c.args.txn.now base) (low (page_levels c.args.tree.slots) l) c.args.tree.root) ≡ page_count list' l 0 in
+    let counted = subst CL level_is (subst CH height_is (c.in_ok-more.ensures.counts base list list' told lists c.requires.fills rooted)) in
+    let used : c.from.result ≡ in_use c.args.txn.now.superblock = c.from.ensures ∙ c.used.ensures.used in
+    let room : in_use c.args.txn.now.superblock + c.in_ok-more.more ≤ c.args.txn.now.superblock.total = omega (arith, c.if-needed-have.false, used, c.from-have.ensures, c.total.ensures.total, c.requires.total, ap (λ (s : Superblock). s.total) c.new_pages.ensures.moved.over.superblock) in
+    let place = placed_for count (left_by c.args.txn.now base) c.args.txn.now.superblock c.args.tree c.args.slots.first c.args.slots.end c.args.len c.in_ok-more.more c.args.values.now list list' others holds edited c.requires.longer c.requires.few_new c.requires.fills counted room in
+    let PH : ℕ → Type 0 = λ h. IsPlaced count (left_by c.args.txn.now base) c.args.txn.now.superblock list list' h (page_levels c.args.len) 0 c.args.tree.root c.args.tree.span others in
+    let PL : ℕ → Type 0 = λ l. IsPlaced count (left_by c.args.txn.now base) c.args.txn.now.superblock list list' c.page_levels-height.result l 0 c.args.tree.root c.args.tree.span others in
+    let placed = subst PL (sym level_is) (subst PH (sym height_is) place) in
+    let told' = told_on (count_most c.args.tree.root c.args.slots.first c.args.slots.end c.page_levels-height.result c.page_levels-level.result 0) (shown.IsTold c.args.space.now) (shown.IsTold c.new_pages.new.space) (shown.view c.args.space.now) (shown.view c.new_pages.new.space) base c.new_pages.ensures.moved.reads told in
+    let few : c.args.len ≤ c.args.tree.slots = omega (arith, edited.length_is, ap (λ l. length l) equal, holds.is_tree.slots) in
+    c.in_ok-next.ensures.idle unchanged base count list list' others told' lists placed (omega (arith, height_is, level_is, levels_more c.args.len c.args.tree.slots few)) equal

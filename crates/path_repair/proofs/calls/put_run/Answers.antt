@@ -31,3 +31,15 @@ returns-clause-few_puts g c = λ few.
     let most : c.max.result ≡ max c.args.tree.slots (c.args.slot + length c.args.values.now) = c.max.ensures in
     let cost : touch c.args.slot (c.args.slot + length c.args.values.now) (page_levels c.args.tree.slots) (page_levels c.max.result) 0 ≡ touch c.args.slot (c.args.slot + length c.args.values.now) (page_levels c.args.tree.slots) (page_levels (max c.args.tree.slots (c.args.slot + length c.args.values.now))) 0 = ap (λ n. touch c.args.slot (c.args.slot + length c.args.values.now) (page_levels c.args.tree.slots) (page_levels n) 0) most in
     omega (arith, c.fill.ensures.moved.held, cost, run_puts c.args.slot (length c.args.values.now) c.args.tree.slots (max c.args.tree.slots (c.args.slot + length c.args.values.now)) few)
+
+pub returns-clause-same : goal.returns-clause-same
+returns-clause-same g c = λ unchanged base count list list' others told holds edited.
+    let most : c.max.result ≡ max c.args.tree.slots (c.args.slot + length c.args.values.now) = c.max.ensures in
+    let P : ℕ → Type 0 = λ n. IsEdited c.args.slot (c.args.slot + length c.args.values.now) n c.args.values.now list list' in
+    c.fill.ensures.same unchanged base count list list' others told holds (subst P (sym most) edited)
+
+pub returns-clause-idle : goal.returns-clause-idle
+returns-clause-idle g c = λ unchanged base count list list' others told holds edited.
+    let most : c.max.result ≡ max c.args.tree.slots (c.args.slot + length c.args.values.now) = c.max.ensures in
+    let P : ℕ → Type 0 = λ n. IsEdited c.args.slot (c.args.slot + length c.args.values.now) n c.args.values.now list list' in
+    c.fill.ensures.idle unchanged base count list list' others told holds (subst P (sym most) edited)

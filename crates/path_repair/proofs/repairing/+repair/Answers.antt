@@ -1,19 +1,21 @@
-use Rattle.std.proofs.Common.{rules, ◌≡◌, ◌<◌, ◌+◌, ◌-◌, ◌^◌, ◌++◌, ◌∷◌, ℕ, suc, refl, sym, ap, subst, arith, ◌∙◌}
+use Rattle.std.proofs.Common.{rules, ◌≡◌, ◌<◌, ◌+◌, ◌-◌, ◌^◌, ◌++◌, ◌∷◌, ℕ, suc, true, false, refl, sym, ap, subst, arith, ◌∙◌}
 use Rattle.page_space.specs.declared.superblock.Superblock.{Superblock}
 use Rattle.page_space.specs.Transactions.{left_by}
+use Rattle.page_space.specs.declared.txn.Txn.{Txn}
 use Rattle.node_page.specs.Fields.{child_at}
 use Rattle.page_spans.specs.Heaps.{span_at}
 use Rattle.tree_walk.proofs.StepLemmas.{error_so}
 use Rattle.path_repair.specs.Costs.{touch}
-use Rattle.path_repair.specs.Standing.{IsPartWay}
-use Rattle.path_repair.proofs.StayLemmas.{settled_at, slot_repaired_at, apart_repaired}
+use Rattle.path_repair.specs.Standing.{IsPartWay, IsRepaired}
+use Rattle.path_repair.proofs.StayLemmas.{settled_at, slot_repaired_at, apart_repaired, untouched as untouched_range}
+use Rattle.path_repair.proofs.StillLemmas.{settled_same, slot_same, slot_idle, still_start, still_on, still_same, still_repaired, moved_still}
 use Rattle.path_repair.proofs.MoveLemmas.{moved_more, moved_none, told_on, touch_level, child_small}
 use Rattle.path_repair.proofs.PartLemmas.{rest}
 use Rattle.path_repair.proofs.RepairLemmas.{way_start, way_child, way_on, way_moved, way_room, way_end, way_last, gives, passed_below}
 use Rattle.path_repair.specs.declared.errors.RepairError.{RepairError}
 use Rattle.path_repair.specs.Damage.{IsDamage}
 use Rattle.path_repair.specs.Keeping.{root_level}
-use Rattle.path_repair.specs.Apart.{NamesDamaged, and_page, and_children}
+use Rattle.path_repair.specs.Apart.{StandsApart, NamesDamaged, and_page, and_children}
 use Rattle.path_repair.proofs.ApartLemmas.{apart_settled}
 use Rattle.path_repair.proofs.StoredLemmas.{apart_child, apart_end, stored_up}
 use Rattle.path_repair.proofs.KeepLemmas.{spares_up}
@@ -53,7 +55,14 @@ loop-child-init g t c =
           (λ base count list list' others told lists placed. c.in_ok-number.ensures.part base count list list' others (c.args.at.level - 1) told is lists.old_values placed (λ none. gives c.args.slots.first c.args.slots.end c.args.values.now list list' c.args.at.level c.args.at.index lists ((c.if-is_settled.ensures.unsettled refl).something none))),
       (
         spare_start (shown.IsTold c.args.space.now) (shown.view c.args.space.now) c.args.txn.now c.open_page.new.txn (c.args.at.level - 1) c.open_page.new.bytes (span_at c.open_page.new.spans) c.open_page.ensures.first,
-        (c.in_ok-number.ensures.apart (c.args.at.level - 1) is, c.in_ok-number.ensures.quiet),
+        (
+          c.in_ok-number.ensures.apart (c.args.at.level - 1) is,
+          (
+          still_start (shown.IsTold c.args.space.now) (shown.view c.args.space.now) c.args.txn.now c.open_page.new.txn c.args.slots.first c.args.slots.end c.args.values.now c.args.at.height c.args.at.level (c.args.at.level - 1) c.args.at.index c.args.root.page c.args.root.span c.is_new-is_changed.result
+              is c.is_new-is_changed.ensures.old c.is_new-is_changed.ensures.new c.open_page.ensures.read (c.if-is_settled.ensures.unsettled refl).something,
+            c.in_ok-number.ensures.quiet,
+          ),
+        ),
       ),
     )
 
@@ -136,7 +145,13 @@ loop-child-preserved-then-is_apart g t c =
           λ base fits stored from mine kept at apart. apart_settled stored (left_by c.loop-child.txn base) from c.loop-child.txn.superblock c.child-below.result.height c.child-below.result.level c.child-below.result.index page (and_page c.in_ok-number.number mine) (and_children fits stored c.args.at.height (c.args.at.level - 1) c.args.at.index c.open_page.new.bytes (c.loop-child.child + 1) kept)
               (apart_child stored (left_by c.loop-child.txn base) from c.loop-child.txn.superblock c.args.at.height (c.args.at.level - 1) c.args.at.index c.loop-child.child c.child-below.result.height c.child-below.result.level c.child-below.result.index page c.open_page.new.bytes (and_page c.in_ok-number.number mine) kept
               c.loop-child-test.true c.child-below.ensures.height child_level c.child-below.ensures.index page_is (c.loop-child.invariant.1.1.0 base fits stored from mine kept at apart)),
-          c.loop-child.invariant.1.1.1,
+          (
+          still_on (shown.IsTold c.args.space.now) (shown.IsTold c.loop-child.space) (shown.view c.args.space.now) (shown.view c.loop-child.space) (shown.under c.args.space.now) (shown.under c.loop-child.space) (shown.numbers c.args.space.now) (shown.numbers c.loop-child.space) c.args.txn.now c.loop-child.txn c.loop-child.txn c.args.slots.first c.args.slots.end c.args.values.now c.args.at.height c.args.at.level (c.args.at.level - 1) c.args.at.index c.args.root.page c.args.root.span c.in_ok-number.number c.loop-child.bytes (span_at c.loop-child.spans) c.loop-child.child c.child-below.result.height c.child-below.result.level c.child-below.result.index page top c.loop-child.is_changed c.loop-child.is_changed
+              c.loop-child.invariant.0 c.loop-child-test.true (omega (arith, c.if-at-eq0.false)) c.child-below.ensures.height child_level c.child-below.ensures.index refl refl c.loop-child.invariant.1.1.1.0 (λ no. no) (λ no. refl)
+              (λ no base count list list' others told lists placed. untouched_range c.args.slots.first c.args.slots.end c.args.values.now list list' c.child-below.result.level c.child-below.result.index lists.changed untouched)
+              (λ no base count list list' others told lists placed fits equal. no),
+          c.loop-child.invariant.1.1.1.1,
+          ),
         ),
       ),
     )
@@ -159,7 +174,11 @@ loop-child-preserved g t c =
               (told_on (1 + passed_below c.args.slots.first c.args.slots.end c.args.at.height (c.args.at.level - 1) c.args.at.index c.loop-child.child) (shown.IsTold c.args.space.now) (shown.IsTold c.loop-child.space) (shown.view c.args.space.now) (shown.view c.loop-child.space) base c.loop-child.invariant.0.moved.reads at)
               (apart_child stored (left_by c.loop-child.txn base) from c.loop-child.txn.superblock c.args.at.height (c.args.at.level - 1) c.args.at.index c.loop-child.child c.child-below.result.height c.child-below.result.level c.child-below.result.index c.child_root-old.result.page c.open_page.new.bytes (and_page c.in_ok-number.number mine) kept
               c.loop-child-test.true c.child-below.ensures.height child_level c.child-below.ensures.index page_is (c.loop-child.invariant.1.1.0 base fits stored from mine kept at apart)),
-          c.in_ok-next.ensures.quiet ∙ c.loop-child.invariant.1.1.1,
+          (
+          still_on (shown.IsTold c.args.space.now) (shown.IsTold c.loop-child.space) (shown.view c.args.space.now) (shown.view c.loop-child.space) (shown.under c.args.space.now) (shown.under c.loop-child.space) (shown.numbers c.args.space.now) (shown.numbers c.loop-child.space) c.args.txn.now c.loop-child.txn c.repair.new.txn c.args.slots.first c.args.slots.end c.args.values.now c.args.at.height c.args.at.level (c.args.at.level - 1) c.args.at.index c.args.root.page c.args.root.span c.in_ok-number.number c.loop-child.bytes (span_at c.loop-child.spans) c.loop-child.child c.child-below.result.height c.child-below.result.level c.child-below.result.index c.child_root-old.result.page c.child_root-old.result.span c.loop-child.is_changed c.repair.new.changed
+              c.loop-child.invariant.0 c.loop-child-test.true (omega (arith, c.if-at-eq0.false)) c.child-below.ensures.height child_level c.child-below.ensures.index c.child_root-old.ensures.page c.child_root-old.ensures.span c.loop-child.invariant.1.1.1.0 c.repair.ensures.was c.in_ok-next.ensures.kept c.in_ok-next.ensures.same c.in_ok-next.ensures.idle,
+          c.in_ok-next.ensures.quiet ∙ c.loop-child.invariant.1.1.1.1,
+          ),
         ),
       ),
     )
@@ -268,10 +287,61 @@ returns-clause-apart g t c = λ base fits stored from mine kept at apart.
     c.close_page.ensures.apart fits base stored from mine kept
     (apart_end stored (left_by c.loop-child.txn base) from c.loop-child.txn.superblock c.args.at.height (c.args.at.level - 1) c.args.at.index c.loop-child.child c.open_page.new.bytes (and_page c.in_ok-number.number mine) kept (c.loop-child.invariant.1.1.0 base fits stored from mine kept at apart))
 
+pub returns-then-at-eq0-clause-same : goal.returns-then-at-eq0-clause-same
+returns-then-at-eq0-clause-same g t c = λ unchanged base count list list' others told lists placed.
+    slot_same count (left_by c.args.txn.now base) c.args.txn.now.superblock c.args.slots.first c.args.slots.end c.args.values.now list list' c.args.at.height c.args.at.level c.args.at.index c.args.root.page c.args.root.span c.slot_after-span.result others
+    c.if-at-eq0.true lists placed c.slot_after-span.ensures.span (c.note_change.ensures.same unchanged)
+
+pub returns-then-at-eq0-clause-idle : goal.returns-then-at-eq0-clause-idle
+returns-then-at-eq0-clause-idle g t c = λ unchanged base count list list' others told lists placed fits equal.
+    c.note_change.ensures.idle unchanged
+    (slot_idle count (left_by c.args.txn.now base) c.args.txn.now.superblock c.args.slots.first c.args.slots.end c.args.values.now list list' c.args.at.height c.args.at.level c.args.at.index c.args.root.page c.args.root.span c.slot_after-span.result others
+    c.if-at-eq0.true lists placed c.slot_after-span.ensures.span equal)
+
+pub returns-then-is_settled-clause-same : goal.returns-then-is_settled-clause-same
+returns-then-is_settled-clause-same g t c = λ unchanged base count list list' others told lists placed.
+    let is : c.args.at.level ≡ suc (c.args.at.level - 1) = omega (arith, c.if-at-eq0.false) in
+    settled_same count (left_by c.args.txn.now base) c.args.txn.now.superblock c.args.slots.first c.args.slots.end c.args.values.now list list' c.args.at.height c.args.at.level (c.args.at.level - 1) c.args.at.index c.args.root.page c.args.root.span others
+    is lists placed (c.if-is_settled.ensures.settled refl)
+
+pub returns-then-not-is_changed-clause-moved : goal.returns-then-not-is_changed-clause-moved
+returns-then-not-is_changed-clause-moved g t c =
+    let depth : (c.args.at.level - 1) + 1 ≡ c.args.at.level = omega (arith, c.if-at-eq0.false) in
+    let whole = touch_level c.args.slots.first c.args.slots.end c.args.at.height c.args.at.level (c.args.at.level - 1) c.args.at.index depth (c.if-is_settled.ensures.unsettled refl).passed in
+    moved_still (shown.IsTold c.args.space.now) (shown.IsTold c.loop-child.space) (shown.view c.args.space.now) (shown.view c.loop-child.space) (shown.under c.args.space.now) (shown.under c.loop-child.space) (shown.numbers c.args.space.now) (shown.numbers c.loop-child.space) c.args.txn.now c.loop-child.txn c.args.slots.first c.args.slots.end c.args.values.now c.args.at.height c.args.at.level (c.args.at.level - 1) c.args.at.index c.args.root.page c.args.root.span c.in_ok-number.number c.loop-child.bytes (span_at c.loop-child.spans) c.loop-child.child
+    c.loop-child.invariant.0 (omega (arith, c.loop-child-test.false, c.loop-child.auto.child-end)) whole
+
+pub returns-then-not-is_changed-clause-apart : goal.returns-then-not-is_changed-clause-apart
+returns-then-not-is_changed-clause-apart g t c = λ base fits stored from mine kept at apart.
+    let P : Txn → Type 0 = λ txn. StandsApart fits stored (left_by txn base) from txn.superblock mine kept in
+    subst P (sym (c.loop-child.invariant.1.1.1.0.kept c.if-not-is_changed.true)) (apart_settled stored (left_by c.args.txn.now base) from c.args.txn.now.superblock c.args.at.height c.args.at.level c.args.at.index c.args.root.page mine kept apart)
+
+pub returns-then-not-is_changed-clause-repaired : goal.returns-then-not-is_changed-clause-repaired
+returns-then-not-is_changed-clause-repaired g t c = λ base count list list' others told lists placed.
+    let is : c.args.at.level ≡ suc (c.args.at.level - 1) = omega (arith, c.if-at-eq0.false) in
+    let end : c.loop-child.child ≡ 128 = omega (arith, c.loop-child-test.false, c.loop-child.auto.child-end) in
+    let still = c.loop-child.invariant.1.1.1.0 in
+    let old = still.old_page c.if-not-is_changed.true in
+    let P : Txn → Type 0 = λ txn. IsRepaired count (left_by c.args.txn.now base) (left_by txn base) txn.superblock list' c.args.at.level c.args.at.index c.args.root.page c.args.root.span others in
+    subst P (sym (still.kept c.if-not-is_changed.true))
+    (still_repaired count (left_by c.args.txn.now base) c.args.txn.now.superblock list list' c.args.at.height c.args.at.level c.args.at.index c.args.root.page c.args.root.span others old.0 old.1
+    (still_same (shown.IsTold c.args.space.now) (shown.view c.args.space.now) c.args.txn.now c.loop-child.txn c.args.slots.first c.args.slots.end c.args.values.now c.args.at.height c.args.at.level (c.args.at.level - 1) c.args.at.index c.args.root.page c.args.root.span c.loop-child.is_changed c.loop-child.child is end c.if-not-is_changed.true still base count list list' others told lists placed)
+    placed)
+
+pub returns-then-not-is_changed-clause-same : goal.returns-then-not-is_changed-clause-same
+returns-then-not-is_changed-clause-same g t c = λ unchanged.
+    let is : c.args.at.level ≡ suc (c.args.at.level - 1) = omega (arith, c.if-at-eq0.false) in
+    let end : c.loop-child.child ≡ 128 = omega (arith, c.loop-child-test.false, c.loop-child.auto.child-end) in
+    still_same (shown.IsTold c.args.space.now) (shown.view c.args.space.now) c.args.txn.now c.loop-child.txn c.args.slots.first c.args.slots.end c.args.values.now c.args.at.height c.args.at.level (c.args.at.level - 1) c.args.at.index c.args.root.page c.args.root.span c.loop-child.is_changed c.loop-child.child is end c.if-not-is_changed.true c.loop-child.invariant.1.1.1.0
+
+pub returns-clause-idle : goal.returns-clause-idle
+returns-clause-idle g t c = λ unchanged base count list list' others told lists placed fits equal.
+    absurd (let no_more : c.loop-child.is_changed ≡ false = c.loop-child.invariant.1.1.1.0.idle base count list list' others told lists placed fits equal in let yes : c.loop-child.is_changed ≡ true = c.if-not-is_changed.false in cc (no_more, yes))
+
 pub returns-in_err-next-clause-quiet_err : goal.returns-in_err-next-clause-quiet_err
 returns-in_err-next-clause-quiet_err g t c =
     error_so _ _ c.from_residual-in_err-next.result c.from_residual-in_err-next.ensures.1
-    (λ e same other. c.in_err-next.ensures.quiet_err (λ is. other (same ∙ is)) ∙ c.loop-child.invariant.1.1.1)
+    (λ e same other. c.in_err-next.ensures.quiet_err (λ is. other (same ∙ is)) ∙ c.loop-child.invariant.1.1.1.1)
 
 pub returns-clause-quiet : goal.returns-clause-quiet
-returns-clause-quiet g t c = ap (λ s. (shown.view s).faults) c.close_page.ensures.same ∙ c.loop-child.invariant.1.1.1
+returns-clause-quiet g t c = ap (λ s. (shown.view s).faults) c.close_page.ensures.same ∙ c.loop-child.invariant.1.1.1.1

@@ -86,6 +86,22 @@ returns-in-Err-clause-none_cleared g c = λ total book told stands none.
     let same : c.finish.new.space ≡ c.stage.new.space = c.finish.ensures.none quiet in
     rw same (c.stage.ensures.carried.reads.syncs, c.stage.ensures.carried.reads.writes)
 
+pub returns-in-Ok-clause-kept : goal.returns-in-Ok-clause-kept
+returns-in-Ok-clause-kept g c = λ total book told stands keeps.
+    let S : Image → Type 0 = λ i. StandsForBook i total book in
+    let nothing = c.in_ok-staged.ensures.kept total book told (subst S (sym (c.requires.clean.1 told)) stands) keeps in
+    let quiet : not c.is_nothing.result ≡ false = ap not (c.is_nothing.ensures.1 nothing) in
+    let same : c.finish.new.space ≡ c.stage.new.space = c.finish.ensures.none quiet in
+    rw same (c.stage.ensures.carried.reads.syncs, c.stage.ensures.carried.reads.writes)
+
+pub returns-in-Err-clause-kept : goal.returns-in-Err-clause-kept
+returns-in-Err-clause-kept g c = λ total book told stands keeps.
+    let S : Image → Type 0 = λ i. StandsForBook i total book in
+    let nothing = c.in_ok-staged.ensures.kept total book told (subst S (sym (c.requires.clean.1 told)) stands) keeps in
+    let quiet : not c.is_nothing.result ≡ false = ap not (c.is_nothing.ensures.1 nothing) in
+    let same : c.finish.new.space ≡ c.stage.new.space = c.finish.ensures.none quiet in
+    rw same (c.stage.ensures.carried.reads.syncs, c.stage.ensures.carried.reads.writes)
+
 pub returns-in_err-staged-clause-quiet_err : goal.returns-in_err-staged-clause-quiet_err
 returns-in_err-staged-clause-quiet_err g c =
     error_so _ _ c.from_residual.result c.from_residual.ensures.1

@@ -27,7 +27,7 @@ returns-in-Ok-clause-answered g c = λ total book told stands.
     let P : List (Result Outcome Refusal) → Type 0 = λ old. c.push-added.new.self.items ≡ old ++ answer ∷ [] in
     let are : P c.args.answers.now.items = subst P c.in_ok-reserve.ensures.items (pushed c.push-added.result c.reserve.new.self.items c.push-added.new.self.items answer c.push-added.ensures.items (c.push-added.ensures.succeeds (omega (arith, c.in_ok-reserve.ensures.ok)))) in
     next_by_ok total book c.args.edit.now staged c.args.txn.now c.stage.new.txn (left_by c.stage.new.txn new) c.args.answers.now.items c.push-added.new.self.items are (c.in-Ok.ensures.answered total book told stands)
-    (c.in-Ok.ensures.none_cleared total book told stands) c.in-Ok.ensures.carried.nothing
+    (c.in-Ok.ensures.none_cleared total book told stands) (c.in-Ok.ensures.kept total book told stands) c.in-Ok.ensures.carried.nothing
 
 pub returns-in_err-refusal-in-Err-clause-next : goal.returns-in_err-refusal-in-Err-clause-next
 returns-in_err-refusal-in-Err-clause-next g c =

@@ -1,4 +1,4 @@
-use Rattle.std.proofs.Common.{◌≡◌, ℕ, ℤ, ◌+◌, ◌≤◌, List, length, slice_get, Option, Result, Ok, OnOk, refl, sym, ap, subst, ◌∙◌, arith}
+use Rattle.std.proofs.Common.{◌≡◌, ℕ, ℤ, ◌+◌, ◌≤◌, List, length, slice_get, Option, Result, Ok, OnOk, true, false, refl, sym, ap, subst, ◌∙◌, arith}
 use Rattle.block_disk.specs.View.{Image}
 use Rattle.page_space.specs.Transactions.{left_by}
 use Rattle.path_repair.proofs.CallLemmas.{clear_puts}
@@ -19,6 +19,7 @@ use Rattle.series_store.specs.Staging.{IsPartChanged, IsRefusal}
 use Rattle.series_store.proofs.CarryLemmas.{names_below}
 use Rattle.series_store.proofs.ChangeLemmas.{root_below, own_tree, clear_edited}
 use Rattle.series_store.proofs.StageLemmas.{clear_touch}
+use Rattle.series_store.proofs.KeptLemmas.{with_same, staging_kept, staged_kept, kept_stands, slots_back}
 use Rattle.series_store.proofs.RecordLemmas.{known_some}
 use Rattle.series_store.proofs.StageLemmas.{later_staged, staged_error, staged_saved, staged_store, staging_error, staging_saved}
 use Rattle.tree_walk.proofs.StepLemmas.{error_so}
@@ -188,6 +189,82 @@ returns-clause-answered g c = λ total book series told' stands found.
     staged_saved answer (with_cleared book c.args.id series c.args.slot c.args.count) (touched_slots series c.args.slot (c.args.slot + c.args.count)) total c.in_ok-tree.tree.slots c.save.result txn c.save.new.txn (left_by c.save.new.txn (view new.pages).image) (λ now. refl) (part.changed.edited.holds.is_tree.slots ∙ edited.length_is ∙ held_tree.is_tree.slots)
     c.save.ensures.error (subst B (c.clear_run.ensures.moved.total ∙ store.1) (c.save.ensures.stands (c.clear_run.ensures.moved.reads.told told') one book series slots c.series.ensures part)) c.save.ensures.slots
     (omega (arith, c.save.ensures.len, c.clear_run.ensures.moved.held, clear_touch c.args.slot (c.args.slot + c.args.count) tree.slots (length series.slots) held_tree.is_tree.slots room))
+
+pub returns-then-is_kept-clause-carried : goal.returns-then-is_kept-clause-carried
+returns-then-is_kept-clause-carried g c =
+    let told = g.P.Pages.told in
+    let view = g.P.Pages.view in
+    let under = g.P.Pages.under in
+    let old = c.args.space.now in
+    let mid = c.clear_run.new.space in
+    let txn = c.args.txn.now in
+    let changed = c.clear_run.new.txn in
+    let one : StoredSeries = c.series.result.now in
+    let tree = one.tree in
+    let items : List StoredSeries = c.args.catalog.now.series.items in
+    let fewer = (c.requires.staged.catalog.fits c.args.id one c.series.ensures).slots in
+    let five = levels_few tree.slots in
+    let puts = clear_puts c.args.slot c.args.count tree.slots c.requires.short in
+    let kept = c.is_kept.ensures.0 c.if-is_kept.true in
+    let same : changed ≡ txn = c.in_ok-tree.ensures.kept kept.0 in
+    staging_kept (told old.pages) (told mid.pages) (view old.pages) (view mid.pages) (under old.pages) (under mid.pages) old.superblock mid.superblock txn changed items c.nothing.result (omega (arith, puts, five)) (omega (arith, puts, five))
+    c.clear_run.ensures.moved (λ t. c.clear_run.ensures.catalog (view old.pages).image (record { are_told = t; are = refl })) c.requires.staged same c.nothing.ensures.undo (omega (arith, fewer, c.nothing.ensures.slots))
+
+pub returns-then-is_kept-clause-answered : goal.returns-then-is_kept-clause-answered
+returns-then-is_kept-clause-answered g c = λ total book series told' stands found.
+    let told = g.P.Pages.told in
+    let view = g.P.Pages.view in
+    let under = g.P.Pages.under in
+    let old = c.args.space.now in
+    let mid = c.clear_run.new.space in
+    let txn = c.args.txn.now in
+    let changed = c.clear_run.new.txn in
+    let one : StoredSeries = c.series.result.now in
+    let tree = one.tree in
+    let items : List StoredSeries = c.args.catalog.now.series.items in
+    let before : Image = left_by txn (view old.pages).image in
+    let store : IsStore before txn.superblock book × (txn.superblock.total ≡ total) = staged_store txn (view old.pages).image total book c.requires.staged.catalog.small stands in
+    let says : entry before c.args.id ≡ entry_of one = c.requires.staged.catalog.are_told told' c.args.id one c.series.ensures in
+    let W : StoredSeries → Type 0 = λ one. c.args.slot + c.args.count ≤ one.tree.slots in
+    let room : W one = known_some (slice_get items c.args.id) one W c.series.ensures c.requires.within in
+    let slots : List (Option ℤ) = cleared series.slots c.args.slot c.args.count in
+    let edited = clear_edited before txn.superblock book c.args.id series one c.args.slot c.args.count store.0 found says room in
+    let held_tree = own_tree before txn.superblock book c.args.id series one store.0 found says in
+    let answer : Result Edited Refusal = Ok (with_cleared book c.args.id series c.args.slot c.args.count) in
+    let kept = c.is_kept.ensures.0 c.if-is_kept.true in
+    let still : changed ≡ txn = c.in_ok-tree.ensures.kept kept.0 in
+    let same : slots ≡ series.slots = c.in_ok-tree.ensures.same kept.0 (view old.pages).image txn.superblock.total series.slots slots (pages_of_others before (length book) c.args.id) (record { are_told = told'; are = refl }) held_tree edited in
+    let book_is : with_slots book c.args.id series slots ≡ book = ap (λ l. with_slots book c.args.id series l) same ∙ with_same book c.args.id series found in
+    let after = kept_stands (view old.pages).image (view mid.pages).image txn changed total book (with_slots book c.args.id series slots) book_is (c.clear_run.ensures.moved.reads.image told') still stands in
+    staged_kept answer (with_cleared book c.args.id series c.args.slot c.args.count) (touched_slots series c.args.slot (c.args.slot + c.args.count)) total c.nothing.result txn changed (left_by changed (view mid.pages).image) (λ now. refl) (c.nothing.ensures.slots ∙ held_tree.is_tree.slots) after still
+
+pub returns-clause-kept : goal.returns-clause-kept
+returns-clause-kept g c = λ total book series told' stands found keeps.
+    let told = g.P.Pages.told in
+    let view = g.P.Pages.view in
+    let under = g.P.Pages.under in
+    let old = c.args.space.now in
+    let mid = c.clear_run.new.space in
+    let txn = c.args.txn.now in
+    let changed = c.clear_run.new.txn in
+    let one : StoredSeries = c.series.result.now in
+    let tree = one.tree in
+    let items : List StoredSeries = c.args.catalog.now.series.items in
+    let before : Image = left_by txn (view old.pages).image in
+    let store : IsStore before txn.superblock book × (txn.superblock.total ≡ total) = staged_store txn (view old.pages).image total book c.requires.staged.catalog.small stands in
+    let says : entry before c.args.id ≡ entry_of one = c.requires.staged.catalog.are_told told' c.args.id one c.series.ensures in
+    let W : StoredSeries → Type 0 = λ one. c.args.slot + c.args.count ≤ one.tree.slots in
+    let room : W one = known_some (slice_get items c.args.id) one W c.series.ensures c.requires.within in
+    let slots : List (Option ℤ) = cleared series.slots c.args.slot c.args.count in
+    let edited = clear_edited before txn.superblock book c.args.id series one c.args.slot c.args.count store.0 found says room in
+    let held_tree = own_tree before txn.superblock book c.args.id series one store.0 found says in
+    let answer : Result Edited Refusal = Ok (with_cleared book c.args.id series c.args.slot c.args.count) in
+    let other : slots ≡ series.slots → ⊥ = λ equal.
+    let unchanged = c.in_ok-tree.ensures.idle refl (view old.pages).image txn.superblock.total series.slots slots (pages_of_others before (length book) c.args.id) (record { are_told = told'; are = refl }) held_tree edited equal in
+    let yes : c.is_kept.result ≡ true = c.is_kept.ensures.1 (unchanged, c.in_ok-tree.ensures.tree.slots_are) in
+    let no_more : c.is_kept.result ≡ false = c.if-is_kept.false in
+    cc (yes, no_more) in
+    absurd (other (slots_back book c.args.id series slots found (keeps (with_cleared book c.args.id series c.args.slot c.args.count) refl)))
 
 pub returns-in_err-tree-clause-quiet_err : goal.returns-in_err-tree-clause-quiet_err
 returns-in_err-tree-clause-quiet_err g c =

@@ -11,6 +11,7 @@ use Rattle.block_disk.specs.View.{Image}
 use Rattle.page_space.specs.Transactions.{left_by}
 use Rattle.stored_book.specs.Standing.{IsStore}
 use Rattle.series_store.specs.Groups.{touch_of, touched_slots}
+use Rattle.series_store.specs.Results.{KeepsBook}
 use Rattle.series_store.specs.Staging.{IsStagedBy}
 use Rattle.series_store.proofs.StageLemmas.{staged_error, staged_store}
 use Rattle.series_store.proofs.FindLemmas.{IsFound, found, touch_found, unknown, is_axis, change_unknown, append_answer}
@@ -66,3 +67,21 @@ returns-clause-answered g c = λ total book told stands.
     (ap (λ (slots : List (Option ℤ)). within total book c.in-Some.id is.series (Ok slots)) same
     ∙ sym (append_answer book total c.args.name.now c.args.values.now c.in-Some.id is.series (Ok (overwritten is.series.slots (length is.series.slots) c.args.values.now)) is.is_id is.there says))
     (c.put.ensures.answered total book is.series told stands is.there))
+
+pub returns-clause-kept : goal.returns-clause-kept
+returns-clause-kept g c = λ total book told stands keeps.
+    let txn = c.args.txn.now in
+    let base : Image = (g.P.Pages.view c.args.space.now.pages).image in
+    let items : List StoredSeries = c.args.catalog.now.series.items in
+    let store : IsStore (left_by txn base) txn.superblock book = (staged_store txn base total book c.requires.staged.catalog.small stands).0 in
+    let one : StoredSeries = c.series.result.now in
+    let is : IsFound book c.args.name.now c.in-Some.id one = found (left_by txn base) txn.superblock book items c.args.name.now c.in-Some.id one store c.requires.staged.catalog.count (c.requires.staged.catalog.are_told told) c.in-Some.ensures.id c.series.ensures in
+    let axis : IsAxisOf is.series c.axis-axis.result = is_axis book c.args.name.now c.in-Some.id one c.axis-axis.result is c.axis-axis.ensures.start c.axis-axis.ensures.step c.axis-axis.ensures.slots in
+    let says : appended is.series c.args.values.now ≡ Ok (overwritten is.series.slots (length is.series.slots) c.args.values.now) = c.in_default-append_refusal.ensures.refusal is.series axis in
+    let run : c.deref.result.now ≡ c.args.values.now = c.deref.ensures.value ∙ c.in_ok-run.ensures.slots in
+    let same : overwritten is.series.slots c.axis-axis.result.slots c.deref.result.now ≡ overwritten is.series.slots (length is.series.slots) c.args.values.now =
+    ap (λ n. overwritten is.series.slots n c.deref.result.now) axis.slots ∙ ap (λ values. overwritten is.series.slots (length is.series.slots) values) run in
+    let K : Result Edited Refusal → Type 0 = λ answer. KeepsBook book answer in
+    c.put.ensures.kept total book is.series told stands is.there
+    (subst K (sym (ap (λ (slots : List (Option ℤ)). within total book c.in-Some.id is.series (Ok slots)) same
+    ∙ sym (append_answer book total c.args.name.now c.args.values.now c.in-Some.id is.series (Ok (overwritten is.series.slots (length is.series.slots) c.args.values.now)) is.is_id is.there says))) keeps)

@@ -13,6 +13,7 @@ use Rattle.block_disk.specs.View.{Image}
 use Rattle.page_space.specs.Transactions.{left_by}
 use Rattle.stored_book.specs.Standing.{IsStore}
 use Rattle.series_store.specs.Groups.{touch_of, touched_slots}
+use Rattle.series_store.specs.Results.{KeepsBook}
 use Rattle.series_store.specs.Staging.{IsStagedBy}
 use Rattle.series_store.proofs.StageLemmas.{staged_error, staged_store, staging_nothing}
 use Rattle.series_store.proofs.FindLemmas.{IsFound, found, touch_found, unknown, is_axis, change_unknown, clear_answer, clear_there, clear_none}
@@ -131,3 +132,22 @@ returns-clause-none_cleared g c = λ total book told stands none.
       | inl no_count ↦ absurd (c.if-count-eq0.false no_count)
       | inr past ↦ absurd (omega (arith, past, place, axis.slots, c.if-place-from.false, c.from.ensures))
     ]
+
+pub returns-clause-kept : goal.returns-clause-kept
+returns-clause-kept g c = λ total book told stands keeps.
+    let txn = c.args.txn.now in
+    let base : Image = (g.P.Pages.view c.args.space.now.pages).image in
+    let items : List StoredSeries = c.args.catalog.now.series.items in
+    let store : IsStore (left_by txn base) txn.superblock book = (staged_store txn base total book c.requires.staged.catalog.small stands).0 in
+    let one : StoredSeries = c.series.result.now in
+    let is : IsFound book c.args.name.now c.in-Some.id one = found (left_by txn base) txn.superblock book items c.args.name.now c.in-Some.id one store c.requires.staged.catalog.count (c.requires.staged.catalog.are_told told) c.in-Some.ensures.id c.series.ensures in
+    let axis : IsAxisOf is.series c.axis-axis.result = is_axis book c.args.name.now c.in-Some.id one c.axis-axis.result is c.axis-axis.ensures.start c.axis-axis.ensures.step c.axis-axis.ensures.slots in
+    let T : ℤ → Type 0 = λ time. cleared_at is.series time c.args.count ≡ Ok (cleared is.series.slots (place_of is.series time) c.args.count) in
+    let says : cleared_at is.series c.args.time c.args.count ≡ Ok (cleared is.series.slots (place_of is.series c.args.time) c.args.count) = subst T (to_z-of_z w128 c.args.time c.ranges.time) (c.in_default-clear_refusal.ensures.refusal is.series axis) in
+    let place : c.place_of-place.result ≡ place_of is.series c.args.time = c.place_of-place.ensures is.series axis ∙ ap (λ (time : ℤ). place_of is.series time) (to_z-of_z w128 c.args.time c.ranges.time) in
+    let slot : ℕ = c.place_of-place.result in
+    let some : ℕ = c.min-end.result - slot in
+    let so : some ≡ min (slot + c.args.count) (length is.series.slots) - slot = ap (λ n. n - slot) (c.min-end.ensures ∙ ap (λ n. min (slot + c.args.count) n) axis.slots) in
+    let K : Result Edited Refusal → Type 0 = λ answer. KeepsBook book answer in
+    c.clear_slots.ensures.kept total book is.series told stands is.there
+    (subst K (clear_there book total c.args.name.now c.args.time c.args.count c.in-Some.id slot some is.series is.is_id is.there says place (omega (arith, c.if-place-from.false, c.from.ensures, axis.slots)) so) keeps)

@@ -49,3 +49,18 @@ pub returns-in-Err-NoMemory-clause-moments : goal.returns-in-Err-NoMemory-clause
 returns-in-Err-NoMemory-clause-moments g c = λ total book told stands.
     let self = c.args.self.now in
     edit_moments total book c.args.edit.now self.sessions (g.P.Pages.view (shown.pages self)) (g.P.Pages.view (stored.pages c.edit.new.self)) (c.is_sound.ensures.state total book c.requires.sound told stands) (c.edit.ensures.moments total book told stands)
+
+pub returns-in-Ok-clause-same_book : goal.returns-in-Ok-clause-same_book
+returns-in-Ok-clause-same_book g c = λ total book told stands keeps. c.edit.ensures.same_book total book told stands keeps
+
+pub returns-in-Err-Refused-clause-same_book : goal.returns-in-Err-Refused-clause-same_book
+returns-in-Err-Refused-clause-same_book g c = λ total book told stands keeps. c.edit.ensures.same_book total book told stands keeps
+
+pub returns-in-Err-DiskFault-clause-same_book : goal.returns-in-Err-DiskFault-clause-same_book
+returns-in-Err-DiskFault-clause-same_book g c = λ total book told stands keeps. c.edit.ensures.same_book total book told stands keeps
+
+pub returns-in-Err-Damaged-clause-same_book : goal.returns-in-Err-Damaged-clause-same_book
+returns-in-Err-Damaged-clause-same_book g c = λ total book told stands keeps. c.edit.ensures.same_book total book told stands keeps
+
+pub returns-in-Err-NoMemory-clause-same_book : goal.returns-in-Err-NoMemory-clause-same_book
+returns-in-Err-NoMemory-clause-same_book g c = λ total book told stands keeps. c.edit.ensures.same_book total book told stands keeps

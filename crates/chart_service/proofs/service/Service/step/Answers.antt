@@ -1,8 +1,13 @@
-use Rattle.std.proofs.Common.{IfOk, sym, ap, subst}
+use Rattle.std.proofs.Common.{◌≡◌, ◌∷◌, [], All, IfOk, sym, ap, subst}
+use Rattle.std.proofs.lemmas.List.Elements.{All-head}
 use Rattle.block_disk.specs.View.{Image, Passes}
 use Rattle.gate_pages.specs.Pages.{Quiet}
 use Rattle.page_space.specs.declared.superblock.Superblock.{Superblock}
 use Rattle.request_lines.specs.declared.requests.Request.{Request}
+use Rattle.request_lines.specs.declared.requests.Request.TheVariants.{Edit as EditRequest}
+use Rattle.series_book.specs.Edits.{apply}
+use Rattle.series_store.specs.Results.{KeepsBook}
+use Rattle.chart_service.specs.Syncing.{edit_asked}
 use Rattle.stored_book.specs.Standing.{StandsForBook}
 use Rattle.chart_service.specs.Stepping.{StandsAfter, state_of, RepliedTo, IsBeforeOrAfter, ReadsFew}
 use Rattle.chart_service.specs.Shown as shown
@@ -68,6 +73,7 @@ returns-in_default g c =
       sessions = looked.lost;
       unchanged = unchanged_so r (g.P.Pages.told (stored.pages store)) (g.P.Pages.view (stored.pages store)) (g.P.Pages.view (stored.pages new)) (unchanged _ _ _ _ _ _ _ _ _ _ looks);
       idle = λ none. unchanged _ _ _ _ _ _ _ _ _ _ looks;
+      same_book = λ total book told stands keeps. let kept = unchanged _ _ _ _ _ _ _ _ _ _ looks in (kept.syncs, kept.writes);
       cause = c.look-reply.ensures.cause;
       bad = look_bad r _ _ _ _ _ _ _ _ _ _ own looks looked.cause;
       steps = steps_so _ _ _ _ _ _ _ _ _ _ looks;
@@ -78,3 +84,10 @@ returns-in_default g c =
 
 pub returns-in-Edit-clause-idle : goal.returns-in-Edit-clause-idle
 returns-in-Edit-clause-idle g c = λ none. absurd (asks_one c.args.request.now c.in-Edit.edit c.in-Edit.is none)
+
+pub returns-in-Edit-clause-same_book : goal.returns-in-Edit-clause-same_book
+returns-in-Edit-clause-same_book g c = λ total book told stands keeps.
+    let K : Request → Type 0 = λ r. All (λ edit. KeepsBook book (apply book total edit)) (edit_asked r) in
+    let is : c.args.request.now ≡ EditRequest c.in-Edit.edit = c.in-Edit.is in
+    let kept : All (λ edit. KeepsBook book (apply book total edit)) (c.in-Edit.edit ∷ []) = subst K is keeps in
+    c.edit.ensures.same_book total book told stands (All-head (λ edit. KeepsBook book (apply book total edit)) c.in-Edit.edit [] kept)

@@ -16,3 +16,6 @@ returns-clause-moments g c = rw (shown.IsTold, shown.image, shown.view, shown.pa
 
 pub returns-clause-idle : goal.returns-clause-idle
 returns-clause-idle g c = rw (shown.ForBook, shown.IsTold, shown.image, shown.view, shown.pages, ← c.select_none.ensures.space) (λ total book told stands none. c.edit_one.ensures.none_cleared total book told stands none)
+
+pub returns-clause-same_book : goal.returns-clause-same_book
+returns-clause-same_book g c = rw (shown.ForBook, shown.IsTold, shown.image, shown.view, shown.pages, ← c.select_none.ensures.space) (λ total book told stands keeps. c.edit_one.ensures.kept total book told stands keeps)

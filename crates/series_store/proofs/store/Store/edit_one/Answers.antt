@@ -34,3 +34,6 @@ returns-clause-answered g c = rw (shown.ForBook, shown.Answers, shown.IsTold, sh
 
 pub returns-clause-none_cleared : goal.returns-clause-none_cleared
 returns-clause-none_cleared g c = rw (shown.ForBook, shown.IsTold, shown.image, shown.view, shown.pages, ← c.begin.ensures.space) (λ total book told stands none. c.commit_one.ensures.none_cleared total book told stands none)
+
+pub returns-clause-kept : goal.returns-clause-kept
+returns-clause-kept g c = rw (shown.ForBook, shown.IsTold, shown.image, shown.view, shown.pages, ← c.begin.ensures.space) (λ total book told stands keeps. c.commit_one.ensures.kept total book told stands keeps)
