@@ -34,7 +34,7 @@ use Rattle.chart_service.proofs.Served.{spelling_makes, spells, made_spelled}
 
 -- ---- frames that name open sessions
 
-known_alike : (frame : Frame) (a b : ℕ → Bool) → ((n : ℕ) → a n ≡ b n) → NamesKnown frame a → NamesKnown frame b
+pub known_alike : (frame : Frame) (a b : ℕ → Bool) → ((n : ℕ) → a n ≡ b n) → NamesKnown frame a → NamesKnown frame b
 known_alike (Done slots) a b same named = tt
 known_alike (Refused number x y) a b same named = tt
 known_alike (Opened session cache) a b same named = tt
