@@ -1,5 +1,5 @@
 -- What `show` knows of the sessions that are open, and which frames it is given.
-use Rattle.std.specs.Prelude.{◌≡◌, ◌≤◌, ℕ, Bool, IsTrue, List, [], length, take, Option, Result, Ok, Err, ⊤}
+use Rattle.std.specs.Prelude.{◌≡◌, ◌≤◌, ℕ, Bool, IsTrue, All, List, [], length, take, Option, Result, Ok, Err, ⊤}
 use Rattle.block_disk.specs.Streams.{sent_after}
 use Rattle.chart_client.specs.declared.errors.ClientError.{ClientError}
 use Rattle.chart_client.specs.declared.show.Shown.{Shown}
@@ -24,10 +24,11 @@ abbrev pub EndsKnown : {V : Type 0} → Gives V → (V → ℕ → Bool) → Run
 EndsKnown gives knows (Serve end) = ⊤
 EndsKnown {V} gives knows (Show e) = (old : V) × (frame : Frame) × (new : V) × Fits frame × NamesKnown frame (knows old) × gives old (spelling frame) (Err e) new
 
--- Frames were given to `show` one after the other, each of which, if it closes a session or answers in it, names one that is
+-- Frames whose fields meet their rules were given to `show` one after the other, each of which, if it closes a session or answers in it, names one that is
 -- open by those before it. What was sent is the texts of what they showed, or a first part of that.
 pub record ShowsNamed {V : Type 0} (gives : Gives V) (old new : V) (sessions : List Session) (before now : Option (List ℕ)) : Type 0 where
   pub frames : List Frame
+  pub fits : All Fits frames
   pub named : NameOpen (λ n. is_open n sessions) frames
   pub text : List ℕ
   pub shown : AreShown gives old new [] frames text
@@ -41,6 +42,7 @@ pub record ShowStops {V : Type 0} (gives : Gives V) (old new : V) (sessions : Li
   pub given : ShowsNamed gives old last sessions before now
   pub whole : given.count ≡ length given.text
   pub frame : Frame
+  pub fits : Fits frame
   pub named : NamesKnown frame (λ n. opens_all given.frames n (is_open n sessions))
   pub fails : gives last (spelling frame) (Err e) new
 

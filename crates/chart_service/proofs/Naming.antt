@@ -5,13 +5,13 @@ use Rattle.std.proofs.Math.Seq.{take-append-add, take-length}
 use Rattle.std.proofs.lemmas.Bool.{eqb-true, eqb-false}
 use Rattle.std.proofs.lemmas.Grind.{flat_map-append}
 use Rattle.std.proofs.lemmas.List.{append-nil}
-use Rattle.std.proofs.lemmas.List.Elements.{All-cons, All-nil, All-tail}
+use Rattle.std.proofs.lemmas.List.Elements.{All-append, All-cons, All-nil, All-tail}
 use Rattle.block_disk.specs.Streams.{sent_after, PartSent}
 use Rattle.chart_world.specs.declared.line_answer.LineFault.{LineFault}
 use Rattle.chart_world.specs.declared.line_answer.LineFault.TheVariants as fault
 use Rattle.chart_frames.specs.declared.frame.Frame.{Frame}
 use Rattle.chart_frames.specs.declared.frame.Frame.TheVariants.{Done, Refused, Opened, Closed, View, Rows, Live}
-use Rattle.chart_frames.specs.Frames.{spelling}
+use Rattle.chart_frames.specs.Frames.{Fits, spelling}
 use Rattle.zoom_session.specs.declared.session.Session.{Session}
 use Rattle.zoom_session.specs.Sessions.{is_open}
 use Rattle.chart_service.specs.EditGroups.{IsEditReply}
@@ -116,21 +116,25 @@ named_opened frames named = λ front behind frame split.
 
 -- ---- frames that tell what edits gave
 
-abbrev Each : List Frame → Type 0
-Each [] = Unit {0}
-Each (f ∷ fs) = IsEditReply f × Each fs
+abbrev Each : (Frame → Type 0) → List Frame → Type 0
+Each P [] = Unit {0}
+Each P (f ∷ fs) = P f × Each P fs
 
-each_of : (frames : List Frame) → All IsEditReply frames → Each frames
-each_of [] all = tt
-each_of (f ∷ fs) all = (all 0 f (omega arith), each_of fs (All-tail IsEditReply f fs all))
+each_of : (P : Frame → Type 0) (frames : List Frame) → All P frames → Each P frames
+each_of P [] all = tt
+each_of P (f ∷ fs) all = (all 0 f (omega arith), each_of P fs (All-tail P f fs all))
 
-each_first : (front behind : List Frame) → Each (front ++ behind) → Each front
-each_first [] behind all = tt
-each_first (f ∷ fs) behind all = (all.0, each_first fs behind all.1)
+all_of : (P : Frame → Type 0) (frames : List Frame) → Each P frames → All P frames
+all_of P [] all = All-nil P
+all_of P (f ∷ fs) all = All-cons P f fs all.0 (all_of P fs all.1)
 
-each_behind : (front behind : List Frame) → Each (front ++ behind) → Each behind
-each_behind [] behind all = all
-each_behind (f ∷ fs) behind all = each_behind fs behind all.1
+each_first : (P : Frame → Type 0) (front behind : List Frame) → Each P (front ++ behind) → Each P front
+each_first P [] behind all = tt
+each_first P (f ∷ fs) behind all = (all.0, each_first P fs behind all.1)
+
+each_behind : (P : Frame → Type 0) (front behind : List Frame) → Each P (front ++ behind) → Each P behind
+each_behind P [] behind all = all
+each_behind P (f ∷ fs) behind all = each_behind P fs behind all.1
 
 edit_known : (frame : Frame) (a : ℕ → Bool) → IsEditReply frame → NamesKnown frame a
 edit_known (Done slots) a is = tt
@@ -150,11 +154,11 @@ edit_keeps (View view) n was is = absurd is
 edit_keeps (Rows rows) n was is = absurd is
 edit_keeps (Live session on) n was is = absurd is
 
-edits_name : (frames : List Frame) (a : ℕ → Bool) → Each frames → NameOpen a frames
+edits_name : (frames : List Frame) (a : ℕ → Bool) → Each IsEditReply frames → NameOpen a frames
 edits_name [] a all = tt
 edits_name (f ∷ fs) a all = (edit_known f a all.0, edits_name fs (λ n. opens f n (a n)) all.1)
 
-edits_keep : (frames : List Frame) (n : ℕ) (was : Bool) → Each frames → opens_all frames n was ≡ was
+edits_keep : (frames : List Frame) (n : ℕ) (was : Bool) → Each IsEditReply frames → opens_all frames n was ≡ was
 edits_keep [] n was all = refl
 edits_keep (f ∷ fs) n was all = edits_keep fs n (opens f n was) all.1 ∙ edit_keeps f n was all.0
 
@@ -162,15 +166,16 @@ edits_keep (f ∷ fs) n was all = edits_keep fs n (opens f n was) all.1 ∙ edit
 
 module _ {S F : Type 0} (makes : Makes S F) where
   pub gives_none : (v : S) (a : ℕ → Bool) (before : Option (List ℕ)) → Gives makes v v a a before before
-  gives_none v a before = record { frames = []; named = tt; open_now = λ n. refl; text = []; made = (refl, refl); sent = sent_none before }
+  gives_none v a before = record { frames = []; fits = All-nil Fits; named = tt; open_now = λ n. refl; text = []; made = (refl, refl); sent = sent_none before }
 
   pub gives_kept : (v w : S) (a b c : ℕ → Bool) (before now later : Option (List ℕ)) → ((n : ℕ) → c n ≡ b n) → later ≡ now → Gives makes v w a b before now → Gives makes v w a c before later
   gives_kept v w a b c before now later same same_now g =
-      record { frames = g.frames; named = g.named; open_now = λ n. same n ∙ g.open_now n; text = g.text; made = g.made; sent = same_now ∙ g.sent }
+      record { frames = g.frames; fits = g.fits; named = g.named; open_now = λ n. same n ∙ g.open_now n; text = g.text; made = g.made; sent = same_now ∙ g.sent }
 
   pub gives_joined : (u v w : S) (a b c : ℕ → Bool) (before mid now : Option (List ℕ)) → Gives makes u v a b before mid → Gives makes v w b c mid now → Gives makes u w a c before now
   gives_joined u v w a b c before mid now one two = record {
     frames = one.frames ++ two.frames;
+    fits = All-append Fits one.frames two.frames one.fits two.fits;
     named = name_joined one.frames two.frames a one.named (name_alike two.frames b (λ n. opens_all one.frames n (a n)) one.open_now two.named);
     open_now = λ n. two.open_now n ∙ ap (λ x. opens_all two.frames n x) (one.open_now n) ∙ sym (opens_joined one.frames two.frames n (a n));
     text = one.text ++ two.text;
@@ -178,23 +183,23 @@ module _ {S F : Type 0} (makes : Makes S F) where
     sent = sent_more one.text two.text before mid now one.sent two.sent;
   }
 
-  gives_one : (v w : S) (frame : Frame) (a b : ℕ → Bool) (before now : Option (List ℕ)) → NamesKnown frame a → ((n : ℕ) → b n ≡ opens frame n (a n)) → FrameSent makes frame v w before now → Gives makes v w a b before now
-  gives_one v w frame a b before now named after s =
-      record { frames = frame ∷ []; named = (named, tt); open_now = after; text = s.0; made = made_one makes v w [] frame s.0 s.1; sent = s.2 }
+  gives_one : (v w : S) (frame : Frame) (a b : ℕ → Bool) (before now : Option (List ℕ)) → Fits frame → NamesKnown frame a → ((n : ℕ) → b n ≡ opens frame n (a n)) → FrameSent makes frame v w before now → Gives makes v w a b before now
+  gives_one v w frame a b before now fits named after s =
+      record { frames = frame ∷ []; fits = All-cons Fits frame [] fits (All-nil Fits); named = (named, tt); open_now = after; text = s.0; made = made_one makes v w [] frame s.0 s.1; sent = s.2 }
 
   -- the next frame isn't
-  stops_one : (v w : S) (frame : Frame) (a : ℕ → Bool) (before now : Option (List ℕ)) (end : AnswerEnd F) → NamesKnown frame a → FrameStops makes frame v w before now end → StopsBehind makes v w a before now end
-  stops_one v w frame a before now (Serve ReadFault) named why = absurd why
-  stops_one v w frame a before now (Serve SendFault) named why = (frame, named, why)
-  stops_one v w frame a before now (Serve DiskFault) named why = absurd why
-  stops_one v w frame a before now (Serve (Damaged page)) named why = absurd why
-  stops_one v w frame a before now (Serve InputTooLong) named why = absurd why
-  stops_one v w frame a before now (Serve NoMemory) named why = absurd why
-  stops_one v w frame a before now (Reply e) named why = (frame, named, why)
+  stops_one : (v w : S) (frame : Frame) (a : ℕ → Bool) (before now : Option (List ℕ)) (end : AnswerEnd F) → Fits frame → NamesKnown frame a → FrameStops makes frame v w before now end → StopsBehind makes v w a before now end
+  stops_one v w frame a before now (Serve ReadFault) fits named why = absurd why
+  stops_one v w frame a before now (Serve SendFault) fits named why = (frame, fits, named, why)
+  stops_one v w frame a before now (Serve DiskFault) fits named why = absurd why
+  stops_one v w frame a before now (Serve (Damaged page)) fits named why = absurd why
+  stops_one v w frame a before now (Serve InputTooLong) fits named why = absurd why
+  stops_one v w frame a before now (Serve NoMemory) fits named why = absurd why
+  stops_one v w frame a before now (Reply e) fits named why = (frame, fits, named, why)
 
-  pub first_one : (v w : S) (frame : Frame) (a : ℕ → Bool) (before now : Option (List ℕ)) (end : AnswerEnd F) → NamesKnown frame a → FrameStops makes frame v w before now end → GivesFirst makes v w a before now end
-  first_one v w frame a before now end named why =
-      record { last = v; now_open = a; sent = before; given = gives_none v a before; stops = stops_one v w frame a before now end named why }
+  pub first_one : (v w : S) (frame : Frame) (a : ℕ → Bool) (before now : Option (List ℕ)) (end : AnswerEnd F) → Fits frame → NamesKnown frame a → FrameStops makes frame v w before now end → GivesFirst makes v w a before now end
+  first_one v w frame a before now end fits named why =
+      record { last = v; now_open = a; sent = before; given = gives_none v a before; stops = stops_one v w frame a before now end fits named why }
 
   -- frames were given, and then some first
   pub first_behind : (u v w : S) (a b : ℕ → Bool) (before mid now : Option (List ℕ)) (end : AnswerEnd F) → Gives makes u v a b before mid → GivesFirst makes v w b mid now end → GivesFirst makes u w a before now end
@@ -231,42 +236,45 @@ module _ {S F : Type 0} (makes : Makes S F) where
   gives_error v w old new before now (Err e) from is so = let P : AnswerEnd F → Type 0 = λ x. GivesFirst makes v w (λ n. is_open n old) before now x in subst P (sym is) so
 
   -- a frame is given, or it isn't
-  pub answer_gives : {T : Type 0} (v w : S) (r : Result T (AnswerEnd F)) (frame : Frame) (old new : List Session) (before mid now : Option (List ℕ)) → NamesKnown frame (λ n. is_open n old) → ((n : ℕ) → is_open n new ≡ opens frame n (is_open n old)) → mid ≡ before
+  pub answer_gives : {T : Type 0} (v w : S) (r : Result T (AnswerEnd F)) (frame : Frame) (old new : List Session) (before mid now : Option (List ℕ)) → Fits frame → NamesKnown frame (λ n. is_open n old) → ((n : ℕ) → is_open n new ≡ opens frame n (is_open n old)) → mid ≡ before
       → OnOk r (FrameSent makes frame v w mid now) → IfErr r (FrameStops makes frame v w mid now) → GivesBy makes v w old new before now r
-  answer_gives v w r frame old new before mid now named after same yes no =
+  answer_gives v w r frame old new before mid now fits named after same yes no =
       let Y : Option (List ℕ) → Type 0 = λ o. OnOk r (FrameSent makes frame v w o now) in
       let N : Option (List ℕ) → Type 0 = λ o. IfErr r (FrameStops makes frame v w o now) in
       gives_by v w old new before now r
-      (ok_so r (FrameSent makes frame v w before now) (Gives makes v w (λ n. is_open n old) (λ n. is_open n new) before now) (gives_one v w frame (λ n. is_open n old) (λ n. is_open n new) before now named after) (subst Y same yes))
-      (error_so r (FrameStops makes frame v w before now) (GivesFirst makes v w (λ n. is_open n old) before now) (λ end why. first_one v w frame (λ n. is_open n old) before now end named why) (subst N same no))
+      (ok_so r (FrameSent makes frame v w before now) (Gives makes v w (λ n. is_open n old) (λ n. is_open n new) before now) (gives_one v w frame (λ n. is_open n old) (λ n. is_open n new) before now fits named after) (subst Y same yes))
+      (error_so r (FrameStops makes frame v w before now) (GivesFirst makes v w (λ n. is_open n old) before now) (λ end why. first_one v w frame (λ n. is_open n old) before now end fits named why) (subst N same no))
 
   -- frames that tell what edits gave
-  gives_edits : (v w : S) (frames : List Frame) (a : ℕ → Bool) (before now : Option (List ℕ)) → Each frames → FramesSent makes frames v w before now → Gives makes v w a a before now
-  gives_edits v w frames a before now all s =
-      record { frames = frames; named = edits_name frames a all; open_now = λ n. sym (edits_keep frames n (a n) all); text = s.0; made = s.1; sent = s.2 }
+  gives_edits : (v w : S) (frames : List Frame) (a : ℕ → Bool) (before now : Option (List ℕ)) → Each Fits frames → Each IsEditReply frames → FramesSent makes frames v w before now → Gives makes v w a a before now
+  gives_edits v w frames a before now fits all s =
+      record { frames = frames; fits = all_of Fits frames fits; named = edits_name frames a all; open_now = λ n. sym (edits_keep frames n (a n) all); text = s.0; made = s.1; sent = s.2 }
 
-  first_edits : (v w : S) (frames : List Frame) (a : ℕ → Bool) (before now : Option (List ℕ)) (end : AnswerEnd F) → Each frames → FramesCut makes frames v w before now end → GivesFirst makes v w a before now end
-  first_edits v w frames a before now end all cut =
-      let all' : Each (cut.shown ++ cut.frame ∷ cut.later) = subst Each cut.frames_are all in
+  first_edits : (v w : S) (frames : List Frame) (a : ℕ → Bool) (before now : Option (List ℕ)) (end : AnswerEnd F) → Each Fits frames → Each IsEditReply frames → FramesCut makes frames v w before now end → GivesFirst makes v w a before now end
+  first_edits v w frames a before now end fits all cut =
+      let later = cut.frame ∷ cut.later in
+      let fits' : Each Fits (cut.shown ++ later) = subst (Each Fits) cut.frames_are fits in
+      let all' : Each IsEditReply (cut.shown ++ later) = subst (Each IsEditReply) cut.frames_are all in
       record {
         last = cut.last;
         now_open = a;
         sent = cut.sent;
-        given = gives_edits v cut.last cut.shown a before cut.sent (each_first cut.shown (cut.frame ∷ cut.later) all') cut.done;
-        stops = stops_one cut.last w cut.frame a cut.sent now end (edit_known cut.frame a (each_behind cut.shown (cut.frame ∷ cut.later) all').0) cut.stops;
+        given = gives_edits v cut.last cut.shown a before cut.sent (each_first Fits cut.shown later fits') (each_first IsEditReply cut.shown later all') cut.done;
+        stops = stops_one cut.last w cut.frame a cut.sent now end (each_behind Fits cut.shown later fits').0 (edit_known cut.frame a (each_behind IsEditReply cut.shown later all').0) cut.stops;
       }
 
-  pub edits_give : {T : Type 0} (v w : S) (r : Result T (AnswerEnd F)) (frames : List Frame) (old new : List Session) (before mid now : Option (List ℕ)) → All IsEditReply frames → new ≡ old → mid ≡ before
+  pub edits_give : {T : Type 0} (v w : S) (r : Result T (AnswerEnd F)) (frames : List Frame) (old new : List Session) (before mid now : Option (List ℕ)) → All Fits frames → All IsEditReply frames → new ≡ old → mid ≡ before
       → OnOk r (FramesSent makes frames v w mid now) → IfErr r (FramesCut makes frames v w mid now) → GivesBy makes v w old new before now r
-  edits_give v w r frames old new before mid now all same_sessions same yes no =
+  edits_give v w r frames old new before mid now fits all same_sessions same yes no =
       let Y : Option (List ℕ) → Type 0 = λ o. OnOk r (FramesSent makes frames v w o now) in
       let N : Option (List ℕ) → Type 0 = λ o. IfErr r (FramesCut makes frames v w o now) in
       let a : ℕ → Bool = λ n. is_open n old in
-      let each = each_of frames all in
+      let fit = each_of Fits frames fits in
+      let each = each_of IsEditReply frames all in
       gives_by v w old new before now r
       (ok_so r (FramesSent makes frames v w before now) (Gives makes v w a (λ n. is_open n new) before now)
-      (λ s. gives_kept v w a a (λ n. is_open n new) before now now (λ n. ap (λ l. is_open n l) same_sessions) refl (gives_edits v w frames a before now each s)) (subst Y same yes))
-      (error_so r (FramesCut makes frames v w before now) (GivesFirst makes v w a before now) (λ end cut. first_edits v w frames a before now end each cut) (subst N same no))
+      (λ s. gives_kept v w a a (λ n. is_open n new) before now now (λ n. ap (λ l. is_open n l) same_sessions) refl (gives_edits v w frames a before now fit each s)) (subst Y same yes))
+      (error_so r (FramesCut makes frames v w before now) (GivesFirst makes v w a before now) (λ end cut. first_edits v w frames a before now end fit each cut) (subst N same no))
 
 -- a frame that names an open session names a known one, where those are known that are open
 pub names_open : (frame : Frame) (sessions : List Session) → NamesOpen frame sessions → NamesKnown frame (λ n. is_open n sessions)
@@ -281,6 +289,7 @@ whole_named v w old b before now g =
     let same : g.text ≡ text = made_spelled spelling_makes spells v w [] g.frames g.text g.made in
     record {
       frames = g.frames;
+      fits = g.fits;
       named = g.named;
       count = length text;
       within = omega arith;
@@ -288,8 +297,8 @@ whole_named v w old b before now g =
     }
 
 -- and a first part of one more
-part_named : (v w : Unit {0}) (old : List Session) (b : ℕ → Bool) (before sent now : Option (List ℕ)) (frame : Frame) (piece : List ℕ) → Gives spelling_makes v w (λ n. is_open n old) b before sent → NamesKnown frame b → piece ≡ spelling frame → PartSent piece sent now → SendsNamed old before now
-part_named v w old b before sent now frame piece g known is part =
+part_named : (v w : Unit {0}) (old : List Session) (b : ℕ → Bool) (before sent now : Option (List ℕ)) (frame : Frame) (piece : List ℕ) → Gives spelling_makes v w (λ n. is_open n old) b before sent → Fits frame → NamesKnown frame b → piece ≡ spelling frame → PartSent piece sent now → SendsNamed old before now
+part_named v w old b before sent now frame piece g fits known is part =
     let a : ℕ → Bool = λ n. is_open n old in
     let text = flat_map spelling g.frames in
     let last = spelling frame ++ [] in
@@ -301,6 +310,7 @@ part_named v w old b before sent now frame piece g known is part =
     let gone : now ≡ sent_after (g.text ++ take part.count piece) before = sent_more g.text (take part.count piece) before sent now g.sent part.sent in
     record {
       frames = g.frames ++ frame ∷ [];
+      fits = All-append Fits g.frames (frame ∷ []) g.fits (All-cons Fits frame [] fits (All-nil Fits));
       named = name_joined g.frames (frame ∷ []) a g.named (known_alike frame b (λ n. opens_all g.frames n (a n)) g.open_now known, tt);
       count = length text + part.count;
       within = omega (arith, part.within, ap length piece_is, ap length all_is, length-append text last);
@@ -310,12 +320,12 @@ part_named v w old b before sent now frame piece g known is part =
 -- by the end
 first_named : (v w : Unit {0}) (old : List Session) (before now : Option (List ℕ)) (end : AnswerEnd Lack) → GivesFirst spelling_makes v w (λ n. is_open n old) before now end → SendsNamed old before now
 first_named v w old before now (Serve ReadFault) g = whole_named v g.last old g.now_open before now (gives_kept spelling_makes v g.last (λ n. is_open n old) g.now_open g.now_open before g.sent now (λ n. refl) g.stops.1 g.given)
-first_named v w old before now (Serve SendFault) g = part_named v g.last old g.now_open before g.sent now g.stops.0 g.stops.2.0 g.given g.stops.1 (spells g.last w g.stops.0 g.stops.2.0 g.stops.2.1) g.stops.2.2
+first_named v w old before now (Serve SendFault) g = part_named v g.last old g.now_open before g.sent now g.stops.0 g.stops.3.0 g.given g.stops.1 g.stops.2 (spells g.last w g.stops.0 g.stops.3.0 g.stops.3.1) g.stops.3.2
 first_named v w old before now (Serve DiskFault) g = whole_named v g.last old g.now_open before now (gives_kept spelling_makes v g.last (λ n. is_open n old) g.now_open g.now_open before g.sent now (λ n. refl) g.stops.1 g.given)
 first_named v w old before now (Serve (Damaged page)) g = whole_named v g.last old g.now_open before now (gives_kept spelling_makes v g.last (λ n. is_open n old) g.now_open g.now_open before g.sent now (λ n. refl) g.stops.1 g.given)
 first_named v w old before now (Serve InputTooLong) g = whole_named v g.last old g.now_open before now (gives_kept spelling_makes v g.last (λ n. is_open n old) g.now_open g.now_open before g.sent now (λ n. refl) g.stops.1 g.given)
 first_named v w old before now (Serve NoMemory) g = whole_named v g.last old g.now_open before now (gives_kept spelling_makes v g.last (λ n. is_open n old) g.now_open g.now_open before g.sent now (λ n. refl) g.stops.1 g.given)
-first_named v w old before now (Reply e) g = whole_named v g.last old g.now_open before now (gives_kept spelling_makes v g.last (λ n. is_open n old) g.now_open g.now_open before g.sent now (λ n. refl) g.stops.2.0 g.given)
+first_named v w old before now (Reply e) g = whole_named v g.last old g.now_open before now (gives_kept spelling_makes v g.last (λ n. is_open n old) g.now_open g.now_open before g.sent now (λ n. refl) g.stops.3.0 g.given)
 
 pub serve_named : {T : Type 0} (v w : Unit {0}) (old new : List Session) (before now : Option (List ℕ)) (r : Result T (AnswerEnd Lack)) → GivesBy spelling_makes v w old new before now r → SendsNamed old before now
 serve_named v w old new before now (Ok done) g = whole_named v w old (λ n. is_open n new) before now g

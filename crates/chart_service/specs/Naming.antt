@@ -3,7 +3,7 @@ use Rattle.std.specs.Prelude.{ℕ, ◌≡◌, ◌≢◌, ◌≤◌, Bool, true, 
 use Rattle.block_disk.specs.Streams.{sent_after}
 use Rattle.chart_frames.specs.declared.frame.Frame.{Frame}
 use Rattle.chart_frames.specs.declared.frame.Frame.TheVariants.{Done, Refused, Opened, Closed, View, Rows, Live}
-use Rattle.chart_frames.specs.Frames.{spelling}
+use Rattle.chart_frames.specs.Frames.{Fits, spelling}
 use Rattle.zoom_session.specs.declared.session.Session.{Session}
 use Rattle.zoom_session.specs.Sessions.{is_open}
 use Rattle.chart_service.specs.Knowing.{NamesKnown}
@@ -46,10 +46,11 @@ NamesOpened (Live session on) before = IsOpened session before
 abbrev pub NameOpened : List Frame → Type 0
 NameOpened frames = (front behind : List Frame) (frame : Frame) → frames ≡ front ++ frame ∷ behind → NamesOpened frame front
 
--- Such frames were given one after the other: their bytes were made and sent, and each session that is open now is so by
--- the frames.
+-- Such frames were given one after the other, whose fields meet their rules: their bytes were made and sent, and the
+-- sessions that are open now are so by the frames.
 pub record Gives {S F : Type 0} (makes : Makes S F) (kept last : S) (was now_open : ℕ → Bool) (before now : Option (List ℕ)) : Type 0 where
   pub frames : List Frame
+  pub fits : All Fits frames
   pub named : NameOpen was frames
   pub open_now : (n : ℕ) → now_open n ≡ opens_all frames n (was n)
   pub text : List ℕ
@@ -60,12 +61,12 @@ pub record Gives {S F : Type 0} (makes : Makes S F) (kept last : S) (was now_ope
 -- or nothing more was sent
 abbrev pub StopsBehind : {S F : Type 0} → Makes S F → S → S → (ℕ → Bool) → Option (List ℕ) → Option (List ℕ) → AnswerEnd F → Type 0
 StopsBehind makes last kept was sent now (Serve ReadFault) = (kept ≡ last) × (now ≡ sent)
-StopsBehind makes last kept was sent now (Serve SendFault) = (frame : Frame) × NamesKnown frame was × FrameStops makes frame last kept sent now (Serve SendFault)
+StopsBehind makes last kept was sent now (Serve SendFault) = (frame : Frame) × Fits frame × NamesKnown frame was × FrameStops makes frame last kept sent now (Serve SendFault)
 StopsBehind makes last kept was sent now (Serve DiskFault) = (kept ≡ last) × (now ≡ sent)
 StopsBehind makes last kept was sent now (Serve (Damaged page)) = (kept ≡ last) × (now ≡ sent)
 StopsBehind makes last kept was sent now (Serve InputTooLong) = (kept ≡ last) × (now ≡ sent)
 StopsBehind makes last kept was sent now (Serve NoMemory) = (kept ≡ last) × (now ≡ sent)
-StopsBehind makes last kept was sent now (Reply e) = (frame : Frame) × NamesKnown frame was × FrameStops makes frame last kept sent now (Reply e)
+StopsBehind makes last kept was sent now (Reply e) = (frame : Frame) × Fits frame × NamesKnown frame was × FrameStops makes frame last kept sent now (Reply e)
 
 -- some first such frames were given, and it stopped behind them
 pub record GivesFirst {S F : Type 0} (makes : Makes S F) (kept kept' : S) (was : ℕ → Bool) (before now : Option (List ℕ)) (end : AnswerEnd F) : Type 0 where
@@ -81,9 +82,11 @@ GivesBy makes kept kept' sessions sessions' before now (Ok done) =
     Gives makes kept kept' (λ n. is_open n sessions) (λ n. is_open n sessions') before now
 GivesBy makes kept kept' sessions sessions' before now (Err end) = GivesFirst makes kept kept' (λ n. is_open n sessions) before now end
 
--- What was sent is the spellings of such frames, or a first part of that.
+-- What was sent is the spellings of frames whose fields meet their rules, or a first part of that: each of them that closes
+-- a session or answers in it names one that is open by those before it.
 pub record SendsNamed (sessions : List Session) (before now : Option (List ℕ)) : Type 0 where
   pub frames : List Frame
+  pub fits : All Fits frames
   pub named : NameOpen (λ n. is_open n sessions) frames
   pub count : ℕ
   pub within : count ≤ length (flat_map spelling frames)

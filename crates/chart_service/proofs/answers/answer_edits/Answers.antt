@@ -1,6 +1,7 @@
 use Rattle.std.proofs.Common.{◌≡◌, ◌∙◌, List, All, ap, sym, subst, arith}
 use Rattle.block_disk.specs.View.{Image, sent_now}
 use Rattle.chart_frames.specs.declared.frame.Frame.{Frame}
+use Rattle.chart_frames.specs.Frames.{Fits}
 use Rattle.series_book.specs.EditLists.{after_edits}
 use Rattle.series_book.specs.declared.one_series.Series.{Series}
 use Rattle.stored_book.specs.Standing.{StandsForBook}
@@ -121,8 +122,9 @@ returns-clause-gives g c =
     let pages = shown.pages c.args.service.now in
     let mid = shown.pages c.step_edits.new.self in
     let new = c.send_replies.new.service in
+    let A : List Frame → Type 0 = λ l. All Fits l in
     let E : List Frame → Type 0 = λ l. All IsEditReply l in
     let sent : g.P.Streams.sent mid ≡ g.P.Streams.sent pages =
     sym (g.met.P.PageWorld.beside_sent mid) ∙ ap (λ b. b.sent) c.step_edits.ensures.moves.beside ∙ g.met.P.PageWorld.beside_sent pages in
     edits_give g.R.Reply.makes c.args.kept.now c.send_replies.new.kept c.send_replies.result c.as_slice.result.now c.args.service.now.sessions new.sessions (g.P.Streams.sent pages) (g.P.Streams.sent mid) (g.P.Streams.sent (shown.pages new))
-    (subst E (sym c.as_slice.ensures.value) c.in_ok-frames.ensures.replies) (c.send_replies.ensures.sessions ∙ c.step_edits.ensures.sessions) sent c.send_replies.ensures.done c.send_replies.ensures.stops
+    (subst A (sym c.as_slice.ensures.value) c.in_ok-frames.ensures.fits) (subst E (sym c.as_slice.ensures.value) c.in_ok-frames.ensures.replies) (c.send_replies.ensures.sessions ∙ c.step_edits.ensures.sessions) sent c.send_replies.ensures.done c.send_replies.ensures.stops

@@ -124,7 +124,7 @@ returns g c =
           (named_known knows c.args.kept.now frame c.args.service.now.sessions known yes.opens.named) why)
           c.send_reply.ensures.stops;
       gives =
-          answer_gives g.R.Reply.makes c.args.kept.now c.send_reply.new.kept c.send_reply.result frame c.args.service.now.sessions c.send_reply.new.service.sessions (g.P.Streams.sent pages) (g.P.Streams.sent mid) (g.P.Streams.sent pages') (names_open frame c.args.service.now.sessions yes.opens.named)
+          answer_gives g.R.Reply.makes c.args.kept.now c.send_reply.new.kept c.send_reply.result frame c.args.service.now.sessions c.send_reply.new.service.sessions (g.P.Streams.sent pages) (g.P.Streams.sent mid) (g.P.Streams.sent pages') yes.fits (names_open frame c.args.service.now.sessions yes.opens.named)
           (same_opens c.args.service.now.sessions c.step_line.new.self.sessions c.send_reply.new.service.sessions frame c.send_reply.ensures.sessions yes.opens.after) sent made.done made.stops;
       send = λ fault. subst P same (c.send_reply.ensures.send fault);
       disk = λ fault. absurd (not_of_disk c.send_reply.result c.send_reply.ensures.ends fault);

@@ -71,5 +71,5 @@ returns-clause-gives g c =
     let own = c.args.service.now.sessions in
     let before = g.P.Streams.sent (shown.pages c.args.service.now) in
     let new = c.send_reply.new.service in
-    answer_gives g.R.Reply.makes c.args.kept.now c.send_reply.new.kept c.send_reply.result frame own new.sessions before before (g.P.Streams.sent (shown.pages new)) (refused_names frame LineTooLong c.refused.ensures.frame (λ n. is_open n own))
+    answer_gives g.R.Reply.makes c.args.kept.now c.send_reply.new.kept c.send_reply.result frame own new.sessions before before (g.P.Streams.sent (shown.pages new)) c.refused.ensures.fits (refused_names frame LineTooLong c.refused.ensures.frame (λ n. is_open n own))
     (same_opens own own new.sessions frame c.send_reply.ensures.sessions (refused_opens frame LineTooLong c.refused.ensures.frame own)) refl c.send_reply.ensures.done c.send_reply.ensures.stops
