@@ -1,5 +1,5 @@
 -- A run gives frames to `show` that name sessions which are open.
-use Rattle.std.proofs.Common.{◌≡◌, ◌+◌, ◌≤◌, ℕ, Bool, List, [], ◌∷◌, ◌++◌, length, take, Option, Result, Ok, Err, refl, ap, sym, ◌∙◌, arith, length-append}
+use Rattle.std.proofs.Common.{◌≡◌, ◌+◌, ◌≤◌, ℕ, Bool, List, [], ◌∷◌, ◌++◌, length, take, Option, Result, Ok, Err, IfErr, refl, ap, sym, ◌∙◌, arith, length-append}
 use Rattle.std.proofs.Math.Seq.{take-append-add, take-length}
 use Rattle.std.proofs.lemmas.List.Elements.{All-append, All-cons, All-nil}
 use Rattle.block_disk.specs.Streams.{sent_after, PartSent}
@@ -74,3 +74,9 @@ module _ {V : Type 0} (gives : Gives V) (v w : V) (sessions : List Session) (bef
   named_shown sessions' (Err (answers.Serve InputTooLong)) g = (g.last, whole_shown g.last g.now_open g.sent g.given g.stops.1)
   named_shown sessions' (Err (answers.Serve NoMemory)) g = (g.last, whole_shown g.last g.now_open g.sent g.given g.stops.1)
   named_shown sessions' (Err (answers.Reply end)) g = stops_shown end g
+
+-- of an error
+pub stopped_shown : {T V : Type 0} (gives : Gives V) (v w : V) (sessions : List Session) (before now : Option (List ℕ)) (r : Result T RunEnd) → ShowsBy gives v w sessions before now r → IfErr r (λ end. ShowsBy {T = Unit {0}} gives v w sessions before now (Err end))
+stopped_shown gives v w sessions before now (Ok done) shows = tt
+stopped_shown gives v w sessions before now (Err (Serve end)) shows = shows
+stopped_shown gives v w sessions before now (Err (Show e)) shows = shows
