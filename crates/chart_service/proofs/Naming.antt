@@ -83,7 +83,7 @@ opened_step n (Opened session cache) fs was stays is =
     ]) refl is
 opened_step n (Closed session) fs was stays is =
     (elim (session == n) as (λ (b : Bool). (session == n) ≡ b → IsTrue (not b && was) → IsOpened n (Closed session ∷ fs) ⊎ (IsTrue was × StaysOpen n (Closed session ∷ fs))) [
-      | true ↦ λ h t. absurd t
+      | true ↦ λ h t. absurd (cc (t))
       | false ↦ λ h t. inr (t, All-cons (λ frame. frame ≢ Closed n) (Closed session) fs (λ e. closed_other session n h e) stays)
     ]) refl is
 opened_step n (View view) fs was stays is = inr (is, All-cons (λ frame. frame ≢ Closed n) (View view) fs (λ e. cc (e)) stays)
@@ -98,7 +98,7 @@ opened_or (f ∷ fs) n was is = elim (opened_or fs n (opens f n was) is) [
 ]
 
 opened_by : (frames : List Frame) (n : ℕ) → IsTrue (opens_all frames n false) → IsOpened n frames
-opened_by frames n is = elim (opened_or frames n false is) [ inl opened ↦ opened | inr never ↦ absurd never.0 ]
+opened_by frames n is = elim (opened_or frames n false is) [ inl opened ↦ opened | inr never ↦ absurd (cc (never.0)) ]
 
 known_opened : (frame : Frame) (front : List Frame) → NamesKnown frame (λ n. opens_all front n false) → NamesOpened frame front
 known_opened (Done slots) front named = tt
@@ -228,8 +228,8 @@ module _ {S F : Type 0} (makes : Makes S F) where
   -- ---- by what is answered
 
   gives_by : {T : Type 0} (v w : S) (old new : List Session) (before now : Option (List ℕ)) (r : Result T (AnswerEnd F)) → OnOk r (Gives makes v w (λ n. is_open n old) (λ n. is_open n new) before now) → IfErr r (GivesFirst makes v w (λ n. is_open n old) before now) → GivesBy makes v w old new before now r
-  gives_by v w old new before now (Ok done) yes no = yes
-  gives_by v w old new before now (Err e) yes no = no
+  gives_by v w old new before now (Ok done) good bad = good
+  gives_by v w old new before now (Err e) good bad = bad
 
   pub gives_error : {T : Type 0} (v w : S) (old new : List Session) (before now : Option (List ℕ)) (r : Result T (AnswerEnd F)) (from : AnswerEnd F) → IsErrAnd r (λ e. e ≡ from) → GivesFirst makes v w (λ n. is_open n old) before now from → GivesBy makes v w old new before now r
   gives_error v w old new before now (Ok done) from is so = absurd is
@@ -238,12 +238,12 @@ module _ {S F : Type 0} (makes : Makes S F) where
   -- a frame is given, or it isn't
   pub answer_gives : {T : Type 0} (v w : S) (r : Result T (AnswerEnd F)) (frame : Frame) (old new : List Session) (before mid now : Option (List ℕ)) → Fits frame → NamesKnown frame (λ n. is_open n old) → ((n : ℕ) → is_open n new ≡ opens frame n (is_open n old)) → mid ≡ before
       → OnOk r (FrameSent makes frame v w mid now) → IfErr r (FrameStops makes frame v w mid now) → GivesBy makes v w old new before now r
-  answer_gives v w r frame old new before mid now fits named after same yes no =
+  answer_gives v w r frame old new before mid now fits named after same good bad =
       let Y : Option (List ℕ) → Type 0 = λ o. OnOk r (FrameSent makes frame v w o now) in
       let N : Option (List ℕ) → Type 0 = λ o. IfErr r (FrameStops makes frame v w o now) in
       gives_by v w old new before now r
-      (ok_so r (FrameSent makes frame v w before now) (Gives makes v w (λ n. is_open n old) (λ n. is_open n new) before now) (gives_one v w frame (λ n. is_open n old) (λ n. is_open n new) before now fits named after) (subst Y same yes))
-      (error_so r (FrameStops makes frame v w before now) (GivesFirst makes v w (λ n. is_open n old) before now) (λ end why. first_one v w frame (λ n. is_open n old) before now end fits named why) (subst N same no))
+      (ok_so r (FrameSent makes frame v w before now) (Gives makes v w (λ n. is_open n old) (λ n. is_open n new) before now) (gives_one v w frame (λ n. is_open n old) (λ n. is_open n new) before now fits named after) (subst Y same good))
+      (error_so r (FrameStops makes frame v w before now) (GivesFirst makes v w (λ n. is_open n old) before now) (λ end why. first_one v w frame (λ n. is_open n old) before now end fits named why) (subst N same bad))
 
   -- frames that tell what edits gave
   gives_edits : (v w : S) (frames : List Frame) (a : ℕ → Bool) (before now : Option (List ℕ)) → Each Fits frames → Each IsEditReply frames → FramesSent makes frames v w before now → Gives makes v w a a before now
@@ -265,7 +265,7 @@ module _ {S F : Type 0} (makes : Makes S F) where
 
   pub edits_give : {T : Type 0} (v w : S) (r : Result T (AnswerEnd F)) (frames : List Frame) (old new : List Session) (before mid now : Option (List ℕ)) → All Fits frames → All IsEditReply frames → new ≡ old → mid ≡ before
       → OnOk r (FramesSent makes frames v w mid now) → IfErr r (FramesCut makes frames v w mid now) → GivesBy makes v w old new before now r
-  edits_give v w r frames old new before mid now fits all same_sessions same yes no =
+  edits_give v w r frames old new before mid now fits all same_sessions same good bad =
       let Y : Option (List ℕ) → Type 0 = λ o. OnOk r (FramesSent makes frames v w o now) in
       let N : Option (List ℕ) → Type 0 = λ o. IfErr r (FramesCut makes frames v w o now) in
       let a : ℕ → Bool = λ n. is_open n old in
@@ -273,8 +273,8 @@ module _ {S F : Type 0} (makes : Makes S F) where
       let each = each_of IsEditReply frames all in
       gives_by v w old new before now r
       (ok_so r (FramesSent makes frames v w before now) (Gives makes v w a (λ n. is_open n new) before now)
-      (λ s. gives_kept v w a a (λ n. is_open n new) before now now (λ n. ap (λ l. is_open n l) same_sessions) refl (gives_edits v w frames a before now fit each s)) (subst Y same yes))
-      (error_so r (FramesCut makes frames v w before now) (GivesFirst makes v w a before now) (λ end cut. first_edits v w frames a before now end fit each cut) (subst N same no))
+      (λ s. gives_kept v w a a (λ n. is_open n new) before now now (λ n. ap (λ l. is_open n l) same_sessions) refl (gives_edits v w frames a before now fit each s)) (subst Y same good))
+      (error_so r (FramesCut makes frames v w before now) (GivesFirst makes v w a before now) (λ end cut. first_edits v w frames a before now end fit each cut) (subst N same bad))
 
 -- a frame that names an open session names a known one, where those are known that are open
 pub names_open : (frame : Frame) (sessions : List Session) → NamesOpen frame sessions → NamesKnown frame (λ n. is_open n sessions)

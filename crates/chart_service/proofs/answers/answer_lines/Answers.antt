@@ -632,3 +632,7 @@ returns-in_err-edits-in-Line g c =
 pub answer_edits-requires-clause-sound : goal.answer_edits-requires-clause-sound
 answer_edits-requires-clause-sound g c =
     (g.met.P.PageWorld.take_keeps (shown.pages c.lines.service) (shown.pages c.next.new.from) c.next.ensures.beside.store_is.pages_are).fit c.lines.invariant.fit
+
+pub answer_line-requires-clause-sound : goal.answer_line-requires-clause-sound
+answer_line-requires-clause-sound g c =
+    (g.met.P.PageWorld.take_keeps (shown.pages c.lines.service) (shown.pages c.next.new.from) c.next.ensures.beside.store_is.pages_are).fit c.lines.invariant.fit
