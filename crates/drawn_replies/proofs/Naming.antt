@@ -1,7 +1,6 @@
 -- Replies name sessions that are open.
 use Rattle.std.proofs.Common.{◌≡◌, ℕ, Bool, true, false, ◌==◌, IsTrue, List, [], ◌∷◌, ◌++◌, Option, None, Some, refl, ap, sym, subst, inl, inr, ◌∙◌}
 use Rattle.std.specs.Prelude.{◌||◌, if◌then◌else◌}
-use Rattle.std.proofs.lemmas.Bool.{or_comm}
 use Rattle.std.proofs.lemmas.List.Folds.{list_any-append}
 use Rattle.zoom_session.specs.declared.session.Session.{Session}
 use Rattle.zoom_session.specs.Sessions.{is_open, session_of, fresh_session, viewed, AreSessions}
@@ -21,16 +20,22 @@ or_false : (b : Bool) → (b || false) ≡ b
 or_false true = refl
 or_false false = refl
 
+or_turned : (a b : Bool) → (a || b) ≡ (b || a)
+or_turned true true = refl
+or_turned true false = refl
+or_turned false true = refl
+or_turned false false = refl
+
 open_after : (number size n : ℕ) (ss : List Session) → is_open n (ss ++ fresh_session number size ∷ []) ≡ (number == n || is_open n ss)
 open_after number size n ss =
     list_any-append (λ s. s.number == n) ss (fresh_session number size ∷ [])
-    ∙ or_comm (is_open n ss) (is_open n (fresh_session number size ∷ []))
+    ∙ or_turned (is_open n ss) (is_open n (fresh_session number size ∷ []))
     ∙ ap (λ b. b || is_open n ss) (or_false (number == n))
 
 open_of : (n : ℕ) (ss : List Session) (s : Session) → session_of n ss ≡ Some s → IsTrue (is_open n ss)
 open_of n [] s is = cc
 open_of n (t ∷ ss) s is = (elim (t.number == n) as (λ (b : Bool). (if b then Some t else session_of n ss) ≡ Some s → IsTrue (b || is_open n ss)) [
-  | true ↦ λ h. tt
+  | true ↦ λ h. refl
   | false ↦ λ h. open_of n ss s h
 ]) is
 
@@ -50,7 +55,7 @@ step_opens frame old new valid (inr (inl o)) =
 step_opens frame old new valid (inr (inr (inl c))) =
     let P : Frame → Type 0 = λ f. OpensBy f old.sessions new.sessions in
     let Q : List Session → Type 0 = λ l. OpensBy (Closed c.number) old.sessions l in
-    subst P (sym c.is) (subst Q (sym c.sessions) (opens_closed c.number old.sessions valid (subst IsTrue (sym c.there) tt)))
+    subst P (sym c.is) (subst Q (sym c.sessions) (opens_closed c.number old.sessions valid (subst IsTrue (sym c.there) refl)))
 step_opens frame old new valid (inr (inr (inr (inl v)))) =
     let a = v.answers in
     let view = view_frame v.number v.spec a.range v.series (to_send a.session.cache.pairs v.spec.series a.needed) in
