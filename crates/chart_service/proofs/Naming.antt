@@ -12,13 +12,14 @@ use Rattle.chart_world.specs.declared.line_answer.LineFault.TheVariants as fault
 use Rattle.chart_frames.specs.declared.frame.Frame.{Frame}
 use Rattle.chart_frames.specs.declared.frame.Frame.TheVariants.{Done, Refused, Opened, Closed, View, Rows, Live}
 use Rattle.chart_frames.specs.Frames.{Fits, spelling}
+use Rattle.chart_frames.specs.Opened.{opens}
 use Rattle.zoom_session.specs.declared.session.Session.{Session}
 use Rattle.zoom_session.specs.Sessions.{is_open}
 use Rattle.chart_service.specs.EditGroups.{IsEditReply}
 use Rattle.chart_service.specs.Knowing.{NamesKnown}
 use Rattle.chart_service.specs.Making.{Makes, AreMade, FrameSent, FrameStops, FramesSent, FramesCut}
 use Rattle.chart_service.specs.Naming.{opens_all, NameOpen, IsOpened, NamesOpened, NameOpened, Gives, StopsBehind, GivesFirst, GivesBy, SendsNamed}
-use Rattle.chart_service.specs.Opening.{opens, NamesOpen, OpensBy}
+use Rattle.chart_service.specs.Opening.{NamesOpen}
 use Rattle.chart_service.specs.SentLaws.{sent_none, sent_more}
 use Rattle.chart_service.specs.Serving.{end_of, end_of_step}
 use Rattle.chart_service.specs.declared.failure.AnswerEnd.{AnswerEnd}

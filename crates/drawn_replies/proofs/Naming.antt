@@ -6,8 +6,9 @@ use Rattle.zoom_session.specs.declared.session.Session.{Session}
 use Rattle.zoom_session.specs.Sessions.{is_open, session_of, fresh_session, viewed, AreSessions}
 use Rattle.chart_frames.specs.declared.frame.Frame.{Frame}
 use Rattle.chart_frames.specs.declared.frame.Frame.TheVariants.{Closed, View, Rows}
+use Rattle.chart_frames.specs.Opened.{opens}
 use Rattle.chart_service.specs.Naming.{NameOpen}
-use Rattle.chart_service.specs.Opening.{opens, OpensBy}
+use Rattle.chart_service.specs.Opening.{OpensBy}
 use Rattle.chart_service.specs.Serving.{RepliesToAll}
 use Rattle.chart_service.specs.State.{State}
 use Rattle.chart_service.specs.Viewing.{view_frame, rows_frame}
