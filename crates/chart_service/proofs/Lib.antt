@@ -17,6 +17,7 @@ pub mod Stands
 pub mod TurnLemmas
 pub mod Known
 pub mod Served
+pub mod Naming
 pub mod Answered
 pub mod Filtered
 pub mod Told

@@ -17,6 +17,7 @@ pub mod Making
 pub mod Spelled
 pub mod EditGroups
 pub mod Knowing
+pub mod Naming
 pub mod Answering
 pub mod Telling
 pub mod Called

@@ -12,6 +12,7 @@ ghost use Rattle.chart_service.specs.Answering.{SendsAll, EndsBy, LastsBy, Reads
 ghost use Rattle.chart_service.specs.Knowing.{Follows, KnowsOpen, EndsKnown};
 ghost use Rattle.chart_service.specs.EditGroups.{IsEditReply, SpelledBy};
 ghost use Rattle.chart_service.specs.Making.{AreMade, AreMadeFrom, FrameSent, FrameStops, FramesCut, FramesMoments, FramesSent, IsReplyEnd, FrameMoments};
+ghost use Rattle.chart_service.specs.Naming.{GivesBy};
 ghost use Rattle.chart_service.specs.Serving.{KeepsPages, Serves, most_ahead, unless_empty};
 ghost use Rattle.chart_service.specs.Shown as shown;
 ghost use Rattle.chart_service.specs.Syncing.{edit_of, group_syncs};
@@ -54,6 +55,8 @@ pub fn answer_lines<P: PageWorld, S, F, R: Reply<S, F>>(
     ensures disk { result ≡ Err (AnswerEnd.Serve ServeEnd.DiskFault) → HasRisen (shown.view service.old).faults (shown.view service.new).faults }
     // where the open sessions are known, a frame whose bytes weren't made names known ones
     ensures known { (knows : S → ℕ → Bool) → Follows R.makes knows → KnowsOpen knows kept.old service.old.sessions → IfErr result (EndsKnown R.makes knows) }
+    // each frame that closes a session or answers in it names one that is open by those before it
+    ensures gives { GivesBy R.makes kept.old kept.new service.old.sessions service.new.sessions (P.sent (shown.pages service.old)) (P.sent (shown.pages service.new)) result }
     ensures bad { IfErr result (EndsAtBad (shown.IsTold service.new) (shown.view service.new).size (shown.image service.new)) }
     ensures serves { Serves (shown.IsTold service.old) (shown.IsTold service.new) (shown.view service.old) (shown.view service.new) }
     ensures goes_on { GoesOn (shown.under service.old) (shown.under service.new) }
@@ -94,6 +97,7 @@ fn answer_edits<P: PageWorld, S, F, R: Reply<S, F>>(
     ensures behind { shown.ForBook service.old (λ total book. OnOk result (StandsForBook (shown.image service.new) total (after_edits total book edits.now))) }
     ensures known { (knows : S → ℕ → Bool) → Follows R.makes knows → KnowsOpen knows kept.old service.old.sessions → OnOk result (KnowsOpen knows kept.new service.new.sessions) }
     ensures named { (knows : S → ℕ → Bool) → Follows R.makes knows → KnowsOpen knows kept.old service.old.sessions → IfErr result (EndsKnown R.makes knows) }
+    ensures gives { GivesBy R.makes kept.old kept.new service.old.sessions service.new.sessions (P.sent (shown.pages service.old)) (P.sent (shown.pages service.new)) result }
     ensures send { result ≡ Err (AnswerEnd.Serve ServeEnd.SendFault) → HasRisen (P.send_faults (shown.pages service.old)) (P.send_faults (shown.pages service.new)) }
     ensures disk { result ≡ Err (AnswerEnd.Serve ServeEnd.DiskFault) → HasRisen (shown.view service.old).faults (shown.view service.new).faults }
     ensures read { result ≢ Err (AnswerEnd.Serve ServeEnd.ReadFault) }
@@ -161,6 +165,7 @@ fn answer_line<P: PageWorld, S, F, R: Reply<S, F>>(
     ensures idle { edit_of (Some line.now) ≡ [] → IsUnchanged (shown.IsTold service.old) (shown.view service.old) (shown.view service.new) }
     ensures known { (knows : S → ℕ → Bool) → Follows R.makes knows → KnowsOpen knows kept.old service.old.sessions → OnOk result (KnowsOpen knows kept.new service.new.sessions) }
     ensures named { (knows : S → ℕ → Bool) → Follows R.makes knows → KnowsOpen knows kept.old service.old.sessions → IfErr result (EndsKnown R.makes knows) }
+    ensures gives { GivesBy R.makes kept.old kept.new service.old.sessions service.new.sessions (P.sent (shown.pages service.old)) (P.sent (shown.pages service.new)) result }
     ensures send { result ≡ Err (AnswerEnd.Serve ServeEnd.SendFault) → HasRisen (P.send_faults (shown.pages service.old)) (P.send_faults (shown.pages service.new)) }
     ensures disk { result ≡ Err (AnswerEnd.Serve ServeEnd.DiskFault) → HasRisen (shown.view service.old).faults (shown.view service.new).faults }
     ensures read { result ≢ Err (AnswerEnd.Serve ServeEnd.ReadFault) }
@@ -193,6 +198,7 @@ fn answer_long_line<P: PageWorld, S, F, R: Reply<S, F>>(
     ensures moments { shown.ForBook service.old (λ total book. LeavesBy R.makes kept.old (unless_empty None) total book service.old service.new) }
     ensures known { (knows : S → ℕ → Bool) → Follows R.makes knows → KnowsOpen knows kept.old service.old.sessions → OnOk result (KnowsOpen knows kept.new service.new.sessions) }
     ensures named { (knows : S → ℕ → Bool) → Follows R.makes knows → KnowsOpen knows kept.old service.old.sessions → IfErr result (EndsKnown R.makes knows) }
+    ensures gives { GivesBy R.makes kept.old kept.new service.old.sessions service.new.sessions (P.sent (shown.pages service.old)) (P.sent (shown.pages service.new)) result }
     ensures ends { IfErr result IsReplyEnd }
     ensures send { result ≡ Err (AnswerEnd.Serve ServeEnd.SendFault) → HasRisen (P.send_faults (shown.pages service.old)) (P.send_faults (shown.pages service.new)) }
     ensures keeps { KeepsPages (shown.IsTold service.old) (shown.IsTold service.new) (shown.view service.old) (shown.view service.new) (shown.under service.old) (shown.under service.new) }

@@ -1,9 +1,10 @@
 //! What follows from the definitions. The functions do nothing: their contracts are the laws.
 
-ghost use Rattle.std.specs.Prelude.{◌≡◌, ℕ, List, Option};
+ghost use Rattle.std.specs.Prelude.{◌≡◌, ℕ, false, List, Option};
 ghost use Rattle.chart_frames.specs.declared.frame.Frame.{Frame};
 ghost use Rattle.chart_service.specs.State.{State};
 ghost use Rattle.chart_service.specs.Alone.{alone, own_lines, own_frames, NeverCrowded};
+ghost use Rattle.chart_service.specs.Naming.{NameOpen, NameOpened};
 ghost use Rattle.chart_service.specs.Replies.{RepliesToLine};
 ghost use Rattle.chart_service.specs.Serving.{RepliesToAll};
 ghost use Rattle.chart_service.specs.Syncing.{FirstLinesSyncLess};
@@ -45,4 +46,10 @@ pub fn replies_are_one()
 /// more.
 pub fn first_lines_sync_less()
     ensures { FirstLinesSyncLess }
+{}
+
+/// Where no session is open before the frames of a run, each of them that closes a session or answers in it
+/// names one that a frame before it opened, and that none in between closed.
+pub fn frames_name_opened_sessions()
+    ensures { (frames : List Frame) → NameOpen (λ n. false) frames → NameOpened frames }
 {}

@@ -5,6 +5,7 @@ ghost use Rattle.block_disk.specs.View.{Now, Only};
 ghost use Rattle.chart_frames.specs.Frames.{spelling};
 ghost use Rattle.gate_pages.specs.Pages.{GoesOn};
 ghost use Rattle.chart_service.specs.Answering.{SendsWhole, ServeEndsBy, LastsBy, ReadsByLines, SyncsByLines};
+ghost use Rattle.chart_service.specs.Naming.{SendsNamed};
 ghost use Rattle.chart_service.specs.Serving.{AreSpelled, EndsAtBad, Serves};
 ghost use Rattle.chart_service.specs.Shown as shown;
 ghost use Rattle.chart_service.specs.Spelled.{serve_end};
@@ -48,6 +49,8 @@ pub fn serve<P: PageWorld>(service: &mut Service<P>) -> Result<(), ServeEnd>
     // edits whose lines stand ready are committed together
     ensures syncs { shown.ForBook service.old (λ total book. SyncsByLines P.left P.pieces total book service.old service.new) }
     // whatever the pages are
+    // each frame that closes a session or answers in it names one that is open by those before it
+    ensures named { SendsNamed service.old.sessions (P.sent (shown.pages service.old)) (P.sent (shown.pages service.new)) }
     ensures read { result ≡ Err ServeEnd.ReadFault → HasRisen (P.read_faults (shown.pages service.old)) (P.read_faults (shown.pages service.new)) }
     ensures send { result ≡ Err ServeEnd.SendFault → HasRisen (P.send_faults (shown.pages service.old)) (P.send_faults (shown.pages service.new)) }
     ensures disk { result ≡ Err ServeEnd.DiskFault → HasRisen (shown.view service.old).faults (shown.view service.new).faults }

@@ -2,6 +2,7 @@ mod Holders
 mod Kept
 mod Agreement
 mod Steps
+mod Naming
 mod Mirroring
 mod Tops
 mod Following

@@ -10,9 +10,11 @@ ghost use Rattle.chart_service.specs.State.{State, IsSound};
 ghost use Rattle.chart_service.specs.Replies.{Replies, RepliesToLine};
 ghost use Rattle.chart_service.specs.Serving.{RepliesToAll};
 ghost use Rattle.chart_service.specs.Alone.{only};
+ghost use Rattle.chart_service.specs.Naming.{NameOpened};
 ghost use Rattle.drawn_replies.specs.Mirrors.{Mirrors, DrawsTheBook, OnlyLacksMemory};
 ghost use Rattle.drawn_replies.specs.Pictures.{AcceptsAll, ArePictured, AreOwnPictured, NoneRejected, names};
 
+use chart_service::laws::frames_name_opened_sessions;
 use coefficient_cache::laws::sent_and_held_give_the_needed;
 use needed_nodes::laws::points_are_the_samples;
 use om3_coeff::laws::{spans_add_up, split_and_join_undo_each_other};
@@ -93,4 +95,13 @@ pub fn own_replies_are_accepted()
     spans_add_up();
     points_are_the_samples();
     split_and_join_undo_each_other();
+}
+
+/// Each of the replies to lines, from the first one on, that closes a session or answers in it names one that a
+/// reply before it opened, and that none in between closed.
+pub fn replies_name_opened_sessions()
+    ensures { (lines : List (Option (List ℕ))) (frames : List Frame) (old new : State) →
+        IsSound old → old.sessions ≡ [] → RepliesToAll old lines frames new → NameOpened frames }
+{
+    frames_name_opened_sessions();
 }

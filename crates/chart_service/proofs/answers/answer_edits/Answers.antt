@@ -1,10 +1,12 @@
-use Rattle.std.proofs.Common.{◌≡◌, ◌∙◌, List, ap, sym, subst, arith}
+use Rattle.std.proofs.Common.{◌≡◌, ◌∙◌, List, All, ap, sym, subst, arith}
 use Rattle.block_disk.specs.View.{Image, sent_now}
 use Rattle.chart_frames.specs.declared.frame.Frame.{Frame}
+use Rattle.chart_frames.specs.Frames.{Fits}
 use Rattle.series_book.specs.EditLists.{after_edits}
 use Rattle.series_book.specs.declared.one_series.Series.{Series}
 use Rattle.stored_book.specs.Standing.{StandsForBook}
-use Rattle.chart_service.specs.EditGroups.{RepliesToEdits}
+use Rattle.zoom_session.specs.Sessions.{is_open}
+use Rattle.chart_service.specs.EditGroups.{IsEditReply, RepliesToEdits}
 use Rattle.chart_service.specs.Making.{LinesStop, LinesMoments}
 use Rattle.chart_service.specs.Moments.{Through}
 use Rattle.chart_service.specs.Serving.{end_of_step}
@@ -13,6 +15,7 @@ use Rattle.chart_service.specs.Stepping.{StandsAfter, state_of}
 use Rattle.chart_service.specs.declared.failure.AnswerEnd.TheVariants.{Serve}
 use Rattle.chart_service.proofs.Ends.{err_is}
 use Rattle.chart_service.proofs.GroupReplies.{if_told, group_done, group_stops, edits_stop, edits_moments, group_moments}
+use Rattle.chart_service.proofs.Naming.{first_step, gives_error, edits_give}
 use Rattle.chart_service.proofs.Sending.{error_goes}
 use Rattle.chart_service.proofs.SyncLemmas.{always_ok, replied_book}
 use Rattle.chart_service.proofs.answers.answer_edits.Goals as goal
@@ -102,3 +105,26 @@ returns-clause-pieces g c =
     let pages = shown.pages c.args.service.now in
     let mid = shown.pages c.step_edits.new.self in
     c.send_replies.ensures.pieces ∙ sym (g.met.P.PageWorld.beside_pieces mid) ∙ ap (λ b. b.pieces) c.step_edits.ensures.moves.beside ∙ g.met.P.PageWorld.beside_pieces pages
+
+pub returns-in_err-frames-clause-gives : goal.returns-in_err-frames-clause-gives
+returns-in_err-frames-clause-gives g c =
+    let own = c.args.service.now.sessions in
+    let pages = shown.pages c.args.service.now in
+    let mid = shown.pages c.step_edits.new.self in
+    let e = c.in_err-frames.field-0.0 in
+    let sent : g.P.Streams.sent mid ≡ g.P.Streams.sent pages =
+    sym (g.met.P.PageWorld.beside_sent mid) ∙ ap (λ b. b.sent) c.step_edits.ensures.moves.beside ∙ g.met.P.PageWorld.beside_sent pages in
+    gives_error g.R.Reply.makes c.args.kept.now c.args.kept.now own c.step_edits.new.self.sessions (g.P.Streams.sent pages) (g.P.Streams.sent mid) c.from_residual.result (Serve (end_of_step e)) c.from_residual.ensures.1
+    (first_step g.R.Reply.makes c.args.kept.now (λ n. is_open n own) (g.P.Streams.sent pages) (g.P.Streams.sent mid) e sent)
+
+pub returns-clause-gives : goal.returns-clause-gives
+returns-clause-gives g c =
+    let pages = shown.pages c.args.service.now in
+    let mid = shown.pages c.step_edits.new.self in
+    let new = c.send_replies.new.service in
+    let A : List Frame → Type 0 = λ l. All Fits l in
+    let E : List Frame → Type 0 = λ l. All IsEditReply l in
+    let sent : g.P.Streams.sent mid ≡ g.P.Streams.sent pages =
+    sym (g.met.P.PageWorld.beside_sent mid) ∙ ap (λ b. b.sent) c.step_edits.ensures.moves.beside ∙ g.met.P.PageWorld.beside_sent pages in
+    edits_give g.R.Reply.makes c.args.kept.now c.send_replies.new.kept c.send_replies.result c.as_slice.result.now c.args.service.now.sessions new.sessions (g.P.Streams.sent pages) (g.P.Streams.sent mid) (g.P.Streams.sent (shown.pages new))
+    (subst A (sym c.as_slice.ensures.value) c.in_ok-frames.ensures.fits) (subst E (sym c.as_slice.ensures.value) c.in_ok-frames.ensures.replies) (c.send_replies.ensures.sessions ∙ c.step_edits.ensures.sessions) sent c.send_replies.ensures.done c.send_replies.ensures.stops

@@ -3,6 +3,7 @@ use Rattle.std.proofs.lemmas.Grind.{common_steps}
 use Rattle.block_disk.specs.Counts.{HasRisen}
 use Rattle.chart_world.specs.LineLaws.{says_text}
 use Rattle.gate_pages.specs.GateLaws.{goes_none, goes_then}
+use Rattle.zoom_session.specs.Sessions.{is_open}
 use Rattle.chart_service.specs.Answering.{EndsAtBad}
 use Rattle.chart_service.specs.Knowing.{KnowsOpen, EndsKnown}
 use Rattle.chart_service.specs.Making.{FrameSent, FrameStops, LinesStop, IsReplyEnd}
@@ -16,6 +17,7 @@ use Rattle.chart_service.specs.declared.failure.AnswerEnd.TheVariants.{Serve}
 use Rattle.chart_service.proofs.DiskKept.{serves_none, serves_then, serves_kept, serves_step}
 use Rattle.chart_service.proofs.Ends.{differ, error_is, on_err, step_unread, step_unsent, step_fault, step_bad, step_sound, reply_bad, not_of_disk, not_of_input, stays}
 use Rattle.chart_service.proofs.Known.{known_next, named_known, ends_known, same_opens}
+use Rattle.chart_service.proofs.Naming.{gives_none, first_step, gives_error, answer_gives, names_open}
 use Rattle.chart_service.proofs.SyncLemmas.{unchanged_kept}
 use Rattle.chart_service.proofs.TurnLemmas.{first_none, text_reads}
 use Rattle.chart_service.proofs.Sending.{empty_done, error_goes, error_so, ok_so, step_stops, answer_done, answer_stops, text_replied, text_step, text_moments, text_is}
@@ -47,6 +49,12 @@ returns-in_err-frame g c =
       known = λ knows follows known. on_err c.from_residual.result _ _ c.from_residual.ensures.1;
       named = λ knows follows known.
           error_goes (EndsKnown g.R.Reply.makes knows) c.from_residual.result (Serve (end_of_step c.in_err-frame.field-0.0)) c.from_residual.ensures.1 tt;
+      gives =
+          let before = g.P.Streams.sent pages in
+          let now = g.P.Streams.sent pages' in
+          let sent : now ≡ before = sym (g.met.P.PageWorld.beside_sent pages') ∙ ap (λ b. b.sent) c.step_line.ensures.steps.beside ∙ g.met.P.PageWorld.beside_sent pages in
+          gives_error g.R.Reply.makes c.args.kept.now c.args.kept.now c.args.service.now.sessions c.step_line.new.self.sessions before now c.from_residual.result (Serve (end_of_step c.in_err-frame.field-0.0)) c.from_residual.ensures.1
+          (first_step g.R.Reply.makes c.args.kept.now (λ n. is_open n c.args.service.now.sessions) before now c.in_err-frame.field-0.0 sent);
       send = λ fault. step_unsent c.in_err-frame.field-0.0 (sym (error_is c.from_residual.result (Serve (end_of_step c.in_err-frame.field-0.0)) c.from_residual.ensures.1) ∙ fault);
       disk = λ fault. c.in_err-frame.ensures.disk (ap Err (step_fault c.in_err-frame.field-0.0 (sym (error_is c.from_residual.result (Serve (end_of_step c.in_err-frame.field-0.0)) c.from_residual.ensures.1) ∙ fault)));
       read = λ fault. step_unread c.in_err-frame.field-0.0 (sym (error_is c.from_residual.result (Serve (end_of_step c.in_err-frame.field-0.0)) c.from_residual.ensures.1) ∙ fault);
@@ -115,6 +123,9 @@ returns g c =
           (λ end why. ends_known g.R.Reply.makes knows c.args.kept.now c.send_reply.new.kept frame (g.P.Streams.sent mid) (g.P.Streams.sent pages') end yes.fits
           (named_known knows c.args.kept.now frame c.args.service.now.sessions known yes.opens.named) why)
           c.send_reply.ensures.stops;
+      gives =
+          answer_gives g.R.Reply.makes c.args.kept.now c.send_reply.new.kept c.send_reply.result frame c.args.service.now.sessions c.send_reply.new.service.sessions (g.P.Streams.sent pages) (g.P.Streams.sent mid) (g.P.Streams.sent pages') yes.fits (names_open frame c.args.service.now.sessions yes.opens.named)
+          (same_opens c.args.service.now.sessions c.step_line.new.self.sessions c.send_reply.new.service.sessions frame c.send_reply.ensures.sessions yes.opens.after) sent made.done made.stops;
       send = λ fault. subst P same (c.send_reply.ensures.send fault);
       disk = λ fault. absurd (not_of_disk c.send_reply.result c.send_reply.ensures.ends fault);
       read = not_of_input c.send_reply.result c.send_reply.ensures.ends;
@@ -147,6 +158,7 @@ returns-then-is_empty g c =
       idle = λ none. record { image = λ t. refl; fit = λ f. f; syncs = refl; writes = refl };
       known = λ knows follows known. known;
       named = λ knows follows known. tt;
+      gives = gives_none g.R.Reply.makes c.args.kept.now (λ n. is_open n it.sessions) (g.P.Streams.sent at);
       send = λ fault. differ fault refl;
       disk = λ fault. differ fault refl;
       read = λ fault. differ fault refl;

@@ -8,6 +8,7 @@ use Rattle.gate_pages.specs.GateLaws.{goes_none, goes_then}
 use Rattle.page_space.specs.declared.superblock.Superblock.{Superblock}
 use Rattle.series_book.specs.declared.edits.Edit.{Edit}
 use Rattle.stored_book.specs.Standing.{StandsForBook}
+use Rattle.zoom_session.specs.Sessions.{is_open}
 use Rattle.chart_service.specs.Answering.{EndsAnswers, EndsAtBad}
 use Rattle.chart_service.specs.EditGroups.{IsGroupOf}
 use Rattle.chart_service.specs.Knowing.{EndsKnown}
@@ -24,6 +25,7 @@ use Rattle.chart_service.proofs.GatherLemmas.{group_passed, spelled_length}
 use Rattle.chart_service.proofs.GroupReplies.{if_told}
 use Rattle.chart_service.proofs.Known.{known_kept}
 use Rattle.chart_service.proofs.Made.{no_memory}
+use Rattle.chart_service.proofs.Naming.{gives_none, gives_kept, gives_joined, gives_error, first_behind, first_fault, first_memory}
 use Rattle.chart_service.proofs.Progress.{few_lines, one_passed}
 use Rattle.chart_service.proofs.SyncLemmas.{sync_first, sync_all, sync_other, sync_group, sync_stop}
 use Rattle.chart_service.proofs.TurnLemmas.{one_turn, edits_turn, read_first, read_kept, read_line_done, read_line_stops, read_edits_stop, read_all}
@@ -52,6 +54,7 @@ lines-init g c =
       reads = λ total book told stands. read_first o total book own (view pages).reads (view pages).image c.in_ok-lines.lines stands fresh;
       syncs = λ total book told stands. sync_first o total book (view pages).syncs (g.P.Streams.pieces pages) (view pages).image c.in_ok-lines.lines stands fresh;
       known = λ knows follows known. known;
+      gives = gives_none g.R.Reply.makes c.args.kept.now (λ n. is_open n c.args.service.now.sessions) before;
       serves = serves_none (g.P.Pages.told pages) (view pages);
       goes_on = goes_none (g.P.Pages.under pages);
       total_is = refl;
@@ -84,6 +87,7 @@ returns-in_err-lines g c =
       syncs = λ total book told stands.
           sync_all o total book (view pages).syncs (g.P.Streams.pieces pages) unread_input o (view pages).image (view pages).syncs (g.P.Streams.pieces pages) (view pages).syncs (g.P.Streams.pieces pages) refl (omega arith) (sync_first o total book (view pages).syncs (g.P.Streams.pieces pages) (view pages).image unread_input stands refl);
       known = λ knows follows known. error_goes (EndsKnown g.R.Reply.makes knows) c.from_residual.result (Serve NoMemory) c.from_residual.ensures.1 tt;
+      gives = gives_error g.R.Reply.makes c.args.kept.now c.args.kept.now own own before before c.from_residual.result (Serve NoMemory) c.from_residual.ensures.1 (first_memory g.R.Reply.makes c.args.kept.now c.args.kept.now (λ n. is_open n own) (λ n. is_open n own) before before (gives_none g.R.Reply.makes c.args.kept.now (λ n. is_open n own) before));
       bad = error_goes (EndsAtBad (g.P.Pages.told (shown.pages it)) (g.P.Pages.view (shown.pages it)).size (g.P.Pages.view (shown.pages it)).image) c.from_residual.result (Serve NoMemory) c.from_residual.ensures.1 tt;
       serves = serves_none (g.P.Pages.told (shown.pages c.args.service.now)) (g.P.Pages.view (shown.pages c.args.service.now));
       goes_on = goes_none (g.P.Pages.under (shown.pages c.args.service.now));
@@ -125,6 +129,9 @@ returns-in_err-next g c =
       disk = λ fault. fault_disk c.in_err-next.field-0.0 (sym (error_is c.from_residual-in_err-next.result (Serve (end_of c.in_err-next.field-0.0)) c.from_residual-in_err-next.ensures.1) ∙ fault);
       syncs = λ total book told stands. sync_all o total book (view pages).syncs (g.P.Streams.pieces pages) c.lines.lines (g.P.Streams.left mid) (view mid).image (view mid).syncs (g.P.Streams.pieces mid) (view taken).syncs (g.P.Streams.pieces taken) kept.syncs c.next.ensures.pieces (inv.syncs total book told stands);
       known = λ knows follows known. error_goes (EndsKnown g.R.Reply.makes knows) c.from_residual-in_err-next.result (Serve (end_of c.in_err-next.field-0.0)) c.from_residual-in_err-next.ensures.1 tt;
+      gives =
+          gives_error g.R.Reply.makes c.args.kept.now c.lines.kept own it.sessions before (g.P.Streams.sent taken) c.from_residual-in_err-next.result (Serve (end_of f)) c.from_residual-in_err-next.ensures.1
+          (first_fault g.R.Reply.makes c.args.kept.now c.lines.kept (λ n. is_open n c.args.service.now.sessions) (λ n. is_open n c.next.new.from.sessions) before (g.P.Streams.sent taken) f (gives_kept g.R.Reply.makes c.args.kept.now c.lines.kept (λ n. is_open n c.args.service.now.sessions) (λ n. is_open n c.lines.service.sessions) (λ n. is_open n c.next.new.from.sessions) before (g.P.Streams.sent mid) (g.P.Streams.sent taken) (λ n. ap (λ l. is_open n l) beside.sessions) c.next.ensures.sent inv.gives));
       bad = error_goes (EndsAtBad (g.P.Pages.told taken) (g.P.Pages.view taken).size (g.P.Pages.view taken).image) c.from_residual-in_err-next.result (Serve (end_of c.in_err-next.field-0.0)) c.from_residual-in_err-next.ensures.1
           (fault_bad (g.P.Pages.told taken) (g.P.Pages.view taken).size (g.P.Pages.view taken).image c.in_err-next.field-0.0);
       serves = serves_then (told_in pages) (told_in mid) (told_in taken) (view pages) (view mid) (view taken) inv.serves (serves_disk (told_in mid) (told_in taken) (view mid) (view taken) kept (g.met.P.PageWorld.take_told mid taken takes) (g.met.P.PageWorld.take_was_told mid taken takes));
@@ -161,6 +168,7 @@ returns-in-End g c =
       disk = λ fault. differ fault refl;
       syncs = λ total book told stands. sync_all o total book (view pages).syncs (g.P.Streams.pieces pages) c.lines.lines (g.P.Streams.left mid) (view mid).image (view mid).syncs (g.P.Streams.pieces mid) (view taken).syncs (g.P.Streams.pieces taken) kept.syncs c.next.ensures.pieces (inv.syncs total book told stands);
       known = λ knows follows known. tt;
+      gives = gives_kept g.R.Reply.makes c.args.kept.now c.lines.kept (λ n. is_open n c.args.service.now.sessions) (λ n. is_open n c.lines.service.sessions) (λ n. is_open n c.next.new.from.sessions) before (g.P.Streams.sent mid) (g.P.Streams.sent taken) (λ n. ap (λ l. is_open n l) beside.sessions) c.next.ensures.sent inv.gives;
       bad = tt;
       serves = serves_then (told_in pages) (told_in mid) (told_in taken) (view pages) (view mid) (view taken) inv.serves (serves_disk (told_in mid) (told_in taken) (view mid) (view taken) kept (g.met.P.PageWorld.take_told mid taken takes) (g.met.P.PageWorld.take_was_told mid taken takes));
       goes_on = goes_then (g.P.Pages.under pages) (g.P.Pages.under mid) (g.P.Pages.under taken) inv.goes_on (g.met.P.PageWorld.take_goes_on mid taken takes);
@@ -217,6 +225,8 @@ lines-preserved-in-Continue-branch-4 g c =
           sync_other o total book (view pages).syncs (g.P.Streams.pieces pages) c.lines.lines c.next.new.self (g.P.Streams.left mid) (g.P.Streams.left taken) None (view mid).image (view new).image (view mid).syncs (view new).syncs (g.P.Streams.pieces mid) (g.P.Streams.pieces new) gives refl
           (made.keeps.disk.image ∙ kept.image) (made.keeps.disk.syncs ∙ kept.syncs) (omega (arith, c.next.ensures.pieces, made.pieces)) (g.P.Streams.left new) made.left (inv.syncs total book told stands);
       known = λ knows follows known. c.in_ok-answer_long_line-in-TooLong.ensures.known knows follows (known_kept knows c.lines.kept c.lines.service.sessions c.next.new.from.sessions c.next.ensures.beside.sessions (c.lines.invariant.known knows follows known));
+      gives = gives_joined g.R.Reply.makes c.args.kept.now c.lines.kept c.answer_long_line.new.kept (λ n. is_open n c.args.service.now.sessions) (λ n. is_open n c.next.new.from.sessions) (λ n. is_open n c.answer_long_line.new.service.sessions) before (g.P.Streams.sent taken) (g.P.Streams.sent new)
+          (gives_kept g.R.Reply.makes c.args.kept.now c.lines.kept (λ n. is_open n c.args.service.now.sessions) (λ n. is_open n c.lines.service.sessions) (λ n. is_open n c.next.new.from.sessions) before (g.P.Streams.sent mid) (g.P.Streams.sent taken) (λ n. ap (λ l. is_open n l) beside.sessions) c.next.ensures.sent inv.gives) c.in_ok-answer_long_line-in-TooLong.ensures.gives;
       serves = serves_then (told_in pages) (told_in taken) (told_in new) (view pages) (view taken) (view new) (serves_then (told_in pages) (told_in mid) (told_in taken) (view pages) (view mid) (view taken) inv.serves (serves_disk (told_in mid) (told_in taken) (view mid) (view taken) kept (g.met.P.PageWorld.take_told mid taken takes) (g.met.P.PageWorld.take_was_told mid taken takes))) (serves_disk (told_in taken) (told_in new) (view taken) (view new) made.keeps.disk made.keeps.told made.keeps.was_told);
       goes_on = goes_then (g.P.Pages.under pages) (g.P.Pages.under taken) (g.P.Pages.under new) (goes_then (g.P.Pages.under pages) (g.P.Pages.under mid) (g.P.Pages.under taken) inv.goes_on (g.met.P.PageWorld.take_goes_on mid taken takes)) made.keeps.goes_on;
       total_is = made.total ∙ ap (λ (s : Superblock). s.total) beside.store_is.superblock ∙ inv.total_is;
@@ -279,6 +289,10 @@ returns-in_err-answer_long_line-in-TooLong g c =
           let f = c.in_err-answer_long_line-in-TooLong.field-0.0 in
           error_goes (EndsKnown g.R.Reply.makes knows) c.from_residual-in_err-answer_long_line-in-TooLong.result f c.from_residual-in_err-answer_long_line-in-TooLong.ensures.1
           (c.in_err-answer_long_line-in-TooLong.ensures.named knows follows (known_kept knows c.lines.kept c.lines.service.sessions c.next.new.from.sessions c.next.ensures.beside.sessions (c.lines.invariant.known knows follows known)));
+      gives =
+          let f = c.in_err-answer_long_line-in-TooLong.field-0.0 in
+          gives_error g.R.Reply.makes c.args.kept.now c.answer_long_line.new.kept c.args.service.now.sessions c.answer_long_line.new.service.sessions before (g.P.Streams.sent new) c.from_residual-in_err-answer_long_line-in-TooLong.result f c.from_residual-in_err-answer_long_line-in-TooLong.ensures.1
+          (first_behind g.R.Reply.makes c.args.kept.now c.lines.kept c.answer_long_line.new.kept (λ n. is_open n c.args.service.now.sessions) (λ n. is_open n c.next.new.from.sessions) before (g.P.Streams.sent taken) (g.P.Streams.sent new) f (gives_kept g.R.Reply.makes c.args.kept.now c.lines.kept (λ n. is_open n c.args.service.now.sessions) (λ n. is_open n c.lines.service.sessions) (λ n. is_open n c.next.new.from.sessions) before (g.P.Streams.sent mid) (g.P.Streams.sent taken) (λ n. ap (λ l. is_open n l) beside.sessions) c.next.ensures.sent inv.gives) c.in_err-answer_long_line-in-TooLong.ensures.gives);
       bad = error_goes (EndsAtBad (g.P.Pages.told new) (g.P.Pages.view new).size (g.P.Pages.view new).image) c.from_residual-in_err-answer_long_line-in-TooLong.result c.in_err-answer_long_line-in-TooLong.field-0.0 c.from_residual-in_err-answer_long_line-in-TooLong.ensures.1 (reply_bad (g.P.Pages.told new) (g.P.Pages.view new).size (g.P.Pages.view new).image c.in_err-answer_long_line-in-TooLong.field-0.0 c.in_err-answer_long_line-in-TooLong.ensures.ends);
       serves = serves_then (told_in pages) (told_in taken) (told_in new) (view pages) (view taken) (view new) (serves_then (told_in pages) (told_in mid) (told_in taken) (view pages) (view mid) (view taken) inv.serves (serves_disk (told_in mid) (told_in taken) (view mid) (view taken) kept (g.met.P.PageWorld.take_told mid taken takes) (g.met.P.PageWorld.take_was_told mid taken takes))) (serves_disk (told_in taken) (told_in new) (view taken) (view new) made.keeps.disk made.keeps.told made.keeps.was_told);
       goes_on = goes_then (g.P.Pages.under pages) (g.P.Pages.under taken) (g.P.Pages.under new) (goes_then (g.P.Pages.under pages) (g.P.Pages.under mid) (g.P.Pages.under taken) inv.goes_on (g.met.P.PageWorld.take_goes_on mid taken takes)) made.keeps.goes_on;
@@ -342,6 +356,8 @@ lines-preserved g c =
           sync_other o total book (view pages).syncs (g.P.Streams.pieces pages) c.lines.lines r (g.P.Streams.left mid) (g.P.Streams.left taken) (Some text) (view mid).image (view new).image (view mid).syncs (view new).syncs (g.P.Streams.pieces mid) (g.P.Streams.pieces new) gives none
           (idle.image told' ∙ kept.image) (idle.syncs ∙ kept.syncs) (omega (arith, c.next.ensures.pieces, made.pieces)) (g.P.Streams.left new) made.left (inv.syncs total book told stands);
       known = λ knows follows known. c.in_ok-answer_line-in-None.ensures.known knows follows (known_kept knows c.lines.kept c.lines.service.sessions c.next.new.from.sessions c.next.ensures.beside.sessions (c.lines.invariant.known knows follows known));
+      gives = gives_joined g.R.Reply.makes c.args.kept.now c.lines.kept c.answer_line.new.kept (λ n. is_open n c.args.service.now.sessions) (λ n. is_open n c.next.new.from.sessions) (λ n. is_open n c.answer_line.new.service.sessions) before (g.P.Streams.sent taken) (g.P.Streams.sent new)
+          (gives_kept g.R.Reply.makes c.args.kept.now c.lines.kept (λ n. is_open n c.args.service.now.sessions) (λ n. is_open n c.lines.service.sessions) (λ n. is_open n c.next.new.from.sessions) before (g.P.Streams.sent mid) (g.P.Streams.sent taken) (λ n. ap (λ l. is_open n l) beside.sessions) c.next.ensures.sent inv.gives) c.in_ok-answer_line-in-None.ensures.gives;
       serves = serves_then (told_in pages) (told_in taken) (told_in new) (view pages) (view taken) (view new) (serves_then (told_in pages) (told_in mid) (told_in taken) (view pages) (view mid) (view taken) inv.serves (serves_disk (told_in mid) (told_in taken) (view mid) (view taken) kept (g.met.P.PageWorld.take_told mid taken takes) (g.met.P.PageWorld.take_was_told mid taken takes))) made.serves;
       goes_on = goes_then (g.P.Pages.under pages) (g.P.Pages.under taken) (g.P.Pages.under new) (goes_then (g.P.Pages.under pages) (g.P.Pages.under mid) (g.P.Pages.under taken) inv.goes_on (g.met.P.PageWorld.take_goes_on mid taken takes)) made.goes_on;
       total_is = made.total ∙ ap (λ (s : Superblock). s.total) beside.store_is.superblock ∙ inv.total_is;
@@ -410,6 +426,10 @@ returns-in_err-answer_line-in-None g c =
           let f = c.in_err-answer_line-in-None.field-0.0 in
           error_goes (EndsKnown g.R.Reply.makes knows) c.from_residual-in_err-answer_line-in-None.result f c.from_residual-in_err-answer_line-in-None.ensures.1
           (c.in_err-answer_line-in-None.ensures.named knows follows (known_kept knows c.lines.kept c.lines.service.sessions c.next.new.from.sessions c.next.ensures.beside.sessions (c.lines.invariant.known knows follows known)));
+      gives =
+          let f = c.in_err-answer_line-in-None.field-0.0 in
+          gives_error g.R.Reply.makes c.args.kept.now c.answer_line.new.kept c.args.service.now.sessions c.answer_line.new.service.sessions before (g.P.Streams.sent new) c.from_residual-in_err-answer_line-in-None.result f c.from_residual-in_err-answer_line-in-None.ensures.1
+          (first_behind g.R.Reply.makes c.args.kept.now c.lines.kept c.answer_line.new.kept (λ n. is_open n c.args.service.now.sessions) (λ n. is_open n c.next.new.from.sessions) before (g.P.Streams.sent taken) (g.P.Streams.sent new) f (gives_kept g.R.Reply.makes c.args.kept.now c.lines.kept (λ n. is_open n c.args.service.now.sessions) (λ n. is_open n c.lines.service.sessions) (λ n. is_open n c.next.new.from.sessions) before (g.P.Streams.sent mid) (g.P.Streams.sent taken) (λ n. ap (λ l. is_open n l) beside.sessions) c.next.ensures.sent inv.gives) c.in_err-answer_line-in-None.ensures.gives);
       bad = error_goes (EndsAtBad (g.P.Pages.told new) (g.P.Pages.view new).size (g.P.Pages.view new).image) c.from_residual-in_err-answer_line-in-None.result c.in_err-answer_line-in-None.field-0.0 c.from_residual-in_err-answer_line-in-None.ensures.1 c.in_err-answer_line-in-None.ensures.bad;
       serves = serves_then (told_in pages) (told_in taken) (told_in new) (view pages) (view taken) (view new) (serves_then (told_in pages) (told_in mid) (told_in taken) (view pages) (view mid) (view taken) inv.serves (serves_disk (told_in mid) (told_in taken) (view mid) (view taken) kept (g.met.P.PageWorld.take_told mid taken takes) (g.met.P.PageWorld.take_was_told mid taken takes))) made.serves;
       goes_on = goes_then (g.P.Pages.under pages) (g.P.Pages.under taken) (g.P.Pages.under new) (goes_then (g.P.Pages.under pages) (g.P.Pages.under mid) (g.P.Pages.under taken) inv.goes_on (g.met.P.PageWorld.take_goes_on mid taken takes)) made.goes_on;
@@ -477,6 +497,8 @@ lines-preserved-in-Some g c =
           (λ b is. omega (arith, made.syncs total b told' (subst (λ (i : Image). StandsForBook i total b) (sym kept.image) is), kept.syncs)) (omega (arith, c.next.ensures.pieces, made.pieces)) (g.P.Streams.pieces taken) (view new).image
           (λ b is. c.in_ok-answer_edits-in-Some.ensures.behind total b told' (subst (λ (i : Image). StandsForBook i total b) (sym kept.image) is)) ends next.took (omega (arith, made.pieces)) (g.P.Streams.left new) made.left (inv.syncs total book told stands);
       known = λ knows follows known. c.in_ok-answer_edits-in-Some.ensures.known knows follows (known_kept knows c.lines.kept c.lines.service.sessions c.next.new.from.sessions c.next.ensures.beside.sessions (c.lines.invariant.known knows follows known));
+      gives = gives_joined g.R.Reply.makes c.args.kept.now c.lines.kept c.answer_edits.new.kept (λ n. is_open n c.args.service.now.sessions) (λ n. is_open n c.next.new.from.sessions) (λ n. is_open n c.answer_edits.new.service.sessions) before (g.P.Streams.sent taken) (g.P.Streams.sent new)
+          (gives_kept g.R.Reply.makes c.args.kept.now c.lines.kept (λ n. is_open n c.args.service.now.sessions) (λ n. is_open n c.lines.service.sessions) (λ n. is_open n c.next.new.from.sessions) before (g.P.Streams.sent mid) (g.P.Streams.sent taken) (λ n. ap (λ l. is_open n l) beside.sessions) c.next.ensures.sent inv.gives) c.in_ok-answer_edits-in-Some.ensures.gives;
       serves = serves_then (told_in pages) (told_in taken) (told_in new) (view pages) (view taken) (view new) (serves_then (told_in pages) (told_in mid) (told_in taken) (view pages) (view mid) (view taken) inv.serves (serves_disk (told_in mid) (told_in taken) (view mid) (view taken) kept (g.met.P.PageWorld.take_told mid taken takes) (g.met.P.PageWorld.take_was_told mid taken takes))) made.serves;
       goes_on = goes_then (g.P.Pages.under pages) (g.P.Pages.under taken) (g.P.Pages.under new) (goes_then (g.P.Pages.under pages) (g.P.Pages.under mid) (g.P.Pages.under taken) inv.goes_on (g.met.P.PageWorld.take_goes_on mid taken takes)) made.goes_on;
       total_is = made.total ∙ ap (λ (s : Superblock). s.total) beside.store_is.superblock ∙ inv.total_is;
@@ -549,6 +571,10 @@ returns-in_err-answer_edits-in-Some g c =
           let f = c.in_err-answer_edits-in-Some.field-0.0 in
           error_goes (EndsKnown g.R.Reply.makes knows) c.from_residual-in_err-answer_edits-in-Some.result f c.from_residual-in_err-answer_edits-in-Some.ensures.1
           (c.in_err-answer_edits-in-Some.ensures.named knows follows (known_kept knows c.lines.kept c.lines.service.sessions c.next.new.from.sessions c.next.ensures.beside.sessions (c.lines.invariant.known knows follows known)));
+      gives =
+          let f = c.in_err-answer_edits-in-Some.field-0.0 in
+          gives_error g.R.Reply.makes c.args.kept.now c.answer_edits.new.kept c.args.service.now.sessions c.answer_edits.new.service.sessions before (g.P.Streams.sent new) c.from_residual-in_err-answer_edits-in-Some.result f c.from_residual-in_err-answer_edits-in-Some.ensures.1
+          (first_behind g.R.Reply.makes c.args.kept.now c.lines.kept c.answer_edits.new.kept (λ n. is_open n c.args.service.now.sessions) (λ n. is_open n c.next.new.from.sessions) before (g.P.Streams.sent taken) (g.P.Streams.sent new) f (gives_kept g.R.Reply.makes c.args.kept.now c.lines.kept (λ n. is_open n c.args.service.now.sessions) (λ n. is_open n c.lines.service.sessions) (λ n. is_open n c.next.new.from.sessions) before (g.P.Streams.sent mid) (g.P.Streams.sent taken) (λ n. ap (λ l. is_open n l) beside.sessions) c.next.ensures.sent inv.gives) c.in_err-answer_edits-in-Some.ensures.gives);
       bad = error_goes (EndsAtBad (g.P.Pages.told new) (g.P.Pages.view new).size (g.P.Pages.view new).image) c.from_residual-in_err-answer_edits-in-Some.result c.in_err-answer_edits-in-Some.field-0.0 c.from_residual-in_err-answer_edits-in-Some.ensures.1 c.in_err-answer_edits-in-Some.ensures.bad;
       serves = serves_then (told_in pages) (told_in taken) (told_in new) (view pages) (view taken) (view new) (serves_then (told_in pages) (told_in mid) (told_in taken) (view pages) (view mid) (view taken) inv.serves (serves_disk (told_in mid) (told_in taken) (view mid) (view taken) kept (g.met.P.PageWorld.take_told mid taken takes) (g.met.P.PageWorld.take_was_told mid taken takes))) made.serves;
       goes_on = goes_then (g.P.Pages.under pages) (g.P.Pages.under taken) (g.P.Pages.under new) (goes_then (g.P.Pages.under pages) (g.P.Pages.under mid) (g.P.Pages.under taken) inv.goes_on (g.met.P.PageWorld.take_goes_on mid taken takes)) made.goes_on;
@@ -592,6 +618,9 @@ returns-in_err-edits-in-Line g c =
       disk = λ fault. differ (sym (error_is result (Serve NoMemory) residual) ∙ fault) refl;
       syncs = λ total book told stands. sync_all o total book (view pages).syncs (g.P.Streams.pieces pages) c.lines.lines (g.P.Streams.left mid) (view mid).image (view mid).syncs (g.P.Streams.pieces mid) (view taken).syncs (g.P.Streams.pieces taken) kept.syncs c.next.ensures.pieces (inv.syncs total book told stands);
       known = λ knows follows known. error_goes (EndsKnown g.R.Reply.makes knows) result (Serve NoMemory) residual tt;
+      gives =
+          gives_error g.R.Reply.makes c.args.kept.now c.lines.kept own c.next.new.from.sessions before (g.P.Streams.sent taken) result (Serve NoMemory) residual
+          (first_memory g.R.Reply.makes c.args.kept.now c.lines.kept (λ n. is_open n c.args.service.now.sessions) (λ n. is_open n c.next.new.from.sessions) before (g.P.Streams.sent taken) (gives_kept g.R.Reply.makes c.args.kept.now c.lines.kept (λ n. is_open n c.args.service.now.sessions) (λ n. is_open n c.lines.service.sessions) (λ n. is_open n c.next.new.from.sessions) before (g.P.Streams.sent mid) (g.P.Streams.sent taken) (λ n. ap (λ l. is_open n l) beside.sessions) c.next.ensures.sent inv.gives));
       bad = error_goes (EndsAtBad (g.P.Pages.told taken) (g.P.Pages.view taken).size (g.P.Pages.view taken).image) result (Serve NoMemory) residual tt;
       serves = serves_then (told_in pages) (told_in mid) (told_in taken) (view pages) (view mid) (view taken) inv.serves (serves_disk (told_in mid) (told_in taken) (view mid) (view taken) kept (g.met.P.PageWorld.take_told mid taken takes) (g.met.P.PageWorld.take_was_told mid taken takes));
       goes_on = goes_then (g.P.Pages.under pages) (g.P.Pages.under mid) (g.P.Pages.under taken) inv.goes_on (g.met.P.PageWorld.take_goes_on mid taken takes);
@@ -602,4 +631,8 @@ returns-in_err-edits-in-Line g c =
 
 pub answer_edits-requires-clause-sound : goal.answer_edits-requires-clause-sound
 answer_edits-requires-clause-sound g c =
+    (g.met.P.PageWorld.take_keeps (shown.pages c.lines.service) (shown.pages c.next.new.from) c.next.ensures.beside.store_is.pages_are).fit c.lines.invariant.fit
+
+pub answer_line-requires-clause-sound : goal.answer_line-requires-clause-sound
+answer_line-requires-clause-sound g c =
     (g.met.P.PageWorld.take_keeps (shown.pages c.lines.service) (shown.pages c.next.new.from) c.next.ensures.beside.store_is.pages_are).fit c.lines.invariant.fit

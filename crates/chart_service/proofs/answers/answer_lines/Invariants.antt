@@ -3,7 +3,9 @@ use Rattle.chart_world.specs.Reading.{input_length}
 use Rattle.gate_pages.specs.Pages.{GoesOn}
 use Rattle.series_book.specs.declared.one_series.Series.{Series}
 use Rattle.stored_book.specs.Standing.{StandsForBook}
+use Rattle.zoom_session.specs.Sessions.{is_open}
 use Rattle.chart_service.specs.Knowing.{Follows, KnowsOpen}
+use Rattle.chart_service.specs.Naming.{Gives}
 use Rattle.chart_service.specs.Serving.{Serves}
 use Rattle.chart_service.specs.Shown as shown
 use Rattle.chart_service.proofs.SyncLemmas.{HasSynced}
@@ -33,6 +35,7 @@ invariant-lines g l =
       syncs : (total : ℕ) (book : List Series) → told first → StandsForBook (view first).image total book
           → HasSynced (g.P.Streams.left first) total book (view first).syncs (g.P.Streams.pieces first) l.lines (g.P.Streams.left pages) (view pages).image (view pages).syncs (g.P.Streams.pieces pages);
       known : (knows : g.row.S.Denot → ℕ → Bool) → Follows g.R.Reply.makes knows → KnowsOpen knows l.initial.kept l.initial.service.sessions → KnowsOpen knows l.kept l.service.sessions;
+      gives : Gives g.R.Reply.makes l.initial.kept l.kept (λ n. is_open n l.initial.service.sessions) (λ n. is_open n l.service.sessions) (g.P.Streams.sent first) (g.P.Streams.sent pages);
       serves : Serves (told first) (told pages) (view first) (view pages);
       goes_on : GoesOn (g.P.Pages.under first) (g.P.Pages.under pages);
       total_is : shown.total l.service ≡ shown.total l.initial.service;

@@ -5,6 +5,7 @@ use Rattle.chart_service.specs.Serving.{AreSpelled, EndsAtBad}
 use Rattle.chart_service.specs.Shown as shown
 use Rattle.chart_service.specs.Spelled.{serve_end}
 use Rattle.chart_service.specs.declared.failure.ServeEnd.TheVariants.{ReadFault, SendFault, DiskFault}
+use Rattle.chart_service.proofs.Naming.{serve_named}
 use Rattle.chart_service.proofs.Sending.{ok_so}
 use Rattle.chart_service.proofs.Served.{spelling_makes, spells, done_spelled, ends_spelled, lasts_spelled, served_ok, served_fault, served_bad}
 use Rattle.chart_service.proofs.serving.serve.Goals as goal
@@ -61,3 +62,9 @@ returns-clause-sound g c = λ other. c.answer_lines-answer.ensures.sound (λ is.
 
 pub returns-clause-rests : goal.returns-clause-rests
 returns-clause-rests g c = λ other. c.answer_lines-answer.ensures.rests (λ is. other (c.served.ensures ∙ ap serve_end is))
+
+pub returns-clause-named : goal.returns-clause-named
+returns-clause-named g c =
+    let old = c.args.service.now in
+    let new = c.answer_lines-answer.new.service in
+    serve_named _ _ old.sessions new.sessions (g.P.Streams.sent (shown.pages old)) (g.P.Streams.sent (shown.pages new)) c.answer_lines-answer.result c.answer_lines-answer.ensures.gives
