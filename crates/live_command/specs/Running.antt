@@ -49,9 +49,10 @@ module _ (IsThere : List Series → Type 0) (input : List ℕ) (old : LiveState)
     pub there : IsThere state.state.book
     pub sent : now ≡ sent_after (spelled frames) before
 
-  -- they are those that ended among the bytes taken, where the bytes left are told
+  -- they are those whose line feeds were among the bytes taken, where the bytes left are told
   pub record SendsTaken (left : Option (List ℕ)) : Type 0 where
     pub sends : SendsFirst
+    pub whole : IsWhole sends.first.front
     pub behind : IfSome left (Unended sends.first.rest)
 
   -- they are those that ended among the first 2^32 bytes, and there is a byte more

@@ -62,9 +62,10 @@ module _ (IsThere : List Series → Type 0) (total : ℕ) (book : List Series) (
     pub there : IsThere (left_by total book input first)
     pub sent : now ≡ sent_after (said_to total book input first) before
 
-  -- they are those that ended among the bytes taken, where the bytes left are told
+  -- they are those whose line feeds were among the bytes taken, where the bytes left are told
   pub record SweepsTaken (left : Option (List ℕ)) : Type 0 where
     pub swept : SweepsFirst
+    pub whole : IsWhole swept.first.front
     pub behind : IfSome left (Unended swept.first.rest)
 
   -- they are those that ended among the first 2^32 bytes, and there is a byte more
