@@ -1,5 +1,5 @@
 -- Where a reader stands in its input, from one line to the next.
-use Rattle.std.proofs.Common.{◌≡◌, ◌≢◌, ◌≤◌, ◌<◌, ℕ, ◌+◌, ◌-◌, Bool, true, false, not, IsTrue, List, [], ◌∷◌, ◌++◌, length, take, drop, get_or, Option, Some, None, IfSome, refl, ap, subst, inl, inr, sym, ◌∙◌, arith, append_assoc, length-append, length-drop}
+use Rattle.std.proofs.Common.{◌≡◌, ◌<◌, ℕ, ◌+◌, ◌-◌, false, not, IsTrue, List, [], ◌∷◌, ◌++◌, length, take, drop, get_or, Option, Some, None, IfSome, refl, ap, subst, inl, inr, sym, ◌∙◌, arith, length-append, length-drop}
 use Rattle.std.specs.List.{after_first, position_or_len}
 use Rattle.std.proofs.lemmas.List.{drop-append-le, drop-drop, drop_all, length-take, take_more}
 use Rattle.std.proofs.lemmas.List.Sums.{passes_at_first}
@@ -7,7 +7,6 @@ use Rattle.std.proofs.lemmas.Bool.{cases_lt, eqb-true}
 use Rattle.std.proofs.lemmas.List.Folds.{prefix_len-append}
 use Rattle.std.proofs.lemmas.Bool.Decides.{nat_tests}
 use Rattle.std.proofs.Math.Seq.{take-add, take-append_seam}
-use Rattle.block_disk.specs.Streams.{left_after}
 use Rattle.chart_world.specs.Fronts.{IsWhole, StandsIn, first_piece}
 use Rattle.chart_world.specs.FrontLaws.{passed, whole_joined}
 use Rattle.chart_world.specs.Lines.{is_line_feed}
@@ -122,3 +121,8 @@ whole_given input front rest given split counted whole =
     let same : take given input ≡ front = ap (λ n. take n input) counted ∙ ap (λ l. take (length front) l) split ∙ take-append_seam front rest in
     let P : List ℕ → Type 0 = IsWhole in
     subst P same whole
+
+-- two facts of bytes, where they are told
+pub told_with : (P R Q : List ℕ → Type 0) (o : Option (List ℕ)) → ((bytes : List ℕ) → R bytes → P bytes → Q bytes) → IfSome o R → IfSome o P → IfSome o Q
+told_with P R Q None more r p = tt
+told_with P R Q (Some bytes) more r p = more bytes r p

@@ -14,8 +14,9 @@ use Rattle.chart_service.specs.Stepping.{state_of}
 use Rattle.chart_service.specs.declared.failure.ServeEnd.{ServeEnd}
 use Rattle.chart_service.specs.declared.failure.ServeEnd.TheVariants.{ReadFault, SendFault, DiskFault, Damaged, InputTooLong, NoMemory}
 use Rattle.chart_world.specs.FrontLaws.{Passed, passes}
-use Rattle.chart_world.specs.Fronts.{says, Gives, first_piece}
+use Rattle.chart_world.specs.Fronts.{says, Gives, IsWhole, first_piece}
 use Rattle.chart_world.specs.LineLaws.{lines_none, piece_line, told_more, no_rest}
+use Rattle.chart_world.specs.StandsLaws.{whole_given}
 use Rattle.chart_world.specs.Lines.{is_line_feed, NoLineFeed}
 use Rattle.chart_world.specs.Reading.{Reading, unread, unread_input, told_lines, input_length, NoLineIn}
 use Rattle.chart_world.specs.declared.line_answer.LineFault.{LineFault}
@@ -199,6 +200,7 @@ module _ (input : List ℕ) (total : ℕ) (old : LiveState) (image : Image) (hel
       let here : left' ≡ Some (drop n g.first.rest) = after ∙ ap (left_after n) g.told_rest in
       subst Q (sym here) (record {
         sends = record { frames = g.frames; state = held_with total g.book held; first = g.first; idle = idle; there = g.stands; sent = g.sent };
+        whole = whole_given input g.first.front g.first.rest r.given g.first.begins.split g.counted (whole refl);
         behind = record { partial = take n g.first.rest; taken = sym (take-append-drop n g.first.rest); unended = subst N g.told_rest (none_read refl) };
       })
   fault_ends r r' None left' fault.InputTooLong few whole none_read none_past past after counted sum g = let told_rest = g.told_rest in cc

@@ -7,7 +7,7 @@ use Rattle.chart_frames.specs.Frames.{spelling}
 use Rattle.chart_service.specs.Serving.{told}
 use Rattle.chart_service.specs.declared.failure.ServeEnd.{ServeEnd}
 use Rattle.chart_service.specs.declared.failure.ServeEnd.TheVariants.{ReadFault, SendFault, DiskFault, Damaged, InputTooLong, NoMemory}
-use Rattle.chart_world.specs.Fronts.{BeginsWith}
+use Rattle.chart_world.specs.Fronts.{BeginsWith, IsWhole}
 use Rattle.chart_world.specs.Lines.{NoLineFeed}
 use Rattle.live_service.specs.LiveReplies.{LiveState}
 use Rattle.series_book.specs.declared.one_series.Series.{Series}

@@ -5,8 +5,9 @@ use Rattle.block_disk.specs.Streams.{sent_after, left_after}
 use Rattle.block_disk.specs.View.{Image}
 use Rattle.chart_service.specs.SentLaws.{sent_none, sent_more}
 use Rattle.chart_service.specs.Serving.{told, unless_empty}
-use Rattle.chart_world.specs.Fronts.{says, Gives}
+use Rattle.chart_world.specs.Fronts.{says, Gives, IsWhole}
 use Rattle.chart_world.specs.LineLaws.{no_rest, said, says_text}
+use Rattle.chart_world.specs.StandsLaws.{whole_given}
 use Rattle.chart_world.specs.Lines.{NoLineFeed}
 use Rattle.chart_world.specs.Reading.{Reading, unread, unread_input, told_lines, input_length, NoLineIn}
 use Rattle.chart_world.specs.declared.line_answer.LineFault.{LineFault}
@@ -147,6 +148,7 @@ module _ (total : ℕ) (book : List Series) (input : List ℕ) (image : Image) (
       let here : left' ≡ Some (drop n first.rest) = after ∙ ap (left_after n) g.progress.told_rest in
       subst Q (sym here) (record {
         swept = record { first = first; there = g.stands; sent = g.sent };
+        whole = whole_given input first.front first.rest r.given first.begins.split g.progress.counted (whole refl);
         behind = record { partial = take n first.rest; taken = sym (take-append-drop n first.rest); unended = subst N g.progress.told_rest (none_read refl) };
       })
   fault_ends r r' None left' fault.InputTooLong few whole none_read none_past past after counted sum g = let told_rest = g.progress.told_rest in cc

@@ -1,7 +1,6 @@
 use Rattle.std.proofs.Common.{ℕ, IfSome, List, Option, sym, true, false, ◌≡◌, ◌+◌, ◌-◌, ◌∙◌, [], Some, None, Ok, length, take, drop, ap, arith, length-drop}
 use Rattle.chart_world.specs.Feed.{pending_of, Gathered}
 use Rattle.chart_world.specs.Reading.{Reading, HasFeed, HasLine, Took, told_lines, with_first, unread, in_front_of, behind_first, input_length}
-use Rattle.block_disk.specs.Counts.{HasRisen}
 use Rattle.chart_world.specs.Fronts.{StandsIn}
 use Rattle.chart_world.specs.StandsLaws.{feed_pending, stands_next}
 use Rattle.chart_world.proofs.Pending.{pending_full}
@@ -26,7 +25,7 @@ returns-in-Some g c =
     let feed : HasFeed (unread old left) = feed_pending old.pending left (omega (arith, here.place, here.within)) in
     let stands : (input : Option (List ℕ)) → StandsIn input old left → StandsIn input new left =
     λ input at. stands_next input left left old new rest whole counted (ap (λ n. input_length n left) c.give_pending.ensures.taken)
-        (λ _. feed) (λ going. sym c.give_pending.ensures.ended ∙ going) (λ end. at.nothing (sym c.give_pending.ensures.ended ∙ end)) at in
+    (λ _. feed) (λ going. sym c.give_pending.ensures.ended ∙ going) (λ end. at.nothing (sym c.give_pending.ensures.ended ∙ end)) at in
     let some = here_lines old.pending left (unread new left) before (Some new.line) here.place here.within in
     let none = here_lines old.pending left (unread new left) before None here.place here.within in
     record {
