@@ -25,7 +25,7 @@ signed_zero : (at : ℕ) (page : List ℕ) → IsBlank page → 8 ≤ at → at 
 unfolding signed_at
 signed_zero at page blank low high = ap (cast_signed w64) (number_zero 8 at page blank low high)
 
-bit_of_zero : (i : ℕ) → i < 8 → (bit_at 0 i == 1) ≡ false
+pub bit_of_zero : (i : ℕ) → i < 8 → (bit_at 0 i == 1) ≡ false
 bit_of_zero zero few = refl
 bit_of_zero (suc zero) few = refl
 bit_of_zero (suc (suc zero)) few = refl

@@ -1,13 +1,13 @@
 -- The differences of all nodes, by their places and by the bytes of the flags.
-use Rattle.std.proofs.Common.{◌≡◌, ℕ, zero, suc, ◌+◌, ◌*◌, ◌/◌, ◌%◌, ◌<◌, ◌≤◌, Bool, true, false, cond, ◌&&◌, ◌==◌, List, get_or, refl, ap, subst, inl, inr, ◌∙◌, arith}
+use Rattle.std.proofs.Common.{◌≡◌, ℕ, zero, suc, ◌+◌, ◌*◌, ◌/◌, ◌%◌, ◌<◌, ◌≤◌, min, Bool, true, false, cond, ◌&&◌, ◌==◌, List, get_or, refl, ap, subst, inl, inr, ◌∙◌, arith}
 use Rattle.std.proofs.lemmas.Bool.{eq-eqb, ne_eqb}
 use Rattle.std.proofs.lemmas.Bool.Decides.{eqb_tells}
 use Rattle.std.specs.Int.{bit_at}
 use Rattle.whole_number.specs.Range.{IsTime}
 use Rattle.node_page.specs.Fields.{signed_at, flag_at, coef_at}
-use Rattle.node_page.specs.Layout.{HasDifferences, AreDifferences, AreSmall, IsFullOrFlat, has_child}
+use Rattle.node_page.specs.Layout.{HasDifferences, AreDifferences, AreEightSmall, AreFourInRange, IsFullOrFlat, has_child}
 
-bit_of_full : (i : ℕ) → i < 8 → (bit_at 255 i == 1) ≡ true
+pub bit_of_full : (i : ℕ) → i < 8 → (bit_at 255 i == 1) ≡ true
 bit_of_full zero few = refl
 bit_of_full (suc zero) few = refl
 bit_of_full (suc (suc zero)) few = refl
@@ -34,16 +34,20 @@ unfolding coef_at
 four_full page byte n full low high half =
     absurd (both (flag_at page (2 * n)) (flag_at page (2 * n + 1)) (flag_of_full page byte (2 * n) full (omega (arith, low, high))) (flag_of_full page byte (2 * n + 1) full (omega (arith, low, high))) half)
 
-pub differences_from : (page : List ℕ) → AreSmall page → ((n : ℕ) → n < 127 → IsFullOrFlat page n) → AreDifferences page
+-- the differences of the last byte are the last of the eight that are looked at
+pub in_range_from : (page : List ℕ) (byte first : ℕ) → byte < 32 → first ≡ min (8 * byte) 246 → AreEightSmall page first
+    → ((n : ℕ) → 4 * byte ≤ n → n < 4 * byte + 4 → n < 127 → IsFullOrFlat page n) → AreFourInRange page byte
 unfolding coef_at
-differences_from page small flat n few =
+in_range_from page byte first within is small flat n low high few =
     let second : 40 + 8 * (2 * n + 1) ≡ 40 + 16 * n + 8 = omega arith in
-    let first : 40 + 8 * (2 * n) ≡ 40 + 16 * n = omega arith in
+    let one : 40 + 8 * (2 * n) ≡ 40 + 16 * n = omega arith in
     let IsSmall : ℕ → Type 0 = λ at. IsTime (signed_at page at) in
+    let from : first ≤ 2 * n = omega (arith, is, low) in
+    let to : 2 * n + 1 < first + 8 = omega (arith, is, high, few, within) in
     record {
-      least = subst IsSmall first (small (2 * n) (omega (arith, few)));
-      greatest = subst IsSmall second (small (2 * n + 1) (omega (arith, few)));
-      flat = flat n few;
+      least = subst IsSmall one (small (2 * n) from (omega (arith, to)));
+      greatest = subst IsSmall second (small (2 * n + 1) (omega (arith, from)) to);
+      flat = flat n low high few;
     }
 
 -- a place is one of a node's two
@@ -57,8 +61,9 @@ halves page n (suc zero) place is few has =
     let IsSmall : ℕ → Type 0 = λ at. IsTime (signed_at page at) in subst IsSmall at has.greatest
 halves page n (suc (suc rest)) place is few has = absurd (omega (arith, few))
 
-pub small_of : (page : List ℕ) → AreDifferences page → AreSmall page
-small_of page differences place few = halves page (place / 2) (place % 2) place (omega arith) (omega arith) (differences (place / 2) (omega (arith, few)))
+pub small_of : (page : List ℕ) (first : ℕ) → first ≤ 246 → AreDifferences page → AreEightSmall page first
+small_of page first low_first differences place low high =
+    halves page (place / 2) (place % 2) place (omega arith) (omega arith) (differences (place / 2) (omega (arith, low_first, high)))
 
 -- a child's flag is the one of its number behind those of the nodes above the lowest
 pub flag_of_child : (page : List ℕ) (child : ℕ) → has_child page child ≡ flag_at page (126 + child)

@@ -9,3 +9,4 @@ pub mod Blank
 pub mod Childless
 pub mod Differences
 pub mod FullPages
+pub mod Groups

@@ -34,15 +34,19 @@ pub record AreFlags (page : List ℕ) : Type 0 where
   pub spare_even : flag_at page 254 ≡ false
   pub spare_odd : flag_at page 255 ≡ false
 
+-- the same of one node and those below it
+abbrev pub IsAgreed : List ℕ → ℕ → Type 0
+IsAgreed page n = (has_value (coef_at page (2 * n + 1)) ≡ (coef_at page n).left) × (has_value (coef_at page (2 * n + 2)) ≡ (coef_at page n).right)
+
 -- differences are at most 2 * 10^18 in size, and 0 beside fewer than two flags
 pub record HasDifferences (c : Coef) : Type 0 where
   pub least : IsTime c.dmin
   pub greatest : IsTime c.dmax
   pub flat : (c.left && c.right) ≡ false → IsFlat c
 
--- the same by places: no difference is above that
-abbrev pub AreSmall : List ℕ → Type 0
-AreSmall page = (place : ℕ) → place < 254 → IsTime (signed_at page (40 + 8 * place))
+-- the same by places: none of eight differences is above that
+abbrev pub AreEightSmall : List ℕ → ℕ → Type 0
+AreEightSmall page first = (place : ℕ) → first ≤ place → place < first + 8 → IsTime (signed_at page (40 + 8 * place))
 
 -- and a node has two flags or no difference
 abbrev pub IsFullOrFlat : List ℕ → ℕ → Type 0
@@ -50,6 +54,10 @@ IsFullOrFlat page n = ((coef_at page n).left && (coef_at page n).right) ≡ fals
 
 abbrev pub AreDifferences : List ℕ → Type 0
 AreDifferences page = (n : ℕ) → n < 127 → HasDifferences (coef_at page n)
+
+-- the same of the four nodes whose flags stand in one byte
+abbrev pub AreFourInRange : List ℕ → ℕ → Type 0
+AreFourInRange page byte = (n : ℕ) → 4 * byte ≤ n → n < 4 * byte + 4 → n < 127 → HasDifferences (coef_at page n)
 
 -- whether the range of a child has a stored value: the children lie below the nodes 63 to 126, on the
 -- left of each the even one

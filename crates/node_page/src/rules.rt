@@ -1,8 +1,8 @@
 //! The rules of the fields, each as a test.
-ghost use Rattle.std.specs.Prelude.{◌≡◌, ◌<◌, ◌≤◌, ◌+◌, ◌*◌, ◌↔◌, ℕ, IsTrue, length, slice_index};
+ghost use Rattle.std.specs.Prelude.{◌≡◌, ◌<◌, ◌≤◌, ◌+◌, ◌*◌, ◌↔◌, ◌⊎◌, ℕ, pos, IsTrue, length, slice_index};
 ghost use Rattle.block_disk.specs.Blocks.{IsBlock};
-ghost use Rattle.node_page.specs.Fields.{level_at, coef_at};
-ghost use Rattle.node_page.specs.Layout.{IsLevel, IsReserved, AreFlags, AreDifferences, AreSmall, IsFullOrFlat, IsChild, AreChildren, has_child, has_value};
+ghost use Rattle.node_page.specs.Fields.{level_at, signed_at, coef_at};
+ghost use Rattle.node_page.specs.Layout.{IsLevel, IsReserved, AreFlags, IsAgreed, AreDifferences, AreEightSmall, AreFourInRange, IsFullOrFlat, IsChild, AreChildren, has_child, has_value};
 
 use crate::byte_fields::are_zero;
 use crate::fields::{child_of, difference_at, is_set};
@@ -54,6 +54,55 @@ fn are_all_set(page: &[u8]) -> bool
     are_full(&page[FLAGS..FLAGS + 31]) && page[FLAGS + 31] == 63
 }
 
+/// Whether the flags of the two nodes below a node agree with its own.
+fn is_agreed(page: &[u8], node: u8) -> bool
+    requires whole { IsBlock page.now }
+    requires node { node < 63 }
+    ensures { IsTrue result ↔ IsAgreed page.now node }
+{
+    let left = is_stored(page, 2 * node + 1);
+    let right = is_stored(page, 2 * node + 2);
+    left == is_set(page, 2 * node) && right == is_set(page, 2 * node + 1)
+}
+
+/// Whether no bit of a byte is set, or all are.
+fn is_none_or_full(byte: u8) -> bool
+    ensures { IsTrue result → (byte ≡ 0) ⊎ (byte ≡ 255) }
+{
+    byte == 0 || byte == 255
+}
+
+/// Whether the flags of the four nodes of a byte, and all in the bytes of those below them, are set, or none is.
+fn are_four_alike(page: &[u8], byte: u8) -> bool
+    requires whole { IsBlock page.now }
+    requires byte { byte < 16 }
+    ensures { IsTrue result → (n : ℕ) → 4 * byte ≤ n → n < 4 * byte + 4 → IsAgreed page.now n }
+{
+    let flags = page[FLAGS + usize::from(byte)];
+    let below = FLAGS + 2 * usize::from(byte);
+    if !is_none_or_full(flags) || page[below] != flags || page[below + 1] != flags {
+        return false;
+    }
+    page[below + 2] == flags
+}
+
+/// Whether the flags below each of four nodes agree with its own.
+fn are_four_agreed(page: &[u8], byte: u8) -> bool
+    requires whole { IsBlock page.now }
+    requires byte { byte < 16 }
+    ensures { IsTrue result ↔ ((n : ℕ) → 4 * byte ≤ n → n < 4 * byte + 4 → n < 63 → IsAgreed page.now n) }
+{
+    if are_four_alike(page, byte) {
+        return true;
+    }
+    for node in 4 * byte..(4 * byte + 4).min(63) {
+        if !is_agreed(page, node) {
+            return false;
+        }
+    }
+    true
+}
+
 /// Whether the flags of each node agree with its parent's flag for it.
 pub(crate) fn are_flags(page: &[u8]) -> bool
     requires whole { IsBlock page.now }
@@ -65,24 +114,23 @@ pub(crate) fn are_flags(page: &[u8]) -> bool
     if !is_stored(page, 0) || is_set(page, 254) || is_set(page, 255) {
         return false;
     }
-    for node in 0..63 {
-        let left = is_stored(page, 2 * node + 1);
-        let right = is_stored(page, 2 * node + 2);
-        if left != is_set(page, 2 * node) || right != is_set(page, 2 * node + 1) {
+    for byte in 0..16 {
+        if !are_four_agreed(page, byte) {
             return false;
         }
     }
     true
 }
 
-/// Whether no difference is above 2 * 10^18 in size.
-fn are_small(page: &[u8]) -> bool
+/// Whether none of eight differences is above 2 * 10^18 in size.
+fn are_eight_small(page: &[u8], first: usize) -> bool
     requires whole { IsBlock page.now }
-    ensures { IsTrue result ↔ AreSmall page.now }
+    requires first { first ≤ 246 }
+    ensures { IsTrue result ↔ AreEightSmall page.now first }
 {
     let mut greatest = 0;
-    for place in 0..254 {
-        greatest = greatest.max(difference_at(page, DIFFERENCES + 8 * place).unsigned_abs());
+    for k in 0..8 {
+        greatest = greatest.max(difference_at(page, DIFFERENCES + 8 * (first + k)).unsigned_abs());
     }
     greatest <= GREATEST_DIFFERENCE
 }
@@ -113,17 +161,38 @@ fn are_four_full_or_flat(page: &[u8], byte: u8) -> bool
     true
 }
 
-/// Whether each node has two flags or no difference. Where all flags of a byte are set, its nodes aren't looked at.
-fn are_full_or_flat(page: &[u8]) -> bool
+/// Whether the eight differences of a byte's four nodes are 0. Behind the last node stand the first children.
+fn are_eight_zero(page: &[u8], byte: u8) -> bool
     requires whole { IsBlock page.now }
-    ensures { IsTrue result ↔ ((n : ℕ) → n < 127 → IsFullOrFlat page.now n) }
+    requires byte { byte < 32 }
+    ensures { IsTrue result → (place : ℕ) → 8 * byte ≤ place → place < 8 * byte + 8 → signed_at page.now (40 + 8 * place) ≡ pos 0 }
 {
-    for byte in 0..32 {
-        if page[FLAGS + usize::from(byte)] != 255 && !are_four_full_or_flat(page, byte) {
+    let first = 8 * usize::from(byte);
+    for k in 0..8 {
+        if difference_at(page, DIFFERENCES + 8 * (first + k)) != 0 {
             return false;
         }
     }
     true
+}
+
+/// Whether the differences of the four nodes of a byte are in range. Where all flags are set, or none is and no difference
+/// is there, the nodes aren't looked at one by one. With those of the last byte the two differences before them are looked at.
+fn are_four_in_range(page: &[u8], byte: u8) -> bool
+    requires whole { IsBlock page.now }
+    requires byte { byte < 32 }
+    ensures range { IsTrue result → AreFourInRange page.now byte }
+    ensures all { AreDifferences page.now → IsTrue result }
+{
+    let flags = page[FLAGS + usize::from(byte)];
+    if flags == 0 && are_eight_zero(page, byte) {
+        return true;
+    }
+    let first = 8 * usize::from(byte);
+    if !are_eight_small(page, first.min(246)) {
+        return false;
+    }
+    flags == 255 || are_four_full_or_flat(page, byte)
 }
 
 /// Whether the differences of all nodes are in range.
@@ -131,7 +200,12 @@ pub(crate) fn are_differences(page: &[u8]) -> bool
     requires whole { IsBlock page.now }
     ensures { IsTrue result ↔ AreDifferences page.now }
 {
-    are_small(page) && are_full_or_flat(page)
+    for byte in 0..32 {
+        if !are_four_in_range(page, byte) {
+            return false;
+        }
+    }
+    true
 }
 
 /// Whether the range of a child has a stored value: by its flag, which its parent node has.
@@ -154,6 +228,38 @@ fn is_child(page: &[u8], child: u8) -> bool
     (child_of(page, child) != 0) == has_child(page, child)
 }
 
+/// Whether all flags in the bytes of those above eight children, and the children's numbers, are 0.
+fn are_eight_blank(page: &[u8], group: u8) -> bool
+    requires whole { IsBlock page.now }
+    requires group { group < 16 }
+    ensures { IsTrue result → (c : ℕ) → 8 * group ≤ c → c < 8 * group + 8 → IsChild page.now c }
+{
+    let flags = FLAGS + 15 + usize::from(group);
+    let at = CHILDREN + 32 * usize::from(group);
+    if page[flags] != 0 || page[flags + 1] != 0 {
+        return false;
+    }
+    are_zero(&page[at..at + 32])
+}
+
+/// Whether eight children of a page above level 1 are there exactly where they have to be.
+fn are_eight_children(page: &[u8], group: u8) -> bool
+    requires whole { IsBlock page.now }
+    requires group { group < 16 }
+    requires above { 1 < level_at page.now }
+    ensures { IsTrue result ↔ ((c : ℕ) → 8 * group ≤ c → c < 8 * group + 8 → IsChild page.now c) }
+{
+    if are_eight_blank(page, group) {
+        return true;
+    }
+    for child in 8 * group..8 * group + 8 {
+        if !is_child(page, child) {
+            return false;
+        }
+    }
+    true
+}
+
 /// Whether all children are there exactly where they have to be: none on page level 1.
 #[tactic(auto, unfolding(crate::specs::Fields::level_at))]
 pub(crate) fn are_children(page: &[u8]) -> bool
@@ -164,8 +270,8 @@ pub(crate) fn are_children(page: &[u8]) -> bool
     if page[1] == 1 {
         return are_zero(&page[CHILDREN..END]);
     }
-    for child in 0..128 {
-        if !is_child(page, child) {
+    for group in 0..16 {
+        if !are_eight_children(page, group) {
             return false;
         }
     }

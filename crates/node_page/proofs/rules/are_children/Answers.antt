@@ -1,4 +1,5 @@
-use Rattle.std.proofs.Common.{◌≡◌, below_more, arith}
+use Rattle.std.proofs.Common.{◌≡◌, ◌*◌, inl, inr, arith}
+use Rattle.std.proofs.lemmas.Bool.{cases_lt}
 use Rattle.node_page.specs.Fields.{level_at}
 use Rattle.node_page.proofs.Deciding.{zero_in, zero_out}
 use Rattle.node_page.proofs.Childless.{no_children, childless}
@@ -13,5 +14,10 @@ returns-then-page-eq1 c =
       λ children. c.are_zero.ensures.1 (zero_out 2072 512 page (omega arith) (childless page low children)),
     )
 
-pub loop-child-preserved : goal.loop-child-preserved
-loop-child-preserved c = record { so_far = below_more _ _ c.loop-child.invariant.so_far (c.is_child.ensures.0 c.if-not-is_child.false) }
+pub loop-group-preserved : goal.loop-group-preserved
+loop-group-preserved c = record {
+  so_far = λ n low. elim (cases_lt n (8 * c.loop-group.group)) [
+    | inl before ↦ c.loop-group.invariant.so_far n before
+    | inr here ↦ c.are_eight_children.ensures.0 c.if-not-are_eight_children.false n here (omega (arith, low))
+  ];
+}

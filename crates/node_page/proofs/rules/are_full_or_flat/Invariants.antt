@@ -1,6 +1,0 @@
-use Rattle.std.proofs.Common.{◌<◌, ◌*◌, ℕ}
-use Rattle.node_page.specs.Layout.{IsFullOrFlat}
-use Rattle.node_page.proofs.rules.are_full_or_flat.Given as goal
-
-abbrev pub invariant-loop-byte : goal.invariant-loop-byte
-invariant-loop-byte l = record { so_far : (n : ℕ) → n < 4 * l.byte → n < 127 → IsFullOrFlat l.page n }
