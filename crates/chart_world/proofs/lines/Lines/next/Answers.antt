@@ -191,7 +191,6 @@ returns-then-length g c =
       sent = grind arith;
       send_faults = grind arith;
       read_faults = grind arith;
-      quiet = grind arith;
       pieces = grind arith;
       took = took;
       beside = grind arith;
