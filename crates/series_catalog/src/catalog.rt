@@ -20,7 +20,7 @@ impl Catalog {
     /// A catalog without a series. It takes the room of all series that there may be, so that `add` takes
     /// none.
     pub fn new(alloc: Global) -> Result<Catalog, NoMemory>
-        ensures { IfOk result (λ catalog. catalog.series.items ≡ []) }
+        ensures { IfOk result (λ it. it.series.items ≡ []) }
     {
         let series = Vec::with_capacity(alloc, MOST_SERIES)?;
         Ok(Catalog { series })

@@ -10,7 +10,7 @@ use std::alloc::Global;
 use std::test::Fail;
 
 /// The bytes of the pages that a disk stands for, once its journal is replayed.
-pub fn pages_of(alloc: Global, disk: MemDisk) -> Result<Vec<u8>, Fail> {
+pub(crate) fn pages_of(alloc: Global, disk: MemDisk) -> Result<Vec<u8>, Fail> {
     let Ok(pages) = GatePages::open(alloc, disk) else {
         return Err(Fail::new("no pages"));
     };
@@ -219,7 +219,10 @@ fn an_old_store_is_checked(rt: HostRuntime) -> Result<(), Fail> {
     assert_eq!(rt; (counts.used, counts.total), (18, 62));
     let ends = ends_of(alloc, old.as_slice(), Deed::Open)?;
     assert!(rt; ends.after.as_slice().starts_with(b"CHARTST2"));
-    assert_eq!(rt; (ends.after.get(BLOCK), ends.after.get(BLOCK + 88)), (Some(&4), Some(&1)));
+    assert_eq!(rt;
+        (ends.after.get(BLOCK), ends.after.get(BLOCK + 88)),
+        (Some(&4), Some(&1))
+    );
     Ok(())
 }
 
