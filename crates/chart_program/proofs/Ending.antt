@@ -10,9 +10,10 @@ use Rattle.block_disk.specs.Streams.{left_after}
 use Rattle.chart_world.specs.declared.line_answer.LineFault.{LineFault}
 use Rattle.chart_world.specs.declared.line_answer.LineFault.TheVariants as fault
 use Rattle.chart_world.specs.Lines.{is_line_feed, lines}
+use Rattle.chart_world.specs.StandsLaws.{told_with, whole_given}
 use Rattle.chart_world.specs.Reading.{Reading, unread_input, unread, told_lines, with_first, behind_first, input_length, NoLineIn}
 use Rattle.chart_world.specs.LineLaws.{lines_none, pieces, told_so, no_rest}
-use Rattle.chart_world.specs.Fronts.{says, first_piece}
+use Rattle.chart_world.specs.Fronts.{says, IsWhole, first_piece}
 use Rattle.chart_world.specs.FrontLaws.{passed, behind_told}
 use Rattle.plain_chart.specs.Samples.{IsSlot}
 use Rattle.chart_program.specs.declared.input.InputEnd.{InputEnd}
@@ -115,8 +116,8 @@ not_added_so o bytes bytes' left given at slots text (BadLine n) first place ear
 not_added_so o bytes bytes' left given at slots text TooManySlots first place early why =
     told_so (λ input. Progress input bytes given slots) (λ input. HasTooMany input) o (λ input. many_at input bytes bytes' given slots text first why)
 
-stopped_at : (input : List ℕ) (bytes left : Option (List ℕ)) (given n : ℕ) (slots : List (Option ℤ)) → NoLineIn n bytes → left ≡ left_after n bytes → Progress input bytes given slots → IfSome left (StoppedBefore input)
-stopped_at input bytes left given n slots none after p =
+stopped_at : (input : List ℕ) (bytes left : Option (List ℕ)) (given n : ℕ) (slots : List (Option ℤ)) → IsWhole (take given input) → NoLineIn n bytes → left ≡ left_after n bytes → Progress input bytes given slots → IfSome left (StoppedBefore input)
+stopped_at input bytes left given n slots whole none after p =
     let P : Option (List ℕ) → Type 0 = NoLineIn n in
     let Q : Option (List ℕ) → Type 0 = λ l. IfSome l (StoppedBefore input) in
     let here : left ≡ Some (drop n p.rest) = after ∙ ap (left_after n) p.told in
@@ -125,6 +126,7 @@ stopped_at input bytes left given n slots none after p =
       slots = slots;
       place = given;
       behind = p.behind;
+      whole = whole_given input p.behind.front p.rest given p.behind.split p.behind.counted whole;
       partial = take n p.rest;
       taken = sym (take-append-drop n p.rest);
       unended = subst P p.told none;
@@ -148,11 +150,11 @@ far_at input old new (Some l) (Some l') slots none past counted total p =
     }
 
 -- at a fault
-pub fault_so : (o : Option (List ℕ)) (old new : Reading) (left left' : Option (List ℕ)) (slots : List (Option ℤ)) (f : LineFault) → (f ≡ fault.ReadFault → NoLineIn (new.taken - old.given) (unread old left)) → (f ≡ fault.InputTooLong → NoLineIn (2 ^ 32 - old.given) (unread old left)) → (f ≡ fault.InputTooLong → 2 ^ 32 < new.taken) → left' ≡ left_after (new.taken - old.given) (unread old left) → old.taken ≡ old.given + length old.pending → input_length new.taken left' ≡ input_length old.taken left → IfSome o (λ input. Progress input (unread old left) old.given slots) → IfSome o (λ input. Stops input left' (end_of f))
-fault_so o old new left left' slots fault.ReadFault read far past after counted total =
-    told_so (λ input. Progress input (unread old left) old.given slots) (λ input. IfSome left' (StoppedBefore input)) o
-    (λ input. stopped_at input (unread old left) left' old.given (new.taken - old.given) slots (read refl) after)
-fault_so o old new left left' slots fault.InputTooLong read far past after counted total =
+pub fault_so : (o : Option (List ℕ)) (old new : Reading) (left left' : Option (List ℕ)) (slots : List (Option ℤ)) (f : LineFault) → (f ≡ fault.ReadFault → IfSome o (λ input. IsWhole (take old.given input))) → (f ≡ fault.ReadFault → NoLineIn (new.taken - old.given) (unread old left)) → (f ≡ fault.InputTooLong → NoLineIn (2 ^ 32 - old.given) (unread old left)) → (f ≡ fault.InputTooLong → 2 ^ 32 < new.taken) → left' ≡ left_after (new.taken - old.given) (unread old left) → old.taken ≡ old.given + length old.pending → input_length new.taken left' ≡ input_length old.taken left → IfSome o (λ input. Progress input (unread old left) old.given slots) → IfSome o (λ input. Stops input left' (end_of f))
+fault_so o old new left left' slots fault.ReadFault whole read far past after counted total =
+    told_with (λ input. Progress input (unread old left) old.given slots) (λ input. IsWhole (take old.given input)) (λ input. IfSome left' (StoppedBefore input)) o
+    (λ input front. stopped_at input (unread old left) left' old.given (new.taken - old.given) slots front (read refl) after) (whole refl)
+fault_so o old new left left' slots fault.InputTooLong whole read far past after counted total =
     told_so (λ input. Progress input (unread old left) old.given slots) (λ input. IsTooLong input) o
     (λ input. far_at input old new left left' slots (far refl) (past refl) counted total)
 

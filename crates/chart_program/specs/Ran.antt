@@ -118,7 +118,7 @@ SendsPart Live old new input before now = LivesPart (page_count old.size) old ne
 SendsPart Derive old new input before now = DerivesPart (page_count old.size) old input before now
 
 -- A take failed, where these bytes were left. A plot has sent nothing, a serving command what answers the
--- lines taken, `draw` the pictures of the frames taken, and `cover` these and their covers.
+-- lines whose line feeds were taken, `draw` the pictures of the frames taken, and `cover` these and their covers.
 abbrev pub StopsBefore : Command → View → View → List ℕ → Option (List ℕ) → Option (List ℕ) → List ℕ → Type 0
 StopsBefore (Plot w h) old new input before now bytes = StoppedBefore input bytes
 StopsBefore Run old new input before now bytes = AnswersTaken AreTexts (page_count old.size) old new input bytes before now

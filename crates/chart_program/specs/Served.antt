@@ -55,7 +55,7 @@ AnswersAll IsText count old new input before now = FromBook count old new (λ st
 abbrev pub AnswersFront : Says → ℕ → View → View → List ℕ → Option (List ℕ) → Option (List ℕ) → Type 0
 AnswersFront IsText count old new input before now = FromBook count old new (λ start state. SendsFrontOf (IsText start) input start state before now)
 
--- all lines that ended among the bytes taken were answered, and these bytes are left
+-- all lines whose line feeds were among the bytes taken were answered, and these bytes are left
 abbrev pub AnswersTaken : Says → ℕ → View → View → List ℕ → List ℕ → Option (List ℕ) → Option (List ℕ) → Type 0
 AnswersTaken IsText count old new input bytes before now = FromBook count old new (λ start state. SendsTaken (IsText start) input bytes start state before now)
 

@@ -81,12 +81,14 @@ pub record IsTooLong (input : List ℕ) : Type 0 where
   pub unended : NoLineFeed (take (2 ^ 32 - place) rest)
   pub past : 2 ^ 32 < length input
 
--- of the input these bytes are left to take, and each line that ended among those taken spells a slot or is empty
+-- Of the input these bytes are left to take. Behind are the lines whose line feeds were among those taken, and each of them spells a
+-- slot or is empty.
 pub record StoppedBefore (input left : List ℕ) : Type 0 where
   pub rest : List ℕ
   pub slots : List (Option ℤ)
   pub place : ℕ
   pub behind : Behind input rest slots place
+  pub whole : IsWhole behind.front
   pub partial : List ℕ
   pub taken : rest ≡ partial ++ left
   pub unended : NoLineFeed partial

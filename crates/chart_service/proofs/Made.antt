@@ -5,7 +5,9 @@ use Rattle.std.proofs.Math.Seq.{take-append-add}
 use Rattle.block_disk.specs.Streams.{sent_after, left_after}
 use Rattle.chart_world.specs.declared.line_answer.LineFault.{LineFault}
 use Rattle.chart_world.specs.declared.line_answer.LineFault.TheVariants as fault
+use Rattle.chart_world.specs.Fronts.{IsWhole}
 use Rattle.chart_world.specs.LineLaws.{told_so}
+use Rattle.chart_world.specs.StandsLaws.{told_with}
 use Rattle.chart_world.specs.Reading.{Reading, unread, input_length, NoLineIn}
 use Rattle.chart_frames.specs.declared.frame.Frame.{Frame}
 use Rattle.chart_service.specs.Answering.{ReplyFails, EndsAt}
@@ -45,14 +47,14 @@ made_grows makes v w x more answers reply next = λ lines frames text made. made
 
 -- at a fault of the lines
 pub lines_fault : {S F : Type 0} (makes : Makes S F) (o : Option (List ℕ)) (r r' : Reading) (left left' : Option (List ℕ)) (old state : State) (v w : S) (before now : Option (List ℕ)) (f : LineFault)
-    → r.given ≤ 2 ^ 32 → (f ≡ fault.ReadFault → NoLineIn (r'.taken - r.given) (unread r left)) → (f ≡ fault.InputTooLong → NoLineIn (2 ^ 32 - r.given) (unread r left)) → (f ≡ fault.InputTooLong → 2 ^ 32 < r'.taken)
+    → r.given ≤ 2 ^ 32 → (f ≡ fault.ReadFault → IfSome o (λ input. IsWhole (take r.given input))) → (f ≡ fault.ReadFault → NoLineIn (r'.taken - r.given) (unread r left)) → (f ≡ fault.InputTooLong → NoLineIn (2 ^ 32 - r.given) (unread r left)) → (f ≡ fault.InputTooLong → 2 ^ 32 < r'.taken)
     → left' ≡ left_after (r'.taken - r.given) (unread r left) → r.taken ≡ r.given + length r.pending → input_length r'.taken left' ≡ input_length r.taken left
     → IfSome o (λ input. Progress (AreMade makes v w) input (unread r left) r.given old state before now)
     → IfSome o (λ input. EndsAt makes v w input old state left' before now (Serve (end_of f)))
-lines_fault makes o r r' left left' old state v w before now fault.ReadFault few read far past after counted total =
-    told_so (λ input. Progress (AreMade makes v w) input (unread r left) r.given old state before now) (λ input. EndsAt makes v w input old state left' before now (Serve ReadFault)) o
-    (λ input. taken_at (AreMade makes v w) input old state before now (unread r left) left' r.given (r'.taken - r.given) (read refl) after)
-lines_fault makes o r r' left left' old state v w before now fault.InputTooLong few read far past after counted total =
+lines_fault makes o r r' left left' old state v w before now fault.ReadFault few whole read far past after counted total =
+    told_with (λ input. Progress (AreMade makes v w) input (unread r left) r.given old state before now) (λ input. IsWhole (take r.given input)) (λ input. EndsAt makes v w input old state left' before now (Serve ReadFault)) o
+    (λ input front. taken_at (AreMade makes v w) input old state before now (unread r left) left' r.given (r'.taken - r.given) front (read refl) after) (whole refl)
+lines_fault makes o r r' left left' old state v w before now fault.InputTooLong few whole read far past after counted total =
     told_so (λ input. Progress (AreMade makes v w) input (unread r left) r.given old state before now) (λ input. EndsAt makes v w input old state left' before now (Serve InputTooLong)) o
     (λ input. within_at (AreMade makes v w) input old state before now r r' left left' few (far refl) (past refl) counted total)
 

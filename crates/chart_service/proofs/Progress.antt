@@ -4,6 +4,7 @@ use Rattle.std.specs.List.{filter, after_first}
 use Rattle.std.proofs.lemmas.List.{take-append-drop, append-nil}
 use Rattle.block_disk.specs.Streams.{sent_after, left_after}
 use Rattle.chart_world.specs.Lines.{is_line_feed, lines, NoLineFeed}
+use Rattle.chart_world.specs.StandsLaws.{whole_given}
 use Rattle.chart_world.specs.Reading.{Reading, unread_input, unread, told_lines, input_length, NoLineIn}
 use Rattle.chart_world.specs.LineLaws.{lines_none, pieces, piece_ends, piece_line, told_behind, told_more, no_rest}
 use Rattle.chart_world.specs.Fronts.{says, IsWhole, BeginsWith, Gives, first_piece}
@@ -235,14 +236,15 @@ module _ (T : Telling) (input : List ℕ) (old state : State) (before now : Opti
   first_at bytes given p = record { front = p.front; begins = p.begins; early = omega (arith, p.early, p.counted); text = p.text; answers = p.answers; sent = p.sent }
 
   -- at a take that failed
-  pub taken_at : (bytes left : Option (List ℕ)) (given n : ℕ) → NoLineIn n bytes → left ≡ left_after n bytes → Progress T input bytes given old state before now → IfSome left (λ l. SendsTaken T input l old state before now)
-  taken_at bytes left given n none after p =
+  pub taken_at : (bytes left : Option (List ℕ)) (given n : ℕ) → IsWhole (take given input) → NoLineIn n bytes → left ≡ left_after n bytes → Progress T input bytes given old state before now → IfSome left (λ l. SendsTaken T input l old state before now)
+  taken_at bytes left given n whole none after p =
       let P : Option (List ℕ) → Type 0 = NoLineIn n in
       let Q : Option (List ℕ) → Type 0 = λ l. IfSome l (λ k. SendsTaken T input k old state before now) in
       let here : left ≡ Some (drop n p.rest) = after ∙ ap (left_after n) p.told_rest in
       subst Q (sym here) (record {
         rest = p.rest;
         first = first_at bytes given p;
+        whole = whole_given input p.front p.rest given p.begins.split p.counted whole;
         partial = take n p.rest;
         taken = sym (take-append-drop n p.rest);
         unended = subst P p.told_rest none;

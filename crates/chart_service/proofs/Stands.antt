@@ -1,9 +1,10 @@
 -- How far the lines of an input are answered, over pages that stand for a book.
-use Rattle.std.proofs.Common.{◌≡◌, ℕ, ◌+◌, ◌-◌, ◌^◌, ◌<◌, ◌≤◌, List, [], length, Option, Some, None, IfSome, refl, subst, sym, ◌∙◌}
+use Rattle.std.proofs.Common.{◌≡◌, ℕ, ◌+◌, ◌-◌, ◌^◌, ◌<◌, ◌≤◌, List, [], length, take, Option, Some, None, IfSome, refl, subst, sym, ◌∙◌}
 use Rattle.block_disk.specs.Streams.{left_after}
 use Rattle.block_disk.specs.View.{Image, View, Now, Only, Passes, sent_now}
 use Rattle.chart_world.specs.declared.line_answer.LineFault.{LineFault}
 use Rattle.chart_world.specs.declared.line_answer.LineFault.TheVariants as fault
+use Rattle.chart_world.specs.Fronts.{IsWhole}
 use Rattle.chart_world.specs.LineLaws.{told_so}
 use Rattle.chart_world.specs.Reading.{Reading, unread_input, unread, told_lines, input_length, NoLineIn}
 use Rattle.series_book.specs.declared.one_series.Series.{Series}
@@ -85,15 +86,15 @@ module _ {S F : Type 0} (makes : Makes S F) (v : S) (o : Option (List ℕ)) (tot
 
   -- at a fault of the lines
   pub ends_lines : (w : S) (r r' : Reading) (left left' now : Option (List ℕ)) (image : Image) (sessions : List Session) (f : LineFault)
-      → r.given ≤ 2 ^ 32 → (f ≡ fault.ReadFault → NoLineIn (r'.taken - r.given) (unread r left)) → (f ≡ fault.InputTooLong → NoLineIn (2 ^ 32 - r.given) (unread r left)) → (f ≡ fault.InputTooLong → 2 ^ 32 < r'.taken)
+      → r.given ≤ 2 ^ 32 → (f ≡ fault.ReadFault → IfSome o (λ input. IsWhole (take r.given input))) → (f ≡ fault.ReadFault → NoLineIn (r'.taken - r.given) (unread r left)) → (f ≡ fault.InputTooLong → NoLineIn (2 ^ 32 - r.given) (unread r left)) → (f ≡ fault.InputTooLong → 2 ^ 32 < r'.taken)
       → left' ≡ left_after (r'.taken - r.given) (unread r left) → r.taken ≡ r.given + length r.pending → input_length r'.taken left' ≡ input_length r.taken left
       → IsFar w r left now image sessions → EndsAnswers makes v w o first image sessions left' before now (Serve (end_of f))
-  ends_lines w r r' left left' now image sessions fault.ReadFault few read far past after counted sum is =
+  ends_lines w r r' left left' now image sessions fault.ReadFault few whole read far past after counted sum is =
       stands_on total image image sessions sessions (Far w r left now) (λ new. IfSome o (λ input. EndsAt makes v w input first new left' before now (Serve ReadFault))) refl refl
-      (λ new so. lines_fault makes o r r' left left' first new v w before now fault.ReadFault few read far past after counted sum so) is
-  ends_lines w r r' left left' now image sessions fault.InputTooLong few read far past after counted sum is =
+      (λ new so. lines_fault makes o r r' left left' first new v w before now fault.ReadFault few whole read far past after counted sum so) is
+  ends_lines w r r' left left' now image sessions fault.InputTooLong few whole read far past after counted sum is =
       stands_on total image image sessions sessions (Far w r left now) (λ new. IfSome o (λ input. EndsAt makes v w input first new left' before now (Serve InputTooLong))) refl refl
-      (λ new so. lines_fault makes o r r' left left' first new v w before now fault.InputTooLong few read far past after counted sum so) is
+      (λ new so. lines_fault makes o r r' left left' first new v w before now fault.InputTooLong few whole read far past after counted sum so) is
 
   -- at a line
   module _ (w w' : S) (r r' : Reading) (left left' now later : Option (List ℕ)) (image image' : Image) (sessions sessions' : List Session) (far : IsFar w r left now image sessions) where

@@ -5,7 +5,7 @@ use Rattle.block_disk.specs.Streams.{sent_after}
 use Rattle.block_disk.specs.View.{Image, View, DiskKept}
 use Rattle.chart_world.specs.declared.line_answer.LineFault.{LineFault}
 use Rattle.chart_world.specs.declared.line_answer.LineFault.TheVariants as fault
-use Rattle.chart_world.specs.Fronts.{says, BeginsWith}
+use Rattle.chart_world.specs.Fronts.{says, BeginsWith, IsWhole}
 use Rattle.chart_world.specs.Lines.{lines, NoLineFeed}
 use Rattle.gate_pages.specs.Pages.{GoesOn}
 use Rattle.chart_frames.specs.declared.frame.Frame.{Frame}
@@ -61,10 +61,11 @@ pub record SendsFirst (IsText : List (Option (List ℕ)) → List Frame → List
   pub answers : Answers IsText front text old new
   pub sent : now ≡ sent_after text before
 
--- all lines that ended among the bytes taken were answered, and these bytes are left
+-- all lines whose line feeds were among the bytes taken were answered and no other, and these bytes are left
 pub record SendsTaken (IsText : List (Option (List ℕ)) → List Frame → List ℕ → Type 0) (input before_left : List ℕ) (old new : State) (before now : Option (List ℕ)) : Type 0 where
   pub rest : List ℕ
   pub first : SendsFirst IsText input rest old new before now
+  pub whole : IsWhole first.front
   pub partial : List ℕ
   pub taken : rest ≡ partial ++ before_left
   pub unended : NoLineFeed partial

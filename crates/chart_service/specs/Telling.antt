@@ -72,7 +72,7 @@ front_told T U input old new before now tells s = record {
 
 pub taken_told : (T U : Telling) (input bytes : List ℕ) (old new : State) (before now : Option (List ℕ)) → Tells old T U → SendsTaken T input bytes old new before now → SendsTaken U input bytes old new before now
 taken_told T U input bytes old new before now tells s =
-    record { rest = s.rest; first = first_told T U input s.rest old new before now tells s.first; partial = s.partial; taken = s.taken; unended = s.unended }
+    record { rest = s.rest; first = first_told T U input s.rest old new before now tells s.first; whole = s.whole; partial = s.partial; taken = s.taken; unended = s.unended }
 
 pub within_told : (T U : Telling) (input : List ℕ) (old new : State) (before now : Option (List ℕ)) → Tells old T U → SendsWithin T input old new before now → SendsWithin U input old new before now
 within_told T U input old new before now tells s =

@@ -1,5 +1,6 @@
 //! Edits whose lines stand ready are gathered.
-ghost use Rattle.std.specs.Prelude.{◌≡◌, ◌≤◌, ◌<◌, ◌+◌, ◌^◌, ℕ, List, [], All, Some, length, IfNone, IfOk, IfSome, IsTrue, OnOk};
+ghost use Rattle.std.specs.Prelude.{◌≡◌, ◌≤◌, ◌<◌, ◌+◌, ◌^◌, ℕ, List, Option, [], All, Some, length, IfNone, IfOk, IfSome, IsTrue, OnOk};
+ghost use Rattle.chart_world.specs.Fronts.{StandsIn};
 ghost use Rattle.series_book.specs.Edits.{IsEdit};
 ghost use Rattle.chart_service.specs.EditGroups.{IsEditAhead, IsGroup, IsGroupOf, SpellsEdit};
 ghost use Rattle.chart_service.specs.Serving.{most_ahead};
@@ -26,6 +27,7 @@ pub(crate) fn edits_ready(alloc: Global, lines: &mut Lines) -> Result<Option<Vec
     ensures other { IfOk result (λ some. IfNone some (edit_of (Some lines.old.line) ≡ [])) }
     ensures ends { IfOk result (λ some. IfSome some (λ edits. EndsGroup lines.new edits.items)) }
     ensures are_edits { IfOk result (λ some. IfSome some (λ edits. All IsEdit edits.items)) }
+    ensures stands { (input left : Option (List ℕ)) → StandsIn input lines.old left → OnOk result (StandsIn input lines.new left) }
     ensures usable { OnOk result (IsTrue lines.new.usable) }
     ensures counted { OnOk result (lines.new.taken ≡ lines.new.given + length lines.new.pending) }
     ensures within { OnOk result (lines.new.given ≤ 2 ^ 32) }
@@ -46,6 +48,7 @@ fn gather(alloc: Global, first: Edit, lines: &mut Lines) -> Result<Vec<Edit>, No
     ensures few { IfOk result (λ edits. length edits.items ≤ most_ahead) }
     ensures ends { IfOk result (λ edits. EndsGroup lines.new edits.items) }
     ensures are_edits { IfOk result (λ edits. All IsEdit edits.items) }
+    ensures stands { (input left : Option (List ℕ)) → StandsIn input lines.old left → OnOk result (StandsIn input lines.new left) }
     ensures usable { OnOk result (IsTrue lines.new.usable) }
     ensures counted { OnOk result (lines.new.taken ≡ lines.new.given + length lines.new.pending) }
     ensures within { OnOk result (lines.new.given ≤ 2 ^ 32) }

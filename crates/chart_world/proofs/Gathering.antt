@@ -11,7 +11,7 @@ use Rattle.block_disk.specs.Counts.{HasRisen, counted}
 use Rattle.block_disk.specs.Streams.{Given, left_after}
 use Rattle.chart_world.specs.Lines.{is_line_feed}
 use Rattle.chart_world.specs.Feed.{Gathered}
-use Rattle.chart_world.specs.Reading.{in_front_of, behind_first, input_length, NoLineIn}
+use Rattle.chart_world.specs.Reading.{in_front_of, behind_first, input_length, HasFeed, NoLineIn}
 
 -- So many bytes stand before the first line feed, and the spill keeps the front of them.
 pub record Kept (count : ℕ) (spill bytes : List ℕ) : Type 0 where
@@ -140,6 +140,27 @@ found_rest (Some bytes) (Some rest) size count spill pending is below partway =
     ∙ drop-drop (count + 1) size bytes
     ∙ ap (λ n. drop n bytes) whole
     )
+
+-- the first line has its line feed
+pub found_feed : (told left : Option (List ℕ)) (size count : ℕ) (spill pending : List ℕ) → count ≡ position_or_len is_line_feed pending → count < length pending → Partway told size spill pending left → HasFeed told
+found_feed None left size count spill pending is below partway = tt
+found_feed (Some bytes) None size count spill pending is below partway = absurd (cc (partway.1))
+found_feed (Some bytes) (Some rest) size count spill pending is below partway =
+    let behind : pending ++ rest ≡ drop size bytes = held _ _ partway.1 in
+    let here : position_or_len is_line_feed (pending ++ rest) ≡ position_or_len is_line_feed (drop size bytes) = ap (λ l. position_or_len is_line_feed l) behind in
+    omega (arith, here, is, below, position_in_front pending rest (omega arith), position_behind size bytes partway.0.before, length-append pending rest, ap length behind, length-drop size bytes)
+
+-- no byte was passed, none is pending and none is left
+pub none_there : (told left : Option (List ℕ)) (size : ℕ) (spill pending : List ℕ) → size ≡ 0 → length pending ≤ 0 → IfSome left (λ l. l ≡ []) → Partway told size spill pending left → IfSome told (λ bytes. bytes ≡ [])
+none_there None left size spill pending start empty none partway = tt
+none_there (Some bytes) None size spill pending start empty none partway = absurd (cc (partway.1))
+none_there (Some bytes) (Some rest) size spill pending start empty none partway =
+    let behind : pending ++ rest ≡ drop size bytes = held _ _ partway.1 in
+    no_bytes bytes (omega (arith, start, empty, length-append pending rest, ap length behind, ap length none, length-drop size bytes))
+  where
+    no_bytes : (bytes : List ℕ) → length bytes ≤ 0 → bytes ≡ []
+    no_bytes [] few = refl
+    no_bytes (b ∷ bs) few = absurd (omega (arith, few))
 
 -- no byte is left behind what was passed
 at_end : (size : ℕ) (bytes rest : List ℕ) → rest ≡ drop size bytes → rest ≡ [] → length bytes ≤ size

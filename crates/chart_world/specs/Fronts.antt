@@ -1,8 +1,9 @@
 -- Fronts of an input that are whole lines, and how far a reader of its lines has come.
-use Rattle.std.specs.Prelude.{◌≡◌, ◌⊎◌, ℕ, ◌+◌, Bool, true, false, List, [], ◌∷◌, ◌++◌, length, take, Option, None, Some}
+use Rattle.std.specs.Prelude.{◌≡◌, ◌⊎◌, ℕ, ◌+◌, Bool, true, false, IsTrue, List, [], ◌∷◌, ◌++◌, length, take, Option, None, Some, IfSome}
 use Rattle.std.specs.List.{position_or_len}
+use Rattle.block_disk.specs.Streams.{left_after}
 use Rattle.chart_world.specs.Lines.{is_line_feed}
-use Rattle.chart_world.specs.Reading.{Reading, unread, told_lines, with_first, behind_first, input_length}
+use Rattle.chart_world.specs.Reading.{Reading, IsNone, unread, told_lines, with_first, behind_first, input_length}
 
 -- the line says something: it isn't empty, or it is too long
 abbrev pub says : Option (List ℕ) → Bool
@@ -31,3 +32,10 @@ pub record Gives (old new : Reading) (left left' : Option (List ℕ)) (line : Op
   pub counted : old.taken ≡ old.given + length old.pending
   pub counted_new : new.taken ≡ new.given + length new.pending
   pub total : input_length new.taken left' ≡ input_length old.taken left
+
+-- The reader stands in this input, where that is told: the bytes it has given are the front, and the unread ones the rest. Until
+-- a take finds the end the front is whole lines, and behind the end nothing is left.
+pub record StandsIn (input : Option (List ℕ)) (reading : Reading) (left : Option (List ℕ)) : Type 0 where
+  pub behind : unread reading left ≡ left_after reading.given input
+  pub whole : reading.ended ≡ false → IfSome input (λ bytes. IsWhole (take reading.given bytes))
+  pub nothing : IsTrue reading.ended → IsNone left

@@ -7,6 +7,7 @@ pub mod Laws
 pub mod Fronts
 pub mod LineLaws
 pub mod FrontLaws
+pub mod StandsLaws
 pub mod Beside
 pub mod BesideKept
 pub mod Sends

@@ -1,5 +1,5 @@
 -- How far a reader of lines has come in its input.
-use Rattle.std.specs.Prelude.{ℕ, ◌≡◌, ◌⊎◌, ◌<◌, ◌+◌, ◌-◌, ◌^◌, Bool, true, List, [], ◌∷◌, ◌++◌, Contains, Option, None, Some, length, take, IfSome}
+use Rattle.std.specs.Prelude.{ℕ, ◌≡◌, ◌⊎◌, ◌<◌, ◌+◌, ◌-◌, ◌^◌, Bool, true, false, List, [], ◌∷◌, ◌++◌, Contains, Option, None, Some, length, take, IfSome}
 use Rattle.std.specs.List.{after_first, position_or_len}
 use Rattle.block_disk.specs.Counts.{HasRisen}
 use Rattle.chart_world.specs.Lines.{is_line_feed, lines, NoLineFeed}
@@ -16,10 +16,12 @@ pub record Reading : Type 0 where
   pub offset : ℕ
   -- no call has answered a fault
   pub usable : Bool
+  -- a take has found the end of the input
+  pub ended : Bool
 
 -- before the first call
 abbrev pub unread_input : Reading
-unread_input = record { given = 0; pending = []; taken = 0; line = []; offset = 0; usable = true }
+unread_input = record { given = 0; pending = []; taken = 0; line = []; offset = 0; usable = true; ended = false }
 
 -- these bytes and those behind them, where those are told
 abbrev pub in_front_of : List ℕ → Option (List ℕ) → Option (List ℕ)
@@ -67,3 +69,11 @@ pub record HasLineAt (before : ℕ) (reading : Reading) : Type 0 where
   pub place : before ≡ position_or_len is_line_feed reading.pending
   pub within : before < length reading.pending
   pub early : reading.given + before < 2 ^ 32
+
+-- a line feed ends the first line of these bytes, where they are told
+abbrev pub HasFeed : Option (List ℕ) → Type 0
+HasFeed bytes = IfSome bytes (λ told. position_or_len is_line_feed told < length told)
+
+-- there is no byte, where these are told
+abbrev pub IsNone : Option (List ℕ) → Type 0
+IsNone bytes = IfSome bytes (λ told. told ≡ [])

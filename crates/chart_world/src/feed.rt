@@ -1,5 +1,5 @@
 //! The piece of input that was taken last, and the front of a line that began in an earlier one.
-ghost use Rattle.std.specs.Prelude.{◌≡◌, ◌≤◌, ◌<◌, ◌+◌, ◌-◌, ◌^◌, ◌++◌, [], IfSome, length, take, drop, vec_len, vec_capacity, IfOk, OnOk, OnErr, slice_range};
+ghost use Rattle.std.specs.Prelude.{false, ◌≡◌, ◌≤◌, ◌<◌, ◌+◌, ◌-◌, ◌^◌, ◌++◌, [], IfSome, IsTrue, length, take, drop, vec_len, vec_capacity, IfOk, OnOk, OnErr, slice_range};
 ghost use Rattle.std.specs.List.{position_or_len};
 ghost use Rattle.block_disk.specs.Counts.{HasRisen, counted};
 ghost use Rattle.block_disk.specs.Streams.{Given, left_after};
@@ -18,7 +18,8 @@ pub(crate) const LONGEST: usize = 8192;
 /// The most bytes of the input.
 pub(crate) const LIMIT: u64 = 4294967296;
 
-/// `bytes[start..end]` was taken and isn't passed yet. `spill` has the front of a line.
+/// `bytes[start..end]` was taken and isn't passed yet. `spill` has the front of a line. `ended` says
+/// that a take found the end of the input.
 #[derive(Drop)]
 pub(crate) struct Feed {
     pub(crate) bytes: Vec<u8>,
@@ -26,6 +27,7 @@ pub(crate) struct Feed {
     pub(crate) end: usize,
     pub(crate) taken: u64,
     pub(crate) spill: Vec<u8>,
+    pub(crate) ended: bool,
     ghost sized: { vec_len bytes ≡ 16384 },
     ghost ordered: { start ≤ end },
     ghost within: { end ≤ 16384 },
@@ -33,6 +35,8 @@ pub(crate) struct Feed {
     ghost bounded: { taken ≤ 2 ^ 32 + 16384 },
     ghost short: { vec_len spill ≤ 8192 },
     ghost room: { 8192 ≤ vec_capacity spill },
+    ghost passed: { IsTrue ended → start ≡ end },
+    ghost found: { IsTrue ended → taken ≤ 2 ^ 32 },
 }
 
 /// The bytes before the first line feed, or all where there is none.
@@ -48,7 +52,7 @@ fn line_feed_at(bytes: &[u8]) -> usize
 impl Feed {
     /// Nothing taken yet.
     pub(crate) fn new(alloc: Global) -> Result<Feed, NoMemory>
-        ensures { IfOk result (λ feed. (feed.start ≡ 0) × (feed.end ≡ 0) × (feed.taken ≡ 0)) }
+        ensures { IfOk result (λ feed. (feed.start ≡ 0) × (feed.end ≡ 0) × (feed.taken ≡ 0) × (feed.ended ≡ false)) }
     {
         Ok(Feed {
             bytes: vec![in alloc; 0; PIECE]?,
@@ -56,6 +60,7 @@ impl Feed {
             end: 0,
             taken: 0,
             spill: Vec::with_capacity(alloc, LONGEST)?,
+            ended: false,
         })
     }
 
@@ -89,6 +94,7 @@ impl Feed {
         ensures bytes { self.new.bytes.items ≡ self.old.bytes.items }
         ensures taken { self.new.taken ≡ self.old.taken }
         ensures spill { self.new.spill.items ≡ self.old.spill.items }
+        ensures ended { self.new.ended ≡ self.old.ended }
     {
         self.start += count;
     }
@@ -101,6 +107,7 @@ impl Feed {
         ensures end { self.new.end ≡ self.old.end }
         ensures bytes { self.new.bytes.items ≡ self.old.bytes.items }
         ensures taken { self.new.taken ≡ self.old.taken }
+        ensures ended { self.new.ended ≡ self.old.ended }
     {
         let kept = count.min(LONGEST - self.spill.len());
         let bytes = self.bytes.as_slice();
@@ -119,6 +126,8 @@ impl Feed {
         ensures start { OnOk result (self.new.start ≡ 0) }
         ensures end { IfOk result (λ count. self.new.end ≡ count) }
         ensures taken { IfOk result (λ count. self.new.taken ≡ self.old.taken + count) }
+        ensures ended { IfOk result (λ count. IsTrue self.new.ended → count ≡ 0) }
+        ensures ended_nothing { IfOk result (λ count. count ≡ 0 → IsTrue self.new.ended) }
         ensures left_on_err { OnErr result (S.left from.new ≡ S.left from.old) }
         ensures passed_on_err { OnErr result (self.new.start ≡ self.new.end) }
         ensures taken_on_err { OnErr result (self.new.taken ≡ self.old.taken) }
@@ -136,6 +145,7 @@ impl Feed {
         self.start = 0;
         self.end = count;
         self.taken += count as u64;
+        self.ended = count == 0;
         Ok(count)
     }
 }

@@ -1,9 +1,9 @@
 //! A line that goes on past the piece that it begins in.
-ghost use Rattle.std.specs.Prelude.{◌≡◌, ◌≢◌, ◌≤◌, ◌<◌, ◌+◌, ◌-◌, ◌^◌, [], IfSome, IfOk, OnOk, OnErr};
+ghost use Rattle.std.specs.Prelude.{false, ◌≡◌, ◌≢◌, ◌≤◌, ◌<◌, ◌+◌, ◌-◌, ◌^◌, [], IfSome, IsTrue, IfOk, OnOk, OnErr};
 ghost use Rattle.block_disk.specs.Counts.{HasRisen};
 ghost use Rattle.block_disk.specs.Streams.{left_after};
 ghost use Rattle.chart_world.specs.Feed.{pending_of, given_of, HasLine, Gathered};
-ghost use Rattle.chart_world.specs.Reading.{in_front_of, behind_first, input_length, NoLineIn, Took};
+ghost use Rattle.chart_world.specs.Reading.{in_front_of, behind_first, input_length, HasFeed, IsNone, NoLineIn, Took};
 
 use crate::feed::{Feed, LIMIT};
 use crate::line_answer::LineFault;
@@ -12,10 +12,17 @@ use block_disk::Streams;
 impl Feed {
     /// Takes pieces until a line has ended, by a line feed among the first 2^32 bytes or by the end
     /// of the input, and passes it. Answers its length, or `None` where no byte was left; the first
-    /// 8,192 bytes of it are in the spill.
+    /// 8,192 bytes of it are in the spill. Once a take found the end, none follows.
     pub(crate) fn gather<S: Streams>(&mut self, from: &mut S) -> Result<Option<u64>, LineFault>
+        requires ended { IsTrue self.old.ended → IsNone (S.left from.old) }
         ensures line { IfOk result (λ gathered. IfSome gathered (λ length. IfSome (in_front_of (pending_of self.old) (S.left from.old)) (λ bytes. Gathered length self.new.spill.items bytes))) }
         ensures none { result ≡ Ok None → IfSome (in_front_of (pending_of self.old) (S.left from.old)) (λ bytes. bytes ≡ []) }
+        // a line without its line feed is given once the end is found
+        ensures feed { IfOk result (λ gathered. IfSome gathered (λ length. self.new.ended ≡ false → HasFeed (in_front_of (pending_of self.old) (S.left from.old)))) }
+        ensures begun { OnOk result (self.new.ended ≡ false → self.old.ended ≡ false) }
+        ensures found { result ≡ Ok None → IsTrue self.new.ended }
+        ensures ended { OnOk result (IsTrue self.new.ended → IsNone (S.left from.new)) }
+        ensures not_ended { result ≡ Err LineFault.ReadFault → self.old.ended ≡ false }
         ensures rest { OnOk result (in_front_of (pending_of self.new) (S.left from.new) ≡ behind_first (in_front_of (pending_of self.old) (S.left from.old))) }
         ensures passes { IfOk result (λ gathered. IfSome gathered (λ length. (given_of self.old < given_of self.new) × (given_of self.old + length ≤ given_of self.new))) }
         ensures passes_none { result ≡ Ok None → given_of self.new ≡ given_of self.old }
@@ -36,6 +43,9 @@ impl Feed {
         ensures took { (HasLine self.old → ⊥) → OnOk result (Took (S.pieces from.old) (S.pieces from.new) (in_front_of (pending_of self.new) (S.left from.new))) }
         ensures beside { S.takes from.old from.new }
     {
+        if self.ended {
+            return Ok(None);
+        }
         let mut length = 0;
         self.spill.clear();
         loop {

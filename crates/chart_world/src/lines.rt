@@ -1,11 +1,11 @@
 //! The lines of a stream, one at a time.
-ghost use Rattle.std.specs.Prelude.{true, false, ◌≡◌, ◌≢◌, ◌≤◌, ◌<◌, ◌+◌, ◌-◌, ◌^◌, ◌++◌, [], None, IsTrue, Contains, IfSome, length, take, drop, IfOk, IfErr, OnOk, OnErr};
+ghost use Rattle.std.specs.Prelude.{true, false, ◌≡◌, ◌≢◌, ◌≤◌, ◌<◌, ◌+◌, ◌-◌, ◌^◌, ◌++◌, [], None, IsTrue, Contains, IfSome, length, take, drop, List, Option, ℕ, IfOk, IfErr, OnOk, OnErr};
 ghost use Rattle.std.specs.List.{position_or_len, before_first, after_first};
 ghost use Rattle.block_disk.specs.Counts.{HasRisen};
 ghost use Rattle.block_disk.specs.Streams.{left_after};
-ghost use Rattle.chart_world.specs.Fronts.{first_piece};
+ghost use Rattle.chart_world.specs.Fronts.{StandsIn, first_piece};
 ghost use Rattle.chart_world.specs.Lines.{is_line_feed, text_of};
-ghost use Rattle.chart_world.specs.Reading.{unread_input, unread, told_lines, with_first, behind_first, input_length, HasLine, HasLineAt, NoLineIn, Took};
+ghost use Rattle.chart_world.specs.Reading.{unread_input, unread, told_lines, with_first, behind_first, input_length, HasFeed, HasLine, HasLineAt, IsNone, NoLineIn, Took};
 
 use crate::feed::{Feed, LIMIT, LONGEST};
 use crate::line_answer::{LineAnswer, LineFault};
@@ -32,7 +32,7 @@ impl Model for Lines {
 
     ghost use Rattle.chart_world.specs.Place.{placed, IsPlaced};
 
-    ghost view = { λ l. record { given = l.feed.taken - (l.feed.end - l.feed.start); pending = slice_range l.feed.bytes.items l.feed.start l.feed.end; taken = l.feed.taken; line = placed l.place l.feed.bytes.items l.feed.spill.items; offset = l.offset; usable = l.usable } };
+    ghost view = { λ l. record { given = l.feed.taken - (l.feed.end - l.feed.start); pending = slice_range l.feed.bytes.items l.feed.start l.feed.end; taken = l.feed.taken; line = placed l.place l.feed.bytes.items l.feed.spill.items; offset = l.offset; usable = l.usable; ended = l.feed.ended } };
 
     ghost invariant = { λ l. IsPlaced l.place l.feed.spill.items };
 }
@@ -54,6 +54,7 @@ impl Lines {
         ensures taken { self.new.taken ≡ self.old.taken }
         ensures offset { self.new.offset ≡ self.old.given }
         ensures usable { IsTrue self.new.usable }
+        ensures ended { self.new.ended ≡ self.old.ended }
     {
         let first = self.feed.start;
         self.offset = self.feed.given();
@@ -98,9 +99,11 @@ impl Lines {
 
     /// Gives the next line. It takes pieces of `from` only where no whole line is pending.
     ///
-    /// `from` is the same stream at each call. No earlier call answered a fault.
+    /// `from` is the same stream at each call. No earlier call answered a fault. Once a take has found
+    /// the end of the input none follows: so what came before a read fault is whole lines.
     pub fn next<S: Streams>(&mut self, from: &mut S) -> Result<LineAnswer, LineFault>
-        requires { IsTrue self.old.usable }
+        requires usable { IsTrue self.old.usable }
+        requires ended { IsTrue self.old.ended → IsNone (S.left from.old) }
         // the answer is the first of the lines that were unread, and End where none was
         ensures line { result ≡ Ok LineAnswer.Line → told_lines (unread self.old (S.left from.old)) ≡ with_first (Some self.new.line) (told_lines (unread self.new (S.left from.new))) }
         ensures too_long { result ≡ Ok LineAnswer.TooLong → told_lines (unread self.old (S.left from.old)) ≡ with_first None (told_lines (unread self.new (S.left from.new))) }
@@ -126,6 +129,10 @@ impl Lines {
         ensures past { result ≡ Err LineFault.InputTooLong → 2 ^ 32 < self.new.taken }
         ensures past_before { result ≡ Err LineFault.InputTooLong → NoLineIn (2 ^ 32 - self.old.given) (unread self.old (S.left from.old)) }
         ensures left_on_err { OnErr result (S.left from.new ≡ left_after (self.new.taken - self.old.given) (unread self.old (S.left from.old))) }
+        // a line without its line feed is given only where a take has found the end, and no take follows that
+        ensures feed { OnOk result (self.new.ended ≡ false → HasFeed (unread self.old (S.left from.old))) }
+        ensures not_ended { result ≡ Err LineFault.ReadFault → self.old.ended ≡ false }
+        ensures stands { (input : Option (List ℕ)) → StandsIn input self.old (S.left from.old) → OnOk result (StandsIn input self.new (S.left from.new)) }
         ensures usable { OnOk result (IsTrue self.new.usable) }
         ensures unusable { OnErr result (self.new.usable ≡ false) }
         // no byte is lost, and no more are taken than the line needs
@@ -198,6 +205,7 @@ impl Lines {
         ensures pending { self.new.pending ≡ after_first is_line_feed self.old.pending }
         ensures within { self.new.given ≤ 2 ^ 32 }
         ensures taken { self.new.taken ≡ self.old.taken }
+        ensures stands { (input left : Option (List ℕ)) → StandsIn input self.old left → StandsIn input self.new left }
         ensures usable { IsTrue self.new.usable }
     {
         let before = self.feed.line_feed();

@@ -4,8 +4,9 @@ use Rattle.std.proofs.lemmas.List.{take-append-drop, append-nil}
 use Rattle.block_disk.specs.Streams.{sent_after, left_after}
 use Rattle.chart_service.specs.SentLaws.{sent_none, sent_more}
 use Rattle.chart_service.specs.Serving.{told, unless_empty}
-use Rattle.chart_world.specs.Fronts.{Gives}
+use Rattle.chart_world.specs.Fronts.{Gives, IsWhole}
 use Rattle.chart_world.specs.LineLaws.{no_rest, said, says_text}
+use Rattle.chart_world.specs.StandsLaws.{whole_given}
 use Rattle.chart_world.specs.Lines.{NoLineFeed}
 use Rattle.chart_world.specs.Reading.{Reading, unread, unread_input, told_lines, input_length, NoLineIn}
 use Rattle.chart_world.specs.declared.line_answer.LineFault.{LineFault}
@@ -109,9 +110,9 @@ module _ (book : List Series) (input : List ℕ) (before now : Option (List ℕ)
       record { text = first.text; answers = subst Q all first.answers; sent = g.sent }
 
   -- at a fault of the input
-  fault_ends : (r r' : Reading) (left left' : Option (List ℕ)) (f : LineFault) → r.given ≤ 2 ^ 32 → (f ≡ fault.ReadFault → NoLineIn (r'.taken - r.given) (unread r left)) → (f ≡ fault.InputTooLong → NoLineIn (2 ^ 32 - r.given) (unread r left)) → (f ≡ fault.InputTooLong → 2 ^ 32 < r'.taken)
+  fault_ends : (r r' : Reading) (left left' : Option (List ℕ)) (f : LineFault) → r.given ≤ 2 ^ 32 → (f ≡ fault.ReadFault → IsWhole (take r.given input)) → (f ≡ fault.ReadFault → NoLineIn (r'.taken - r.given) (unread r left)) → (f ≡ fault.InputTooLong → NoLineIn (2 ^ 32 - r.given) (unread r left)) → (f ≡ fault.InputTooLong → 2 ^ 32 < r'.taken)
       → left' ≡ left_after (r'.taken - r.given) (unread r left) → r.taken ≡ r.given + length r.pending → input_length r'.taken left' ≡ input_length r.taken left → Going book input (unread r left) r.given before now → EndsSo book input left' before now (end_of f)
-  fault_ends r r' left left' fault.ReadFault few none_read none_past past after counted sum g =
+  fault_ends r r' left left' fault.ReadFault few whole none_read none_past past after counted sum g =
       let first = g.progress.first in
       let n = r'.taken - r.given in
       let N : Option (List ℕ) → Type 0 = NoLineIn n in
@@ -119,11 +120,12 @@ module _ (book : List Series) (input : List ℕ) (before now : Option (List ℕ)
       let here : left' ≡ Some (drop n first.rest) = after ∙ ap (left_after n) g.progress.told_rest in
       subst Q (sym here) (record {
         drawn = record { first = first; sent = g.sent };
+        whole = whole_given input first.front first.rest r.given first.begins.split g.progress.counted (whole refl);
         behind = record { partial = take n first.rest; taken = sym (take-append-drop n first.rest); unended = subst N g.progress.told_rest (none_read refl) };
       })
-  fault_ends r r' None left' fault.InputTooLong few none_read none_past past after counted sum g = let told_rest = g.progress.told_rest in cc
-  fault_ends r r' (Some l) None fault.InputTooLong few none_read none_past past after counted sum g = cc
-  fault_ends r r' (Some l) (Some l') fault.InputTooLong few none_read none_past past after counted sum g =
+  fault_ends r r' None left' fault.InputTooLong few whole none_read none_past past after counted sum g = let told_rest = g.progress.told_rest in cc
+  fault_ends r r' (Some l) None fault.InputTooLong few whole none_read none_past past after counted sum g = cc
+  fault_ends r r' (Some l) (Some l') fault.InputTooLong few whole none_read none_past past after counted sum g =
       let first = g.progress.first in
       let N : Option (List ℕ) → Type 0 = NoLineIn (2 ^ 32 - r.given) in
       let M : ℕ → Type 0 = λ n. NoLineFeed (take (2 ^ 32 - n) first.rest) in
@@ -168,10 +170,10 @@ pub long_on : (book : List Series) (o : Option (List ℕ)) (r r' : Reading) (lef
 long_on book None r r' left left' gives early before now at rest at_is far = tt
 long_on book (Some input) r r' left left' gives early before now at rest at_is far = long_ends book input r r' left left' gives early before now at rest at_is far
 
-pub fault_on : (book : List Series) (o : Option (List ℕ)) (before now : Option (List ℕ)) (r r' : Reading) (left left' : Option (List ℕ)) (f : LineFault) → r.given ≤ 2 ^ 32 → (f ≡ fault.ReadFault → NoLineIn (r'.taken - r.given) (unread r left)) → (f ≡ fault.InputTooLong → NoLineIn (2 ^ 32 - r.given) (unread r left)) → (f ≡ fault.InputTooLong → 2 ^ 32 < r'.taken)
+pub fault_on : (book : List Series) (o : Option (List ℕ)) (before now : Option (List ℕ)) (r r' : Reading) (left left' : Option (List ℕ)) (f : LineFault) → r.given ≤ 2 ^ 32 → (f ≡ fault.ReadFault → IfSome o (λ input. IsWhole (take r.given input))) → (f ≡ fault.ReadFault → NoLineIn (r'.taken - r.given) (unread r left)) → (f ≡ fault.InputTooLong → NoLineIn (2 ^ 32 - r.given) (unread r left)) → (f ≡ fault.InputTooLong → 2 ^ 32 < r'.taken)
     → left' ≡ left_after (r'.taken - r.given) (unread r left) → r.taken ≡ r.given + length r.pending → input_length r'.taken left' ≡ input_length r.taken left → Far book o (unread r left) r.given before now → IfSome o (λ input. EndsSo book input left' before now (end_of f))
-fault_on book None before now r r' left left' f few none_read none_past past after counted sum far = tt
-fault_on book (Some input) before now r r' left left' f few none_read none_past past after counted sum far = fault_ends book input before now r r' left left' f few none_read none_past past after counted sum far
+fault_on book None before now r r' left left' f few whole none_read none_past past after counted sum far = tt
+fault_on book (Some input) before now r r' left left' f few whole none_read none_past past after counted sum far = fault_ends book input before now r r' left left' f few whole none_read none_past past after counted sum far
 
 -- there was no memory for the first step
 pub no_memory_on : (book : List Series) (o left before : Option (List ℕ)) → IfSome o (λ input. EndsSo book input left before before NoMemory)

@@ -23,7 +23,7 @@ DerivesAll count disk input before now = OfBook count disk (λ total book. Draws
 abbrev pub DerivesFirst : ℕ → View → List ℕ → Option (List ℕ) → Option (List ℕ) → Type 0
 DerivesFirst count disk input before now = OfBook count disk (λ total book. DrawsFirst book input before now)
 
--- those to all lines that ended among the bytes taken, where the bytes left are told
+-- those to all lines whose line feeds were among the bytes taken, where the bytes left are told
 abbrev pub DerivesTaken : ℕ → View → List ℕ → Option (List ℕ) → Option (List ℕ) → Option (List ℕ) → Type 0
 DerivesTaken count disk input left before now = OfBook count disk (λ total book. DrawsTaken book input before now left)
 

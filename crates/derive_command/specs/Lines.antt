@@ -2,7 +2,7 @@
 use Rattle.std.specs.Prelude.{◌≡◌, ℕ, ◌+◌, ◌-◌, ◌^◌, ◌<◌, ◌≤◌, List, [], ◌∷◌, ◌++◌, length, take, Option, IfSome, IsTrue}
 use Rattle.block_disk.specs.Streams.{sent_after, PartSent}
 use Rattle.chart_service.specs.Serving.{told}
-use Rattle.chart_world.specs.Fronts.{says, BeginsWith, first_piece}
+use Rattle.chart_world.specs.Fronts.{says, BeginsWith, IsWhole, first_piece}
 use Rattle.chart_world.specs.Lines.{lines, NoLineFeed}
 use Rattle.series_book.specs.declared.one_series.Series.{Series}
 use Rattle.store_commands.specs.InputLines.{NextLine, Unended}
@@ -38,9 +38,10 @@ module _ (book : List Series) (input : List ℕ) (before now : Option (List ℕ)
     pub first : FirstLines book input
     pub sent : now ≡ sent_after first.text before
 
-  -- they are those that ended among the bytes taken, where the bytes left are told
+  -- they are those whose line feeds were among the bytes taken, where the bytes left are told
   pub record DrawsTaken (left : Option (List ℕ)) : Type 0 where
     pub drawn : DrawsFirst
+    pub whole : IsWhole drawn.first.front
     pub behind : IfSome left (Unended drawn.first.rest)
 
   -- they are those that ended among the first 2^32 bytes, and there is a byte more

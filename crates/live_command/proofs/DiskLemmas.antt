@@ -45,6 +45,7 @@ module _ (IsThere IsThat : List Series → Type 0) (input : List ℕ) (old : Liv
   pub ends_so : (left : Option (List ℕ)) (end : ServeEnd) → EndsSo IsThere input old left before now end → EndsSo IsThat input old left before now end
   ends_so left ReadFault s = record {
     sends = record { frames = s.sends.frames; state = s.sends.state; first = s.sends.first; idle = s.sends.idle; there = so s.sends.state.state.book s.sends.there; sent = s.sends.sent };
+    whole = s.whole;
     behind = s.behind;
   }
   ends_so left SendFault s = record { shown = s.shown; last = s.last; state = s.state; first = s.first; there = so s.state.state.book s.there; between = s.between; whole = s.whole; part = s.part }

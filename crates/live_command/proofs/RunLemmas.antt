@@ -14,8 +14,9 @@ use Rattle.chart_service.specs.Stepping.{state_of}
 use Rattle.chart_service.specs.declared.failure.ServeEnd.{ServeEnd}
 use Rattle.chart_service.specs.declared.failure.ServeEnd.TheVariants.{ReadFault, SendFault, DiskFault, Damaged, InputTooLong, NoMemory}
 use Rattle.chart_world.specs.FrontLaws.{Passed, passes}
-use Rattle.chart_world.specs.Fronts.{says, Gives, first_piece}
+use Rattle.chart_world.specs.Fronts.{says, Gives, IsWhole, first_piece}
 use Rattle.chart_world.specs.LineLaws.{lines_none, piece_line, told_more, no_rest}
+use Rattle.chart_world.specs.StandsLaws.{whole_given}
 use Rattle.chart_world.specs.Lines.{is_line_feed, NoLineFeed}
 use Rattle.chart_world.specs.Reading.{Reading, unread, unread_input, told_lines, input_length, NoLineIn}
 use Rattle.chart_world.specs.declared.line_answer.LineFault.{LineFault}
@@ -190,20 +191,21 @@ module _ (input : List ℕ) (total : ℕ) (old : LiveState) (image : Image) (hel
       record { frames = g.frames; state = held_with total g.book held; lives = subst Q all g.first.lives; idle = idle; there = g.stands; sent = g.sent }
 
   -- at a fault of the input
-  pub fault_ends : (r r' : Reading) (left left' : Option (List ℕ)) (f : LineFault) → r.given ≤ 2 ^ 32 → (f ≡ fault.ReadFault → NoLineIn (r'.taken - r.given) (unread r left)) → (f ≡ fault.InputTooLong → NoLineIn (2 ^ 32 - r.given) (unread r left)) → (f ≡ fault.InputTooLong → 2 ^ 32 < r'.taken)
+  pub fault_ends : (r r' : Reading) (left left' : Option (List ℕ)) (f : LineFault) → r.given ≤ 2 ^ 32 → (f ≡ fault.ReadFault → IsWhole (take r.given input)) → (f ≡ fault.ReadFault → NoLineIn (r'.taken - r.given) (unread r left)) → (f ≡ fault.InputTooLong → NoLineIn (2 ^ 32 - r.given) (unread r left)) → (f ≡ fault.InputTooLong → 2 ^ 32 < r'.taken)
       → left' ≡ left_after (r'.taken - r.given) (unread r left) → r.taken ≡ r.given + length r.pending → input_length r'.taken left' ≡ input_length r.taken left → Going input (unread r left) r.given total old image held before now → EndsSo (Stands total image) input old left' before now (end_of f)
-  fault_ends r r' left left' fault.ReadFault few none_read none_past past after counted sum g =
+  fault_ends r r' left left' fault.ReadFault few whole none_read none_past past after counted sum g =
       let n = r'.taken - r.given in
       let N : Option (List ℕ) → Type 0 = NoLineIn n in
       let Q : Option (List ℕ) → Type 0 = λ l. SendsTaken (Stands total image) input old before now l in
       let here : left' ≡ Some (drop n g.first.rest) = after ∙ ap (left_after n) g.told_rest in
       subst Q (sym here) (record {
         sends = record { frames = g.frames; state = held_with total g.book held; first = g.first; idle = idle; there = g.stands; sent = g.sent };
+        whole = whole_given input g.first.front g.first.rest r.given g.first.begins.split g.counted (whole refl);
         behind = record { partial = take n g.first.rest; taken = sym (take-append-drop n g.first.rest); unended = subst N g.told_rest (none_read refl) };
       })
-  fault_ends r r' None left' fault.InputTooLong few none_read none_past past after counted sum g = let told_rest = g.told_rest in cc
-  fault_ends r r' (Some l) None fault.InputTooLong few none_read none_past past after counted sum g = cc
-  fault_ends r r' (Some l) (Some l') fault.InputTooLong few none_read none_past past after counted sum g =
+  fault_ends r r' None left' fault.InputTooLong few whole none_read none_past past after counted sum g = let told_rest = g.told_rest in cc
+  fault_ends r r' (Some l) None fault.InputTooLong few whole none_read none_past past after counted sum g = cc
+  fault_ends r r' (Some l) (Some l') fault.InputTooLong few whole none_read none_past past after counted sum g =
       let N : Option (List ℕ) → Type 0 = NoLineIn (2 ^ 32 - r.given) in
       let M : ℕ → Type 0 = λ n. NoLineFeed (take (2 ^ 32 - n) g.first.rest) in
       let total_is : r'.taken + length l' ≡ r.taken + length l = cc in
@@ -344,10 +346,10 @@ pub all_on : (o bytes : Option (List ℕ)) (given total : ℕ) (old : LiveState)
 all_on None bytes given total old image held before now idle none far = tt
 all_on (Some input) bytes given total old image held before now idle none far = all_answered input total old image held before now idle bytes given none far
 
-pub fault_on : (o : Option (List ℕ)) (total : ℕ) (old : LiveState) (image : Image) (held : Held) (before now : Option (List ℕ)) → held.pending ≡ [] → (r r' : Reading) (left left' : Option (List ℕ)) (f : LineFault) → r.given ≤ 2 ^ 32 → (f ≡ fault.ReadFault → NoLineIn (r'.taken - r.given) (unread r left)) → (f ≡ fault.InputTooLong → NoLineIn (2 ^ 32 - r.given) (unread r left)) → (f ≡ fault.InputTooLong → 2 ^ 32 < r'.taken)
+pub fault_on : (o : Option (List ℕ)) (total : ℕ) (old : LiveState) (image : Image) (held : Held) (before now : Option (List ℕ)) → held.pending ≡ [] → (r r' : Reading) (left left' : Option (List ℕ)) (f : LineFault) → r.given ≤ 2 ^ 32 → (f ≡ fault.ReadFault → IfSome o (λ input. IsWhole (take r.given input))) → (f ≡ fault.ReadFault → NoLineIn (r'.taken - r.given) (unread r left)) → (f ≡ fault.InputTooLong → NoLineIn (2 ^ 32 - r.given) (unread r left)) → (f ≡ fault.InputTooLong → 2 ^ 32 < r'.taken)
     → left' ≡ left_after (r'.taken - r.given) (unread r left) → r.taken ≡ r.given + length r.pending → input_length r'.taken left' ≡ input_length r.taken left → Far o (unread r left) r.given total old image held before now → IfSome o (λ input. EndsSo (Stands total image) input old left' before now (end_of f))
-fault_on None total old image held before now idle r r' left left' f few none_read none_past past after counted sum far = tt
-fault_on (Some input) total old image held before now idle r r' left left' f few none_read none_past past after counted sum far = fault_ends input total old image held before now idle r r' left left' f few none_read none_past past after counted sum far
+fault_on None total old image held before now idle r r' left left' f few whole none_read none_past past after counted sum far = tt
+fault_on (Some input) total old image held before now idle r r' left left' f few whole none_read none_past past after counted sum far = fault_ends input total old image held before now idle r r' left left' f few whole none_read none_past past after counted sum far
 
 pub no_memory_on : (total : ℕ) (book : List Series) (held : Held) (o left before : Option (List ℕ)) (image : Image) → StandsForBook image total book → IfSome o (λ input. EndsSo (Stands total image) input (held_with total book held) left before before NoMemory)
 no_memory_on total book held None left before image stands = tt

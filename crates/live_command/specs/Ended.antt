@@ -35,7 +35,7 @@ LivesAll count old new input before now = OfBook count old (λ total book. Sends
 abbrev pub LivesSome : ℕ → View → View → List ℕ → Option (List ℕ) → Option (List ℕ) → Type 0
 LivesSome count old new input before now = OfBook count old (λ total book. SendsSome (Holds count total new) input (begun_live total book) before now)
 
--- all lines that ended among the bytes taken are answered, and all their pushes made, where the bytes left are told
+-- all lines whose line feeds were among the bytes taken are answered, and all their pushes made, where the bytes left are told
 abbrev pub LivesTaken : ℕ → View → View → List ℕ → Option (List ℕ) → Option (List ℕ) → Option (List ℕ) → Type 0
 LivesTaken count old new input left before now = OfBook count old (λ total book. SendsTaken (Holds count total new) input (begun_live total book) before now left)
 

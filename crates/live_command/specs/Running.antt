@@ -7,7 +7,7 @@ use Rattle.chart_frames.specs.Frames.{spelling}
 use Rattle.chart_service.specs.Serving.{told}
 use Rattle.chart_service.specs.declared.failure.ServeEnd.{ServeEnd}
 use Rattle.chart_service.specs.declared.failure.ServeEnd.TheVariants.{ReadFault, SendFault, DiskFault, Damaged, InputTooLong, NoMemory}
-use Rattle.chart_world.specs.Fronts.{BeginsWith}
+use Rattle.chart_world.specs.Fronts.{BeginsWith, IsWhole}
 use Rattle.chart_world.specs.Lines.{NoLineFeed}
 use Rattle.live_service.specs.LiveReplies.{LiveState}
 use Rattle.series_book.specs.declared.one_series.Series.{Series}
@@ -49,9 +49,10 @@ module _ (IsThere : List Series → Type 0) (input : List ℕ) (old : LiveState)
     pub there : IsThere state.state.book
     pub sent : now ≡ sent_after (spelled frames) before
 
-  -- they are those that ended among the bytes taken, where the bytes left are told
+  -- they are those whose line feeds were among the bytes taken, where the bytes left are told
   pub record SendsTaken (left : Option (List ℕ)) : Type 0 where
     pub sends : SendsFirst
+    pub whole : IsWhole sends.first.front
     pub behind : IfSome left (Unended sends.first.rest)
 
   -- they are those that ended among the first 2^32 bytes, and there is a byte more

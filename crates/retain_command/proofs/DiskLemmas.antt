@@ -48,7 +48,7 @@ module _ (IsThere IsThat : List Series → Type 0) (total : ℕ) (book : List Se
   unfolding first_so
   ends_so left (BadLine at) s = record { swept = first_so s.swept; line = s.line; next = s.next; some = s.some; none = s.none; at_is = s.at_is }
   ends_so left (UnknownSeries at) s = record { swept = first_so s.swept; line = s.line; next = s.next; rule = s.rule; says_it = s.says_it; unknown = s.unknown; at_is = s.at_is }
-  ends_so left ReadFault s = record { swept = first_so s.swept; behind = s.behind }
+  ends_so left ReadFault s = record { swept = first_so s.swept; whole = s.whole; behind = s.behind }
   ends_so left SendFault s = record { first = s.first; rule = s.rule; next = s.next; there = so _ s.there; between = s.between; sent = s.sent; part = s.part }
   ends_so left InputTooLong s = record { swept = first_so s.swept; unended = s.unended; past = s.past }
   ends_so left DiskFault s = s

@@ -5,8 +5,9 @@ use Rattle.block_disk.specs.Streams.{sent_after, left_after}
 use Rattle.block_disk.specs.View.{Image}
 use Rattle.chart_service.specs.SentLaws.{sent_none, sent_more}
 use Rattle.chart_service.specs.Serving.{told, unless_empty}
-use Rattle.chart_world.specs.Fronts.{says, Gives}
+use Rattle.chart_world.specs.Fronts.{says, Gives, IsWhole}
 use Rattle.chart_world.specs.LineLaws.{no_rest, said, says_text}
+use Rattle.chart_world.specs.StandsLaws.{whole_given}
 use Rattle.chart_world.specs.Lines.{NoLineFeed}
 use Rattle.chart_world.specs.Reading.{Reading, unread, unread_input, told_lines, input_length, NoLineIn}
 use Rattle.chart_world.specs.declared.line_answer.LineFault.{LineFault}
@@ -137,9 +138,9 @@ module _ (total : ℕ) (book : List Series) (input : List ℕ) (image : Image) (
       record { rules = first.rules; are = subst Q all first.are; there = g.stands; sent = g.sent }
 
   -- at a fault of the input
-  pub fault_ends : (r r' : Reading) (left left' : Option (List ℕ)) (f : LineFault) → r.given ≤ 2 ^ 32 → (f ≡ fault.ReadFault → NoLineIn (r'.taken - r.given) (unread r left)) → (f ≡ fault.InputTooLong → NoLineIn (2 ^ 32 - r.given) (unread r left)) → (f ≡ fault.InputTooLong → 2 ^ 32 < r'.taken)
+  pub fault_ends : (r r' : Reading) (left left' : Option (List ℕ)) (f : LineFault) → r.given ≤ 2 ^ 32 → (f ≡ fault.ReadFault → IsWhole (take r.given input)) → (f ≡ fault.ReadFault → NoLineIn (r'.taken - r.given) (unread r left)) → (f ≡ fault.InputTooLong → NoLineIn (2 ^ 32 - r.given) (unread r left)) → (f ≡ fault.InputTooLong → 2 ^ 32 < r'.taken)
       → left' ≡ left_after (r'.taken - r.given) (unread r left) → r.taken ≡ r.given + length r.pending → input_length r'.taken left' ≡ input_length r.taken left → Going total book input (unread r left) r.given image before now → EndsSo (Stands total image) total book input left' before now (end_of f)
-  fault_ends r r' left left' fault.ReadFault few none_read none_past past after counted sum g =
+  fault_ends r r' left left' fault.ReadFault few whole none_read none_past past after counted sum g =
       let first = g.progress.first in
       let n = r'.taken - r.given in
       let N : Option (List ℕ) → Type 0 = NoLineIn n in
@@ -147,11 +148,12 @@ module _ (total : ℕ) (book : List Series) (input : List ℕ) (image : Image) (
       let here : left' ≡ Some (drop n first.rest) = after ∙ ap (left_after n) g.progress.told_rest in
       subst Q (sym here) (record {
         swept = record { first = first; there = g.stands; sent = g.sent };
+        whole = whole_given input first.front first.rest r.given first.begins.split g.progress.counted (whole refl);
         behind = record { partial = take n first.rest; taken = sym (take-append-drop n first.rest); unended = subst N g.progress.told_rest (none_read refl) };
       })
-  fault_ends r r' None left' fault.InputTooLong few none_read none_past past after counted sum g = let told_rest = g.progress.told_rest in cc
-  fault_ends r r' (Some l) None fault.InputTooLong few none_read none_past past after counted sum g = cc
-  fault_ends r r' (Some l) (Some l') fault.InputTooLong few none_read none_past past after counted sum g =
+  fault_ends r r' None left' fault.InputTooLong few whole none_read none_past past after counted sum g = let told_rest = g.progress.told_rest in cc
+  fault_ends r r' (Some l) None fault.InputTooLong few whole none_read none_past past after counted sum g = cc
+  fault_ends r r' (Some l) (Some l') fault.InputTooLong few whole none_read none_past past after counted sum g =
       let first = g.progress.first in
       let N : Option (List ℕ) → Type 0 = NoLineIn (2 ^ 32 - r.given) in
       let M : ℕ → Type 0 = λ n. NoLineFeed (take (2 ^ 32 - n) first.rest) in

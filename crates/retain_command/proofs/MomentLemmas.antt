@@ -1,11 +1,11 @@
 -- What a crash leaves while lines are swept, and how many bytes were sent by then.
-use Rattle.std.proofs.Common.{◌≡◌, ◌∙◌, ℕ, ◌+◌, ◌-◌, ◌<◌, ◌≤◌, ◌^◌, ◌⊎◌, List, [], ◌++◌, length, Option, Some, None, Result, Ok, Err, IfSome, refl, ap, sym, subst, arith, inl, inr, length-append}
+use Rattle.std.proofs.Common.{◌≡◌, ◌∙◌, ℕ, ◌+◌, ◌-◌, ◌<◌, ◌≤◌, ◌^◌, ◌⊎◌, List, [], ◌++◌, length, take, Option, Some, None, Result, Ok, Err, IfSome, refl, ap, sym, subst, arith, inl, inr, length-append}
 use Rattle.block_disk.specs.Streams.{sent_after, left_after}
 use Rattle.block_disk.specs.View.{Image, View, Now, Only, Passes, sent_now}
 use Rattle.chart_service.specs.MomentLaws.{since_none, since_then, through_by, through_so}
 use Rattle.chart_service.specs.Moments.{Since, Through}
 use Rattle.chart_service.specs.SentLaws.{sent_is}
-use Rattle.chart_world.specs.Fronts.{Gives}
+use Rattle.chart_world.specs.Fronts.{Gives, IsWhole}
 use Rattle.chart_world.specs.Reading.{Reading, unread, unread_input, told_lines, input_length, NoLineIn}
 use Rattle.chart_world.specs.declared.line_answer.LineFault.{LineFault}
 use Rattle.chart_world.specs.declared.line_answer.LineFault.TheVariants as fault
@@ -126,10 +126,10 @@ pub long_on : (total : ℕ) (book : List Series) (o : Option (List ℕ)) (r r' :
 long_on total book None r r' left left' gives early image before now at rest at_is far = tt
 long_on total book (Some input) r r' left left' gives early image before now at rest at_is far = long_ends total book input r r' left left' gives early image before now at rest at_is far
 
-pub fault_on : (total : ℕ) (book : List Series) (o : Option (List ℕ)) (image : Image) (before now : Option (List ℕ)) (r r' : Reading) (left left' : Option (List ℕ)) (f : LineFault) → r.given ≤ 2 ^ 32 → (f ≡ fault.ReadFault → NoLineIn (r'.taken - r.given) (unread r left)) → (f ≡ fault.InputTooLong → NoLineIn (2 ^ 32 - r.given) (unread r left)) → (f ≡ fault.InputTooLong → 2 ^ 32 < r'.taken)
+pub fault_on : (total : ℕ) (book : List Series) (o : Option (List ℕ)) (image : Image) (before now : Option (List ℕ)) (r r' : Reading) (left left' : Option (List ℕ)) (f : LineFault) → r.given ≤ 2 ^ 32 → (f ≡ fault.ReadFault → IfSome o (λ input. IsWhole (take r.given input))) → (f ≡ fault.ReadFault → NoLineIn (r'.taken - r.given) (unread r left)) → (f ≡ fault.InputTooLong → NoLineIn (2 ^ 32 - r.given) (unread r left)) → (f ≡ fault.InputTooLong → 2 ^ 32 < r'.taken)
     → left' ≡ left_after (r'.taken - r.given) (unread r left) → r.taken ≡ r.given + length r.pending → input_length r'.taken left' ≡ input_length r.taken left → Far total book o (unread r left) r.given image before now → IfSome o (λ input. EndsSo (Stands total image) total book input left' before now (end_of f))
-fault_on total book None image before now r r' left left' f few none_read none_past past after counted sum far = tt
-fault_on total book (Some input) image before now r r' left left' f few none_read none_past past after counted sum far = fault_ends total book input image before now r r' left left' f few none_read none_past past after counted sum far
+fault_on total book None image before now r r' left left' f few whole none_read none_past past after counted sum far = tt
+fault_on total book (Some input) image before now r r' left left' f few whole none_read none_past past after counted sum far = fault_ends total book input image before now r r' left left' f few whole none_read none_past past after counted sum far
 
 pub no_memory_on : (total : ℕ) (book : List Series) (o left before : Option (List ℕ)) (image : Image) → StandsForBook image total book → IfSome o (λ input. EndsSo (Stands total image) total book input left before before NoMemory)
 no_memory_on total book None left before image stands = tt

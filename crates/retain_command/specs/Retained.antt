@@ -27,7 +27,7 @@ RetainsAll count old new input before now = OfBook count old (λ total book. Swe
 abbrev pub RetainsSome : ℕ → View → View → List ℕ → Option (List ℕ) → Option (List ℕ) → Type 0
 RetainsSome count old new input before now = OfBook count old (λ total book. SweepsSome (Holds count total new) total book input before now)
 
--- all lines that ended among the bytes taken were swept and answered, where the bytes left are told
+-- all lines whose line feeds were among the bytes taken were swept and answered, where the bytes left are told
 abbrev pub RetainsTaken : ℕ → View → View → List ℕ → Option (List ℕ) → Option (List ℕ) → Option (List ℕ) → Type 0
 RetainsTaken count old new input left before now = OfBook count old (λ total book. SweepsTaken (Holds count total new) total book input before now left)
 

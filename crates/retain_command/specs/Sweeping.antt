@@ -3,7 +3,7 @@
 use Rattle.std.specs.Prelude.{◌≡◌, ℕ, ◌+◌, ◌-◌, ◌^◌, ◌<◌, ◌≤◌, ◌⊎◌, List, [], ◌∷◌, ◌++◌, length, take, Option, IfSome, IsTrue}
 use Rattle.block_disk.specs.Streams.{sent_after, PartSent}
 use Rattle.chart_service.specs.Serving.{told}
-use Rattle.chart_world.specs.Fronts.{says, BeginsWith, first_piece}
+use Rattle.chart_world.specs.Fronts.{says, BeginsWith, IsWhole, first_piece}
 use Rattle.chart_world.specs.Lines.{lines, NoLineFeed}
 use Rattle.series_book.specs.declared.one_series.Series.{Series}
 use Rattle.series_book.specs.EditLists.{after_edits}
@@ -62,9 +62,10 @@ module _ (IsThere : List Series → Type 0) (total : ℕ) (book : List Series) (
     pub there : IsThere (left_by total book input first)
     pub sent : now ≡ sent_after (said_to total book input first) before
 
-  -- they are those that ended among the bytes taken, where the bytes left are told
+  -- they are those whose line feeds were among the bytes taken, where the bytes left are told
   pub record SweepsTaken (left : Option (List ℕ)) : Type 0 where
     pub swept : SweepsFirst
+    pub whole : IsWhole swept.first.front
     pub behind : IfSome left (Unended swept.first.rest)
 
   -- they are those that ended among the first 2^32 bytes, and there is a byte more

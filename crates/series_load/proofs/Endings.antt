@@ -6,13 +6,14 @@ use Rattle.std.proofs.lemmas.List.{take-append-drop}
 use Rattle.block_disk.specs.View.{Image}
 use Rattle.block_disk.specs.Streams.{left_after}
 use Rattle.chart_world.specs.Lines.{is_line_feed, lines, NoLineFeed}
+use Rattle.chart_world.specs.StandsLaws.{told_with, whole_given}
 use Rattle.chart_world.specs.Reading.{Reading, unread, told_lines, input_length, NoLineIn}
 use Rattle.chart_world.specs.declared.line_answer.LineFault.{LineFault}
 use Rattle.chart_world.specs.declared.line_answer.LineFault.TheVariants as fault
 use Rattle.series_book.specs.declared.one_series.Series.{Series}
 use Rattle.stored_book.specs.Standing.{StandsForBook}
 use Rattle.chart_world.specs.FrontLaws.{passes}
-use Rattle.chart_world.specs.Fronts.{says, first_piece}
+use Rattle.chart_world.specs.Fronts.{says, IsWhole, first_piece}
 use Rattle.chart_world.specs.LineLaws.{piece_line, no_rest, told_so}
 use Rattle.series_load.specs.Fronts.{PlacedLine, told}
 use Rattle.series_load.specs.Rows.{AreTable, BadEarly, Stops, ReadsRows}
@@ -232,8 +233,8 @@ read_all total name book series o bytes given most first kept points image none 
     told_so (λ input. Heard series.scale series.step input bytes given p.runs first p.open_run points) (λ input. length input ≤ most) o
     (λ input h. omega (arith, few, h.counted, ap length (h.begins.split ∙ ap (λ l. h.front ++ l) (rest_none series.scale series.step input bytes given p.runs first p.open_run points none h) ∙ append-nil h.front))) p.heard
 
-taken_at : (total : ℕ) (name : List ℕ) (book now : List Series) (series : Series) (input : List ℕ) (bytes left : Option (List ℕ)) (given n : ℕ) (runs : List Run) (first : Bool) (old : Option Run) (points : ℕ) (image : Image) → NoLineIn n bytes → left ≡ left_after n bytes → Loads total name book runs now → StandsForBook image total now → Heard series.scale series.step input bytes given runs first old points → IfSome left (λ l. IsTaken total name book series input l image)
-taken_at total name book now series input bytes left given n runs first old points image none after loads stands h =
+taken_at : (total : ℕ) (name : List ℕ) (book now : List Series) (series : Series) (input : List ℕ) (bytes left : Option (List ℕ)) (given n : ℕ) (runs : List Run) (first : Bool) (old : Option Run) (points : ℕ) (image : Image) → IsWhole (take given input) → NoLineIn n bytes → left ≡ left_after n bytes → Loads total name book runs now → StandsForBook image total now → Heard series.scale series.step input bytes given runs first old points → IfSome left (λ l. IsTaken total name book series input l image)
+taken_at total name book now series input bytes left given n runs first old points image whole none after loads stands h =
     let P : Option (List ℕ) → Type 0 = NoLineIn n in
     let Q : Option (List ℕ) → Type 0 = λ l. IfSome l (λ k. IsTaken total name book series input k image) in
     let R : List ℕ → Type 0 = λ l. ReadsRows series.scale input h.front l h.read.rows in
@@ -242,6 +243,7 @@ taken_at total name book now series input bytes left given n runs first old poin
       partial = take n h.rest;
       rows = h.read.rows;
       reads = subst R (sym (take-append-drop n h.rest)) (record { begins = h.begins; table = h.read.table });
+      whole = whole_given input h.front h.rest given h.begins.split h.counted whole;
       unended = subst P h.told_rest none;
       runs = runs;
       ended = (old, h.read.cut);
@@ -271,12 +273,12 @@ past_at total name book now series input r r' (Some l) (Some l') runs first old 
     }
 
 -- at a fault of the lines
-pub fault_ends : (total : ℕ) (name : List ℕ) (book : List Series) (series : Series) (o : Option (List ℕ)) (r r' : Reading) (left left' : Option (List ℕ)) (first : Bool) (kept : OpenRun) (points : ℕ) (image : Image) (f : LineFault) → (f ≡ fault.ReadFault → NoLineIn (r'.taken - r.given) (unread r left)) → (f ≡ fault.InputTooLong → NoLineIn (2 ^ 32 - r.given) (unread r left)) → (f ≡ fault.InputTooLong → 2 ^ 32 < r'.taken) → left' ≡ left_after (r'.taken - r.given) (unread r left) → r.given ≤ 2 ^ 32 → r.taken ≡ r.given + length r.pending → input_length r'.taken left' ≡ input_length r.taken left
+pub fault_ends : (total : ℕ) (name : List ℕ) (book : List Series) (series : Series) (o : Option (List ℕ)) (r r' : Reading) (left left' : Option (List ℕ)) (first : Bool) (kept : OpenRun) (points : ℕ) (image : Image) (f : LineFault) → (f ≡ fault.ReadFault → IfSome o (λ input. IsWhole (take r.given input))) → (f ≡ fault.ReadFault → NoLineIn (r'.taken - r.given) (unread r left)) → (f ≡ fault.InputTooLong → NoLineIn (2 ^ 32 - r.given) (unread r left)) → (f ≡ fault.InputTooLong → 2 ^ 32 < r'.taken) → left' ≡ left_after (r'.taken - r.given) (unread r left) → r.given ≤ 2 ^ 32 → r.taken ≡ r.given + length r.pending → input_length r'.taken left' ≡ input_length r.taken left
     → Progress total name book series o (unread r left) r.given first kept points image → IfSome o (λ input. EndsLoad total name book series input left' image (end_of f))
-fault_ends total name book series o r r' left left' first kept points image fault.ReadFault read far past after within counted total_is p =
-    told_so (λ input. Heard series.scale series.step input (unread r left) r.given p.runs first p.open_run points) (λ input. EndsLoad total name book series input left' image ReadFault) o
-    (λ input. taken_at total name book p.now series input (unread r left) left' r.given (r'.taken - r.given) p.runs first p.open_run points image (read refl) after p.loads p.stands) p.heard
-fault_ends total name book series o r r' left left' first kept points image fault.InputTooLong read far past after within counted total_is p =
+fault_ends total name book series o r r' left left' first kept points image fault.ReadFault whole read far past after within counted total_is p =
+    told_with (λ input. Heard series.scale series.step input (unread r left) r.given p.runs first p.open_run points) (λ input. IsWhole (take r.given input)) (λ input. EndsLoad total name book series input left' image ReadFault) o
+    (λ input front. taken_at total name book p.now series input (unread r left) left' r.given (r'.taken - r.given) p.runs first p.open_run points image front (read refl) after p.loads p.stands) (whole refl) p.heard
+fault_ends total name book series o r r' left left' first kept points image fault.InputTooLong whole read far past after within counted total_is p =
     told_so (λ input. Heard series.scale series.step input (unread r left) r.given p.runs first p.open_run points) (λ input. EndsLoad total name book series input left' image InputTooLong) o
     (λ input. past_at total name book p.now series input r r' left left' p.runs first p.open_run points image (far refl) (past refl) within counted total_is p.loads p.stands) p.heard
 

@@ -1,5 +1,5 @@
 -- A load from line to line.
-use Rattle.std.proofs.Common.{◌≡◌, ◌≢◌, ℕ, ◌+◌, ◌-◌, ◌^◌, ◌<◌, ◌≤◌, Bool, true, List, [], length, Option, None, Some, Result, Ok, Err, OnOk, IfOk, IfErr, IfSome, refl, subst, inl, inr, sym, ◌∙◌, arith}
+use Rattle.std.proofs.Common.{◌≡◌, ◌≢◌, ℕ, ◌+◌, ◌-◌, ◌^◌, ◌<◌, ◌≤◌, Bool, true, List, [], length, take, Option, None, Some, Result, Ok, Err, OnOk, IfOk, IfErr, IfSome, refl, subst, inl, inr, sym, ◌∙◌, arith}
 use Rattle.std.specs.Prelude.{IsErrAnd}
 use Rattle.block_disk.specs.Counts.{HasRisen}
 use Rattle.block_disk.specs.View.{Image, View, Now, Only, Passes}
@@ -7,6 +7,7 @@ use Rattle.block_disk.specs.Streams.{left_after}
 use Rattle.block_disk.proofs.Passing.{passes_none, passes_weaker}
 use Rattle.gate_pages.specs.Pages.{Quiet}
 use Rattle.gate_pages.proofs.Moving.{time_then}
+use Rattle.chart_world.specs.Fronts.{IsWhole}
 use Rattle.chart_world.specs.Reading.{Reading, unread_input, unread, told_lines, input_length, NoLineIn}
 use Rattle.chart_world.specs.declared.line_answer.LineFault.{LineFault}
 use Rattle.chart_world.specs.declared.line_answer.LineFault.TheVariants as fault
@@ -175,10 +176,10 @@ last_done total name book series o bytes given loader kept result v old before n
     }
 
 -- at a fault of the lines
-pub fault_done : (total : ℕ) (name : List ℕ) (book : List Series) (series : Series) (o : Option (List ℕ)) (r r' : Reading) (left left' : Option (List ℕ)) (loader : Loader) (f : LineFault) (old now : View) → (f ≡ fault.ReadFault → NoLineIn (r'.taken - r.given) (unread r left)) → (f ≡ fault.InputTooLong → NoLineIn (2 ^ 32 - r.given) (unread r left)) → (f ≡ fault.InputTooLong → 2 ^ 32 < r'.taken) → left' ≡ left_after (r'.taken - r.given) (unread r left) → r.given ≤ 2 ^ 32 → r.taken ≡ r.given + length r.pending → input_length r'.taken left' ≡ input_length r.taken left
+pub fault_done : (total : ℕ) (name : List ℕ) (book : List Series) (series : Series) (o : Option (List ℕ)) (r r' : Reading) (left left' : Option (List ℕ)) (loader : Loader) (f : LineFault) (old now : View) → (f ≡ fault.ReadFault → IfSome o (λ input. IsWhole (take r.given input))) → (f ≡ fault.ReadFault → NoLineIn (r'.taken - r.given) (unread r left)) → (f ≡ fault.InputTooLong → NoLineIn (2 ^ 32 - r.given) (unread r left)) → (f ≡ fault.InputTooLong → 2 ^ 32 < r'.taken) → left' ≡ left_after (r'.taken - r.given) (unread r left) → r.given ≤ 2 ^ 32 → r.taken ≡ r.given + length r.pending → input_length r'.taken left' ≡ input_length r.taken left
     → Going total name book series o (unread r left) r.given loader old now → Stopped total name book series o left' (end_of f) old now
-fault_done total name book series o r r' left left' loader f old now read far past after within counted total_is going = record {
-  ends = fault_ends total name book series o r r' left left' loader.first loader.run loader.points now.image f read far past after within counted total_is going.progress;
+fault_done total name book series o r r' left left' loader f old now whole read far past after within counted total_is going = record {
+  ends = fault_ends total name book series o r r' left left' loader.first loader.run loader.points now.image f whole read far past after within counted total_is going.progress;
   some = fault_keeps total name book series o now.image f (some_now total name book series o (unread r left) r.given loader.first loader.run loader.points now.image going.progress);
   moments = going.moments;
 }

@@ -10,7 +10,7 @@ use Rattle.series_book.specs.Edits.{apply}
 use Rattle.stored_book.specs.Damage.{IsBadForEdit}
 use Rattle.stored_book.specs.Standing.{StandsForBook}
 use Rattle.series_load.specs.Rows.{Reading, ReadsRows, BadFirst}
-use Rattle.chart_world.specs.Fronts.{first_piece}
+use Rattle.chart_world.specs.Fronts.{IsWhole, first_piece}
 use Rattle.series_load.specs.Fronts.{told}
 use Rattle.series_load.specs.Runs.{Run, Ended, AllRuns, AreFirst}
 use Rattle.series_load.specs.Sets.{set_of, Loads, IsAfter, IsAfterSome}
@@ -50,12 +50,13 @@ pub record IsAtRefusal (total : ℕ) (name : List ℕ) (book : List Series) (ser
   pub refused : apply new total (set_of name run) ≡ Err refusal
   pub stands : StandsForBook image total new
 
--- the sets of the runs that ended within the whole lines among the bytes taken were done, and these bytes are left
+-- The sets of the runs that ended within the lines whose line feeds were among the bytes taken were done, and these bytes are left.
 pub record IsTaken (total : ℕ) (name : List ℕ) (book : List Series) (series : Series) (input left : List ℕ) (image : Image) : Type 0 where
   pub front : List ℕ
   pub partial : List ℕ
   pub rows : List (Option Reading)
   pub reads : ReadsRows series.scale input front (partial ++ left) rows
+  pub whole : IsWhole front
   pub unended : NoLineFeed partial
   pub runs : List Run
   pub ended : Ended series.step rows runs

@@ -2,6 +2,7 @@ use Rattle.std.proofs.Common.{ℤ, ◌^◌, List, Option, Ok, Err, IsTrue, IfSom
 use Rattle.std.proofs.lemmas.List.Elements.{All-nil}
 use Rattle.chart_world.specs.Reading.{Reading, unread}
 use Rattle.chart_world.specs.FrontLaws.{same_line}
+use Rattle.chart_world.specs.StandsLaws.{stands_first}
 use Rattle.plain_chart.specs.Samples.{IsSlot}
 use Rattle.chart_program.specs.declared.input.InputEnd.{InputEnd}
 use Rattle.chart_program.specs.Reads.{Stops}
@@ -19,6 +20,7 @@ lines-init g c =
       counted = omega (arith, ap (λ r. r.taken) fresh, ap (λ r. r.given) fresh, ap (λ r. length r.pending) fresh);
       within = omega (arith, ap (λ r. r.given) fresh);
       total = refl;
+      stands_in = stands_first (g.S.Streams.left c.args.from.now) c.in_ok-lines.lines fresh;
       values = subst V (sym c.new-slots.ensures.items) (All-nil IsSlot);
       few = omega (arith, c.new-slots.ensures.len);
       progress = start_so (g.S.Streams.left c.args.from.now) c.in_ok-lines.lines c.new-slots.result.items fresh c.new-slots.ensures.items;
@@ -48,7 +50,7 @@ pub returns-in_err-next-clause-ends : goal.returns-in_err-next-clause-ends
 returns-in_err-next-clause-ends g c =
     let f = c.in_err-next.field-0.0 in
     let stops = fault_so (g.S.Streams.left c.args.from.now) c.lines.lines c.next.new.self (g.S.Streams.left c.lines.from) (g.S.Streams.left c.next.new.from) c.lines.slots.items f
-    (λ h. c.in_err-next.ensures.read_before (ap Err h)) (λ h. c.in_err-next.ensures.past_before (ap Err h)) (λ h. c.in_err-next.ensures.past (ap Err h))
+    (λ h. c.lines.invariant.stands_in.whole (c.in_err-next.ensures.not_ended (ap Err h))) (λ h. c.in_err-next.ensures.read_before (ap Err h)) (λ h. c.in_err-next.ensures.past_before (ap Err h)) (λ h. c.in_err-next.ensures.past (ap Err h))
     c.in_err-next.ensures.left_on_err c.lines.invariant.counted c.in_err-next.ensures.total c.lines.invariant.progress in
     let S : InputEnd → Type 0 = λ e. IfSome (g.S.Streams.left c.args.from.now) (λ input. Stops input (g.S.Streams.left c.next.new.from) e) in
     error_so _ _ c.from_residual-in_err-next.result c.from_residual-in_err-next.ensures.1 (λ e is. subst S (sym is) stops)
@@ -79,6 +81,7 @@ lines-preserved g c =
       counted = next.given;
       within = next.within;
       total = next.total ∙ inv.total;
+      stands_in = next.stands (g.S.Streams.left c.args.from.now) inv.stands_in;
       values = values_so c.line.result.now c.lines.slots.items c.add_line.new.slots.items done inv.values;
       few = omega (arith, few_so c.line.result.now c.lines.slots.items c.add_line.new.slots.items done (omega (arith, inv.few, c.lines.slots.ok)), c.add_line.new.slots.ok);
       progress = line_so (g.S.Streams.left c.args.from.now) c.lines.lines c.next.new.self (g.S.Streams.left c.lines.from) (g.S.Streams.left c.next.new.from) c.lines.slots.items c.add_line.new.slots.items c.line.result.now

@@ -1,4 +1,5 @@
 use Rattle.std.proofs.Common.{◌≡◌, ◌+◌, ◌-◌, ◌^◌, ◌≤◌, length, vec_len, IsTrue, IfSome, All}
+use Rattle.chart_world.specs.Fronts.{StandsIn}
 use Rattle.chart_world.specs.Reading.{unread, input_length}
 use Rattle.plain_chart.specs.Samples.{IsSlot}
 use Rattle.chart_program.specs.Slots.{most_slots}
@@ -12,6 +13,7 @@ invariant-lines g l = record {
   counted : l.lines.taken ≡ l.lines.given + length l.lines.pending;
   within : l.lines.given ≤ 2 ^ 32;
   total : input_length l.lines.taken (g.S.Streams.left l.from) ≡ input_length l.initial.lines.taken (g.S.Streams.left l.initial.from);
+  stands_in : StandsIn (g.S.Streams.left l.initial.from) l.lines (g.S.Streams.left l.from);
   values : All IsSlot l.slots.items;
   few : vec_len l.slots ≤ most_slots;
   progress : IfSome (g.S.Streams.left l.initial.from) (λ input. Progress input (unread l.lines (g.S.Streams.left l.from)) l.lines.given l.slots.items);

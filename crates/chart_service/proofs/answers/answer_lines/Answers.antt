@@ -3,6 +3,7 @@ use Rattle.block_disk.specs.View.{Image}
 use Rattle.chart_world.specs.FrontLaws.{read_whole, same_line}
 use Rattle.chart_world.specs.Fronts.{Gives}
 use Rattle.chart_world.specs.Lines.{lines}
+use Rattle.chart_world.specs.StandsLaws.{stands_beside, stands_first}
 use Rattle.chart_world.specs.Reading.{Reading, unread, unread_input, input_length}
 use Rattle.gate_pages.specs.GateLaws.{goes_none, goes_then}
 use Rattle.page_space.specs.declared.superblock.Superblock.{Superblock}
@@ -47,6 +48,7 @@ lines-init g c =
       counted = omega (arith, ap (λ r. r.taken) fresh, ap (λ r. r.given) fresh, ap (λ r. length r.pending) fresh);
       within = omega (arith, ap (λ r. r.given) fresh);
       whole = ap (λ r. input_length r.taken o) fresh;
+      stands_in = stands_first o c.in_ok-lines.lines fresh;
       fit = c.requires;
       far = λ total book told stands. far_first g.R.Reply.makes c.args.kept.now o total book own before (view pages).image c.in_ok-lines.lines stands fresh;
       lasts = λ total book told stands. lasts_first g.R.Reply.makes c.args.kept.now o before total book own (view pages) c.in_ok-lines.lines
@@ -121,7 +123,7 @@ returns-in_err-next g c =
           let far = far_kept g.R.Reply.makes c.args.kept.now o total book own before c.lines.kept c.lines.lines (g.P.Streams.left mid) (g.P.Streams.sent mid) (g.P.Streams.sent taken) (view mid).image (view taken).image c.lines.service.sessions c.next.new.from.sessions kept.image beside.sessions c.next.ensures.sent (inv.far total book told stands) in
           error_goes (λ end. EndsAnswers g.R.Reply.makes c.args.kept.now c.lines.kept o (state_of book total own) (view taken).image c.next.new.from.sessions (g.P.Streams.left taken) before (g.P.Streams.sent taken) end) c.from_residual-in_err-next.result (Serve (end_of f)) c.from_residual-in_err-next.ensures.1
           (ends_lines g.R.Reply.makes c.args.kept.now o total book own before c.lines.kept c.lines.lines c.next.new.self (g.P.Streams.left mid) (g.P.Streams.left taken) (g.P.Streams.sent taken) (view taken).image c.next.new.from.sessions f
-          inv.within (λ h. no.read_before (ap Err h)) (λ h. no.past_before (ap Err h)) (λ h. no.past (ap Err h)) no.left_on_err inv.counted no.total far);
+          inv.within (λ h. inv.stands_in.whole (no.not_ended (ap Err h))) (λ h. no.read_before (ap Err h)) (λ h. no.past_before (ap Err h)) (λ h. no.past (ap Err h)) no.left_on_err inv.counted no.total far);
       crash = λ total book told stands. lasts_take g.R.Reply.makes c.args.kept.now c.lines.kept o before (g.P.Streams.sent mid) total book own c.lines.service.sessions (view pages) (view mid) (view taken) c.lines.lines (g.P.Streams.left mid) (inv.far total book told stands) (g.met.P.Pages.rests mid inv.fit) (g.met.P.PageWorld.counts_sent pages) (g.met.P.PageWorld.counts_sent mid) (g.met.P.PageWorld.take_passes mid taken takes) (inv.lasts total book told stands);
       reads = λ total book told stands. read_all o total book own (view pages).reads c.lines.lines (g.P.Streams.left mid) (view taken).image c.next.new.from.sessions (view taken).reads (read_kept o total book own (view pages).reads c.lines.lines (g.P.Streams.left mid) (view mid).image (view taken).image c.lines.service.sessions c.next.new.from.sessions (view mid).reads (view taken).reads kept.image beside.sessions kept.reads (inv.reads total book told stands));
       read = λ fault. risen_since (reads pages) (reads mid) (reads taken) c.lines.invariant.read_faults (c.in_err-next.ensures.read_fault (ap Err (fault_read c.in_err-next.field-0.0 (sym (error_is c.from_residual-in_err-next.result (Serve (end_of c.in_err-next.field-0.0)) c.from_residual-in_err-next.ensures.1) ∙ fault))));
@@ -208,6 +210,7 @@ lines-preserved-in-Continue-branch-4 g c =
       counted = next.given;
       within = next.within;
       whole = ap (λ l. input_length c.next.new.self.taken l) made.left ∙ next.total ∙ inv.whole;
+      stands_in = stands_beside o (g.P.Streams.left taken) (g.P.Streams.left new) c.next.new.self made.left (next.stands o inv.stands_in);
       fit = made.keeps.disk.fit (kept.fit inv.fit);
       far = λ total book told stands.
           let far = far_kept g.R.Reply.makes c.args.kept.now o total book own before c.lines.kept c.lines.lines (g.P.Streams.left mid) (g.P.Streams.sent mid) (g.P.Streams.sent taken) (view mid).image (view taken).image c.lines.service.sessions c.next.new.from.sessions kept.image beside.sessions c.next.ensures.sent (inv.far total book told stands) in
@@ -338,6 +341,7 @@ lines-preserved g c =
       counted = c.in_ok-edits-in-Line.ensures.counted;
       within = c.in_ok-edits-in-Line.ensures.within;
       whole = ap (λ l. input_length r.taken l) made.left ∙ ap (λ (x : Reading). input_length x.taken (g.P.Streams.left taken)) same ∙ next.total ∙ inv.whole;
+      stands_in = stands_beside o (g.P.Streams.left taken) (g.P.Streams.left new) r made.left (c.in_ok-edits-in-Line.ensures.stands o (g.P.Streams.left taken) (next.stands o inv.stands_in));
       fit = c.in_ok-answer_line-in-None.ensures.sound (λ e. cc);
       far = λ total book told stands.
           let far = far_kept g.R.Reply.makes c.args.kept.now o total book own before c.lines.kept c.lines.lines (g.P.Streams.left mid) (g.P.Streams.sent mid) (g.P.Streams.sent taken) (view mid).image (view taken).image c.lines.service.sessions c.next.new.from.sessions kept.image beside.sessions c.next.ensures.sent (inv.far total book told stands) in
@@ -478,6 +482,7 @@ lines-preserved-in-Some g c =
       counted = c.in_ok-edits-in-Line.ensures.counted;
       within = c.in_ok-edits-in-Line.ensures.within;
       whole = ap (λ l. input_length r.taken l) made.left ∙ ap (λ n. input_length n (g.P.Streams.left taken)) group.group.gathers.taken ∙ next.total ∙ inv.whole;
+      stands_in = stands_beside o (g.P.Streams.left taken) (g.P.Streams.left new) r made.left (c.in_ok-edits-in-Line.ensures.stands o (g.P.Streams.left taken) (next.stands o inv.stands_in));
       fit = c.in_ok-answer_edits-in-Some.ensures.sound (λ e. cc);
       far = λ total book told stands.
           let far = far_kept g.R.Reply.makes c.args.kept.now o total book own before c.lines.kept c.lines.lines (g.P.Streams.left mid) (g.P.Streams.sent mid) (g.P.Streams.sent taken) (view mid).image (view taken).image c.lines.service.sessions c.next.new.from.sessions kept.image beside.sessions c.next.ensures.sent (inv.far total book told stands) in

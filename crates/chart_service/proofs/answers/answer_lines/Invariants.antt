@@ -1,4 +1,5 @@
 use Rattle.std.proofs.Common.{◌≡◌, ℕ, ◌+◌, ◌-◌, ◌^◌, ◌≤◌, Bool, List, length, IsTrue}
+use Rattle.chart_world.specs.Fronts.{StandsIn}
 use Rattle.chart_world.specs.Reading.{input_length}
 use Rattle.gate_pages.specs.Pages.{GoesOn}
 use Rattle.series_book.specs.declared.one_series.Series.{Series}
@@ -25,6 +26,7 @@ invariant-lines g l =
       counted : l.lines.taken ≡ l.lines.given + length l.lines.pending;
       within : l.lines.given ≤ 2 ^ 32;
       whole : input_length l.lines.taken (g.P.Streams.left pages) ≡ input_length 0 (g.P.Streams.left first);
+      stands_in : StandsIn (g.P.Streams.left first) l.lines (g.P.Streams.left pages);
       fit : (view pages).fit;
       far : (total : ℕ) (book : List Series) → told first → StandsForBook (view first).image total book
           → IsFar g.R.Reply.makes l.initial.kept (g.P.Streams.left first) total book l.initial.service.sessions (g.P.Streams.sent first) l.kept l.lines (g.P.Streams.left pages) (g.P.Streams.sent pages) (view pages).image l.service.sessions;

@@ -11,6 +11,7 @@ edits-init c =
     let A : List Edit → Type 0 = λ l. All IsEdit l in
     let is = c.in_ok-push.ensures.items ∙ ap (λ l. l ++ c.args.first ∷ []) c.new-edits.ensures.items in
     record {
+      stands = λ input left stands. stands;
       usable = c.requires.usable;
       counted = c.requires.counted;
       within = c.requires.within;
@@ -28,6 +29,7 @@ edits-preserved c =
     let inv = c.edits.invariant in
     let is = c.in_ok-push-2.ensures.items in
     record {
+      stands = λ input left stands. c.pass.ensures.stands input left (inv.stands input left stands);
       usable = c.pass.ensures.usable;
       counted = pending_counted c.edits.lines c.pass.new.self inv.counted c.pass.ensures.passed c.pass.ensures.pending c.pass.ensures.taken;
       within = c.pass.ensures.within;

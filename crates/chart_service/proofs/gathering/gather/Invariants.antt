@@ -1,4 +1,5 @@
-use Rattle.std.proofs.Common.{◌≡◌, ◌+◌, ◌-◌, ◌≤◌, ◌^◌, length, All, IsTrue}
+use Rattle.std.proofs.Common.{◌≡◌, ◌+◌, ◌-◌, ◌≤◌, ◌^◌, length, All, IsTrue, List, Option, ℕ}
+use Rattle.chart_world.specs.Fronts.{StandsIn}
 use Rattle.series_book.specs.Edits.{IsEdit}
 use Rattle.chart_service.specs.EditGroups.{IsGroup}
 use Rattle.chart_service.proofs.gathering.gather.Given as goal
@@ -6,6 +7,7 @@ use Rattle.chart_service.proofs.gathering.gather.Given as goal
 -- the lines passed so far spell the edits behind the first one
 abbrev pub invariant-edits : goal.invariant-edits
 invariant-edits l = record {
+  stands : (input left : Option (List ℕ)) → StandsIn input l.initial.lines left → StandsIn input l.lines left;
   usable : IsTrue l.lines.usable;
   counted : l.lines.taken ≡ l.lines.given + length l.lines.pending;
   within : l.lines.given ≤ 2 ^ 32;

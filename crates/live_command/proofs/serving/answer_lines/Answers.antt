@@ -1,6 +1,7 @@
 use Rattle.std.proofs.Common.{◌≡◌, ◌∙◌, ℕ, List, Option, None, Some, Ok, Err, IsTrue, ◌^◌, length, refl, ap, sym, subst, arith}
 use Rattle.chart_world.specs.FrontLaws.{gives_by, read_whole, same_line}
 use Rattle.chart_world.specs.Fronts.{Gives}
+use Rattle.chart_world.specs.StandsLaws.{stands_beside, stands_first}
 use Rattle.chart_world.specs.Reading.{Reading, input_length, unread}
 use Rattle.live_service.specs.Shown as its
 use Rattle.live_command.proofs.GoesLemmas.{cause_later, goes_further, goes_nowhere, goes_streams, held_same}
@@ -27,6 +28,7 @@ lines-init g c =
       counted = omega (arith, ap (λ (r : Reading). r.taken) fresh, ap (λ (r : Reading). r.given) fresh, ap (λ (r : Reading). length r.pending) fresh);
       within = omega (arith, ap (λ (r : Reading). r.given) fresh);
       whole = ap (λ (r : Reading). input_length r.taken o) fresh;
+      stands_in = stands_first o c.args.lines.now fresh;
       sound = c.requires.sound;
       idle = c.requires.idle;
       goes = goes_nowhere (side_of g.P.Streams old);
@@ -55,7 +57,7 @@ returns-in-Err-clause-stops g c = λ total book told stands.
     let state = its.state start total book in
     let far = far_kept (left first) (unread c.lines.lines (left mid)) c.lines.lines.given total state (view mid).image (view taken).image (held_by c.lines.live) (held_by c.next.new.from) (sent first) (sent mid) (sent taken) kept.image same c.next.ensures.sent (inv.far total book told stands) in
     let E : _ → Type 0 = λ end. StopSo g.P.Streams total book start c.next.new.from end in
-    subst E (sym c.end_of.ensures) (fault_on (left first) total state (view taken).image (held_by c.next.new.from) (sent first) (sent taken) (beside.pending_same ∙ inv.idle) c.lines.lines c.next.new.self (left mid) (left taken) c.in-Err.fault inv.within (λ h. no.read_before (ap Err h)) (λ h. no.past_before (ap Err h)) (λ h. no.past (ap Err h)) no.left_on_err inv.counted no.total far)
+    subst E (sym c.end_of.ensures) (fault_on (left first) total state (view taken).image (held_by c.next.new.from) (sent first) (sent taken) (beside.pending_same ∙ inv.idle) c.lines.lines c.next.new.self (left mid) (left taken) c.in-Err.fault inv.within (λ h. inv.stands_in.whole (no.not_ended (ap Err h))) (λ h. no.read_before (ap Err h)) (λ h. no.past_before (ap Err h)) (λ h. no.past (ap Err h)) no.left_on_err inv.counted no.total far)
 
 pub returns-in-Err-clause-crash : goal.returns-in-Err-clause-crash
 returns-in-Err-clause-crash g c = λ total book told stands.
@@ -135,6 +137,7 @@ lines-preserved-in-Ok-refuse_line g c =
       counted = e.given;
       within = e.within;
       whole = subst U (sym it.left) (e.total ∙ inv.whole);
+      stands_in = stands_beside (left first) (left taken) (left new) c.next.new.self it.left (e.stands (left first) inv.stands_in);
       sound = it.sound (λ no. cc);
       idle = it.idle;
       goes = goes_further (side start) (side c.next.new.from) (side c.refuse_line.new.live) goes it.goes;
@@ -291,6 +294,7 @@ lines-preserved g c =
       counted = e.given;
       within = e.within;
       whole = subst U (sym it.left) (e.total ∙ inv.whole);
+      stands_in = stands_beside (left first) (left taken) (left new) c.next.new.self it.left (e.stands (left first) inv.stands_in);
       sound = it.sound (λ no. cc);
       idle = it.idle;
       goes = goes_further (side start) (side c.next.new.from) (side c.answer_line.new.live) goes it.goes;

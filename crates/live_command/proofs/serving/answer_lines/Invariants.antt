@@ -1,4 +1,5 @@
 use Rattle.std.proofs.Common.{◌≡◌, ◌+◌, ◌-◌, ◌^◌, ◌≤◌, length, IsTrue}
+use Rattle.chart_world.specs.Fronts.{StandsIn}
 use Rattle.chart_world.specs.Reading.{unread, input_length}
 use Rattle.live_service.specs.Shown as its
 use Rattle.live_view.specs.Live as follows
@@ -21,6 +22,7 @@ invariant-lines g l =
       counted : l.lines.taken ≡ l.lines.given + length l.lines.pending;
       within : l.lines.given ≤ 2 ^ 32;
       whole : input_length l.lines.taken (left (pages live)) ≡ input_length 0 (left (pages first));
+      stands_in : StandsIn (left (pages first)) l.lines (left (pages live));
       sound : (its.view live).fit;
       idle : follows.IsIdle live;
       goes : Goes (side_of g.P.Streams first) (side_of g.P.Streams live);

@@ -1,6 +1,7 @@
 use Rattle.std.proofs.Common.{◌≡◌, ◌∙◌, ℕ, ◌≤◌, List, Option, None, Some, Ok, Err, IsTrue, ◌^◌, length, refl, ap, sym, subst, arith}
 use Rattle.chart_world.specs.FrontLaws.{gives_by, read_whole, same_line}
 use Rattle.chart_world.specs.Fronts.{Gives}
+use Rattle.chart_world.specs.StandsLaws.{stands_beside, stands_first}
 use Rattle.chart_world.specs.Reading.{Reading, input_length}
 use Rattle.page_space.specs.declared.superblock.Superblock.{Superblock}
 use Rattle.series_store.specs.Shown as shown
@@ -23,6 +24,7 @@ lines-init g c =
       counted = omega (arith, ap (λ (r : Reading). r.taken) fresh, ap (λ (r : Reading). r.given) fresh, ap (λ (r : Reading). length r.pending) fresh);
       within = omega (arith, ap (λ (r : Reading). r.given) fresh);
       whole = ap (λ (r : Reading). input_length r.taken o) fresh;
+      stands_in = stands_first o c.args.lines.now fresh;
       sound = c.requires.sound;
       goes = goes_nowhere (side_of g.P.Streams c.args.store.now);
       far = λ total book told stands. far_first total book o c.args.lines.now (view pages).image before fresh stands;
@@ -44,7 +46,7 @@ returns-in-Err-clause-stops g c = λ total book told stands.
     let no = c.in-Err.ensures in
     let far = far_kept total book (left first) _ c.lines.lines.given (view mid).image (view taken).image (sent first) (sent mid) (sent taken) kept.image c.next.ensures.sent (inv.far total book told stands) in
     let E : _ → Type 0 = λ end. Rattle.retain_command.specs.Shown.StopSo g.P.Streams total book c.args.store.now c.next.new.from end in
-    subst E (sym c.end_of.ensures) (fault_on total book (left first) (view taken).image (sent first) (sent taken) c.lines.lines c.next.new.self (left mid) (left taken) c.in-Err.fault inv.within (λ h. no.read_before (ap Err h)) (λ h. no.past_before (ap Err h)) (λ h. no.past (ap Err h)) no.left_on_err inv.counted no.total far)
+    subst E (sym c.end_of.ensures) (fault_on total book (left first) (view taken).image (sent first) (sent taken) c.lines.lines c.next.new.self (left mid) (left taken) c.in-Err.fault inv.within (λ h. inv.stands_in.whole (no.not_ended (ap Err h))) (λ h. no.read_before (ap Err h)) (λ h. no.past_before (ap Err h)) (λ h. no.past (ap Err h)) no.left_on_err inv.counted no.total far)
 
 pub returns-in-Err-clause-crash : goal.returns-in-Err-clause-crash
 returns-in-Err-clause-crash g c = λ total book told stands.
@@ -147,6 +149,7 @@ lines-preserved g c =
       counted = e.given;
       within = e.within;
       whole = subst U (sym does.left) (e.total ∙ inv.whole);
+      stands_in = stands_beside (left first) (left taken) (left new) c.next.new.self does.left (e.stands (left first) inv.stands_in);
       sound = does.sound (λ no. cc);
       goes = goes_further (side c.args.store.now) (side c.next.new.from) (side c.answer_line.new.store) goes does.goes;
       far = λ total book told stands.

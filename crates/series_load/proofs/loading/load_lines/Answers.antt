@@ -4,6 +4,7 @@ use Rattle.series_catalog.specs.declared.catalog.Catalog.{Catalog}
 use Rattle.chart_world.specs.Reading.{Reading, unread, input_length}
 use Rattle.series_load.specs.Steps.{end_of}
 use Rattle.chart_world.specs.FrontLaws.{same_line}
+use Rattle.chart_world.specs.StandsLaws.{stands_beside, stands_first}
 use Rattle.series_load.proofs.Passing.{short_end, short_so}
 use Rattle.series_load.proofs.Progress.{Takes}
 use Rattle.series_load.proofs.Sides.{goes_nowhere, goes_further, goes_call, goes_take, call_left}
@@ -24,12 +25,13 @@ lines-init g c =
       points = omega (arith, c.requires.points);
       sound = c.requires.sound;
       length_is = ap (λ (r : Reading). input_length r.taken (g.P.Streams.left (shown.pages c.args.store.now))) fresh;
+      stands_in = stands_first (g.P.Streams.left (shown.pages c.args.store.now)) c.args.lines.now fresh;
       goes = goes_nowhere (side_of g.P.Streams c.args.store.now);
       going = λ total book series told stands step scale. going_none total c.args.loader.now.name book series (g.P.Streams.left (shown.pages c.args.store.now)) c.args.lines.now c.args.loader.now (shown.view c.args.store.now) fresh c.requires.none c.requires.first c.requires.points refl step scale stands;
     }
 
 pub next-requires : goal.next-requires
-next-requires g c = c.lines.invariant.usable
+next-requires g c = record { usable = c.lines.invariant.usable; ended = c.lines.invariant.stands_in.nothing }
 
 pub returns-in_err-next-clause-known : goal.returns-in_err-next-clause-known
 returns-in_err-next-clause-known g c = known_fault c.from_residual.result c.in_err-next.field-0.0 c.from_residual.ensures.1
@@ -45,7 +47,7 @@ returns-in_err-next-clause-outcome g c = λ total book series told stands step s
     let no = c.in_err-next.ensures in
     passed_on total c.args.loader.now.name book series (g.P.Streams.left (shown.pages c.args.store.now)) (g.P.Streams.left (shown.pages c.next.new.from)) (end_of f) c.from_residual.result (shown.view c.args.store.now) (shown.view c.next.new.from) c.from_residual.ensures.1
     (fault_done total c.args.loader.now.name book series (g.P.Streams.left (shown.pages c.args.store.now)) c.lines.lines c.next.new.self (g.P.Streams.left (shown.pages c.lines.store)) (g.P.Streams.left (shown.pages c.next.new.from)) c.lines.loader f (shown.view c.args.store.now) (shown.view c.next.new.from)
-    (λ h. no.read_before (ap Err h)) (λ h. no.past_before (ap Err h)) (λ h. no.past (ap Err h)) no.left_on_err c.lines.invariant.within c.lines.invariant.counted no.total going)
+    (λ h. c.lines.invariant.stands_in.whole (no.not_ended (ap Err h))) (λ h. no.read_before (ap Err h)) (λ h. no.past_before (ap Err h)) (λ h. no.past (ap Err h)) no.left_on_err c.lines.invariant.within c.lines.invariant.counted no.total going)
 
 pub returns-in_err-next-clause-within : goal.returns-in_err-next-clause-within
 returns-in_err-next-clause-within g c = no_value c.from_residual.result (end_of c.in_err-next.field-0.0) _ c.from_residual.ensures.1
@@ -154,6 +156,7 @@ lines-preserved g c = record {
   points = omega (arith, c.take_line.ensures.more, c.lines.invariant.points, c.in_ok-next.ensures.passes (ap Ok c.in-Line.is));
   sound = c.in_ok-take_line-in-Line.ensures.sound;
   length_is = ap (input_length c.next.new.self.taken) (call_left (side_of g.P.Streams c.next.new.from) (side_of g.P.Streams c.take_line.new.store) (record { left_is = g.met.P.PageWorld.beside_left (shown.pages c.next.new.from); sent_is = g.met.P.PageWorld.beside_sent (shown.pages c.next.new.from); reads_are = g.met.P.PageWorld.beside_read_faults (shown.pages c.next.new.from); sends_are = g.met.P.PageWorld.beside_send_faults (shown.pages c.next.new.from); pieces_are = g.met.P.PageWorld.beside_pieces (shown.pages c.next.new.from) }) (record { left_is = g.met.P.PageWorld.beside_left (shown.pages c.take_line.new.store); sent_is = g.met.P.PageWorld.beside_sent (shown.pages c.take_line.new.store); reads_are = g.met.P.PageWorld.beside_read_faults (shown.pages c.take_line.new.store); sends_are = g.met.P.PageWorld.beside_send_faults (shown.pages c.take_line.new.store); pieces_are = g.met.P.PageWorld.beside_pieces (shown.pages c.take_line.new.store) }) c.take_line.ensures.carries) ∙ c.next.ensures.total ∙ c.lines.invariant.length_is;
+  stands_in = stands_beside (g.P.Streams.left (shown.pages c.args.store.now)) (g.P.Streams.left (shown.pages c.next.new.from)) (g.P.Streams.left (shown.pages c.take_line.new.store)) c.next.new.self (call_left (side_of g.P.Streams c.next.new.from) (side_of g.P.Streams c.take_line.new.store) (record { left_is = g.met.P.PageWorld.beside_left (shown.pages c.next.new.from); sent_is = g.met.P.PageWorld.beside_sent (shown.pages c.next.new.from); reads_are = g.met.P.PageWorld.beside_read_faults (shown.pages c.next.new.from); sends_are = g.met.P.PageWorld.beside_send_faults (shown.pages c.next.new.from); pieces_are = g.met.P.PageWorld.beside_pieces (shown.pages c.next.new.from) }) (record { left_is = g.met.P.PageWorld.beside_left (shown.pages c.take_line.new.store); sent_is = g.met.P.PageWorld.beside_sent (shown.pages c.take_line.new.store); reads_are = g.met.P.PageWorld.beside_read_faults (shown.pages c.take_line.new.store); sends_are = g.met.P.PageWorld.beside_send_faults (shown.pages c.take_line.new.store); pieces_are = g.met.P.PageWorld.beside_pieces (shown.pages c.take_line.new.store) }) c.take_line.ensures.carries) (c.in_ok-next.ensures.stands (g.P.Streams.left (shown.pages c.args.store.now)) c.lines.invariant.stands_in);
   goes = (goes_further (side_of g.P.Streams c.args.store.now) (side_of g.P.Streams c.next.new.from) (side_of g.P.Streams c.take_line.new.store) (goes_further (side_of g.P.Streams c.args.store.now) (side_of g.P.Streams c.lines.store) (side_of g.P.Streams c.next.new.from) c.lines.invariant.goes (goes_take (side_of g.P.Streams c.lines.store) (side_of g.P.Streams c.next.new.from) (g.met.P.PageWorld.take_keeps (shown.pages c.lines.store) (shown.pages c.next.new.from) c.next.ensures.beside.pages_are) (g.met.P.PageWorld.take_told (shown.pages c.lines.store) (shown.pages c.next.new.from) c.next.ensures.beside.pages_are) (g.met.P.PageWorld.take_was_told (shown.pages c.lines.store) (shown.pages c.next.new.from) c.next.ensures.beside.pages_are) (g.met.P.PageWorld.take_goes_on (shown.pages c.lines.store) (shown.pages c.next.new.from) c.next.ensures.beside.pages_are)
       (ap (λ (s : Superblock). s.total) c.next.ensures.beside.superblock) (ap (λ (k : Catalog). length (series_in k)) c.next.ensures.beside.catalog) c.next.ensures.sent c.next.ensures.read_faults c.next.ensures.send_faults c.next.ensures.pieces)) (goes_call (side_of g.P.Streams c.next.new.from) (side_of g.P.Streams c.take_line.new.store) (record { left_is = g.met.P.PageWorld.beside_left (shown.pages c.next.new.from); sent_is = g.met.P.PageWorld.beside_sent (shown.pages c.next.new.from); reads_are = g.met.P.PageWorld.beside_read_faults (shown.pages c.next.new.from); sends_are = g.met.P.PageWorld.beside_send_faults (shown.pages c.next.new.from); pieces_are = g.met.P.PageWorld.beside_pieces (shown.pages c.next.new.from) }) (record { left_is = g.met.P.PageWorld.beside_left (shown.pages c.take_line.new.store); sent_is = g.met.P.PageWorld.beside_sent (shown.pages c.take_line.new.store); reads_are = g.met.P.PageWorld.beside_read_faults (shown.pages c.take_line.new.store); sends_are = g.met.P.PageWorld.beside_send_faults (shown.pages c.take_line.new.store); pieces_are = g.met.P.PageWorld.beside_pieces (shown.pages c.take_line.new.store) }) c.take_line.ensures.carries));
   going = λ total book series told stands step scale.

@@ -1,6 +1,7 @@
 use Rattle.std.proofs.Common.{◌≡◌, ℕ, ◌+◌, ◌-◌, ◌^◌, ◌≤◌, List, length, IsTrue}
 use Rattle.series_book.specs.declared.one_series.Series.{Series}
 use Rattle.stored_book.specs.Standing.{StandsForBook}
+use Rattle.chart_world.specs.Fronts.{StandsIn}
 use Rattle.chart_world.specs.Reading.{unread, input_length}
 use Rattle.series_load.specs.Sides.{side, Goes}
 use Rattle.series_load.proofs.Going.{Going}
@@ -17,6 +18,7 @@ invariant-lines g l = record {
   points : l.loader.points ≤ l.lines.given;
   sound : shown.IsSound l.store;
   length_is : input_length l.lines.taken (g.P.Streams.left (shown.pages l.store)) ≡ input_length 0 (g.P.Streams.left (shown.pages l.initial.store));
+  stands_in : StandsIn (g.P.Streams.left (shown.pages l.initial.store)) l.lines (g.P.Streams.left (shown.pages l.store));
   goes : Goes (side_of g.P.Streams l.initial.store)
       (side_of g.P.Streams l.store);
   going : (total : ℕ) (book : List Series) (series : Series) → shown.IsTold l.initial.store → StandsForBook (shown.image l.initial.store) total book → l.initial.loader.step ≡ series.step → l.initial.loader.scale ≡ series.scale

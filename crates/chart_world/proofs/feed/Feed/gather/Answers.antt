@@ -5,7 +5,7 @@ use Rattle.chart_world.specs.Lines.{is_line_feed}
 use Rattle.chart_world.specs.Feed.{pending_of, given_of}
 use Rattle.chart_world.specs.Reading.{in_front_of}
 use Rattle.chart_world.proofs.Pending.{pending_full, pending_from, pending_piece}
-use Rattle.chart_world.proofs.Gathering.{found, found_rest, none_yet, left_is, pass_all, ended, ended_rest, none_left, refill_step, input_step, nothing_left, counted_rises}
+use Rattle.chart_world.proofs.Gathering.{found, found_feed, found_rest, none_there, none_yet, left_is, pass_all, ended, ended_rest, none_left, refill_step, input_step, nothing_left, counted_rises}
 use Rattle.chart_world.proofs.NextLine.{early_contains}
 use Rattle.chart_world.proofs.feed.Feed.gather.Goals.{else-before-len-via-then-before-len+else-given-before-lt-LIMIT, else-before-len-via-else-before-len}
 use Rattle.chart_world.proofs.feed.Feed.gather.Goals as goal
@@ -193,3 +193,20 @@ loop-self-preserved g c =
       took = inr (counted_rises (streams.pieces c.args.from.now) (streams.pieces c.loop-self.from) (streams.pieces c.refill.new.from) c.loop-self.invariant.pieces (c.in-Ok.ensures.piece (omega (arith, c.if-count-eq0.false))));
       beside = g.met.S.Streams.takes_then _ _ _ c.loop-self.invariant.beside c.refill.ensures.beside;
     }
+
+pub returns-then-given-before-lt-LIMIT-clause-feed : goal.returns-then-given-before-lt-LIMIT-clause-feed
+returns-then-given-before-lt-LIMIT-clause-feed g c _ =
+    let streams = g.S.Streams in
+    let told = in_front_of (pending_of c.args.self.now) (streams.left c.args.from.now) in
+    let at = c.loop-self.self in
+    let full = pending_full at.bytes.items at.start at.end at.ordered (omega (arith, at.within, at.sized, at.bytes.ok)) in
+    found_feed told (streams.left c.loop-self.from) c.loop-self.length c.line_feed-before.result at.spill.items (pending_of at) c.line_feed-before.ensures (omega (arith, full, c.if-before-len.true, c.len.ensures)) c.loop-self.invariant.partway
+
+pub returns-then-length-eq0-clause-none : goal.returns-then-length-eq0-clause-none
+returns-then-length-eq0-clause-none g c _ =
+    let streams = g.S.Streams in
+    let told = in_front_of (pending_of c.args.self.now) (streams.left c.args.from.now) in
+    let at = c.loop-self.self in
+    let full = pending_full at.bytes.items at.start at.end at.ordered (omega (arith, at.within, at.sized, at.bytes.ok)) in
+    let none = none_left (streams.left c.loop-self.from) c.in-Ok.count c.refill.new.self.bytes.items c.if-count-eq0.true c.in-Ok.ensures.given in
+    none_there told (streams.left c.loop-self.from) c.loop-self.length at.spill.items (pending_of at) (omega (arith, c.if-length-eq0.true)) (omega (arith, full, c.len-in-loop-self.ensures, c.len-in-loop-self-2.ensures, c.if-length-eq0.true)) none c.loop-self.invariant.partway

@@ -1,7 +1,8 @@
-use Rattle.std.proofs.Common.{ℕ, IfSome, ◌≡◌, ◌+◌, ◌-◌, ◌∙◌, [], Some, None, Ok, length, take, drop, ap, arith, length-drop}
+use Rattle.std.proofs.Common.{ℕ, IfSome, List, Option, sym, true, false, ◌≡◌, ◌+◌, ◌-◌, ◌∙◌, [], Some, None, Ok, length, take, drop, ap, arith, length-drop}
 use Rattle.chart_world.specs.Feed.{pending_of, Gathered}
-use Rattle.chart_world.specs.Reading.{Reading, HasLine, Took, told_lines, with_first, unread, in_front_of}
-use Rattle.block_disk.specs.Counts.{HasRisen}
+use Rattle.chart_world.specs.Reading.{Reading, HasFeed, HasLine, Took, told_lines, with_first, unread, in_front_of, behind_first, input_length}
+use Rattle.chart_world.specs.Fronts.{StandsIn}
+use Rattle.chart_world.specs.StandsLaws.{feed_pending, stands_next}
 use Rattle.chart_world.proofs.Pending.{pending_full}
 use Rattle.chart_world.proofs.NextLine.{here_lines, here_rest, gathered_long, gathered_short, no_lines, of_value}
 use Rattle.chart_world.proofs.lines.Lines.next.Goals as goal
@@ -20,13 +21,50 @@ returns-in-Some g c =
     let behind : length new.pending ≡ length (drop (before + 1) old.pending) = ap length c.give_pending.ensures.pending in
     let counted : new.taken ≡ new.given + length new.pending =
     omega (arith, whole, behind, length-drop (before + 1) old.pending, c.give_pending.ensures.taken, c.give_pending.ensures.passed, here.within) in
-    grind (
-      arith,
-      counted,
-      here_rest old.pending new.pending left before here.place here.within c.give_pending.ensures.pending,
-      here_lines old.pending left (unread new left) before (Some new.line) here.place here.within,
-      here_lines old.pending left (unread new left) before None here.place here.within,
-    )
+    let rest : unread new left ≡ behind_first (unread old left) = here_rest old.pending new.pending left before here.place here.within c.give_pending.ensures.pending in
+    let feed : HasFeed (unread old left) = feed_pending old.pending left (omega (arith, here.place, here.within)) in
+    let stands : (input : Option (List ℕ)) → StandsIn input old left → StandsIn input new left =
+    λ input at. stands_next input left left old new rest whole counted (ap (λ n. input_length n left) c.give_pending.ensures.taken)
+    (λ _. feed) (λ going. sym c.give_pending.ensures.ended ∙ going) (λ end. at.nothing (sym c.give_pending.ensures.ended ∙ end)) at in
+    let some = here_lines old.pending left (unread new left) before (Some new.line) here.place here.within in
+    let none = here_lines old.pending left (unread new left) before None here.place here.within in
+    record {
+      line = grind (arith, counted, rest, some, none);
+      too_long = grind (arith, counted, rest, some, none);
+      end = grind (arith, counted, rest, some, none);
+      rest = rest;
+      given = grind (arith, counted, rest, some, none);
+      passes = grind (arith, counted, rest, some, none);
+      passes_too_long = grind (arith, counted, rest, some, none);
+      passes_end = grind (arith, counted, rest, some, none);
+      within = grind (arith, counted, rest, some, none);
+      offset = grind (arith, counted, rest, some, none);
+      offset_too_long = grind (arith, counted, rest, some, none);
+      offset_end = grind (arith, counted, rest, some, none);
+      offset_fault = grind (arith, counted, rest, some, none);
+      no_line = grind (arith, counted, rest, some, none);
+      read_fault = grind (arith, counted, rest, some, none);
+      read_before = grind (arith, counted, rest, some, none);
+      read_within = grind (arith, counted, rest, some, none);
+      past = grind (arith, counted, rest, some, none);
+      past_before = grind (arith, counted, rest, some, none);
+      left_on_err = grind (arith, counted, rest, some, none);
+      feed = λ _. feed;
+      not_ended = grind (arith, counted, rest, some, none);
+      stands = stands;
+      usable = grind (arith, counted, rest, some, none);
+      unusable = grind (arith, counted, rest, some, none);
+      total = grind (arith, counted, rest, some, none);
+      forward = grind (arith, counted, rest, some, none);
+      waits = grind (arith, counted, rest, some, none);
+      sent = grind (arith, counted, rest, some, none);
+      send_faults = grind (arith, counted, rest, some, none);
+      read_faults = grind (arith, counted, rest, some, none);
+      quiet = grind (arith, counted, rest, some, none);
+      pieces = grind (arith, counted, rest, some, none);
+      took = grind (arith, counted, rest, some, none);
+      beside = grind (arith, counted, rest, some, none);
+    }
 
 pub returns-in-Ok-None : goal.returns-in-Ok-None
 returns-in-Ok-None g c =
@@ -36,7 +74,56 @@ returns-in-Ok-None g c =
     let pending : pending_of c.self.inside.feed ≡ c.args.self.now.pending = ap (λ (r : Reading). r.pending) c.self.view_is in
     let none : IfSome (told_lines (unread c.args.self.now left)) (λ later. later ≡ []) =
     rw (← pending) (no_lines (in_front_of (pending_of c.self.inside.feed) left) (c.gather.ensures.none (c.in-Ok-None.is ∙ ap Ok c.in-Ok-None.field-0-is))) in
-    grind (arith, full, none)
+    let counted : at.taken ≡ at.taken - (at.end - at.start) + length (pending_of at) = omega (arith, full, at.counted, at.ordered) in
+    let old = c.args.self.now in
+    let was = c.self.inside.feed in
+    let full_before = pending_full was.bytes.items was.start was.end was.ordered (omega (arith, was.within, was.sized, was.bytes.ok)) in
+    let taken = ap (λ (r : Reading). r.taken) c.self.view_is in
+    let ended = ap (λ (r : Reading). r.ended) c.self.view_is in
+    let whole : old.taken ≡ old.given + length old.pending =
+    omega (arith, full_before, was.counted, was.ordered, taken, ap (λ (r : Reading). r.given) c.self.view_is, ap length pending) in
+    let later = g.S.Streams.left c.gather.new.from in
+    let total : input_length at.taken later ≡ input_length old.taken left = rw (← taken) c.gather.ensures.total in
+    let rest : in_front_of (pending_of at) later ≡ behind_first (unread old left) = rw (← pending) c.in-Ok-None.ensures.rest in
+    let found : at.ended ≡ true = c.gather.ensures.found (c.in-Ok-None.is ∙ ap Ok c.in-Ok-None.field-0-is) in
+    let off : at.ended ≡ false → ⊥ = λ is. cc (found, is) in
+    record {
+      line = grind (arith, full, none);
+      too_long = grind (arith, full, none);
+      end = grind (arith, full, none);
+      rest = rest;
+      given = grind (arith, full, none);
+      passes = grind (arith, full, none);
+      passes_too_long = grind (arith, full, none);
+      passes_end = grind (arith, full, none);
+      within = grind (arith, full, none);
+      offset = grind (arith, full, none);
+      offset_too_long = grind (arith, full, none);
+      offset_end = grind (arith, full, none);
+      offset_fault = grind (arith, full, none);
+      no_line = grind (arith, full, none);
+      read_fault = grind (arith, full, none);
+      read_before = grind (arith, full, none);
+      read_within = grind (arith, full, none);
+      past = grind (arith, full, none);
+      past_before = grind (arith, full, none);
+      left_on_err = grind (arith, full, none);
+      feed = λ is. absurd (off is);
+      not_ended = grind (arith, full, none);
+      stands = λ input stands. stands_next input left later old _ rest whole counted total (λ is. absurd (off is)) (λ is. absurd (off is)) c.in-Ok-None.ensures.ended stands;
+      usable = grind (arith, full, none);
+      unusable = grind (arith, full, none);
+      total = grind (arith, full, none);
+      forward = grind (arith, full, none);
+      waits = grind (arith, full, none);
+      sent = grind (arith, full, none);
+      send_faults = grind (arith, full, none);
+      read_faults = grind (arith, full, none);
+      quiet = grind (arith, full, none);
+      pieces = grind (arith, full, none);
+      took = grind (arith, full, none);
+      beside = grind (arith, full, none);
+    }
 
 pub returns-in-Err : goal.returns-in-Err
 returns-in-Err g c = grind arith
@@ -58,6 +145,19 @@ returns-then-length g c =
     rw (← pending) (gathered_long told after c.in-Ok-Some.length spill c.if-length.true line c.in-Ok-Some.ensures.rest) in
     let took : (HasLine c.args.self.now → ⊥) → Took (g.S.Streams.pieces c.args.from.now) (g.S.Streams.pieces c.gather.new.from) after =
     λ none. c.in-Ok-Some.ensures.took (λ has. none (rw (← given, ← pending) has)) in
+    let old = c.args.self.now in
+    let was = c.self.inside.feed in
+    let full_before = pending_full was.bytes.items was.start was.end was.ordered (omega (arith, was.within, was.sized, was.bytes.ok)) in
+    let taken = ap (λ (r : Reading). r.taken) c.self.view_is in
+    let ended = ap (λ (r : Reading). r.ended) c.self.view_is in
+    let whole : old.taken ≡ old.given + length old.pending =
+    omega (arith, full_before, was.counted, was.ordered, taken, ap (λ (r : Reading). r.given) c.self.view_is, ap length pending) in
+    let later = g.S.Streams.left c.gather.new.from in
+    let total : input_length at.taken later ≡ input_length old.taken left = rw (← taken) c.gather.ensures.total in
+    let rest : after ≡ behind_first (unread old left) = rw (← pending) c.in-Ok-Some.ensures.rest in
+    let Feeds : ℕ → Type 0 = λ n. at.ended ≡ false → HasFeed told in
+    let feed : at.ended ≡ false → HasFeed (unread old left) = rw (← pending) (of_value Feeds c.in-Ok-Some.field-0 c.in-Ok-Some.length c.in-Ok-Some.field-0-is c.in-Ok-Some.ensures.feed) in
+    let before : at.ended ≡ false → old.ended ≡ false = λ is. sym ended ∙ c.in-Ok-Some.ensures.begun is in
     record {
       line = grind arith;
       too_long = λ _. long;
@@ -80,6 +180,9 @@ returns-then-length g c =
       past = grind arith;
       past_before = grind arith;
       left_on_err = grind arith;
+      feed = feed;
+      not_ended = grind arith;
+      stands = λ input stands. stands_next input left later old _ rest whole counted total feed before c.in-Ok-Some.ensures.ended stands;
       usable = grind arith;
       unusable = grind arith;
       total = grind arith;
@@ -111,4 +214,53 @@ returns g c =
     rw (← pending) (gathered_short told after c.in-Ok-Some.length spill (take c.text_len-end.result spill) c.if-length.false text line c.in-Ok-Some.ensures.rest) in
     let took : (HasLine c.args.self.now → ⊥) → Took (g.S.Streams.pieces c.args.from.now) (g.S.Streams.pieces c.gather.new.from) after =
     λ none. c.in-Ok-Some.ensures.took (λ has. none (rw (← given, ← pending) has)) in
-    grind (arith, counted, short, took)
+    let old = c.args.self.now in
+    let was = c.self.inside.feed in
+    let full_before = pending_full was.bytes.items was.start was.end was.ordered (omega (arith, was.within, was.sized, was.bytes.ok)) in
+    let taken = ap (λ (r : Reading). r.taken) c.self.view_is in
+    let ended = ap (λ (r : Reading). r.ended) c.self.view_is in
+    let whole : old.taken ≡ old.given + length old.pending =
+    omega (arith, full_before, was.counted, was.ordered, taken, ap (λ (r : Reading). r.given) c.self.view_is, ap length pending) in
+    let later = g.S.Streams.left c.gather.new.from in
+    let total : input_length at.taken later ≡ input_length old.taken left = rw (← taken) c.gather.ensures.total in
+    let rest : after ≡ behind_first (unread old left) = rw (← pending) c.in-Ok-Some.ensures.rest in
+    let Feeds : ℕ → Type 0 = λ n. at.ended ≡ false → HasFeed told in
+    let feed : at.ended ≡ false → HasFeed (unread old left) = rw (← pending) (of_value Feeds c.in-Ok-Some.field-0 c.in-Ok-Some.length c.in-Ok-Some.field-0-is c.in-Ok-Some.ensures.feed) in
+    let before : at.ended ≡ false → old.ended ≡ false = λ is. sym ended ∙ c.in-Ok-Some.ensures.begun is in
+    record {
+      line = λ _. short;
+      too_long = grind arith;
+      end = grind arith;
+      rest = rest;
+      given = counted;
+      passes = grind arith;
+      passes_too_long = grind arith;
+      passes_end = grind arith;
+      within = grind arith;
+      offset = grind arith;
+      offset_too_long = grind arith;
+      offset_end = grind arith;
+      offset_fault = grind arith;
+      no_line = grind arith;
+      read_fault = grind arith;
+      read_before = grind arith;
+      read_within = grind arith;
+      past = grind arith;
+      past_before = grind arith;
+      left_on_err = grind arith;
+      feed = feed;
+      not_ended = grind arith;
+      stands = λ input stands. stands_next input left later old _ rest whole counted total feed before c.in-Ok-Some.ensures.ended stands;
+      usable = grind arith;
+      unusable = grind arith;
+      total = grind arith;
+      forward = grind arith;
+      waits = grind arith;
+      sent = grind arith;
+      send_faults = grind arith;
+      read_faults = grind arith;
+      quiet = grind arith;
+      pieces = grind arith;
+      took = took;
+      beside = grind arith;
+    }
