@@ -374,15 +374,18 @@ sends_then told told' told'' old mid new under under' under'' s s' s'' first sec
 }
 
 -- why a page wasn't read is why the values below it weren't sent
-pub page_send_cause : (e : StoreError) (told : Type 0) (old new : View) (total level below page : ℕ) (top : Option Span) → level ≡ suc below → page ≢ 0 → IsPageCause e told old new total level page top → IsSendCause (send_error_of e) told old new total level page top
-page_send_cause (store.Refused refusal) told old new total level below page top is some bad = tt
-page_send_cause store.NotAStore told old new total level below page top is some bad = tt
-page_send_cause store.DiskFault told old new total level below page top is some bad = bad
-page_send_cause (store.Damaged at) told old new total level below page top is some bad = λ t.
-    let P : ℕ → Type 0 = λ l. HasUnfitPage old.image total l page top at in
-    let B : ℕ → Type 0 = λ l. IsBadFor total l top (old.image page) in
-    subst P (sym is) (inl (some, bad.0, subst B is (bad.1 t)))
-page_send_cause store.NoMemory told old new total level below page top is some bad = tt
+pub page_send_cause : (e : StoreError) (told : Type 0) (old new : View) (total level below page : ℕ) (top : Option Span) → level ≡ suc below → page ≢ 0 → page < total → IsPageCause e told old new total level page top → IsSendCause (send_error_of e) told old new total level page top
+page_send_cause (store.Refused refusal) told old new total level below page top is some low bad = tt
+page_send_cause store.NotAStore told old new total level below page top is some low bad = tt
+page_send_cause store.DiskFault told old new total level below page top is some low bad = bad
+page_send_cause (store.Damaged at) told old new total level below page top is some low bad = (
+  omega (arith, bad.0, low),
+  λ t.
+      let P : ℕ → Type 0 = λ l. HasUnfitPage old.image total l page top at in
+      let B : ℕ → Type 0 = λ l. IsBadFor total l top (old.image page) in
+      subst P (sym is) (inl (some, bad.0, subst B is (bad.1 t))),
+)
+page_send_cause store.NoMemory told old new total level below page top is some low bad = tt
 
 risen_later : (old mid new : ℕ) → old ≤ mid → HasRisen mid new → HasRisen old new
 risen_later old mid new more risen = elim risen [
@@ -409,8 +412,11 @@ pub child_send_cause : (e : SendError) (told told' : Type 0) (old mid new under 
     → IsSendCause e told' mid new s'.total below number part → IsSendCause e told old new s.total level page top
 child_send_cause SendFault told told' old mid new under under' s s' level below page number child top part bytes spans sends is some within is_child is_part read split bad = risen_later old.beside.send_faults mid.beside.send_faults new.beside.send_faults sends.send_faults bad
 child_send_cause DiskFault told told' old mid new under under' s s' level below page number child top part bytes spans sends is some within is_child is_part read split bad = risen_later old.faults mid.faults new.faults sends.faults bad
-child_send_cause (Damaged at) told told' old mid new under under' s s' level below page number child top part bytes spans sends is some within is_child is_part read split bad = λ t.
-    unfit_child old.image mid.image s.total s'.total level below page number child at top part bytes spans (sends.image t) (ap (λ (x : Superblock). x.total) sends.superblock) is some within is_child is_part (read t) split (bad (sends.told t))
+child_send_cause (Damaged at) told told' old mid new under under' s s' level below page number child top part bytes spans sends is some within is_child is_part read split bad =
+    let same : s'.total ≡ s.total = ap (λ (x : Superblock). x.total) sends.superblock in (
+      omega (arith, bad.0, same),
+      λ t. unfit_child old.image mid.image s.total s'.total level below page number child at top part bytes spans (sends.image t) same is some within is_child is_part (read t) split (bad.1 (sends.told t)),
+    )
 child_send_cause NoMemory told told' old mid new under under' s s' level below page number child top part bytes spans sends is some within is_child is_part read split bad = tt
 
 -- the ranges of a page's children follow one another

@@ -126,9 +126,9 @@ part_on_error text list front waits old new (Err x) e is sent = given_some (fron
 pub series_cause : (e : SendError) (told : Type 0) (s : Superblock) (id : ℕ) (one : StoredSeries) (old new : View) → (told → entry old.image id ≡ entry_of one) → IsSendCause e told old new s.total (page_levels one.tree.slots) one.tree.root one.tree.span → IsSeriesCause e told s id old new
 series_cause SendFault told s id one old new is cause = cause
 series_cause DiskFault told s id one old new is cause = cause
-series_cause (Damaged at) told s id one old new is cause = λ t.
+series_cause (Damaged at) told s id one old new is cause =
     let P : Entry → Type 0 = λ e. HasUnfitPage old.image s.total (page_levels e.slots) e.root e.span at in
-    subst P (sym (is t)) (cause t)
+    (cause.0, λ t. subst P (sym (is t)) (cause.1 t))
 series_cause NoMemory told s id one old new is cause = cause
 
 pub series_cause_by : (r : Result (Unit {0}) SendError) (told : Type 0) (s : Superblock) (id : ℕ) (one : StoredSeries) (old new : View) → (told → entry old.image id ≡ entry_of one) → IfErr r (λ e. IsSendCause e told old new s.total (page_levels one.tree.slots) one.tree.root one.tree.span) → IfErr r (λ e. IsSeriesCause e told s id old new)

@@ -93,11 +93,11 @@ HasUnfitPage image total (suc level) page top at =
     ⊎ ((page ≢ 0) × (spans : ℕ → Option Span) × (child : ℕ) × AreBelow top (image page) spans × (child < 128)
     × HasUnfitPage image total level (child_at (image page) child) (spans (127 + child)) at)
 
--- why not all values of the tree below a page of this page level were sent
+-- why not all values of the tree below a page of this page level were sent; a page that is named is below the total
 abbrev pub IsSendCause : SendError → Type 0 → View → View → ℕ → ℕ → ℕ → Option Span → Type 0
 IsSendCause SendFault told old new total level page top = HasRisen old.beside.send_faults new.beside.send_faults
 IsSendCause DiskFault told old new total level page top = HasRisen old.faults new.faults
-IsSendCause (Damaged at) told old new total level page top = told → HasUnfitPage old.image total level page top at
+IsSendCause (Damaged at) told old new total level page top = (at < total) × (told → HasUnfitPage old.image total level page top at)
 IsSendCause NoMemory told old new total level page top = Unit {0}
 
 -- the same of the tree that the record of the series of this id names

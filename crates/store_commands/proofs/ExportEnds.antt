@@ -27,7 +27,6 @@ use Rattle.series_store.specs.declared.send_errors.SendError.{SendError}
 use Rattle.series_store.specs.declared.send_errors.SendError.TheVariants.{SendFault, DiskFault, Damaged, NoMemory}
 use Rattle.disk_store.specs.Held.{HoldsBook}
 use Rattle.disk_store.specs.Openings.{Opens}
-use Rattle.stored_book.specs.Damage.{SaysNumbers}
 use Rattle.stored_book.specs.Records.{entry}
 use Rattle.stored_book.specs.Standing.{StandsForBook, book_pages, RecoversTo}
 use Rattle.stored_book.proofs.CurrentLemmas.{recovers_new}
@@ -35,7 +34,8 @@ use Rattle.chart_service.specs.MomentLaws.{since_none}
 use Rattle.chart_service.proofs.DiskKept.{risen_since}
 use Rattle.store_commands.specs.Books.{Never, LeavesSame, SendsPartOf}
 use Rattle.store_commands.specs.Codes.{low_of_four}
-use Rattle.store_commands.specs.Exported.{ExportEnds, ExportsAll, ExportsPart, IsBadInTree}
+use Rattle.store_commands.specs.Damaged.{IsDamagedLater}
+use Rattle.store_commands.specs.Exported.{ExportEnds, ExportsAll, ExportsPart, IsBadForExport}
 use Rattle.store_commands.specs.Exporting.{ExportsStore, export_status}
 use Rattle.store_commands.specs.Loaded.{OfSeries}
 use Rattle.store_commands.specs.Status.{status}
@@ -136,7 +136,7 @@ module _ (name : List ℕ) (window : Option Window) (count count' : ℕ) (sound 
       all total book series holds.honest stands (subst P (one_id (id_of name book) named.id id named.id_is (found total book holds.honest stands)) named.there)
 
   ended : (before now : Option (List ℕ)) (sends sends_now : ℕ) (end : Status) → Contains (0 ∷ 3 ∷ 5 ∷ 6 ∷ 7 ∷ 14 ∷ []) end.code → (end.code ≡ 14 → ⊥) → (end.code ≡ 0 → ExportsAll name window count old before now) → (end.code ≡ 5 → HasRisen sends sends_now) → ExportsPart name window count old before now
-      → (end.code ≡ 6 → HasRisen old.faults new.faults) → (end.code ≡ 7 → IsBadInTree count old end.place) → (end.code ≡ 7 → Never count old) → (Contains (0 ∷ 3 ∷ 5 ∷ 6 ∷ []) end.code → end.place ≡ 0)
+      → (end.code ≡ 6 → HasRisen old.faults new.faults) → (end.code ≡ 7 → IsDamagedLater IsBadForExport count old end.place) → (end.code ≡ 7 → Never count old) → (Contains (0 ∷ 3 ∷ 5 ∷ 6 ∷ []) end.code → end.place ≡ 0)
       → OfId (λ book series. new.reads ≤ old.reads + series_pages series.slots) → ExportsStore name window count old new before now sends sends_now end
   ended before now sends sends_now end codes other done send part fault damaged undamaged zero_place reads = record {
     codes = codes;
@@ -156,15 +156,15 @@ module _ (name : List ℕ) (window : Option Window) (count count' : ℕ) (sound 
     goes_on = kept.goes_on;
   }
 
-  pub series_sent : (before now : Option (List ℕ)) (sends sends_now : ℕ) (answer : Result (Unit {0}) SendError) → old.beside.send_faults ≡ sends → new.beside.send_faults ≡ sends_now → id < s.series → (Honest old → Keeps count s (pages_of count old.image 0))
+  pub series_sent : (before now : Option (List ℕ)) (sends sends_now : ℕ) (answer : Result (Unit {0}) SendError) → old.beside.send_faults ≡ sends → new.beside.send_faults ≡ sends_now → id < s.series → s.total ≤ count → (Honest old → Keeps count s (pages_of count old.image 0))
       → OfId (λ book series. OnOk answer (now ≡ sent_after (export_text series window) before)) → OfId (λ book series. OnErr answer (PartSent (export_text series window) before now))
       → OfId (λ book series. IfErr answer IsNoDamage) → IfErr answer (λ e. IsSeriesCause e (Honest old) s id (pages_view count sound old) (pages_view count' sound' new))
       → OfId (λ book series. new.reads ≤ old.reads + series_pages series.slots) → ExportsStore name window count old new before now sends sends_now (export_status answer)
-  series_sent before now sends sends_now (Ok done) was is_now within spelled sent part no_damage cause reads =
+  series_sent before now sends sends_now (Ok done) was is_now within few spelled sent part no_damage cause reads =
       ended before now sends sends_now (status 0 0) (0, omega arith, refl) (λ is. omega (arith, is)) (λ is. of_id (λ book series. now ≡ sent_after (export_text series window) before) sent) (λ is. absurd (omega (arith, is)))
       (λ total book holds series named. all_sent (export_text series window) before now (of_id (λ book series. now ≡ sent_after (export_text series window) before) sent total book holds series named))
       (λ is. absurd (omega (arith, is))) (λ is. absurd (omega (arith, is))) (λ is. absurd (omega (arith, is))) (λ is. refl) reads
-  series_sent before now sends sends_now (Err e) was is_now within spelled sent part no_damage cause reads =
+  series_sent before now sends sends_now (Err e) was is_now within few spelled sent part no_damage cause reads =
       let front : ExportsPart name window count old before now = λ total book holds series named.
       part_sent (export_text series window) before now (of_id (λ book series. PartSent (export_text series window) before now) part total book holds series named) in
       by_error e front no_damage cause
@@ -181,12 +181,14 @@ module _ (name : List ℕ) (window : Option Window) (count count' : ℕ) (sound 
           (λ is. cause) (λ is. absurd (omega (arith, is))) (λ is. absurd (omega (arith, is))) (λ is. refl) reads
       by_error (Damaged page) front no_damage cause =
           let image = pages_of count old.image in
-          let bad : IsBadInTree count old (66 + page) = record {
+          let bad : IsDamagedLater IsBadForExport count old (66 + page) = record {
             page = page;
             place_is = refl;
+            within = omega (arith, cause.0, few);
             bad = λ honest.
-                let B : Image → Type 0 = λ i. SaysNumbers count i (λ s. HasBadTree i s page) in
-                subst B (sym (rests.current honest)) (record { numbers = s; keeps = spelled honest; so = record { id = id; within = within; bad = unfit_bad image s.total (entry image id).slots (page_levels (entry image id).slots) 0 (entry image id).root (entry image id).span page (cause honest) } });
+                let B : Image → Type 0 = λ i. IsBadForExport count i page in
+                let tree : HasBadTree image s page = record { id = id; within = within; bad = unfit_bad image s.total (entry image id).slots (page_levels (entry image id).slots) 0 (entry image id).root (entry image id).span page (cause.1 honest) } in
+                subst B (sym (rests.current honest)) (record { numbers = s; keeps = spelled honest; so = (cause.0, tree) });
           } in
           let never : Never count old = λ total book holds. elim (named_or name book) [
             | inl none ↦ both (id_of name book) id (found total book holds.honest (stands_held count total book old rests holds)) none
@@ -237,12 +239,13 @@ last_of_two code other (suc zero, inside, is) = sym is
 last_of_two code other (suc (suc k), inside, is) = absurd (omega (arith, inside))
 
 -- a page that is bad once the store is open was so before
-tree_before : (count : ℕ) (old mid : View) (place : ℕ) → (Honest old → Honest mid) → (Honest old → book_pages count mid.image ≡ book_pages count old.image) → IsBadInTree count mid place → IsBadInTree count old place
+tree_before : (count : ℕ) (old mid : View) (place : ℕ) → (Honest old → Honest mid) → (Honest old → book_pages count mid.image ≡ book_pages count old.image) → IsDamagedLater IsBadForExport count mid place → IsDamagedLater IsBadForExport count old place
 tree_before count old mid place honest_then pages bad = record {
   page = bad.page;
   place_is = bad.place_is;
+  within = bad.within;
   bad = λ honest.
-      let P : Image → Type 0 = λ image. SaysNumbers count image (λ s. HasBadTree image s bad.page) in
+      let P : Image → Type 0 = λ image. IsBadForExport count image bad.page in
       subst P (pages honest) (bad.bad (honest_then honest));
 }
 

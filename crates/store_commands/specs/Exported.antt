@@ -2,7 +2,7 @@
 use Rattle.std.specs.Prelude.{◌≡◌, ℕ, ◌+◌, ◌<◌, ◌≤◌, ◌⊎◌, List, [], ◌∷◌, Contains, Option}
 use Rattle.block_disk.specs.Counts.{HasRisen}
 use Rattle.block_disk.specs.Streams.{sent_after}
-use Rattle.block_disk.specs.View.{View, Honest}
+use Rattle.block_disk.specs.View.{Image, View}
 use Rattle.gate_pages.specs.Journal.{page_count}
 use Rattle.gate_pages.specs.Pages.{GoesOn}
 use Rattle.series_book.specs.Pages.{series_pages}
@@ -10,10 +10,9 @@ use Rattle.series_export.specs.Exports.{export_text}
 use Rattle.series_export.specs.declared.window.Window.{Window}
 use Rattle.series_store.specs.Counting.{HasBadTree}
 use Rattle.disk_store.specs.Held.{HoldsBook}
-use Rattle.stored_book.specs.Standing.{book_pages}
 use Rattle.stored_book.specs.Damage.{SaysNumbers}
 use Rattle.store_commands.specs.Books.{OfBook, Never, LeavesSame, SendsPartOf}
-use Rattle.store_commands.specs.Damaged.{IsDamagedAtFirst}
+use Rattle.store_commands.specs.Damaged.{IsDamagedAtFirst, IsDamagedLater}
 use Rattle.store_commands.specs.Loaded.{OfSeries, Unnamed}
 
 -- the text of the series of this name was sent, in the window if there is one
@@ -32,11 +31,13 @@ HasNone count disk name = OfSeries count disk name (λ total book series. ⊥)
 abbrev pub ReadsSeries : List ℕ → ℕ → View → View → Type 0
 ReadsSeries name count old new = OfSeries count old name (λ total book series. new.reads ≤ old.reads + 200 + series_pages series.slots)
 
--- the block is a page of a tree, by the numbers that page 0 says, that is bad for its place
-pub record IsBadInTree (count : ℕ) (disk : View) (place : ℕ) : Type 0 where
-  pub page : ℕ
-  pub place_is : place ≡ 66 + page
-  pub bad : Honest disk → SaysNumbers count (book_pages count disk.image) (λ s. HasBadTree (book_pages count disk.image) s page)
+-- the page is below the total that page 0 says, and is one of a tree that is bad for its place
+abbrev pub IsBadForExport : ℕ → Image → ℕ → Type 0
+IsBadForExport count image page = SaysNumbers count image (λ s. (page < s.total) × HasBadTree image s page)
+
+-- the block is such a page
+abbrev pub IsBadInTree : ℕ → View → ℕ → Type 0
+IsBadInTree count disk place = IsDamagedLater IsBadForExport count disk place
 
 -- no store was opened, and nothing was sent; or a page was found bad as the series was read
 abbrev pub IsDamagedForExport : View → Option (List ℕ) → Option (List ℕ) → ℕ → Type 0

@@ -12,7 +12,8 @@ use Rattle.series_store.specs.declared.send_errors.SendError.TheVariants.{SendFa
 use Rattle.disk_store.specs.Held.{HoldsBook}
 use Rattle.store_commands.specs.declared.status.Status.{Status}
 use Rattle.store_commands.specs.Books.{OfBook, Never, LeavesSame}
-use Rattle.store_commands.specs.Exported.{ExportsAll, ExportsPart, HasNone, IsBadInTree}
+use Rattle.store_commands.specs.Damaged.{IsDamagedLater}
+use Rattle.store_commands.specs.Exported.{ExportsAll, ExportsPart, HasNone, IsBadForExport}
 use Rattle.store_commands.specs.Loaded.{OfSeries, Unnamed}
 use Rattle.store_commands.specs.Status.{status}
 use Rattle.store_commands.specs.Traffic.{Traffic}
@@ -32,7 +33,7 @@ pub record ExportsStore (name : List ℕ) (window : Option Window) (count : ℕ)
   pub send : end.code ≡ 5 → HasRisen sends sends_now
   pub part : ExportsPart name window count old before now
   pub fault : end.code ≡ 6 → HasRisen old.faults new.faults
-  pub damaged : end.code ≡ 7 → IsBadInTree count old end.place
+  pub damaged : end.code ≡ 7 → IsDamagedLater IsBadForExport count old end.place
   pub undamaged : end.code ≡ 7 → Never count old
   pub unknown : end.code ≡ 14 → (end.place ≡ 8) × HasNone count old name
   pub unnamed : Unnamed count old name (λ total book. end.code ≡ 14)

@@ -51,7 +51,7 @@ returns-in_err-read_page-clause-cause g t c =
     let U : SendError → Type 0 = λ e. IsSendCause e (g.P.Pages.told c.args.space.now.pages) (g.P.Pages.view c.args.space.now.pages) (g.P.Pages.view c.read_page.new.space.pages) c.args.space.now.superblock.total c.args.level c.args.page c.args.top in
     let T : Option Span → Type 0 = λ top. IsSendCause (send_error_of c.in_err-read_page.field-0.0) (g.P.Pages.told c.args.space.now.pages) (g.P.Pages.view c.args.space.now.pages) (g.P.Pages.view c.read_page.new.space.pages) c.args.space.now.superblock.total c.args.level c.args.page top in
     error_so _ U c.from_residual.result c.from_residual.ensures.1
-    (λ e same. subst U (sym same) (subst T (sym c.in-Some.is) (page_send_cause c.in_err-read_page.field-0.0 (g.P.Pages.told c.args.space.now.pages) (g.P.Pages.view c.args.space.now.pages) (g.P.Pages.view c.read_page.new.space.pages) c.args.space.now.superblock.total c.args.level (c.args.level - 1) c.args.page (Some c.in-Some.span) is some c.in_err-read_page.ensures.cause)))
+    (λ e same. subst U (sym same) (subst T (sym c.in-Some.is) (page_send_cause c.in_err-read_page.field-0.0 (g.P.Pages.told c.args.space.now.pages) (g.P.Pages.view c.args.space.now.pages) (g.P.Pages.view c.read_page.new.space.pages) c.args.space.now.superblock.total c.args.level (c.args.level - 1) c.args.page (Some c.in-Some.span) is some c.requires.page c.in_err-read_page.ensures.cause)))
 
 pub returns-in_err-read_page-clause-part : goal.returns-in_err-read_page-clause-part
 returns-in_err-read_page-clause-part g t c = λ list told slots tree top.

@@ -47,7 +47,7 @@ returns-clause-exports g c =
     (series_sent name window pages.count end_pages.count pages.sound end_pages.sound (view disk) (view new) (shown.numbers before) (shown.numbers after) e.sends (rests_new pages.count (view disk) (shown.numbers before) (pages.at_rest c.requires) (before.space.spelled c.requires)) closed c.in-Some.info.id
     (λ total book honest stands. (c.in-Some.ensures.info total book c.requires honest stands).0)
     (sent disk) (sent new) (sends disk) (sends new) answer (w.beside_send_faults disk) (w.beside_send_faults new)
-    (omega (arith, c.in-Some.ensures.there, before.count))
+    (omega (arith, c.in-Some.ensures.there, before.count)) before.space.rules.total_high
     (λ honest. record { spelled = before.space.spelled c.requires honest; rules = before.space.rules })
     (λ total book series honest stands there. e.sent total book series honest stands there)
     (λ total book series honest stands there. e.part total book series honest stands there)
