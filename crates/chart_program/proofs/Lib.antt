@@ -6,6 +6,7 @@ pub mod Codes
 pub mod Counts
 pub mod DiskKept
 pub mod Running
+pub mod ShownFrames
 pub mod Telling
 pub mod Parsing
 pub mod Ended

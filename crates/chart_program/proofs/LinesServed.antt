@@ -3,8 +3,10 @@ use Rattle.std.proofs.Common.{◌≡◌, ℕ, ◌+◌, ◌≤◌, ◌^◌, Bool,
 use Rattle.std.specs.Prelude.{OnOk, IfErr}
 use Rattle.block_disk.specs.View.{Image, View, Honest, sent_now}
 use Rattle.chart_world.specs.LineLaws.{told_so}
-use Rattle.chart_client.specs.Showing.{ScreenGives}
+use Rattle.chart_client.specs.Showing.{RejectsBytes, ScreenGives}
+use Rattle.chart_client.specs.declared.errors.ClientError.{ClientError}
 use Rattle.chart_client.specs.declared.errors.ClientError.TheVariants as client
+use Rattle.chart_frames.specs.Frames.{spelling}
 use Rattle.chart_client.specs.declared.holding.Holding.{Holding}
 use Rattle.gate_pages.specs.GatePages.{IsClosed, pages_view}
 use Rattle.gate_pages.specs.Journal.{pages_of}
@@ -24,10 +26,10 @@ use Rattle.chart_service.specs.declared.failure.ServeEnd.TheVariants as serve_en
 use Rattle.chart_service.specs.MomentLaws.{since_none}
 use Rattle.chart_program.specs.declared.run_end.RunEnd.{RunEnd}
 use Rattle.chart_program.specs.declared.run_end.RunEnd.TheVariants as run_end
-use Rattle.chart_program.specs.Runs.{AreShown, AreShownFrom, EndsRun, EndsAtBad, IsShown}
+use Rattle.chart_program.specs.Runs.{AreShown, AreShownFrom, EndsRun, EndsAtBad}
 use Rattle.stored_book.specs.Damage.{IsBadForRequest}
 use Rattle.store_commands.specs.Damaged.{IsDamagedLater}
-use Rattle.chart_program.specs.Served.{Says, Spelled, AreTexts, Faults, AnswersAll, EndsServing, EndsLines, LeavesBooks, IsAheadOn, IsLinesCause, ReadsFrom, SyncsFrom, ServesLines, served}
+use Rattle.chart_program.specs.Served.{Says, Spelled, AreTexts, Faults, AnswersAll, EndsServing, EndsLines, LeavesBooks, IsAheadOn, IsLinesCause, IsRejected, ReadsFrom, SyncsFrom, ServesLines, served}
 use Rattle.store_commands.specs.Books.{OfBook, HoldsAgain, begun}
 use Rattle.store_commands.proofs.HoldsAgain.{again_from}
 use Rattle.chart_program.proofs.Counts.{reads_none, syncs_none}
@@ -35,9 +37,9 @@ use Rattle.chart_program.proofs.Lowering.{crash_for, serve_ends, serve_again, te
 use Rattle.store_commands.proofs.Damages.{later_bad}
 use Rattle.store_commands.proofs.Held.{RestsNew, stands_held, from_book}
 use Rattle.chart_service.proofs.Sending.{stands_on}
-use Rattle.chart_program.specs.Known.{EndsKnown}
+use Rattle.chart_program.specs.Known.{EndsKnown, ShowStops, ShowsBy}
 use Rattle.chart_program.proofs.Knowing.{holds_of, never_unknown}
-use Rattle.chart_program.proofs.Telling.{OneFrame, AllDraw, OneLacks, Numbered, any_texts, texts_all}
+use Rattle.chart_program.proofs.Telling.{OneFrame, AllDraw, OneLacks, Numbered, any_texts, texts_all, screen_accepts}
 use Rattle.chart_service.specs.Telling.{ahead_told}
 use Rattle.chart_program.proofs.World.{SaysNothing, some_none, ahead_none}
 
@@ -232,25 +234,34 @@ module _ (count count' : ℕ) (sound sound' : Bool) (old new : View) (left left'
         let LV : List Holding → Type 0 = λ w. RunLasts w own in
         run_alone answer h (subst S alone starts) (subst D alone (subst DV none done)) within (subst E alone (subst EV none ends)) (subst L alone (subst LV none lasts)) closed cause reads syncs
 
--- the causes of a run over a screen
-pub run_cause : OneFrame → Numbered → (count count' : ℕ) (old new : View) (faults : Faults) (end : RunEnd) → count' ≡ count
-    → (end ≡ run_end.Serve serve_end.ReadFault → IsLinesCause (Unit {0}) count old new faults (run_end.Serve serve_end.ReadFault)) → (end ≡ run_end.Serve serve_end.SendFault → IsLinesCause (Unit {0}) count old new faults (run_end.Serve serve_end.SendFault)) → (end ≡ run_end.Serve serve_end.DiskFault → IsLinesCause (Unit {0}) count old new faults (run_end.Serve serve_end.DiskFault))
-    → EndsAtBad (Honest new) count' (pages_of count' new.image) end → IsShown ScreenGives end → EndsKnown ScreenGives holds_of end → IsLinesCause (Unit {0}) count old new faults end
-run_cause one law count count' old new faults (run_end.Serve end) same read send disk bad shown known =
-    serve_cause count count' old new faults (Unit {0}) end same (λ e. read (ap run_end.Serve e)) (λ e. send (ap run_end.Serve e)) (λ e. disk (ap run_end.Serve e)) bad
-run_cause one law count count' old new faults (run_end.Show (client.Missing key)) same read send disk bad shown known =
-    (tt, law shown.3.0.frame shown.0 (client.Missing key) shown.3.0.rejects, record { frame = shown.3.0.frame; held = shown.0; rejects = shown.3.0.rejects })
-run_cause one law count count' old new faults (run_end.Show (client.BadCoefficient key)) same read send disk bad shown known =
-    (tt, law shown.3.0.frame shown.0 (client.BadCoefficient key) shown.3.0.rejects, record { frame = shown.3.0.frame; held = shown.0; rejects = shown.3.0.rejects })
-run_cause one law count count' old new faults (run_end.Show (client.UnknownSession number)) same read send disk bad shown known = never_unknown one number known
-run_cause one law count count' old new faults (run_end.Show client.NoMemory) same read send disk bad shown known = tt
+-- a screen that held nothing was given frames, and rejects the next one
+rejected : OneFrame → (e : ClientError) (v w : List Holding) (own : List Session) (before now : Option (List ℕ)) → v ≡ [] → (stops : ShowStops ScreenGives v w own before now e) → RejectsBytes (spelling stops.frame) e stops.last → IsRejected e
+rejected one e v w own before now none stops bytes =
+    let S : List Holding → Type 0 = λ h. AreShown ScreenGives h stops.last [] stops.given.frames stops.given.text in
+    let all = screen_accepts one [] stops.given.frames stops.given.text [] stops.last stops.given.fits (subst S none stops.given.shown) in
+    record { frames = stops.given.frames; drawings = all.0; held = stops.last; accepted = all.1; frame = bytes.frame; rejects = bytes.rejects }
 
-pub run_causes : {T : Type 0} → OneFrame → Numbered → (count count' : ℕ) (old new : View) (faults : Faults) (answer : Result T RunEnd) → count' ≡ count
+-- the causes of a run over a screen
+pub run_cause : OneFrame → Numbered → (count count' : ℕ) (old new : View) (faults : Faults) (v w : List Holding) (own : List Session) (before now : Option (List ℕ)) (end : RunEnd) → v ≡ [] → count' ≡ count
+    → (end ≡ run_end.Serve serve_end.ReadFault → IsLinesCause (Unit {0}) count old new faults (run_end.Serve serve_end.ReadFault)) → (end ≡ run_end.Serve serve_end.SendFault → IsLinesCause (Unit {0}) count old new faults (run_end.Serve serve_end.SendFault)) → (end ≡ run_end.Serve serve_end.DiskFault → IsLinesCause (Unit {0}) count old new faults (run_end.Serve serve_end.DiskFault))
+    → EndsAtBad (Honest new) count' (pages_of count' new.image) end → ShowsBy {T = Unit {0}} ScreenGives v w own before now (Err end) → EndsKnown ScreenGives holds_of end → IsLinesCause (Unit {0}) count old new faults end
+run_cause one law count count' old new faults v w own before now (run_end.Serve end) none same read send disk bad shown known =
+    serve_cause count count' old new faults (Unit {0}) end same (λ e. read (ap run_end.Serve e)) (λ e. send (ap run_end.Serve e)) (λ e. disk (ap run_end.Serve e)) bad
+run_cause one law count count' old new faults v w own before now (run_end.Show (client.Missing key)) none same read send disk bad shown known =
+    let bytes = shown.fails.0 in
+    (tt, law bytes.frame shown.last (client.Missing key) bytes.rejects, rejected one (client.Missing key) v w own before now none shown bytes)
+run_cause one law count count' old new faults v w own before now (run_end.Show (client.BadCoefficient key)) none same read send disk bad shown known =
+    let bytes = shown.fails.0 in
+    (tt, law bytes.frame shown.last (client.BadCoefficient key) bytes.rejects, rejected one (client.BadCoefficient key) v w own before now none shown bytes)
+run_cause one law count count' old new faults v w own before now (run_end.Show (client.UnknownSession number)) none same read send disk bad shown known = never_unknown one number known
+run_cause one law count count' old new faults v w own before now (run_end.Show client.NoMemory) none same read send disk bad shown known = tt
+
+pub run_causes : {T : Type 0} → OneFrame → Numbered → (count count' : ℕ) (old new : View) (faults : Faults) (v w : List Holding) (own : List Session) (before now : Option (List ℕ)) (answer : Result T RunEnd) → v ≡ [] → count' ≡ count
     → (answer ≡ Err (run_end.Serve serve_end.ReadFault) → IsLinesCause (Unit {0}) count old new faults (run_end.Serve serve_end.ReadFault)) → (answer ≡ Err (run_end.Serve serve_end.SendFault) → IsLinesCause (Unit {0}) count old new faults (run_end.Serve serve_end.SendFault)) → (answer ≡ Err (run_end.Serve serve_end.DiskFault) → IsLinesCause (Unit {0}) count old new faults (run_end.Serve serve_end.DiskFault))
-    → IfErr answer (EndsAtBad (Honest new) count' (pages_of count' new.image)) → IfErr answer (IsShown ScreenGives) → IfErr answer (EndsKnown ScreenGives holds_of) → IfErr answer (IsLinesCause (Unit {0}) count old new faults)
-run_causes one law count count' old new faults (Ok v) same read send disk bad shown known = tt
-run_causes one law count count' old new faults (Err end) same read send disk bad shown known =
-    run_cause one law count count' old new faults end same (λ is. read (ap Err is)) (λ is. send (ap Err is)) (λ is. disk (ap Err is)) bad shown known
+    → IfErr answer (EndsAtBad (Honest new) count' (pages_of count' new.image)) → IfErr answer (λ end. ShowsBy {T = Unit {0}} ScreenGives v w own before now (Err end)) → IfErr answer (EndsKnown ScreenGives holds_of) → IfErr answer (IsLinesCause (Unit {0}) count old new faults)
+run_causes one law count count' old new faults v w own before now (Ok done) none same read send disk bad shown known = tt
+run_causes one law count count' old new faults v w own before now (Err end) none same read send disk bad shown known =
+    run_cause one law count count' old new faults v w own before now end none same (λ is. read (ap Err is)) (λ is. send (ap Err is)) (λ is. disk (ap Err is)) bad shown known
 
 -- want of memory for a service or a screen
 pub made_none : {T : Type 0} (IsText : Says) (CanShow : Type 0) (count : ℕ) (at : View) (left before : Option (List ℕ)) (faults : Faults) → SaysNothing IsText → ServesLines {T = T} IsText CanShow count at at left left before before faults (Err (run_end.Serve serve_end.NoMemory))

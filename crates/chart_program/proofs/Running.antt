@@ -29,7 +29,7 @@ use Rattle.chart_program.specs.declared.run_end.RunEnd.TheVariants.{Serve, Show}
 
 module _ {V : Type 0} (gives : Gives V) where
   -- texts that are made are those of what is shown
-  made_shown : (v w : V) (lines : List (Option (List ℕ))) (frames : List Frame) (text : List ℕ) → AreMade (MakesText gives) v w lines frames text → AreShown gives v w lines frames text
+  pub made_shown : (v w : V) (lines : List (Option (List ℕ))) (frames : List Frame) (text : List ℕ) → AreMade (MakesText gives) v w lines frames text → AreShown gives v w lines frames text
   made_shown v w lines [] text all = all
   made_shown v w lines (f ∷ fs) text all =
       (all.3.0, all.1, all.2, all.3.1, all.4 ∙ ap (λ t. t ++ all.2) all.3.2, made_shown all.1 w lines fs all.2 all.5)

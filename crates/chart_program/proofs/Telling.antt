@@ -1,6 +1,7 @@
 -- What a run over a screen sends: the texts of the replies, with the pictures of the book.
-use Rattle.std.proofs.Common.{◌≡◌, ℕ, List, [], ◌∷◌, ◌++◌, length, Option, Some, None, Result, Ok, Err, IfSome, IfErr, OnOk, refl, ap, subst, inr, sym, ◌∙◌}
+use Rattle.std.proofs.Common.{◌≡◌, ℕ, List, [], ◌∷◌, ◌++◌, length, Option, Some, None, Result, Ok, Err, IfSome, IfErr, OnOk, All, refl, ap, subst, inr, sym, ◌∙◌, arith}
 use Rattle.std.specs.List.{filter}
+use Rattle.std.proofs.lemmas.List.Elements.{All-tail}
 use Rattle.line_raster.specs.Canvas.{Canvas}
 use Rattle.zoom_session.specs.declared.session.Session.{Session}
 use Rattle.chart_world.specs.LineLaws.{lines_none}
@@ -48,6 +49,15 @@ screen_draws one all (l ∷ ls) (f ∷ fs) text old new h h' replied shown =
       (shown.1, subst A (sym same) shown.3.1, later.1),
       shown.4 ∙ ap (λ g. text_of g shown.0.bitmap (length (spelling f)) ++ shown.2) (sym same) ∙ ap (λ t. text_of f shown.0.bitmap (length (spelling f)) ++ t) later.2,
     )
+
+-- and so of any frames whose fields meet their rules
+pub screen_accepts : OneFrame → (all : List (Option (List ℕ))) (frames : List Frame) (text : List ℕ) (h h' : List Holding) → All Fits frames → AreShown ScreenGives h h' all frames text → (drawings : List (Option Canvas)) × AcceptsAll h frames drawings h'
+screen_accepts one all [] text h h' fits shown = ([], shown.1)
+screen_accepts one all (f ∷ fs) text h h' fits shown =
+    let later = screen_accepts one all fs shown.2 shown.1 h' (All-tail Fits f fs fits) shown.5 in
+    let same : f ≡ shown.0.frame = shown_frame one f shown.0.frame (fits 0 f (omega arith)) shown.3.0 in
+    let A : Frame → Type 0 = λ g. Accepts g shown.0.bitmap h shown.1 in
+    (shown.0.bitmap ∷ later.0, (shown.1, subst A (sym same) shown.3.1, later.1))
 
 -- a client that holds no lists mirrors a service without sessions
 mirrors_none : (start : State) → start.sessions ≡ [] → Mirrors start.sessions []

@@ -34,7 +34,7 @@ use Rattle.store_commands.specs.Books.{FromBook, HoldsAgain, Never, LeavesSame}
 use Rattle.store_commands.specs.Loaded.{Unnamed, LoadsAll, LoadsAndSendsPart, LoadsSome, LoadsToBad, LoadsTaken, LoadsWithin, RefusesSet, LeavesLoads, LeavesUnnamed}
 use Rattle.store_commands.specs.Checked.{SendsCounts, SendsCountsPart, IsBadForCheck}
 use Rattle.store_commands.specs.Listed.{SendsList, SendsListPart, ReadsOpening}
-use Rattle.store_commands.specs.Exported.{ExportsAll, ExportsPart, HasNone, IsBadInTree, ReadsSeries}
+use Rattle.store_commands.specs.Exported.{ExportsAll, ExportsPart, HasNone, IsBadForExport, ReadsSeries}
 use Rattle.store_commands.specs.Demonstrated.{SendsSummary, SendsSummaryPart, AnswersFirst, LeavesDemo}
 use Rattle.demo_workload.specs.Ending.{MeetsError}
 use Rattle.demo_workload.specs.Workload.{workload}
@@ -275,7 +275,7 @@ IsDamaged (Load name) old new place = IsDamagedPlace IsBadForEdit old new place
 IsDamaged (Demo seed rounds) old new place = IsDamagedPlace IsBadForRequest old new place
 IsDamaged Check old new place = IsDamagedPlace IsBadForCheck old old place
 IsDamaged ListSeries old new place = IsDamagedAtFirst old place
-IsDamaged (Export name window) old new place = IsDamagedAtFirst old place ⊎ IsBadInTree (page_count old.size) old place
+IsDamaged (Export name window) old new place = IsDamagedPlace IsBadForExport old old place
 IsDamaged Retain old new place = IsDamagedPlace IsBadForRequest old new place
 IsDamaged Live old new place = IsDamagedPlace IsBadForRequest old new place
 IsDamaged Derive old new place = IsDamagedPlace IsBadForRequest old new place

@@ -1,5 +1,5 @@
 -- What a serving command says to the lines of its input, over the book that its disk holds, and what it leaves.
-use Rattle.std.specs.Prelude.{◌≡◌, ◌≢◌, ℕ, ◌+◌, ◌-◌, ◌^◌, ◌<◌, ◌≤◌, List, length, Option, IfSome, Result, Ok, Err, OnOk, IfErr, ⊤}
+use Rattle.std.specs.Prelude.{◌≡◌, ◌≢◌, ℕ, ◌+◌, ◌-◌, ◌^◌, ◌<◌, ◌≤◌, List, [], length, Option, IfSome, Result, Ok, Err, OnOk, IfErr, ⊤}
 use Rattle.block_disk.specs.Counts.{HasRisen}
 use Rattle.block_disk.specs.View.{Image, View, sent_now}
 use Rattle.chart_client.specs.Accepting.{Rejects}
@@ -21,7 +21,7 @@ use Rattle.chart_service.specs.Syncing.{SyncsLines}
 use Rattle.chart_service.specs.Serving.{AreSpelled, SendsText, SendsFrontOf, SendsTaken, SendsWithin, SendsSome, SendsLines}
 use Rattle.chart_service.specs.declared.failure.ServeEnd.{ServeEnd}
 use Rattle.chart_service.specs.declared.failure.ServeEnd.TheVariants as serve_end
-use Rattle.drawn_replies.specs.Pictures.{ArePictured}
+use Rattle.drawn_replies.specs.Pictures.{AcceptsAll, ArePictured}
 use Rattle.chart_program.specs.declared.lines_end.LinesEnd.{LinesEnd}
 use Rattle.chart_program.specs.declared.lines_end.LinesEnd.TheVariants as lines_end
 use Rattle.chart_program.specs.declared.run_end.RunEnd.{RunEnd}
@@ -121,10 +121,13 @@ SyncsServing old new input = (opened : ℕ) × (opened ≤ old.syncs + 7) × Syn
 
 -- ---- frames that can't be used
 
--- a frame was given to a client that rejects it so
+-- a client that held nothing accepted some frames one after the other, and rejects the next one so
 pub record IsRejected (e : ClientError) : Type 0 where
-  pub frame : Frame
+  pub frames : List Frame
+  pub drawings : List (Option Canvas)
   pub held : List Holding
+  pub accepted : AcceptsAll [] frames drawings held
+  pub frame : Frame
   pub rejects : Rejects frame e held
 
 -- ---- how a serving command ends

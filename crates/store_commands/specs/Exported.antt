@@ -35,13 +35,9 @@ ReadsSeries name count old new = OfSeries count old name (λ total book series. 
 abbrev pub IsBadForExport : ℕ → Image → ℕ → Type 0
 IsBadForExport count image page = SaysNumbers count image (λ s. (page < s.total) × HasBadTree image s page)
 
--- the block is such a page
-abbrev pub IsBadInTree : ℕ → View → ℕ → Type 0
-IsBadInTree count disk place = IsDamagedLater IsBadForExport count disk place
-
 -- no store was opened, and nothing was sent; or a page was found bad as the series was read
 abbrev pub IsDamagedForExport : View → Option (List ℕ) → Option (List ℕ) → ℕ → Type 0
-IsDamagedForExport old before now place = (IsDamagedAtFirst old place × (now ≡ before)) ⊎ IsBadInTree (page_count old.size) old place
+IsDamagedForExport old before now place = (IsDamagedAtFirst old place × (now ≡ before)) ⊎ IsDamagedLater IsBadForExport (page_count old.size) old place
 
 -- What an export sent and left, and why it ended, by the status.
 pub record ExportEnds (name : List ℕ) (window : Option Window) (old new : View) (before now : Option (List ℕ)) (sends sends_now code place : ℕ) : Type 0 where

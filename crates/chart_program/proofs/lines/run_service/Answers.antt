@@ -7,6 +7,8 @@ use Rattle.chart_program.specs.declared.run_end.RunEnd.TheVariants.{Serve}
 use Rattle.chart_program.specs.Served.{AreTexts, faults_of, ServesLines}
 use Rattle.chart_program.proofs.Counts.{reads_served, syncs_served}
 use Rattle.chart_program.proofs.LinesServed.{run_made, run_causes, made_none}
+use Rattle.chart_client.specs.Showing.{ScreenGives}
+use Rattle.chart_program.proofs.ShownFrames.{stopped_shown}
 use Rattle.chart_program.proofs.Telling.{texts_none}
 use Rattle.chart_program.proofs.Knowing.{holds_of, screen_follows, known_first}
 use Rattle.store_commands.proofs.Held.{rests_new}
@@ -41,7 +43,8 @@ returns-in-Ok g c =
     let all = run_made pages.count end_pages.count pages.sound end_pages.sound (view disk) (view new) (left disk) (left new) (sent disk) (sent new) faults after.sessions made.serves.size made.serves.told made.goes_on made.serves.faults rests
     c.one_frame_a_spelling.ensures c.replies_draw_the_book.ensures c.clients_draw_the_book.ensures.accepts c.run_on-answer.result c.in-Ok.screen c.run_on-answer.new.show own c.in-Ok.ensures c.requires.alone
     (λ total book told stands. c.is_sound.ensures.state total book c.requires.sound told stands) made.done made.within made.ends made.crash closed
-    (run_causes c.one_frame_a_spelling.ensures law.numbered pages.count end_pages.count (view disk) (view new) faults c.run_on-answer.result made.serves.size made.read made.send made.disk made.bad made.shown
+    (run_causes c.one_frame_a_spelling.ensures law.numbered pages.count end_pages.count (view disk) (view new) faults c.in-Ok.screen c.run_on-answer.new.show own (sent disk) (sent new) c.run_on-answer.result c.in-Ok.ensures made.serves.size made.read made.send made.disk made.bad
+    (stopped_shown ScreenGives c.in-Ok.screen c.run_on-answer.new.show own (sent disk) (sent new) c.run_on-answer.result made.named)
     (made.known holds_of (screen_follows change.others change.opened change.viewed c.one_frame_a_spelling.ensures) (known_first c.in-Ok.screen own c.requires.alone)))
     (reads_served (left disk) pages.count (view disk) (view new) own rests c.requires.alone made.reads)
     (syncs_served (left disk) pages.count (view disk) (view new) (pieces disk) (pieces new) rests (g.met.W.World.beside_pieces disk) (g.met.W.World.beside_pieces new) made.syncs) in

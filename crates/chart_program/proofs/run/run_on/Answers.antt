@@ -4,9 +4,10 @@ use Rattle.chart_service.specs.Answering.{SendsAll}
 use Rattle.chart_service.specs.Shown as shown
 use Rattle.chart_service.specs.declared.failure.ServeEnd.TheVariants.{ReadFault, SendFault, DiskFault}
 use Rattle.chart_service.proofs.Sending.{ok_so}
-use Rattle.chart_program.specs.Known.{EndsKnown}
+use Rattle.chart_program.specs.Known.{EndsKnown, ShowsBy}
 use Rattle.chart_program.specs.Runs.{AreShown, RunEndsBy, EndsAtBad, IsShown, run_answer}
 use Rattle.chart_program.proofs.Running.{done_shown, ends_shown, lasts_shown, run_fault, run_bad, run_shown, run_known, run_ok, follows, all_follow, all_known}
+use Rattle.chart_program.proofs.ShownFrames.{named_shown}
 use Rattle.chart_program.proofs.run.run_on.Goals as goal
 
 pub returns-clause-done : goal.returns-clause-done
@@ -78,3 +79,13 @@ returns-clause-bad g c =
 
 pub returns-clause-sound : goal.returns-clause-sound
 returns-clause-sound g c = λ other. c.answer_lines-answer.ensures.sound (λ is. other (c.of_answers.ensures ∙ ap run_answer is))
+
+pub returns-clause-named : goal.returns-clause-named
+returns-clause-named g c =
+    let gives = g.V.Show.gives in
+    let old = c.args.service.now in
+    let new = c.answer_lines-answer.new.service in
+    let before = g.P.Streams.sent (shown.pages old) in
+    let now = g.P.Streams.sent (shown.pages new) in
+    subst (λ r. ShowsBy gives c.args.show.now c.answer_lines-answer.new.kept old.sessions before now r) (sym c.of_answers.ensures)
+    (named_shown gives c.args.show.now c.answer_lines-answer.new.kept old.sessions before now new.sessions c.answer_lines-answer.result c.answer_lines-answer.ensures.gives)
