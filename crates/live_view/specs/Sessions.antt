@@ -1,5 +1,5 @@
 -- Which sessions are open, and which have had a view.
-use Rattle.std.specs.Prelude.{ℕ, ◌≡◌, is_some, List, All, IsTrue, filter}
+use Rattle.std.specs.Prelude.{ℕ, ◌≡◌, Bool, is_some, List, All, IsTrue, filter}
 use Rattle.chart_frames.specs.declared.frame.Frame.{Frame}
 use Rattle.chart_frames.specs.Opened.{opens}
 use Rattle.zoom_session.specs.declared.session.Session.{Session}
