@@ -7,7 +7,7 @@ use Rattle.series_book.specs.declared.one_series.Series.{Series}
 use Rattle.zoom_session.specs.declared.session.Session.{Session}
 use Rattle.chart_service.specs.Making.{Makes, AreMade, LinesDone, LinesStop, LinesMoments}
 use Rattle.chart_service.specs.Moments.{IsAhead, Since, Through}
-use Rattle.chart_service.specs.ReadingBlocks.{ReadsLines}
+use Rattle.chart_service.specs.ReadingBlocks.{ReadsFirst, ReadsLines}
 use Rattle.chart_service.specs.Serving.{AnswersNext, SendsText, SendsFirst, SendsFrontOf, SendsTaken, SendsWithin, SendsSome, SendsLines, EndsServe}
 use Rattle.chart_service.specs.Serving as serving
 use Rattle.chart_service.specs.Shown as shown
@@ -112,6 +112,10 @@ abbrev pub ReadsByLines : {P : Type 0} {g : Ghosts P} → (P → Option (List �
 ReadsByLines left total book old new =
     IfSome (left (shown.pages old)) (λ input. ReadsLines input (shown.state old total book) (shown.view old).reads (shown.view new).reads)
 
+-- the first of these lines does
+abbrev pub ReadsAsFirst : {P : Type 0} {g : Ghosts P} → List (Option (List ℕ)) → ℕ → List Series → Service P g → Service P g → Type 0
+ReadsAsFirst lines total book old new = ReadsFirst lines (shown.state old total book) (shown.view old).reads (shown.view new).reads
+
 -- the lines of the input sync no more often than they may, where the pieces are counted
 abbrev pub SyncsByLines : {P : Type 0} {g : Ghosts P} → (P → Option (List ℕ)) → (P → ℕ) → ℕ → List Series → Service P g → Service P g → Type 0
 SyncsByLines left pieces total book old new =
@@ -121,3 +125,7 @@ SyncsByLines left pieces total book old new =
 abbrev pub LeavesBy : {P : Type 0} {g : Ghosts P} {S F : Type 0} → Makes S F → S → List (Option (List ℕ)) → ℕ → List Series → Service P g → Service P g → Type 0
 LeavesBy makes kept lines total book old new =
     Through (shown.view old) (shown.view new) (LinesMoments makes kept lines (shown.state old total book) (sent_now (shown.view old)))
+
+-- the same where the bytes sent are told
+abbrev pub LeavesTold : {P : Type 0} {g : Ghosts P} {S F : Type 0} → (P → Option (List ℕ)) → Makes S F → S → List (Option (List ℕ)) → ℕ → List Series → Service P g → Service P g → Type 0
+LeavesTold sent makes kept lines total book old new = IfSome (sent (shown.pages old)) (λ bytes. LeavesBy makes kept lines total book old new)

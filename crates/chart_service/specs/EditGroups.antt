@@ -1,5 +1,5 @@
 -- Edits that are done together, and the lines that spell them.
-use Rattle.std.specs.Prelude.{ℕ, ◌≡◌, ◌+◌, ◌≤◌, List, [], ◌∷◌, ◌++◌, length, map, take, Option, None, Some, Result, Ok, Err, ⊤}
+use Rattle.std.specs.Prelude.{ℕ, ◌≡◌, ◌+◌, ◌*◌, ◌≤◌, List, [], ◌∷◌, ◌++◌, length, map, take, Option, None, Some, Result, Ok, Err, ⊤}
 use Rattle.block_disk.specs.View.{Image}
 use Rattle.chart_world.specs.Fronts.{IsWhole}
 use Rattle.std.specs.List.{before_first}
@@ -107,6 +107,10 @@ SpellEdits [] [] = ⊤
 SpellEdits [] (edit ∷ edits) = ⊥
 SpellEdits (line ∷ later) [] = ⊥
 SpellEdits (line ∷ later) (edit ∷ edits) = SpellsEdit line edit × SpellEdits later edits
+
+-- at most 96 blocks are read for each frame more
+abbrev pub ReadsByFrames : List Frame → List Frame → ℕ → ℕ → Type 0
+ReadsByFrames before now old new = new + 96 * length before ≤ old + 96 * length now
 
 -- so of all lines that spell these edits
 abbrev pub SpelledBy : List Edit → (List (Option (List ℕ)) → Type 0) → Type 0

@@ -8,11 +8,10 @@ ghost use Rattle.series_book.specs.Edits.{IsEdit};
 ghost use Rattle.series_book.specs.EditLists.{after_edits};
 ghost use Rattle.series_store.specs.Results.{IsUnchanged};
 ghost use Rattle.stored_book.specs.Standing.{StandsForBook};
-ghost use Rattle.chart_service.specs.Answering.{SendsAll, EndsBy, LastsBy, ReadsByLines, SyncsByLines, EndsAtBad, AnswersOn, StopsOn, LeavesBy};
+ghost use Rattle.chart_service.specs.Answering.{SendsAll, EndsBy, LastsBy, ReadsByLines, SyncsByLines, EndsAtBad, AnswersOn, StopsOn, LeavesBy, LeavesTold, ReadsAsFirst};
 ghost use Rattle.chart_service.specs.Knowing.{Follows, KnowsOpen, EndsKnown};
 ghost use Rattle.chart_service.specs.EditGroups.{IsEditReply, SpelledBy};
 ghost use Rattle.chart_service.specs.Making.{AreMade, AreMadeFrom, FrameSent, FrameStops, FramesCut, FramesMoments, FramesSent, IsReplyEnd, FrameMoments};
-ghost use Rattle.chart_service.specs.ReadingBlocks.{ReadsFirst};
 ghost use Rattle.chart_service.specs.Serving.{KeepsPages, Serves, most_ahead, unless_empty};
 ghost use Rattle.chart_service.specs.Shown as shown;
 ghost use Rattle.chart_service.specs.Syncing.{edit_of, group_syncs};
@@ -88,7 +87,7 @@ fn answer_edits<P: PageWorld, S, F, R: Reply<S, F>>(
     requires are_edits { All IsEdit edits.now }
     ensures done { SpelledBy edits.now (λ lines. shown.ForBook service.old (λ total book. OnOk result (AnswersOn P.sent R.makes lines kept.old kept.new total book service.old service.new))) }
     ensures stops { SpelledBy edits.now (λ lines. shown.ForBook service.old (λ total book. IfErr result (StopsOn P.sent R.makes lines kept.old kept.new total book service.old service.new))) }
-    ensures moments { SpelledBy edits.now (λ lines. shown.ForBook service.old (λ total book. IfSome (P.sent (shown.pages service.old)) (λ _. LeavesBy R.makes kept.old lines total book service.old service.new))) }
+    ensures moments { SpelledBy edits.now (λ lines. shown.ForBook service.old (λ total book. LeavesTold P.sent R.makes kept.old lines total book service.old service.new)) }
     ensures reads { shown.ForBook service.old (λ total book. (shown.view service.new).reads ≤ (shown.view service.old).reads + 96 * length edits.now) }
     ensures rises { (shown.view service.old).reads ≤ (shown.view service.new).reads }
     ensures syncs { shown.ForBook service.old (λ total book. (shown.view service.new).syncs ≤ (shown.view service.old).syncs + group_syncs total book edits.now) }
@@ -158,7 +157,7 @@ fn answer_line<P: PageWorld, S, F, R: Reply<S, F>>(
     ensures done { shown.ForBook service.old (λ total book. OnOk result (AnswersOn P.sent R.makes (unless_empty (Some line.now)) kept.old kept.new total book service.old service.new)) }
     ensures stops { shown.ForBook service.old (λ total book. IfErr result (StopsOn P.sent R.makes (unless_empty (Some line.now)) kept.old kept.new total book service.old service.new)) }
     ensures moments { shown.ForBook service.old (λ total book. LeavesBy R.makes kept.old (unless_empty (Some line.now)) total book service.old service.new) }
-    ensures reads { shown.ForBook service.old (λ total book. ReadsFirst (unless_empty (Some line.now)) (shown.state service.old total book) (shown.view service.old).reads (shown.view service.new).reads) }
+    ensures reads { shown.ForBook service.old (λ total book. ReadsAsFirst (unless_empty (Some line.now)) total book service.old service.new) }
     ensures idle { edit_of (Some line.now) ≡ [] → IsUnchanged (shown.IsTold service.old) (shown.view service.old) (shown.view service.new) }
     ensures known { (knows : S → ℕ → Bool) → Follows R.makes knows → KnowsOpen knows kept.old service.old.sessions → OnOk result (KnowsOpen knows kept.new service.new.sessions) }
     ensures named { (knows : S → ℕ → Bool) → Follows R.makes knows → KnowsOpen knows kept.old service.old.sessions → IfErr result (EndsKnown R.makes knows) }

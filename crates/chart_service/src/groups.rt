@@ -7,7 +7,7 @@ ghost use Rattle.series_book.specs.declared.limits.TheConstants.{MOST_SLOTS};
 ghost use Rattle.series_book.specs.Books.{IsNamed};
 ghost use Rattle.series_book.specs.Edits.{IsEdit};
 ghost use Rattle.series_store.specs.Groups.{HaveFewSlots, answer_of};
-ghost use Rattle.chart_service.specs.EditGroups.{AnswersSome, DoesSome, IsAfterSome, IsEditReply, IsOfGroup, RepliesToEdits, frame_of, frames_of, group_end};
+ghost use Rattle.chart_service.specs.EditGroups.{AnswersSome, DoesSome, IsAfterSome, IsEditReply, IsOfGroup, ReadsByFrames, RepliesToEdits, frame_of, frames_of, group_end};
 ghost use Rattle.chart_service.specs.Serving.{most_ahead};
 ghost use Rattle.chart_service.specs.Stepping.{IsOutside, NamesBad};
 ghost use Rattle.chart_service.specs.Syncing.{group_syncs};
@@ -73,7 +73,7 @@ impl<P: Pages> Service<P> {
         ensures left { shown.ForBook self.old (λ total book. result ≢ Err ServiceError.DiskFault → IsAfterSome total book edits.now (shown.image self.new)) }
         ensures moments { shown.ForBook self.old (λ total book. shown.PassesTo (IsAfterSome total book edits.now) self.old self.new) }
         ensures reads { shown.ForBook self.old (λ total book. (shown.view self.new).reads ≤ (shown.view self.old).reads + 96 * length edits.now) }
-        ensures few_reads { shown.ForBook self.old (λ total book. OnOk result ((shown.view self.new).reads + 96 * length frames.old.items ≤ (shown.view self.old).reads + 96 * length frames.new.items)) }
+        ensures few_reads { shown.ForBook self.old (λ total book. OnOk result (ReadsByFrames frames.old.items frames.new.items (shown.view self.old).reads (shown.view self.new).reads)) }
         ensures syncs { (shown.view self.new).syncs ≤ (shown.view self.old).syncs + 4 }
         ensures more { OnOk result (length frames.old.items < length frames.new.items) }
         ensures most { OnOk result (length frames.new.items ≤ length frames.old.items + length edits.now) }

@@ -12,8 +12,12 @@ use Rattle.m4_groups.specs.Rows.{AreRowsOf, AreRising, columns_of}
 use Rattle.plain_chart.specs.declared.sample.Sample.{Sample}
 use Rattle.plain_chart.specs.Samples.{sample_points}
 use Rattle.whole_number.specs.Range.{IsValue}
+use Rattle.derived_chart.specs.Searches.{IsBestOf}
+use Rattle.derived_chart.specs.Sums.{AreSums}
 use Rattle.derived_chart.specs.declared.derived_error.DerivedError.{DerivedError}
 use Rattle.derived_chart.specs.declared.derived_error.DerivedError.TheVariants.{TooLarge, Node, NoMemory}
+use Rattle.derived_chart.specs.declared.searches.Best.TheVariants.{Least, Greatest}
+use Rattle.derived_chart.specs.declared.sum.Sum.{Sum}
 
 -- the time is the first at which a sample has a value that no series can hold
 pub record IsFirstTooLarge (samples : List Sample) (time : ℤ) : Type 0 where
@@ -61,6 +65,14 @@ abbrev pub IsRowIfAny : List (Option ℤ) → ℕ → ℕ → Option Row → Typ
 IsRowIfAny sums p q None = IsClear sums p q
 IsRowIfAny sums p q (Some r) = IsRowIn sums p q r
 
+-- what was found of the sums of these slots: the first with its slot, the last one, the least and the greatest
+pub record AreFound (sums : List (Option ℤ)) (p q : ℕ) (first : ℕ × ℤ) (last : Option (ℕ × ℤ)) (least greatest : Option ℤ) : Type 0 where
+  pub small : AreValues sums p q
+  pub first_is : IsFirstStored sums p q (Some first)
+  pub last_is : IsLastStored sums p q last
+  pub least_is : IsBestOf Least sums p q least
+  pub greatest_is : IsBestOf Greatest sums p q greatest
+
 -- the slots from p on and below q are those of column c
 abbrev pub AreColumn : Axis → Grid → ℕ → ℕ → ℕ → Type 0
 AreColumn axis g c p q = (i : ℕ) → IsInColumn axis g c i ↔ ((p ≤ i) × (i < q))
@@ -86,3 +98,7 @@ pub record AreRowsBelow (axis : Axis) (g : Grid) (sums : List (Option ℤ)) (n :
 -- no sum in a column is too large
 abbrev pub AreColumnValues : Axis → Grid → List (Option ℤ) → Type 0
 AreColumnValues axis g sums = (c i : ℕ) (v : ℤ) → IsInColumn axis g c i → Holds sums i v → IsValue v
+
+-- so of the sums of two lists that are so, where none of them in a column is too large
+abbrev pub ForColumnSums : Axis → Grid → Sum → (List (Option ℤ) → List (Option ℤ) → Type 0) → (List (Option ℤ) → Type 0) → Type 0
+ForColumnSums axis g sum Are IsSo = (xs ys sums : List (Option ℤ)) → Are xs ys → AreSums sum xs ys sums → AreColumnValues axis g sums → IsSo sums

@@ -25,6 +25,13 @@ pub record IsReadAt (list : List (Option ℤ)) (base : ℤ) (count to i : ℕ) (
 abbrev pub AreReadBelow : List (Option ℤ) → ℤ → ℕ → ℕ → List (Option ℤ) → Type 0
 AreReadBelow list base count to slots = (i : ℕ) (v : ℤ) → (entry slots i ≡ Some v) ↔ IsReadAt list base count to i v
 
+-- as far as they lie before the key's range, or before its end
+abbrev pub AreReadBefore : List (Option ℤ) → ℤ → ℕ → Key → List (Option ℤ) → Type 0
+AreReadBefore list base count k slots = AreReadBelow list base count (first_slot k) slots
+
+abbrev pub AreReadThrough : List (Option ℤ) → ℤ → ℕ → Key → List (Option ℤ) → Type 0
+AreReadThrough list base count k slots = AreReadBelow list base count (end_slot k) slots
+
 -- the array has at its first `count` places what the list's slots from `base` on hold, and nothing else
 abbrev pub AreRead : List (Option ℤ) → ℤ → ℕ → List (Option ℤ) → Type 0
 AreRead list base count slots = (i : ℕ) (v : ℤ) → (entry slots i ≡ Some v) ↔ ((i < count) × HoldsAt list (base +ℤ pos i) v)

@@ -1,12 +1,9 @@
 //! The row of a column.
-ghost use Rattle.std.specs.Prelude.{◌≡◌, ℤ, ◌+◌, ◌<◌, ◌≤◌, ◌^◌, List, Option, Some, IfOk, IfErr, IfSome, ℕ, false, ◌≤ℤ◌};
+ghost use Rattle.std.specs.Prelude.{◌≡◌, ℤ, ◌+◌, ◌<◌, ◌≤◌, ◌^◌, List, Option, IfOk, IfErr, IfSome, ℕ, false, ◌≤ℤ◌};
 ghost use Rattle.whole_number.specs.Range.{IsValue};
-ghost use Rattle.om3_coeff.specs.Walks.{IsFirstStored, IsLastStored};
 ghost use Rattle.m4_groups.specs.Heights.{IsDrawable};
-ghost use Rattle.derived_chart.specs.Rows.{AreValues, IsRowIn, IsRowIfAny};
-ghost use Rattle.derived_chart.specs.Searches.{IsBestOf};
+ghost use Rattle.derived_chart.specs.Rows.{AreFound, AreValues, IsRowIn, IsRowIfAny};
 ghost use Rattle.derived_chart.specs.Sums.{AreSums, IsSmall};
-ghost use Rattle.derived_chart.specs.declared.searches.Best.TheVariants.{Least, Greatest};
 
 use crate::ends::{first_sum, last_sum};
 use crate::searches::{Best, best_sum};
@@ -56,7 +53,7 @@ fn row_of(
 ) -> Row
     ensures column { result.column ≡ column }
     ensures drawable { IsDrawable (column + 1) result }
-    ensures row { (sums : List (Option ℤ)) (p q : ℕ) → AreValues sums p q → IsFirstStored sums p q (Some first.now) → IsLastStored sums p q last.now → IsBestOf Least sums p q least.now → IsBestOf Greatest sums p q greatest.now → IsRowIn sums p q result }
+    ensures row { (sums : List (Option ℤ)) (p q : ℕ) → AreFound sums p q first.now last.now least.now greatest.now → IsRowIn sums p q result }
 {
     let low = sum_or(least, &first.1);
     let high = sum_or(greatest, &first.1);

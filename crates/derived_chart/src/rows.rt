@@ -4,8 +4,8 @@ ghost use Rattle.m4_groups.specs.Heights.{IsDrawable};
 ghost use Rattle.m4_groups.specs.Rows.{AreRising};
 ghost use Rattle.plain_chart.specs.Samples.{kept};
 ghost use Rattle.derived_chart.specs.Lists.{sums_of};
-ghost use Rattle.derived_chart.specs.Rows.{IsAnswer, IsCause, IsRowCause, AreShown, AreRowsBelow, AreColumnValues};
-ghost use Rattle.derived_chart.specs.Sums.{AreSums, IsSmall};
+ghost use Rattle.derived_chart.specs.Rows.{IsAnswer, IsCause, IsRowCause, AreShown, AreRowsBelow, ForColumnSums};
+ghost use Rattle.derived_chart.specs.Sums.{IsSmall};
 
 use crate::column_row::row_of_column;
 use crate::derived_error::DerivedError;
@@ -77,7 +77,7 @@ fn rows_of_columns<T: TwoTrees>(
     requires few { axis.slots ≤ 2 ^ 35 }
     requires step { 0 < axis.step }
     requires small { IsSmall sum }
-    ensures rows { (xs ys sums : List (Option ℤ)) → T.are trees.old xs ys → AreSums sum xs ys sums → AreColumnValues axis grid sums → IfOk result (λ rows. AreRowsBelow axis grid sums grid.w rows.items) }
+    ensures rows { ForColumnSums axis grid sum (T.are trees.old) (λ sums. IfOk result (λ rows. AreRowsBelow axis grid sums grid.w rows.items)) }
     ensures shown { IfOk result (λ rows. AreShown grid.w grid.w rows.items) }
     ensures fit { (T.view trees.new).fit }
     ensures goes { T.goes trees.old trees.new }
@@ -105,7 +105,7 @@ fn add_column<T: TwoTrees>(
     requires step { 0 < axis.step }
     requires small { IsSmall sum }
     requires drawn { column < grid.w }
-    ensures rows { (xs ys sums : List (Option ℤ)) → T.are trees.old xs ys → AreSums sum xs ys sums → AreColumnValues axis grid sums → AreRowsBelow axis grid sums column rows.old.items → OnOk result (AreRowsBelow axis grid sums (column + 1) rows.new.items) }
+    ensures rows { ForColumnSums axis grid sum (T.are trees.old) (λ sums. AreRowsBelow axis grid sums column rows.old.items → OnOk result (AreRowsBelow axis grid sums (column + 1) rows.new.items)) }
     ensures shown { AreShown grid.w column rows.old.items → OnOk result (AreShown grid.w (column + 1) rows.new.items) }
     ensures fit { (T.view trees.new).fit }
     ensures goes { T.goes trees.old trees.new }

@@ -1,10 +1,10 @@
 //! The values of a few slots in a row, read by one walk.
 ghost use Rattle.std.specs.Prelude.{◌≡◌, ℤ, true, false, ◌+◌, ◌^◌, ◌*◌, ◌<◌, ◌≤◌, ◌≤ℤ◌, ◌<ℤ◌, ◌+ℤ◌, pos, List, Option, Some, IfOk, IfErr, OnOk, length, unsigned_abs};
 ghost use Rattle.whole_number.specs.Range.{IsValue};
-ghost use Rattle.om3_coeff.specs.Keys.{first_slot, end_slot};
+ghost use Rattle.om3_coeff.specs.Keys.{end_slot};
 ghost use Rattle.om3_coeff.specs.View.{Agrees, HasCause};
 ghost use Rattle.om3_coeff.specs.Walks.{IsReached};
-ghost use Rattle.derived_chart.specs.Slots.{AreRead, AreReadBelow, HasValues, IsApart, IsEmpty, IsPut, Meets};
+ghost use Rattle.derived_chart.specs.Slots.{AreRead, AreReadBefore, AreReadThrough, HasValues, IsApart, IsEmpty, IsPut, Meets};
 ghost use Rattle.derived_chart.specs.Sums.{one_of};
 
 use crate::trees::TwoTrees;
@@ -61,7 +61,7 @@ fn read_below<N: Nodes>(
     requires few { count ≤ 128 }
     requires base { unsigned_abs base.now ≤ 5 * 10 ^ 18 }
     requires room { count ≤ length slots.old }
-    ensures list { (list : List (Option ℤ)) → Agrees (N.view nodes.old) list → AreReadBelow list base.now count (first_slot key) slots.old → OnOk result (AreReadBelow list base.now count (end_slot key) slots.new) }
+    ensures list { (list : List (Option ℤ)) → Agrees (N.view nodes.old) list → AreReadBefore list base.now count key slots.old → OnOk result (AreReadThrough list base.now count key slots.new) }
     ensures values { HasValues slots.old → HasValues slots.new }
     ensures room { length slots.new ≡ length slots.old }
     ensures fit { (N.view nodes.new).fit }

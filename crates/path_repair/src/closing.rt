@@ -1,10 +1,9 @@
 //! A page that was changed is put, or given back where nothing is stored below it.
-ghost use Rattle.std.specs.Prelude.{Bool, ◌≡◌, ◌≢◌, ◌<◌, ◌≤◌, ◌+◌, ◌⊎◌, ℕ, ℤ, suc, Option, List, length};
+ghost use Rattle.std.specs.Prelude.{◌≡◌, ◌≢◌, ◌<◌, ◌≤◌, ◌+◌, ◌⊎◌, ℕ, ℤ, suc, Option, List, length};
 ghost use Rattle.block_disk.specs.View.{Image};
 ghost use Rattle.om3_coeff.specs.Spans.{IsProperIfAny, AreSlots};
 ghost use Rattle.page_space.specs.Transactions.{left_by, held, held_page};
-ghost use Rattle.page_space.specs.declared.superblock.Superblock.{Superblock};
-ghost use Rattle.path_repair.specs.Apart.{StandsApart, and_page};
+ghost use Rattle.path_repair.specs.Apart.{LeavesApart};
 ghost use Rattle.page_spans.specs.Heaps.{span_at};
 ghost use Rattle.path_repair.specs.Forms.{IsForm};
 ghost use Rattle.path_repair.specs.Keeping.{IsMatched};
@@ -39,8 +38,7 @@ pub(crate) fn close_page<P: Pages>(
     ensures root { (result.page ≡ 0) ⊎ (result.page ≡ number) }
     ensures matched { IsMatched result.page result.span }
     ensures others { (p : ℕ) → 1 ≤ p → p ≢ number → held_page txn.new p ≡ held_page txn.old p }
-    ensures apart { (fits : ℕ → ℕ → Bool) (base stored : Image) (from : Superblock) (mine kept : ℕ → ℕ) → StandsApart fits stored (left_by txn.old base) from txn.old.superblock (and_page number mine) kept
-        → StandsApart fits stored (left_by txn.new base) from txn.new.superblock mine kept }
+    ensures apart { LeavesApart number txn.old txn.new }
     ensures repaired { (base before : Image) (count : ℕ) (list list' : List (Option ℤ)) (others : List ℕ) (below : ℕ) → at.level ≡ suc below → AreSlots list'
         → IsPartWay count before (left_by txn.old base) txn.old.superblock list list' at.height below at.index number bytes.old (λ child. span_at spans.old (127 + child)) 128 others
         → IsRepaired count before (left_by txn.new base) txn.new.superblock list' at.level at.index result.page result.span others }

@@ -11,7 +11,7 @@ ghost use Rattle.path_repair.specs.Forms.{IsForm};
 ghost use Rattle.path_repair.specs.TreePages.{is_stored};
 ghost use Rattle.path_repair.specs.Standing.{AreTold, IsPlaced, IsPartWay, IsTaken};
 ghost use Rattle.path_repair.specs.Damage.{IsHeadCause};
-ghost use Rattle.path_repair.specs.Apart.{StandsApart, NamesDamaged, NamesLink, and_page, and_tree, and_children};
+ghost use Rattle.path_repair.specs.Apart.{StandsApart, StandsWith, NamesDamaged, NamesLink, and_page, and_tree, and_children};
 ghost use Rattle.path_repair.specs.Keeping.{IsOwn, IsOpened, IsAsTold, root_level};
 ghost use Rattle.page_space.specs.Shown as shown;
 ghost use Rattle.path_repair.specs.Edits.{IsDamageAt};
@@ -38,7 +38,7 @@ fn take<P: Pages>(space: &mut Space<P>, txn: &mut Txn) -> Result<u32, RepairErro
     ensures own { (base : Image) (level : ℕ) → AreTold (shown.IsTold space.old) (shown.view space.old) base
         → IfOk result (λ p. IsOwn (left_by txn.old base) txn.old.superblock.fresh txn.new.superblock.fresh level p) }
     ensures head { repairs.ForPages space.old (λ base. IfErr result (λ e. IsHeadCause (left_by txn.new base) txn.new.superblock e)) }
-    ensures apart { repairs.ForApart space.old txn.old (λ fits stored kept. kept) (λ base fits stored from mine kept. IfOk result (λ p. StandsApart fits stored (left_by txn.new base) from txn.new.superblock (and_page p mine) kept)) }
+    ensures apart { repairs.ForApart space.old txn.old (λ fits stored kept. kept) (λ base fits stored from mine kept. IfOk result (StandsWith txn.new base fits stored from mine kept)) }
     ensures broken { repairs.ForApart space.old txn.old (λ fits stored kept. kept) (λ base fits stored from mine kept. IfErr result (NamesLink stored from)) }
     ensures taken { repairs.ForStanding space.old txn.old (λ base count used. IfOk result (λ p. IsTaken count (left_by txn.old base) (left_by txn.new base) txn.new.superblock used p)) }
     ensures sound { repairs.ForStanding space.old txn.old (λ base count used. 18 + length used ≤ txn.old.superblock.total → IfErr result (λ e. e ≡ RepairError.DiskFault)) }

@@ -9,7 +9,7 @@ use Rattle.series_catalog.specs.declared.stored_series.StoredSeries.{StoredSerie
 
 -- the series of a catalog, in the order of their ids
 abbrev pub series_in : Catalog → List StoredSeries
-series_in catalog = catalog.series.items
+series_in it = it.series.items
 
 -- at most so many blocks are read of a space, and nothing else changes
 abbrev pub ReadsUpTo : {P : Type 0} {g : Ghosts P} → ℕ → Space P g → Space P g → Type 0

@@ -26,7 +26,7 @@ use Rattle.series_load.specs.Runs.{Run, readings, IsRun, AllRuns, AreFirst}
 use Rattle.series_load.specs.Sets.{IsNamed, Loads, set_of}
 use Rattle.series_export.specs.Exports.{Stored, stored_from, slot_time, export_text, stored_values}
 use Rattle.series_export.specs.RoundTrips.{IsBegunAs}
-use Rattle.series_export.specs.Room.{HasNewFor, HasRoomFor, AreRunsOf, Accepts, LoadsBack, GoesThrough}
+use Rattle.series_export.specs.Room.{HasNewFor, HasRoomFor, AreRunsOf, Accepts, AcceptsRunsOf, LoadsBack, GoesThrough}
 use Rattle.series_export.proofs.CutLemmas.{stored_of, values_of_runs, values_of_open, cut_values, AreRuns, are_runs, runs_values, all_are_runs}
 use Rattle.series_export.proofs.ExportLemmas.{first_time}
 use Rattle.series_export.proofs.RoomLemmas.{series_pages_more}
@@ -153,8 +153,8 @@ first_accepted total name book series runs later is has are values =
     (ends_alike series.start begun.start series.step begun.step _ (sym has.new.alike.start) (sym has.new.alike.step) (fewer_in_time series.start series.step (length series.slots) (length begun.slots + length slots) few is.last_in_range))
     (omega (arith, ap (λ l. series_pages (l ++ slots)) has.new.alike.none, has.room))
 
-pub accepted : (total : ℕ) (name : List ℕ) (book : List Series) (series : Series) (runs : List Run) → IsSeries series → HasRoomFor total name book series → AreRunsOf series runs → Accepts total name book runs
-accepted total name book series runs is has are =
+pub accepted : (total : ℕ) (name : List ℕ) (book : List Series) (series : Series) → IsSeries series → HasRoomFor total name book series → AcceptsRunsOf total name book series
+accepted total name book series is has runs are =
     first_accepted total name book series runs [] is has (all_are_runs series.step are.rows runs are.all) (append-nil (values_of_runs runs) ∙ runs_values series.step are.rows runs are.all ∙ are.values)
 
 -- so they need that room

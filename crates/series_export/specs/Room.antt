@@ -36,6 +36,10 @@ pub record Accepts (total : ℕ) (name : List ℕ) (book : List Series) (runs : 
   pub new : List Series
   pub loads : Loads total name book runs new
 
+-- those of all such runs are
+abbrev pub AcceptsRunsOf : ℕ → List ℕ → List Series → Series → Type 0
+AcceptsRunsOf total name book series = (runs : List Run) → AreRunsOf series runs → Accepts total name book runs
+
 -- All lines of the series' export are rows, and the sets of all their runs are accepted. The series of this name holds the
 -- same then, and its export is the same text.
 pub record LoadsBack (total : ℕ) (name : List ℕ) (book : List Series) (series : Series) : Type 0 where

@@ -10,7 +10,7 @@ ghost use Rattle.series_load.specs.Runs.{Run, AllRuns};
 ghost use Rattle.series_load.specs.Sets.{IsNamed, Loads};
 ghost use Rattle.series_export.specs.Exports.{stored_values, export_text};
 ghost use Rattle.series_export.specs.RoundTrips.{values_of, IsBegunAs, HoldsSame, HoldsNamed, StandsForSame};
-ghost use Rattle.series_export.specs.Room.{HasNewFor, HasRoomFor, AreRunsOf, Accepts, LoadsBack, GoesThrough};
+ghost use Rattle.series_export.specs.Room.{HasNewFor, HasRoomFor, AreRunsOf, Accepts, AcceptsRunsOf, LoadsBack, GoesThrough};
 ghost use Rattle.series_export.specs.declared.window.Window.{Window};
 
 use csv_load::laws::{one_answer, plain_lines};
@@ -46,7 +46,7 @@ pub fn exports_are_read_back()
 /// and each of its sets is accepted; then that one holds the same values at the same slots, and its export is the same text. The sets
 /// are accepted of any rows that read the series' stored values, and that room is needed for it.
 pub fn exports_load_where_there_is_room()
-    ensures sets { (total : ℕ) (name : List ℕ) (book : List Series) (series : Series) (runs : List Run) → IsSeries series → HasRoomFor total name book series → AreRunsOf series runs → Accepts total name book runs }
+    ensures sets { (total : ℕ) (name : List ℕ) (book : List Series) (series : Series) → IsSeries series → HasRoomFor total name book series → AcceptsRunsOf total name book series }
     ensures needed { (total : ℕ) (name : List ℕ) (book : List Series) (series : Series) (runs : List Run) →
         IsSeries series → HasNewFor name book series → pages_of book ≤ total → AreRunsOf series runs → Accepts total name book runs → HasRoomFor total name book series }
     ensures back { (total : ℕ) (name : List ℕ) (book : List Series) (series : Series) → IsSeries series → HasRoomFor total name book series → LoadsBack total name book series }

@@ -6,13 +6,19 @@ use Rattle.block_disk.specs.View.{Image, View, Now, sent_now, Passes}
 use Rattle.gate_pages.specs.Pages.{GoesOn}
 use Rattle.gate_pages.specs.declared.pages.Pages.{Ghosts}
 use Rattle.om3_coeff.specs.declared.span.Span.{Span}
-use Rattle.om3_coeff.specs.Keys.{page_levels}
+use Rattle.om3_coeff.specs.Keys.{end_slot, first_slot, page_levels}
+use Rattle.om3_coeff.specs.Spans.{AreSlots, span}
+use Rattle.page_space.specs.Shown as spaces
+use Rattle.page_space.specs.declared.space.Space.{Space}
 use Rattle.page_space.specs.declared.superblock.Superblock.{Superblock}
 use Rattle.node_page.specs.Fields.{child_at}
 use Rattle.path_repair.specs.Changes.{slot_at}
 use Rattle.path_repair.specs.Damage.{AreBelow}
 use Rattle.path_repair.specs.Sums.{join_below}
+use Rattle.path_repair.specs.TreePages.{page_count}
 use Rattle.stored_book.specs.Records.{entry}
+use Rattle.tree_walk.specs.Trees.{IsTree, top_of_page}
+use Rattle.tree_walk.specs.declared.tree.Tree.{Tree}
 use Rattle.series_store.specs.Counting.{IsBadFor}
 use Rattle.series_store.specs.Shown as shown
 use Rattle.series_store.specs.declared.errors.StoreError.{StoreError}
@@ -37,6 +43,10 @@ texts_of text list = join_below (said text list) (length list)
 -- what is said of the first so many slots, and nothing of the others
 abbrev pub first_said : ℕ → (ℕ → ℤ → List ℕ) → ℕ → ℤ → List ℕ
 first_said slots text slot value = if nat_lt slot slots then text slot value else []
+
+-- nothing is said of the slots from first on and below end
+abbrev pub IsSilent : (ℕ → ℤ → List ℕ) → ℕ → ℕ → Type 0
+IsSilent text first end = (slot : ℕ) (value : ℤ) → first ≤ slot → slot < end → text slot value ≡ []
 
 -- a front of the text was sent behind what was sent before, and the rest of it waits
 pub record IsGiven (text : List ℕ) (before now : Option (List ℕ)) (waiting : List ℕ) : Type 0 where
@@ -67,11 +77,6 @@ pub record Sends (told_old told_new : Type 0) (old new under_old under_new : Vie
   pub pieces : new.beside.pieces ≡ old.beside.pieces
   pub superblock : after ≡ before
   pub goes_on : GoesOn under_old under_new
-
--- the same of a store: what a crash may leave stays at each moment, and so does what is left of the input
-abbrev pub SendsOn : {P : Type 0} {g : Ghosts P} → Store P g → Store P g → Type 0
-SendsOn old new =
-    Sends (shown.IsTold old) (shown.IsTold new) (shown.view old) (shown.view new) (shown.under old) (shown.under new) (shown.numbers old) (shown.numbers new)
 
 -- why the text of a value wasn't sent
 abbrev pub IsTextCause : SendError → View → View → Type 0
@@ -120,3 +125,34 @@ pub record SendsPart (saying : ℕ → List ℕ) (first end pages : ℕ) (old ne
   pub reads : new.reads ≤ old.reads + pages
   pub gives : (front : List ℕ) (before : Option (List ℕ)) → IsGiven (front ++ join_below saying first) before old.beside.sent waiting → GivesBy result (front ++ join_below saying end) before new.beside.sent waits
   pub sound : IfErr result IsNoDamage
+
+module _ {P : Type 0} {g : Ghosts P} where
+  -- the same of a space
+  abbrev pub SendsBy : Space P g → Space P g → Type 0
+  SendsBy old new =
+      Sends (spaces.IsTold old) (spaces.IsTold new) (spaces.view old) (spaces.view new) (spaces.under old) (spaces.under new) (spaces.numbers old) (spaces.numbers new)
+
+  -- a text of which a front was sent, and the rest waited, is made longer so: more of it was sent, and the rest waits
+  abbrev pub GivesMore : (List ℕ → List ℕ) → Result (Unit {0}) SendError → Space P g → Space P g → List ℕ → List ℕ → Type 0
+  GivesMore more result old new waiting waits =
+      (text : List ℕ) (before : Option (List ℕ)) → IsGiven text before (spaces.view old).beside.sent waiting → GivesBy result (more text) before (spaces.view new).beside.sent waits
+
+  -- so of the list that the tree below a page of this page level and index stands for, whose top has this span
+  abbrev pub ForListBelow : Space P g → ℕ → ℕ → ℕ → Option Span → (List (Option ℤ) → Type 0) → Type 0
+  ForListBelow it level index page top IsSo =
+      (list : List (Option ℤ)) → spaces.IsTold it → AreSlots list → IsTree (spaces.image it) (spaces.total it) list level index page → top ≡ span list (top_of_page level index)
+      → IsSo list
+
+  -- why not all values of a tree were sent
+  abbrev pub IsCauseOf : Tree → Space P g → Space P g → SendError → Type 0
+  IsCauseOf tree old new e = IsSendCause e (spaces.IsTold old) (spaces.view old) (spaces.view new) (spaces.total old) (page_levels tree.slots) tree.root tree.span
+
+  -- what is said of the values of a list below a page is given behind what waited
+  abbrev pub SendsBelow : (ℕ → ℤ → List ℕ) → ℕ → ℕ → Space P g → Space P g → List ℕ → List ℕ → Result (Unit {0}) SendError → List (Option ℤ) → Type 0
+  SendsBelow text level index old new waiting waits result list =
+      SendsPart (said text list) (first_slot (top_of_page level index)) (end_slot (top_of_page level index)) (page_count list level index) (spaces.view old) (spaces.view new) waiting waits result
+
+  -- the same of a store: what a crash may leave stays at each moment, and so does what is left of the input
+  abbrev pub SendsOn : Store P g → Store P g → Type 0
+  SendsOn old new =
+      Sends (shown.IsTold old) (shown.IsTold new) (shown.view old) (shown.view new) (shown.under old) (shown.under new) (shown.numbers old) (shown.numbers new)

@@ -12,7 +12,9 @@ use Rattle.path_repair.specs.Standing.{ReadsMost}
 use Rattle.series_book.specs.declared.limits.TheConstants.{MOST_SLOTS}
 use Rattle.series_book.specs.declared.one_series.Series.{Series}
 use Rattle.series_book.specs.declared.refusals.Refusal.{Refusal}
-use Rattle.series_book.specs.Edits.{Edited, with_slots}
+use Rattle.series_book.specs.Books.{IsBook}
+use Rattle.series_book.specs.Edits.{Edited, apply, with_slots}
+use Rattle.series_book.specs.declared.edits.Edit.{Edit}
 use Rattle.series_catalog.specs.Catalogs.{AreFit, AreAsTold, entry_of, with_tree}
 use Rattle.series_catalog.specs.Shown.{series_in}
 use Rattle.series_catalog.specs.declared.catalog.Catalog.{Catalog}
@@ -24,7 +26,8 @@ use Rattle.stored_book.specs.Standing.{AreCatalog, IsStore, StandsForBook}
 use Rattle.tree_walk.specs.SpaceViews.{StaysOn}
 use Rattle.tree_walk.specs.declared.tree.Tree.{Tree}
 use Rattle.series_book.specs.declared.outcomes.Outcome.{Outcome}
-use Rattle.series_store.specs.Changing.{IsCarriedOut, IsDoneBy, IsRefusedBy}
+use Rattle.series_store.specs.Changing.{after_put, with_added, with_cleared, IsCarriedOut, IsDoneBy, IsRefusedBy}
+use Rattle.series_store.specs.Groups.{touch_of, touched_slots}
 use Rattle.series_store.specs.declared.errors.StoreError.{StoreError}
 use Rattle.series_store.specs.declared.errors.StoreError.TheVariants.{Refused, NotAStore, DiskFault, Damaged, NoMemory}
 use Rattle.series_store.specs.declared.staged.Staged.{Staged}
@@ -161,6 +164,31 @@ module _ {P : Type 0} {g : Ghosts P} where
   -- an edit was staged as the book answers it
   abbrev pub AnswersSo : Result Edited Refusal → ℕ → ℕ → Result Staged StoreError → Space P g → Txn → Txn → Type 0
   AnswersSo answer touched total result new txn txn' = IsStagedBy answer touched total result txn txn' (spaces.left new txn')
+
+  -- the same of an edit, as each book answers it that the transaction would leave
+  abbrev pub AnswersEdit : Edit → Result Staged StoreError → Space P g → Space P g → Txn → Txn → Type 0
+  AnswersEdit edit result old new txn txn' = ForStaged old txn (λ total book. AnswersSo (apply book total edit) (touch_of book edit) total result new txn txn')
+
+  -- of values that are put into the slots of its series of this id
+  abbrev pub AnswersPut : ℕ → ℕ → List (Option ℤ) → Result Staged StoreError → Space P g → Space P g → Txn → Txn → Type 0
+  AnswersPut id slot values result old new txn txn' =
+      ForStagedSeries old txn id (λ total book series. AnswersSo (after_put total book id series slot values) (touched_slots series slot (slot + length values)) total result new txn txn')
+
+  -- of slots of that series that are cleared
+  abbrev pub AnswersCleared : ℕ → ℕ → ℕ → Result Staged StoreError → Space P g → Space P g → Txn → Txn → Type 0
+  AnswersCleared id slot count result old new txn txn' =
+      ForStagedSeries old txn id (λ total book series. AnswersSo (Ok (with_cleared book id series slot count)) (touched_slots series slot (slot + count)) total result new txn txn')
+
+  -- of a series that is added
+  abbrev pub AnswersAdded : StoredSeries → Result Staged StoreError → Space P g → Space P g → Txn → Txn → Type 0
+  AnswersAdded series result old new txn txn' =
+      ForStaged old txn (λ total book. IsBook (with_added book series).book → AnswersSo (Ok (with_added book series)) 0 total result new txn txn')
+
+  -- where the tree of a series was changed, the transaction would leave the book with the changed slots
+  abbrev pub StandsChanged : ℕ → Tree → Result Staged StoreError → Space P g → Space P g → Txn → Txn → Catalog → Type 0
+  StandsChanged id tree result old new txn txn' catalog =
+      spaces.IsTold old
+      → ForChangedTree (spaces.left old txn) txn.superblock (series_in catalog) id tree (λ book. OnOk result (StandsForBook (spaces.left new txn') txn.superblock.total book))
 
   -- a call did this, whatever the pages are
   abbrev pub CarriesOut : Result Outcome StoreError → Space P g → Space P g → Type 0

@@ -2,14 +2,12 @@
 ghost use Rattle.std.specs.Prelude.{◌≡◌, ◌≢◌, ◌<◌, ◌≤◌, ◌+◌, ◌*◌, ◌^◌, ◌↔◌, ℕ, ℤ, suc, false, Some, Option, List, length, is_some, IsTrue, IsOk, IfOk, IfErr, OnOk, OnErr};
 ghost use Rattle.block_disk.specs.View.{View, Rises};
 ghost use Rattle.om3_coeff.specs.Spans.{AreSlots, IsProper, IsProperIfAny, span};
-ghost use Rattle.node_page.specs.Fields.{child_at};
 ghost use Rattle.node_page.specs.Layout.{has_child};
 ghost use Rattle.page_spans.specs.Heaps.{span_at};
 ghost use Rattle.path_repair.specs.Damage.{AreBelow};
 ghost use Rattle.path_repair.specs.Forms.{AreTops};
 ghost use Rattle.path_repair.specs.Keeping.{IsMatched};
 ghost use Rattle.path_repair.specs.TreePages.{tree_pages};
-ghost use Rattle.tree_walk.specs.Paths.{NamesBeyond};
 ghost use Rattle.tree_walk.specs.Trees.{top_of_page, HoldsNodes, IsTree};
 ghost use Rattle.series_book.specs.declared.limits.TheConstants.{MOST_SLOTS};
 ghost use Rattle.series_store.specs.Counting.{values_below, NamesBelow, IsSlot, AreParts, HasNoSlot, IsBadFor, IsSoundPage, IsSoundTree, NamesWithin, IsPageCause, IsTreeCause};
@@ -22,20 +20,7 @@ use node_page::{PageView, child_of};
 use om3_coeff::Span;
 use page_space::Space;
 use page_spans::PageSpans;
-
-/// Whether each child of a page is below the total.
-fn names_within(page: &PageView, total: u32) -> bool
-    ensures within { IsTrue result → NamesBelow total page.now.bytes.now }
-    ensures all { NamesBelow total page.now.bytes.now → IsTrue result }
-    ensures beyond { result ≡ false → NamesBeyond total page.now.bytes.now }
-{
-    for child in 0..128 {
-        if page.child_at(child) >= total {
-            return false;
-        }
-    }
-    true
-}
+use path_repair::names_within;
 
 /// The spans below the top of a page, whose bytes are to be those of a page of this page level.
 fn spread(

@@ -1,5 +1,5 @@
 //! A series that is to be added is staged.
-ghost use Rattle.std.specs.Prelude.{◌≡◌, ◌≤◌, ◌<◌, ℕ, List, Ok, length};
+ghost use Rattle.std.specs.Prelude.{◌≡◌, ◌≤◌, ◌<◌, ℕ, List, length};
 ghost use Rattle.block_disk.specs.View.{View};
 ghost use Rattle.page_space.specs.Shown as spaces;
 ghost use Rattle.page_space.specs.Transactions.{held, left_by};
@@ -9,10 +9,8 @@ ghost use Rattle.series_store.specs.Staging as stages;
 ghost use Rattle.stored_book.specs.Standing.{StandsForBook};
 ghost use Rattle.catalog_page.specs.Entries.{IsEntry};
 ghost use Rattle.series_book.specs.declared.edits.Edit.TheVariants.{Create};
-ghost use Rattle.series_book.specs.Books.{IsBook};
 ghost use Rattle.series_book.specs.Edits.{IsEdit, apply};
 ghost use Rattle.series_catalog.specs.Catalogs.{entry_of};
-ghost use Rattle.series_store.specs.Changing.{with_added};
 
 use crate::errors::StoreError;
 use crate::opening::NO_TREE;
@@ -70,7 +68,7 @@ fn add_series<P: Pages>(
     requires room { length (series_in catalog.old) < 512 }
     requires entry { IsEntry txn.old.superblock.fresh (entry_of series) }
     requires empty { series.tree ≡ NO_TREE }
-    ensures answered { stages.ForStaged space.old txn.old (λ total book. IsBook (with_added book series).book → stages.AnswersSo (Ok (with_added book series)) 0 total result space.new txn.old txn.new) }
+    ensures answered { stages.AnswersAdded series result space.old space.new txn.old txn.new }
     ensures carried { stages.Stages result space.old space.new txn.old txn.new catalog.old catalog.new }
 {
     let count = catalog.len();

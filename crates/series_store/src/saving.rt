@@ -11,13 +11,10 @@ ghost use Rattle.series_catalog.specs.Shown.{series_in};
 ghost use Rattle.series_store.specs.Staging as stages;
 ghost use Rattle.series_store.specs.Staging.{TakesBack};
 ghost use Rattle.series_store.specs.declared.staged.Undo.{Undo};
-ghost use Rattle.stored_book.specs.Standing.{StandsForBook};
 ghost use Rattle.catalog_page.specs.Entries.{IsEntry};
 ghost use Rattle.path_repair.specs.Edits.{passed, run_in, clear_in};
 ghost use Rattle.series_book.specs.Edits.{is_too_large};
 ghost use Rattle.series_catalog.specs.Catalogs.{entry_of};
-ghost use Rattle.series_store.specs.Changing.{after_put, with_cleared};
-ghost use Rattle.series_store.specs.Groups.{touched_slots};
 
 use crate::errors::StoreError;
 use crate::staged::{Staged, Undo};
@@ -48,7 +45,7 @@ pub(crate) fn put<P: Pages>(
     requires values { All (λ value. is_too_large value ≡ false) values.now }
     // none of the slots before the last one is left as it is
     requires whole { IfSome (slice_get (series_in catalog.old) id) (λ one. (slot ≡ one.tree.slots) ⊎ All (λ value. IsSome value) values.now) }
-    ensures answered { stages.ForStagedSeries space.old txn.old id (λ total book series. stages.AnswersSo (after_put total book id series slot values.now) (touched_slots series slot (slot + length values.now)) total result space.new txn.old txn.new) }
+    ensures answered { stages.AnswersPut id slot values.now result space.old space.new txn.old txn.new }
     ensures carried { stages.Stages result space.old space.new txn.old txn.new catalog.old catalog.new }
 {
     let tree = catalog.series(id).tree;
@@ -72,7 +69,7 @@ pub(crate) fn clear_slots<P: Pages>(
     requires some { 0 < count }
     requires short { count ≤ 4096 }
     requires within { IfSome (slice_get (series_in catalog.old) id) (λ one. slot + count ≤ one.tree.slots) }
-    ensures answered { stages.ForStagedSeries space.old txn.old id (λ total book series. stages.AnswersSo (Ok (with_cleared book id series slot count)) (touched_slots series slot (slot + count)) total result space.new txn.old txn.new) }
+    ensures answered { stages.AnswersCleared id slot count result space.old space.new txn.old txn.new }
     ensures carried { stages.Stages result space.old space.new txn.old txn.new catalog.old catalog.new }
 {
     let tree = catalog.series(id).tree;
@@ -93,7 +90,7 @@ fn save<P: Pages>(
     requires room { length (held txn.old) < 64 }
     requires there { id < length (series_in catalog.old) }
     requires entry { IfSome (slice_get (series_in catalog.old) id) (λ one. IsEntry txn.old.superblock.fresh (entry_of (record one { tree = tree }))) }
-    ensures stands { spaces.IsTold space.old → stages.ForChangedTree (spaces.left space.old txn.old) txn.old.superblock (series_in catalog.old) id tree (λ book. OnOk result (StandsForBook (spaces.left space.new txn.new) txn.old.superblock.total book)) }
+    ensures stands { stages.StandsChanged id tree result space.old space.new txn.old txn.new catalog.old }
     ensures staged { OnOk result (stages.IsStaged space.new txn.new catalog.new) }
     ensures back { IfOk result (λ staged. (staged.undo ≢ Undo.Nothing) × TakesBack staged.undo (series_in catalog.new) (series_in catalog.old)) }
     ensures kept { OnErr result (series_in catalog.new ≡ series_in catalog.old) }

@@ -1,13 +1,12 @@
 //! The values of a tree are sent as texts, page by page.
-ghost use Rattle.std.specs.Prelude.{◌≡◌, ◌<◌, ◌≤◌, ◌+◌, ◌++◌, ℕ, ℤ, List, [], Option, length, false, IsTrue, IfErr, OnOk};
+ghost use Rattle.std.specs.Prelude.{◌≡◌, ◌<◌, ◌≤◌, ◌+◌, ◌++◌, List, [], length, false, IsTrue, IfErr, OnOk};
 ghost use Rattle.block_disk.specs.View.{View};
 ghost use Rattle.om3_coeff.specs.Keys.{first_slot, end_slot};
-ghost use Rattle.om3_coeff.specs.Spans.{AreSlots, IsProperIfAny, span};
+ghost use Rattle.om3_coeff.specs.Spans.{IsProperIfAny};
 ghost use Rattle.path_repair.specs.Keeping.{IsMatched};
-ghost use Rattle.path_repair.specs.TreePages.{page_count};
-ghost use Rattle.tree_walk.specs.Trees.{top_of_page, IsTree};
+ghost use Rattle.tree_walk.specs.Trees.{top_of_page};
 ghost use Rattle.series_book.specs.declared.limits.TheConstants.{MOST_SLOTS};
-ghost use Rattle.series_store.specs.Sending.{said, first_said, IsGiven, GivesBy, Sends, IsTextCause, IsSendCause, SendsPart};
+ghost use Rattle.series_store.specs.Sending.{first_said, ForListBelow, GivesMore, IsSendCause, IsSilent, IsTextCause, SendsBelow, SendsBy};
 
 use crate::counting::read_page;
 use crate::send_errors::SendError;
@@ -28,9 +27,9 @@ pub(crate) fn send_waiting<P: PageWorld>(
     out: &mut Vec<u8>,
 ) -> Result<(), SendError>
     ensures none { OnOk result (out.new.items ≡ []) }
-    ensures sends { Sends (P.told space.old.pages) (P.told space.new.pages) (P.view space.old.pages) (P.view space.new.pages) (P.under space.old.pages) (P.under space.new.pages) space.old.superblock space.new.superblock }
+    ensures sends { SendsBy space.old space.new }
     ensures reads { (P.view space.new.pages).reads ≡ (P.view space.old.pages).reads }
-    ensures gives { (text : List ℕ) (before : Option (List ℕ)) → IsGiven text before (P.view space.old.pages).beside.sent out.old.items → GivesBy result text before (P.view space.new.pages).beside.sent out.new.items }
+    ensures gives { GivesMore (λ text. text) result space.old space.new out.old.items out.new.items }
     ensures cause { IfErr result (λ e. IsTextCause e (P.view space.old.pages) (P.view space.new.pages)) }
 {
     let Ok(()) = space.send(out.as_slice()) else {
@@ -50,9 +49,9 @@ fn send_value<P: PageWorld, T: Texts>(
 ) -> Result<(), SendError>
     requires within { slot < T.slots texts.now }
     ensures few { OnOk result (length out.new.items < 16384) }
-    ensures sends { Sends (P.told space.old.pages) (P.told space.new.pages) (P.view space.old.pages) (P.view space.new.pages) (P.under space.old.pages) (P.under space.new.pages) space.old.superblock space.new.superblock }
+    ensures sends { SendsBy space.old space.new }
     ensures reads { (P.view space.new.pages).reads ≡ (P.view space.old.pages).reads }
-    ensures gives { (text : List ℕ) (before : Option (List ℕ)) → IsGiven text before (P.view space.old.pages).beside.sent out.old.items → GivesBy result (text ++ T.text texts.now slot value) before (P.view space.new.pages).beside.sent out.new.items }
+    ensures gives { GivesMore (λ text. text ++ T.text texts.now slot value) result space.old space.new out.old.items out.new.items }
     ensures cause { IfErr result (λ e. IsTextCause e (P.view space.old.pages) (P.view space.new.pages)) }
 {
     texts.add(slot, value, out)?;
@@ -67,7 +66,7 @@ fn may_say<T: Texts>(level: u8, index: u64, slots: u64, texts: &T) -> bool
     requires level { level ≤ 5 }
     requires few { end_slot (top_of_page level index) ≤ MOST_SLOTS }
     requires slots { slots ≤ T.slots texts.now }
-    ensures silent { result ≡ false → (slot : ℕ) (value : ℤ) → first_slot (top_of_page level index) ≤ slot → slot < end_slot (top_of_page level index) → first_said slots (T.text texts.now) slot value ≡ [] }
+    ensures silent { result ≡ false → IsSilent (first_said slots (T.text texts.now)) (first_slot (top_of_page level index)) (end_slot (top_of_page level index)) }
     ensures within { IsTrue result → first_slot (top_of_page level index) < slots }
 {
     let top = Key {
@@ -101,10 +100,9 @@ pub(crate) fn send_below<P: PageWorld, T: Texts>(
     requires matched { 1 ≤ level → IsMatched page top }
     requires few { length out.old.items < 16384 }
     ensures few { OnOk result (length out.new.items < 16384) }
-    ensures sends { Sends (P.told space.old.pages) (P.told space.new.pages) (P.view space.old.pages) (P.view space.new.pages) (P.under space.old.pages) (P.under space.new.pages) space.old.superblock space.new.superblock }
+    ensures sends { SendsBy space.old space.new }
     ensures cause { IfErr result (λ e. IsSendCause e (P.told space.old.pages) (P.view space.old.pages) (P.view space.new.pages) space.old.superblock.total level page top) }
-    ensures part { (list : List (Option ℤ)) → P.told space.old.pages → AreSlots list → IsTree (P.view space.old.pages).image space.old.superblock.total list level index page → top ≡ span list (top_of_page level index)
-        → SendsPart (said (first_said slots (T.text texts.now)) list) (first_slot (top_of_page level index)) (end_slot (top_of_page level index)) (page_count list level index) (P.view space.old.pages) (P.view space.new.pages) out.old.items out.new.items result }
+    ensures part { ForListBelow space.old level index page top (SendsBelow (first_said slots (T.text texts.now)) level index space.old space.new out.old.items out.new.items result) }
 {
     let Some(span) = top else {
         return Ok(());

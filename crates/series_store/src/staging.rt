@@ -8,8 +8,7 @@ ghost use Rattle.series_catalog.specs.Shown.{series_in};
 ghost use Rattle.series_store.specs.Staging as stages;
 ghost use Rattle.stored_book.specs.Standing.{StandsForBook};
 ghost use Rattle.series_book.specs.declared.edits.Edit.TheVariants.{Append, Set, Clear};
-ghost use Rattle.series_book.specs.Edits.{IsEdit, apply};
-ghost use Rattle.series_store.specs.Groups.{touch_of};
+ghost use Rattle.series_book.specs.Edits.{IsEdit};
 ghost use Rattle.series_store.specs.Results.{ClearsNone};
 ghost use Rattle.series_store.specs.declared.staged.Undo.{Undo};
 
@@ -35,7 +34,7 @@ pub(crate) fn stage<P: Pages>(
     requires staged { stages.IsStaged space.old txn.old catalog.old }
     requires few { length (held txn.old) ≤ 22 }
     requires is_edit { IsEdit edit.now }
-    ensures answered { stages.ForStaged space.old txn.old (λ total book. stages.AnswersSo (apply book total edit.now) (touch_of book edit.now) total result space.new txn.old txn.new) }
+    ensures answered { stages.AnswersEdit edit.now result space.old space.new txn.old txn.new }
     ensures carried { stages.Stages result space.old space.new txn.old txn.new catalog.old catalog.new }
     // an edit that changes no slot stages nothing
     ensures none_cleared { stages.ForStaged space.old txn.old (λ total book. ClearsNone book edit.now → IfOk result (λ staged. staged.undo ≡ Undo.Nothing)) }
@@ -64,7 +63,7 @@ fn append<P: Pages>(
     requires staged { stages.IsStaged space.old txn.old catalog.old }
     requires few { length (held txn.old) ≤ 22 }
     requires is_edit { IsEdit (Append name.now values.now) }
-    ensures answered { stages.ForStaged space.old txn.old (λ total book. stages.AnswersSo (apply book total (Append name.now values.now)) (touch_of book (Append name.now values.now)) total result space.new txn.old txn.new) }
+    ensures answered { stages.AnswersEdit (Append name.now values.now) result space.old space.new txn.old txn.new }
     ensures carried { stages.Stages result space.old space.new txn.old txn.new catalog.old catalog.new }
 {
     let Some(id) = catalog.find(name) else {
@@ -90,7 +89,7 @@ fn set<P: Pages>(
     requires staged { stages.IsStaged space.old txn.old catalog.old }
     requires few { length (held txn.old) ≤ 22 }
     requires is_edit { IsEdit (Set name.now time values.now) }
-    ensures answered { stages.ForStaged space.old txn.old (λ total book. stages.AnswersSo (apply book total (Set name.now time values.now)) (touch_of book (Set name.now time values.now)) total result space.new txn.old txn.new) }
+    ensures answered { stages.AnswersEdit (Set name.now time values.now) result space.old space.new txn.old txn.new }
     ensures carried { stages.Stages result space.old space.new txn.old txn.new catalog.old catalog.new }
 {
     let Some(id) = catalog.find(name) else {
@@ -116,7 +115,7 @@ fn clear<P: Pages>(
     requires sound { spaces.IsSound space.old }
     requires staged { stages.IsStaged space.old txn.old catalog.old }
     requires few { length (held txn.old) ≤ 22 }
-    ensures answered { stages.ForStaged space.old txn.old (λ total book. stages.AnswersSo (apply book total (Clear name.now time count)) (touch_of book (Clear name.now time count)) total result space.new txn.old txn.new) }
+    ensures answered { stages.AnswersEdit (Clear name.now time count) result space.old space.new txn.old txn.new }
     ensures carried { stages.Stages result space.old space.new txn.old txn.new catalog.old catalog.new }
     ensures none_cleared { stages.ForStaged space.old txn.old (λ total book. ClearsNone book (Clear name.now time count) → IfOk result (λ staged. staged.undo ≡ Undo.Nothing)) }
 {

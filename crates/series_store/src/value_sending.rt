@@ -2,14 +2,13 @@
 ghost use Rattle.std.specs.Prelude.{◌≡◌, ◌<◌, ◌≤◌, ◌+◌, ◌++◌, ℤ, List, Option, Some, length, slice_get, IfErr, OnOk, OnErr};
 ghost use Rattle.block_disk.specs.Streams.{sent_after, PartSent};
 ghost use Rattle.block_disk.specs.View.{View};
-ghost use Rattle.om3_coeff.specs.Keys.{page_levels};
 ghost use Rattle.om3_coeff.specs.Spans.{IsProperIfAny};
 ghost use Rattle.path_repair.specs.Keeping.{IsMatched};
 ghost use Rattle.series_book.specs.declared.limits.TheConstants.{MOST_SLOTS};
 ghost use Rattle.series_book.specs.Pages.{series_pages};
 ghost use Rattle.series_catalog.specs.declared.stored_series.StoredSeries.{StoredSeries};
 ghost use Rattle.tree_walk.specs.Trees.{StandsFor};
-ghost use Rattle.series_store.specs.Sending.{texts_of, Sends, SendsOn, IsSendCause, IsSeriesCause, IsNoDamage};
+ghost use Rattle.series_store.specs.Sending.{texts_of, IsCauseOf, SendsBy, SendsOn, IsSeriesCause, IsNoDamage};
 ghost use Rattle.series_store.specs.Shown as shown;
 
 use crate::send_errors::SendError;
@@ -42,8 +41,8 @@ fn send_tree<P: PageWorld, T: Texts>(
     ensures no_damage { (list : List (Option ℤ)) → P.told space.old.pages → StandsFor (P.view space.old.pages).image space.old.superblock.total tree list → IfErr result IsNoDamage }
     ensures reads { (list : List (Option ℤ)) → P.told space.old.pages → StandsFor (P.view space.old.pages).image space.old.superblock.total tree list
         → (P.view space.new.pages).reads ≤ (P.view space.old.pages).reads + series_pages list }
-    ensures sends { Sends (P.told space.old.pages) (P.told space.new.pages) (P.view space.old.pages) (P.view space.new.pages) (P.under space.old.pages) (P.under space.new.pages) space.old.superblock space.new.superblock }
-    ensures cause { IfErr result (λ e. IsSendCause e (P.told space.old.pages) (P.view space.old.pages) (P.view space.new.pages) space.old.superblock.total (page_levels tree.slots) tree.root tree.span) }
+    ensures sends { SendsBy space.old space.new }
+    ensures cause { IfErr result (IsCauseOf tree space.old space.new) }
 {
     let levels = page_levels(tree.slots);
     match send_below(

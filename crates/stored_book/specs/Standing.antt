@@ -56,6 +56,10 @@ book_pages count image = current (pages_of count image)
 abbrev pub KeepsOldStore : ℕ → Image → Type 0
 KeepsOldStore count image = HasOldMagic (pages_of count image 0) → IsOldStore (pages_of count image)
 
+-- the pages that a disk's image of so many pages has stand for the book
+abbrev pub PagesStand : ℕ → Image → ℕ → List Series → Type 0
+PagesStand count image total book = StandsForBook (pages_of count image) total book
+
 -- A disk's image of so many pages stands for the book: its journal can be read, a store of version 1 keeps its rules, and
 -- the pages, in version 2, stand for the book.
 pub record RecoversTo (count : ℕ) (image : Image) (total : ℕ) (book : List Series) : Type 0 where

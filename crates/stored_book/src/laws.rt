@@ -3,7 +3,6 @@ ghost use Rattle.std.specs.Prelude.{◌≡◌, ◌≢◌, ◌≤◌, ◌<◌, �
 ghost use Rattle.block_disk.specs.View.{Image};
 ghost use Rattle.catalog_page.specs.Entries.{Entry};
 ghost use Rattle.gate_pages.specs.GatePages.{IsReadable};
-ghost use Rattle.gate_pages.specs.Journal.{pages_of as disk_pages};
 ghost use Rattle.page_space.specs.declared.superblock.Superblock.{Superblock};
 ghost use Rattle.page_space.specs.Firsts.{empty_over};
 ghost use Rattle.page_space.specs.Layout.{HasMagic, superblock_page, in_use, with_series, IsSmall};
@@ -18,7 +17,7 @@ ghost use Rattle.store_upgrade.specs.Upgraded.{current};
 ghost use Rattle.tree_walk.specs.declared.tree.Tree.{Tree};
 ghost use Rattle.stored_book.specs.Records.{entry, tree_of, pages_of_others};
 ghost use Rattle.stored_book.specs.Books.{book_of};
-ghost use Rattle.stored_book.specs.Standing.{IsRecordOf, IsStore, StandsForBook, RecoversTo};
+ghost use Rattle.stored_book.specs.Standing.{IsRecordOf, IsStore, PagesStand, StandsForBook, RecoversTo};
 ghost use Rattle.stored_book.specs.Changing.{IsSameImage, IsLater, IsTreeChanged, IsRecordSet, KeepsRecords, AddsRecord};
 
 /// Pages stand for one book alone, with one total.
@@ -43,7 +42,7 @@ pub fn images_recover_to_one_book()
 pub fn books_stand_on_current_pages()
     ensures magic { (image : Image) (total : ℕ) (book : List Series) → StandsForBook image total book → HasMagic (image 0) }
     ensures current { (image : Image) (total : ℕ) (book : List Series) → StandsForBook image total book → current image ≡ image }
-    ensures recovers { (count : ℕ) (image : Image) (total : ℕ) (book : List Series) → IsReadable count image → total ≤ count → StandsForBook (disk_pages count image) total book → RecoversTo count image total book }
+    ensures recovers { (count : ℕ) (image : Image) (total : ℕ) (book : List Series) → IsReadable count image → total ≤ count → PagesStand count image total book → RecoversTo count image total book }
 {}
 
 /// Page 0 decides the numbers with which pages stand.
