@@ -7,3 +7,4 @@ pub mod Spelled
 pub mod Items
 pub mod Places
 pub mod Stream
+pub mod Opened

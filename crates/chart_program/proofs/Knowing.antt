@@ -11,9 +11,9 @@ use Rattle.chart_client.specs.declared.holding.Holding.{Holding}
 use Rattle.chart_frames.specs.declared.frame.Frame.{Frame}
 use Rattle.chart_frames.specs.declared.frame.Frame.TheVariants.{Done, Refused, Opened, Closed, View, Rows, Live}
 use Rattle.chart_frames.specs.declared.frame.ViewFrame.{ViewFrame}
+use Rattle.chart_frames.specs.Opened.{opens}
 use Rattle.zoom_session.specs.declared.session.Session.{Session}
 use Rattle.zoom_session.specs.Sessions.{is_open}
-use Rattle.chart_service.specs.Opening.{opens}
 use Rattle.chart_program.specs.declared.run_end.RunEnd.TheVariants.{Show}
 use Rattle.chart_service.specs.Knowing.{KnowsOpen, NamesKnown}
 use Rattle.chart_program.specs.Known.{Follows, EndsKnown}

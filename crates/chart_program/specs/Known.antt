@@ -3,8 +3,8 @@ use Rattle.std.specs.Prelude.{ℕ, Bool, IsTrue, Ok, Err, ⊤}
 use Rattle.chart_client.specs.declared.show.Shown.{Shown}
 use Rattle.chart_frames.specs.declared.frame.Frame.{Frame}
 use Rattle.chart_frames.specs.Frames.{Fits, spelling}
+use Rattle.chart_frames.specs.Opened.{opens}
 use Rattle.chart_service.specs.Knowing.{NamesKnown}
-use Rattle.chart_service.specs.Opening.{opens}
 use Rattle.chart_program.specs.declared.run_end.RunEnd.{RunEnd}
 use Rattle.chart_program.specs.declared.run_end.RunEnd.TheVariants.{Serve, Show}
 use Rattle.chart_program.specs.Runs.{Gives}

@@ -4,13 +4,14 @@ use Rattle.std.specs.Prelude.{◌==◌, ◌&&◌, ◌||◌, not}
 use Rattle.chart_frames.specs.declared.frame.Frame.{Frame}
 use Rattle.chart_frames.specs.declared.frame.Frame.TheVariants.{Done, Refused, Opened, Closed, View, Rows, Live}
 use Rattle.chart_frames.specs.Frames.{Fits}
+use Rattle.chart_frames.specs.Opened.{opens}
 use Rattle.series_book.specs.declared.refusals.Refusal.{Refusal}
 use Rattle.zoom_session.specs.declared.session.Session.{Session}
 use Rattle.zoom_session.specs.Sessions.{is_open}
 use Rattle.chart_service.specs.EditGroups.{IsEditReply}
 use Rattle.chart_service.specs.Knowing.{Follows, KnowsOpen, NamesKnown, EndsKnown}
 use Rattle.chart_service.specs.Making.{Makes, FrameStops}
-use Rattle.chart_service.specs.Opening.{opens, NamesOpen}
+use Rattle.chart_service.specs.Opening.{NamesOpen}
 use Rattle.chart_service.specs.Replies.{refused}
 use Rattle.chart_service.specs.declared.failure.AnswerEnd.{AnswerEnd}
 use Rattle.chart_service.specs.declared.failure.AnswerEnd.TheVariants.{Serve, Reply}

@@ -1,19 +1,10 @@
 -- Which sessions are open before and after a frame, and after want of memory.
-use Rattle.std.specs.Prelude.{ℕ, ◌≡◌, ◌≢◌, ◌⊎◌, Bool, not, ◌==◌, ◌&&◌, ◌||◌, List, Option, None, Some, Result, OnOk, IsTrue, ⊤}
+use Rattle.std.specs.Prelude.{ℕ, ◌≡◌, ◌≢◌, ◌⊎◌, List, Option, None, Some, Result, OnOk, IsTrue, ⊤}
 use Rattle.chart_frames.specs.declared.frame.Frame.{Frame}
 use Rattle.chart_frames.specs.declared.frame.Frame.TheVariants.{Done, Refused, Opened, Closed, View, Rows, Live}
+use Rattle.chart_frames.specs.Opened.{opens}
 use Rattle.zoom_session.specs.declared.session.Session.{Session}
 use Rattle.zoom_session.specs.Sessions.{is_open, session_of, without}
-
--- whether the session n is open after a frame, where it was or wasn't before it
-abbrev pub opens : Frame → ℕ → Bool → Bool
-opens (Done slots) n was = was
-opens (Refused number a b) n was = was
-opens (Opened session cache) n was = session == n || was
-opens (Closed session) n was = not (session == n) && was
-opens (View view) n was = was
-opens (Rows rows) n was = was
-opens (Live session on) n was = was
 
 -- a frame that answers in a session names one that is open
 abbrev pub NamesOpen : Frame → List Session → Type 0

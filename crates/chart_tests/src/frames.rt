@@ -58,7 +58,7 @@ fn numbers_of(alloc: Global, text: &str) -> Result<Vec<u16>, Fail> {
 }
 
 /// Appends the bytes whose numbers a text has.
-pub fn append(bytes: &mut Vec<u8>, text: &str) -> Result<(), Fail> {
+pub(crate) fn append(bytes: &mut Vec<u8>, text: &str) -> Result<(), Fail> {
     for word in text.split_whitespace() {
         bytes.push(word.parse()?)?;
     }

@@ -10,7 +10,7 @@ use std::test::Fail;
 use store_commands::opening_status;
 
 /// An empty store, on a disk whose calls of these numbers fail.
-pub fn empty(alloc: Global, fails: &[u64]) -> Result<MemDisk, Fail> {
+pub(crate) fn empty(alloc: Global, fails: &[u64]) -> Result<MemDisk, Fail> {
     let fails = Vec::from_slice(alloc, fails)?;
     match make_store(alloc, MemDisk::new(alloc, 128, fails)?) {
         Ok(disk) => Ok(disk),
@@ -19,7 +19,7 @@ pub fn empty(alloc: Global, fails: &[u64]) -> Result<MemDisk, Fail> {
 }
 
 /// A world of this disk and this input, whose takes and sends of these numbers fail.
-pub fn world_of<D: Clocked>(
+pub(crate) fn world_of<D: Clocked>(
     alloc: Global,
     disk: D,
     input: &[u8],
@@ -44,7 +44,7 @@ fn code_of(answer: Result<(), ServeEnd>) -> u8 {
 }
 
 /// The code with which `serve` ends over a world, and the world.
-pub fn served<W: World>(alloc: Global, world: W) -> Result<(u8, W), Fail> {
+pub(crate) fn served<W: World>(alloc: Global, world: W) -> Result<(u8, W), Fail> {
     let store = match open_store(alloc, world) {
         Ok(store) => store,
         Err(back) => return Ok((opening_status(back.cause).code, back.value)),
@@ -60,7 +60,7 @@ pub fn served<W: World>(alloc: Global, world: W) -> Result<(u8, W), Fail> {
 }
 
 /// The disk behind these lines over an empty store.
-pub fn behind(alloc: Global, lines: &[u8]) -> Result<MemDisk, Fail> {
+pub(crate) fn behind(alloc: Global, lines: &[u8]) -> Result<MemDisk, Fail> {
     let world = world_of(alloc, empty(alloc, &[])?, lines, &[], &[])?;
     let (code, world) = served(alloc, world)?;
     if code != 0 {

@@ -6,12 +6,13 @@ use Rattle.line_raster.specs.Canvas.{Canvas}
 use Rattle.chart_frames.specs.declared.frame.Frame.{Frame}
 use Rattle.chart_frames.specs.declared.frame.Frame.TheVariants.{Done, Refused, Opened, Closed, View, Rows, Live}
 use Rattle.chart_frames.specs.declared.frame.ViewFrame.{ViewFrame}
+use Rattle.chart_frames.specs.Opened.{opens}
 use Rattle.zoom_session.specs.declared.session.Session.{Session}
 use Rattle.zoom_session.specs.Sessions.{is_open}
 use Rattle.chart_client.specs.declared.holding.Holding.{Holding}
 use Rattle.chart_client.specs.Holdings.{holding_of}
 use Rattle.chart_client.specs.Accepting.{Accepts, AcceptsView, named_in, viewed}
-use Rattle.chart_service.specs.Opening.{opens, OpensBy}
+use Rattle.chart_service.specs.Opening.{OpensBy}
 use Rattle.demo_workload.specs.Answering.{KnowsOpen}
 
 -- what an accepted frame changes

@@ -4,6 +4,7 @@ use Rattle.std.specs.Prelude.{IfErr, OnOk}
 use Rattle.block_disk.proofs.Passing.{passes_weaker}
 use Rattle.block_disk.specs.View.{Image, View, Honest, Now, Passes, sent_now}
 use Rattle.chart_service.specs.MomentLaws.{since_both, since_none}
+use Rattle.chart_service.proofs.DiskKept.{risen_since}
 use Rattle.disk_store.specs.Held.{HoldsBook}
 use Rattle.disk_store.specs.Openings.{Opens}
 use Rattle.gate_pages.specs.GateLaws.{goes_then}
@@ -15,7 +16,7 @@ use Rattle.stored_book.proofs.CurrentLemmas.{recovers_new}
 use Rattle.stored_book.specs.Standing.{StandsForBook, RecoversTo}
 use Rattle.store_commands.proofs.CheckLooks.{left_stands}
 use Rattle.store_commands.proofs.Damages.{later_bad}
-use Rattle.store_commands.proofs.Held.{RestsNew, held, holds_same, risen_since, stands_held, within_held}
+use Rattle.store_commands.proofs.Held.{RestsNew, held, holds_same, stands_held, within_held}
 use Rattle.store_commands.proofs.Moments.{on_at, opened_goes, opened_since, since_on}
 use Rattle.store_commands.specs.Books.{LeavesSame, OfBook}
 use Rattle.store_commands.specs.Damaged.{IsDamagedLater}

@@ -1,23 +1,13 @@
 -- Which sessions are open, and which have had a view.
-use Rattle.std.specs.Prelude.{ℕ, ◌≡◌, Bool, not, ◌==◌, ◌&&◌, ◌||◌, is_some, List, All, IsTrue, filter}
+use Rattle.std.specs.Prelude.{ℕ, ◌≡◌, is_some, List, All, IsTrue, filter}
 use Rattle.chart_frames.specs.declared.frame.Frame.{Frame}
-use Rattle.chart_frames.specs.declared.frame.Frame.TheVariants.{Done, Refused, Opened, Closed, View, Rows, Live}
+use Rattle.chart_frames.specs.Opened.{opens}
 use Rattle.zoom_session.specs.declared.session.Session.{Session}
 use Rattle.zoom_session.specs.Sessions.{is_open, session_of, last_of}
 
 -- the session has had an answered view
 abbrev pub has_view : ℕ → List Session → Bool
 has_view n sessions = is_some (last_of (session_of n sessions))
-
--- whether the session n is open after a frame, where it was or wasn't before it
-abbrev pub opens : Frame → ℕ → Bool → Bool
-opens (Done slots) n was = was
-opens (Refused number a b) n was = was
-opens (Opened session cache) n was = session == n || was
-opens (Closed session) n was = not (session == n) && was
-opens (View view) n was = was
-opens (Rows rows) n was = was
-opens (Live session on) n was = was
 
 -- an Opened frame opens its session, a Closed one closes it, and no other frame changes which are open
 abbrev pub OpensBy : Frame → List Session → List Session → Type 0

@@ -14,16 +14,13 @@ use Rattle.chart_world.specs.declared.line_answer.LineFault.TheVariants as fault
 use Rattle.series_book.specs.declared.one_series.Series.{Series}
 use Rattle.stored_book.specs.Standing.{StandsForBook}
 use Rattle.retention.specs.declared.rule.Rule.{Rule}
+use Rattle.store_commands.specs.Books.{Stands}
 use Rattle.retain_command.specs.Answers.{AreRules, answers, book_behind}
 use Rattle.retain_command.specs.Doing.{LineDone, LineStops, Untouched, end_of}
 use Rattle.retain_command.specs.Sweeping.{FirstRules, SweepsAll, SweepsFirst, SweepsTaken, SweepsWithin, EndsSo, left_by, said_to}
 use Rattle.retain_command.specs.declared.retain_end.RetainEnd.{RetainEnd}
 use Rattle.retain_command.specs.declared.retain_end.RetainEnd.TheVariants.{BadLine, UnknownSeries, ReadFault, SendFault, InputTooLong, DiskFault, Damaged, NoMemory}
 use Rattle.retain_command.proofs.RuleLemmas.{Progress, no_rules, starts, next_line, next_rule, empty_passed, rule_passed, spells_some, behind_more, answers_more}
-
--- the pages stand for the book
-abbrev pub Stands : ℕ → Image → List Series → Type 0
-Stands total image after = StandsForBook image total after
 
 -- the lines so far were swept and answered
 pub record Going (total : ℕ) (book : List Series) (input : List ℕ) (bytes : Option (List ℕ)) (given : ℕ) (image : Image) (before now : Option (List ℕ)) : Type 0 where

@@ -16,17 +16,14 @@ use Rattle.series_catalog.specs.Catalogs.{entry_of, place_of, AreFit, AreAsTold}
 use Rattle.series_catalog.specs.Reading.{HasRepeatedName, AreRead}
 use Rattle.series_catalog.specs.declared.stored_series.StoredSeries.{StoredSeries}
 
--- a place that isn't there is past the end
-past_all : (n m : ℕ) → cond (ltb n m) (Some n) None ≡ None → m ≤ n
-past_all n m none = grind (arith, nat_tests)
-
 -- where no series has the name, the name of each is another
 none_named : (name : List ℕ) (series : List StoredSeries) → place_of name series ≡ None
     → (k : ℕ) (d : StoredSeries) → k < length series → (get_or series k d).name ≢ name
 unfolding place_of
 none_named name series none k d within same =
     let test : StoredSeries → Bool = λ one. bytes_eq one.name name in
-    let past : length series ≤ position_or_len test series = past_all (position_or_len test series) (length series) none in
+    let gone : cond (ltb (position_or_len test series) (length series)) (Some (position_or_len test series)) None ≡ None = none in
+    let past : length series ≤ position_or_len test series = grind (arith, nat_tests, gone) in
     let fails : test (get_or series k d) ≡ false = fails_before_first test series k d (omega arith) in
     let passes : test (get_or series k d) ≡ true = (bytes_eq-Decides (get_or series k d).name name).1 same in
     let both : true ≡ false = sym passes ∙ fails in

@@ -40,7 +40,7 @@ fn values(alloc: Global, count: usize, first: i128) -> Result<Values, Fail> {
 
 impl Deed {
     /// The edit of `a`, where the deed has one: making a store, opening one and aging it have none.
-    pub fn edit(self, alloc: Global) -> Result<Option<Edit>, Fail> {
+    pub(crate) fn edit(self, alloc: Global) -> Result<Option<Edit>, Fail> {
         let name = Name::new(alloc, b"a")?;
         let edit = match self {
             Deed::Make | Deed::Open | Deed::Age => return Ok(None),
@@ -135,7 +135,7 @@ fn made<D: Disk>(alloc: Global, disk: D) -> (bool, D) {
 }
 
 /// A disk of these bytes, which fails the calls of these numbers, and all behind the first so many.
-pub fn fused(
+pub(crate) fn fused(
     alloc: Global,
     image: &[u8],
     calls: u64,
@@ -151,7 +151,7 @@ pub fn fused(
 
 /// Does it on a disk of these bytes, which fails the calls of these numbers, and all behind the first so
 /// many: whether it was done, and the disk.
-pub fn run(
+pub(crate) fn run(
     alloc: Global,
     image: &[u8],
     deed: Deed,
@@ -178,7 +178,7 @@ fn block_of(disk: &mut MemDisk, no: u32) -> Result<[u8; BLOCK], Failed> {
 }
 
 /// The bytes of a disk from a block on.
-pub fn bytes_of(alloc: Global, mut disk: MemDisk, from: u32) -> Result<Vec<u8>, Fail> {
+pub(crate) fn bytes_of(alloc: Global, mut disk: MemDisk, from: u32) -> Result<Vec<u8>, Fail> {
     let mut bytes = Vec::new(alloc);
     for no in from..128 {
         let block = block_of(&mut disk, no)?;
@@ -217,7 +217,7 @@ fn behind(alloc: Global, mut image: Vec<u8>, deed: Deed) -> Result<Vec<u8>, Fail
 }
 
 /// The bytes of a disk of zeros after some deeds.
-pub fn after(alloc: Global, deeds: &[Deed]) -> Result<Vec<u8>, Fail> {
+pub(crate) fn after(alloc: Global, deeds: &[Deed]) -> Result<Vec<u8>, Fail> {
     let mut image = vec![in alloc; 0; 128 * BLOCK]?;
     for deed in deeds {
         image = behind(alloc, image, *deed)?;

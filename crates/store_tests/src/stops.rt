@@ -8,7 +8,7 @@ use std::alloc::Global;
 use std::test::Fail;
 
 /// The bytes of the pages that a disk stands for, once its journal is replayed.
-pub fn pages_of(alloc: Global, disk: MemDisk) -> Result<Vec<u8>, Fail> {
+pub(crate) fn pages_of(alloc: Global, disk: MemDisk) -> Result<Vec<u8>, Fail> {
     let Ok(pages) = GatePages::open(alloc, disk) else {
         return Err(Fail::new("no pages"));
     };
