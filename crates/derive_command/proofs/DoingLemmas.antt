@@ -1,5 +1,5 @@
 -- A request is answered, and a line; and what calls move.
-use Rattle.std.proofs.Common.{◌≡◌, ◌∙◌, ℕ, ℤ, ◌<◌, ◌≤◌, List, length, Option, Some, Result, Ok, Err, refl, ap, sym, subst, arith, inl, inr}
+use Rattle.std.proofs.Common.{◌≡◌, ◌∙◌, ℕ, ℤ, ◌<◌, ◌≤◌, List, length, Option, Some, Result, Ok, Err, refl, ap, sym, subst, arith, inr}
 use Rattle.std.specs.Prelude.{OnOk, IfErr}
 use Rattle.block_disk.proofs.Passing.{passes_none, passes_weaker, sends_then_sends}
 use Rattle.block_disk.specs.Counts.{HasRisen}

@@ -1,13 +1,8 @@
 -- The tokens of a line that is a request.
-use Rattle.std.proofs.Common.{◌≡◌, ◌∙◌, ℕ, ℤ, ◌+◌, ◌-◌, ◌<◌, ◌≤◌, List, [], ◌∷◌, length, take, drop, Option, Some, None, IfSome, true, ap, sym, subst, arith}
-use Rattle.std.specs.List.{position_or_len}
-use Rattle.std.specs.Prelude.{is_some}
-use Rattle.std.proofs.lemmas.List.{length-drop, take_all}
-use Rattle.std.proofs.lemmas.List.Splits.{length-slice_split, slice_split_first, slice_split_none}
-use Rattle.std.proofs.lemmas.List.Sums.{fails_before_first}
+use Rattle.std.proofs.Common.{◌≡◌, ◌∙◌, ℕ, ℤ, List, ◌∷◌, length, ap, sym, subst, arith}
 use Rattle.request_lines.proofs.SpeltRanges.{range_fit}
 use Rattle.request_lines.specs.Spelling.{SpellsRange}
-use Rattle.request_lines.specs.Tokens.{is_space, tokens}
+use Rattle.request_lines.specs.Tokens.{tokens}
 use Rattle.request_lines.specs.declared.ranges.RangeWord.{RangeWord}
 use Rattle.whole_number.proofs.Digits.{one_natural, one_integer}
 use Rattle.whole_number.specs.Spelling.{SpellsInteger, SpellsNatural}

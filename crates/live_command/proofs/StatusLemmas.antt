@@ -1,9 +1,9 @@
 -- How `live` ends, by its status.
-use Rattle.std.proofs.Common.{◌≡◌, ◌∙◌, ℕ, List, [], Option, Some, None, Result, Ok, Err, IfSome, refl, sym, subst, inl, inr, arith}
-use Rattle.block_disk.specs.View.{View, Honest, sent_now}
+use Rattle.std.proofs.Common.{◌≡◌, ◌∙◌, ℕ, List, [], Option, Result, Ok, Err, IfSome, refl, sym, subst, inl, inr, arith}
+use Rattle.block_disk.specs.View.{View, sent_now}
 use Rattle.chart_service.specs.SentLaws.{sent_none}
 use Rattle.disk_store.specs.Held.{HoldsBook}
-use Rattle.disk_store.specs.Openings.{IsOutside, Opens, Prevents}
+use Rattle.disk_store.specs.Openings.{IsOutside, Prevents}
 use Rattle.disk_store.specs.declared.causes.OpeningCause.{OpeningCause}
 use Rattle.disk_store.specs.declared.causes.OpeningCause.TheVariants as opening
 use Rattle.gate_pages.specs.Journal.{page_count}
@@ -13,7 +13,7 @@ use Rattle.store_commands.proofs.InputLemmas.{any_told}
 use Rattle.store_commands.proofs.WorldLemmas.{IsUnopened}
 use Rattle.store_commands.proofs.Held.{held}
 use Rattle.store_commands.proofs.Moments.{opened_goes, since_opened}
-use Rattle.store_commands.specs.Books.{HoldsAgain, Never, OfBook, Holds}
+use Rattle.store_commands.specs.Books.{HoldsAgain, Never, Holds}
 use Rattle.store_commands.specs.Codes.{low_code, unopened}
 use Rattle.store_commands.specs.Status.{opening_status}
 use Rattle.store_commands.specs.declared.status.Status.{Status}

@@ -3,7 +3,6 @@ use Rattle.std.specs.Prelude.{◌≡◌, ◌≢◌, ℕ, ◌+◌, ◌<◌, ◌�
 use Rattle.block_disk.specs.Counts.{HasRisen}
 use Rattle.block_disk.specs.View.{View, sent_now}
 use Rattle.chart_service.specs.Moments.{Since}
-use Rattle.disk_store.specs.Held.{HoldsBook}
 use Rattle.gate_pages.specs.Journal.{page_count}
 use Rattle.gate_pages.specs.Pages.{GoesOn}
 use Rattle.live_service.specs.LiveReplies.{LiveState}

@@ -1,12 +1,11 @@
 -- What is done over a store on a disk, in the words of the disk.
-use Rattle.std.proofs.Common.{◌≡◌, ◌≢◌, ◌∙◌, ℕ, ◌+◌, ◌≤◌, ◌<◌, ◌⊎◌, ◌^◌, Bool, List, [], ◌∷◌, length, take, Option, Some, None, Result, Ok, Err, IfSome, refl, ap, sym, subst, inl, inr, arith}
-use Rattle.std.specs.Prelude.{Contains, IfErr, OnOk}
-use Rattle.block_disk.specs.Counts.{HasRisen}
+use Rattle.std.proofs.Common.{◌≡◌, ◌≢◌, ℕ, ◌≤◌, ◌^◌, Bool, List, length, Option, Some, None, Result, Ok, Err, IfSome, subst, inl, inr, arith}
+use Rattle.std.specs.Prelude.{IfErr, OnOk}
 use Rattle.block_disk.specs.View.{Image, View, Honest, sent_now}
-use Rattle.chart_service.specs.MomentLaws.{since_both, since_none, since_so}
+use Rattle.chart_service.specs.MomentLaws.{since_both}
 use Rattle.chart_service.specs.Moments.{Since}
 use Rattle.chart_service.proofs.DiskKept.{risen_since}
-use Rattle.disk_store.proofs.Lowered.{holds_closed, lowered_is, lowered_readable}
+use Rattle.disk_store.proofs.Lowered.{lowered_is, lowered_readable}
 use Rattle.disk_store.specs.Held.{HoldsBook}
 use Rattle.disk_store.specs.Openings.{Opens}
 use Rattle.gate_pages.specs.GateLaws.{goes_then}
@@ -14,23 +13,18 @@ use Rattle.gate_pages.specs.GatePages.{IsClosed, PagesOf, pages_view}
 use Rattle.gate_pages.specs.Journal.{page_count, pages_of}
 use Rattle.gate_pages.specs.Pages.{GoesOn}
 use Rattle.series_book.specs.declared.one_series.Series.{Series}
-use Rattle.series_book.specs.EditLists.{after_edits}
-use Rattle.stored_book.specs.Damage.{IsBadForRequest}
 use Rattle.stored_book.proofs.CurrentLemmas.{recovers_new}
 use Rattle.stored_book.specs.Standing.{StandsForBook, RecoversTo}
-use Rattle.retention.specs.Drops.{book_swept}
-use Rattle.retention.specs.Sweeps.{sweeps}
 use Rattle.store_commands.proofs.Damages.{later_bad}
 use Rattle.store_commands.proofs.Held.{RestsNew, held, holds_so, stands_held, within_held}
 use Rattle.store_commands.proofs.Moments.{opened_goes, opened_quiet, since_opened}
-use Rattle.store_commands.specs.Books.{HoldsAgain, Never, OfBook, Stands, Holds, OfPages}
-use Rattle.store_commands.specs.Damaged.{IsDamagedLater}
+use Rattle.store_commands.specs.Books.{Stands, Holds, OfPages}
 use Rattle.retain_command.specs.Answers.{book_behind}
 use Rattle.store_commands.specs.Sides.{Side}
 use Rattle.retain_command.specs.Doing.{IsCause}
 use Rattle.retain_command.specs.Retained.{LeavesSwept, RetainsAll}
 use Rattle.retain_command.specs.Retaining.{IsEndCause, StopsAt, Swept}
-use Rattle.retain_command.specs.Sweeping.{AnswersNext, EndsSo, IsAhead, SweepsAll, SweepsFirst, SweepsTaken, left_by}
+use Rattle.retain_command.specs.Sweeping.{EndsSo, IsAhead, SweepsAll, SweepsFirst, left_by}
 use Rattle.retain_command.specs.declared.retain_end.RetainEnd.{RetainEnd}
 use Rattle.retain_command.specs.declared.retain_end.RetainEnd.TheVariants.{BadLine, UnknownSeries, ReadFault, SendFault, InputTooLong, DiskFault, Damaged, NoMemory}
 use Rattle.retain_command.proofs.RuleLemmas.{no_rules}

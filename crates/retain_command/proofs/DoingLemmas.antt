@@ -2,7 +2,6 @@
 use Rattle.std.proofs.Common.{◌≡◌, ◌≢◌, ◌∙◌, ◌↔◌, ℕ, ◌+◌, ◌<◌, ◌≤◌, List, [], length, take, Option, Some, None, Result, Ok, Err, IfSome, refl, ap, sym, subst, arith, inl, inr}
 use Rattle.std.specs.Prelude.{OnOk, IfErr}
 use Rattle.std.proofs.lemmas.List.{take_all}
-use Rattle.block_disk.specs.Counts.{HasRisen}
 use Rattle.block_disk.specs.Streams.{sent_after}
 use Rattle.block_disk.specs.View.{Image, View, Beside, DiskKept, Now, Only, Passes, sent_now}
 use Rattle.chart_service.specs.MomentLaws.{through_none, through_by, through_so, through_then}
@@ -13,7 +12,6 @@ use Rattle.gate_pages.specs.GateLaws.{goes_none, goes_then as goes_on_then}
 use Rattle.gate_pages.specs.Pages.{GoesOn, Quiet}
 use Rattle.series_book.specs.declared.one_series.Series.{Series}
 use Rattle.series_book.specs.EditLists.{after_edits}
-use Rattle.series_book.specs.Pages.{pages_of}
 use Rattle.stored_book.specs.Standing.{StandsForBook}
 use Rattle.retention.specs.Drops.{book_swept}
 use Rattle.retention.specs.Moving.{Carries}
@@ -26,7 +24,7 @@ use Rattle.retention.specs.declared.swept.Swept.{Swept}
 use Rattle.retain_command.specs.Answers.{answer, swept_text}
 use Rattle.store_commands.specs.Sides.{Side, AreBeside}
 use Rattle.store_commands.proofs.InputLemmas.{told_any}
-use Rattle.retain_command.specs.Doing.{DoesLine, DoesRule, Goes, IsCause, LineDone, LineMoment, LineStops, RuleDone, RuleMoment, RuleStops, TextStops, Untouched, end_at}
+use Rattle.retain_command.specs.Doing.{DoesLine, DoesRule, Goes, IsCause, LineMoment, LineStops, RuleMoment, RuleStops, TextStops, Untouched, end_at}
 use Rattle.retain_command.specs.Rules.{Spells, SaysNone}
 use Rattle.retain_command.specs.declared.retain_end.RetainEnd.{RetainEnd}
 use Rattle.retain_command.specs.declared.retain_end.RetainEnd.TheVariants.{BadLine, UnknownSeries, ReadFault, SendFault, InputTooLong, DiskFault, Damaged, NoMemory}

@@ -1,6 +1,6 @@
 -- What a crash leaves while lines are swept, and how many bytes were sent by then.
-use Rattle.std.proofs.Common.{◌≡◌, ◌∙◌, ℕ, ◌+◌, ◌-◌, ◌<◌, ◌≤◌, ◌^◌, ◌⊎◌, List, [], ◌++◌, length, Option, Some, None, Result, Ok, Err, IfSome, refl, ap, sym, subst, arith, inl, inr, length-append}
-use Rattle.block_disk.specs.Streams.{sent_after, left_after}
+use Rattle.std.proofs.Common.{◌≡◌, ℕ, ◌+◌, ◌-◌, ◌<◌, ◌≤◌, ◌^◌, List, [], length, Option, Some, None, Result, Ok, Err, IfSome, sym, subst, arith, inl, inr}
+use Rattle.block_disk.specs.Streams.{left_after}
 use Rattle.block_disk.specs.View.{Image, View, Now, Only, Passes, sent_now}
 use Rattle.chart_service.specs.MomentLaws.{since_none, since_then, through_by, through_so}
 use Rattle.chart_service.specs.Moments.{Since, Through}
@@ -18,7 +18,7 @@ use Rattle.retain_command.specs.Sweeping.{EndsSo, IsAhead, SweepsAll, left_by, s
 use Rattle.retain_command.specs.declared.retain_end.RetainEnd.{RetainEnd}
 use Rattle.retain_command.specs.declared.retain_end.RetainEnd.TheVariants.{BadLine, NoMemory}
 use Rattle.retain_command.proofs.EndLemmas.{Going, goes_first, goes_kept, goes_line, line_ends, long_ends, all_swept, fault_ends, no_memory_first}
-use Rattle.retain_command.proofs.RuleLemmas.{Progress, no_rules, next_rule}
+use Rattle.retain_command.proofs.RuleLemmas.{no_rules, next_rule}
 
 -- at each moment since the start a crash leaves a book that is ahead of it
 abbrev pub AheadOf : ℕ → List Series → List ℕ → ℕ → Image → ℕ → Type 0

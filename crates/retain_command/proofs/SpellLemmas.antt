@@ -1,15 +1,10 @@
 -- The tokens of a line that is a rule.
-use Rattle.std.proofs.Common.{◌≡◌, ◌∙◌, ℕ, ℤ, ◌+◌, ◌-◌, ◌<◌, ◌≤◌, Bool, true, false, List, [], ◌∷◌, length, take, drop, Option, Some, None, IfSome, IsTrue, refl, ap, sym, subst, arith}
-use Rattle.std.specs.List.{slice_split, before_first, after_first, position_or_len}
-use Rattle.std.specs.Prelude.{position, is_some, slice_index}
+use Rattle.std.proofs.Common.{◌≡◌, ◌∙◌, ℕ, ℤ, ◌-◌, Bool, true, List, [], ◌∷◌, length, IsTrue, ap, sym, subst, arith}
+use Rattle.std.specs.Prelude.{slice_index}
 use Rattle.std.specs.Str.{bytes_eq}
 use Rattle.std.proofs.lemmas.Slice.Eq.{bytes_eq-Decides}
 use lib.Chars.{codes}
-use Rattle.std.proofs.lemmas.List.{length-drop, take_all}
-use Rattle.std.proofs.lemmas.List.Splits.{length-slice_split, slice_split_first, slice_split_none}
-use Rattle.std.proofs.lemmas.List.Sums.{fails_before_first}
-use Rattle.request_lines.proofs.TokenLemmas.{place_found, place_missing}
-use Rattle.request_lines.specs.Tokens.{is_space, tokens}
+use Rattle.request_lines.specs.Tokens.{tokens}
 use Rattle.series_book.specs.Names.{is_name}
 use Rattle.whole_number.proofs.Digits.{one_natural, one_integer}
 use Rattle.whole_number.specs.Spelling.{SpellsInteger, SpellsNatural}

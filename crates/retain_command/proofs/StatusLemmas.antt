@@ -1,22 +1,19 @@
 -- How `retain` ends, by its status.
-use Rattle.std.proofs.Common.{◌≡◌, ◌≢◌, ◌∙◌, ℕ, zero, suc, ◌+◌, ◌≤◌, ◌<◌, ◌⊎◌, ◌^◌, List, [], ◌∷◌, length, Option, Some, None, Result, Ok, Err, IfSome, refl, ap, sym, subst, inl, inr, arith}
-use Rattle.std.specs.Prelude.{Contains}
-use Rattle.block_disk.specs.Counts.{HasRisen}
-use Rattle.block_disk.specs.View.{Image, View, Honest, sent_now}
+use Rattle.std.proofs.Common.{◌≡◌, ◌∙◌, ℕ, List, Option, Result, Ok, Err, IfSome, refl, sym, subst, inl, inr, arith}
+use Rattle.block_disk.specs.View.{View, sent_now}
 use Rattle.chart_service.specs.SentLaws.{sent_none}
 use Rattle.disk_store.specs.Held.{HoldsBook}
-use Rattle.disk_store.specs.Openings.{IsOutside, Opens, Prevents}
+use Rattle.disk_store.specs.Openings.{IsOutside, Prevents}
 use Rattle.disk_store.specs.declared.causes.OpeningCause.{OpeningCause}
 use Rattle.disk_store.specs.declared.causes.OpeningCause.TheVariants as opening
 use Rattle.gate_pages.specs.Journal.{page_count}
-use Rattle.gate_pages.specs.Pages.{GoesOn}
 use Rattle.series_book.specs.declared.one_series.Series.{Series}
 use Rattle.stored_book.specs.Standing.{RecoversTo}
 use Rattle.store_commands.proofs.InputLemmas.{any_told}
 use Rattle.store_commands.proofs.WorldLemmas.{IsUnopened}
 use Rattle.store_commands.proofs.Held.{held}
-use Rattle.store_commands.proofs.Moments.{opened_goes, opened_quiet, since_opened}
-use Rattle.store_commands.specs.Books.{HoldsAgain, Never, OfBook}
+use Rattle.store_commands.proofs.Moments.{opened_goes, since_opened}
+use Rattle.store_commands.specs.Books.{HoldsAgain, Never}
 use Rattle.store_commands.specs.Codes.{low_code, unopened}
 use Rattle.store_commands.specs.Status.{opening_status}
 use Rattle.store_commands.specs.declared.status.Status.{Status}
@@ -24,7 +21,7 @@ use Rattle.store_commands.proofs.HoldsAgain.{again_told}
 use Rattle.chart_world.specs.LineLaws.{told_so}
 use Rattle.retain_command.specs.Retained.{LeavesSwept, RetainEnds, RetainsAll, RetainsSome}
 use Rattle.retain_command.specs.Retaining.{StopsAt, Swept, answer_status}
-use Rattle.retain_command.specs.Sweeping.{SweepsAll, SweepsFirst, left_by}
+use Rattle.retain_command.specs.Sweeping.{SweepsFirst}
 use Rattle.retain_command.specs.declared.retain_end.RetainEnd.{RetainEnd}
 use Rattle.retain_command.specs.declared.retain_end.RetainEnd.TheVariants.{BadLine, UnknownSeries, ReadFault, SendFault, InputTooLong, DiskFault, Damaged, NoMemory}
 use Rattle.retain_command.proofs.DiskLemmas.{ahead_none}
