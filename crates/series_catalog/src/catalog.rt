@@ -1,7 +1,6 @@
 //! The series of a catalog.
 ghost use Rattle.std.specs.Prelude.{List, ◌≡◌, ◌<◌, ◌≤◌, ◌++◌, ◌∷◌, [], length, slice_get, Some, IfOk, OnOk, OnErr, IfSome};
 ghost use Rattle.series_catalog.specs.Catalogs.{place_of, with_tree};
-ghost use Rattle.series_catalog.specs.Shown.{series_in};
 
 use crate::errors::NoMemory;
 use crate::stored_series::StoredSeries;
@@ -21,7 +20,7 @@ impl Catalog {
     /// A catalog without a series. It takes the room of all series that there may be, so that `add` takes
     /// none.
     pub fn new(alloc: Global) -> Result<Catalog, NoMemory>
-        ensures { IfOk result (λ catalog. series_in catalog ≡ []) }
+        ensures { IfOk result (λ it. it.series.items ≡ []) }
     {
         let series = Vec::with_capacity(alloc, MOST_SERIES)?;
         Ok(Catalog { series })
