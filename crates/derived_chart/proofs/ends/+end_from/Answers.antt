@@ -1,7 +1,7 @@
 use Rattle.std.proofs.Common.{false, rules, arith, subst}
-use Rattle.std.proofs.lemmas.Result.{IfOk-weaker}
+use Rattle.std.proofs.lemmas.Result.{IfOk-weaker, IfErr-weaker}
 use Rattle.derived_chart.specs.Searches.{IsEndOf}
-use Rattle.derived_chart.proofs.SumLemmas.{value_between}
+use Rattle.derived_chart.proofs.SumLemmas.{value_between, passed_on}
 use Rattle.derived_chart.proofs.EndLemmas.{none_large, end_near, end_far}
 use Rattle.derived_chart.proofs.ends.+end_from.Goals as goal
 
@@ -40,3 +40,22 @@ returns-in-None-clause-end g t c = λ xs ys sums trees are.
     IfOk-weaker c.end_from-in-None.result (IsEndOf c.args.side c.args.large sums c.halves.result.1.0 c.halves.result.1.1) (IsEndOf c.args.side c.args.large sums c.args.p c.args.q)
     (λ o. end_far c.args.side c.args.large sums c.args.p c.args.q c.halves.result o c.halves.ensures.halves (subst (IsEndOf c.args.side c.args.large sums c.halves.result.0.0 c.halves.result.0.1) c.in-None.is (c.in_ok-found.ensures.end xs ys sums now are)))
     (c.end_from-in-None.ensures.end xs ys sums (g.met.T.TwoTrees.still_are _ _ xs ys c.in_ok-found.ensures.goes now) are)
+
+pub returns-in_err-found-clause-goes : goal.returns-in_err-found-clause-goes
+returns-in_err-found-clause-goes g t c = g.met.T.TwoTrees.goes_on _ _ _ c.in_ok-range.ensures.goes c.in_err-found.ensures.goes
+
+pub returns-in_err-found-clause-cause : goal.returns-in_err-found-clause-cause
+returns-in_err-found-clause-cause g t c =
+    passed_on c.from_residual-in_err-found.result c.in_err-found.field-0.0 (g.T.TwoTrees.causes c.args.trees.now c.end_from.new.trees) c.from_residual-in_err-found.ensures.1
+    (g.met.T.TwoTrees.causes_behind _ _ _ c.in_err-found.field-0.0 c.in_ok-range.ensures.goes c.in_err-found.ensures.cause)
+
+pub returns-in-Some-2-clause-goes : goal.returns-in-Some-2-clause-goes
+returns-in-Some-2-clause-goes g t c = g.met.T.TwoTrees.goes_on _ _ _ c.in_ok-range.ensures.goes c.in_ok-found.ensures.goes
+
+pub returns-in-None-clause-goes : goal.returns-in-None-clause-goes
+returns-in-None-clause-goes g t c = g.met.T.TwoTrees.goes_on _ _ _ c.in_ok-range.ensures.goes (g.met.T.TwoTrees.goes_on _ _ _ c.in_ok-found.ensures.goes c.end_from-in-None.ensures.goes)
+
+pub returns-in-None-clause-cause : goal.returns-in-None-clause-cause
+returns-in-None-clause-cause g t c =
+    IfErr-weaker c.end_from-in-None.result (g.T.TwoTrees.causes c.end_from.new.trees c.end_from-in-None.new.trees) (g.T.TwoTrees.causes c.args.trees.now c.end_from-in-None.new.trees)
+    (λ e. g.met.T.TwoTrees.causes_behind _ _ _ e (g.met.T.TwoTrees.goes_on _ _ _ c.in_ok-range.ensures.goes c.in_ok-found.ensures.goes)) c.end_from-in-None.ensures.cause

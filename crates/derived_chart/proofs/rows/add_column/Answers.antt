@@ -2,8 +2,9 @@ use Rattle.std.proofs.Common.{sym, subst, ◌+◌, List}
 use Rattle.std.specs.Prelude.{IfSome, ◌≡◌}
 use Rattle.m4_groups.specs.Heights.{IsDrawable}
 use Rattle.m4_groups.specs.declared.row.Row.{Row}
-use Rattle.derived_chart.specs.Rows.{IsRowIfAny, AreShown, AreRowsBelow}
-use Rattle.derived_chart.proofs.RowLemmas.{column_without, column_with, shown_with}
+use Rattle.derived_chart.specs.declared.derived_error.DerivedError.TheVariants.{Node}
+use Rattle.derived_chart.specs.Rows.{IsRowCause, IsRowIfAny, AreShown, AreRowsBelow}
+use Rattle.derived_chart.proofs.RowLemmas.{column_without, column_with, shown_with, passed_error}
 use Rattle.derived_chart.proofs.rows.add_column.Goals as goal
 
 pub returns-in_default-clause-rows : goal.returns-in_default-clause-rows
@@ -27,3 +28,7 @@ returns-clause-shown g c = λ shown.
     (shown_with c.args.grid.w c.args.column c.args.rows.now.items c.in-Some.row c.requires.drawn
     (subst (λ o. IfSome o (λ r. r.column ≡ c.args.column)) c.in-Some.is c.in_ok-row.ensures.column)
     (subst (λ o. IfSome o (IsDrawable (c.args.column + 1))) c.in-Some.is c.in_ok-row.ensures.drawable) shown)
+
+pub returns-in_err-row-clause-cause : goal.returns-in_err-row-clause-cause
+returns-in_err-row-clause-cause g c =
+    passed_error c.from_residual.result (Node c.in_err-row.field-0.0) (IsRowCause (g.T.TwoTrees.causes c.args.trees.now c.row_of_column.new.trees)) c.from_residual.ensures.1 c.in_err-row.ensures.cause

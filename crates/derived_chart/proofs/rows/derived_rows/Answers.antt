@@ -1,9 +1,10 @@
-use Rattle.std.proofs.Common.{sym, subst, rules, w64, ◌∙◌, None, List}
+use Rattle.std.proofs.Common.{arith, false, sym, subst, rules, w64, ◌∙◌, None, List}
 use Rattle.std.proofs.lemmas.Int.{to_z-of_z}
 use Rattle.m4_groups.specs.declared.row.Row.{Row}
 use Rattle.std.specs.Prelude.{All}
 use Rattle.m4_groups.specs.Heights.{IsDrawable}
 use Rattle.m4_groups.specs.Rows.{AreRowsOf}
+use Rattle.derived_chart.specs.declared.derived_error.DerivedError.TheVariants.{Node}
 use Rattle.derived_chart.specs.Rows.{IsCause, IsFirstTooLarge}
 use Rattle.plain_chart.specs.Samples.{kept, sample_points}
 use Rattle.derived_chart.specs.Lists.{sums_of}
@@ -57,3 +58,20 @@ returns-clause-drawable g c = let P : List Row → Type 0 = λ rows. All (IsDraw
 
 pub returns-clause-goes : goal.returns-clause-goes
 returns-clause-goes g c = g.met.T.TwoTrees.goes_on _ _ _ c.slots_of_first-slots.ensures.goes (g.met.T.TwoTrees.goes_on _ _ _ c.in_ok-large.ensures.goes c.in_ok-rows.ensures.goes)
+
+pub first_large_sum-requires-clause-within : goal.first_large_sum-requires-clause-within
+first_large_sum-requires-clause-within g c = omega (arith, c.window_slots-from.ensures.within, c.requires.slots, g.met.T.TwoTrees.still_count false _ _ c.slots_of_first-slots.ensures.goes)
+
+pub rows_of_columns-requires-clause-slots : goal.rows_of_columns-requires-clause-slots
+rows_of_columns-requires-clause-slots g c = c.requires.slots ∙ sym (g.met.T.TwoTrees.still_count false _ _ c.slots_of_first-slots.ensures.goes) ∙ sym (g.met.T.TwoTrees.still_count false _ _ c.in_ok-large.ensures.goes)
+
+pub returns-in_err-large-clause-goes : goal.returns-in_err-large-clause-goes
+returns-in_err-large-clause-goes g c = g.met.T.TwoTrees.goes_on _ _ _ c.slots_of_first-slots.ensures.goes c.in_err-large.ensures.goes
+
+pub returns-in-Some-clause-goes : goal.returns-in-Some-clause-goes
+returns-in-Some-clause-goes g c = g.met.T.TwoTrees.goes_on _ _ _ c.slots_of_first-slots.ensures.goes c.in_ok-large.ensures.goes
+
+pub returns-in_err-large-clause-cause : goal.returns-in_err-large-clause-cause
+returns-in_err-large-clause-cause g c =
+    passed_error c.from_residual.result (Node c.in_err-large.field-0.0) (IsCause (g.T.TwoTrees.causes c.args.trees.now c.first_large_sum.new.trees)) c.from_residual.ensures.1
+    (g.met.T.TwoTrees.causes_behind _ _ _ c.in_err-large.field-0.0 c.slots_of_first-slots.ensures.goes c.in_err-large.ensures.cause)

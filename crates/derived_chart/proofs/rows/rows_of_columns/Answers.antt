@@ -1,7 +1,7 @@
-use Rattle.std.proofs.Common.{ℕ, ◌≡◌, List, sym, subst, arith}
+use Rattle.std.proofs.Common.{ℕ, ◌≡◌, ◌∙◌, List, false, sym, subst, arith}
 use Rattle.m4_groups.specs.declared.row.Row.{Row}
-use Rattle.derived_chart.specs.Rows.{AreShown, AreRowsBelow}
-use Rattle.derived_chart.proofs.RowLemmas.{none_below, none_shown}
+use Rattle.derived_chart.specs.Rows.{AreShown, AreRowsBelow, IsRowCause}
+use Rattle.derived_chart.proofs.RowLemmas.{none_below, none_shown, passed_error, row_cause}
 use Rattle.derived_chart.proofs.rows.rows_of_columns.Goals as goal
 
 pub loop-column-init : goal.loop-column-init
@@ -25,3 +25,21 @@ returns-clause-rows g c = λ xs ys sums trees are small.
     let last : c.loop-column.column ≡ c.args.grid.w = omega (arith, c.loop-column-test.false, c.loop-column.auto.column-end, c.w-column-end.ensures.value) in
     let P : ℕ → Type 0 = λ n. AreRowsBelow c.args.axis c.args.grid sums n c.loop-column.rows.items in
     subst P last (c.loop-column.invariant.rows xs ys sums trees are small)
+
+pub add_column-requires-clause-slots : goal.add_column-requires-clause-slots
+add_column-requires-clause-slots g c = c.requires.slots ∙ sym (g.met.T.TwoTrees.still_count false _ _ c.loop-column.invariant.goes)
+
+pub returns-in_err-add_column-clause-goes : goal.returns-in_err-add_column-clause-goes
+returns-in_err-add_column-clause-goes g c = g.met.T.TwoTrees.goes_on _ _ _ c.loop-column.invariant.goes c.in_err-add_column.ensures.goes
+
+pub returns-in_err-add_column-clause-cause : goal.returns-in_err-add_column-clause-cause
+returns-in_err-add_column-clause-cause g c =
+    passed_error c.from_residual-in_err-add_column.result c.in_err-add_column.field-0.0 (IsRowCause (g.T.TwoTrees.causes c.args.trees.now c.add_column.new.trees)) c.from_residual-in_err-add_column.ensures.1
+    (row_cause (g.T.TwoTrees.causes c.loop-column.trees c.add_column.new.trees) (g.T.TwoTrees.causes c.args.trees.now c.add_column.new.trees) c.in_err-add_column.field-0.0
+    (λ n. g.met.T.TwoTrees.causes_behind _ _ _ n c.loop-column.invariant.goes) c.in_err-add_column.ensures.cause)
+
+pub returns-clause-shown : goal.returns-clause-shown
+returns-clause-shown g c =
+    let last : c.loop-column.column ≡ c.args.grid.w = omega (arith, c.loop-column-test.false, c.loop-column.auto.column-end, c.w-column-end.ensures.value) in
+    let P : ℕ → Type 0 = λ n. AreShown c.args.grid.w n c.loop-column.rows.items in
+    subst P last c.loop-column.invariant.shown
