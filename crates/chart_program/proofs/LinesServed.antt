@@ -1,7 +1,7 @@
 -- What a service did over a disk is what a serving command does.
-use Rattle.std.proofs.Common.{◌≡◌, ℕ, ◌+◌, ◌≤◌, ◌^◌, Bool, List, [], length, Option, Some, None, Result, Ok, Err, IfSome, refl, sym, ap, subst, arith}
+use Rattle.std.proofs.Common.{◌≡◌, ℕ, ◌≤◌, ◌^◌, Bool, List, [], length, Option, Some, None, Result, Ok, Err, IfSome, refl, sym, ap, subst, arith}
 use Rattle.std.specs.Prelude.{OnOk, IfErr}
-use Rattle.block_disk.specs.View.{Image, View, Honest, sent_now}
+use Rattle.block_disk.specs.View.{View, Honest, sent_now}
 use Rattle.chart_world.specs.LineLaws.{told_so}
 use Rattle.chart_client.specs.Showing.{ScreenGives}
 use Rattle.chart_client.specs.declared.errors.ClientError.TheVariants as client
@@ -25,8 +25,6 @@ use Rattle.chart_service.specs.MomentLaws.{since_none}
 use Rattle.chart_program.specs.declared.run_end.RunEnd.{RunEnd}
 use Rattle.chart_program.specs.declared.run_end.RunEnd.TheVariants as run_end
 use Rattle.chart_program.specs.Runs.{AreShown, AreShownFrom, EndsRun, EndsAtBad, IsShown}
-use Rattle.stored_book.specs.Damage.{IsBadForRequest}
-use Rattle.store_commands.specs.Damaged.{IsDamagedLater}
 use Rattle.chart_program.specs.Served.{Says, Spelled, AreTexts, Faults, AnswersAll, EndsServing, EndsLines, LeavesBooks, IsAheadOn, IsLinesCause, ReadsFrom, SyncsFrom, ServesLines, served}
 use Rattle.store_commands.specs.Books.{OfBook, HoldsAgain, begun}
 use Rattle.store_commands.proofs.HoldsAgain.{again_from}

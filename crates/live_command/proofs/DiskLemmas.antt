@@ -1,10 +1,10 @@
 -- What is done over the store of a disk, in the words of the disk.
-use Rattle.std.proofs.Common.{◌≡◌, ◌≢◌, ◌∙◌, ℕ, ◌+◌, ◌≤◌, ◌<◌, ◌^◌, Bool, List, [], length, Option, Some, None, Result, Ok, Err, IfSome, refl, ap, subst, arith}
+use Rattle.std.proofs.Common.{◌≡◌, ◌≢◌, ◌∙◌, ℕ, ◌≤◌, ◌^◌, Bool, List, [], length, Option, Some, None, Result, Ok, Err, IfSome, ap, subst, arith}
 use Rattle.std.specs.Prelude.{IfErr, OnOk}
 use Rattle.block_disk.specs.View.{Image, View, Honest, sent_now}
 use Rattle.chart_service.specs.MomentLaws.{since_both, since_none}
 use Rattle.chart_service.specs.Moments.{Since}
-use Rattle.disk_store.proofs.Lowered.{holds_closed, lowered_is, lowered_readable}
+use Rattle.disk_store.proofs.Lowered.{lowered_is, lowered_readable}
 use Rattle.disk_store.specs.Held.{HoldsBook}
 use Rattle.disk_store.specs.Openings.{Opens}
 use Rattle.chart_service.specs.SentLaws.{sent_none}
@@ -13,15 +13,14 @@ use Rattle.gate_pages.specs.GatePages.{IsClosed, PagesOf, pages_view}
 use Rattle.gate_pages.specs.Journal.{page_count, pages_of}
 use Rattle.gate_pages.specs.Pages.{GoesOn}
 use Rattle.series_book.specs.declared.one_series.Series.{Series}
-use Rattle.stored_book.specs.Damage.{IsBadForRequest}
 use Rattle.stored_book.proofs.CurrentLemmas.{recovers_new}
 use Rattle.stored_book.specs.Standing.{StandsForBook, RecoversTo}
 use Rattle.store_commands.proofs.Damages.{later_bad}
-use Rattle.store_commands.proofs.Held.{RestsNew, held, holds_so, risen_since, stands_held, within_held}
+use Rattle.store_commands.proofs.Held.{RestsNew, held, holds_so, stands_held, within_held}
 use Rattle.store_commands.proofs.Moments.{opened_goes, opened_quiet, since_opened}
-use Rattle.store_commands.specs.Damaged.{IsDamagedLater}
+use Rattle.store_commands.specs.Books.{Stands, Holds, OfPages}
 use Rattle.live_command.specs.Doing.{IsCause, Side}
-use Rattle.live_command.specs.Ended.{Holds, LeavesLived, LivesAll, ReadsFrom, ReadsLiving, SyncsLiving, begun_live}
+use Rattle.live_command.specs.Ended.{LeavesLived, LivesAll, ReadsFrom, ReadsLiving, SyncsLiving, begun_live}
 use Rattle.live_command.specs.Syncs.{SyncsLines}
 use Rattle.live_command.proofs.SyncLemmas.{nothing_synced}
 use Rattle.live_command.specs.Reads.{ReadsLines}
@@ -31,10 +30,11 @@ use Rattle.live_command.specs.Running.{EndsSo, IsAhead, SendsAll}
 use Rattle.chart_service.specs.declared.failure.ServeEnd.{ServeEnd}
 use Rattle.chart_service.specs.declared.failure.ServeEnd.TheVariants.{ReadFault, SendFault, DiskFault, Damaged, InputTooLong, NoMemory}
 use Rattle.chart_service.specs.Stepping.{state_of}
+use Rattle.chart_service.proofs.DiskKept.{risen_since}
 use Rattle.live_service.specs.LiveReplies.{LiveState}
 use Rattle.live_service.specs.Shown.{live_of}
 use Rattle.zoom_session.specs.declared.session.Session.{Session}
-use Rattle.live_command.proofs.RunLemmas.{Stands, no_lines, none_ahead}
+use Rattle.live_command.proofs.RunLemmas.{no_lines, none_ahead}
 
 -- ---- the same of a book that is there otherwise
 
@@ -76,11 +76,7 @@ ahead_on total input old from sent count crash within all image left =
 -- ---- the lines of an input over the pages of a disk, which is at rest afterwards unless a call of it failed
 
 module _ (count count' : ℕ) (sound sound' : Bool) (old new : View) (same : count' ≡ count) (told : Honest old → Honest new) (goes : GoesOn old new) (rests : RestsNew count old) where
-  -- this is so where the pages stand for a book
-  abbrev pub OfPages : (ℕ → List Series → Type 0) → Type 0
-  OfPages IsSo = (total : ℕ) (book : List Series) → Honest old → StandsForBook (pages_of count old.image) total book → IsSo total book
-
-  pub done_on : (left before now : Option (List ℕ)) → OfPages (λ total book. IfSome left (λ input. SendsAll (Stands total (pages_of count' new.image)) input (begun_live total book) before now)) → IsClosed new → IfSome left (λ input. LivesAll count old new input before now)
+  pub done_on : (left before now : Option (List ℕ)) → OfPages count old (λ total book. IfSome left (λ input. SendsAll (Stands total (pages_of count' new.image)) input (begun_live total book) before now)) → IsClosed new → IfSome left (λ input. LivesAll count old new input before now)
   done_on None before now all closed = tt
   done_on (Some input) before now all closed = λ total book holds.
       all_so (Stands total (pages_of count' new.image)) (Holds count total new) input (begun_live total book) before now (holds_so count count' old new same told total book holds closed) (all total book holds.honest (stands_held count total book old rests holds))
@@ -93,11 +89,11 @@ module _ (count count' : ℕ) (sound sound' : Bool) (old new : View) (same : cou
   end_on total book input left before now (Damaged page) holds closed s = absurd s
   end_on total book input left before now NoMemory holds closed s = ends_so (Stands total (pages_of count' new.image)) (Holds count total new) input (begun_live total book) before now (holds_so count count' old new same told total book holds (closed (λ is. cc))) left NoMemory s
 
-  pub stops_on : (left left' before now : Option (List ℕ)) (end : ServeEnd) → OfPages (λ total book. IfSome left (λ input. EndsSo (Stands total (pages_of count' new.image)) input (begun_live total book) left' before now end)) → (end ≢ DiskFault → IsClosed new) → IfSome left (λ input. StopsAt count old new input left' before now end)
+  pub stops_on : (left left' before now : Option (List ℕ)) (end : ServeEnd) → OfPages count old (λ total book. IfSome left (λ input. EndsSo (Stands total (pages_of count' new.image)) input (begun_live total book) left' before now end)) → (end ≢ DiskFault → IsClosed new) → IfSome left (λ input. StopsAt count old new input left' before now end)
   stops_on None left' before now end all closed = tt
   stops_on (Some input) left' before now end all closed = λ total book holds. end_on total book input left' before now end holds closed (all total book holds.honest (stands_held count total book old rests holds))
 
-  pub crash_on : (left before : Option (List ℕ)) → OfPages (λ total book. IfSome left (λ input. IfSome before (λ bytes. Since (pages_view count sound old) (pages_view count' sound' new) (λ pages sent. IsAhead (λ after. StandsForBook pages total after) input (begun_live total book) (sent_now (pages_view count sound old)) sent))))
+  pub crash_on : (left before : Option (List ℕ)) → OfPages count old (λ total book. IfSome left (λ input. IfSome before (λ bytes. Since (pages_view count sound old) (pages_view count' sound' new) (λ pages sent. IsAhead (λ after. StandsForBook pages total after) input (begun_live total book) (sent_now (pages_view count sound old)) sent))))
       → IfSome left (λ input. IfSome before (λ bytes. LeavesLived count input old new))
   crash_on None before all = tt
   crash_on (Some input) None all = tt

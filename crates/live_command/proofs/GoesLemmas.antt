@@ -1,5 +1,5 @@
 -- What calls move, whatever the pages are.
-use Rattle.std.proofs.Common.{◌≡◌, ◌∙◌, ℕ, ◌≤◌, List, refl, ap, sym, subst, arith, inl, inr}
+use Rattle.std.proofs.Common.{◌≡◌, ◌∙◌, ℕ, ◌≤◌, List, refl, ap, sym, subst, arith}
 use Rattle.block_disk.specs.Counts.{HasRisen}
 use Rattle.block_disk.specs.View.{Beside, DiskKept}
 use Rattle.chart_service.specs.Serving.{end_of_step}
@@ -8,9 +8,11 @@ use Rattle.chart_service.specs.declared.failure.ServeEnd.{ServeEnd}
 use Rattle.chart_service.specs.declared.failure.ServeEnd.TheVariants.{ReadFault, SendFault, DiskFault, Damaged, InputTooLong, NoMemory}
 use Rattle.chart_service.specs.declared.failure.ServiceError.{ServiceError}
 use Rattle.chart_service.specs.declared.failure.ServiceError.TheVariants as step
+use Rattle.chart_service.proofs.DiskKept.{risen_since}
 use Rattle.gate_pages.specs.GateLaws.{goes_none, goes_then as goes_on_then}
 use Rattle.gate_pages.specs.Pages.{GoesOn}
 use Rattle.zoom_session.specs.declared.session.Session.{Session}
+use Rattle.store_commands.specs.Sides.{AreBeside}
 use Rattle.live_command.specs.Doing.{Goes, Held, IsCause, Side}
 
 pub goes_nowhere : (at : Side) → Goes at at
@@ -27,13 +29,8 @@ goes_further old mid new first second = record {
   sends = omega (arith, first.sends, second.sends);
 }
 
--- what stands beside the pages are the streams
-pub record AreBeside (at : Side) : Type 0 where
-  pub reads_are : at.view.beside.read_faults ≡ at.read_faults
-  pub sends_are : at.view.beside.send_faults ≡ at.send_faults
-
 -- an answer, and a push
-pub goes_step : (old new : Side) → AreBeside old → AreBeside new → Steps old.told new.told old.view new.view → GoesOn old.under new.under → Goes old new
+pub goes_step : (old new : Side) → AreBeside old.view old.read_faults old.send_faults → AreBeside new.view new.read_faults new.send_faults → Steps old.told new.told old.view new.view → GoesOn old.under new.under → Goes old new
 goes_step old new was are steps on = record {
   is_told = steps.told;
   was_told = steps.was_told;
@@ -47,10 +44,6 @@ goes_step old new was are steps on = record {
 -- takes and sends
 pub goes_streams : (old new : Side) → DiskKept old.view new.view → (old.told → new.told) → (new.told → old.told) → GoesOn old.under new.under → old.read_faults ≤ new.read_faults → old.send_faults ≤ new.send_faults → Goes old new
 goes_streams old new kept told was_told on reads sends = record { is_told = told; was_told = was_told; size = kept.size; faults = omega (arith, kept.faults); goes_on = on; reads = reads; sends = sends }
-
-risen_since : (old mid new : ℕ) → old ≤ mid → HasRisen mid new → HasRisen old new
-risen_since old mid new low (inl more) = inl (omega (arith, low, more))
-risen_since old mid new low (inr most) = inr most
 
 -- why a later call ended is why all ended
 pub cause_later : (old mid new : Side) (end : ServeEnd) → Goes old mid → IsCause end mid new → IsCause end old new

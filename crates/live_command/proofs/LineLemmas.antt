@@ -1,5 +1,5 @@
 -- A line is answered and its frame is sent, or a push is made; and what comes of several of them.
-use Rattle.std.proofs.Common.{◌≡◌, ◌∙◌, ℕ, ◌+◌, ◌<◌, ◌≤◌, List, [], ◌∷◌, ◌++◌, length, Option, Some, None, Result, Ok, Err, IfSome, refl, ap, sym, subst, arith, inl, inr, append_assoc, length-append}
+use Rattle.std.proofs.Common.{◌≡◌, ◌∙◌, ℕ, ◌+◌, ◌<◌, ◌≤◌, List, [], ◌∷◌, ◌++◌, length, Option, Some, None, Result, Ok, Err, IfSome, refl, ap, sym, subst, arith, inl, inr, append_assoc}
 use Rattle.std.specs.Prelude.{OnOk, IfErr}
 use Rattle.std.proofs.lemmas.List.{append-nil}
 use Rattle.block_disk.specs.Streams.{sent_after}
@@ -23,14 +23,12 @@ use Rattle.live_service.specs.LiveReplies.{LiveState, ReadsPush}
 use Rattle.live_service.specs.Shown.{IsBeforeOrAfter}
 use Rattle.series_book.specs.declared.one_series.Series.{Series}
 use Rattle.stored_book.specs.Standing.{StandsForBook}
+use Rattle.store_commands.specs.Sides.{CountsSent}
+use Rattle.store_commands.proofs.InputLemmas.{told_any}
 use Rattle.live_command.specs.Doing.{AreFirst, DoesLines, FrameStops, Held, LinesDone, LinesMoment, LinesRead, LinesStop, held_with}
 use Rattle.live_command.specs.Lives.{LivesBy, spelled}
 use Rattle.live_command.specs.Reads.{ReadsBy}
 use Rattle.live_command.proofs.EventLemmas.{by_more, by_none, length_more, length_one, reads_more, reads_none, sent_then, spelled_one}
-
-pub any_told : {Q : Type 0} → Q → (b : Option (List ℕ)) → IfSome b (λ bytes. Q)
-any_told {Q} is None = tt
-any_told {Q} is (Some bytes) = is
 
 pub of_frame : (some : Option Frame) (frame : Frame) (IsSo : Frame → Type 0) → some ≡ Some frame → IfSome some IsSo → IsSo frame
 of_frame some frame IsSo is all = let P : Option Frame → Type 0 = λ o. IfSome o IsSo in subst P is all
@@ -148,7 +146,7 @@ module _ (lines : List (Option (List ℕ))) (total : ℕ) (old : LiveState) (Rep
       let there : StandsForBook new.image total book = subst S (sym kept.image) stands in
       let R : ℕ → Type 0 = λ n. ReadsBy lines (frame ∷ []) old (held_with total book held) view.reads n in
       let reads : ReadsBy lines (frame ∷ []) old (held_with total book held) view.reads new.reads = subst R (sym kept.reads) read in
-      let moments = any_told (through_then view mid new (LinesMoment lines total old (sent_now view)) made (sent_moments frame (held_with total book held) (sent_now view) mid new replied stands (sym quiet) only sends most)) before in
+      let moments = told_any (through_then view mid new (LinesMoment lines total old (sent_now view)) made (sent_moments frame (held_with total book held) (sent_now view) mid new replied stands (sym quiet) only sends most)) before in
       subst H (sym same) (by result whole stops there moments reads)
     where
       by : (r : Result T ServeEnd) → OnOk r (now ≡ sent_after (spelling frame) between) → IfErr r (FrameStops frame between now) → StandsForBook new.image total book → IfSome before (λ bytes. Through view new (LinesMoment lines total old (sent_now view))) → ReadsBy lines (frame ∷ []) old (held_with total book held) view.reads new.reads → DoesLines lines total old r view new held before now
@@ -176,7 +174,7 @@ module _ (lines : List (Option (List ℕ))) (total : ℕ) (old : LiveState) (ima
 pub unmade_does : {T : Type 0} (lines : List (Option (List ℕ))) (total : ℕ) (old : LiveState) (held : Held) (view view' : View) (before now : Option (List ℕ)) (error : ServiceError) (end : ServeEnd) → end ≡ end_of_step error → IsOutside error → NothingWith error view'.image total old.state.book → now ≡ before → Through view view' (LinesMoment lines total old (sent_now view)) → LinesRead lines old view.reads view'.reads → DoesLines {T = T} lines total old (Err end) view view' held before now
 unmade_does {T} lines total old held view view' before now error end is outside stands unsent moments reads =
     let P : ServeEnd → Type 0 = λ e. LinesStop lines total old view'.image before now e in
-    record { done = tt; stops = subst P (sym is) (unmade_so lines total old view'.image before now unsent error outside stands); moments = any_told moments before; reads = reads }
+    record { done = tt; stops = subst P (sym is) (unmade_so lines total old view'.image before now unsent error outside stands); moments = told_any moments before; reads = reads }
 
 -- with an error that is no fault of the disk nothing was committed
 pub nothing_with : (error : ServiceError) (told : Type 0) (old new : View) (total : ℕ) (book : List Series) → told → IsUnchangedFor error told old new → StandsForBook old.image total book → NothingWith error new.image total book
@@ -295,10 +293,6 @@ module _ (lines : List (Option (List ℕ))) (total : ℕ) (old : LiveState) (ima
     high = omega (arith, m.high, counted, length_more d.frames (m.shown ++ m.more), ap (λ l. length (spelled l)) (append_assoc d.frames m.shown m.more));
   }
 
--- as many bytes were sent as are told
-abbrev pub CountsSent : Option (List ℕ) → View → Type 0
-CountsSent sent at = IfSome sent (λ bytes. sent_now at ≡ length bytes)
-
 then_moments : (lines : List (Option (List ℕ))) (total : ℕ) (old : LiveState) (held : Held) (view mid new : View) (before between : Option (List ℕ)) (d : LinesDone lines total old mid.image held view.reads mid.reads before between) → CountsSent before view → CountsSent between mid
     → IfSome before (λ bytes. Through view mid (LinesMoment lines total old (sent_now view))) → IfSome between (λ bytes. Through mid new (LinesMoment [] total (held_with total d.book held) (sent_now mid))) → IfSome before (λ bytes. Through view new (LinesMoment lines total old (sent_now view)))
 then_moments lines total old held view mid new None between d begins counts first second = tt
@@ -328,7 +322,7 @@ none_does : {T : Type 0} (v : T) (total : ℕ) (book : List Series) (held : Held
 none_does {T} v total book held at before stands sound = record {
   done = record { frames = []; book = book; stands = stands; sound = sound; lives = by_none (held_with total book held); reads = reads_none (held_with total book held) at.reads; sent = sent_none before };
   stops = tt;
-  moments = any_told (through_none at (LinesMoment [] total (held_with total book held) (sent_now at))) before;
+  moments = told_any (through_none at (LinesMoment [] total (held_with total book held) (sent_now at))) before;
   reads = record { first = []; are_first = inl refl; frames = []; state = held_with total book held; count = at.reads; answered = reads_none (held_with total book held) at.reads; last = inl refl };
 }
 

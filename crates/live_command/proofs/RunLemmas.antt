@@ -23,15 +23,12 @@ use Rattle.chart_world.specs.declared.line_answer.LineFault.TheVariants as fault
 use Rattle.live_service.specs.LiveReplies.{LiveState}
 use Rattle.series_book.specs.declared.one_series.Series.{Series}
 use Rattle.stored_book.specs.Standing.{StandsForBook}
+use Rattle.store_commands.specs.Sides.{CountsSent}
+use Rattle.store_commands.specs.Books.{Stands}
 use Rattle.live_command.specs.Doing.{AreFirst, DoesLines, Held, LinesDone, LinesMoment, LinesStop, held_with}
 use Rattle.live_command.specs.Lives.{LivesBy, spelled}
 use Rattle.live_command.specs.Running.{EndsSo, FirstLines, IsAhead, SendsAll, SendsFirst, SendsTaken}
 use Rattle.live_command.proofs.EventLemmas.{by_more, by_none, length_more, sent_then}
-use Rattle.live_command.proofs.LineLemmas.{CountsSent}
-
--- the pages stand for the book
-abbrev pub Stands : ℕ → Image → List Series → Type 0
-Stands total image after = StandsForBook image total after
 
 -- the lines so far are answered, all pushes behind them made, and their frames sent
 pub record Going (input : List ℕ) (bytes : Option (List ℕ)) (given total : ℕ) (old : LiveState) (image : Image) (held : Held) (before now : Option (List ℕ)) : Type 0 where

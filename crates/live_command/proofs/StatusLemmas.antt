@@ -1,9 +1,9 @@
 -- How `live` ends, by its status.
-use Rattle.std.proofs.Common.{◌≡◌, ◌∙◌, ℕ, List, [], Option, Some, None, Result, Ok, Err, IfSome, refl, sym, subst, inl, inr, arith}
-use Rattle.block_disk.specs.View.{View, Honest, sent_now}
+use Rattle.std.proofs.Common.{◌≡◌, ◌∙◌, ℕ, List, [], Option, Result, Ok, Err, IfSome, refl, sym, subst, inl, inr, arith}
+use Rattle.block_disk.specs.View.{View, sent_now}
 use Rattle.chart_service.specs.SentLaws.{sent_none}
 use Rattle.disk_store.specs.Held.{HoldsBook}
-use Rattle.disk_store.specs.Openings.{IsOutside, Opens, Prevents}
+use Rattle.disk_store.specs.Openings.{IsOutside, Prevents}
 use Rattle.disk_store.specs.declared.causes.OpeningCause.{OpeningCause}
 use Rattle.disk_store.specs.declared.causes.OpeningCause.TheVariants as opening
 use Rattle.gate_pages.specs.Journal.{page_count}
@@ -13,29 +13,23 @@ use Rattle.store_commands.proofs.InputLemmas.{any_told}
 use Rattle.store_commands.proofs.WorldLemmas.{IsUnopened}
 use Rattle.store_commands.proofs.Held.{held}
 use Rattle.store_commands.proofs.Moments.{opened_goes, since_opened}
-use Rattle.store_commands.specs.Books.{HoldsAgain, Never, OfBook}
+use Rattle.store_commands.specs.Books.{HoldsAgain, Never, Holds}
 use Rattle.store_commands.specs.Codes.{low_code, unopened}
 use Rattle.store_commands.specs.Status.{opening_status}
 use Rattle.store_commands.specs.declared.status.Status.{Status}
-use Rattle.live_command.specs.Ended.{Holds, LeavesLived, LiveEnds, LivesAll, LivesLines, LivesSome, begun_live}
+use Rattle.store_commands.proofs.HoldsAgain.{again_told}
+use Rattle.chart_world.specs.LineLaws.{told_so}
+use Rattle.live_command.specs.Ended.{LeavesLived, LiveEnds, LivesAll, LivesLines, LivesSome, begun_live}
 use Rattle.live_command.specs.Ending.{StopsAt, Served, answer_status}
 use Rattle.live_command.specs.Running.{EndsSo, IsAhead}
 use Rattle.chart_service.specs.declared.failure.ServeEnd.{ServeEnd}
 use Rattle.chart_service.specs.declared.failure.ServeEnd.TheVariants.{ReadFault, SendFault, DiskFault, Damaged, InputTooLong, NoMemory}
 use Rattle.live_command.proofs.RunLemmas.{no_lines, none_ahead}
 
-told_so : (o : Option (List ℕ)) (P Q : List ℕ → Type 0) → ((input : List ℕ) → P input → Q input) → IfSome o P → IfSome o Q
-told_so None P Q more is = tt
-told_so (Some input) P Q more is = more input is
-
 -- the lines of an input were answered over the store of a disk
 module _ (old new : View) (left left' before now : Option (List ℕ)) (reads reads_now sends sends_now : ℕ) where
   abbrev count : ℕ
   count = page_count old.size
-
-  -- where the disk held a book it holds one again
-  again : (S : ℕ → List Series → List ℕ → Type 0) → ((total : ℕ) (book : List Series) (input : List ℕ) → S total book input → (next : List Series) × HoldsBook count total next new) → IfSome left (λ input. OfBook count old (λ total book. S total book input)) → IfSome left (λ input. HoldsAgain count old new)
-  again S next is = told_so left (λ input. OfBook count old (λ total book. S total book input)) (λ input. HoldsAgain count old new) (λ input all total book holds. next total book input (all total book holds)) is
 
   abbrev Ends : Status → Type 0
   Ends end = LiveEnds old new left left' before now reads reads_now sends sends_now end.code end.place
@@ -57,7 +51,7 @@ module _ (old new : View) (left left' before now : Option (List ℕ)) (reads rea
     much = λ is. absurd (omega (arith, is));
     small = λ is. absurd (omega (arith, is));
     zero_place = λ is. refl;
-    holds = λ other. told_so left (λ input. LivesAll count old new input before now) (λ input. HoldsAgain count old new) (λ input all total book holds. (_, (all total book holds).there)) s.done;
+    holds = λ other. told_so (λ input. LivesAll count old new input before now) (λ input. HoldsAgain count old new) left (λ input all total book holds. (_, (all total book holds).there)) s.done;
     crash = s.crash;
     goes_on = s.goes_on;
   }
@@ -77,7 +71,7 @@ module _ (old new : View) (left left' before now : Option (List ℕ)) (reads rea
     much = λ is. absurd (omega (arith, is));
     small = λ is. absurd (omega (arith, is));
     zero_place = λ is. refl;
-    holds = λ other. again (λ total book input. EndsSo (Holds count total new) input (begun_live total book) left' before now ReadFault) (λ total book input e. (_, e.sends.there)) s.stops;
+    holds = λ other. again_told count old new left (λ total book input. EndsSo (Holds count total new) input (begun_live total book) left' before now ReadFault) (λ total book input e. (_, e.sends.there)) s.stops;
     crash = s.crash;
     goes_on = s.goes_on;
   }
@@ -97,7 +91,7 @@ module _ (old new : View) (left left' before now : Option (List ℕ)) (reads rea
     much = λ is. absurd (omega (arith, is));
     small = λ is. absurd (omega (arith, is));
     zero_place = λ is. refl;
-    holds = λ other. again (λ total book input. EndsSo (Holds count total new) input (begun_live total book) left' before now SendFault) (λ total book input e. (_, e.there)) s.stops;
+    holds = λ other. again_told count old new left (λ total book input. EndsSo (Holds count total new) input (begun_live total book) left' before now SendFault) (λ total book input e. (_, e.there)) s.stops;
     crash = s.crash;
     goes_on = s.goes_on;
   }
@@ -114,10 +108,10 @@ module _ (old new : View) (left left' before now : Option (List ℕ)) (reads rea
     faulted = λ is. absurd (omega (arith, is));
     damaged = λ is. absurd (omega (arith, is));
     undamaged = λ is. absurd (omega (arith, is));
-    much = λ is. told_so left (λ input. StopsAt count old new input left' before now InputTooLong) _ (λ input all. (refl, all)) s.stops;
+    much = λ is. told_so (λ input. StopsAt count old new input left' before now InputTooLong) _ left (λ input all. (refl, all)) s.stops;
     small = λ is. absurd (omega (arith, is));
     zero_place = λ is. absurd (omega (arith, low_code 9 is));
-    holds = λ other. again (λ total book input. EndsSo (Holds count total new) input (begun_live total book) left' before now InputTooLong) (λ total book input e. (_, e.sends.there)) s.stops;
+    holds = λ other. again_told count old new left (λ total book input. EndsSo (Holds count total new) input (begun_live total book) left' before now InputTooLong) (λ total book input e. (_, e.sends.there)) s.stops;
     crash = s.crash;
     goes_on = s.goes_on;
   }
@@ -153,11 +147,11 @@ module _ (old new : View) (left left' before now : Option (List ℕ)) (reads rea
     fault = λ is. absurd (omega (arith, is));
     faulted = λ is. absurd (omega (arith, is));
     damaged = λ is. inr s.cause;
-    undamaged = λ is. told_so left (λ input. StopsAt count old new input left' before now (Damaged page)) (λ input. Never count old) (λ input all. all) s.stops;
+    undamaged = λ is. told_so (λ input. StopsAt count old new input left' before now (Damaged page)) (λ input. Never count old) left (λ input all. all) s.stops;
     much = λ is. absurd (omega (arith, is));
     small = λ is. absurd (omega (arith, is));
     zero_place = λ is. absurd (omega (arith, low_code 7 is));
-    holds = λ other. again (λ total book input. EndsSo (Holds count total new) input (begun_live total book) left' before now (Damaged page)) (λ total book input e. absurd e) s.stops;
+    holds = λ other. again_told count old new left (λ total book input. EndsSo (Holds count total new) input (begun_live total book) left' before now (Damaged page)) (λ total book input e. absurd e) s.stops;
     crash = s.crash;
     goes_on = s.goes_on;
   }
@@ -177,7 +171,7 @@ module _ (old new : View) (left left' before now : Option (List ℕ)) (reads rea
     much = λ is. absurd (omega (arith, is));
     small = λ is. absurd (omega (arith, is));
     zero_place = λ is. refl;
-    holds = λ other. again (λ total book input. EndsSo (Holds count total new) input (begun_live total book) left' before now NoMemory) (λ total book input e. (_, e.there)) s.stops;
+    holds = λ other. again_told count old new left (λ total book input. EndsSo (Holds count total new) input (begun_live total book) left' before now NoMemory) (λ total book input e. (_, e.there)) s.stops;
     crash = s.crash;
     goes_on = s.goes_on;
   }

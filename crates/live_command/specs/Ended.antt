@@ -3,7 +3,6 @@ use Rattle.std.specs.Prelude.{◌≡◌, ◌≢◌, ℕ, ◌+◌, ◌<◌, ◌�
 use Rattle.block_disk.specs.Counts.{HasRisen}
 use Rattle.block_disk.specs.View.{View, sent_now}
 use Rattle.chart_service.specs.Moments.{Since}
-use Rattle.disk_store.specs.Held.{HoldsBook}
 use Rattle.gate_pages.specs.Journal.{page_count}
 use Rattle.gate_pages.specs.Pages.{GoesOn}
 use Rattle.live_service.specs.LiveReplies.{LiveState}
@@ -11,7 +10,7 @@ use Rattle.live_service.specs.Shown.{live_of}
 use Rattle.series_book.specs.declared.one_series.Series.{Series}
 use Rattle.stored_book.specs.Damage.{IsBadForRequest}
 use Rattle.stored_book.specs.Standing.{RecoversTo}
-use Rattle.store_commands.specs.Books.{HoldsAgain, Never, OfBook, begun}
+use Rattle.store_commands.specs.Books.{HoldsAgain, Never, OfBook, begun, Holds}
 use Rattle.store_commands.specs.Damaged.{IsDamagedAtFirst, IsDamagedLater}
 use Rattle.store_commands.specs.Traffic.{Traffic}
 use Rattle.store_commands.specs.declared.status.Status.{Status}
@@ -22,10 +21,6 @@ use Rattle.live_command.specs.Running.{IsAhead, SendsAll, SendsLines, SendsPart,
 -- how the command begins: with the book that the disk holds, no session, and so no one that follows
 abbrev pub begun_live : ℕ → List Series → LiveState
 begun_live total book = live_of (begun total book) [] []
-
--- the disk holds the book
-abbrev pub Holds : ℕ → ℕ → View → List Series → Type 0
-Holds count total disk book = HoldsBook count total book disk
 
 -- all lines of the input are answered, all pushes are made, and all these frames were sent
 abbrev pub LivesAll : ℕ → View → View → List ℕ → Option (List ℕ) → Option (List ℕ) → Type 0

@@ -6,12 +6,12 @@ use Rattle.chart_service.specs.declared.failure.ServeEnd.{ServeEnd}
 use Rattle.chart_service.specs.declared.failure.ServeEnd.TheVariants.{ReadFault, SendFault, DiskFault, Damaged, InputTooLong, NoMemory}
 use Rattle.gate_pages.specs.Pages.{GoesOn}
 use Rattle.stored_book.specs.Damage.{IsBadForRequest}
-use Rattle.store_commands.specs.Books.{OfBook}
+use Rattle.store_commands.specs.Books.{OfBook, Holds}
 use Rattle.store_commands.specs.Damaged.{IsDamagedLater}
 use Rattle.store_commands.specs.Status.{status}
 use Rattle.store_commands.specs.Traffic.{Traffic}
 use Rattle.store_commands.specs.declared.status.Status.{Status}
-use Rattle.live_command.specs.Ended.{Holds, LeavesLived, LivesAll, begun_live}
+use Rattle.live_command.specs.Ended.{LeavesLived, LivesAll, begun_live}
 use Rattle.live_command.specs.Running.{EndsSo}
 
 -- the status of why not all lines were answered

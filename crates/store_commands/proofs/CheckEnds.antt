@@ -8,6 +8,7 @@ use Rattle.gate_pages.specs.Pages.{GoesOn}
 use Rattle.series_book.specs.declared.one_series.Series.{Series}
 use Rattle.series_store.specs.Counting.{AreSound}
 use Rattle.disk_store.specs.Held.{HoldsBook}
+use Rattle.chart_service.proofs.DiskKept.{risen_since}
 use Rattle.store_commands.specs.Damaged.{IsDamagedLater, IsDamagedPlace}
 use Rattle.disk_store.specs.Openings.{Opens, Prevents, IsOutside}
 use Rattle.disk_store.specs.declared.causes.OpeningCause.{OpeningCause}
@@ -19,7 +20,7 @@ use Rattle.store_commands.specs.Books.{OfBook, Never, LeavesSame}
 use Rattle.store_commands.specs.Status.{opening_status}
 use Rattle.store_commands.specs.Codes.{low_of_four, unopened}
 use Rattle.store_commands.specs.declared.status.Status.{Status}
-use Rattle.store_commands.proofs.Held.{held, risen_since}
+use Rattle.store_commands.proofs.Held.{held}
 use Rattle.store_commands.proofs.Moments.{opened_since, opened_goes, since_on}
 use Rattle.store_commands.specs.Checked.{AreWhole, SendsCounts, SendsCountsPart, IsBadForCheck, CheckEnds}
 use Rattle.store_commands.specs.Checking.{EndsCheck, ChecksStore}

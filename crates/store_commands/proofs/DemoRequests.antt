@@ -25,13 +25,14 @@ use Rattle.chart_service.specs.MomentLaws.{since_none, since_both}
 use Rattle.chart_service.specs.Moments.{Since}
 use Rattle.chart_service.specs.State.{State}
 use Rattle.chart_service.specs.Stepping.{StandsAfter}
+use Rattle.chart_service.proofs.DiskKept.{risen_since}
 use Rattle.demo_workload.specs.declared.demo_end.DemoEnd.{DemoEnd}
 use Rattle.demo_workload.specs.declared.demo_end.DemoEnd.TheVariants.{DiskFault, Damaged, Missing, BadCoefficient, NoMemory}
 use Rattle.demo_workload.specs.declared.summaries.Summary.{Summary}
 use Rattle.demo_workload.specs.Ending.{IsOutside, IsCause}
 use Rattle.demo_workload.specs.Replying.{Summarizes, IsPartWay}
 use Rattle.store_commands.specs.Books.{OfBook, FromBook, begun}
-use Rattle.store_commands.proofs.Held.{RestsNew, held, stands_held, within_held, from_book, risen_since}
+use Rattle.store_commands.proofs.Held.{RestsNew, held, stands_held, within_held, from_book}
 use Rattle.store_commands.proofs.Moments.{since_opened, since_worked, on_book, opened_quiet, opened_goes}
 use Rattle.store_commands.specs.Demonstrated.{AnswersFirst, IsAheadDemo, LeavesDemo}
 use Rattle.store_commands.specs.Answering.{Answered, HasNumberedKey, IsEndCause}

@@ -32,6 +32,7 @@ use Rattle.stored_book.specs.Records.{entry}
 use Rattle.stored_book.specs.Standing.{StandsForBook, book_pages, RecoversTo}
 use Rattle.stored_book.proofs.CurrentLemmas.{recovers_new}
 use Rattle.chart_service.specs.MomentLaws.{since_none}
+use Rattle.chart_service.proofs.DiskKept.{risen_since}
 use Rattle.store_commands.specs.Books.{Never, LeavesSame, SendsPartOf}
 use Rattle.store_commands.specs.Codes.{low_of_four}
 use Rattle.store_commands.specs.Exported.{ExportEnds, ExportsAll, ExportsPart, IsBadInTree}
@@ -39,7 +40,7 @@ use Rattle.store_commands.specs.Exporting.{ExportsStore, export_status}
 use Rattle.store_commands.specs.Loaded.{OfSeries}
 use Rattle.store_commands.specs.Status.{status}
 use Rattle.store_commands.specs.declared.status.Status.{Status}
-use Rattle.store_commands.proofs.Held.{RestsNew, stands_held, within_held, held, holds_same, risen_since}
+use Rattle.store_commands.proofs.Held.{RestsNew, stands_held, within_held, held, holds_same}
 use Rattle.store_commands.proofs.Moments.{opened_goes, since_on, on_at}
 use Rattle.store_commands.proofs.CheckEnds.{since_both}
 use Rattle.store_commands.proofs.CheckLooks.{left_stands}

@@ -21,9 +21,10 @@ use Rattle.demo_workload.specs.declared.demo_end.DemoEnd.TheVariants as demo_end
 use Rattle.demo_workload.specs.declared.summaries.Summary.{Summary}
 use Rattle.request_lines.specs.declared.requests.Request.{Request}
 use Rattle.demo_workload.specs.Replying.{Summarizes}
+use Rattle.chart_world.specs.LineLaws.{told_so}
 use Rattle.store_commands.specs.Demonstrated.{AnswersFirst}
 use Rattle.store_commands.specs.Answering.{Answered}
-use Rattle.store_commands.specs.Books.{FromBook, HoldsAgain, HoldsPages}
+use Rattle.store_commands.specs.Books.{FromBook, HoldsAgain, HoldsPages, OfBook}
 use Rattle.store_commands.specs.Storing.{Stores}
 use Rattle.store_commands.proofs.Held.{held, holds_sent}
 
@@ -77,3 +78,10 @@ again_loaded name count old new left left' before now reads reads_now sends send
 pub again_answered : (requests : List Request) (count : ℕ) (old new : View) (answer : Result Summary DemoEnd) → answer ≢ Err demo_end.DiskFault → Answered requests count old new answer → HoldsAgain count old new
 again_answered requests count old new (Ok summary) other a = again_from count old new (λ start state. Summarizes requests start state summary) a.done
 again_answered requests count old new (Err end) other a = again_from count old new (AnswersFirst requests) (a.stopped (λ is. other (ap Err is)))
+
+-- where a part of an input was done
+pub again_told : (count : ℕ) (old new : View) (left : Option (List ℕ)) (S : ℕ → List Series → List ℕ → Type 0)
+    → ((total : ℕ) (book : List Series) (input : List ℕ) → S total book input → (next : List Series) × HoldsBook count total next new) → IfSome left (λ input. OfBook count old (λ total book. S total book input))
+    → IfSome left (λ input. HoldsAgain count old new)
+again_told count old new left S next is =
+    told_so (λ input. OfBook count old (λ total book. S total book input)) (λ input. HoldsAgain count old new) left (λ input all total book holds. next total book input (all total book holds)) is

@@ -11,6 +11,11 @@ pub any_told : (o : Option (List ℕ)) (P : List ℕ → Type 0) → ((input : L
 any_told None P all = tt
 any_told (Some input) P all = all input
 
+-- what is so is so of one that is told
+pub told_any : {Q : Type 0} → Q → (o : Option (List ℕ)) → IfSome o (λ bytes. Q)
+told_any {Q} is None = tt
+told_any {Q} is (Some bytes) = is
+
 -- a line that a step of the reader passes, among the first 2^32 bytes, is the next one
 pub passed_next : (input front rest : List ℕ) (bytes : Option (List ℕ)) (given : ℕ) (line : Option (List ℕ)) → Passed input front rest bytes given line → given ≤ 2 ^ 32 → NextLine (length front) rest line
 passed_next input front rest bytes given line passed early = record {

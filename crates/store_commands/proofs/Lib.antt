@@ -16,4 +16,5 @@ pub mod TurnedAway
 pub mod WorldLemmas
 pub mod Damages
 pub mod InputLemmas
+pub mod TokenLemmas
 pub mod HoldsAgain

@@ -17,6 +17,7 @@ use Rattle.stored_book.specs.Standing.{StandsForBook, book_pages, RecoversTo}
 use Rattle.stored_book.proofs.CurrentLemmas.{book_current, book_keeps, recovers_new}
 use Rattle.chart_service.specs.MomentLaws.{since_both, since_so}
 use Rattle.chart_service.specs.Moments.{Since}
+use Rattle.chart_service.proofs.DiskKept.{risen_since}
 use Rattle.series_load.specs.Sets.{IsNamed, IsAfterSome}
 use Rattle.series_load.specs.Ends.{IsLoaded}
 use Rattle.series_load.specs.Fronts.{PlacedLine}
@@ -26,21 +27,18 @@ use Rattle.series_load.proofs.Joined.{told_nothing}
 use Rattle.series_load.specs.declared.load_end.LoadEnd.{LoadEnd}
 use Rattle.series_load.specs.declared.load_end.LoadEnd.TheVariants.{UnknownSeries, BadLine, Refused, ReadFault, InputTooLong, DiskFault, Damaged, NoMemory}
 use Rattle.series_load.proofs.Knowing.{some_at_first}
+use Rattle.chart_world.specs.LineLaws.{told_so}
 use Rattle.store_commands.specs.declared.status.Status.{Status}
 use Rattle.store_commands.specs.Books.{OfBook, IsOn, IsOnBook, HoldsPages}
 use Rattle.store_commands.specs.Status.{opening_status}
 use Rattle.store_commands.specs.Sending.{SendsText}
 use Rattle.store_commands.specs.Codes.{low_code, sent_code, unsent, unopened}
-use Rattle.store_commands.proofs.Held.{held, risen_since}
+use Rattle.store_commands.proofs.Held.{held}
 use Rattle.store_commands.proofs.Moments.{since_opened, since_sent, opened_since, opened_goes, opened_quiet}
 use Rattle.store_commands.specs.Loaded.{OfSeries, Unnamed, LoadEnds, IsAheadLoad, LeavesLoads, RefusesSet, KeepsUnnamed, HoldsSome, LoadsSome, loaded_text}
 use Rattle.store_commands.specs.Storing.{StopsAt, IsEndCause, Stores, end_status}
 
 -- ---- the store is opened first
-
-told_so : (o : Option (List ℕ)) (P Q : List ℕ → Type 0) → ((input : List ℕ) → P input → Q input) → IfSome o P → IfSome o Q
-told_so None P Q more is = tt
-told_so (Some input) P Q more is = more input is
 
 module _ (name : List ℕ) (old mid new : View) (opens : Opens (page_count old.size) old mid) where
   of_series : (IsSo : ℕ → List Series → Series → Type 0) → OfSeries (page_count old.size) mid name IsSo → OfSeries (page_count old.size) old name IsSo
@@ -94,7 +92,7 @@ module _ (name : List ℕ) (old mid new : View) (opens : Opens (page_count old.s
   stores_opened : (left left' before now : Option (List ℕ)) (reads reads_now sends sends_now : ℕ) (answer : Result ℕ LoadEnd) → Stores name (page_count old.size) mid new left left' before now reads reads_now sends sends_now answer
       → Stores name (page_count old.size) old new left left' before now reads reads_now sends sends_now answer
   stores_opened left left' before now reads reads_now sends sends_now (Ok readings) s = record {
-    done = told_so left _ _ (λ input all. of_series (λ total book series. HoldsPages (page_count old.size) total (IsLoaded total name book series input readings) new) all) s.done;
+    done = told_so _ _ left (λ input all. of_series (λ total book series. HoldsPages (page_count old.size) total (IsLoaded total name book series input readings) new) all) s.done;
     within = s.within;
     some = λ other. of_series (λ total book series. HoldsPages (page_count old.size) total (IsAfterSome total name book series left) new) (s.some other);
     stops = tt;
@@ -114,7 +112,7 @@ module _ (name : List ℕ) (old mid new : View) (opens : Opens (page_count old.s
     done = tt;
     within = tt;
     some = λ other. of_series (λ total book series. HoldsPages (page_count old.size) total (IsAfterSome total name book series left) new) (s.some other);
-    stops = told_so left _ _ (λ input is. stops_on input left' e is) s.stops;
+    stops = told_so _ _ left (λ input is. stops_on input left' e is) s.stops;
     cause = cause_on e reads reads_now s.cause;
     named = of_series (λ total book series. Err e ≢ Err UnknownSeries) s.named;
     unnamed = λ total book holds none. s.unnamed total book (held old mid opens total book holds) none;
@@ -343,7 +341,7 @@ stopped_ends name old new left left' before now reads reads_now sends sends_now 
   fault = λ is. absurd (omega (arith, is));
   damaged = λ is. absurd (omega (arith, is));
   undamaged = λ is. absurd (omega (arith, is));
-  bad = λ is. told_so left _ _ (λ input is. is) s.stops;
+  bad = λ is. told_so _ _ left (λ input is. is) s.stops;
   much = λ is. absurd (omega (arith, is));
   past = λ is. absurd (omega (arith, is));
   small = λ is. absurd (omega (arith, is));
@@ -371,7 +369,7 @@ stopped_ends name old new left left' before now reads reads_now sends sends_now 
   much = λ is. absurd (omega (arith, is));
   past = λ is. absurd (omega (arith, is));
   small = λ is. absurd (omega (arith, is));
-  refused = λ is. told_so left _ _ (λ input all total book holds series named. (at, refusal, refl, all total book holds series named)) s.stops;
+  refused = λ is. told_so _ _ left (λ input all total book holds series named. (at, refusal, refl, all total book holds series named)) s.stops;
   unknown = λ is total book holds none. let same = s.unnamed total book holds none in cc;
   unnamed = unnamed_end name (page_count old.size) old new left left' (Err (Refused at refusal)) 14 s.unnamed s.untouched (λ is. refl);
   nothing = λ whole sent. s.sent_is;
@@ -385,7 +383,7 @@ stopped_ends name old new left left' before now reads reads_now sends sends_now 
   within = λ is. absurd (omega (arith, is));
   memory = λ is. absurd (omega (arith, is));
   read = λ is. s.cause;
-  stopped = λ is. told_so left _ _ (λ input is. is) s.stops;
+  stopped = λ is. told_so _ _ left (λ input is. is) s.stops;
   send = λ is. absurd (omega (arith, is));
   part = λ is. absurd (omega (arith, is));
   fault = λ is. absurd (omega (arith, is));
@@ -417,7 +415,7 @@ stopped_ends name old new left left' before now reads reads_now sends sends_now 
   undamaged = λ is. absurd (omega (arith, is));
   bad = λ is. absurd (omega (arith, is));
   much = λ is. refl;
-  past = λ is. told_so left _ _ (λ input is. is) s.stops;
+  past = λ is. told_so _ _ left (λ input is. is) s.stops;
   small = λ is. absurd (omega (arith, is));
   refused = λ is. absurd (omega (arith, is));
   unknown = λ is. absurd (omega (arith, is));
@@ -556,13 +554,13 @@ sent_ends name old mid new left left_mid left' before between now reads reads_mi
     pages_kept count total (IsLoaded total name book series input readings) mid new t.kept t.time (all total book holds series named) in
     record {
       codes = one_code end.code t.codes;
-      done = λ is. told_so left _ _ (λ input all total book holds series named. (readings, HELD input all total book holds series named, t.whole is)) s.done;
+      done = λ is. told_so _ _ left (λ input all total book holds series named. (readings, HELD input all total book holds series named, t.whole is)) s.done;
       within = λ is. s.within;
       memory = λ is. some_told name count old new left (λ total book holds series named. pages_kept count total (IsAfterSome total name book series left) mid new t.kept t.time (s.some (λ same. cc) total book holds series named));
       read = λ is. absurd (few.1 is);
       stopped = λ is. absurd (few.1 is);
       send = t.send;
-      part = λ is. told_so left _ _ (λ input all total book holds series named. (readings, HELD input all total book holds series named, t.part is)) s.done;
+      part = λ is. told_so _ _ left (λ input all total book holds series named. (readings, HELD input all total book holds series named, t.part is)) s.done;
       fault = λ is. absurd (omega (arith, is, few.0));
       damaged = λ is. absurd (omega (arith, is, few.0));
       undamaged = λ is. absurd (omega (arith, is, few.0));

@@ -6,7 +6,7 @@ use Rattle.gate_pages.specs.GatePages.{IsReadable}
 use Rattle.gate_pages.specs.Journal.{pages_of}
 use Rattle.series_book.specs.declared.one_series.Series.{Series}
 use Rattle.disk_store.specs.Held.{HoldsBook}
-use Rattle.stored_book.specs.Standing.{KeepsOldStore, book_pages, RecoversTo}
+use Rattle.stored_book.specs.Standing.{KeepsOldStore, StandsForBook, book_pages, RecoversTo}
 use Rattle.chart_service.specs.Moments.{Since}
 use Rattle.chart_service.specs.State.{State}
 
@@ -17,6 +17,17 @@ begun total book = record { book = book; total = total; sessions = [] }
 -- this is so of the book that the disk holds
 abbrev pub OfBook : ℕ → View → (ℕ → List Series → Type 0) → Type 0
 OfBook count disk IsSo = (total : ℕ) (book : List Series) → HoldsBook count total book disk → IsSo total book
+
+-- this is so where its pages stand for a book
+abbrev pub OfPages : ℕ → View → (ℕ → List Series → Type 0) → Type 0
+OfPages count disk IsSo = (total : ℕ) (book : List Series) → Honest disk → StandsForBook (pages_of count disk.image) total book → IsSo total book
+
+-- the pages stand for the book, or the disk holds it
+abbrev pub Stands : ℕ → Image → List Series → Type 0
+Stands total image book = StandsForBook image total book
+
+abbrev pub Holds : ℕ → ℕ → View → List Series → Type 0
+Holds count total disk book = HoldsBook count total book disk
 
 -- From the book that the disk held this was done, and the disk holds the book that it left.
 abbrev pub FromBook : ℕ → View → View → (State → State → Type 0) → Type 0

@@ -2,7 +2,9 @@
 use Rattle.std.specs.Prelude.{ℕ, ◌≡◌, ◌+◌, ◌≤◌, List, [], ◌∷◌, Contains, Option, Result, Ok, Err}
 use Rattle.block_disk.specs.Counts.{HasRisen}
 use Rattle.block_disk.specs.View.{View}
+use Rattle.block_disk.specs.declared.disk.Disk.{Ghosts}
 use Rattle.gate_pages.specs.Pages.{GoesOn}
+use Rattle.gate_pages.specs.declared.gate_pages.GatePages.{GatePages}
 use Rattle.series_book.specs.Pages.{series_pages}
 use Rattle.series_export.specs.declared.window.Window.{Window}
 use Rattle.series_store.specs.declared.send_errors.SendError.{SendError}
@@ -41,6 +43,6 @@ pub record ExportsStore (name : List ℕ) (window : Option Window) (count : ℕ)
   pub reads : OfSeries count old name (λ total book series. new.reads ≤ old.reads + series_pages series.slots)
   pub goes_on : GoesOn old new
 
--- the same by what passed through the streams
-abbrev pub ExportsOn : List ℕ → Option Window → ℕ → View → View → Traffic → Status → Type 0
-ExportsOn name window count old new t end = ExportsStore name window count old new t.sent t.sent_now t.sends t.sends_now end
+-- the same over the pages of an open store on a world, by what passed through the streams
+abbrev pub ExportsOn : {W : Type 0} {disk : Ghosts W} → List ℕ → Option Window → (W → View) → GatePages W disk → W → Traffic → Status → Type 0
+ExportsOn name window view pages new t end = ExportsStore name window pages.count (view pages.disk) (view new) t.sent t.sent_now t.sends t.sends_now end

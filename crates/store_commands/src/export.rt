@@ -45,7 +45,7 @@ fn export_opened<W: World>(
     mut store: Store<GatePages<W>>,
 ) -> (Status, W)
     requires { IsTrue (shown.pages store).sound }
-    ensures exports { let pages = shown.pages store in ExportsOn name.now window pages.count (W.view pages.disk) (W.view result.1) (traffic W.left W.sent W.read_faults W.send_faults pages.disk result.1) result.0 }
+    ensures exports { let pages = shown.pages store in ExportsOn name.now window W.view pages result.1 (traffic W.left W.sent W.read_faults W.send_faults pages.disk result.1) result.0 }
     ensures untaken { W.left result.1 ≡ W.left (shown.pages store).disk }
 {
     let Some(info) = store.series(name) else {

@@ -29,5 +29,5 @@ returns g c =
     let R : ℕ → Type 0 = λ n. Answered (workload c.args.seed n) pages.count (view disk) (view new) answer in
     let D : g.row.W.Denot → Type 0 = λ d. Answered (workload c.args.seed c.args.rounds) pages.count (view disk) (view d) answer in
     subst D (sym same_disk) (subst R c.from.ensures (answered_by (workload c.args.seed c.from.result) pages.count end_pages.count pages.sound end_pages.sound (view disk) (view new) after.sessions
-    made.runs.size made.runs.told made.runs.faults made.runs.beside made.goes_on (rests_new pages.count (view disk) c.args.service.store.space.superblock (pages.at_rest c.requires.sound) (c.args.service.store.space.spelled c.requires.sound)) c.frames_have_one_answer.ensures.numbered answer
+    made.runs.size made.runs.told made.runs.faults made.runs.beside made.goes_on (rests_new pages.count (view disk) (shown.numbers c.args.service) (pages.at_rest c.requires.sound) (c.args.service.store.space.spelled c.requires.sound)) c.frames_have_one_answer.ensures.numbered answer
     made.done made.standing made.moments made.left made.cause closed))
