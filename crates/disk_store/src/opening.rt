@@ -1,5 +1,5 @@
 //! A store on a disk is opened.
-ghost use Rattle.std.specs.Prelude.{◌≡◌, ◌≤◌, ◌<◌, ◌+◌, ◌^◌, ℕ, List, IfOk, IfErr, IsTrue};
+ghost use Rattle.std.specs.Prelude.{◌≡◌, ◌≤◌, ◌<◌, ◌+◌, ◌^◌, ℕ, List, IfOk, IfErr, IsTrue, ◌≢◌};
 ghost use Rattle.block_disk.specs.View.{View, Honest};
 ghost use Rattle.gate_pages.specs.Journal.{page_count};
 ghost use Rattle.stored_book.specs.Standing.{StandsForBook, book_pages};
@@ -32,6 +32,9 @@ pub fn open_store<D: Disk>(
     disk: D,
 ) -> Result<Store<GatePages<D>>, Back<D, OpeningCause>>
     ensures cause { IfErr result (λ back. Prevents back.cause (D.view disk) (D.view back.value)) }
+    // a fault is counted exactly where it is the cause
+    ensures quiet { IfOk result (λ store. (shown.view store).faults ≡ (D.view disk).faults) }
+    ensures quiet_err { IfErr result (λ back. back.cause ≢ OpeningCause.DiskFault → (D.view back.value).faults ≡ (D.view disk).faults) }
     ensures place { IfErr result (λ back. IsOpeningPlace back.cause) }
     ensures a_store { ForRecovered (D.view disk) (λ total book. IfErr result (λ back. IsOutside back.cause)) }
     ensures large { IfOk result (λ store. 128 ≤ (D.view disk).size) }

@@ -21,6 +21,8 @@ use std::alloc::Global;
 /// pages from before or an empty store.
 pub fn make_store<D: Disk>(alloc: Global, disk: D) -> Result<D, Back<D, InitCause>>
     ensures cause { IfErr result (λ back. Prevents back.cause (D.view disk) (D.view back.value)) }
+    ensures quiet { IfOk result (λ made. (D.view made).faults ≡ (D.view disk).faults) }
+    ensures quiet_err { IfErr result (λ back. back.cause ≢ InitCause.DiskFault → (D.view back.value).faults ≡ (D.view disk).faults) }
     ensures no_memory { IfErr result (λ back. back.cause ≡ InitCause.NoMemory → KeepsPages (D.view disk) (D.view back.value)) }
     ensures large { IfOk result (λ made. 128 ≤ (D.view disk).size) }
     ensures fresh { IfOk result (λ made. Honest (D.view disk) → HasStore (page_count (D.view disk).size) (D.view disk).image → ⊥) }
@@ -58,6 +60,8 @@ pub fn make_store<D: Disk>(alloc: Global, disk: D) -> Result<D, Back<D, InitCaus
 fn make_anew<D: Disk>(alloc: Global, disk: D) -> Result<D, Back<D, InitCause>>
     requires broken { IsBrokenNow (D.view disk) }
     ensures cause { IfErr result (λ back. Prevents back.cause (D.view disk) (D.view back.value)) }
+    ensures quiet { IfOk result (λ made. (D.view made).faults ≡ (D.view disk).faults) }
+    ensures quiet_err { IfErr result (λ back. back.cause ≢ InitCause.DiskFault → (D.view back.value).faults ≡ (D.view disk).faults) }
     ensures no_memory { IfErr result (λ back. back.cause ≡ InitCause.NoMemory → KeepsPages (D.view disk) (D.view back.value)) }
     ensures never_there { IfErr result (λ back. back.cause ≢ InitCause.IsStore) }
     ensures large { IfOk result (λ made. 128 ≤ (D.view disk).size) }

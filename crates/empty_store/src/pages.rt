@@ -21,6 +21,8 @@ pub(crate) fn make_pages<P: Pages>(alloc: Global, pages: P) -> Result<P, Back<P,
     requires sound { (P.view pages).fit }
     requires many { 62 ≤ (P.view pages).size }
     ensures cause { IfErr result (λ back. PreventsPages back.cause (P.told pages) (P.view pages) (P.view back.value)) }
+    ensures quiet { IfOk result (λ made. (P.view made).faults ≡ (P.view pages).faults) }
+    ensures quiet_err { IfErr result (λ back. back.cause ≢ InitCause.DiskFault → (P.view back.value).faults ≡ (P.view pages).faults) }
     ensures no_memory { IfErr result (λ back. back.cause ≡ InitCause.NoMemory → P.told pages → (P.view back.value).image ≡ (P.view pages).image) }
     ensures fresh { IfOk result (λ made. P.told pages → HasMagic (current (P.view pages).image 0) → ⊥) }
     ensures makes { P.told pages → Makes (P.view pages) (P.view (given result)) }
@@ -57,6 +59,8 @@ fn make_new<P: Pages>(alloc: Global, mut pages: P) -> Result<P, Back<P, InitCaus
     requires sound { (P.view pages).fit }
     requires many { 62 ≤ (P.view pages).size }
     ensures cause { IfErr result (λ back. PreventsPages back.cause (P.told pages) (P.view pages) (P.view back.value)) }
+    ensures quiet { IfOk result (λ made. (P.view made).faults ≡ (P.view pages).faults) }
+    ensures quiet_err { IfErr result (λ back. back.cause ≢ InitCause.DiskFault → (P.view back.value).faults ≡ (P.view pages).faults) }
     ensures no_memory { IfErr result (λ back. back.cause ≡ InitCause.NoMemory → P.told pages → (P.view back.value).image ≡ (P.view pages).image) }
     ensures fresh { IfOk result (λ made. P.told pages → HasOldMagic ((P.view pages).image 0) → ⊥) }
     ensures makes { P.told pages → Makes (P.view pages) (P.view (given result)) }
@@ -91,6 +95,8 @@ pub(crate) fn write_pages<P: Pages>(alloc: Global, pages: P) -> Result<P, Back<P
     requires sound { (P.view pages).fit }
     requires many { 62 ≤ (P.view pages).size }
     ensures cause { IfErr result (λ back. PreventsPages back.cause (P.told pages) (P.view pages) (P.view back.value)) }
+    ensures quiet { IfOk result (λ made. (P.view made).faults ≡ (P.view pages).faults) }
+    ensures quiet_err { IfErr result (λ back. back.cause ≢ InitCause.DiskFault → (P.view back.value).faults ≡ (P.view pages).faults) }
     ensures never_there { IfErr result (λ back. back.cause ≢ InitCause.IsStore) }
     ensures no_memory { IfErr result (λ back. back.cause ≡ InitCause.NoMemory → back.value ≡ pages) }
     ensures unsound { IfErr result (λ back. back.cause ≡ InitCause.DiskFault → (P.view back.value).fit → ⊥) }

@@ -1,4 +1,5 @@
-ghost use Rattle.std.specs.Prelude.{◌≡◌, ℤ, ◌+◌, ◌-◌, ◌*◌, ◌<◌, ◌≤◌, List, Option, None, IfOk, IfErr, All, length};
+ghost use Rattle.std.specs.Prelude.{◌≡◌, ℤ, ◌+◌, ◌-◌, ◌*◌, ◌<◌, ◌≤◌, List, Option, None, IfOk, IfErr, All, length, ◌≢◌, OnOk};
+ghost use Rattle.om3_coeff.specs.declared.errors.NodeError.TheVariants.{DiskFault};
 ghost use Rattle.om3_coeff.specs.Keys.{height};
 ghost use Rattle.om3_coeff.specs.View.{Agrees};
 ghost use Rattle.m4_groups.specs.Rows.{AreRising, AreRowsOf};
@@ -43,6 +44,8 @@ pub fn m4_rows<N: Nodes>(
     ensures reads { (N.view nodes.new).reads ≤ (N.view nodes.old).reads + ((plan.now.slots.1 - plan.now.slots.0) + 2 * height axis.slots) }
     ensures faults { (N.view nodes.old).faults ≤ (N.view nodes.new).faults }
     ensures cause { IfErr result (IsCauseOf (N.view nodes.old) (N.view nodes.new)) }
+    ensures quiet { OnOk result ((N.view nodes.new).faults ≡ (N.view nodes.old).faults) }
+    ensures quiet_err { IfErr result (λ e. e ≢ ScanError.Node DiskFault → (N.view nodes.new).faults ≡ (N.view nodes.old).faults) }
 {
     let scan = Scan::of(axis, plan);
     let mut table = empty_table(alloc, plan.grid.w())?;
@@ -69,6 +72,8 @@ fn rows_by_table<N: Nodes>(
     ensures reads { (N.view nodes.new).reads ≤ (N.view nodes.old).reads + ((scan.now.end - scan.now.from) + 2 * height scan.now.axis.slots) }
     ensures faults { (N.view nodes.old).faults ≤ (N.view nodes.new).faults }
     ensures cause { IfErr result (IsCauseOf (N.view nodes.old) (N.view nodes.new)) }
+    ensures quiet { OnOk result ((N.view nodes.new).faults ≡ (N.view nodes.old).faults) }
+    ensures quiet_err { IfErr result (λ e. e ≢ ScanError.Node DiskFault → (N.view nodes.new).faults ≡ (N.view nodes.old).faults) }
 {
     let root = nodes.root();
     let top = top_key(nodes.slots());
@@ -95,6 +100,8 @@ pub fn rows_of_query<N: Nodes>(
     ensures reads { (N.view nodes.new).reads ≤ (N.view nodes.old).reads + (query.now.axis.slots + 2 * height query.now.axis.slots) }
     ensures faults { (N.view nodes.old).faults ≤ (N.view nodes.new).faults }
     ensures cause { IfErr result (IsCauseOf (N.view nodes.old) (N.view nodes.new)) }
+    ensures quiet { OnOk result ((N.view nodes.new).faults ≡ (N.view nodes.old).faults) }
+    ensures quiet_err { IfErr result (λ e. e ≢ ScanError.Node DiskFault → (N.view nodes.new).faults ≡ (N.view nodes.old).faults) }
 {
     let plan = rewrite(alloc, query)?;
     m4_rows(alloc, nodes, query.axis, &plan)

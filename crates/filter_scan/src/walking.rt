@@ -1,4 +1,4 @@
-ghost use Rattle.std.specs.Prelude.{◌≡◌, ℕ, ℤ, ◌+◌, ◌*◌, ◌<◌, ◌≤◌, List, Option, Some, IfOk, IfErr, OnOk, length};
+ghost use Rattle.std.specs.Prelude.{◌≡◌, ℕ, ℤ, ◌+◌, ◌*◌, ◌<◌, ◌≤◌, List, Option, Some, IfOk, IfErr, OnOk, length, ◌≢◌};
 ghost use Rattle.om3_coeff.specs.Keys.{first_slot, end_slot};
 ghost use Rattle.whole_number.specs.Range.{IsValue};
 ghost use Rattle.om3_coeff.specs.View.{Agrees, HasCause, MayAsk};
@@ -40,6 +40,8 @@ pub(crate) fn fill_below<N: Nodes>(
     ensures reads { (N.view nodes.new).reads ≤ (N.view nodes.old).reads + most_asks scan.now key }
     ensures faults { (N.view nodes.old).faults ≤ (N.view nodes.new).faults }
     ensures cause { IfErr result (HasCause (N.view nodes.old) (N.view nodes.new)) }
+    ensures quiet { OnOk result ((N.view nodes.new).faults ≡ (N.view nodes.old).faults) }
+    ensures quiet_err { IfErr result (λ e. e ≢ NodeError.DiskFault → (N.view nodes.new).faults ≡ (N.view nodes.old).faults) }
 {
     let Some(span) = span else {
         return Ok(());
@@ -91,6 +93,8 @@ fn whole_row<N: Nodes>(nodes: &mut N, column: u16, key: Key, span: Span) -> Resu
     ensures reads { (N.view nodes.new).reads ≤ (N.view nodes.old).reads + 2 * key.level }
     ensures faults { (N.view nodes.old).faults ≤ (N.view nodes.new).faults }
     ensures cause { IfErr result (HasCause (N.view nodes.old) (N.view nodes.new)) }
+    ensures quiet { OnOk result ((N.view nodes.new).faults ≡ (N.view nodes.old).faults) }
+    ensures quiet_err { IfErr result (λ e. e ≢ NodeError.DiskFault → (N.view nodes.new).faults ≡ (N.view nodes.old).faults) }
 {
     let first = end_value(nodes, Side::First, key, span)?;
     let last = end_value(nodes, Side::Last, key, span)?;

@@ -1,4 +1,4 @@
-ghost use Rattle.std.specs.Prelude.{◌≡◌, ◌+◌, ◌≤◌, Option, None, Some, IfOk, IfErr, OnOk, OnErr};
+ghost use Rattle.std.specs.Prelude.{◌≡◌, ◌+◌, ◌≤◌, Option, None, Some, IfOk, IfErr, OnOk, OnErr, ◌≢◌};
 ghost use Rattle.om3_coeff.specs.Keys.{page_levels, left_of, right_of};
 ghost use Rattle.om3_coeff.specs.Spans.{hull};
 ghost use Rattle.om3_coeff.specs.View.{MayAsk, HasCause};
@@ -40,6 +40,8 @@ pub(crate) fn ask<N: Nodes>(
     ensures reads { (N.view nodes.new).reads ≤ (N.view nodes.old).reads + page_levels (N.view nodes.old).slots }
     ensures faults { (N.view nodes.old).faults ≤ (N.view nodes.new).faults }
     ensures cause { IfErr result (HasCause (N.view nodes.old) (N.view nodes.new)) }
+    ensures quiet { OnOk result ((N.view nodes.new).faults ≡ (N.view nodes.old).faults) }
+    ensures quiet_err { IfErr result (λ e. e ≢ NodeError.DiskFault → (N.view nodes.new).faults ≡ (N.view nodes.old).faults) }
     ensures named { IfErr result (NamesWanted (N.view nodes.old) window.now) }
 {
     let coef = nodes.coef(key, span)?;

@@ -1,4 +1,5 @@
-ghost use Rattle.std.specs.Prelude.{◌≡◌, ℤ, ◌+◌, ◌*◌, ◌<◌, ◌≤◌, List, [], Option, Some, IfOk, IfErr, OnOk, length};
+ghost use Rattle.std.specs.Prelude.{◌≡◌, ℤ, ◌+◌, ◌*◌, ◌<◌, ◌≤◌, List, [], Option, Some, IfOk, IfErr, OnOk, length, ◌≢◌};
+ghost use Rattle.om3_coeff.specs.declared.errors.NodeError.TheVariants.{DiskFault};
 ghost use Rattle.om3_coeff.specs.Keys.{height, page_levels};
 ghost use Rattle.view_keys.specs.Wanted.{Seen};
 ghost use Rattle.needed_nodes.specs.Serving.{Serves, ServesList, IsCauseOf};
@@ -34,6 +35,8 @@ pub(crate) fn rows_of_columns<N: Nodes>(
     ensures reads { (N.view nodes.new).reads ≤ (N.view nodes.old).reads + window.now.grid.w * (2 * height window.now.axis.slots + 2 * page_levels window.now.axis.slots) }
     ensures faults { (N.view nodes.old).faults ≤ (N.view nodes.new).faults }
     ensures cause { IfErr result (IsCauseOf (N.view nodes.old) (N.view nodes.new) window.now) }
+    ensures quiet { OnOk result ((N.view nodes.new).faults ≡ (N.view nodes.old).faults) }
+    ensures quiet_err { IfErr result (λ e. e ≢ ScanOf.Node DiskFault → (N.view nodes.new).faults ≡ (N.view nodes.old).faults) }
     ensures found { IfOk result (λ rows. HasColumns (N.view nodes.old) window.now window.now.grid.w keys.old.items keys.new.items rows.items) }
 {
     let mut rows = Vec::new(alloc);
@@ -71,6 +74,8 @@ fn add_column<N: Nodes>(
     ensures reads { (N.view nodes.new).reads ≤ (N.view nodes.old).reads + (2 * height window.now.axis.slots + 2 * page_levels window.now.axis.slots) }
     ensures faults { (N.view nodes.old).faults ≤ (N.view nodes.new).faults }
     ensures cause { IfErr result (IsCauseOf (N.view nodes.old) (N.view nodes.new) window.now) }
+    ensures quiet { OnOk result ((N.view nodes.new).faults ≡ (N.view nodes.old).faults) }
+    ensures quiet_err { IfErr result (λ e. e ≢ ScanOf.Node DiskFault → (N.view nodes.new).faults ≡ (N.view nodes.old).faults) }
     ensures found { OnOk result (HasColumn (N.view nodes.old) window.now column keys.old.items keys.new.items rows.old.items rows.new.items) }
 {
     let Some(found) = blocks else {
@@ -99,6 +104,8 @@ fn ends_of<N: Nodes>(
     ensures reads { (N.view nodes.new).reads ≤ (N.view nodes.old).reads + (2 * height window.now.axis.slots + 2 * page_levels window.now.axis.slots) }
     ensures faults { (N.view nodes.old).faults ≤ (N.view nodes.new).faults }
     ensures cause { IfErr result (IsCauseOf (N.view nodes.old) (N.view nodes.new) window.now) }
+    ensures quiet { OnOk result ((N.view nodes.new).faults ≡ (N.view nodes.old).faults) }
+    ensures quiet_err { IfErr result (λ e. e ≢ ScanOf.Node DiskFault → (N.view nodes.new).faults ≡ (N.view nodes.old).faults) }
     ensures found { IfOk result (HasEnds (N.view nodes.old) window.now column blocks.span keys.old.items keys.new.items) }
 {
     let first = blocks.first;

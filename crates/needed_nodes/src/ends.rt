@@ -1,4 +1,5 @@
-ghost use Rattle.std.specs.Prelude.{◌≡◌, ◌+◌, ◌≤◌, None, IfOk, IfErr};
+ghost use Rattle.std.specs.Prelude.{◌≡◌, ◌+◌, ◌≤◌, None, IfOk, IfErr, ◌≢◌, OnOk};
+ghost use Rattle.om3_coeff.specs.declared.errors.NodeError.TheVariants.{DiskFault};
 ghost use Rattle.om3_coeff.specs.Keys.{page_levels};
 ghost use Rattle.om3_coeff.specs.View.{MayAsk};
 ghost use Rattle.view_keys.specs.Wanted.{Seen};
@@ -95,6 +96,8 @@ pub(crate) fn follow<N: Nodes>(
     ensures reads { (N.view nodes.new).reads ≤ (N.view nodes.old).reads + most_ends span sought key + page_levels (N.view nodes.old).slots }
     ensures faults { (N.view nodes.old).faults ≤ (N.view nodes.new).faults }
     ensures cause { IfErr result (IsCauseOf (N.view nodes.old) (N.view nodes.new) window.now) }
+    ensures quiet { OnOk result ((N.view nodes.new).faults ≡ (N.view nodes.old).faults) }
+    ensures quiet_err { IfErr result (λ e. e ≢ ScanOf.Node DiskFault → (N.view nodes.new).faults ≡ (N.view nodes.old).faults) }
     ensures found { IfOk result (Follows (N.view nodes.old) (N.view nodes.new) window.now column key span sought keys.old.items keys.new.items) }
 {
     let Some(span) = span else {

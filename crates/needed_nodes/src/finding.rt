@@ -1,4 +1,5 @@
-ghost use Rattle.std.specs.Prelude.{◌≡◌, ◌+◌, ◌≤◌, IfErr, OnOk, length};
+ghost use Rattle.std.specs.Prelude.{◌≡◌, ◌+◌, ◌≤◌, IfErr, OnOk, length, ◌≢◌};
+ghost use Rattle.om3_coeff.specs.declared.errors.NodeError.TheVariants.{DiskFault};
 ghost use Rattle.om3_coeff.specs.View.{MayAsk};
 ghost use Rattle.needed_nodes.specs.Ranks.{IsTopmost};
 ghost use Rattle.needed_nodes.specs.Serving.{IsReady, IsCauseOf};
@@ -30,6 +31,8 @@ pub(crate) fn find_blocks<N: Nodes>(
     ensures reads { (N.view nodes.new).reads ≤ (N.view nodes.old).reads + most_cut window.now key }
     ensures faults { (N.view nodes.old).faults ≤ (N.view nodes.new).faults }
     ensures cause { IfErr result (IsCauseOf (N.view nodes.old) (N.view nodes.new) window.now) }
+    ensures quiet { OnOk result ((N.view nodes.new).faults ≡ (N.view nodes.old).faults) }
+    ensures quiet_err { IfErr result (λ e. e ≢ ScanOf.Node DiskFault → (N.view nodes.new).faults ≡ (N.view nodes.old).faults) }
     ensures found { OnOk result (Finds (N.view nodes.old) (N.view nodes.new) window.now key keys.old.items keys.new.items table.old table.new) }
 {
     let Some(span) = span else {

@@ -1,4 +1,4 @@
-ghost use Rattle.std.specs.Prelude.{◌≡◌, ℤ, ◌+◌, ◌*◌, ◌<◌, ◌≤◌, List, Option, IfOk, IfErr};
+ghost use Rattle.std.specs.Prelude.{◌≡◌, ℤ, ◌+◌, ◌*◌, ◌<◌, ◌≤◌, List, Option, IfOk, IfErr, ◌≢◌, OnOk};
 ghost use Rattle.om3_coeff.specs.Keys.{height};
 ghost use Rattle.om3_coeff.specs.Spans.{IsProperIfAny};
 ghost use Rattle.om3_coeff.specs.View.{Agrees, HasCause};
@@ -28,6 +28,8 @@ pub fn window_span<N: Nodes>(
     ensures reads { (N.view nodes.new).reads ≤ (N.view nodes.old).reads + 2 * height axis.slots }
     ensures faults { (N.view nodes.old).faults ≤ (N.view nodes.new).faults }
     ensures cause { IfErr result (HasCause (N.view nodes.old) (N.view nodes.new)) }
+    ensures quiet { OnOk result ((N.view nodes.new).faults ≡ (N.view nodes.old).faults) }
+    ensures quiet_err { IfErr result (λ e. e ≢ NodeError.DiskFault → (N.view nodes.new).faults ≡ (N.view nodes.old).faults) }
 {
     borders_part_columns();
     let (from, _) = grid.slot_range(axis, 0);

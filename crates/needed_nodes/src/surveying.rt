@@ -1,4 +1,5 @@
-ghost use Rattle.std.specs.Prelude.{◌≡◌, ℤ, ◌+◌, ◌*◌, ◌<◌, ◌≤◌, ◌≤ℤ◌, List, Option, None, Some, IfOk, IfErr, All, length};
+ghost use Rattle.std.specs.Prelude.{◌≡◌, ℤ, ◌+◌, ◌*◌, ◌<◌, ◌≤◌, ◌≤ℤ◌, List, Option, None, Some, IfOk, IfErr, All, length, ◌≢◌, OnOk};
+ghost use Rattle.om3_coeff.specs.declared.errors.NodeError.TheVariants.{DiskFault};
 ghost use Rattle.om3_coeff.specs.declared.key.Key.{Key};
 ghost use Rattle.om3_coeff.specs.Coefs.{coef};
 ghost use Rattle.m4_groups.specs.Rows.{AreRising};
@@ -64,6 +65,8 @@ pub fn survey<N: Nodes>(
     ensures reads { (N.view nodes.new).reads ≤ (N.view nodes.old).reads + most_reads grid.w axis.slots }
     ensures faults { (N.view nodes.old).faults ≤ (N.view nodes.new).faults }
     ensures cause { IfErr result (IsCauseFor (N.view nodes.old) (N.view nodes.new) axis grid lo hi) }
+    ensures quiet { OnOk result ((N.view nodes.new).faults ≡ (N.view nodes.old).faults) }
+    ensures quiet_err { IfErr result (λ e. e ≢ ScanOf.Node DiskFault → (N.view nodes.new).faults ≡ (N.view nodes.old).faults) }
 {
     let explored = explore(alloc, nodes, axis, grid, lo, hi)?;
     let mut keys = explored.keys;
@@ -103,6 +106,8 @@ pub fn needed<N: Nodes>(
     ensures reads { (N.view nodes.new).reads ≤ (N.view nodes.old).reads + most_reads grid.w axis.slots }
     ensures faults { (N.view nodes.old).faults ≤ (N.view nodes.new).faults }
     ensures cause { IfErr result (IsCauseFor (N.view nodes.old) (N.view nodes.new) axis grid lo hi) }
+    ensures quiet { OnOk result ((N.view nodes.new).faults ≡ (N.view nodes.old).faults) }
+    ensures quiet_err { IfErr result (λ e. e ≢ ScanOf.Node DiskFault → (N.view nodes.new).faults ≡ (N.view nodes.old).faults) }
 {
     let explored = explore(alloc, nodes, axis, grid, lo, hi)?;
     let mut keys = explored.keys;
@@ -136,6 +141,8 @@ pub fn rows_of<N: Nodes>(
     ensures reads { (N.view nodes.new).reads ≤ (N.view nodes.old).reads + most_reads grid.w axis.slots }
     ensures faults { (N.view nodes.old).faults ≤ (N.view nodes.new).faults }
     ensures cause { IfErr result (IsCauseFor (N.view nodes.old) (N.view nodes.new) axis grid lo hi) }
+    ensures quiet { OnOk result ((N.view nodes.new).faults ≡ (N.view nodes.old).faults) }
+    ensures quiet_err { IfErr result (λ e. e ≢ ScanOf.Node DiskFault → (N.view nodes.new).faults ≡ (N.view nodes.old).faults) }
 {
     let explored = explore(alloc, nodes, axis, grid, lo, hi)?;
     Ok(Rows::from_vec(explored.rows))
@@ -167,6 +174,8 @@ fn explore<N: Nodes>(
     ensures reads { (N.view nodes.new).reads ≤ (N.view nodes.old).reads + most_reads grid.w axis.slots }
     ensures faults { (N.view nodes.old).faults ≤ (N.view nodes.new).faults }
     ensures cause { IfErr result (IsCauseFor (N.view nodes.old) (N.view nodes.new) axis grid lo hi) }
+    ensures quiet { OnOk result ((N.view nodes.new).faults ≡ (N.view nodes.old).faults) }
+    ensures quiet_err { IfErr result (λ e. e ≢ ScanOf.Node DiskFault → (N.view nodes.new).faults ≡ (N.view nodes.old).faults) }
 {
     wanted_keys_are_needed();
     let mut keys = Vec::new(alloc);
@@ -200,6 +209,8 @@ fn explore_window<N: Nodes>(
     ensures reads { (N.view nodes.new).reads ≤ (N.view nodes.old).reads + most_reads window.now.grid.w window.now.axis.slots }
     ensures faults { (N.view nodes.old).faults ≤ (N.view nodes.new).faults }
     ensures cause { IfErr result (IsCauseOf (N.view nodes.old) (N.view nodes.new) window.now) }
+    ensures quiet { OnOk result ((N.view nodes.new).faults ≡ (N.view nodes.old).faults) }
+    ensures quiet_err { IfErr result (λ e. e ≢ ScanOf.Node DiskFault → (N.view nodes.new).faults ≡ (N.view nodes.old).faults) }
 {
     let root = nodes.root();
     let top = top_key(nodes.slots());

@@ -6,3 +6,4 @@ pub mod KnownLemmas
 pub mod WalkLemmas
 pub mod ListLemmas
 pub mod EndLemmas
+pub mod CauseLemmas

@@ -1,4 +1,4 @@
-ghost use Rattle.std.specs.Prelude.{◌≡◌, ◌+◌, ◌≤◌, ◌⊎◌, None, Some, IfOk, IfErr, OnOk, OnErr, IsSome};
+ghost use Rattle.std.specs.Prelude.{◌≡◌, ◌≢◌, ◌+◌, ◌≤◌, ◌⊎◌, None, Some, IfOk, IfErr, OnOk, OnErr, IsSome};
 ghost use Rattle.om3_coeff.specs.Keys.{page_levels, left_of, right_of};
 ghost use Rattle.om3_coeff.specs.Spans.{IsProper, IsProperIfAny, hull};
 ghost use Rattle.om3_coeff.specs.View.{known_of, IsNodeOf, MayAsk, HasCause, NamesOnly};
@@ -32,6 +32,8 @@ pub fn ask<N: Nodes>(
     ensures reads { (N.view nodes.new).reads ≤ (N.view nodes.old).reads + page_levels (N.view nodes.old).slots }
     ensures faults { (N.view nodes.old).faults ≤ (N.view nodes.new).faults }
     ensures cause { IfErr result (HasCause (N.view nodes.old) (N.view nodes.new)) }
+    ensures quiet { OnOk result ((N.view nodes.new).faults ≡ (N.view nodes.old).faults) }
+    ensures quiet_err { IfErr result (λ e. e ≢ NodeError.DiskFault → (N.view nodes.new).faults ≡ (N.view nodes.old).faults) }
     ensures named { IfErr result (NamesOnly key) }
 {
     let coef = nodes.coef(key, span)?;

@@ -1,4 +1,4 @@
-ghost use Rattle.std.specs.Prelude.{◌≡◌, ℤ, ◌+◌, ◌*◌, ◌≤◌, min, max, List, Option, IfOk, IfErr, IfSome, IfNone, IsSome, OnOk};
+ghost use Rattle.std.specs.Prelude.{◌≡◌, ◌≢◌, ℤ, ◌+◌, ◌*◌, ◌≤◌, min, max, List, Option, IfOk, IfErr, IfSome, IfNone, IsSome, OnOk};
 ghost use Rattle.om3_coeff.specs.Keys.{first_slot, end_slot, height};
 ghost use Rattle.om3_coeff.specs.View.{Agrees, HasCause, MayAsk};
 ghost use Rattle.om3_coeff.specs.Walks.{IsReached, IsFirstStored, IsLastStored, IsSlotIn, StaysBelow, most_cut};
@@ -25,6 +25,8 @@ pub fn first_in<N: Nodes>(nodes: &mut N, a: u64, b: u64) -> Result<Option<(u64, 
     ensures reads { (N.view nodes.new).reads ≤ (N.view nodes.old).reads + 3 * height (N.view nodes.old).slots }
     ensures faults { (N.view nodes.old).faults ≤ (N.view nodes.new).faults }
     ensures cause { IfErr result (HasCause (N.view nodes.old) (N.view nodes.new)) }
+    ensures quiet { OnOk result ((N.view nodes.new).faults ≡ (N.view nodes.old).faults) }
+    ensures quiet_err { IfErr result (λ e. e ≢ NodeError.DiskFault → (N.view nodes.new).faults ≡ (N.view nodes.old).faults) }
 {
     let root = nodes.root();
     let top = top_key(nodes.slots());
@@ -54,6 +56,8 @@ fn first_below<N: Nodes>(
     ensures some { IfOk result (λ found. IsSome span → a ≤ first_slot key → end_slot key ≤ b → IsSome found) }
     ensures faults { (N.view nodes.old).faults ≤ (N.view nodes.new).faults }
     ensures cause { IfErr result (HasCause (N.view nodes.old) (N.view nodes.new)) }
+    ensures quiet { OnOk result ((N.view nodes.new).faults ≡ (N.view nodes.old).faults) }
+    ensures quiet_err { IfErr result (λ e. e ≢ NodeError.DiskFault → (N.view nodes.new).faults ≡ (N.view nodes.old).faults) }
 {
     let Some(span) = span else {
         return Ok(None);
@@ -85,6 +89,8 @@ pub fn last_in<N: Nodes>(nodes: &mut N, a: u64, b: u64) -> Result<Option<(u64, i
     ensures reads { (N.view nodes.new).reads ≤ (N.view nodes.old).reads + 3 * height (N.view nodes.old).slots }
     ensures faults { (N.view nodes.old).faults ≤ (N.view nodes.new).faults }
     ensures cause { IfErr result (HasCause (N.view nodes.old) (N.view nodes.new)) }
+    ensures quiet { OnOk result ((N.view nodes.new).faults ≡ (N.view nodes.old).faults) }
+    ensures quiet_err { IfErr result (λ e. e ≢ NodeError.DiskFault → (N.view nodes.new).faults ≡ (N.view nodes.old).faults) }
 {
     let root = nodes.root();
     let top = top_key(nodes.slots());
@@ -114,6 +120,8 @@ fn last_below<N: Nodes>(
     ensures some { IfOk result (λ found. IsSome span → a ≤ first_slot key → end_slot key ≤ b → IsSome found) }
     ensures faults { (N.view nodes.old).faults ≤ (N.view nodes.new).faults }
     ensures cause { IfErr result (HasCause (N.view nodes.old) (N.view nodes.new)) }
+    ensures quiet { OnOk result ((N.view nodes.new).faults ≡ (N.view nodes.old).faults) }
+    ensures quiet_err { IfErr result (λ e. e ≢ NodeError.DiskFault → (N.view nodes.new).faults ≡ (N.view nodes.old).faults) }
 {
     let Some(span) = span else {
         return Ok(None);

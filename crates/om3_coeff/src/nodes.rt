@@ -1,4 +1,4 @@
-ghost use Rattle.std.specs.Prelude.{◌≡◌, ◌+◌, ◌^◌, ◌≤◌, Option, None, Some, IfOk, IfErr, OnOk, OnErr, IsSome};
+ghost use Rattle.std.specs.Prelude.{◌≡◌, ◌≢◌, ◌+◌, ◌^◌, ◌≤◌, Option, None, Some, IfOk, IfErr, OnOk, OnErr, IsSome};
 ghost use Rattle.om3_coeff.specs.Keys.{page_levels};
 ghost use Rattle.om3_coeff.specs.Spans.{IsProper, IsProperIfAny};
 ghost use Rattle.om3_coeff.specs.Coefs.{parts};
@@ -51,6 +51,8 @@ pub trait Nodes: Drop {
         // each error has its cause, and a key in it is the one that was asked
         ensures faults { (view self.old).faults ≤ (view self.new).faults }
         ensures cause { IfErr result (HasCause (view self.old) (view self.new)) }
+        ensures quiet { OnOk result ((view self.new).faults ≡ (view self.old).faults) }
+        ensures quiet_err { IfErr result (λ e. e ≢ NodeError.DiskFault → (view self.new).faults ≡ (view self.old).faults) }
         ensures named { IfErr result (NamesOnly key) };
 
     /// No ask keeps all, and what is kept by asks and by asks after them is kept by both together.

@@ -1,4 +1,4 @@
-ghost use Rattle.std.specs.Prelude.{◌≡◌, ℤ, ◌+◌, ◌*◌, ◌<◌, ◌≤◌, min, max, List, Option, Some, IfOk, IfErr, IfSome, OnOk, slice_get};
+ghost use Rattle.std.specs.Prelude.{◌≡◌, ◌≢◌, ℤ, ◌+◌, ◌*◌, ◌<◌, ◌≤◌, min, max, List, Option, Some, IfOk, IfErr, IfSome, OnOk, slice_get};
 ghost use Rattle.om3_coeff.specs.Keys.{first_slot, end_slot, height};
 ghost use Rattle.om3_coeff.specs.Spans.{IsProperIfAny, span_of_slot, span_over};
 ghost use Rattle.whole_number.specs.Range.{IsValue};
@@ -27,6 +27,8 @@ pub fn value_at<N: Nodes>(nodes: &mut N, slot: u64) -> Result<Option<i64>, NodeE
     ensures reads { (N.view nodes.new).reads ≤ (N.view nodes.old).reads + height (N.view nodes.old).slots }
     ensures faults { (N.view nodes.old).faults ≤ (N.view nodes.new).faults }
     ensures cause { IfErr result (HasCause (N.view nodes.old) (N.view nodes.new)) }
+    ensures quiet { OnOk result ((N.view nodes.new).faults ≡ (N.view nodes.old).faults) }
+    ensures quiet_err { IfErr result (λ e. e ≢ NodeError.DiskFault → (N.view nodes.new).faults ≡ (N.view nodes.old).faults) }
 {
     let root = nodes.root();
     let top = top_key(nodes.slots());
@@ -53,6 +55,8 @@ fn value_below<N: Nodes>(
     ensures reads { (N.view nodes.new).reads ≤ (N.view nodes.old).reads + key.level }
     ensures faults { (N.view nodes.old).faults ≤ (N.view nodes.new).faults }
     ensures cause { IfErr result (HasCause (N.view nodes.old) (N.view nodes.new)) }
+    ensures quiet { OnOk result ((N.view nodes.new).faults ≡ (N.view nodes.old).faults) }
+    ensures quiet_err { IfErr result (λ e. e ≢ NodeError.DiskFault → (N.view nodes.new).faults ≡ (N.view nodes.old).faults) }
 {
     let Some(span) = span else {
         return Ok(None);
@@ -83,6 +87,8 @@ pub fn range_span<N: Nodes>(nodes: &mut N, a: u64, b: u64) -> Result<Option<Span
     ensures reads { (N.view nodes.new).reads ≤ (N.view nodes.old).reads + 2 * height (N.view nodes.old).slots }
     ensures faults { (N.view nodes.old).faults ≤ (N.view nodes.new).faults }
     ensures cause { IfErr result (HasCause (N.view nodes.old) (N.view nodes.new)) }
+    ensures quiet { OnOk result ((N.view nodes.new).faults ≡ (N.view nodes.old).faults) }
+    ensures quiet_err { IfErr result (λ e. e ≢ NodeError.DiskFault → (N.view nodes.new).faults ≡ (N.view nodes.old).faults) }
 {
     let root = nodes.root();
     let top = top_key(nodes.slots());
@@ -109,6 +115,8 @@ fn span_below<N: Nodes>(
     ensures reads { (N.view nodes.new).reads ≤ (N.view nodes.old).reads + most_cut a b key }
     ensures faults { (N.view nodes.old).faults ≤ (N.view nodes.new).faults }
     ensures cause { IfErr result (HasCause (N.view nodes.old) (N.view nodes.new)) }
+    ensures quiet { OnOk result ((N.view nodes.new).faults ≡ (N.view nodes.old).faults) }
+    ensures quiet_err { IfErr result (λ e. e ≢ NodeError.DiskFault → (N.view nodes.new).faults ≡ (N.view nodes.old).faults) }
 {
     let Some(span) = span else {
         return Ok(None);

@@ -1,5 +1,5 @@
 //! The changes of a tree.
-ghost use Rattle.std.specs.Prelude.{◌≡◌, ◌<◌, ◌≤◌, ◌+◌, ◌-◌, ◌*◌, ◌^◌, ℕ, ℤ, [], ◌∷◌, max, Some, length, slice_get, IfOk, IfErr};
+ghost use Rattle.std.specs.Prelude.{◌≡◌, ◌<◌, ◌≤◌, ◌+◌, ◌-◌, ◌*◌, ◌^◌, ℕ, ℤ, [], ◌∷◌, max, Some, length, slice_get, IfOk, IfErr, ◌≢◌, OnOk};
 ghost use Rattle.om3_coeff.specs.Keys.{page_levels as levels_of};
 ghost use Rattle.om3_coeff.specs.Spans.{IsProperIfAny};
 ghost use Rattle.whole_number.specs.Range.{IsValue};
@@ -49,6 +49,8 @@ fn fill<P: Pages>(
     requires room { length (held txn.old) + passed tree (edit_of slots.first slots.end len values.now) ≤ 64 }
     ensures moved { repairs.Passes space.old space.new txn.old txn.new tree (edit_of slots.first slots.end len values.now) }
     ensures cause { IfErr result (λ e. repairs.Explains e space.old space.new) }
+    ensures quiet { OnOk result ((shown.view space.new).faults ≡ (shown.view space.old).faults) }
+    ensures quiet_err { IfErr result (λ e. e ≢ RepairError.DiskFault → (shown.view space.new).faults ≡ (shown.view space.old).faults) }
     ensures catalog { repairs.ForPages space.old (λ base. LeavesCatalog txn.old txn.new base) }
     ensures tree { IfOk result (λ new. IsNewTree len txn.new.superblock tree new) }
     ensures damaged { repairs.ForPages space.old (λ base. IfErr result (λ e. IsDamageOf txn.old txn.new base tree e)) }
@@ -107,6 +109,8 @@ pub fn put_run<P: Pages>(
     requires room { length (held txn.old) + passed tree (run_in tree slot values.now) ≤ 64 }
     ensures moved { repairs.Edits space.old space.new txn.old txn.new tree (run_in tree slot values.now) }
     ensures cause { IfErr result (λ e. repairs.Explains e space.old space.new) }
+    ensures quiet { OnOk result ((shown.view space.new).faults ≡ (shown.view space.old).faults) }
+    ensures quiet_err { IfErr result (λ e. e ≢ RepairError.DiskFault → (shown.view space.new).faults ≡ (shown.view space.old).faults) }
     ensures catalog { repairs.ForPages space.old (λ base. LeavesCatalog txn.old txn.new base) }
     ensures tree { IfOk result (λ new. IsNewTree (max tree.slots (slot + length values.now)) txn.new.superblock tree new) }
     ensures damaged { repairs.ForPages space.old (λ base. IfErr result (λ e. IsDamageOf txn.old txn.new base tree e)) }
@@ -139,6 +143,8 @@ pub fn put_slot<P: Pages>(
     requires room { length (held txn.old) + passed tree (slot_in tree slot value) ≤ 64 }
     ensures moved { repairs.Edits space.old space.new txn.old txn.new tree (slot_in tree slot value) }
     ensures cause { IfErr result (λ e. repairs.Explains e space.old space.new) }
+    ensures quiet { OnOk result ((shown.view space.new).faults ≡ (shown.view space.old).faults) }
+    ensures quiet_err { IfErr result (λ e. e ≢ RepairError.DiskFault → (shown.view space.new).faults ≡ (shown.view space.old).faults) }
     ensures catalog { repairs.ForPages space.old (λ base. LeavesCatalog txn.old txn.new base) }
     ensures tree { IfOk result (λ new. IsNewTree (max tree.slots (slot + 1)) txn.new.superblock tree new) }
     ensures damaged { repairs.ForPages space.old (λ base. IfErr result (λ e. IsDamageOf txn.old txn.new base tree e)) }
@@ -172,6 +178,8 @@ pub fn grow<P: Pages>(
     requires room { length (held txn.old) + passed tree (grow_to slots) ≤ 64 }
     ensures moved { repairs.Edits space.old space.new txn.old txn.new tree (grow_to slots) }
     ensures cause { IfErr result (λ e. repairs.Explains e space.old space.new) }
+    ensures quiet { OnOk result ((shown.view space.new).faults ≡ (shown.view space.old).faults) }
+    ensures quiet_err { IfErr result (λ e. e ≢ RepairError.DiskFault → (shown.view space.new).faults ≡ (shown.view space.old).faults) }
     ensures catalog { repairs.ForPages space.old (λ base. LeavesCatalog txn.old txn.new base) }
     ensures tree { IfOk result (λ new. IsNewTree slots txn.new.superblock tree new) }
     ensures damaged { repairs.ForPages space.old (λ base. IfErr result (λ e. IsDamageOf txn.old txn.new base tree e)) }
@@ -202,6 +210,8 @@ pub fn clear_run<P: Pages>(
     requires room { length (held txn.old) + passed tree (clear_in tree slot count) ≤ 64 }
     ensures moved { repairs.Moves (1 * passed tree (clear_in tree slot count)) (passed tree (clear_in tree slot count)) space.old space.new txn.old txn.new }
     ensures cause { IfErr result (λ e. repairs.Explains e space.old space.new) }
+    ensures quiet { OnOk result ((shown.view space.new).faults ≡ (shown.view space.old).faults) }
+    ensures quiet_err { IfErr result (λ e. e ≢ RepairError.DiskFault → (shown.view space.new).faults ≡ (shown.view space.old).faults) }
     ensures catalog { repairs.ForPages space.old (λ base. LeavesCatalog txn.old txn.new base) }
     ensures tree { IfOk result (λ new. IsNewTree tree.slots txn.new.superblock tree new) }
     ensures damaged { repairs.ForPages space.old (λ base. IfErr result (λ e. IsDamageOf txn.old txn.new base tree e)) }

@@ -1,5 +1,5 @@
 //! How many pages a change needs, before it is made.
-ghost use Rattle.std.specs.Prelude.{◌≡◌, ◌<◌, ◌≤◌, ◌+◌, ◌^◌, ℕ, ℤ, suc, Option, List, length, IfOk, IfErr, OnOk};
+ghost use Rattle.std.specs.Prelude.{◌≡◌, ◌<◌, ◌≤◌, ◌+◌, ◌^◌, ℕ, ℤ, suc, Option, List, length, IfOk, IfErr, OnOk, ◌≢◌};
 ghost use Rattle.block_disk.specs.Blocks.{IsBlock};
 ghost use Rattle.block_disk.specs.View.{Image};
 ghost use Rattle.om3_coeff.specs.Keys.{end_slot};
@@ -37,6 +37,8 @@ fn look<P: Pages>(
     requires whole { IsBlock bytes.old }
     ensures moved { repairs.Moves (look_most at.height at.level at.index page) 0 space.old space.new txn.now txn.now }
     ensures cause { IfErr result (λ e. repairs.Explains e space.old space.new) }
+    ensures quiet { OnOk result ((shown.view space.new).faults ≡ (shown.view space.old).faults) }
+    ensures quiet_err { IfErr result (λ e. e ≢ RepairError.DiskFault → (shown.view space.new).faults ≡ (shown.view space.old).faults) }
     ensures form { OnOk result (IsForm at.level (shown.total space.old) bytes.new) }
     ensures few { IfOk result (λ pages. pages ≤ 1) }
     ensures opened { OnOk result (IsLookedAt at.height at.level at.index page bytes.new) }
@@ -73,6 +75,8 @@ pub(crate) fn new_pages<P: Pages>(
     requires room { touch slots.first slots.end at.height at.level at.index ≤ 64 }
     ensures moved { repairs.Moves (count_most page slots.first slots.end at.height at.level at.index) 0 space.old space.new txn.now txn.now }
     ensures cause { IfErr result (λ e. repairs.Explains e space.old space.new) }
+    ensures quiet { OnOk result ((shown.view space.new).faults ≡ (shown.view space.old).faults) }
+    ensures quiet_err { IfErr result (λ e. e ≢ RepairError.DiskFault → (shown.view space.new).faults ≡ (shown.view space.old).faults) }
     ensures few { IfOk result (λ pages. pages ≤ touch slots.first slots.end at.height at.level at.index) }
     ensures unfit { repairs.ForPages space.old (λ base. IfErr result (λ e. IsUnfitUnder txn.now base (shown.total space.old) at.height at.level at.index page e)) }
     ensures counts { (base : Image) (list list' : List (Option ℤ)) → AreTold (shown.IsTold space.old) (shown.view space.old) base

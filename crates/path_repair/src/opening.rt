@@ -1,5 +1,5 @@
 //! A page is opened to be changed: it is read, or a new one is taken.
-ghost use Rattle.std.specs.Prelude.{◌≡◌, ◌<◌, ◌≤◌, ◌+◌, ◌⊎◌, ℕ, ℤ, suc, Option, List, None, true, length, slice_index, IfOk, IfErr, OnOk};
+ghost use Rattle.std.specs.Prelude.{◌≡◌, ◌<◌, ◌≤◌, ◌+◌, ◌⊎◌, ℕ, ℤ, suc, Option, List, None, true, length, slice_index, IfOk, IfErr, OnOk, ◌≢◌};
 ghost use Rattle.block_disk.specs.Blocks.{IsBlock};
 ghost use Rattle.block_disk.specs.View.{Image};
 ghost use Rattle.om3_coeff.specs.Spans.{IsProperIfAny, AreSlots};
@@ -32,6 +32,8 @@ fn take<P: Pages>(space: &mut Space<P>, txn: &mut Txn) -> Result<u32, RepairErro
     requires total { txn.old.superblock.total ≡ shown.total space.old }
     ensures moved { repairs.Moves 1 0 space.old space.new txn.old txn.new }
     ensures cause { IfErr result (λ e. repairs.Explains e space.old space.new) }
+    ensures quiet { OnOk result ((shown.view space.new).faults ≡ (shown.view space.old).faults) }
+    ensures quiet_err { IfErr result (λ e. e ≢ RepairError.DiskFault → (shown.view space.new).faults ≡ (shown.view space.old).faults) }
     ensures given { IfOk result (λ p. (1 ≤ p) × (p < txn.new.superblock.total)) }
     ensures first { OnlyFirst txn.old txn.new }
     ensures behind { IfOk result (λ p. IsGiven txn.new.superblock.fresh p) }
@@ -103,6 +105,8 @@ pub(crate) fn open_page<P: Pages>(
     requires whole { IsBlock bytes.old }
     ensures moved { repairs.Moves 1 0 space.old space.new txn.old txn.new }
     ensures cause { IfErr result (λ e. repairs.Explains e space.old space.new) }
+    ensures quiet { OnOk result ((shown.view space.new).faults ≡ (shown.view space.old).faults) }
+    ensures quiet_err { IfErr result (λ e. e ≢ RepairError.DiskFault → (shown.view space.new).faults ≡ (shown.view space.old).faults) }
     ensures form { OnOk result (IsForm at.level (shown.total space.old) bytes.new) }
     ensures number { IfOk result (λ number. (1 ≤ number) × (number < shown.total space.old)) }
     ensures first { OnlyFirst txn.old txn.new }

@@ -1,5 +1,5 @@
 //! A page of a tree is read, and its spans with it.
-ghost use Rattle.std.specs.Prelude.{◌≡◌, ◌<◌, ◌+◌, ◌⊎◌, ℕ, ℤ, suc, Some, Option, List, false, IsTrue, IsSome, IsOk, IfErr, OnOk, OnErr};
+ghost use Rattle.std.specs.Prelude.{◌≡◌, ◌<◌, ◌+◌, ◌⊎◌, ℕ, ℤ, suc, Some, Option, List, false, IsTrue, IsSome, IsOk, IfErr, OnOk, OnErr, ◌≢◌};
 ghost use Rattle.block_disk.specs.Blocks.{IsBlock};
 ghost use Rattle.block_disk.specs.View.{Image};
 ghost use Rattle.om3_coeff.specs.Spans.{IsProperIfAny, AreSlots, span};
@@ -64,6 +64,8 @@ pub(crate) fn read_bytes<P: Pages>(
     requires whole { IsBlock bytes.old }
     ensures moved { repairs.Moves 1 0 space.old space.new txn.now txn.now }
     ensures cause { IfErr result (λ e. repairs.Explains e space.old space.new) }
+    ensures quiet { OnOk result ((shown.view space.new).faults ≡ (shown.view space.old).faults) }
+    ensures quiet_err { IfErr result (λ e. e ≢ RepairError.DiskFault → (shown.view space.new).faults ≡ (shown.view space.old).faults) }
     ensures form { OnOk result (IsForm at.level (shown.total space.old) bytes.new) }
     ensures bytes { repairs.ForPages space.old (λ base. OnOk result (bytes.new ≡ left_by txn.now base page)) }
     ensures sound { (base : Image) → AreTold (shown.IsTold space.old) (shown.view space.old) base → KeepsLayout (left_by txn.now base page) → level_at (left_by txn.now base page) ≡ at.level
@@ -131,6 +133,8 @@ pub(crate) fn read_page<P: Pages>(
     requires whole { IsBlock bytes.old }
     ensures moved { repairs.Moves 1 0 space.old space.new txn.now txn.now }
     ensures cause { IfErr result (λ e. repairs.Explains e space.old space.new) }
+    ensures quiet { OnOk result ((shown.view space.new).faults ≡ (shown.view space.old).faults) }
+    ensures quiet_err { IfErr result (λ e. e ≢ RepairError.DiskFault → (shown.view space.new).faults ≡ (shown.view space.old).faults) }
     ensures form { OnOk result (IsForm at.level (shown.total space.old) bytes.new) }
     ensures bytes { repairs.ForPages space.old (λ base. OnOk result (bytes.new ≡ left_by txn.now base root.page)) }
     ensures tops { (base : Image) (list : List (Option ℤ)) (below : ℕ) → AreTold (shown.IsTold space.old) (shown.view space.old) base

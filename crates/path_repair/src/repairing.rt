@@ -77,6 +77,8 @@ pub(crate) fn repair<P: Pages>(
     requires room { length (held txn.old) + touch slots.first slots.end at.height at.level at.index ≤ 64 }
     ensures moved { repairs.Moves (touch slots.first slots.end at.height at.level at.index) (touch slots.first slots.end at.height at.level at.index) space.old space.new txn.old txn.new }
     ensures cause { IfErr result (λ e. repairs.Explains e space.old space.new) }
+    ensures quiet { OnOk result ((shown.view space.new).faults ≡ (shown.view space.old).faults) }
+    ensures quiet_err { IfErr result (λ e. e ≢ RepairError.DiskFault → (shown.view space.new).faults ≡ (shown.view space.old).faults) }
     ensures page { IfOk result (λ next. next.page < shown.total space.old) }
     ensures proper { IfOk result (λ next. IsProperIfAny next.span) }
     ensures root { IfOk result (λ next. IsNewRoot txn.new.superblock.fresh root.page next.page) }

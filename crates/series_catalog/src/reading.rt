@@ -113,6 +113,8 @@ fn read_page<P: Pages>(
     ensures keeps { OnOk result (shown.IsTold space.old → KeepsLayout (count_of_records page (shown.numbers space.old).series) (shown.numbers space.old).fresh (shown.image space.old page)) }
     ensures place { IfErr result IsCatalogPage }
     ensures cause { IfErr result (λ e. IsCatalogCause e (shown.IsTold space.old) (shown.numbers space.old) (shown.view space.old) (shown.view space.new)) }
+    ensures quiet { OnOk result ((shown.view space.new).faults ≡ (shown.view space.old).faults) }
+    ensures quiet_err { IfErr result (λ e. e ≢ CatalogError.DiskFault → (shown.view space.new).faults ≡ (shown.view space.old).faults) }
     ensures reads { shown.ReadsOne space.old space.new }
     ensures goes_on { shown.TimeGoesOn space.old space.new }
     ensures superblock { shown.numbers space.new ≡ shown.numbers space.old }
@@ -141,6 +143,8 @@ fn read_pages<P: Pages>(
     ensures whole { OnOk result (shown.IsTold space.old → AreCatalog (shown.image space.old) (shown.numbers space.old).fresh (shown.numbers space.old).series) }
     ensures place { IfErr result IsCatalogPage }
     ensures cause { IfErr result (λ e. IsCatalogCause e (shown.IsTold space.old) (shown.numbers space.old) (shown.view space.old) (shown.view space.new)) }
+    ensures quiet { OnOk result ((shown.view space.new).faults ≡ (shown.view space.old).faults) }
+    ensures quiet_err { IfErr result (λ e. e ≢ CatalogError.DiskFault → (shown.view space.new).faults ≡ (shown.view space.old).faults) }
     ensures reads { ReadsUpTo 16 space.old space.new }
     ensures goes_on { shown.TimeGoesOn space.old space.new }
     ensures superblock { shown.numbers space.new ≡ shown.numbers space.old }
@@ -165,6 +169,8 @@ pub fn read_catalog<P: Pages>(alloc: Global, space: &mut Space<P>) -> Result<Cat
     ensures whole { IfOk result (λ catalog. shown.IsTold space.old → AreCatalog (shown.image space.old) (shown.numbers space.old).fresh (shown.numbers space.old).series) }
     ensures place { IfErr result IsCatalogPage }
     ensures cause { IfErr result (λ e. IsCatalogCause e (shown.IsTold space.old) (shown.numbers space.old) (shown.view space.old) (shown.view space.new)) }
+    ensures quiet { OnOk result ((shown.view space.new).faults ≡ (shown.view space.old).faults) }
+    ensures quiet_err { IfErr result (λ e. e ≢ CatalogError.DiskFault → (shown.view space.new).faults ≡ (shown.view space.old).faults) }
     ensures reads { ReadsUpTo 16 space.old space.new }
     ensures goes_on { shown.TimeGoesOn space.old space.new }
     ensures superblock { shown.numbers space.new ≡ shown.numbers space.old }

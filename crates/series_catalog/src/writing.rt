@@ -44,6 +44,7 @@ pub fn put_record<P: Pages>(
     ensures goes_on { shown.TimeGoesOn space.old space.new }
     ensures space { shown.numbers space.new ≡ shown.numbers space.old }
     ensures cause { OnErr result (HasRisen (shown.view space.old).faults (shown.view space.new).faults) }
+    ensures quiet { OnOk result ((shown.view space.new).faults ≡ (shown.view space.old).faults) }
 {
     let page = record_page(id);
     let mut bytes = [0; BLOCK];

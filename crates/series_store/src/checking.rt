@@ -1,5 +1,5 @@
 //! All pages of a store that are in use or freed are read, and what they hold is counted.
-ghost use Rattle.std.specs.Prelude.{◌≡◌, ◌≤◌, ◌<◌, ◌+◌, ◌*◌, ◌^◌, ℕ, List, length, IfOk, IfErr, OnOk};
+ghost use Rattle.std.specs.Prelude.{◌≡◌, ◌≤◌, ◌<◌, ◌+◌, ◌*◌, ◌^◌, ℕ, List, length, IfOk, IfErr, OnOk, ◌≢◌};
 ghost use Rattle.block_disk.specs.View.{View};
 ghost use Rattle.page_space.specs.Spaces.{Stands};
 ghost use Rattle.series_book.specs.declared.one_series.Series.{Series};
@@ -30,6 +30,8 @@ fn count_trees<P: Pages>(space: &mut Space<P>, catalog: &Catalog) -> Result<u64,
     ensures looks { looks.OnlyLooks space.old space.new }
     ensures within { IfErr result (NamesWithin (spaces.total space.old)) }
     ensures cause { IfErr result (λ e. IsTreesCause e (spaces.IsTold space.old) (spaces.view space.old) (spaces.view space.new) (spaces.total space.old) (series_in catalog.now)) }
+    ensures quiet { OnOk result ((spaces.view space.new).faults ≡ (spaces.view space.old).faults) }
+    ensures quiet_err { IfErr result (λ e. e ≢ StoreError.DiskFault → (spaces.view space.new).faults ≡ (spaces.view space.old).faults) }
     ensures counts { looks.ForCatalog space.old catalog.now (λ book. IfOk result (λ values. values ≡ values_of book)) }
     ensures stands { looks.ForCatalog space.old catalog.now (λ book. IfErr result (λ e. e ≡ StoreError.DiskFault)) }
     ensures reads { spaces.IsTold space.old → ReadsTrees (spaces.image space.old) (series_in catalog.now) (spaces.view space.old).reads (spaces.view space.new).reads }
@@ -51,6 +53,8 @@ fn pass_chain<P: Pages>(alloc: Global, space: &mut Space<P>) -> Result<(), Store
     ensures looks { looks.OnlyLooks space.old space.new }
     ensures within { IfErr result (NamesWithin (spaces.total space.old)) }
     ensures cause { IfErr result (λ e. IsChainCause e (spaces.IsTold space.old) (spaces.numbers space.old) (spaces.view space.old) (spaces.view space.new)) }
+    ensures quiet { OnOk result ((spaces.view space.new).faults ≡ (spaces.view space.old).faults) }
+    ensures quiet_err { IfErr result (λ e. e ≢ StoreError.DiskFault → (spaces.view space.new).faults ≡ (spaces.view space.old).faults) }
     ensures stands { (count : ℕ) (taken freed : List ℕ) → spaces.IsTold space.old → Stands count (spaces.image space.old) (spaces.numbers space.old) taken freed → IfErr result IsOutside }
     ensures reads { (spaces.view space.new).reads ≤ (spaces.view space.old).reads + (spaces.numbers space.old).chain }
     ensures whole { spaces.IsTold space.old → OnOk result (IsSoundChain (spaces.image space.old) (spaces.numbers space.old) (spaces.numbers space.old).chain) }
@@ -82,6 +86,8 @@ impl<P: Pages> Store<P> {
         ensures whole { shown.IsTold self.old → OnOk result (AreSound (shown.image self.old) (shown.numbers self.old)) }
         ensures within { IfErr result (NamesWithin (shown.total self.old)) }
         ensures cause { IfErr result (λ e. IsCheckCause e (shown.IsTold self.old) (shown.numbers self.old) (shown.view self.old) (shown.view self.new)) }
+        ensures quiet { OnOk result ((shown.view self.new).faults ≡ (shown.view self.old).faults) }
+        ensures quiet_err { IfErr result (λ e. e ≢ StoreError.DiskFault → (shown.view self.new).faults ≡ (shown.view self.old).faults) }
         ensures looks { shown.OnlyLooks self.old self.new }
         ensures catalog { self.new.catalog ≡ self.old.catalog }
         ensures selected { shown.SelectsSame self.old self.new }

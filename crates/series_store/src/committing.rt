@@ -1,5 +1,5 @@
 //! What is staged is committed.
-ghost use Rattle.std.specs.Prelude.{◌≡◌, ◌≤◌, ℕ, List, Bool, false, length, IfOk, IfErr, OnOk, OnErr};
+ghost use Rattle.std.specs.Prelude.{◌≡◌, ◌≤◌, ℕ, List, Bool, false, length, IfOk, IfErr, OnOk, OnErr, ◌≢◌};
 ghost use Rattle.block_disk.specs.Counts.{HasRisen};
 ghost use Rattle.block_disk.specs.View.{View};
 ghost use Rattle.page_space.specs.Shown as spaces;
@@ -36,6 +36,7 @@ pub(crate) fn finish<P: Pages>(
     ensures sound { OnOk result (spaces.IsSound space.new) }
     ensures unsound { OnErr result (spaces.IsSound space.new → ⊥) }
     ensures cause { OnErr result (HasRisen (spaces.view space.old).faults (spaces.view space.new).faults) }
+    ensures quiet { OnOk result ((spaces.view space.new).faults ≡ (spaces.view space.old).faults) }
     ensures none { is_changed ≡ false → space.new ≡ space.old }
 {
     if !is_changed {
@@ -58,6 +59,8 @@ pub(crate) fn commit_one<P: Pages>(
     requires is_edit { IsEdit edit.now }
     ensures answered { stages.ForKept space.old (λ total book. IsAnswered (apply book total edit.now) total book result (spaces.view space.old) (spaces.view space.new)) }
     ensures carried { stages.CarriesOut result space.old space.new }
+    ensures quiet { OnOk result ((spaces.view space.new).faults ≡ (spaces.view space.old).faults) }
+    ensures quiet_err { IfErr result (λ e. e ≢ StoreError.DiskFault → (spaces.view space.new).faults ≡ (spaces.view space.old).faults) }
     ensures none_cleared { stages.ForKept space.old (λ total book. ClearsNone book edit.now → CommitsNone (spaces.view space.old) (spaces.view space.new)) }
     ensures stored { stages.IsStored space.new catalog.new }
     ensures more { length (series_in catalog.old) ≤ length (series_in catalog.new) }

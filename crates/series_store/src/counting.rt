@@ -71,6 +71,8 @@ pub(crate) fn read_page<P: Pages>(
     ensures one_read { (spaces.view space.new).reads ≤ (spaces.view space.old).reads + 1 }
     ensures within { IfErr result (NamesWithin (spaces.total space.old)) }
     ensures cause { IfErr result (λ e. IsPageCause e (spaces.IsTold space.old) (spaces.view space.old) (spaces.view space.new) (spaces.total space.old) level page (Some top)) }
+    ensures quiet { OnOk result ((spaces.view space.new).faults ≡ (spaces.view space.old).faults) }
+    ensures quiet_err { IfErr result (λ e. e ≢ StoreError.DiskFault → (spaces.view space.new).faults ≡ (spaces.view space.old).faults) }
     ensures reads { Rises 1 (spaces.view space.old).reads (spaces.view space.new).reads }
     ensures bytes { spaces.IsTold space.old → OnOk result (bytes.new ≡ spaces.image space.old page) }
     ensures sound { OnOk result (IsSoundPage (spaces.total space.old) level bytes.new) }
@@ -143,6 +145,8 @@ pub(crate) fn count_values<P: Pages>(
     ensures few { IfOk result (λ values. values ≤ 128 ^ level) }
     ensures within { IfErr result (NamesWithin (spaces.total space.old)) }
     ensures cause { IfErr result (λ e. IsTreeCause e (spaces.IsTold space.old) (spaces.view space.old) (spaces.view space.new) (spaces.total space.old) slots level index page top) }
+    ensures quiet { OnOk result ((spaces.view space.new).faults ≡ (spaces.view space.old).faults) }
+    ensures quiet_err { IfErr result (λ e. e ≢ StoreError.DiskFault → (spaces.view space.new).faults ≡ (spaces.view space.old).faults) }
     ensures counts { looks.ForTree space.old slots level index page top (λ list. IfOk result (λ values. values ≡ values_below list level index)) }
     ensures stands { looks.ForTree space.old slots level index page top (λ list. IfErr result (λ e. e ≡ StoreError.DiskFault)) }
     ensures reads { spaces.IsTold space.old → Rises (length (tree_pages (spaces.image space.old) level page)) (spaces.view space.old).reads (spaces.view space.new).reads }

@@ -1,5 +1,5 @@
 //! A series that is to be added is staged.
-ghost use Rattle.std.specs.Prelude.{◌≡◌, ◌≤◌, ◌<◌, ℕ, List, length};
+ghost use Rattle.std.specs.Prelude.{◌≡◌, ◌≤◌, ◌<◌, ℕ, List, length, ◌≢◌, OnOk, IfErr};
 ghost use Rattle.block_disk.specs.View.{View};
 ghost use Rattle.page_space.specs.Shown as spaces;
 ghost use Rattle.page_space.specs.Transactions.{held, left_by};
@@ -38,6 +38,8 @@ pub(crate) fn create<P: Pages>(
     requires is_edit { IsEdit (Create name.now start step scale) }
     ensures answered { stages.ForStaged space.old txn.old (λ total book. stages.AnswersSo (apply book total (Create name.now start step scale)) 0 total result space.new txn.old txn.new) }
     ensures carried { stages.Stages result space.old space.new txn.old txn.new catalog.old catalog.new }
+    ensures quiet { OnOk result ((spaces.view space.new).faults ≡ (spaces.view space.old).faults) }
+    ensures quiet_err { IfErr result (λ e. e ≢ StoreError.DiskFault → (spaces.view space.new).faults ≡ (spaces.view space.old).faults) }
 {
     if catalog.find(name).is_some() {
         return Err(StoreError::Refused(Refusal::SeriesExists));
@@ -70,6 +72,8 @@ fn add_series<P: Pages>(
     requires empty { series.tree ≡ NO_TREE }
     ensures answered { stages.AnswersAdded series result space.old space.new txn.old txn.new }
     ensures carried { stages.Stages result space.old space.new txn.old txn.new catalog.old catalog.new }
+    ensures quiet { OnOk result ((spaces.view space.new).faults ≡ (spaces.view space.old).faults) }
+    ensures quiet_err { IfErr result (λ e. e ≢ StoreError.DiskFault → (spaces.view space.new).faults ≡ (spaces.view space.old).faults) }
 {
     let count = catalog.len();
     space.set_series(txn, count + 1);

@@ -1,5 +1,5 @@
 //! A store is edited.
-ghost use Rattle.std.specs.Prelude.{◌≡◌, ◌≤◌, ◌<◌, ◌^◌, ℕ, List, None, length, IfOk, IfErr, OnOk};
+ghost use Rattle.std.specs.Prelude.{◌≡◌, ◌≤◌, ◌<◌, ◌^◌, ℕ, List, None, length, IfOk, IfErr, OnOk, ◌≢◌};
 ghost use Rattle.block_disk.specs.View.{View, Passes};
 ghost use Rattle.gate_pages.specs.Pages.{GoesOn, Quiet};
 ghost use Rattle.page_space.specs.Transactions.{held, left_by};
@@ -34,6 +34,8 @@ impl<P: Pages> Store<P> {
         ensures moves { shown.MovesSo self.old self.new }
         ensures goes_on { shown.TimeGoesOn self.old self.new }
         ensures cause { IfErr result (λ e. IsEditCause e (shown.IsTold self.old) (shown.numbers self.old) (shown.view self.old) (shown.view self.new)) }
+        ensures quiet { OnOk result ((shown.view self.new).faults ≡ (shown.view self.old).faults) }
+        ensures quiet_err { IfErr result (λ e. e ≢ StoreError.DiskFault → (shown.view self.new).faults ≡ (shown.view self.old).faults) }
         ensures unchanged { IfErr result (λ e. IsUnchangedFor e (shown.IsTold self.old) (shown.view self.old) (shown.view self.new)) }
         // an edit that changes no slot writes and syncs nothing
         ensures idle { shown.ForBook self.old (λ total book. ClearsNone book edit.now → CommitsNone (shown.view self.old) (shown.view self.new)) }
@@ -55,6 +57,8 @@ impl<P: Pages> Store<P> {
         requires is_edit { IsEdit edit.now }
         ensures answered { shown.ForBook self.old (λ total book. shown.Answers (apply book total edit.now) total book result self.old self.new) }
         ensures carried { shown.CarriesOut result self.old self.new }
+        ensures quiet { OnOk result ((shown.view self.new).faults ≡ (shown.view self.old).faults) }
+        ensures quiet_err { IfErr result (λ e. e ≢ StoreError.DiskFault → (shown.view self.new).faults ≡ (shown.view self.old).faults) }
         ensures none_cleared { shown.ForBook self.old (λ total book. ClearsNone book edit.now → CommitsNone (shown.view self.old) (shown.view self.new)) }
         ensures idle { shown.SelectsNone self.new }
         ensures more { length (shown.catalog self.old) ≤ length (shown.catalog self.new) }

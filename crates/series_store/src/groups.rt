@@ -1,5 +1,5 @@
 //! Edits that stand ready are done together, in one commit.
-ghost use Rattle.std.specs.Prelude.{◌≡◌, ◌≤◌, ◌<◌, ◌+◌, ◌*◌, ◌∷◌, [], ℕ, List, None, Bool, true, false, IsTrue, All, length, take, IfOk, IfErr, OnOk, OnErr};
+ghost use Rattle.std.specs.Prelude.{◌≡◌, ◌≤◌, ◌<◌, ◌+◌, ◌*◌, ◌∷◌, [], ℕ, List, None, Bool, true, false, IsTrue, All, length, take, IfOk, IfErr, OnOk, OnErr, ◌≢◌};
 ghost use Rattle.block_disk.specs.Counts.{HasRisen};
 ghost use Rattle.block_disk.specs.View.{View, Passes};
 ghost use Rattle.gate_pages.specs.Pages.{GoesOn, Quiet};
@@ -69,6 +69,8 @@ fn stage_next<P: Pages>(
     requires few { length (held txn.old) ≤ 22 }
     requires is_edit { IsEdit edit.now }
     ensures next { grouping.GoesNext result space.old space.new txn.old txn.new catalog.old catalog.new answers.old.items answers.new.items }
+    ensures quiet { OnOk result ((spaces.view space.new).faults ≡ (spaces.view space.old).faults) }
+    ensures quiet_err { IfErr result (λ e. e ≢ StoreError.DiskFault → (spaces.view space.new).faults ≡ (spaces.view space.old).faults) }
     ensures answered { stages.ForStaged space.old txn.old (λ total book. grouping.AnswersNext total book edit.now result space.new txn.old txn.new answers.old.items answers.new.items) }
 {
     answers.reserve(1)?;
@@ -99,6 +101,8 @@ fn close<P: Pages>(space: &mut Space<P>, txn: Txn, is_changed: bool) -> Result<(
     ensures unsound { OnErr result (spaces.IsSound space.new → ⊥) }
     ensures error { IfErr result (λ e. e ≡ StoreError.DiskFault) }
     ensures cause { OnErr result (HasRisen (spaces.view space.old).faults (spaces.view space.new).faults) }
+    ensures quiet { OnOk result ((spaces.view space.new).faults ≡ (spaces.view space.old).faults) }
+    ensures quiet_err { IfErr result (λ e. e ≢ StoreError.DiskFault → (spaces.view space.new).faults ≡ (spaces.view space.old).faults) }
 {
     if !is_changed {
         return Ok(());
@@ -121,6 +125,8 @@ fn commit_all<P: Pages>(
     requires clean { is_changed ≡ false → stages.IsKept space.old catalog.old }
     requires are_edits { All IsEdit edits.now }
     ensures groups { grouping.Groups result space.old space.new txn catalog.old catalog.new edits.now answers.old.items answers.new.items }
+    ensures quiet { OnOk result ((spaces.view space.new).faults ≡ (spaces.view space.old).faults) }
+    ensures quiet_err { IfErr result (λ e. e ≢ StoreError.DiskFault → (spaces.view space.new).faults ≡ (spaces.view space.old).faults) }
     ensures grouped { grouping.ForGroup space.old txn is_changed (λ total book. grouping.GroupsSo total book result space.old space.new txn is_changed edits.now answers.old.items answers.new.items) }
 {
     let held = txn.len();
@@ -171,6 +177,8 @@ impl<P: Pages> Store<P> {
         ensures moves { shown.MovesGroup self.old self.new }
         ensures goes_on { shown.TimeGoesOn self.old self.new }
         ensures cause { IfErr result (λ e. IsGroupCause e (shown.IsTold self.old) (shown.numbers self.old) (shown.view self.old) (shown.view self.new)) }
+        ensures quiet { OnOk result ((shown.view self.new).faults ≡ (shown.view self.old).faults) }
+        ensures quiet_err { IfErr result (λ e. e ≢ StoreError.DiskFault → (shown.view self.new).faults ≡ (shown.view self.old).faults) }
         ensures unchanged { IfErr result (λ e. IsUnchangedFor e (shown.IsTold self.old) (shown.view self.old) (shown.view self.new)) }
         ensures sound { OnOk result (shown.IsSound self.new) }
         ensures total { shown.total self.new ≡ shown.total self.old }
@@ -191,6 +199,8 @@ impl<P: Pages> Store<P> {
         requires some { 0 < length edits.now }
         requires are_edits { All IsEdit edits.now }
         ensures did { grouping.DoesGroup edits.now result self.old self.new }
+        ensures quiet { OnOk result ((shown.view self.new).faults ≡ (shown.view self.old).faults) }
+        ensures quiet_err { IfErr result (λ e. e ≢ StoreError.DiskFault → (shown.view self.new).faults ≡ (shown.view self.old).faults) }
         ensures answered { shown.ForBook self.old (λ total book. grouping.AnswersGroup total book edits.now result self.old self.new) }
         ensures idle { shown.SelectsNone self.new }
     {
@@ -217,6 +227,8 @@ impl<P: Pages> Store<P> {
         requires none { answers.old.items ≡ [] }
         requires are_edits { All IsEdit edits.now }
         ensures groups { grouping.CommitsGroup result self.old self.new edits.now answers.new.items }
+        ensures quiet { OnOk result ((shown.view self.new).faults ≡ (shown.view self.old).faults) }
+        ensures quiet_err { IfErr result (λ e. e ≢ StoreError.DiskFault → (shown.view self.new).faults ≡ (shown.view self.old).faults) }
         ensures grouped { shown.ForBook self.old (λ total book. grouping.CommitsSo total book result self.old self.new edits.now answers.new.items) }
         ensures idle { shown.SelectsNone self.new }
     {
@@ -237,6 +249,8 @@ impl<P: Pages> Store<P> {
         requires idle { shown.SelectsNone self.old }
         requires is_edit { IsEdit edit.now }
         ensures did { grouping.DoesGroup (edit.now ∷ []) result self.old self.new }
+        ensures quiet { OnOk result ((shown.view self.new).faults ≡ (shown.view self.old).faults) }
+        ensures quiet_err { IfErr result (λ e. e ≢ StoreError.DiskFault → (shown.view self.new).faults ≡ (shown.view self.old).faults) }
         ensures idle { shown.SelectsNone self.new }
     {
         let mut answers = Vec::with_capacity(self.alloc, 1)?;

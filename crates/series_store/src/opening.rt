@@ -73,6 +73,8 @@ impl<P: Pages> Store<P> {
         requires many { 62 ≤ (P.view pages).size }
         ensures cause { IfErr result (λ back. IsOutside back.cause) }
         ensures fault { IfErr result (λ back. back.cause ≡ StoreError.DiskFault → HasRisen (P.view pages).faults (P.view back.value).faults) }
+        ensures quiet { IfOk result (λ store. (shown.view store).faults ≡ (P.view pages).faults) }
+        ensures quiet_err { IfErr result (λ back. back.cause ≢ StoreError.DiskFault → (P.view back.value).faults ≡ (P.view pages).faults) }
         ensures unsound { IfErr result (λ back. back.cause ≡ StoreError.DiskFault → (P.view back.value).fit → ⊥) }
         ensures no_memory { IfErr result (λ back. back.cause ≡ StoreError.NoMemory → back.value ≡ pages) }
         ensures store { IfOk result (λ store. P.told pages → StandsForBook (shown.image store) (P.view pages).size []) }
@@ -116,6 +118,8 @@ impl<P: Pages> Store<P> {
         requires sound { (P.view pages).fit }
         requires many { 62 ≤ (P.view pages).size }
         ensures cause { IfErr result (λ back. IsOpenCause back.cause (P.told pages) (P.view pages) (P.view back.value)) }
+        ensures quiet { IfOk result (λ store. (shown.view store).faults ≡ (P.view pages).faults) }
+        ensures quiet_err { IfErr result (λ back. back.cause ≢ StoreError.DiskFault → (P.view back.value).faults ≡ (P.view pages).faults) }
         ensures place { IfErr result (λ back. IsFirstPage back.cause) }
         ensures none { IfOk result (λ store. shown.SelectsNone store) }
         ensures a_store { (total : ℕ) (book : List Series) → P.told pages → total ≤ (P.view pages).size → StandsForBook (P.view pages).image total book → IfErr result (λ back. IsOutside back.cause) }
@@ -148,6 +152,8 @@ impl<P: Pages> Store<P> {
         ensures place { IfErr result (λ back. IsFirstPage back.cause) }
         ensures none { IfOk result (λ store. shown.SelectsNone store) }
         ensures cause { IfErr result (λ back. IsReadCause back.cause (spaces.IsTold space) (spaces.numbers space) (spaces.view space) (P.view back.value)) }
+        ensures quiet { IfOk result (λ store. (shown.view store).faults ≡ (spaces.view space).faults) }
+        ensures quiet_err { IfErr result (λ back. back.cause ≢ StoreError.DiskFault → (P.view back.value).faults ≡ (spaces.view space).faults) }
         ensures reads { ReadsMost 16 (spaces.IsTold space) (P.told (pages_in result)) (spaces.view space) (P.view (pages_in result)) }
         ensures goes_on { GoesOn (spaces.under space) (P.under (pages_in result)) }
     {

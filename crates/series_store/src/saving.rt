@@ -47,6 +47,8 @@ pub(crate) fn put<P: Pages>(
     requires whole { IfSome (slice_get (series_in catalog.old) id) (λ one. (slot ≡ one.tree.slots) ⊎ All (λ value. IsSome value) values.now) }
     ensures answered { stages.AnswersPut id slot values.now result space.old space.new txn.old txn.new }
     ensures carried { stages.Stages result space.old space.new txn.old txn.new catalog.old catalog.new }
+    ensures quiet { OnOk result ((spaces.view space.new).faults ≡ (spaces.view space.old).faults) }
+    ensures quiet_err { IfErr result (λ e. e ≢ StoreError.DiskFault → (spaces.view space.new).faults ≡ (spaces.view space.old).faults) }
 {
     let tree = catalog.series(id).tree;
     let tree = put_run(space, txn, tree, slot, values)?;
@@ -71,6 +73,8 @@ pub(crate) fn clear_slots<P: Pages>(
     requires within { IfSome (slice_get (series_in catalog.old) id) (λ one. slot + count ≤ one.tree.slots) }
     ensures answered { stages.AnswersCleared id slot count result space.old space.new txn.old txn.new }
     ensures carried { stages.Stages result space.old space.new txn.old txn.new catalog.old catalog.new }
+    ensures quiet { OnOk result ((spaces.view space.new).faults ≡ (spaces.view space.old).faults) }
+    ensures quiet_err { IfErr result (λ e. e ≢ StoreError.DiskFault → (spaces.view space.new).faults ≡ (spaces.view space.old).faults) }
 {
     let tree = catalog.series(id).tree;
     let tree = clear_run(space, txn, tree, slot, count)?;
@@ -102,6 +106,8 @@ fn save<P: Pages>(
     ensures space { spaces.numbers space.new ≡ spaces.numbers space.old }
     ensures error { IfErr result (λ e. e ≡ StoreError.DiskFault) }
     ensures cause { OnErr result (HasRisen (spaces.view space.old).faults (spaces.view space.new).faults) }
+    ensures quiet { OnOk result ((spaces.view space.new).faults ≡ (spaces.view space.old).faults) }
+    ensures quiet_err { IfErr result (λ e. e ≢ StoreError.DiskFault → (spaces.view space.new).faults ≡ (spaces.view space.old).faults) }
 {
     put_record(space, txn, id, catalog.series(id), tree)?;
     let old = catalog.series(id).tree;

@@ -1,5 +1,5 @@
 //! The values of a tree are sent as texts, page by page.
-ghost use Rattle.std.specs.Prelude.{◌≡◌, ◌<◌, ◌≤◌, ◌+◌, ◌++◌, List, [], length, false, IsTrue, IfErr, OnOk};
+ghost use Rattle.std.specs.Prelude.{◌≡◌, ◌<◌, ◌≤◌, ◌+◌, ◌++◌, List, [], length, false, IsTrue, IfErr, OnOk, ◌≢◌};
 ghost use Rattle.block_disk.specs.View.{View};
 ghost use Rattle.om3_coeff.specs.Keys.{first_slot, end_slot};
 ghost use Rattle.om3_coeff.specs.Spans.{IsProperIfAny};
@@ -31,6 +31,7 @@ pub(crate) fn send_waiting<P: PageWorld>(
     ensures reads { (P.view space.new.pages).reads ≡ (P.view space.old.pages).reads }
     ensures gives { GivesMore (λ text. text) result space.old space.new out.old.items out.new.items }
     ensures cause { IfErr result (λ e. IsTextCause e (P.view space.old.pages) (P.view space.new.pages)) }
+    ensures quiet { (P.view space.new.pages).faults ≡ (P.view space.old.pages).faults }
 {
     let Ok(()) = space.send(out.as_slice()) else {
         return Err(SendError::SendFault);
@@ -53,6 +54,7 @@ fn send_value<P: PageWorld, T: Texts>(
     ensures reads { (P.view space.new.pages).reads ≡ (P.view space.old.pages).reads }
     ensures gives { GivesMore (λ text. text ++ T.text texts.now slot value) result space.old space.new out.old.items out.new.items }
     ensures cause { IfErr result (λ e. IsTextCause e (P.view space.old.pages) (P.view space.new.pages)) }
+    ensures quiet { (P.view space.new.pages).faults ≡ (P.view space.old.pages).faults }
 {
     texts.add(slot, value, out)?;
     if out.len() < PIECE {
@@ -102,6 +104,8 @@ pub(crate) fn send_below<P: PageWorld, T: Texts>(
     ensures few { OnOk result (length out.new.items < 16384) }
     ensures sends { SendsBy space.old space.new }
     ensures cause { IfErr result (λ e. IsSendCause e (P.told space.old.pages) (P.view space.old.pages) (P.view space.new.pages) space.old.superblock.total level page top) }
+    ensures quiet { OnOk result ((P.view space.new.pages).faults ≡ (P.view space.old.pages).faults) }
+    ensures quiet_err { IfErr result (λ e. e ≢ SendError.DiskFault → (P.view space.new.pages).faults ≡ (P.view space.old.pages).faults) }
     ensures part { ForListBelow space.old level index page top (SendsBelow (first_said slots (T.text texts.now)) level index space.old space.new out.old.items out.new.items result) }
 {
     let Some(span) = top else {

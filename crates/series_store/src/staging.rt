@@ -1,5 +1,5 @@
 //! Edits are staged: done in a transaction and in the catalog, and not committed.
-ghost use Rattle.std.specs.Prelude.{◌≡◌, ◌≤◌, ℕ, ℤ, List, length, IfOk};
+ghost use Rattle.std.specs.Prelude.{◌≡◌, ◌≤◌, ℕ, ℤ, List, length, IfOk, ◌≢◌, OnOk, IfErr};
 ghost use Rattle.block_disk.specs.View.{View};
 ghost use Rattle.page_space.specs.Shown as spaces;
 ghost use Rattle.page_space.specs.Transactions.{held, left_by};
@@ -36,6 +36,8 @@ pub(crate) fn stage<P: Pages>(
     requires is_edit { IsEdit edit.now }
     ensures answered { stages.AnswersEdit edit.now result space.old space.new txn.old txn.new }
     ensures carried { stages.Stages result space.old space.new txn.old txn.new catalog.old catalog.new }
+    ensures quiet { OnOk result ((spaces.view space.new).faults ≡ (spaces.view space.old).faults) }
+    ensures quiet_err { IfErr result (λ e. e ≢ StoreError.DiskFault → (spaces.view space.new).faults ≡ (spaces.view space.old).faults) }
     // an edit that changes no slot stages nothing
     ensures none_cleared { stages.ForStaged space.old txn.old (λ total book. ClearsNone book edit.now → IfOk result (λ staged. staged.undo ≡ Undo.Nothing)) }
 {
@@ -65,6 +67,8 @@ fn append<P: Pages>(
     requires is_edit { IsEdit (Append name.now values.now) }
     ensures answered { stages.AnswersEdit (Append name.now values.now) result space.old space.new txn.old txn.new }
     ensures carried { stages.Stages result space.old space.new txn.old txn.new catalog.old catalog.new }
+    ensures quiet { OnOk result ((spaces.view space.new).faults ≡ (spaces.view space.old).faults) }
+    ensures quiet_err { IfErr result (λ e. e ≢ StoreError.DiskFault → (spaces.view space.new).faults ≡ (spaces.view space.old).faults) }
 {
     let Some(id) = catalog.find(name) else {
         return Err(StoreError::Refused(Refusal::UnknownSeries));
@@ -91,6 +95,8 @@ fn set<P: Pages>(
     requires is_edit { IsEdit (Set name.now time values.now) }
     ensures answered { stages.AnswersEdit (Set name.now time values.now) result space.old space.new txn.old txn.new }
     ensures carried { stages.Stages result space.old space.new txn.old txn.new catalog.old catalog.new }
+    ensures quiet { OnOk result ((spaces.view space.new).faults ≡ (spaces.view space.old).faults) }
+    ensures quiet_err { IfErr result (λ e. e ≢ StoreError.DiskFault → (spaces.view space.new).faults ≡ (spaces.view space.old).faults) }
 {
     let Some(id) = catalog.find(name) else {
         return Err(StoreError::Refused(Refusal::UnknownSeries));
@@ -117,6 +123,8 @@ fn clear<P: Pages>(
     requires few { length (held txn.old) ≤ 22 }
     ensures answered { stages.AnswersEdit (Clear name.now time count) result space.old space.new txn.old txn.new }
     ensures carried { stages.Stages result space.old space.new txn.old txn.new catalog.old catalog.new }
+    ensures quiet { OnOk result ((spaces.view space.new).faults ≡ (spaces.view space.old).faults) }
+    ensures quiet_err { IfErr result (λ e. e ≢ StoreError.DiskFault → (spaces.view space.new).faults ≡ (spaces.view space.old).faults) }
     ensures none_cleared { stages.ForStaged space.old txn.old (λ total book. ClearsNone book (Clear name.now time count) → IfOk result (λ staged. staged.undo ≡ Undo.Nothing)) }
 {
     let Some(id) = catalog.find(name) else {

@@ -1,5 +1,5 @@
 //! The values of a series are sent as texts.
-ghost use Rattle.std.specs.Prelude.{◌≡◌, ◌<◌, ◌≤◌, ◌+◌, ◌++◌, ℤ, List, Option, Some, length, slice_get, IfErr, OnOk, OnErr};
+ghost use Rattle.std.specs.Prelude.{◌≡◌, ◌<◌, ◌≤◌, ◌+◌, ◌++◌, ℤ, List, Option, Some, length, slice_get, IfErr, OnOk, OnErr, ◌≢◌};
 ghost use Rattle.block_disk.specs.Streams.{sent_after, PartSent};
 ghost use Rattle.block_disk.specs.View.{View};
 ghost use Rattle.om3_coeff.specs.Spans.{IsProperIfAny};
@@ -43,6 +43,8 @@ fn send_tree<P: PageWorld, T: Texts>(
         → (P.view space.new.pages).reads ≤ (P.view space.old.pages).reads + series_pages list }
     ensures sends { SendsBy space.old space.new }
     ensures cause { IfErr result (IsCauseOf tree space.old space.new) }
+    ensures quiet { OnOk result ((P.view space.new.pages).faults ≡ (P.view space.old.pages).faults) }
+    ensures quiet_err { IfErr result (λ e. e ≢ SendError.DiskFault → (P.view space.new.pages).faults ≡ (P.view space.old.pages).faults) }
 {
     let levels = page_levels(tree.slots);
     match send_below(
@@ -84,6 +86,8 @@ impl<P: PageWorld> Store<P> {
         ensures no_damage { shown.ForSeries self.old id (λ total book series. IfErr result IsNoDamage) }
         ensures reads { shown.ForSeries self.old id (λ total book series. (shown.view self.new).reads ≤ (shown.view self.old).reads + series_pages series.slots) }
         ensures cause { IfErr result (λ e. IsSeriesCause e (shown.IsTold self.old) (shown.numbers self.old) id (shown.view self.old) (shown.view self.new)) }
+        ensures quiet { OnOk result ((shown.view self.new).faults ≡ (shown.view self.old).faults) }
+        ensures quiet_err { IfErr result (λ e. e ≢ SendError.DiskFault → (shown.view self.new).faults ≡ (shown.view self.old).faults) }
         ensures sends { SendsOn self.old self.new }
         ensures catalog { self.new.catalog ≡ self.old.catalog }
         ensures selected { (self.new.tree ≡ self.old.tree) × (self.new.trail ≡ self.old.trail) }

@@ -1,5 +1,5 @@
 //! Pages are brought to version 2.
-ghost use Rattle.std.specs.Prelude.{◌≡◌, ◌≤◌, ◌<◌, ℕ, length, IfOk, IfErr, OnOk, OnErr};
+ghost use Rattle.std.specs.Prelude.{◌≡◌, ◌≢◌, ◌≤◌, ◌<◌, ℕ, length, IfOk, IfErr, OnOk, OnErr};
 ghost use Rattle.block_disk.specs.Blocks.{IsBlock};
 ghost use Rattle.block_disk.specs.Counts.{HasRisen};
 ghost use Rattle.gate_pages.specs.Batch.{AllBelow};
@@ -24,6 +24,8 @@ pub fn upgrade<P: Pages>(alloc: Global, pages: &mut P) -> Result<(), UpgradeErro
     requires sound { (P.view pages.old).fit }
     requires many { 62 ≤ (P.view pages.old).size }
     ensures cause { IfErr result (λ cause. Prevents cause (P.told pages.old) (P.view pages.old) (P.view pages.new)) }
+    ensures quiet { OnOk result ((P.view pages.new).faults ≡ (P.view pages.old).faults) }
+    ensures quiet_err { IfErr result (λ cause. cause ≢ UpgradeError.DiskFault → (P.view pages.new).faults ≡ (P.view pages.old).faults) }
     ensures place { IfErr result (λ cause. IsPlace cause) }
     // a crash at any moment leaves the pages from before or those that they become
     ensures upgrades { Upgrades (P.told pages.old) (P.told pages.new) (P.view pages.old) (P.view pages.new) }
@@ -59,6 +61,8 @@ pub fn is_old<P: Pages>(alloc: Global, pages: &mut P) -> Result<bool, UpgradeErr
     requires sound { (P.view pages.old).fit }
     requires many { 62 ≤ (P.view pages.old).size }
     ensures cause { IfErr result (λ cause. Prevents cause (P.told pages.old) (P.view pages.old) (P.view pages.new)) }
+    ensures quiet { OnOk result ((P.view pages.new).faults ≡ (P.view pages.old).faults) }
+    ensures quiet_err { IfErr result (λ cause. cause ≢ UpgradeError.DiskFault → (P.view pages.new).faults ≡ (P.view pages.old).faults) }
     ensures outside { IfErr result (λ cause. IsOutside cause) }
     ensures reads { Reads (P.told pages.old) (P.told pages.new) (P.view pages.old) (P.view pages.new) }
     ensures goes_on { GoesOn (P.under pages.old) (P.under pages.new) }
@@ -76,6 +80,7 @@ fn read_first<P: Pages>(pages: &mut P, page: &mut [u8]) -> Result<bool, DiskFaul
     requires whole { IsBlock page.old }
     ensures whole { IsBlock page.new }
     ensures cause { OnErr result (HasRisen (P.view pages.old).faults (P.view pages.new).faults) }
+    ensures quiet { OnOk result ((P.view pages.new).faults ≡ (P.view pages.old).faults) }
     ensures reads { Reads (P.told pages.old) (P.told pages.new) (P.view pages.old) (P.view pages.new) }
     ensures goes_on { GoesOn (P.under pages.old) (P.under pages.new) }
     ensures page { P.told pages.old → OnOk result (page.new ≡ (P.view pages.old).image 0) }
@@ -91,6 +96,8 @@ fn new_pages<P: Pages>(alloc: Global, pages: &mut P, page: &mut [u8]) -> Result<
     requires many { 62 ≤ (P.view pages.old).size }
     requires whole { IsBlock page.old }
     ensures cause { IfErr result (λ cause. StopsFirst cause (P.told pages.old) (P.view pages.old) (P.view pages.new)) }
+    ensures quiet { OnOk result ((P.view pages.new).faults ≡ (P.view pages.old).faults) }
+    ensures quiet_err { IfErr result (λ cause. cause ≢ UpgradeError.DiskFault → (P.view pages.new).faults ≡ (P.view pages.old).faults) }
     ensures looks { Looks 16 (P.told pages.old) (P.told pages.new) (P.view pages.old) (P.view pages.new) }
     ensures goes_on { GoesOn (P.under pages.old) (P.under pages.new) }
     ensures few { IfOk result (λ batch. length (entries batch) ≡ 17) }
@@ -116,6 +123,8 @@ fn new_page<P: Pages>(pages: &mut P, p: u32, page: &mut [u8]) -> Result<(), Upgr
     requires whole { IsBlock page.old }
     ensures whole { IsBlock page.new }
     ensures cause { IfErr result (λ cause. BreaksAt p cause (P.told pages.old) (P.view pages.old) (P.view pages.new)) }
+    ensures quiet { OnOk result ((P.view pages.new).faults ≡ (P.view pages.old).faults) }
+    ensures quiet_err { IfErr result (λ cause. cause ≢ UpgradeError.DiskFault → (P.view pages.new).faults ≡ (P.view pages.old).faults) }
     ensures reads { Reads (P.told pages.old) (P.told pages.new) (P.view pages.old) (P.view pages.new) }
     ensures goes_on { GoesOn (P.under pages.old) (P.under pages.new) }
     ensures kept { P.told pages.old → OnOk result (KeepsOldRules ((P.view pages.old).image p)) }

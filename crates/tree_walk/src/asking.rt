@@ -1,5 +1,5 @@
 //! The coefficient of a key, read from pages.
-ghost use Rattle.std.specs.Prelude.{◌≡◌, ◌≤◌, ◌+◌, None, Some, IfOk, IfErr, OnOk, OnErr, IsSome};
+ghost use Rattle.std.specs.Prelude.{◌≡◌, ◌≢◌, ◌≤◌, ◌+◌, None, Some, IfOk, IfErr, OnOk, OnErr, IsSome};
 ghost use Rattle.om3_coeff.specs.Keys.{page_levels, height, IsNode, MayFollow};
 ghost use Rattle.om3_coeff.specs.Spans.{IsProper};
 ghost use Rattle.om3_coeff.specs.Coefs.{parts};
@@ -47,6 +47,8 @@ pub fn coef_at<P: Pages>(
 
     ensures faults { (shown.view space.old).faults ≤ (shown.view space.new).faults }
     ensures cause { IfErr result (λ cause. walk.Explains cause space.old space.new tree trail.old trail.new) }
+    ensures quiet { OnOk result ((shown.view space.new).faults ≡ (shown.view space.old).faults) }
+    ensures quiet_err { IfErr result (λ e. e ≢ NodeError.DiskFault → (shown.view space.new).faults ≡ (shown.view space.old).faults) }
     // the damaged page stands on the way to this key
     ensures damaged { IfErr result (λ cause. walk.BlamesWay cause space.old tree key span) }
 {

@@ -81,6 +81,8 @@ fn read_page<P: Pages>(
     ensures held { OnOk result (walk.HasRead space.new level page.new) }
     ensures number { OnOk result (page.new.number ≡ number) }
     ensures cause { IfErr result (λ cause. walk.FailsToRead cause space.old space.new number level) }
+    ensures quiet { OnOk result ((shown.view space.new).faults ≡ (shown.view space.old).faults) }
+    ensures quiet_err { IfErr result (λ e. e ≢ NodeError.DiskFault → (shown.view space.new).faults ≡ (shown.view space.old).faults) }
 {
     let Ok(()) = space.get(number, page.bytes.as_mut_slice()) else {
         return Err(NodeError::DiskFault);
@@ -118,6 +120,8 @@ fn hold<P: Pages>(
     ensures reached { OnOk result (IsHit trail.new depth number) }
     ensures asked { trail.new.asked ≡ trail.old.asked }
     ensures cause { IfErr result (λ cause. walk.FailsToRead cause space.old space.new number (levels - depth)) }
+    ensures quiet { OnOk result ((shown.view space.new).faults ≡ (shown.view space.old).faults) }
+    ensures quiet_err { IfErr result (λ e. e ≢ NodeError.DiskFault → (shown.view space.new).faults ≡ (shown.view space.old).faults) }
 {
     if trail.holds(depth, number) {
         return Ok(());
@@ -154,6 +158,8 @@ fn step<P: Pages>(
     ensures linked { OnOk result (IsLinked trail.new.pages.items key levels depth) }
     ensures asked { trail.new.asked ≡ trail.old.asked }
     ensures cause { IfErr result (λ cause. walk.FailsToStep cause space.old space.new trail.old key levels depth) }
+    ensures quiet { OnOk result ((shown.view space.new).faults ≡ (shown.view space.old).faults) }
+    ensures quiet_err { IfErr result (λ e. e ≢ NodeError.DiskFault → (shown.view space.new).faults ≡ (shown.view space.old).faults) }
 {
     let child = path_child(key, levels - depth);
     let number = next_page(&trail.pages[depth], space.total(), child)?;
@@ -185,6 +191,8 @@ pub(crate) fn descend<P: Pages>(
     ensures top_read { key.level ≡ height tree.slots → (shown.view space.new).reads ≤ (shown.view space.old).reads + 1 }
     ensures reads { (shown.view space.new).reads ≤ (shown.view space.old).reads + levels_of tree.slots }
     ensures cause { IfErr result (λ cause. walk.FailsOnWay cause space.old space.new tree key) }
+    ensures quiet { OnOk result ((shown.view space.new).faults ≡ (shown.view space.old).faults) }
+    ensures quiet_err { IfErr result (λ e. e ≢ NodeError.DiskFault → (shown.view space.new).faults ≡ (shown.view space.old).faults) }
 {
     let levels = usize::from(page_levels(tree.slots));
     let depth = levels - usize::from(page_level(key.level));

@@ -1,4 +1,5 @@
-ghost use Rattle.std.specs.Prelude.{◌≡◌, ◌==◌, ◌≤◌, ◌≤ℤ◌, ◌<◌, ◌+◌, ◌++◌, [], ◌∷◌, ℕ, ℤ, List, length, Option, None, Some, IsTrue, IfOk, IfErr, IfSome, IfNone, OnOk, OnErr, false, position};
+ghost use Rattle.std.specs.Prelude.{◌≡◌, ◌==◌, ◌≤◌, ◌≤ℤ◌, ◌<◌, ◌+◌, ◌++◌, [], ◌∷◌, ℕ, ℤ, List, length, Option, None, Some, IsTrue, IfOk, IfErr, IfSome, IfNone, OnOk, OnErr, false, position, ◌≢◌};
+ghost use Rattle.om3_coeff.specs.declared.errors.NodeError.TheVariants.{DiskFault};
 ghost use Rattle.std.specs.Option.{option_copied};
 ghost use Rattle.needed_nodes.specs.Answers.{AgreesForView, most_needed, most_reads};
 ghost use Rattle.zoom_session.specs.Places.{IsPlaceOf, IsClosed};
@@ -195,6 +196,8 @@ impl Sessions {
         ensures kept { N.keeps nodes.old nodes.new }
         ensures reads { (N.view nodes.new).reads ≤ (N.view nodes.old).reads + most_reads spec.now.grid.w axis.slots }
         ensures faults { (N.view nodes.old).faults ≤ (N.view nodes.new).faults }
+        ensures quiet { OnOk result ((N.view nodes.new).faults ≡ (N.view nodes.old).faults) }
+        ensures quiet_err { IfErr result (λ e. e ≢ PlanError.Node DiskFault → (N.view nodes.new).faults ≡ (N.view nodes.old).faults) }
     {
         let Some(place) = self.place_of(number) else {
             unreachable!()

@@ -1,10 +1,10 @@
-use Rattle.std.proofs.Common.{ℕ, refl, sym, subst, ◌∙◌}
+use Rattle.std.proofs.Common.{ℕ, refl, sym, ap, subst, ◌∙◌}
 use Rattle.block_disk.specs.View.{Image}
 use Rattle.gate_pages.specs.Journal.{page_count}
 use Rattle.stored_book.specs.Standing.{StandsForBook, RecoversTo}
 use Rattle.series_store.specs.Shown as shown
 use Rattle.disk_store.specs.Shown.{disk_below}
-use Rattle.disk_store.specs.Openings.{Opens, Prevents, IsOpeningPlace, IsOutside}
+use Rattle.disk_store.specs.Openings.{Opens, Prevents, IsOpeningPlace, IsOutside, cause_of, upgrade_cause_of, store_cause_of}
 use Rattle.disk_store.specs.declared.causes.OpeningCause.{OpeningCause}
 use Rattle.disk_store.proofs.Opened.{opens_pages, opens_upgraded, same_near, opens_read, holds_moments, holds_on, upgrade_prevents, upgrade_outside, store_prevents, store_outside, pages_place, upgrade_place, store_place}
 use Rattle.disk_store.proofs.opening.open_store.Goals as goal
@@ -180,3 +180,19 @@ returns-in-Err-clause-moments g c = λ total book holds.
 
 pub returns-in-Err-clause-place : goal.returns-in-Err-clause-place
 returns-in-Err-clause-place g c = subst IsOpeningPlace (sym c.pages_cause.ensures) (pages_place c.in-Err.field-0.cause)
+
+pub returns-in-Ok-open-clause-quiet : goal.returns-in-Ok-open-clause-quiet
+returns-in-Ok-open-clause-quiet g c = c.in-Ok-open.ensures.quiet ∙ c.in-Ok-upgrade.ensures.quiet ∙ c.in-Ok.ensures.quiet
+
+pub returns-in-Err-open-clause-quiet_err : goal.returns-in-Err-open-clause-quiet_err
+returns-in-Err-open-clause-quiet_err g c = λ other.
+    ap (λ disk. (g.D.Disk.view disk).faults) c.into_disk.ensures.disk
+    ∙ c.in-Err-open.ensures.quiet_err (λ is. other (c.store_cause.ensures ∙ ap store_cause_of is)) ∙ c.in-Ok-upgrade.ensures.quiet ∙ c.in-Ok.ensures.quiet
+
+pub returns-in-Err-upgrade-clause-quiet_err : goal.returns-in-Err-upgrade-clause-quiet_err
+returns-in-Err-upgrade-clause-quiet_err g c = λ other.
+    ap (λ disk. (g.D.Disk.view disk).faults) c.into_disk-in-Err-upgrade.ensures.disk
+    ∙ c.in-Err-upgrade.ensures.quiet_err (λ is. other (c.upgrade_cause.ensures ∙ ap upgrade_cause_of is)) ∙ c.in-Ok.ensures.quiet
+
+pub returns-in-Err-clause-quiet_err : goal.returns-in-Err-clause-quiet_err
+returns-in-Err-clause-quiet_err g c = λ other. c.in-Err.ensures.quiet_err (λ is. other (c.pages_cause.ensures ∙ ap cause_of is))

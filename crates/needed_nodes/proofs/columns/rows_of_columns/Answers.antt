@@ -1,4 +1,4 @@
-use Rattle.std.proofs.Common.{ℕ, ◌≡◌, ◌+◌, ◌∙◌, List, sym, subst, arith}
+use Rattle.std.proofs.Common.{ℕ, ◌≡◌, ◌+◌, ◌∙◌, List, refl, sym, subst, arith}
 use Rattle.m4_groups.specs.declared.row.Row.{Row}
 use Rattle.om3_coeff.specs.View.{StaysSame}
 use Rattle.needed_nodes.specs.Columns.{top_end, HasColumns}
@@ -13,6 +13,7 @@ loop-column-init g c = record {
   kept = g.met.N.Nodes.keeps_itself c.args.nodes.now;
   reads = omega arith;
   faults = omega arith;
+  quiet = refl;
   found =
       let P : List Row → Type 0 = λ rows. HasColumns (g.N.Nodes.view c.args.nodes.now) c.args.window.now 0 c.args.keys.now.items c.args.keys.now.items rows in
       subst P (sym c.new-rows.ensures.items) (no_columns (g.N.Nodes.view c.args.nodes.now) c.args.window.now c.args.keys.now.items);
@@ -79,6 +80,7 @@ loop-column-preserved g c = record {
       reads_column (g.N.Nodes.view c.args.nodes.now).reads (g.N.Nodes.view c.loop-column.nodes).reads (g.N.Nodes.view c.add_column.new.nodes).reads c.loop-column.column _
       c.loop-column.invariant.reads c.in_ok-add_column.ensures.reads;
   faults = omega (arith, c.loop-column.invariant.faults, c.in_ok-add_column.ensures.faults);
+  quiet = c.in_ok-add_column.ensures.quiet ∙ c.loop-column.invariant.quiet;
   found =
       more_columns (g.N.Nodes.view c.args.nodes.now) (g.N.Nodes.view c.loop-column.nodes) c.args.window.now c.loop-column.column _ _ _ _ _
       (g.met.N.Nodes.keeps_same c.args.nodes.now c.loop-column.nodes c.loop-column.invariant.kept) c.loop-column.invariant.found c.in_ok-add_column.ensures.found;
@@ -95,3 +97,8 @@ returns-clause-found g c =
     omega (arith, c.loop-column-test.false, c.loop-column.auto.column-end, c.w-column-end.ensures.value) in
     let P : ℕ → Type 0 = λ n. HasColumns (g.N.Nodes.view c.args.nodes.now) c.args.window.now n c.args.keys.now.items c.loop-column.keys.items c.loop-column.rows.items in
     subst P last c.loop-column.invariant.found
+
+pub returns-in_err-add_column-clause-quiet_err : goal.returns-in_err-add_column-clause-quiet_err
+returns-in_err-add_column-clause-quiet_err g c =
+    err_cause _ _ c.in_err-add_column.field-0.0 c.from_residual.ensures.1
+    (λ other. c.in_err-add_column.ensures.quiet_err other ∙ c.loop-column.invariant.quiet)

@@ -1,11 +1,12 @@
 use Rattle.std.proofs.Common.{rules, arith, ℕ, ℤ, ◌≤◌, ◌+◌, subst, refl, inr}
-use Rattle.std.proofs.lemmas.Result.{IfOk-weaker}
+use Rattle.std.proofs.lemmas.Result.{IfOk-weaker, IfErr-weaker}
 use Rattle.std.specs.Prelude.{Option, IfSome, IfNone, IsSome, max, min}
 use Rattle.om3_coeff.specs.declared.key.Key.{Key}
 use Rattle.om3_coeff.specs.Keys.{first_slot, end_slot, left_of, right_of}
-use Rattle.om3_coeff.specs.View.{Agrees, StaysSame}
+use Rattle.om3_coeff.specs.View.{Agrees, HasCause, StaysSame}
 use Rattle.om3_coeff.specs.Walks.{IsLastStored, IsSlotIn, StaysBelow, most_cut}
 use Rattle.om3_coeff.proofs.WalkLemmas.{key_small, go_to, ask_at, ask_right, after_right, still_agrees, both_below_back_at, left_follows_at}
+use Rattle.om3_coeff.proofs.CauseLemmas.{passed_on, later_cause}
 use Rattle.om3_coeff.proofs.EndLemmas.{are_halves, ok_both, clear_none, is_here, last_here, slot_here, last_in_right, slot_in_right, slots_in_left, last_after_right, found_left, if_none, reads_right, reads_then_left, none_reads_back}
 use Rattle.om3_coeff.proofs.ends.+last_below.Goals as goal
 
@@ -153,3 +154,37 @@ last_below-requires-in-None g t c κs within =
         ),
       ),
     )
+
+pub returns-in_err-found-clause-kept : goal.returns-in_err-found-clause-kept
+returns-in_err-found-clause-kept g t c = g.met.N.Nodes.keeps_on c.args.nodes.now c.ask.new.nodes c.last_below.new.nodes c.in_ok-left.ensures.kept c.in_err-found.ensures.kept
+
+pub returns-in_err-found-clause-faults : goal.returns-in_err-found-clause-faults
+returns-in_err-found-clause-faults g t c = omega (arith, c.in_ok-left.ensures.faults, c.in_err-found.ensures.faults)
+
+pub returns-in_err-found-clause-cause : goal.returns-in_err-found-clause-cause
+returns-in_err-found-clause-cause g t c =
+    let same = g.met.N.Nodes.keeps_same c.args.nodes.now c.ask.new.nodes c.in_ok-left.ensures.kept in
+    passed_on c.from_residual-in_err-found.result c.in_err-found.field-0.0 (HasCause (g.N.Nodes.view c.args.nodes.now) (g.N.Nodes.view c.last_below.new.nodes)) c.from_residual-in_err-found.ensures.1
+    (later_cause (g.N.Nodes.view c.args.nodes.now) (g.N.Nodes.view c.ask.new.nodes) (g.N.Nodes.view c.last_below.new.nodes) c.in_err-found.field-0.0 same c.in_ok-left.ensures.faults c.in_err-found.ensures.cause)
+
+pub returns-in-Some-2-clause-kept : goal.returns-in-Some-2-clause-kept
+returns-in-Some-2-clause-kept g t c = g.met.N.Nodes.keeps_on c.args.nodes.now c.ask.new.nodes c.last_below.new.nodes c.in_ok-left.ensures.kept c.in_ok-found.ensures.kept
+
+pub returns-in-Some-2-clause-faults : goal.returns-in-Some-2-clause-faults
+returns-in-Some-2-clause-faults g t c = omega (arith, c.in_ok-left.ensures.faults, c.in_ok-found.ensures.faults)
+
+pub returns-in-None-clause-kept : goal.returns-in-None-clause-kept
+returns-in-None-clause-kept g t c =
+    g.met.N.Nodes.keeps_on c.args.nodes.now c.last_below.new.nodes c.last_below-in-None.new.nodes
+    (g.met.N.Nodes.keeps_on c.args.nodes.now c.ask.new.nodes c.last_below.new.nodes c.in_ok-left.ensures.kept c.in_ok-found.ensures.kept) c.last_below-in-None.ensures.kept
+
+pub returns-in-None-clause-faults : goal.returns-in-None-clause-faults
+returns-in-None-clause-faults g t c = omega (arith, c.in_ok-left.ensures.faults, c.in_ok-found.ensures.faults, c.last_below-in-None.ensures.faults)
+
+pub returns-in-None-clause-cause : goal.returns-in-None-clause-cause
+returns-in-None-clause-cause g t c =
+    let same = g.met.N.Nodes.keeps_same c.args.nodes.now c.last_below.new.nodes
+    (g.met.N.Nodes.keeps_on c.args.nodes.now c.ask.new.nodes c.last_below.new.nodes c.in_ok-left.ensures.kept c.in_ok-found.ensures.kept) in
+    IfErr-weaker c.last_below-in-None.result (HasCause (g.N.Nodes.view c.last_below.new.nodes) (g.N.Nodes.view c.last_below-in-None.new.nodes)) (HasCause (g.N.Nodes.view c.args.nodes.now) (g.N.Nodes.view c.last_below-in-None.new.nodes))
+    (λ e. later_cause (g.N.Nodes.view c.args.nodes.now) (g.N.Nodes.view c.last_below.new.nodes) (g.N.Nodes.view c.last_below-in-None.new.nodes) e same (omega (arith, c.in_ok-left.ensures.faults, c.in_ok-found.ensures.faults)))
+    c.last_below-in-None.ensures.cause

@@ -1,11 +1,12 @@
-use Rattle.std.proofs.Common.{rules, ◌≤◌, subst, sym, ◌∙◌}
+use Rattle.std.proofs.Common.{rules, arith, ◌≤◌, subst, sym, ◌∙◌}
 use Rattle.std.specs.Prelude.{Option}
 use Rattle.om3_coeff.specs.declared.span.Span.{Span}
 use Rattle.om3_coeff.specs.Keys.{left_of, right_of}
 use Rattle.om3_coeff.specs.Spans.{IsProperIfAny}
-use Rattle.om3_coeff.specs.View.{Agrees, StaysSame}
+use Rattle.om3_coeff.specs.View.{Agrees, HasCause, StaysSame}
 use Rattle.om3_coeff.proofs.CoefLemmas.{hull-proper}
 use Rattle.om3_coeff.proofs.WalkLemmas.{key_small, go_to, ask_at, ask_left, still_agrees, cut_low, cut_reads, cut_reads_once, cut_reads_twice, list_none, list_outside, list_within, list_cut, both_below_at, right_follows_at}
+use Rattle.om3_coeff.proofs.CauseLemmas.{passed_on, later_cause}
 use Rattle.om3_coeff.proofs.walks.+span_below.Goals as goal
 
 pub returns-in_default-clause-list : goal.returns-in_default-clause-list
@@ -110,3 +111,38 @@ span_below-requires-in-Cut g t c κs within =
         ),
       ),
     )
+
+pub returns-in_err-first-in-Cut-clause-kept : goal.returns-in_err-first-in-Cut-clause-kept
+returns-in_err-first-in-Cut-clause-kept g t c = g.met.N.Nodes.keeps_on c.args.nodes.now c.ask.new.nodes c.span_below.new.nodes c.in_ok-left-in-Cut.ensures.kept c.in_err-first-in-Cut.ensures.kept
+
+pub returns-in_err-first-in-Cut-clause-faults : goal.returns-in_err-first-in-Cut-clause-faults
+returns-in_err-first-in-Cut-clause-faults g t c = omega (arith, c.in_ok-left-in-Cut.ensures.faults, c.in_err-first-in-Cut.ensures.faults)
+
+pub returns-in_err-first-in-Cut-clause-cause : goal.returns-in_err-first-in-Cut-clause-cause
+returns-in_err-first-in-Cut-clause-cause g t c =
+    let same = g.met.N.Nodes.keeps_same c.args.nodes.now c.ask.new.nodes c.in_ok-left-in-Cut.ensures.kept in
+    passed_on c.from_residual-in_err-first-in-Cut.result c.in_err-first-in-Cut.field-0.0 (HasCause (g.N.Nodes.view c.args.nodes.now) (g.N.Nodes.view c.span_below.new.nodes)) c.from_residual-in_err-first-in-Cut.ensures.1
+    (later_cause (g.N.Nodes.view c.args.nodes.now) (g.N.Nodes.view c.ask.new.nodes) (g.N.Nodes.view c.span_below.new.nodes) c.in_err-first-in-Cut.field-0.0 same c.in_ok-left-in-Cut.ensures.faults c.in_err-first-in-Cut.ensures.cause)
+
+pub returns-in_err-second-in-Cut-clause-kept : goal.returns-in_err-second-in-Cut-clause-kept
+returns-in_err-second-in-Cut-clause-kept g t c =
+    g.met.N.Nodes.keeps_on c.args.nodes.now c.span_below.new.nodes c.span_below-in-Cut.new.nodes
+    (g.met.N.Nodes.keeps_on c.args.nodes.now c.ask.new.nodes c.span_below.new.nodes c.in_ok-left-in-Cut.ensures.kept c.in_ok-first-in-Cut.ensures.kept) c.in_err-second-in-Cut.ensures.kept
+
+pub returns-in_err-second-in-Cut-clause-faults : goal.returns-in_err-second-in-Cut-clause-faults
+returns-in_err-second-in-Cut-clause-faults g t c = omega (arith, c.in_ok-left-in-Cut.ensures.faults, c.in_ok-first-in-Cut.ensures.faults, c.in_err-second-in-Cut.ensures.faults)
+
+pub returns-in_err-second-in-Cut-clause-cause : goal.returns-in_err-second-in-Cut-clause-cause
+returns-in_err-second-in-Cut-clause-cause g t c =
+    let same = g.met.N.Nodes.keeps_same c.args.nodes.now c.span_below.new.nodes
+    (g.met.N.Nodes.keeps_on c.args.nodes.now c.ask.new.nodes c.span_below.new.nodes c.in_ok-left-in-Cut.ensures.kept c.in_ok-first-in-Cut.ensures.kept) in
+    passed_on c.from_residual-in_err-second-in-Cut.result c.in_err-second-in-Cut.field-0.0 (HasCause (g.N.Nodes.view c.args.nodes.now) (g.N.Nodes.view c.span_below-in-Cut.new.nodes)) c.from_residual-in_err-second-in-Cut.ensures.1
+    (later_cause (g.N.Nodes.view c.args.nodes.now) (g.N.Nodes.view c.span_below.new.nodes) (g.N.Nodes.view c.span_below-in-Cut.new.nodes) c.in_err-second-in-Cut.field-0.0 same (omega (arith, c.in_ok-left-in-Cut.ensures.faults, c.in_ok-first-in-Cut.ensures.faults)) c.in_err-second-in-Cut.ensures.cause)
+
+pub returns-in_ok-second-in-Cut-clause-kept : goal.returns-in_ok-second-in-Cut-clause-kept
+returns-in_ok-second-in-Cut-clause-kept g t c =
+    g.met.N.Nodes.keeps_on c.args.nodes.now c.span_below.new.nodes c.span_below-in-Cut.new.nodes
+    (g.met.N.Nodes.keeps_on c.args.nodes.now c.ask.new.nodes c.span_below.new.nodes c.in_ok-left-in-Cut.ensures.kept c.in_ok-first-in-Cut.ensures.kept) c.in_ok-second-in-Cut.ensures.kept
+
+pub returns-in_ok-second-in-Cut-clause-faults : goal.returns-in_ok-second-in-Cut-clause-faults
+returns-in_ok-second-in-Cut-clause-faults g t c = omega (arith, c.in_ok-left-in-Cut.ensures.faults, c.in_ok-first-in-Cut.ensures.faults, c.in_ok-second-in-Cut.ensures.faults)

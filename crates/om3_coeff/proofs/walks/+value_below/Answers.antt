@@ -1,10 +1,12 @@
 use Rattle.std.proofs.Common.{rules, arith, ◌≤◌, subst}
+use Rattle.std.proofs.lemmas.Result.{IfErr-weaker}
 use Rattle.std.specs.Prelude.{Option, Some}
 use Rattle.om3_coeff.specs.declared.span.Span.{Span}
 use Rattle.om3_coeff.specs.Keys.{left_of, right_of}
-use Rattle.om3_coeff.specs.View.{StaysSame}
+use Rattle.om3_coeff.specs.View.{HasCause, StaysSame}
 use Rattle.om3_coeff.specs.Walks.{IsReached}
-use Rattle.om3_coeff.proofs.WalkLemmas.{key_small, right_small, value_none, value_here, value_code, go_to, ask_at, ask_left, ask_right, left_from, left_to, right_from, right_to}
+use Rattle.om3_coeff.proofs.WalkLemmas.{key_small, right_small, value_none, value_here, value_code, go_to, ask_at, ask_left, ask_right, left_from, left_to, right_from, right_to, still_agrees}
+use Rattle.om3_coeff.proofs.CauseLemmas.{later_cause}
 use Rattle.om3_coeff.proofs.walks.+value_below.Goals as goal
 
 pub returns-in_default-clause-list : goal.returns-in_default-clause-list
@@ -75,3 +77,37 @@ value_below-requires-else-slot-first g t c κs within =
         ),
       ),
     )
+
+pub returns-then-slot-first-clause-list : goal.returns-then-slot-first-clause-list
+returns-then-slot-first-clause-list g t c = λ list agrees.
+    let same : StaysSame (g.N.Nodes.view c.args.nodes.now) (g.N.Nodes.view c.ask.new.nodes) = g.met.N.Nodes.keeps_same c.args.nodes.now c.ask.new.nodes c.in_ok-left.ensures.kept in
+    c.value_below.ensures.list list (still_agrees (g.N.Nodes.view c.args.nodes.now) (g.N.Nodes.view c.ask.new.nodes) list same agrees)
+
+pub returns-then-slot-first-clause-kept : goal.returns-then-slot-first-clause-kept
+returns-then-slot-first-clause-kept g t c = g.met.N.Nodes.keeps_on c.args.nodes.now c.ask.new.nodes c.value_below.new.nodes c.in_ok-left.ensures.kept c.value_below.ensures.kept
+
+pub returns-then-slot-first-clause-faults : goal.returns-then-slot-first-clause-faults
+returns-then-slot-first-clause-faults g t c = omega (arith, c.in_ok-left.ensures.faults, c.value_below.ensures.faults)
+
+pub returns-then-slot-first-clause-cause : goal.returns-then-slot-first-clause-cause
+returns-then-slot-first-clause-cause g t c =
+    let same : StaysSame (g.N.Nodes.view c.args.nodes.now) (g.N.Nodes.view c.ask.new.nodes) = g.met.N.Nodes.keeps_same c.args.nodes.now c.ask.new.nodes c.in_ok-left.ensures.kept in
+    IfErr-weaker c.value_below.result (HasCause (g.N.Nodes.view c.ask.new.nodes) (g.N.Nodes.view c.value_below.new.nodes)) (HasCause (g.N.Nodes.view c.args.nodes.now) (g.N.Nodes.view c.value_below.new.nodes))
+    (λ e. later_cause (g.N.Nodes.view c.args.nodes.now) (g.N.Nodes.view c.ask.new.nodes) (g.N.Nodes.view c.value_below.new.nodes) e same c.in_ok-left.ensures.faults) c.value_below.ensures.cause
+
+pub returns-else-slot-first-clause-list : goal.returns-else-slot-first-clause-list
+returns-else-slot-first-clause-list g t c = λ list agrees.
+    let same : StaysSame (g.N.Nodes.view c.args.nodes.now) (g.N.Nodes.view c.ask.new.nodes) = g.met.N.Nodes.keeps_same c.args.nodes.now c.ask.new.nodes c.in_ok-left.ensures.kept in
+    c.value_below-else-slot-first.ensures.list list (still_agrees (g.N.Nodes.view c.args.nodes.now) (g.N.Nodes.view c.ask.new.nodes) list same agrees)
+
+pub returns-else-slot-first-clause-kept : goal.returns-else-slot-first-clause-kept
+returns-else-slot-first-clause-kept g t c = g.met.N.Nodes.keeps_on c.args.nodes.now c.ask.new.nodes c.value_below-else-slot-first.new.nodes c.in_ok-left.ensures.kept c.value_below-else-slot-first.ensures.kept
+
+pub returns-else-slot-first-clause-faults : goal.returns-else-slot-first-clause-faults
+returns-else-slot-first-clause-faults g t c = omega (arith, c.in_ok-left.ensures.faults, c.value_below-else-slot-first.ensures.faults)
+
+pub returns-else-slot-first-clause-cause : goal.returns-else-slot-first-clause-cause
+returns-else-slot-first-clause-cause g t c =
+    let same : StaysSame (g.N.Nodes.view c.args.nodes.now) (g.N.Nodes.view c.ask.new.nodes) = g.met.N.Nodes.keeps_same c.args.nodes.now c.ask.new.nodes c.in_ok-left.ensures.kept in
+    IfErr-weaker c.value_below-else-slot-first.result (HasCause (g.N.Nodes.view c.ask.new.nodes) (g.N.Nodes.view c.value_below-else-slot-first.new.nodes)) (HasCause (g.N.Nodes.view c.args.nodes.now) (g.N.Nodes.view c.value_below-else-slot-first.new.nodes))
+    (λ e. later_cause (g.N.Nodes.view c.args.nodes.now) (g.N.Nodes.view c.ask.new.nodes) (g.N.Nodes.view c.value_below-else-slot-first.new.nodes) e same c.in_ok-left.ensures.faults) c.value_below-else-slot-first.ensures.cause

@@ -44,14 +44,14 @@ returns-in_err-pages-clause-only_faults g t c = λ base list list' told lists fi
 
 pub loop-child-init : goal.loop-child-init
 loop-child-init g t c =
-    count_start (shown.IsTold c.args.space.now) (shown.IsTold c.look.new.space) (shown.view c.args.space.now) (shown.view c.look.new.space) (shown.under c.args.space.now) (shown.under c.look.new.space) (shown.numbers c.args.space.now) (shown.numbers c.look.new.space) c.args.txn.now c.args.slots.first c.args.slots.end c.args.values.now c.args.at.height c.args.at.level (c.args.at.level - 1) c.args.at.index c.args.page c.look.new.bytes c.in_ok-pages.pages c.look.ensures.moved c.in_ok-pages.ensures.few
+    (count_start (shown.IsTold c.args.space.now) (shown.IsTold c.look.new.space) (shown.view c.args.space.now) (shown.view c.look.new.space) (shown.under c.args.space.now) (shown.under c.look.new.space) (shown.numbers c.args.space.now) (shown.numbers c.look.new.space) c.args.txn.now c.args.slots.first c.args.slots.end c.args.values.now c.args.at.height c.args.at.level (c.args.at.level - 1) c.args.at.index c.args.page c.look.new.bytes c.in_ok-pages.pages c.look.ensures.moved c.in_ok-pages.ensures.few, c.in_ok-pages.ensures.quiet)
 
 pub new_pages-requires : goal.new_pages-requires
 new_pages-requires g t c κs within =
     let depth : (c.args.at.level - 1) + 1 ≡ c.args.at.level = omega (arith, c.if-at-eq0.false) in
     let whole = touch_level c.args.slots.first c.args.slots.end c.args.at.height c.args.at.level (c.args.at.level - 1) c.args.at.index depth (c.if-is_settled.ensures.unsettled refl).passed in
     let child_level : c.child-below.result.level ≡ c.args.at.level - 1 = omega (arith, c.child-below.ensures.level) in
-    let way = c.loop-child.invariant in (
+    let way = c.loop-child.invariant.0 in (
       omega (arith, c.child-below.ensures.level),
       (
         search rules,
@@ -77,13 +77,13 @@ returns-in_err-more-clause-moved g t c =
     let child_level : c.child-below.result.level ≡ c.args.at.level - 1 = omega (arith, c.child-below.ensures.level) in
     let most = look_children c.args.slots.first c.args.slots.end c.args.at.height c.args.at.level (c.args.at.level - 1) c.args.at.index c.args.page c.look.new.bytes is (c.if-is_settled.ensures.unsettled refl).passed c.in_ok-pages.ensures.opened in
     count_moved (shown.IsTold c.args.space.now) (shown.IsTold c.loop-child.space) (shown.IsTold c.new_pages.new.space) (shown.view c.args.space.now) (shown.view c.loop-child.space) (shown.view c.new_pages.new.space) (shown.under c.args.space.now) (shown.under c.loop-child.space) (shown.under c.new_pages.new.space) (shown.numbers c.args.space.now) (shown.numbers c.loop-child.space) (shown.numbers c.new_pages.new.space) c.args.txn.now c.args.slots.first c.args.slots.end c.args.values.now c.args.at.height c.args.at.level (c.args.at.level - 1) c.args.at.index c.args.page c.look.new.bytes c.in_ok-pages.pages c.loop-child.pages c.loop-child.child c.child-below.result.height c.child-below.result.level c.child-below.result.index c.child_of.result
-    c.loop-child.invariant c.loop-child-test.true c.child-below.ensures.height child_level c.child-below.ensures.index c.child_of.ensures c.new_pages.ensures.moved most
+    c.loop-child.invariant.0 c.loop-child-test.true c.child-below.ensures.height child_level c.child-below.ensures.index c.child_of.ensures c.new_pages.ensures.moved most
 
 pub returns-in_err-more-clause-unfit : goal.returns-in_err-more-clause-unfit
 returns-in_err-more-clause-unfit g t c = λ base told.
     let is : c.args.at.level ≡ suc (c.args.at.level - 1) = omega (arith, c.if-at-eq0.false) in
     let child_level : c.child-below.result.level ≡ c.args.at.level - 1 = omega (arith, c.child-below.ensures.level) in
-    let way = c.loop-child.invariant in
+    let way = c.loop-child.invariant.0 in
     let image = left_by c.args.txn.now base in
     let total_is : (shown.total c.loop-child.space) ≡ (shown.total c.args.space.now) = ap (λ (s : Superblock). s.total) way.moved.over.superblock in
     let T : ℕ → Type 0 = λ n. IsUnfitBelow image c.args.txn.now.superblock.fresh n (root_level c.child-below.result.height c.child-below.result.level c.child-below.result.index) c.child_of.result c.in_err-more.field-0.0 in
@@ -99,7 +99,7 @@ pub returns-in_err-more-clause-only_faults : goal.returns-in_err-more-clause-onl
 returns-in_err-more-clause-only_faults g t c = λ base list list' told lists fills rooted.
     let is : c.args.at.level ≡ suc (c.args.at.level - 1) = omega (arith, c.if-at-eq0.false) in
     let child_level : c.child-below.result.level ≡ c.args.at.level - 1 = omega (arith, c.child-below.ensures.level) in
-    let way = c.loop-child.invariant in
+    let way = c.loop-child.invariant.0 in
     error_so _ _ c.from_residual-in_err-more.result c.from_residual-in_err-more.ensures.1
     (λ e same. same ∙ c.in_err-more.ensures.only_faults base list list'
     (told_on (look_most c.args.at.height c.args.at.level c.args.at.index c.args.page + counted_below c.look.new.bytes c.args.slots.first c.args.slots.end c.args.at.height (c.args.at.level - 1) c.args.at.index c.loop-child.child) (shown.IsTold c.args.space.now) (shown.IsTold c.loop-child.space) (shown.view c.args.space.now) (shown.view c.loop-child.space) base way.moved.reads told) lists fills
@@ -118,24 +118,28 @@ loop-child-preserved-then-is_apart g t c =
     let page = child_at c.look.new.bytes c.loop-child.child in
     let most = count_most page c.args.slots.first c.args.slots.end c.child-below.result.height c.child-below.result.level c.child-below.result.index in
     let N : ℕ → Type 0 = λ n. IsCounting (shown.IsTold c.args.space.now) (shown.IsTold c.loop-child.space) (shown.view c.args.space.now) (shown.view c.loop-child.space) (shown.under c.args.space.now) (shown.under c.loop-child.space) (shown.numbers c.args.space.now) (shown.numbers c.loop-child.space) c.args.txn.now c.args.slots.first c.args.slots.end c.args.values.now c.args.at.height c.args.at.level (c.args.at.level - 1) c.args.at.index c.args.page c.look.new.bytes c.in_ok-pages.pages n (c.loop-child.child + 1) in
-    let none : c.loop-child.pages + 0 ≡ c.loop-child.pages = omega arith in
-    subst N none
-    (count_on (shown.IsTold c.args.space.now) (shown.IsTold c.loop-child.space) (shown.IsTold c.loop-child.space) (shown.view c.args.space.now) (shown.view c.loop-child.space) (shown.view c.loop-child.space) (shown.under c.args.space.now) (shown.under c.loop-child.space) (shown.under c.loop-child.space) (shown.numbers c.args.space.now) (shown.numbers c.loop-child.space) (shown.numbers c.loop-child.space) c.args.txn.now c.args.slots.first c.args.slots.end c.args.values.now c.args.at.height c.args.at.level (c.args.at.level - 1) c.args.at.index c.args.page c.look.new.bytes c.in_ok-pages.pages c.loop-child.pages 0 c.loop-child.child c.child-below.result.height c.child-below.result.level c.child-below.result.index page
-    c.loop-child.invariant c.loop-child-test.true c.child-below.ensures.height child_level c.child-below.ensures.index refl
-    (moved_more 0 most 0 0 (shown.IsTold c.loop-child.space) (shown.IsTold c.loop-child.space) (shown.view c.loop-child.space) (shown.view c.loop-child.space) (shown.under c.loop-child.space) (shown.under c.loop-child.space) (shown.numbers c.loop-child.space) (shown.numbers c.loop-child.space) c.args.txn.now c.args.txn.now (omega arith) (omega arith)
-    (moved_none (shown.IsTold c.loop-child.space) (shown.view c.loop-child.space) (shown.under c.loop-child.space) (shown.numbers c.loop-child.space) c.args.txn.now))
-    (omega arith)
-    (λ base list list' told lists fills rooted. apart_count (left_by c.args.txn.now base) (shown.total c.loop-child.space) c.args.slots.first c.args.slots.end c.args.values.now list list' c.child-below.result.height c.child-below.result.level c.child-below.result.index page lists rooted untouched no_root)
-    (λ base list told rooted. c.in_ok-pages.ensures.seen base list (c.args.at.level - 1) told is rooted))
+    let none : c.loop-child.pages + 0 ≡ c.loop-child.pages = omega arith in (
+      subst N none
+          (count_on (shown.IsTold c.args.space.now) (shown.IsTold c.loop-child.space) (shown.IsTold c.loop-child.space) (shown.view c.args.space.now) (shown.view c.loop-child.space) (shown.view c.loop-child.space) (shown.under c.args.space.now) (shown.under c.loop-child.space) (shown.under c.loop-child.space) (shown.numbers c.args.space.now) (shown.numbers c.loop-child.space) (shown.numbers c.loop-child.space) c.args.txn.now c.args.slots.first c.args.slots.end c.args.values.now c.args.at.height c.args.at.level (c.args.at.level - 1) c.args.at.index c.args.page c.look.new.bytes c.in_ok-pages.pages c.loop-child.pages 0 c.loop-child.child c.child-below.result.height c.child-below.result.level c.child-below.result.index page
+          c.loop-child.invariant.0 c.loop-child-test.true c.child-below.ensures.height child_level c.child-below.ensures.index refl
+          (moved_more 0 most 0 0 (shown.IsTold c.loop-child.space) (shown.IsTold c.loop-child.space) (shown.view c.loop-child.space) (shown.view c.loop-child.space) (shown.under c.loop-child.space) (shown.under c.loop-child.space) (shown.numbers c.loop-child.space) (shown.numbers c.loop-child.space) c.args.txn.now c.args.txn.now (omega arith) (omega arith)
+          (moved_none (shown.IsTold c.loop-child.space) (shown.view c.loop-child.space) (shown.under c.loop-child.space) (shown.numbers c.loop-child.space) c.args.txn.now))
+          (omega arith)
+          (λ base list list' told lists fills rooted. apart_count (left_by c.args.txn.now base) (shown.total c.loop-child.space) c.args.slots.first c.args.slots.end c.args.values.now list list' c.child-below.result.height c.child-below.result.level c.child-below.result.index page lists rooted untouched no_root)
+          (λ base list told rooted. c.in_ok-pages.ensures.seen base list (c.args.at.level - 1) told is rooted)),
+      c.loop-child.invariant.1,
+    )
 
 pub loop-child-preserved : goal.loop-child-preserved
 loop-child-preserved g t c =
     let is : c.args.at.level ≡ suc (c.args.at.level - 1) = omega (arith, c.if-at-eq0.false) in
-    let child_level : c.child-below.result.level ≡ c.args.at.level - 1 = omega (arith, c.child-below.ensures.level) in
-    count_on (shown.IsTold c.args.space.now) (shown.IsTold c.loop-child.space) (shown.IsTold c.new_pages.new.space) (shown.view c.args.space.now) (shown.view c.loop-child.space) (shown.view c.new_pages.new.space) (shown.under c.args.space.now) (shown.under c.loop-child.space) (shown.under c.new_pages.new.space) (shown.numbers c.args.space.now) (shown.numbers c.loop-child.space) (shown.numbers c.new_pages.new.space) c.args.txn.now c.args.slots.first c.args.slots.end c.args.values.now c.args.at.height c.args.at.level (c.args.at.level - 1) c.args.at.index c.args.page c.look.new.bytes c.in_ok-pages.pages c.loop-child.pages c.in_ok-more.more c.loop-child.child c.child-below.result.height c.child-below.result.level c.child-below.result.index c.child_of.result
-    c.loop-child.invariant c.loop-child-test.true c.child-below.ensures.height child_level c.child-below.ensures.index c.child_of.ensures c.new_pages.ensures.moved c.in_ok-more.ensures.few
-    (λ base list list' told lists fills rooted. c.in_ok-more.ensures.counts base list list' told lists fills rooted)
-    (λ base list told rooted. c.in_ok-pages.ensures.seen base list (c.args.at.level - 1) told is rooted)
+    let child_level : c.child-below.result.level ≡ c.args.at.level - 1 = omega (arith, c.child-below.ensures.level) in (
+      count_on (shown.IsTold c.args.space.now) (shown.IsTold c.loop-child.space) (shown.IsTold c.new_pages.new.space) (shown.view c.args.space.now) (shown.view c.loop-child.space) (shown.view c.new_pages.new.space) (shown.under c.args.space.now) (shown.under c.loop-child.space) (shown.under c.new_pages.new.space) (shown.numbers c.args.space.now) (shown.numbers c.loop-child.space) (shown.numbers c.new_pages.new.space) c.args.txn.now c.args.slots.first c.args.slots.end c.args.values.now c.args.at.height c.args.at.level (c.args.at.level - 1) c.args.at.index c.args.page c.look.new.bytes c.in_ok-pages.pages c.loop-child.pages c.in_ok-more.more c.loop-child.child c.child-below.result.height c.child-below.result.level c.child-below.result.index c.child_of.result
+          c.loop-child.invariant.0 c.loop-child-test.true c.child-below.ensures.height child_level c.child-below.ensures.index c.child_of.ensures c.new_pages.ensures.moved c.in_ok-more.ensures.few
+          (λ base list list' told lists fills rooted. c.in_ok-more.ensures.counts base list list' told lists fills rooted)
+          (λ base list told rooted. c.in_ok-pages.ensures.seen base list (c.args.at.level - 1) told is rooted),
+      c.in_ok-more.ensures.quiet ∙ c.loop-child.invariant.1,
+    )
 
 pub returns-clause-moved : goal.returns-clause-moved
 returns-clause-moved g t c =
@@ -143,21 +147,21 @@ returns-clause-moved g t c =
     let end : c.loop-child.child ≡ 128 = omega (arith, c.loop-child-test.false, c.loop-child.auto.child-end) in
     let most = look_children c.args.slots.first c.args.slots.end c.args.at.height c.args.at.level (c.args.at.level - 1) c.args.at.index c.args.page c.look.new.bytes is (c.if-is_settled.ensures.unsettled refl).passed c.in_ok-pages.ensures.opened in
     moved_more (look_most c.args.at.height c.args.at.level c.args.at.index c.args.page + counted_below c.look.new.bytes c.args.slots.first c.args.slots.end c.args.at.height (c.args.at.level - 1) c.args.at.index c.loop-child.child) (count_most c.args.page c.args.slots.first c.args.slots.end c.args.at.height c.args.at.level c.args.at.index) 0 0 (shown.IsTold c.args.space.now) (shown.IsTold c.loop-child.space) (shown.view c.args.space.now) (shown.view c.loop-child.space) (shown.under c.args.space.now) (shown.under c.loop-child.space) (shown.numbers c.args.space.now) (shown.numbers c.loop-child.space) c.args.txn.now c.args.txn.now
-    (omega (arith, most, ap (λ n. counted_below c.look.new.bytes c.args.slots.first c.args.slots.end c.args.at.height (c.args.at.level - 1) c.args.at.index n) end)) (omega arith) c.loop-child.invariant.moved
+    (omega (arith, most, ap (λ n. counted_below c.look.new.bytes c.args.slots.first c.args.slots.end c.args.at.height (c.args.at.level - 1) c.args.at.index n) end)) (omega arith) c.loop-child.invariant.0.moved
 
 pub returns-clause-few : goal.returns-clause-few
 returns-clause-few g t c =
     let depth : (c.args.at.level - 1) + 1 ≡ c.args.at.level = omega (arith, c.if-at-eq0.false) in
     let whole = touch_level c.args.slots.first c.args.slots.end c.args.at.height c.args.at.level (c.args.at.level - 1) c.args.at.index depth (c.if-is_settled.ensures.unsettled refl).passed in
     let end : c.loop-child.child ≡ 128 = omega (arith, c.loop-child-test.false, c.loop-child.auto.child-end) in
-    omega (arith, c.loop-child.invariant.few, whole, ap (λ n. passed_below c.args.slots.first c.args.slots.end c.args.at.height (c.args.at.level - 1) c.args.at.index n) end)
+    omega (arith, c.loop-child.invariant.0.few, whole, ap (λ n. passed_below c.args.slots.first c.args.slots.end c.args.at.height (c.args.at.level - 1) c.args.at.index n) end)
 
 pub returns-clause-counts : goal.returns-clause-counts
 returns-clause-counts g t c = λ base list list' told lists fills rooted.
     let is : c.args.at.level ≡ suc (c.args.at.level - 1) = omega (arith, c.if-at-eq0.false) in
     let end : c.loop-child.child ≡ 128 = omega (arith, c.loop-child-test.false, c.loop-child.auto.child-end) in
     count_end (left_by c.args.txn.now base) (shown.total c.args.space.now) c.args.slots.first c.args.slots.end c.args.values.now list list' c.args.at.height c.args.at.level (c.args.at.level - 1) c.args.at.index c.args.page c.look.new.bytes c.in_ok-pages.pages c.loop-child.pages c.loop-child.child is end
-    (c.loop-child.invariant.counts base list list' told lists fills rooted) (c.in_ok-pages.ensures.seen base list (c.args.at.level - 1) told is rooted)
+    (c.loop-child.invariant.0.counts base list list' told lists fills rooted) (c.in_ok-pages.ensures.seen base list (c.args.at.level - 1) told is rooted)
     (passed_stored (left_by c.args.txn.now base) (shown.total c.args.space.now) c.args.slots.first c.args.slots.end c.args.values.now list list' c.args.at.height c.args.at.level (c.args.at.level - 1) c.args.at.index c.args.page is lists fills rooted (c.if-is_settled.ensures.unsettled refl))
 
 pub overflow_add-pages : goal.overflow_add-pages
@@ -165,4 +169,12 @@ overflow_add-pages g t c =
     let depth : (c.args.at.level - 1) + 1 ≡ c.args.at.level = omega (arith, c.if-at-eq0.false) in
     let whole = touch_level c.args.slots.first c.args.slots.end c.args.at.height c.args.at.level (c.args.at.level - 1) c.args.at.index depth (c.if-is_settled.ensures.unsettled refl).passed in
     let child_level : c.child-below.result.level ≡ c.args.at.level - 1 = omega (arith, c.child-below.ensures.level) in
-    omega (arith, c.loop-child.invariant.few, c.in_ok-more.ensures.few, count_room c.args.slots.first c.args.slots.end c.args.at.height c.args.at.level (c.args.at.level - 1) c.args.at.index c.loop-child.child c.child-below.result.height c.child-below.result.level c.child-below.result.index c.loop-child-test.true c.child-below.ensures.height child_level c.child-below.ensures.index whole c.requires.room)
+    omega (arith, c.loop-child.invariant.0.few, c.in_ok-more.ensures.few, count_room c.args.slots.first c.args.slots.end c.args.at.height c.args.at.level (c.args.at.level - 1) c.args.at.index c.loop-child.child c.child-below.result.height c.child-below.result.level c.child-below.result.index c.loop-child-test.true c.child-below.ensures.height child_level c.child-below.ensures.index whole c.requires.room)
+
+pub returns-in_err-more-clause-quiet_err : goal.returns-in_err-more-clause-quiet_err
+returns-in_err-more-clause-quiet_err g t c =
+    error_so _ _ c.from_residual-in_err-more.result c.from_residual-in_err-more.ensures.1
+    (λ e same other. c.in_err-more.ensures.quiet_err (λ is. other (same ∙ is)) ∙ c.loop-child.invariant.1)
+
+pub returns-clause-quiet : goal.returns-clause-quiet
+returns-clause-quiet g t c = c.loop-child.invariant.1

@@ -53,7 +53,7 @@ loop-child-init g t c =
           (λ base count list list' others told lists placed. c.in_ok-number.ensures.part base count list list' others (c.args.at.level - 1) told is lists.old_values placed (λ none. gives c.args.slots.first c.args.slots.end c.args.values.now list list' c.args.at.level c.args.at.index lists ((c.if-is_settled.ensures.unsettled refl).something none))),
       (
         spare_start (shown.IsTold c.args.space.now) (shown.view c.args.space.now) c.args.txn.now c.open_page.new.txn (c.args.at.level - 1) c.open_page.new.bytes (span_at c.open_page.new.spans) c.open_page.ensures.first,
-        c.in_ok-number.ensures.apart (c.args.at.level - 1) is,
+        (c.in_ok-number.ensures.apart (c.args.at.level - 1) is, c.in_ok-number.ensures.quiet),
       ),
     )
 
@@ -132,9 +132,12 @@ loop-child-preserved-then-is_apart g t c =
       (
         spare_on (shown.IsTold c.args.space.now) (shown.view c.args.space.now) c.args.txn.now c.open_page.new.txn c.loop-child.txn c.loop-child.txn (c.args.at.level - 1) c.child-below.result.level c.open_page.new.bytes c.loop-child.bytes c.loop-child.bytes (span_at c.open_page.new.spans) (span_at c.loop-child.spans) (span_at c.loop-child.spans) c.loop-child.child c.loop-child.invariant.1.0 child_level c.loop-child.invariant.0.moved.fresh (omega arith)
             (λ base at. none_spares c.loop-child.txn base c.child-below.result.level) (λ n other. refl) (λ n other. refl),
-        λ base fits stored from mine kept at apart. apart_settled stored (left_by c.loop-child.txn base) from c.loop-child.txn.superblock c.child-below.result.height c.child-below.result.level c.child-below.result.index page (and_page c.in_ok-number.number mine) (and_children fits stored c.args.at.height (c.args.at.level - 1) c.args.at.index c.open_page.new.bytes (c.loop-child.child + 1) kept)
-            (apart_child stored (left_by c.loop-child.txn base) from c.loop-child.txn.superblock c.args.at.height (c.args.at.level - 1) c.args.at.index c.loop-child.child c.child-below.result.height c.child-below.result.level c.child-below.result.index page c.open_page.new.bytes (and_page c.in_ok-number.number mine) kept
-            c.loop-child-test.true c.child-below.ensures.height child_level c.child-below.ensures.index page_is (c.loop-child.invariant.1.1 base fits stored from mine kept at apart)),
+        (
+          λ base fits stored from mine kept at apart. apart_settled stored (left_by c.loop-child.txn base) from c.loop-child.txn.superblock c.child-below.result.height c.child-below.result.level c.child-below.result.index page (and_page c.in_ok-number.number mine) (and_children fits stored c.args.at.height (c.args.at.level - 1) c.args.at.index c.open_page.new.bytes (c.loop-child.child + 1) kept)
+              (apart_child stored (left_by c.loop-child.txn base) from c.loop-child.txn.superblock c.args.at.height (c.args.at.level - 1) c.args.at.index c.loop-child.child c.child-below.result.height c.child-below.result.level c.child-below.result.index page c.open_page.new.bytes (and_page c.in_ok-number.number mine) kept
+              c.loop-child-test.true c.child-below.ensures.height child_level c.child-below.ensures.index page_is (c.loop-child.invariant.1.1.0 base fits stored from mine kept at apart)),
+          c.loop-child.invariant.1.1.1,
+        ),
       ),
     )
 
@@ -151,10 +154,13 @@ loop-child-preserved g t c =
         spare_on (shown.IsTold c.args.space.now) (shown.view c.args.space.now) c.args.txn.now c.open_page.new.txn c.loop-child.txn c.repair.new.txn (c.args.at.level - 1) c.child-below.result.level c.open_page.new.bytes c.loop-child.bytes c.set_root.new.bytes (span_at c.open_page.new.spans) (span_at c.loop-child.spans) (span_at c.set_root.new.spans) c.loop-child.child c.loop-child.invariant.1.0 child_level c.loop-child.invariant.0.moved.fresh c.repair.ensures.moved.fresh
             (λ base at. c.repair.ensures.spares base (told_on (1 + passed_below c.args.slots.first c.args.slots.end c.args.at.height (c.args.at.level - 1) c.args.at.index c.loop-child.child) (shown.IsTold c.args.space.now) (shown.IsTold c.loop-child.space) (shown.view c.args.space.now) (shown.view c.loop-child.space) base c.loop-child.invariant.0.moved.reads at))
             c.set_root.ensures.pages c.set_root.ensures.spans,
-        λ base fits stored from mine kept at apart. c.in_ok-next.ensures.apart base fits stored from (and_page c.in_ok-number.number mine) (and_children fits stored c.args.at.height (c.args.at.level - 1) c.args.at.index c.open_page.new.bytes (c.loop-child.child + 1) kept)
-            (told_on (1 + passed_below c.args.slots.first c.args.slots.end c.args.at.height (c.args.at.level - 1) c.args.at.index c.loop-child.child) (shown.IsTold c.args.space.now) (shown.IsTold c.loop-child.space) (shown.view c.args.space.now) (shown.view c.loop-child.space) base c.loop-child.invariant.0.moved.reads at)
-            (apart_child stored (left_by c.loop-child.txn base) from c.loop-child.txn.superblock c.args.at.height (c.args.at.level - 1) c.args.at.index c.loop-child.child c.child-below.result.height c.child-below.result.level c.child-below.result.index c.child_root-old.result.page c.open_page.new.bytes (and_page c.in_ok-number.number mine) kept
-            c.loop-child-test.true c.child-below.ensures.height child_level c.child-below.ensures.index page_is (c.loop-child.invariant.1.1 base fits stored from mine kept at apart)),
+        (
+          λ base fits stored from mine kept at apart. c.in_ok-next.ensures.apart base fits stored from (and_page c.in_ok-number.number mine) (and_children fits stored c.args.at.height (c.args.at.level - 1) c.args.at.index c.open_page.new.bytes (c.loop-child.child + 1) kept)
+              (told_on (1 + passed_below c.args.slots.first c.args.slots.end c.args.at.height (c.args.at.level - 1) c.args.at.index c.loop-child.child) (shown.IsTold c.args.space.now) (shown.IsTold c.loop-child.space) (shown.view c.args.space.now) (shown.view c.loop-child.space) base c.loop-child.invariant.0.moved.reads at)
+              (apart_child stored (left_by c.loop-child.txn base) from c.loop-child.txn.superblock c.args.at.height (c.args.at.level - 1) c.args.at.index c.loop-child.child c.child-below.result.height c.child-below.result.level c.child-below.result.index c.child_root-old.result.page c.open_page.new.bytes (and_page c.in_ok-number.number mine) kept
+              c.loop-child-test.true c.child-below.ensures.height child_level c.child-below.ensures.index page_is (c.loop-child.invariant.1.1.0 base fits stored from mine kept at apart)),
+          c.in_ok-next.ensures.quiet ∙ c.loop-child.invariant.1.1.1,
+        ),
       ),
     )
 
@@ -250,7 +256,7 @@ returns-in_err-next-clause-broken g t c = λ base fits stored from mine kept at 
     let total_is : shown.total c.loop-child.space ≡ shown.total c.args.space.now = ap (λ (s : Superblock). s.total) c.loop-child.invariant.0.moved.over.superblock in
     let bad = c.in_err-next.ensures.broken base fits stored from (and_page c.in_ok-number.number mine) (and_children fits stored c.args.at.height (c.args.at.level - 1) c.args.at.index c.open_page.new.bytes (c.loop-child.child + 1) kept) told
     (apart_child stored (left_by c.loop-child.txn base) from c.loop-child.txn.superblock c.args.at.height (c.args.at.level - 1) c.args.at.index c.loop-child.child c.child-below.result.height c.child-below.result.level c.child-below.result.index c.child_root-old.result.page c.open_page.new.bytes (and_page c.in_ok-number.number mine) kept
-    c.loop-child-test.true c.child-below.ensures.height child_level c.child-below.ensures.index page_is (c.loop-child.invariant.1.1 base fits stored from mine kept at apart)) in
+    c.loop-child-test.true c.child-below.ensures.height child_level c.child-below.ensures.index page_is (c.loop-child.invariant.1.1.0 base fits stored from mine kept at apart)) in
     error_so _ D c.from_residual-in_err-next.result c.from_residual-in_err-next.ensures.1
     (λ e same. subst D (sym same)
     (stored_up stored (left_by c.args.txn.now base) from c.args.txn.now.superblock (shown.total c.args.space.now) c.args.at.height c.args.at.level (c.args.at.level - 1) c.args.at.index c.loop-child.child c.child-below.result.height c.child-below.result.level c.child-below.result.index c.args.root.page c.child_root-old.result.page c.args.root.span c.child_root-old.result.span c.open_page.new.bytes (span_at c.open_page.new.spans) mine kept c.in_err-next.field-0.0
@@ -260,4 +266,12 @@ returns-in_err-next-clause-broken g t c = λ base fits stored from mine kept at 
 pub returns-clause-apart : goal.returns-clause-apart
 returns-clause-apart g t c = λ base fits stored from mine kept at apart.
     c.close_page.ensures.apart fits base stored from mine kept
-    (apart_end stored (left_by c.loop-child.txn base) from c.loop-child.txn.superblock c.args.at.height (c.args.at.level - 1) c.args.at.index c.loop-child.child c.open_page.new.bytes (and_page c.in_ok-number.number mine) kept (c.loop-child.invariant.1.1 base fits stored from mine kept at apart))
+    (apart_end stored (left_by c.loop-child.txn base) from c.loop-child.txn.superblock c.args.at.height (c.args.at.level - 1) c.args.at.index c.loop-child.child c.open_page.new.bytes (and_page c.in_ok-number.number mine) kept (c.loop-child.invariant.1.1.0 base fits stored from mine kept at apart))
+
+pub returns-in_err-next-clause-quiet_err : goal.returns-in_err-next-clause-quiet_err
+returns-in_err-next-clause-quiet_err g t c =
+    error_so _ _ c.from_residual-in_err-next.result c.from_residual-in_err-next.ensures.1
+    (λ e same other. c.in_err-next.ensures.quiet_err (λ is. other (same ∙ is)) ∙ c.loop-child.invariant.1.1.1)
+
+pub returns-clause-quiet : goal.returns-clause-quiet
+returns-clause-quiet g t c = ap (λ s. (shown.view s).faults) c.close_page.ensures.same ∙ c.loop-child.invariant.1.1.1

@@ -17,6 +17,7 @@ loop-page-init g c = record {
   goes_on = goes_none (shown.under c.args.space.now);
   superblock = refl;
   whole = c.requires.whole;
+  same = refl;
 }
 
 pub read_page-requires-clause-sound : goal.read_page-requires-clause-sound
@@ -37,6 +38,7 @@ loop-page-preserved g c = record {
   goes_on = goes_then (shown.under c.args.space.now) (shown.under c.loop-page.space) (shown.under c.read_page.new.space) c.loop-page.invariant.goes_on c.read_page.ensures.goes_on;
   superblock = c.read_page.ensures.superblock ∙ c.loop-page.invariant.superblock;
   whole = c.read_page.auto.bytes ∙ c.loop-page.invariant.whole;
+  same = c.in_ok-read_page.ensures.quiet ∙ c.loop-page.invariant.same;
 }
 
 pub returns-in_err-read_page-clause-place : goal.returns-in_err-read_page-clause-place
@@ -69,3 +71,8 @@ returns-clause-whole g c = λ t p low high. c.loop-page.invariant.keeps t p low 
 
 pub returns-clause-reads : goal.returns-clause-reads
 returns-clause-reads g c = reads_more (c.loop-page.page - 1) 16 (shown.IsTold c.args.space.now) (shown.IsTold c.loop-page.space) (shown.view c.args.space.now) (shown.view c.loop-page.space) (omega arith) c.loop-page.invariant.reads
+
+pub returns-in_err-read_page-clause-quiet_err : goal.returns-in_err-read_page-clause-quiet_err
+returns-in_err-read_page-clause-quiet_err g c =
+    error_so _ _ c.from_residual.result c.from_residual.ensures.1
+    (λ e is other. c.in_err-read_page.ensures.quiet_err (λ same. other (is ∙ same)) ∙ c.loop-page.invariant.same)

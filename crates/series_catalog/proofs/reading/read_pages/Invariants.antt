@@ -16,4 +16,5 @@ invariant-loop-page g l = record {
   goes_on : shown.TimeGoesOn l.fn.space l.space;
   superblock : shown.numbers l.space ≡ shown.numbers l.fn.space;
   whole : length l.bytes ≡ 4096;
+  same : (shown.view l.space).faults ≡ (shown.view l.fn.space).faults;
 }

@@ -8,6 +8,7 @@ use Rattle.series_store.proofs.CarryLemmas.{carried_read}
 use Rattle.series_store.proofs.DoneLemmas.{stored_cause, done_moments, done_answered}
 use Rattle.series_store.proofs.SaveLemmas.{failed, failed_reading}
 use Rattle.series_store.proofs.StageLemmas.{catalog_as}
+use Rattle.tree_walk.proofs.StepLemmas.{error_so}
 use Rattle.series_store.proofs.committing.commit_one.Goals as goal
 
 pub returns-in_err-staged-clause-answered : goal.returns-in_err-staged-clause-answered
@@ -84,3 +85,8 @@ returns-in-Err-clause-none_cleared g c = λ total book told stands none.
     let quiet : not c.is_nothing.result ≡ false = ap not (c.is_nothing.ensures.1 nothing) in
     let same : c.finish.new.space ≡ c.stage.new.space = c.finish.ensures.none quiet in
     rw same (c.stage.ensures.carried.reads.syncs, c.stage.ensures.carried.reads.writes)
+
+pub returns-in_err-staged-clause-quiet_err : goal.returns-in_err-staged-clause-quiet_err
+returns-in_err-staged-clause-quiet_err g c =
+    error_so _ _ c.from_residual.result c.from_residual.ensures.1
+    (λ e same other. c.in_err-staged.ensures.quiet_err (λ is. other (same ∙ is)))

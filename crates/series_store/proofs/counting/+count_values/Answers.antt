@@ -87,11 +87,11 @@ part_of-requires g t c = record { near = near_index c.args.index c.args.level c.
 
 pub loop-child-init : goal.loop-child-init
 loop-child-init g t c =
-    count_start (g.P.Pages.told c.args.space.now.pages) (g.P.Pages.told c.read_page.new.space.pages) (g.P.Pages.view c.args.space.now.pages) (g.P.Pages.view c.read_page.new.space.pages) (g.P.Pages.under c.args.space.now.pages) (g.P.Pages.under c.read_page.new.space.pages) c.args.space.now.superblock c.read_page.new.space.superblock c.args.slots c.args.level (c.args.level - 1) c.args.index c.args.page c.args.top c.read_page.new.bytes (span_at c.read_page.new.spans) c.read_page.ensures.looks c.read_page.ensures.reads.high
+    (count_start (g.P.Pages.told c.args.space.now.pages) (g.P.Pages.told c.read_page.new.space.pages) (g.P.Pages.view c.args.space.now.pages) (g.P.Pages.view c.read_page.new.space.pages) (g.P.Pages.under c.args.space.now.pages) (g.P.Pages.under c.read_page.new.space.pages) c.args.space.now.superblock c.read_page.new.space.superblock c.args.slots c.args.level (c.args.level - 1) c.args.index c.args.page c.args.top c.read_page.new.bytes (span_at c.read_page.new.spans) c.read_page.ensures.looks c.read_page.ensures.reads.high, c.in_ok-read_page.ensures.quiet)
 
 pub count_values-requires : goal.count_values-requires
 count_values-requires g t c κs within =
-    let way = c.loop-child.invariant in (
+    let way = c.loop-child.invariant.0 in (
       omega (arith, c.if-level-eq0.false),
       (
         search rules,
@@ -122,7 +122,7 @@ count_values-requires g t c κs within =
 
 pub returns-in_err-more-clause-looks : goal.returns-in_err-more-clause-looks
 returns-in_err-more-clause-looks g t c =
-    looks_then (g.P.Pages.told c.args.space.now.pages) (g.P.Pages.told c.loop-child.space.pages) (g.P.Pages.told c.count_values.new.space.pages) (g.P.Pages.view c.args.space.now.pages) (g.P.Pages.view c.loop-child.space.pages) (g.P.Pages.view c.count_values.new.space.pages) (g.P.Pages.under c.args.space.now.pages) (g.P.Pages.under c.loop-child.space.pages) (g.P.Pages.under c.count_values.new.space.pages) c.args.space.now.superblock c.loop-child.space.superblock c.count_values.new.space.superblock c.loop-child.invariant.looks c.count_values.ensures.looks
+    looks_then (g.P.Pages.told c.args.space.now.pages) (g.P.Pages.told c.loop-child.space.pages) (g.P.Pages.told c.count_values.new.space.pages) (g.P.Pages.view c.args.space.now.pages) (g.P.Pages.view c.loop-child.space.pages) (g.P.Pages.view c.count_values.new.space.pages) (g.P.Pages.under c.args.space.now.pages) (g.P.Pages.under c.loop-child.space.pages) (g.P.Pages.under c.count_values.new.space.pages) c.args.space.now.superblock c.loop-child.space.superblock c.count_values.new.space.superblock c.loop-child.invariant.0.looks c.count_values.ensures.looks
 
 pub returns-in_err-more-clause-cause : goal.returns-in_err-more-clause-cause
 returns-in_err-more-clause-cause g t c =
@@ -130,7 +130,7 @@ returns-in_err-more-clause-cause g t c =
     let some = is_there c.args.page c.args.top c.in-Some.span (c.requires.matched (omega (arith, is))) c.in-Some.is in
     let A : Option Span → Type 0 = λ s. AreBelow s c.read_page.new.bytes (span_at c.read_page.new.spans) in
     let split : A c.args.top = subst A (sym c.in-Some.is) c.in_ok-read_page.ensures.below in
-    let way = c.loop-child.invariant in
+    let way = c.loop-child.invariant.0 in
     let U : StoreError → Type 0 = λ e. IsTreeCause e (g.P.Pages.told c.args.space.now.pages) (g.P.Pages.view c.args.space.now.pages) (g.P.Pages.view c.count_values.new.space.pages) c.args.space.now.superblock.total c.args.slots c.args.level c.args.index c.args.page c.args.top in
     error_so _ U c.from_residual-in_err-more.result c.from_residual-in_err-more.ensures.1
     (λ e same. subst U (sym same) (child_cause c.in_err-more.field-0.0 (g.P.Pages.told c.args.space.now.pages) (g.P.Pages.told c.loop-child.space.pages) (g.P.Pages.view c.args.space.now.pages) (g.P.Pages.view c.loop-child.space.pages) (g.P.Pages.view c.count_values.new.space.pages) c.args.space.now.superblock.total c.loop-child.space.superblock.total c.args.slots c.args.level (c.args.level - 1) c.args.index c.part_of.result c.args.page c.child_of-under.result c.loop-child.child c.args.top c.leaf-part.result c.read_page.new.bytes (span_at c.read_page.new.spans)
@@ -140,7 +140,7 @@ pub returns-in_err-more-clause-stands : goal.returns-in_err-more-clause-stands
 returns-in_err-more-clause-stands g t c = λ list told slots long tree top.
     let is : c.args.level ≡ suc (c.args.level - 1) = omega (arith, c.if-level-eq0.false) in
     let some = is_there c.args.page c.args.top c.in-Some.span (c.requires.matched (omega (arith, is))) c.in-Some.is in
-    let way = c.loop-child.invariant in
+    let way = c.loop-child.invariant.0 in
     let below = child_stands (g.P.Pages.view c.args.space.now.pages).image (g.P.Pages.view c.loop-child.space.pages).image c.args.space.now.superblock.total c.loop-child.space.superblock.total list c.args.level (c.args.level - 1) c.args.index c.args.page c.child_of-under.result c.loop-child.child c.leaf-part.result c.read_page.new.bytes (span_at c.read_page.new.spans)
     (way.looks.kept.image told) (ap (λ (s : Superblock). s.total) way.looks.over.superblock) is some c.loop-child-test.true c.child_of-under.ensures c.leaf-part.ensures.span (c.in_ok-read_page.ensures.bytes told) (c.in_ok-read_page.ensures.tops list (c.args.level - 1) c.args.index told is slots (nodes_of (g.P.Pages.view c.args.space.now.pages).image c.args.space.now.superblock.total list c.args.level (c.args.level - 1) c.args.index c.args.page is some tree) (sym c.in-Some.is ∙ top)) tree in
     let T : ℕ → Type 0 = λ i. IsTree (g.P.Pages.view c.loop-child.space.pages).image c.loop-child.space.superblock.total list (c.args.level - 1) i c.child_of-under.result in
@@ -153,30 +153,32 @@ returns-in_err-more-clause-reads g t c = λ told.
     let is : c.args.level ≡ suc (c.args.level - 1) = omega (arith, c.if-level-eq0.false) in
     let some = is_there c.args.page c.args.top c.in-Some.span (c.requires.matched (omega (arith, is))) c.in-Some.is in
     read_some (g.P.Pages.told c.args.space.now.pages) (g.P.Pages.told c.loop-child.space.pages) (g.P.Pages.told c.count_values.new.space.pages) (g.P.Pages.view c.args.space.now.pages) (g.P.Pages.view c.loop-child.space.pages) (g.P.Pages.view c.count_values.new.space.pages) (g.P.Pages.under c.args.space.now.pages) (g.P.Pages.under c.loop-child.space.pages) (g.P.Pages.under c.count_values.new.space.pages) c.args.space.now.superblock c.loop-child.space.superblock c.count_values.new.space.superblock c.args.slots c.args.level (c.args.level - 1) c.args.index c.args.page c.child_of-under.result c.args.top c.read_page.new.bytes (span_at c.read_page.new.spans) c.loop-child.values c.loop-child.child
-    c.loop-child.invariant c.count_values.ensures.looks is some c.loop-child-test.true c.child_of-under.ensures c.in_ok-read_page.ensures.bytes c.count_values.ensures.reads told
+    c.loop-child.invariant.0 c.count_values.ensures.looks is some c.loop-child-test.true c.child_of-under.ensures c.in_ok-read_page.ensures.bytes c.count_values.ensures.reads told
 
 pub overflow_add-values : goal.overflow_add-values
 overflow_add-values g t c =
     let low : c.args.level - 1 ≤ 4 = omega (arith, c.requires.level) in
-    omega (arith, values_fit c.loop-child.values c.in_ok-more.more c.loop-child.child (c.args.level - 1) c.loop-child-test.true low c.loop-child.invariant.few c.in_ok-more.ensures.few)
+    omega (arith, values_fit c.loop-child.values c.in_ok-more.more c.loop-child.child (c.args.level - 1) c.loop-child-test.true low c.loop-child.invariant.0.few c.in_ok-more.ensures.few)
 
 pub loop-child-preserved : goal.loop-child-preserved
 loop-child-preserved g t c =
     let is : c.args.level ≡ suc (c.args.level - 1) = omega (arith, c.if-level-eq0.false) in
-    let some = is_there c.args.page c.args.top c.in-Some.span (c.requires.matched (omega (arith, is))) c.in-Some.is in
-    count_on (g.P.Pages.told c.args.space.now.pages) (g.P.Pages.told c.loop-child.space.pages) (g.P.Pages.told c.count_values.new.space.pages) (g.P.Pages.view c.args.space.now.pages) (g.P.Pages.view c.loop-child.space.pages) (g.P.Pages.view c.count_values.new.space.pages) (g.P.Pages.under c.args.space.now.pages) (g.P.Pages.under c.loop-child.space.pages) (g.P.Pages.under c.count_values.new.space.pages) c.args.space.now.superblock c.loop-child.space.superblock c.count_values.new.space.superblock c.args.slots c.args.level (c.args.level - 1) c.args.index c.part_of.result c.args.page c.child_of-under.result c.args.top c.leaf-part.result c.read_page.new.bytes (span_at c.read_page.new.spans) c.loop-child.values c.in_ok-more.more c.loop-child.child
-    c.part_of.ensures c.loop-child.invariant is some c.loop-child-test.true c.child_of-under.ensures c.leaf-part.ensures.span c.in_ok-read_page.ensures.bytes
-    (λ list told slots long tree top. c.in_ok-read_page.ensures.tops list (c.args.level - 1) c.args.index told is slots (nodes_of (g.P.Pages.view c.args.space.now.pages).image c.args.space.now.superblock.total list c.args.level (c.args.level - 1) c.args.index c.args.page is some tree) (sym c.in-Some.is ∙ top))
-    c.count_values.ensures.looks c.in_ok-more.ensures.few
-    (λ list told slots long tree top. c.in_ok-more.ensures.counts list told slots long tree top)
-    (λ told. c.count_values.ensures.reads told)
-    (λ told. c.in_ok-more.ensures.whole told)
+    let some = is_there c.args.page c.args.top c.in-Some.span (c.requires.matched (omega (arith, is))) c.in-Some.is in (
+      count_on (g.P.Pages.told c.args.space.now.pages) (g.P.Pages.told c.loop-child.space.pages) (g.P.Pages.told c.count_values.new.space.pages) (g.P.Pages.view c.args.space.now.pages) (g.P.Pages.view c.loop-child.space.pages) (g.P.Pages.view c.count_values.new.space.pages) (g.P.Pages.under c.args.space.now.pages) (g.P.Pages.under c.loop-child.space.pages) (g.P.Pages.under c.count_values.new.space.pages) c.args.space.now.superblock c.loop-child.space.superblock c.count_values.new.space.superblock c.args.slots c.args.level (c.args.level - 1) c.args.index c.part_of.result c.args.page c.child_of-under.result c.args.top c.leaf-part.result c.read_page.new.bytes (span_at c.read_page.new.spans) c.loop-child.values c.in_ok-more.more c.loop-child.child
+          c.part_of.ensures c.loop-child.invariant.0 is some c.loop-child-test.true c.child_of-under.ensures c.leaf-part.ensures.span c.in_ok-read_page.ensures.bytes
+          (λ list told slots long tree top. c.in_ok-read_page.ensures.tops list (c.args.level - 1) c.args.index told is slots (nodes_of (g.P.Pages.view c.args.space.now.pages).image c.args.space.now.superblock.total list c.args.level (c.args.level - 1) c.args.index c.args.page is some tree) (sym c.in-Some.is ∙ top))
+          c.count_values.ensures.looks c.in_ok-more.ensures.few
+          (λ list told slots long tree top. c.in_ok-more.ensures.counts list told slots long tree top)
+          (λ told. c.count_values.ensures.reads told)
+          (λ told. c.in_ok-more.ensures.whole told),
+      c.in_ok-more.ensures.quiet ∙ c.loop-child.invariant.1,
+    )
 
 pub returns-clause-counts : goal.returns-clause-counts
 returns-clause-counts g t c = λ list told slots long tree top.
     let is : c.args.level ≡ suc (c.args.level - 1) = omega (arith, c.if-level-eq0.false) in
     let end : c.loop-child.child ≡ 128 = omega (arith, c.loop-child-test.false, c.loop-child.auto.child-end) in
-    all_parts list c.args.level (c.args.level - 1) c.args.index c.loop-child.values c.loop-child.child is end (c.loop-child.invariant.counts list told slots long tree top)
+    all_parts list c.args.level (c.args.level - 1) c.args.index c.loop-child.values c.loop-child.child is end (c.loop-child.invariant.0.counts list told slots long tree top)
 
 pub returns-clause-reads : goal.returns-clause-reads
 returns-clause-reads g t c = λ told.
@@ -184,7 +186,7 @@ returns-clause-reads g t c = λ told.
     let some = is_there c.args.page c.args.top c.in-Some.span (c.requires.matched (omega (arith, is))) c.in-Some.is in
     let end : c.loop-child.child ≡ 128 = omega (arith, c.loop-child-test.false, c.loop-child.auto.child-end) in
     read_all (g.P.Pages.told c.args.space.now.pages) (g.P.Pages.told c.loop-child.space.pages) (g.P.Pages.view c.args.space.now.pages) (g.P.Pages.view c.loop-child.space.pages) (g.P.Pages.under c.args.space.now.pages) (g.P.Pages.under c.loop-child.space.pages) c.args.space.now.superblock c.loop-child.space.superblock c.args.slots c.args.level (c.args.level - 1) c.args.index c.args.page c.args.top c.read_page.new.bytes (span_at c.read_page.new.spans) c.loop-child.values c.loop-child.child
-    c.loop-child.invariant is some end c.in_ok-read_page.ensures.bytes told
+    c.loop-child.invariant.0 is some end c.in_ok-read_page.ensures.bytes told
 
 pub returns-clause-whole : goal.returns-clause-whole
 returns-clause-whole g t c = λ told.
@@ -192,7 +194,7 @@ returns-clause-whole g t c = λ told.
     let some = is_there c.args.page c.args.top c.in-Some.span (c.requires.matched (omega (arith, is))) c.in-Some.is in
     let A : Option Span → Type 0 = λ s. AreBelow s c.read_page.new.bytes (span_at c.read_page.new.spans) in
     let split : A c.args.top = subst A (sym c.in-Some.is) c.in_ok-read_page.ensures.below in
-    sound_end (g.P.Pages.view c.args.space.now.pages).image c.args.space.now.superblock.total c.args.slots c.args.level (c.args.level - 1) c.args.index c.args.page c.loop-child.child c.args.top c.read_page.new.bytes (span_at c.read_page.new.spans) is some c.loop-child-test.false (c.in_ok-read_page.ensures.bytes told) c.in_ok-read_page.ensures.sound split (c.loop-child.invariant.whole told)
+    sound_end (g.P.Pages.view c.args.space.now.pages).image c.args.space.now.superblock.total c.args.slots c.args.level (c.args.level - 1) c.args.index c.args.page c.loop-child.child c.args.top c.read_page.new.bytes (span_at c.read_page.new.spans) is some c.loop-child-test.false (c.in_ok-read_page.ensures.bytes told) c.in_ok-read_page.ensures.sound split (c.loop-child.invariant.0.whole told)
 
 pub returns-in_err-read_page-clause-within : goal.returns-in_err-read_page-clause-within
 returns-in_err-read_page-clause-within g t c =
@@ -204,4 +206,12 @@ returns-in_err-more-clause-within g t c =
     let W : StoreError → Type 0 = λ e. NamesWithin c.args.space.now.superblock.total e in
     let N : ℕ → Type 0 = λ n. NamesWithin n c.in_err-more.field-0.0 in
     error_so _ W c.from_residual-in_err-more.result c.from_residual-in_err-more.ensures.1
-    (λ e same. subst W (sym same) (subst N (ap (λ (s : Superblock). s.total) c.loop-child.invariant.looks.over.superblock) c.in_err-more.ensures.within))
+    (λ e same. subst W (sym same) (subst N (ap (λ (s : Superblock). s.total) c.loop-child.invariant.0.looks.over.superblock) c.in_err-more.ensures.within))
+
+pub returns-in_err-more-clause-quiet_err : goal.returns-in_err-more-clause-quiet_err
+returns-in_err-more-clause-quiet_err g t c =
+    error_so _ _ c.from_residual-in_err-more.result c.from_residual-in_err-more.ensures.1
+    (λ e same other. c.in_err-more.ensures.quiet_err (λ is. other (same ∙ is)) ∙ c.loop-child.invariant.1)
+
+pub returns-clause-quiet : goal.returns-clause-quiet
+returns-clause-quiet g t c = c.loop-child.invariant.1

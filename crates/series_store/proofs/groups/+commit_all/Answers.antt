@@ -1,4 +1,4 @@
-use Rattle.std.proofs.Common.{suc, All, List, Ok, Err, refl, sym, ap, subst, rules, arith, inl, inr}
+use Rattle.std.proofs.Common.{suc, All, List, Ok, Err, refl, sym, ap, subst, rules, arith, inl, inr, ◌∙◌}
 use Rattle.page_space.specs.Transactions.{left_by}
 use Rattle.series_book.specs.declared.edits.Edit.{Edit}
 use Rattle.series_book.specs.Edits.{IsEdit, apply}
@@ -8,6 +8,7 @@ use Rattle.series_store.specs.declared.staged.Undo.{Undo}
 use Rattle.series_store.specs.Staging.{TakesBack}
 use Rattle.series_store.proofs.GroupLemmas.{clean_after, closed, closed_by, failed_next, failed_next_by, stepped, stepped_by}
 use Rattle.series_store.proofs.StageLemmas.{catalog_as}
+use Rattle.tree_walk.proofs.StepLemmas.{error_so}
 use Rattle.series_store.proofs.groups.+commit_all.Goals as goal
 
 pub returns-in_default-clause-groups : goal.returns-in_default-clause-groups
@@ -152,3 +153,8 @@ returns-in-Err-clause-grouped g t c = λ total book told stands clean.
     (λ none.
     let both = c.or_changed-is_changed.ensures.changed none in
     clean_after (g.P.Pages.told old.pages) (view old.pages) (view next.space.pages) c.args.txn next.txn told (by.nothing both.1) did.reads.image (clean both.0)))
+
+pub returns-in_err-undo-clause-quiet_err : goal.returns-in_err-undo-clause-quiet_err
+returns-in_err-undo-clause-quiet_err g t c =
+    error_so _ _ c.from_residual.result c.from_residual.ensures.1
+    (λ e same other. c.in_err-undo.ensures.quiet_err (λ is. other (same ∙ is)))

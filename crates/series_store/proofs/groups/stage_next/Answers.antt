@@ -1,4 +1,4 @@
-use Rattle.std.proofs.Common.{◌≡◌, ◌∷◌, [], ◌++◌, List, Result, Ok, Err, subst, arith}
+use Rattle.std.proofs.Common.{◌≡◌, ◌∷◌, [], ◌++◌, List, Result, Ok, Err, subst, arith, ◌∙◌, sym}
 use Rattle.std.specs.Result.{IsErrAnd}
 use Rattle.page_space.specs.Transactions.{left_by}
 use Rattle.series_book.specs.declared.outcomes.Outcome.{Outcome}
@@ -6,6 +6,7 @@ use Rattle.series_book.specs.declared.refusals.Refusal.{Refusal}
 use Rattle.series_store.specs.declared.errors.StoreError.{StoreError}
 use Rattle.series_store.specs.declared.errors.StoreError.TheVariants.{NoMemory}
 use Rattle.series_store.proofs.GroupLemmas.{pushed, next_starved, next_error, next_by_error, next_by_ok, next_by_refused}
+use Rattle.tree_walk.proofs.StepLemmas.{error_so}
 use Rattle.series_store.proofs.groups.stage_next.Goals as goal
 
 pub returns-in_err-reserve-clause-next : goal.returns-in_err-reserve-clause-next
@@ -58,3 +59,12 @@ returns-in_ok-refusal-in-Err-clause-answered g c = λ total book told stands.
     (pushed c.push-added-in-Err.result c.reserve.new.self.items c.push-added-in-Err.new.self.items answer c.push-added-in-Err.ensures.items (c.push-added-in-Err.ensures.succeeds (omega (arith, c.in_ok-reserve.ensures.ok)))) in
     next_by_refused (g.P.Pages.told old) total book c.args.edit.now c.in-Err.cause c.in_ok-refusal-in-Err.refusal c.args.txn.now c.stage.new.txn (g.P.Pages.view old) (g.P.Pages.view new) c.args.answers.now.items c.push-added-in-Err.new.self.items
     c.in_ok-refusal-in-Err.ensures.refused are (c.in-Err.ensures.answered total book told stands) told c.stage.ensures.carried.reads.image stands
+
+pub returns-in_err-refusal-in-Err-clause-quiet_err : goal.returns-in_err-refusal-in-Err-clause-quiet_err
+returns-in_err-refusal-in-Err-clause-quiet_err g c =
+    error_so _ _ c.from_residual-in_err-refusal-in-Err.result c.from_residual-in_err-refusal-in-Err.ensures.1
+    (λ e same other. c.in-Err.ensures.quiet_err (λ is. other (same ∙ c.in_err-refusal-in-Err.ensures.other.0 ∙ is)))
+
+pub returns-in_ok-refusal-in-Err-clause-quiet : goal.returns-in_ok-refusal-in-Err-clause-quiet
+returns-in_ok-refusal-in-Err-clause-quiet g c =
+    c.in-Err.ensures.quiet_err (λ is. let no = sym c.in_ok-refusal-in-Err.ensures.refused ∙ is in cc)

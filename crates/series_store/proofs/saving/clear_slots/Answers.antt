@@ -21,6 +21,7 @@ use Rattle.series_store.proofs.ChangeLemmas.{root_below, own_tree, clear_edited}
 use Rattle.series_store.proofs.StageLemmas.{clear_touch}
 use Rattle.series_store.proofs.RecordLemmas.{known_some}
 use Rattle.series_store.proofs.StageLemmas.{later_staged, staged_error, staged_saved, staged_store, staging_error, staging_saved}
+use Rattle.tree_walk.proofs.StepLemmas.{error_so}
 use Rattle.series_store.proofs.saving.clear_slots.Goals as goal
 
 pub clear_run-requires-clause-root : goal.clear_run-requires-clause-root
@@ -187,3 +188,8 @@ returns-clause-answered g c = λ total book series told' stands found.
     staged_saved answer (with_cleared book c.args.id series c.args.slot c.args.count) (touched_slots series c.args.slot (c.args.slot + c.args.count)) total c.in_ok-tree.tree.slots c.save.result txn c.save.new.txn (left_by c.save.new.txn (view new.pages).image) (λ now. refl) (part.changed.edited.holds.is_tree.slots ∙ edited.length_is ∙ held_tree.is_tree.slots)
     c.save.ensures.error (subst B (c.clear_run.ensures.moved.total ∙ store.1) (c.save.ensures.stands (c.clear_run.ensures.moved.reads.told told') one book series slots c.series.ensures part)) c.save.ensures.slots
     (omega (arith, c.save.ensures.len, c.clear_run.ensures.moved.held, clear_touch c.args.slot (c.args.slot + c.args.count) tree.slots (length series.slots) held_tree.is_tree.slots room))
+
+pub returns-in_err-tree-clause-quiet_err : goal.returns-in_err-tree-clause-quiet_err
+returns-in_err-tree-clause-quiet_err g c =
+    error_so _ _ c.from_residual.result c.from_residual.ensures.1
+    (λ e same other. c.in_err-tree.ensures.quiet_err (λ is. other (same ∙ ap error_of is)))

@@ -22,6 +22,7 @@ use Rattle.series_store.proofs.ChangeLemmas.{root_below, own_tree, put_edited}
 use Rattle.series_store.proofs.RecordLemmas.{known_some}
 use Rattle.series_store.proofs.SlotLemmas.{are_values}
 use Rattle.series_store.proofs.StageLemmas.{full_same, later_staged, staged_error, staged_saved, staged_store, staging_error, staging_saved}
+use Rattle.tree_walk.proofs.StepLemmas.{error_so}
 use Rattle.series_store.proofs.saving.put.Goals as goal
 
 pub put_run-requires-clause-root : goal.put_run-requires-clause-root
@@ -195,3 +196,8 @@ returns-clause-answered g c = λ total book series told' stands found.
     staged_saved answer (record { book = with_slots book c.args.id series slots; slots = length slots }) (touched_slots series c.args.slot (c.args.slot + length run)) total c.in_ok-tree.tree.slots c.save.result txn c.save.new.txn (left_by c.save.new.txn (view new.pages).image) (λ now. fits_within total book c.args.id series slots (left_by c.save.new.txn (view new.pages).image) now) (part.changed.edited.holds.is_tree.slots)
     c.save.ensures.error (subst B (c.put_run.ensures.moved.total ∙ store.1) (c.save.ensures.stands (c.put_run.ensures.moved.reads.told told') one book series slots c.series.ensures part)) c.save.ensures.slots
     (omega (arith, c.save.ensures.len, c.put_run.ensures.moved.held, ap (λ n. touch c.args.slot (c.args.slot + length run) (page_levels n) (page_levels (max n (c.args.slot + length run))) 0) held_tree.is_tree.slots))
+
+pub returns-in_err-tree-clause-quiet_err : goal.returns-in_err-tree-clause-quiet_err
+returns-in_err-tree-clause-quiet_err g c =
+    error_so _ _ c.from_residual.result c.from_residual.ensures.1
+    (λ e same other. c.in_err-tree.ensures.quiet_err (λ is. other (same ∙ ap error_of is)))

@@ -64,12 +64,12 @@ returns-in_err-read_page-clause-part g t c = λ list told slots tree top.
 pub loop-child-init : goal.loop-child-init
 loop-child-init g t c =
     let is : c.args.level ≡ suc (c.args.level - 1) = omega (arith, c.if-level-eq0.false) in
-    send_start (g.P.Pages.told c.args.space.now.pages) (g.P.Pages.told c.read_page.new.space.pages) (g.P.Pages.view c.args.space.now.pages) (g.P.Pages.view c.read_page.new.space.pages) (g.P.Pages.under c.args.space.now.pages) (g.P.Pages.under c.read_page.new.space.pages) c.args.space.now.superblock c.read_page.new.space.superblock (first_said c.args.slots (g.T.Texts.text c.args.texts.now)) c.args.level (c.args.level - 1) c.args.index c.args.page c.args.top c.args.out.now.items is c.read_page.ensures.looks c.read_page.ensures.one_read c.requires.few
+    (send_start (g.P.Pages.told c.args.space.now.pages) (g.P.Pages.told c.read_page.new.space.pages) (g.P.Pages.view c.args.space.now.pages) (g.P.Pages.view c.read_page.new.space.pages) (g.P.Pages.under c.args.space.now.pages) (g.P.Pages.under c.read_page.new.space.pages) c.args.space.now.superblock c.read_page.new.space.superblock (first_said c.args.slots (g.T.Texts.text c.args.texts.now)) c.args.level (c.args.level - 1) c.args.index c.args.page c.args.top c.args.out.now.items is c.read_page.ensures.looks c.read_page.ensures.one_read c.requires.few, c.in_ok-read_page.ensures.quiet)
 
 pub send_below-requires : goal.send_below-requires
 send_below-requires g t c κs within =
     let is : c.args.level ≡ suc (c.args.level - 1) = omega (arith, c.if-level-eq0.false) in
-    let way = c.loop-child.invariant in (
+    let way = c.loop-child.invariant.0 in (
       omega (arith, c.if-level-eq0.false),
       (
         search rules,
@@ -106,7 +106,7 @@ send_below-requires g t c κs within =
 
 pub returns-in_err-send_below-clause-sends : goal.returns-in_err-send_below-clause-sends
 returns-in_err-send_below-clause-sends g t c =
-    sends_then (g.P.Pages.told c.args.space.now.pages) (g.P.Pages.told c.loop-child.space.pages) (g.P.Pages.told c.send_below.new.space.pages) (g.P.Pages.view c.args.space.now.pages) (g.P.Pages.view c.loop-child.space.pages) (g.P.Pages.view c.send_below.new.space.pages) (g.P.Pages.under c.args.space.now.pages) (g.P.Pages.under c.loop-child.space.pages) (g.P.Pages.under c.send_below.new.space.pages) c.args.space.now.superblock c.loop-child.space.superblock c.send_below.new.space.superblock c.loop-child.invariant.sends c.send_below.ensures.sends
+    sends_then (g.P.Pages.told c.args.space.now.pages) (g.P.Pages.told c.loop-child.space.pages) (g.P.Pages.told c.send_below.new.space.pages) (g.P.Pages.view c.args.space.now.pages) (g.P.Pages.view c.loop-child.space.pages) (g.P.Pages.view c.send_below.new.space.pages) (g.P.Pages.under c.args.space.now.pages) (g.P.Pages.under c.loop-child.space.pages) (g.P.Pages.under c.send_below.new.space.pages) c.args.space.now.superblock c.loop-child.space.superblock c.send_below.new.space.superblock c.loop-child.invariant.0.sends c.send_below.ensures.sends
 
 pub returns-in_err-send_below-clause-cause : goal.returns-in_err-send_below-clause-cause
 returns-in_err-send_below-clause-cause g t c =
@@ -117,29 +117,44 @@ returns-in_err-send_below-clause-cause g t c =
     let U : SendError → Type 0 = λ e. IsSendCause e (g.P.Pages.told c.args.space.now.pages) (g.P.Pages.view c.args.space.now.pages) (g.P.Pages.view c.send_below.new.space.pages) c.args.space.now.superblock.total c.args.level c.args.page c.args.top in
     error_so _ U c.from_residual-in_err-send_below.result c.from_residual-in_err-send_below.ensures.1
     (λ e same. subst U (sym same) (child_send_cause c.in_err-send_below.field-0.0 (g.P.Pages.told c.args.space.now.pages) (g.P.Pages.told c.loop-child.space.pages) (g.P.Pages.view c.args.space.now.pages) (g.P.Pages.view c.loop-child.space.pages) (g.P.Pages.view c.send_below.new.space.pages) (g.P.Pages.under c.args.space.now.pages) (g.P.Pages.under c.loop-child.space.pages) c.args.space.now.superblock c.loop-child.space.superblock c.args.level (c.args.level - 1) c.args.page c.child_of-under.result c.loop-child.child c.args.top c.leaf-part.result c.read_page.new.bytes (span_at c.read_page.new.spans)
-    c.loop-child.invariant.sends is some c.loop-child-test.true c.child_of-under.ensures c.leaf-part.ensures.span c.in_ok-read_page.ensures.bytes split c.in_err-send_below.ensures.cause))
+    c.loop-child.invariant.0.sends is some c.loop-child-test.true c.child_of-under.ensures c.leaf-part.ensures.span c.in_ok-read_page.ensures.bytes split c.in_err-send_below.ensures.cause))
 
 pub returns-in_err-send_below-clause-part : goal.returns-in_err-send_below-clause-part
 returns-in_err-send_below-clause-part g t c = λ list told slots tree top.
     let is : c.args.level ≡ suc (c.args.level - 1) = omega (arith, c.if-level-eq0.false) in
     let some = is_there c.args.page c.args.top c.in-Some.span (c.requires.matched (omega (arith, is))) c.in-Some.is in
     stops_by c.from_residual-in_err-send_below.result c.in_err-send_below.field-0.0 (g.P.Pages.told c.args.space.now.pages) (g.P.Pages.told c.loop-child.space.pages) (g.P.Pages.view c.args.space.now.pages) (g.P.Pages.view c.loop-child.space.pages) (g.P.Pages.view c.send_below.new.space.pages) (g.P.Pages.under c.args.space.now.pages) (g.P.Pages.under c.loop-child.space.pages) c.args.space.now.superblock c.loop-child.space.superblock (first_said c.args.slots (g.T.Texts.text c.args.texts.now)) c.args.level (c.args.level - 1) c.args.index c.args.page c.child_of-under.result c.loop-child.child c.args.top c.leaf-part.result c.read_page.new.bytes (span_at c.read_page.new.spans) c.in-Some.span c.args.out.now.items c.loop-child.out.items c.send_below.new.out.items list c.from_residual-in_err-send_below.ensures.1
-    c.loop-child.invariant is some c.loop-child-test.true c.child_of-under.ensures c.leaf-part.ensures.span c.in_ok-read_page.ensures.bytes
+    c.loop-child.invariant.0 is some c.loop-child-test.true c.child_of-under.ensures c.leaf-part.ensures.span c.in_ok-read_page.ensures.bytes
     (c.in_ok-read_page.ensures.tops list (c.args.level - 1) c.args.index told is slots (nodes_of (g.P.Pages.view c.args.space.now.pages).image c.args.space.now.superblock.total list c.args.level (c.args.level - 1) c.args.index c.args.page is some tree) (sym c.in-Some.is ∙ top)) told slots tree top (sym c.in-Some.is ∙ top)
     c.in_err-send_below.ensures.part
 
 pub loop-child-preserved : goal.loop-child-preserved
 loop-child-preserved g t c =
     let is : c.args.level ≡ suc (c.args.level - 1) = omega (arith, c.if-level-eq0.false) in
-    let some = is_there c.args.page c.args.top c.in-Some.span (c.requires.matched (omega (arith, is))) c.in-Some.is in
-    send_on (g.P.Pages.told c.args.space.now.pages) (g.P.Pages.told c.loop-child.space.pages) (g.P.Pages.told c.send_below.new.space.pages) (g.P.Pages.view c.args.space.now.pages) (g.P.Pages.view c.loop-child.space.pages) (g.P.Pages.view c.send_below.new.space.pages) (g.P.Pages.under c.args.space.now.pages) (g.P.Pages.under c.loop-child.space.pages) (g.P.Pages.under c.send_below.new.space.pages) c.args.space.now.superblock c.loop-child.space.superblock c.send_below.new.space.superblock (first_said c.args.slots (g.T.Texts.text c.args.texts.now)) c.args.level (c.args.level - 1) c.args.index c.args.page c.child_of-under.result c.loop-child.child c.args.top c.leaf-part.result c.read_page.new.bytes (span_at c.read_page.new.spans) c.args.out.now.items c.loop-child.out.items c.send_below.new.out.items
-    c.loop-child.invariant is some c.loop-child-test.true c.child_of-under.ensures c.leaf-part.ensures.span c.in_ok-read_page.ensures.bytes
-    (λ list told slots tree top. (c.in_ok-read_page.ensures.tops list (c.args.level - 1) c.args.index told is slots (nodes_of (g.P.Pages.view c.args.space.now.pages).image c.args.space.now.superblock.total list c.args.level (c.args.level - 1) c.args.index c.args.page is some tree) (sym c.in-Some.is ∙ top)))
-    c.send_below.ensures.sends c.in_ok-send_below.ensures.few c.in_ok-send_below.ensures.part
+    let some = is_there c.args.page c.args.top c.in-Some.span (c.requires.matched (omega (arith, is))) c.in-Some.is in (
+      send_on (g.P.Pages.told c.args.space.now.pages) (g.P.Pages.told c.loop-child.space.pages) (g.P.Pages.told c.send_below.new.space.pages) (g.P.Pages.view c.args.space.now.pages) (g.P.Pages.view c.loop-child.space.pages) (g.P.Pages.view c.send_below.new.space.pages) (g.P.Pages.under c.args.space.now.pages) (g.P.Pages.under c.loop-child.space.pages) (g.P.Pages.under c.send_below.new.space.pages) c.args.space.now.superblock c.loop-child.space.superblock c.send_below.new.space.superblock (first_said c.args.slots (g.T.Texts.text c.args.texts.now)) c.args.level (c.args.level - 1) c.args.index c.args.page c.child_of-under.result c.loop-child.child c.args.top c.leaf-part.result c.read_page.new.bytes (span_at c.read_page.new.spans) c.args.out.now.items c.loop-child.out.items c.send_below.new.out.items
+          c.loop-child.invariant.0 is some c.loop-child-test.true c.child_of-under.ensures c.leaf-part.ensures.span c.in_ok-read_page.ensures.bytes
+          (λ list told slots tree top. (c.in_ok-read_page.ensures.tops list (c.args.level - 1) c.args.index told is slots (nodes_of (g.P.Pages.view c.args.space.now.pages).image c.args.space.now.superblock.total list c.args.level (c.args.level - 1) c.args.index c.args.page is some tree) (sym c.in-Some.is ∙ top)))
+          c.send_below.ensures.sends c.in_ok-send_below.ensures.few c.in_ok-send_below.ensures.part,
+      c.in_ok-send_below.ensures.quiet ∙ c.loop-child.invariant.1,
+    )
 
 pub returns-clause-part : goal.returns-clause-part
 returns-clause-part g t c = λ list told slots tree top.
     let is : c.args.level ≡ suc (c.args.level - 1) = omega (arith, c.if-level-eq0.false) in
     let end : c.loop-child.child ≡ 128 = omega (arith, c.loop-child-test.false, c.loop-child.auto.child-end) in
     send_end (g.P.Pages.told c.args.space.now.pages) (g.P.Pages.told c.loop-child.space.pages) (g.P.Pages.view c.args.space.now.pages) (g.P.Pages.view c.loop-child.space.pages) (g.P.Pages.under c.args.space.now.pages) (g.P.Pages.under c.loop-child.space.pages) c.args.space.now.superblock c.loop-child.space.superblock (first_said c.args.slots (g.T.Texts.text c.args.texts.now)) c.args.level (c.args.level - 1) c.args.index c.args.page c.loop-child.child c.args.top c.in-Some.span c.args.out.now.items c.loop-child.out.items list
-    c.loop-child.invariant is end told slots tree top (sym c.in-Some.is ∙ top)
+    c.loop-child.invariant.0 is end told slots tree top (sym c.in-Some.is ∙ top)
+
+pub returns-in_err-read_page-clause-quiet_err : goal.returns-in_err-read_page-clause-quiet_err
+returns-in_err-read_page-clause-quiet_err g t c =
+    error_so _ _ c.from_residual.result c.from_residual.ensures.1
+    (λ e same other. c.in_err-read_page.ensures.quiet_err (λ is. other (same ∙ ap send_error_of is)))
+
+pub returns-in_err-send_below-clause-quiet_err : goal.returns-in_err-send_below-clause-quiet_err
+returns-in_err-send_below-clause-quiet_err g t c =
+    error_so _ _ c.from_residual-in_err-send_below.result c.from_residual-in_err-send_below.ensures.1
+    (λ e same other. c.in_err-send_below.ensures.quiet_err (λ is. other (same ∙ is)) ∙ c.loop-child.invariant.1)
+
+pub returns-clause-quiet : goal.returns-clause-quiet
+returns-clause-quiet g t c = c.loop-child.invariant.1

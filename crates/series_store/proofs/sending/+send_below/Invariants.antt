@@ -1,4 +1,4 @@
-use Rattle.std.proofs.Common.{◌-◌}
+use Rattle.std.proofs.Common.{◌≡◌, ◌-◌}
 use Rattle.series_store.specs.Sending.{first_said}
 use Rattle.series_store.proofs.SendLemmas.{IsSending}
 use Rattle.series_store.specs.Sending.{first_said}
@@ -10,3 +10,4 @@ decreases-send_below g l = l.level
 abbrev pub invariant-loop-child : goal.invariant-loop-child
 invariant-loop-child g l = IsSending (g.P.Pages.told l.fn.space.pages) (g.P.Pages.told l.space.pages) (g.P.Pages.view l.fn.space.pages) (g.P.Pages.view l.space.pages) (g.P.Pages.under l.fn.space.pages) (g.P.Pages.under l.space.pages) l.fn.space.superblock l.space.superblock
     (first_said l.fn.slots (g.T.Texts.text l.fn.texts)) l.fn.level (l.fn.level - 1) l.fn.index l.fn.page l.fn.top l.fn.out.items l.out.items l.child
+    × ((g.P.Pages.view l.space.pages).faults ≡ (g.P.Pages.view l.fn.space.pages).faults)

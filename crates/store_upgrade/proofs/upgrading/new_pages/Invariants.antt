@@ -12,4 +12,5 @@ invariant-loop-p g l =
     record {
       whole : IsBlock l.page;
       gathered : AreGathered (told l.fn.pages) (told l.pages) (l.fn.page ≡ (view l.fn.pages).image 0) (view l.fn.pages) (view l.pages) (under l.fn.pages) (under l.pages) (entries l.batch) l.p;
+      same : (view l.pages).faults ≡ (view l.fn.pages).faults;
     }

@@ -32,6 +32,7 @@ loop-above-init g c = record {
       (λ hit. ap (λ p. (shown.view p).reads) (c.hold.ensures.hit hit)) c.hold.ensures.still;
   over = c.hold.ensures.over;
   count = c.hold.ensures.count;
+  same = c.in_ok-hold.ensures.quiet;
 }
 
 pub step-requires-clause-sound : goal.step-requires-clause-sound
@@ -58,6 +59,7 @@ loop-above-preserved g c =
       over = stays_then (shown.numbers c.args.space.now) (shown.numbers c.loop-above.space) (shown.numbers c.step.new.space) (shown.under c.args.space.now) (shown.under c.loop-above.space) (shown.under c.step.new.space)
           c.loop-above.invariant.over c.step.ensures.over;
       count = c.step.ensures.count ∙ c.loop-above.invariant.count;
+      same = c.in_ok-step.ensures.quiet ∙ c.loop-above.invariant.same;
     }
 
 pub returns-in_err-step-clause-kept : goal.returns-in_err-step-clause-kept

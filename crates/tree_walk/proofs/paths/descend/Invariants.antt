@@ -11,4 +11,5 @@ invariant-loop-above g l = record {
       l.fn.tree l.levels l.fn.trail l.trail l.key l.above;
   over : StaysOn (shown.numbers l.fn.space) (shown.numbers l.space) (shown.under l.fn.space) (shown.under l.space);
   count : shown.count l.space ≡ shown.count l.fn.space;
+  same : (walk.pages l.space).faults ≡ (walk.pages l.fn.space).faults;
 }

@@ -146,3 +146,13 @@ returns-in_err-pass_chain-clause-within g c =
     let N : ℕ → Type 0 = λ n. NamesWithin n c.in_err-pass_chain.field-0.0 in
     error_so _ W c.from_residual-in_err-pass_chain.result c.from_residual-in_err-pass_chain.ensures.1
     (λ e same. subst W (sym same) (subst N (ap (λ (s : Superblock). s.total) c.count_trees.ensures.looks.over.superblock) c.in_err-pass_chain.ensures.within))
+
+pub returns-in_err-values-clause-quiet_err : goal.returns-in_err-values-clause-quiet_err
+returns-in_err-values-clause-quiet_err g c =
+    error_so _ _ c.from_residual.result c.from_residual.ensures.1
+    (λ e same other. c.in_err-values.ensures.quiet_err (λ is. other (same ∙ is)))
+
+pub returns-in_err-pass_chain-clause-quiet_err : goal.returns-in_err-pass_chain-clause-quiet_err
+returns-in_err-pass_chain-clause-quiet_err g c =
+    error_so _ _ c.from_residual-in_err-pass_chain.result c.from_residual-in_err-pass_chain.ensures.1
+    (λ e same other. c.in_err-pass_chain.ensures.quiet_err (λ is. other (same ∙ is)) ∙ c.in_ok-values.ensures.quiet)
