@@ -1,7 +1,7 @@
 -- What a service did over a disk is what a serving command does.
-use Rattle.std.proofs.Common.{◌≡◌, ℕ, ◌+◌, ◌≤◌, ◌^◌, Bool, List, [], length, Option, Some, None, Result, Ok, Err, IfSome, refl, sym, ap, subst, arith}
+use Rattle.std.proofs.Common.{◌≡◌, ℕ, ◌≤◌, ◌^◌, Bool, List, [], length, Option, Some, None, Result, Ok, Err, IfSome, refl, sym, ap, subst, arith}
 use Rattle.std.specs.Prelude.{OnOk, IfErr}
-use Rattle.block_disk.specs.View.{Image, View, Honest, sent_now}
+use Rattle.block_disk.specs.View.{View, Honest, sent_now}
 use Rattle.chart_world.specs.LineLaws.{told_so}
 use Rattle.chart_client.specs.Showing.{RejectsBytes, ScreenGives}
 use Rattle.chart_client.specs.declared.errors.ClientError.{ClientError}

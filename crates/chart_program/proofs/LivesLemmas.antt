@@ -1,7 +1,7 @@
 -- Books outlive their runs.
 use Rattle.std.proofs.Common.{◌≡◌, ℕ, List, [], ◌∷◌, Option, None, Some, IfSome, refl, sym, subst, inl, inr}
 use Rattle.block_disk.specs.View.{Image, View}
-use Rattle.gate_pages.specs.Journal.{page_count, pages_of}
+use Rattle.gate_pages.specs.Journal.{page_count}
 use Rattle.series_book.specs.declared.one_series.Series.{Series}
 use Rattle.series_book.specs.Edits.{id_of}
 use Rattle.disk_store.specs.Held.{HoldsBook}

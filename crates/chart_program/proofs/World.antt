@@ -18,6 +18,7 @@ use Rattle.chart_service.specs.Serving.{told, SendsFirst}
 use Rattle.chart_service.specs.declared.failure.ServeEnd.TheVariants as serve_end
 use Rattle.chart_service.specs.SentLaws.{sent_none}
 use Rattle.chart_service.specs.Telling.{told_none}
+use Rattle.chart_service.proofs.DiskKept.{risen_since}
 use Rattle.chart_program.specs.declared.lines_end.LinesEnd.{LinesEnd}
 use Rattle.chart_program.specs.declared.lines_end.LinesEnd.TheVariants as lines_end
 use Rattle.chart_program.specs.declared.run_end.RunEnd.{RunEnd}
@@ -26,7 +27,7 @@ use Rattle.chart_program.proofs.Counts.{reads_opened, reads_unopened, syncs_open
 use Rattle.chart_program.specs.Served.{Says, Faults, faults_of, AnswersAll, AnswersTaken, AnswersSome, AnswersLines, EndsLines, IsAheadOn, LeavesBooks, IsLinesCause, ServesLines, EndsOpening, ServesWorld, in_world}
 use Rattle.store_commands.specs.Books.{begun, HoldsAgain}
 use Rattle.store_commands.proofs.HoldsAgain.{again_opened}
-use Rattle.store_commands.proofs.Held.{held, risen_since}
+use Rattle.store_commands.proofs.Held.{held}
 
 -- ---- before the first line
 

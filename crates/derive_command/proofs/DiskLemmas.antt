@@ -1,24 +1,23 @@
 -- What is done over a store on a disk, in the words of the disk.
-use Rattle.std.proofs.Common.{◌≡◌, ℕ, ◌+◌, ◌≤◌, ◌<◌, ◌^◌, Bool, List, length, Option, Some, None, Result, Ok, Err, IfSome, refl, subst, arith}
+use Rattle.std.proofs.Common.{◌≡◌, ℕ, ◌≤◌, ◌^◌, Bool, List, length, Option, Some, None, Result, Ok, Err, IfSome, subst, arith}
 use Rattle.std.specs.Prelude.{IfErr, OnOk}
 use Rattle.block_disk.proofs.Passing.{passes_weaker}
 use Rattle.block_disk.specs.View.{Image, View, Honest, Now, Passes, sent_now}
 use Rattle.chart_service.specs.MomentLaws.{since_both, since_none}
+use Rattle.chart_service.proofs.DiskKept.{risen_since}
 use Rattle.disk_store.specs.Held.{HoldsBook}
 use Rattle.disk_store.specs.Openings.{Opens}
 use Rattle.gate_pages.specs.GateLaws.{goes_then}
 use Rattle.gate_pages.specs.GatePages.{IsClosed, PagesOf, pages_view}
 use Rattle.gate_pages.specs.Journal.{page_count, pages_of}
 use Rattle.series_book.specs.declared.one_series.Series.{Series}
-use Rattle.stored_book.specs.Damage.{IsBadForRequest}
 use Rattle.stored_book.proofs.CurrentLemmas.{recovers_new}
 use Rattle.stored_book.specs.Standing.{StandsForBook, RecoversTo}
 use Rattle.store_commands.proofs.CheckLooks.{left_stands}
 use Rattle.store_commands.proofs.Damages.{later_bad}
-use Rattle.store_commands.proofs.Held.{RestsNew, held, holds_same, risen_since, stands_held, within_held}
+use Rattle.store_commands.proofs.Held.{RestsNew, held, holds_same, stands_held, within_held}
 use Rattle.store_commands.proofs.Moments.{on_at, opened_goes, opened_since, since_on}
 use Rattle.store_commands.specs.Books.{LeavesSame, OfBook}
-use Rattle.store_commands.specs.Damaged.{IsDamagedLater}
 use Rattle.derive_command.specs.Derived.{DerivesAll}
 use Rattle.derive_command.specs.Deriving.{Drawn, IsEndCause, StopsAt}
 use Rattle.store_commands.specs.Sides.{Side}

@@ -1,5 +1,5 @@
 -- A request is answered, and a line; and what calls move.
-use Rattle.std.proofs.Common.{◌≡◌, ◌∙◌, ℕ, ℤ, ◌<◌, ◌≤◌, List, length, Option, Some, Result, Ok, Err, refl, ap, sym, subst, arith, inl, inr}
+use Rattle.std.proofs.Common.{◌≡◌, ◌∙◌, ℕ, ℤ, ◌<◌, ◌≤◌, List, length, Option, Some, Result, Ok, Err, refl, ap, sym, subst, arith, inr}
 use Rattle.std.specs.Prelude.{OnOk, IfErr}
 use Rattle.block_disk.proofs.Passing.{passes_none, passes_weaker, sends_then_sends}
 use Rattle.block_disk.specs.Counts.{HasRisen}
@@ -18,8 +18,9 @@ use Rattle.series_catalog.specs.declared.catalog.Catalog.{Catalog}
 use Rattle.series_pair.specs.Derived.{HasLargeSum, IsChartAnswer, IsChartCause, IsDerivedChart}
 use Rattle.series_pair.specs.declared.sum_error.SumError.{SumError}
 use Rattle.series_pair.specs.declared.sum_error.SumError.TheVariants as sum
+use Rattle.chart_service.proofs.DiskKept.{risen_since}
 use Rattle.derive_command.specs.Answers.{AreOnOneGrid, HasLarge, IsAnswer, IsRefused}
-use Rattle.store_commands.specs.Sides.{Side}
+use Rattle.store_commands.specs.Sides.{Side, AreBeside}
 use Rattle.derive_command.specs.Doing.{DoesLine, DoesRequest, Goes, IsAsked, IsCause, LineStops, RequestStops, TextStops, end_at}
 use Rattle.derive_command.specs.Requests.{Spells, SaysNone}
 use Rattle.derive_command.specs.declared.asked.Asked.{Asked}
@@ -149,13 +150,8 @@ quiet_between old new passes =
     let same = sent_same old new (Now old) passes in
     passes_weaker old new (Now old) (Now old) (Quiet old) (λ count. (sent_now old ≤ count) × (count ≤ sent_now new)) (λ image left. left) (λ count quiet. (omega (arith, quiet), omega (arith, quiet, same))) passes
 
--- what stands beside the pages are the streams
-pub record AreBeside (at : Side) : Type 0 where
-  pub reads_are : at.view.beside.read_faults ≡ at.read_faults
-  pub sends_are : at.view.beside.send_faults ≡ at.send_faults
-
 -- pages are looked at
-pub goes_looks : (old new : Side) (s s' : Superblock) (catalog catalog' : Catalog) → AreBeside old → AreBeside new → (s' ≡ s → new.total ≡ old.total) → Looks old.told new.told old.view new.view old.under new.under s s' catalog catalog' → Goes old new
+pub goes_looks : (old new : Side) (s s' : Superblock) (catalog catalog' : Catalog) → AreBeside old.view old.read_faults old.send_faults → AreBeside new.view new.read_faults new.send_faults → (s' ≡ s → new.total ≡ old.total) → Looks old.told new.told old.view new.view old.under new.under s s' catalog catalog' → Goes old new
 goes_looks old new s s' catalog catalog' was are total_is looks = record {
   time = quiet_between old.view new.view looks.time;
   is_told = looks.told;
@@ -203,10 +199,6 @@ goes_sends old new kept passes told was_told on total_is reads sends = record {
 }
 
 -- ---- causes
-
-risen_since : (old mid new : ℕ) → old ≤ mid → HasRisen mid new → HasRisen old new
-risen_since old mid new low (inl more) = inl (omega (arith, low, more))
-risen_since old mid new low (inr most) = inr most
 
 -- why a later call ended is why all ended
 pub cause_later : (old mid new : Side) (end : DeriveEnd) → Goes old mid → IsCause end mid new → IsCause end old new

@@ -1,20 +1,16 @@
 -- Where all lines of an input are requests that are answered, none is bad, and none is refused.
-use Rattle.std.proofs.Common.{◌≡◌, ◌∙◌, ℕ, ℤ, true, cond, List, [], ◌∷◌, ◌++◌, ◌⊎◌, Option, Some, None, refl, ap, sym, subst, arith, inl, inr}
-use Rattle.std.proofs.lemmas.Int.{ints}
+use Rattle.std.proofs.Common.{◌≡◌, ◌∙◌, ℕ, ℤ, true, cond, List, [], ◌∷◌, ◌++◌, Option, Some, None, refl, ap, sym, subst, arith, inl, inr}
 use Rattle.std.proofs.lemmas.List.Elements.{All-contains}
 use Rattle.std.specs.List.{filter}
-use Rattle.chart_grid.specs.Limits.{IsWindow, IsSide, IsBadWindow, IsBadSide}
 use Rattle.chart_grid.specs.declared.grid.Grid.{Grid}
 use Rattle.chart_service.specs.Serving.{told}
-use Rattle.chart_service.specs.Viewing.{IsBadRange, IsGoodRange}
-use Rattle.chart_service.specs.ViewingLaws.{no_window, no_side, no_sides, no_range}
+use Rattle.chart_service.specs.ViewingLaws.{no_window, no_sides, no_range}
 use Rattle.chart_world.specs.FrontLaws.{some_left, whole_front}
 use Rattle.chart_world.specs.Fronts.{says}
 use Rattle.chart_world.specs.LineLaws.{says_text, told_behind}
 use Rattle.derived_chart.specs.Points.{IsSumAt}
 use Rattle.line_raster.specs.Canvas.{Canvas}
 use Rattle.plain_chart.specs.declared.value_range.ValueRange.{ValueRange}
-use Rattle.request_lines.specs.declared.ranges.RangeWord.{RangeWord}
 use Rattle.request_lines.specs.declared.ranges.RangeWord.TheVariants as word
 use Rattle.series_book.specs.Edits.{id_of}
 use Rattle.series_book.specs.declared.one_series.Series.{Series}

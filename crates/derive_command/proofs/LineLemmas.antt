@@ -1,12 +1,12 @@
 -- Lines of an input, one behind the other, and their answers.
-use Rattle.std.proofs.Common.{◌≡◌, ◌∙◌, ℕ, ◌<◌, ◌≤◌, ◌^◌, List, [], ◌∷◌, ◌++◌, length, Option, Some, refl, ap, sym, subst, arith, inl, append_assoc, length-append}
+use Rattle.std.proofs.Common.{◌≡◌, ◌∙◌, ℕ, ◌<◌, ◌≤◌, ◌^◌, List, [], ◌∷◌, ◌++◌, length, Option, Some, refl, ap, sym, subst, arith, inl, append_assoc}
 use Rattle.std.specs.List.{filter, after_first}
 use Rattle.std.proofs.lemmas.List.{append-nil}
 use Rattle.chart_service.specs.Serving.{told, unless_empty}
 use Rattle.chart_world.specs.FrontLaws.{Passed, passes}
 use Rattle.chart_world.specs.Fronts.{says, Gives, first_piece}
 use Rattle.chart_world.specs.LineLaws.{lines_none, piece_line, told_more}
-use Rattle.chart_world.specs.Lines.{is_line_feed, lines}
+use Rattle.chart_world.specs.Lines.{is_line_feed}
 use Rattle.chart_world.specs.Reading.{Reading, unread}
 use Rattle.series_book.specs.declared.one_series.Series.{Series}
 use Rattle.derive_command.specs.Answers.{AnswersLine}

@@ -1,16 +1,12 @@
 -- The tokens of a line that is a request.
-use Rattle.std.proofs.Common.{◌≡◌, ◌∙◌, ℕ, ℤ, ◌+◌, ◌-◌, ◌<◌, ◌≤◌, List, [], ◌∷◌, length, take, drop, Option, Some, None, IfSome, true, ap, sym, subst, arith}
-use Rattle.std.specs.List.{position_or_len}
-use Rattle.std.specs.Prelude.{is_some}
-use Rattle.std.proofs.lemmas.List.{length-drop, take_all}
-use Rattle.std.proofs.lemmas.List.Splits.{length-slice_split, slice_split_first, slice_split_none}
-use Rattle.std.proofs.lemmas.List.Sums.{fails_before_first}
+use Rattle.std.proofs.Common.{◌≡◌, ◌∙◌, ℕ, ℤ, List, ◌∷◌, length, ap, sym, subst, arith}
 use Rattle.request_lines.proofs.SpeltRanges.{range_fit}
 use Rattle.request_lines.specs.Spelling.{SpellsRange}
-use Rattle.request_lines.specs.Tokens.{is_space, tokens}
+use Rattle.request_lines.specs.Tokens.{tokens}
 use Rattle.request_lines.specs.declared.ranges.RangeWord.{RangeWord}
 use Rattle.whole_number.proofs.Digits.{one_natural, one_integer}
 use Rattle.whole_number.specs.Spelling.{SpellsInteger, SpellsNatural}
+use Rattle.store_commands.proofs.TokenLemmas.{first_same, rest_same, some_token}
 use Rattle.derive_command.specs.declared.request.Request.{Request}
 use Rattle.derive_command.specs.declared.tokens.Words.{Words}
 use Rattle.derive_command.specs.declared.tokens.Numbers.{Numbers}
@@ -18,22 +14,7 @@ use Rattle.derive_command.specs.Requests.{Spells, SpellsNumbers, SpellsWords, wo
 
 -- ---- tokens
 
--- the tokens of bytes are one at least
-pub some_token : (bytes : List ℕ) → 0 < length (tokens bytes)
-some_token bytes = omega (arith, length-slice_split is_space bytes)
-
--- what holds of what is there
-pub of_some : {T : Type 0} (o : Option T) (P : T → Type 0) (X : Type 0) → is_some o ≡ true → IfSome o P → ((t : T) → P t → X) → X
-of_some {T} None P X some is more = cc
-of_some {T} (Some t) P X some is more = more t is
-
 -- ---- words
-
-first_same : (one other : List ℕ) (ones others : List (List ℕ)) → one ∷ ones ≡ other ∷ others → one ≡ other
-first_same one other ones others is = cc
-
-rest_same : (one other : List ℕ) (ones others : List (List ℕ)) → one ∷ ones ≡ other ∷ others → ones ≡ others
-rest_same one other ones others is = cc
 
 same_integer : (one other : List ℕ) (m n : ℤ) → one ≡ other → SpellsInteger one m → SpellsInteger other n → m ≡ n
 same_integer one other m n is first second = let P : List ℕ → Type 0 = λ t. SpellsInteger t n in one_integer one m n first (subst P (sym is) second)

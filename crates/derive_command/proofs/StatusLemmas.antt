@@ -1,14 +1,13 @@
 -- How `derive` ends, by its status.
-use Rattle.std.proofs.Common.{◌≡◌, ◌∙◌, ℕ, ◌+◌, ◌*◌, List, Option, Some, None, Result, Ok, Err, IfSome, refl, sym, subst, inl, inr, arith}
-use Rattle.block_disk.specs.View.{View, Honest}
+use Rattle.std.proofs.Common.{◌≡◌, ◌∙◌, ℕ, ◌+◌, ◌*◌, List, Option, Result, Ok, Err, IfSome, refl, sym, subst, inl, inr, arith}
+use Rattle.block_disk.specs.View.{View}
 use Rattle.chart_service.specs.SentLaws.{sent_none}
 use Rattle.disk_store.specs.Held.{HoldsBook}
-use Rattle.disk_store.specs.Openings.{IsOutside, Opens, Prevents}
+use Rattle.disk_store.specs.Openings.{IsOutside, Prevents}
 use Rattle.disk_store.specs.declared.causes.OpeningCause.{OpeningCause}
 use Rattle.disk_store.specs.declared.causes.OpeningCause.TheVariants as opening
 use Rattle.gate_pages.specs.Journal.{page_count}
 use Rattle.series_book.specs.declared.one_series.Series.{Series}
-use Rattle.stored_book.specs.Standing.{RecoversTo}
 use Rattle.store_commands.proofs.InputLemmas.{any_told}
 use Rattle.store_commands.proofs.WorldLemmas.{IsUnopened}
 use Rattle.store_commands.proofs.Held.{held}
@@ -17,6 +16,7 @@ use Rattle.store_commands.specs.Books.{Never}
 use Rattle.store_commands.specs.Codes.{low_code, unopened}
 use Rattle.store_commands.specs.Status.{opening_status}
 use Rattle.store_commands.specs.declared.status.Status.{Status}
+use Rattle.chart_world.specs.LineLaws.{told_so}
 use Rattle.derive_command.specs.Answers.{number_of}
 use Rattle.derive_command.specs.Derived.{DeriveEnds, DerivesFirst, DerivesToRefused}
 use Rattle.derive_command.specs.Deriving.{Drawn, StopsAt, answer_status}
@@ -24,10 +24,6 @@ use Rattle.derive_command.specs.declared.derive_end.DeriveEnd.{DeriveEnd}
 use Rattle.derive_command.specs.declared.derive_end.DeriveEnd.TheVariants.{BadLine, Refused, ReadFault, SendFault, InputTooLong, DiskFault, Damaged, NoMemory}
 use Rattle.derive_command.specs.declared.derive_refusal.DeriveRefusal.{DeriveRefusal}
 use Rattle.derive_command.proofs.LineLemmas.{no_lines}
-
-told_so : (o : Option (List ℕ)) (P Q : List ℕ → Type 0) → ((input : List ℕ) → P input → Q input) → IfSome o P → IfSome o Q
-told_so None P Q more is = tt
-told_so (Some input) P Q more is = more input is
 
 -- the lines of an input were answered over the store of a disk
 module _ (old new : View) (left left' before now : Option (List ℕ)) (reads reads_now sends sends_now : ℕ) where
@@ -38,7 +34,7 @@ module _ (old new : View) (left left' before now : Option (List ℕ)) (reads rea
   Ends end = DeriveEnds old new left left' before now reads reads_now sends sends_now end.code end.place
 
   refused_at : (at : ℕ) (why : DeriveRefusal) → IfSome left (λ input. StopsAt count old input left' before now (Refused at why)) → IfSome left (λ input. DerivesToRefused count old input (256 * at + number_of why) before now)
-  refused_at at why = told_so left (λ input. StopsAt count old input left' before now (Refused at why)) (λ input. DerivesToRefused count old input (256 * at + number_of why) before now)
+  refused_at at why = told_so (λ input. StopsAt count old input left' before now (Refused at why)) (λ input. DerivesToRefused count old input (256 * at + number_of why) before now) left
       (λ input all total book holds. record { at = at; refusal = why; place_is = refl; draws = all total book holds })
 
   ends_of : {T : Type 0} (answer : Result T DeriveEnd) → Drawn count old new left left' before now reads reads_now sends sends_now answer → Ends (answer_status answer)
@@ -166,7 +162,7 @@ module _ (old new : View) (left left' before now : Option (List ℕ)) (reads rea
     damaged = λ is. absurd (omega (arith, is));
     undamaged = λ is. absurd (omega (arith, is));
     bad = λ is. absurd (omega (arith, is));
-    much = λ is. told_so left (λ input. StopsAt count old input left' before now InputTooLong) _ (λ input all. (refl, all)) s.stops;
+    much = λ is. told_so (λ input. StopsAt count old input left' before now InputTooLong) _ left (λ input all. (refl, all)) s.stops;
     small = λ is. absurd (omega (arith, is));
     refused = λ is. absurd (omega (arith, is));
     zero_place = λ is. absurd (omega (arith, low_code 9 is));
@@ -208,7 +204,7 @@ module _ (old new : View) (left left' before now : Option (List ℕ)) (reads rea
     fault = λ is. absurd (omega (arith, is));
     faulted = λ is. absurd (omega (arith, is));
     damaged = λ is. inr s.cause;
-    undamaged = λ is. told_so left (λ input. StopsAt count old input left' before now (Damaged page)) (λ input. Never count old) (λ input all. all) s.stops;
+    undamaged = λ is. told_so (λ input. StopsAt count old input left' before now (Damaged page)) (λ input. Never count old) left (λ input all. all) s.stops;
     bad = λ is. absurd (omega (arith, is));
     much = λ is. absurd (omega (arith, is));
     small = λ is. absurd (omega (arith, is));

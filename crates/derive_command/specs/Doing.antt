@@ -2,7 +2,7 @@
 use Rattle.std.specs.Prelude.{◌≡◌, ℕ, ◌<◌, ◌≤◌, ◌⊎◌, List, [], length, Option, Some, Result, Ok, Err, IfErr, OnOk, ⊤}
 use Rattle.block_disk.specs.Counts.{HasRisen}
 use Rattle.block_disk.specs.Streams.{sent_after, PartSent}
-use Rattle.block_disk.specs.View.{View, Now, Passes, sent_now}
+use Rattle.block_disk.specs.View.{Now, Passes, sent_now}
 use Rattle.block_disk.specs.declared.streams.Streams as streams
 use Rattle.chart_grid.specs.Limits.{IsWindow, IsSide, IsBadWindow, IsBadSide}
 use Rattle.chart_grid.specs.declared.grid.Grid.{Grid}
@@ -10,14 +10,12 @@ use Rattle.chart_service.specs.Viewing.{IsBadRange}
 use Rattle.chart_world.specs.declared.line_answer.LineFault.{LineFault}
 use Rattle.chart_world.specs.declared.line_answer.LineFault.TheVariants as fault
 use Rattle.gate_pages.specs.Pages.{GoesOn}
-use Rattle.gate_pages.specs.declared.pages.Pages.{Ghosts}
 use Rattle.plain_chart.specs.declared.value_range.ValueRange.{ValueRange}
 use Rattle.series_book.specs.declared.one_series.Series.{Series}
 use Rattle.series_pair.specs.Derived.{AreShifted}
 use Rattle.series_pair.specs.declared.sum_error.SumError.{SumError}
 use Rattle.series_pair.specs.declared.sum_error.SumError.TheVariants as sum
 use Rattle.series_store.specs.Shown as shown
-use Rattle.series_store.specs.declared.store.Store.{Store}
 use Rattle.store_commands.specs.Sides.{Side}
 use Rattle.stored_book.specs.Damage.{IsBadForRequest}
 use Rattle.derive_command.specs.Answers.{AnswersLine, AreNamed, IsAnswer, IsGridOf, IsRefused, RefusesLine, asked_range}

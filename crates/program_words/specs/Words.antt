@@ -91,6 +91,10 @@ pub record IsWrongAt (place : ℕ) (words : List (List ℕ)) : Type 0 where
   pub before : Begins place words
   pub here : Begins (place + 1) words → ⊥
 
+-- the same where the words are an export's up to its name
+abbrev pub IsWrongExport : List (List ℕ) → ℕ → Type 0
+IsWrongExport words place = (name : List ℕ) → IsTrue (is_name name) → slice_get words 0 ≡ Some (codes "export") → slice_get words 1 ≡ Some name → IsWrongAt place words
+
 -- why words aren't those of a command
 abbrev pub IsWrongBy : WordsEnd → List (List ℕ) → Type 0
 IsWrongBy (Wrong place) words = IsWrongAt place words

@@ -4,7 +4,7 @@ ghost use Rattle.chart_grid.specs.Limits.{IsSide, IsWindow};
 ghost use Rattle.series_book.specs.Names.{is_name};
 ghost use Rattle.whole_number.specs.Range.{IsTime};
 ghost use Rattle.program_words.specs.CommandLine.{plain_words, has_flag};
-ghost use Rattle.program_words.specs.Words.{Spells, IsEvery, IsWrongAt, IsWrongBy, IsSingle, EndsWords, HasNoName, HasNoSeed, word_of, placed};
+ghost use Rattle.program_words.specs.Words.{Spells, IsEvery, IsWrongAt, IsWrongBy, IsWrongExport, IsSingle, EndsWords, HasNoName, HasNoSeed, word_of, placed};
 ghost use Rattle.program_words.specs.declared.words.Command.{Command};
 
 use crate::errors::WordsError;
@@ -209,7 +209,7 @@ fn window_of(words: &[&str]) -> Result<Window, u64>
     ensures from { IfOk result (λ window. slice_get (map (λ word. word.now) words.now) 2 ≡ Some (signed_decimal window.from)) }
     ensures to { IfOk result (λ window. slice_get (map (λ word. word.now) words.now) 3 ≡ Some (signed_decimal window.to)) }
     ensures all { IfOk result (λ window. length words.now ≤ 4) }
-    ensures wrong { IfErr result (λ place. (name : List ℕ) → IsTrue (is_name name) → slice_get (map (λ word. word.now) words.now) 0 ≡ Some (codes "export") → slice_get (map (λ word. word.now) words.now) 1 ≡ Some name → IsWrongAt place (map (λ word. word.now) words.now)) }
+    ensures wrong { IfErr result (IsWrongExport (map (λ word. word.now) words.now)) }
 {
     let Some(from) = time_at(words, 2) else {
         return Err(2);

@@ -1,11 +1,11 @@
 -- What is done over a store on a disk, in the words of the disk.
-use Rattle.std.proofs.Common.{◌≡◌, ◌≢◌, ◌∙◌, ℕ, ◌+◌, ◌≤◌, ◌<◌, ◌⊎◌, ◌^◌, Bool, List, [], ◌∷◌, length, take, Option, Some, None, Result, Ok, Err, IfSome, refl, ap, sym, subst, inl, inr, arith}
-use Rattle.std.specs.Prelude.{Contains, IfErr, OnOk}
-use Rattle.block_disk.specs.Counts.{HasRisen}
+use Rattle.std.proofs.Common.{◌≡◌, ◌≢◌, ℕ, ◌≤◌, ◌^◌, Bool, List, length, Option, Some, None, Result, Ok, Err, IfSome, subst, inl, inr, arith}
+use Rattle.std.specs.Prelude.{IfErr, OnOk}
 use Rattle.block_disk.specs.View.{Image, View, Honest, sent_now}
-use Rattle.chart_service.specs.MomentLaws.{since_both, since_none, since_so}
+use Rattle.chart_service.specs.MomentLaws.{since_both}
 use Rattle.chart_service.specs.Moments.{Since}
-use Rattle.disk_store.proofs.Lowered.{holds_closed, lowered_is, lowered_readable}
+use Rattle.chart_service.proofs.DiskKept.{risen_since}
+use Rattle.disk_store.proofs.Lowered.{lowered_is, lowered_readable}
 use Rattle.disk_store.specs.Held.{HoldsBook}
 use Rattle.disk_store.specs.Openings.{Opens}
 use Rattle.gate_pages.specs.GateLaws.{goes_then}
@@ -13,26 +13,20 @@ use Rattle.gate_pages.specs.GatePages.{IsClosed, PagesOf, pages_view}
 use Rattle.gate_pages.specs.Journal.{page_count, pages_of}
 use Rattle.gate_pages.specs.Pages.{GoesOn}
 use Rattle.series_book.specs.declared.one_series.Series.{Series}
-use Rattle.series_book.specs.EditLists.{after_edits}
-use Rattle.stored_book.specs.Damage.{IsBadForRequest}
 use Rattle.stored_book.proofs.CurrentLemmas.{recovers_new}
 use Rattle.stored_book.specs.Standing.{StandsForBook, RecoversTo}
-use Rattle.retention.specs.Drops.{book_swept}
-use Rattle.retention.specs.Sweeps.{sweeps}
 use Rattle.store_commands.proofs.Damages.{later_bad}
-use Rattle.store_commands.proofs.Held.{RestsNew, held, holds_so, risen_since, stands_held, within_held}
+use Rattle.store_commands.proofs.Held.{RestsNew, held, holds_so, stands_held, within_held}
 use Rattle.store_commands.proofs.Moments.{opened_goes, opened_quiet, since_opened}
-use Rattle.store_commands.specs.Books.{HoldsAgain, Never, OfBook}
-use Rattle.store_commands.specs.Damaged.{IsDamagedLater}
+use Rattle.store_commands.specs.Books.{Stands, Holds, OfPages}
 use Rattle.retain_command.specs.Answers.{book_behind}
 use Rattle.store_commands.specs.Sides.{Side}
 use Rattle.retain_command.specs.Doing.{IsCause}
-use Rattle.retain_command.specs.Retained.{Holds, LeavesSwept, RetainsAll}
+use Rattle.retain_command.specs.Retained.{LeavesSwept, RetainsAll}
 use Rattle.retain_command.specs.Retaining.{IsEndCause, StopsAt, Swept}
-use Rattle.retain_command.specs.Sweeping.{AnswersNext, EndsSo, IsAhead, SweepsAll, SweepsFirst, SweepsTaken, left_by}
+use Rattle.retain_command.specs.Sweeping.{EndsSo, IsAhead, SweepsAll, SweepsFirst, left_by}
 use Rattle.retain_command.specs.declared.retain_end.RetainEnd.{RetainEnd}
 use Rattle.retain_command.specs.declared.retain_end.RetainEnd.TheVariants.{BadLine, UnknownSeries, ReadFault, SendFault, InputTooLong, DiskFault, Damaged, NoMemory}
-use Rattle.retain_command.proofs.EndLemmas.{Stands}
 use Rattle.retain_command.proofs.RuleLemmas.{no_rules}
 
 -- ---- the same of a book that is there otherwise
@@ -91,11 +85,7 @@ ahead_none total book input from count image is = record { first = no_rules tota
 -- ---- the lines of an input over the pages of a disk, which is at rest afterwards unless a call of it failed
 
 module _ (count count' : ℕ) (sound sound' : Bool) (old new : View) (same : count' ≡ count) (told : Honest old → Honest new) (goes : GoesOn old new) (rests : RestsNew count old) where
-  -- this is so where the pages stand for a book
-  abbrev pub OfPages : (ℕ → List Series → Type 0) → Type 0
-  OfPages IsSo = (total : ℕ) (book : List Series) → Honest old → StandsForBook (pages_of count old.image) total book → IsSo total book
-
-  pub done_on : (left before now : Option (List ℕ)) → OfPages (λ total book. IfSome left (λ input. SweepsAll (Stands total (pages_of count' new.image)) total book input before now)) → IsClosed new → IfSome left (λ input. RetainsAll count old new input before now)
+  pub done_on : (left before now : Option (List ℕ)) → OfPages count old (λ total book. IfSome left (λ input. SweepsAll (Stands total (pages_of count' new.image)) total book input before now)) → IsClosed new → IfSome left (λ input. RetainsAll count old new input before now)
   done_on None before now all closed = tt
   done_on (Some input) before now all closed = λ total book holds.
       all_so (Stands total (pages_of count' new.image)) (Holds count total new) total book input before now (holds_so count count' old new same told total book holds closed) (all total book holds.honest (stands_held count total book old rests holds))
@@ -110,11 +100,11 @@ module _ (count count' : ℕ) (sound sound' : Bool) (old new : View) (same : cou
   end_on total book input left before now (Damaged page) holds closed s = absurd s
   end_on total book input left before now NoMemory holds closed s = ends_so (Stands total (pages_of count' new.image)) (Holds count total new) total book input before now (holds_so count count' old new same told total book holds (closed (λ is. cc))) left NoMemory s
 
-  pub stops_on : (left left' before now : Option (List ℕ)) (end : RetainEnd) → OfPages (λ total book. IfSome left (λ input. EndsSo (Stands total (pages_of count' new.image)) total book input left' before now end)) → (end ≢ DiskFault → IsClosed new) → IfSome left (λ input. StopsAt count old new input left' before now end)
+  pub stops_on : (left left' before now : Option (List ℕ)) (end : RetainEnd) → OfPages count old (λ total book. IfSome left (λ input. EndsSo (Stands total (pages_of count' new.image)) total book input left' before now end)) → (end ≢ DiskFault → IsClosed new) → IfSome left (λ input. StopsAt count old new input left' before now end)
   stops_on None left' before now end all closed = tt
   stops_on (Some input) left' before now end all closed = λ total book holds. end_on total book input left' before now end holds closed (all total book holds.honest (stands_held count total book old rests holds))
 
-  pub crash_on : (left before : Option (List ℕ)) → OfPages (λ total book. IfSome left (λ input. IfSome before (λ bytes. Since (pages_view count sound old) (pages_view count' sound' new) (λ pages sent. IsAhead (λ after. StandsForBook pages total after) total book input (sent_now (pages_view count sound old)) sent))))
+  pub crash_on : (left before : Option (List ℕ)) → OfPages count old (λ total book. IfSome left (λ input. IfSome before (λ bytes. Since (pages_view count sound old) (pages_view count' sound' new) (λ pages sent. IsAhead (λ after. StandsForBook pages total after) total book input (sent_now (pages_view count sound old)) sent))))
       → IfSome left (λ input. IfSome before (λ bytes. LeavesSwept count input old new))
   crash_on None before all = tt
   crash_on (Some input) None all = tt

@@ -2,17 +2,16 @@
 use Rattle.std.proofs.Common.{◌≡◌, ◌≢◌, ◌∙◌, ◌↔◌, ℕ, ◌+◌, ◌<◌, ◌≤◌, List, [], length, take, Option, Some, None, Result, Ok, Err, IfSome, refl, ap, sym, subst, arith, inl, inr}
 use Rattle.std.specs.Prelude.{OnOk, IfErr}
 use Rattle.std.proofs.lemmas.List.{take_all}
-use Rattle.block_disk.specs.Counts.{HasRisen}
 use Rattle.block_disk.specs.Streams.{sent_after}
 use Rattle.block_disk.specs.View.{Image, View, Beside, DiskKept, Now, Only, Passes, sent_now}
 use Rattle.chart_service.specs.MomentLaws.{through_none, through_by, through_so, through_then}
 use Rattle.chart_service.specs.Moments.{Through}
+use Rattle.chart_service.proofs.DiskKept.{risen_since}
 use Rattle.gate_pages.proofs.Moving.{sent_same}
 use Rattle.gate_pages.specs.GateLaws.{goes_none, goes_then as goes_on_then}
 use Rattle.gate_pages.specs.Pages.{GoesOn, Quiet}
 use Rattle.series_book.specs.declared.one_series.Series.{Series}
 use Rattle.series_book.specs.EditLists.{after_edits}
-use Rattle.series_book.specs.Pages.{pages_of}
 use Rattle.stored_book.specs.Standing.{StandsForBook}
 use Rattle.retention.specs.Drops.{book_swept}
 use Rattle.retention.specs.Moving.{Carries}
@@ -23,8 +22,9 @@ use Rattle.retention.specs.declared.sweep_error.SweepError.{SweepError}
 use Rattle.retention.specs.declared.sweep_error.SweepError.TheVariants as sweep
 use Rattle.retention.specs.declared.swept.Swept.{Swept}
 use Rattle.retain_command.specs.Answers.{answer, swept_text}
-use Rattle.store_commands.specs.Sides.{Side}
-use Rattle.retain_command.specs.Doing.{DoesLine, DoesRule, Goes, IsCause, LineDone, LineMoment, LineStops, RuleDone, RuleMoment, RuleStops, TextStops, Untouched, end_at}
+use Rattle.store_commands.specs.Sides.{Side, AreBeside}
+use Rattle.store_commands.proofs.InputLemmas.{told_any}
+use Rattle.retain_command.specs.Doing.{DoesLine, DoesRule, Goes, IsCause, LineMoment, LineStops, RuleMoment, RuleStops, TextStops, Untouched, end_at}
 use Rattle.retain_command.specs.Rules.{Spells, SaysNone}
 use Rattle.retain_command.specs.declared.retain_end.RetainEnd.{RetainEnd}
 use Rattle.retain_command.specs.declared.retain_end.RetainEnd.TheVariants.{BadLine, UnknownSeries, ReadFault, SendFault, InputTooLong, DiskFault, Damaged, NoMemory}
@@ -84,20 +84,12 @@ module _ (total : ℕ) (book : List Series) (rule : Rule) (at : ℕ) (old new : 
       let P : RetainEnd → Type 0 = λ e. RuleStops total book rule at new.image before now e in
       let M : (b : Option (List ℕ)) → IfSome b (λ bytes. Through old new (RuleMoment total book rule (sent_now old))) = told_any (stop_moments error unknown same passes) in
       record { done = tt; stops = subst P (sym is) (stop_so error unknown same stands unsent stops); moments = M before }
-    where
-      told_any : {Q : Type 0} → Q → (b : Option (List ℕ)) → IfSome b (λ bytes. Q)
-      told_any {Q} is None = tt
-      told_any {Q} is (Some bytes) = is
 
 -- ---- the answer
 
 -- what is said of a sweep that was done is the answer
 said_so : (total : ℕ) (book : List Series) (rule : Rule) (swept : Swept) (image : Image) → IsSwept total book rule swept image → swept_text swept.clears swept.used ≡ answer total book rule
 said_so total book rule swept image done = (λ i. swept_text (done.clears i) (done.used i))
-
-pub any_told : {Q : Type 0} → Q → (b : Option (List ℕ)) → IfSome b (λ bytes. Q)
-any_told {Q} is None = tt
-any_told {Q} is (Some bytes) = is
 
 module _ (total : ℕ) (book : List Series) (rule : Rule) (at : ℕ) (swept : Swept) (old mid new : View) (before between now : Option (List ℕ)) (there : NamesNone book rule → ⊥) (done : IsSwept total book rule swept mid.image) (passes : Passes old mid (IsAfterSome total book rule) (Quiet old)) (unsent : between ≡ before) (kept : DiskKept mid new) where
   stands_still : StandsForBook new.image total (book_swept total book rule)
@@ -143,14 +135,14 @@ module _ (total : ℕ) (book : List Series) (rule : Rule) (at : ℕ) (swept : Sw
       record {
         done = record { there = there; stands = stands_still; sent = whole ∙ ap (λ t. sent_after t between) is ∙ ap (sent_after (answer total book rule)) unsent };
         stops = tt;
-        moments = any_told (sent_moments (swept_text swept.clears swept.used) is only sends most) before;
+        moments = told_any (sent_moments (swept_text swept.clears swept.used) is only sends most) before;
       }
   rule_answered {T} (Err end) whole stops only sends most =
       let is = said_so total book rule swept mid.image done in
       record {
         done = tt;
         stops = text_stops (swept_text swept.clears swept.used) is end stops;
-        moments = any_told (sent_moments (swept_text swept.clears swept.used) is only sends most) before;
+        moments = told_any (sent_moments (swept_text swept.clears swept.used) is only sends most) before;
       }
 
 -- the same by the clause of the sweep
@@ -184,7 +176,7 @@ module _ (total : ℕ) (book : List Series) (text : List ℕ) (at : ℕ) (old : 
   rests = record { stands = stands; unsent = refl }
 
   no_moments : IfSome before (λ bytes. Through old old (LineMoment total book text (sent_now old)))
-  no_moments = any_told (through_none old (LineMoment total book text (sent_now old))) before
+  no_moments = told_any (through_none old (LineMoment total book text (sent_now old))) before
 
   -- that is empty
   pub line_empty : {T : Type 0} (v : T) → text ≡ [] → DoesLine {T = T} total book text at (Ok v) old old before before
@@ -215,13 +207,8 @@ goes_further old mid new first second = record {
   sends = omega (arith, first.sends, second.sends);
 }
 
--- what stands beside the pages are the streams
-pub record AreBeside (at : Side) : Type 0 where
-  pub reads_are : at.view.beside.read_faults ≡ at.read_faults
-  pub sends_are : at.view.beside.send_faults ≡ at.send_faults
-
 -- a sweep
-pub goes_call : (old new : Side) (count count' : ℕ) → AreBeside old → AreBeside new → Carries old.told new.told old.view new.view old.under new.under old.total new.total count count' → Goes old new
+pub goes_call : (old new : Side) (count count' : ℕ) → AreBeside old.view old.read_faults old.send_faults → AreBeside new.view new.read_faults new.send_faults → Carries old.told new.told old.view new.view old.under new.under old.total new.total count count' → Goes old new
 goes_call old new count count' was are carries = record {
   is_told = carries.told;
   was_told = carries.was_told;
@@ -236,10 +223,6 @@ goes_call old new count count' was are carries = record {
 -- takes and sends
 pub goes_streams : (old new : Side) → DiskKept old.view new.view → (old.told → new.told) → (new.told → old.told) → GoesOn old.under new.under → new.total ≡ old.total → old.read_faults ≤ new.read_faults → old.send_faults ≤ new.send_faults → Goes old new
 goes_streams old new kept told was_told on total_is reads sends = record { is_told = told; was_told = was_told; size = kept.size; faults = omega (arith, kept.faults); goes_on = on; total_is = total_is; reads = reads; sends = sends }
-
-risen_since : (old mid new : ℕ) → old ≤ mid → HasRisen mid new → HasRisen old new
-risen_since old mid new low (inl more) = inl (omega (arith, low, more))
-risen_since old mid new low (inr most) = inr most
 
 -- why a later call ended is why all ended
 pub cause_later : (old mid new : Side) (end : RetainEnd) → Goes old mid → IsCause end mid new → IsCause end old new

@@ -1,5 +1,5 @@
 -- What was done of an input, by what was done of its next line.
-use Rattle.std.proofs.Common.{◌≡◌, ◌≢◌, ◌∙◌, ℕ, ◌+◌, ◌-◌, ◌<◌, ◌≤◌, ◌^◌, ◌⊎◌, true, List, [], ◌∷◌, ◌++◌, length, take, drop, Option, Some, None, IfSome, refl, ap, sym, subst, arith, inl, inr, append_assoc, length-append}
+use Rattle.std.proofs.Common.{◌≡◌, ◌∙◌, ℕ, ◌+◌, ◌-◌, ◌<◌, ◌≤◌, ◌^◌, List, [], ◌++◌, length, take, drop, Option, Some, None, IfSome, refl, ap, sym, subst, arith, inl, inr, length-append}
 use Rattle.std.proofs.lemmas.List.{take-append-drop, append-nil}
 use Rattle.block_disk.specs.Streams.{sent_after, left_after}
 use Rattle.block_disk.specs.View.{Image}
@@ -14,17 +14,13 @@ use Rattle.chart_world.specs.declared.line_answer.LineFault.{LineFault}
 use Rattle.chart_world.specs.declared.line_answer.LineFault.TheVariants as fault
 use Rattle.series_book.specs.declared.one_series.Series.{Series}
 use Rattle.stored_book.specs.Standing.{StandsForBook}
-use Rattle.retention.specs.declared.rule.Rule.{Rule}
-use Rattle.retain_command.specs.Answers.{AreRules, answers, book_behind}
+use Rattle.store_commands.specs.Books.{Stands}
+use Rattle.retain_command.specs.Answers.{AreRules, answers}
 use Rattle.retain_command.specs.Doing.{LineDone, LineStops, Untouched, end_of}
-use Rattle.retain_command.specs.Sweeping.{FirstRules, SweepsAll, SweepsFirst, SweepsTaken, SweepsWithin, EndsSo, left_by, said_to}
+use Rattle.retain_command.specs.Sweeping.{SweepsAll, SweepsFirst, SweepsTaken, EndsSo, left_by, said_to}
 use Rattle.retain_command.specs.declared.retain_end.RetainEnd.{RetainEnd}
 use Rattle.retain_command.specs.declared.retain_end.RetainEnd.TheVariants.{BadLine, UnknownSeries, ReadFault, SendFault, InputTooLong, DiskFault, Damaged, NoMemory}
-use Rattle.retain_command.proofs.RuleLemmas.{Progress, no_rules, starts, next_line, next_rule, empty_passed, rule_passed, spells_some, behind_more, answers_more}
-
--- the pages stand for the book
-abbrev pub Stands : ℕ → Image → List Series → Type 0
-Stands total image after = StandsForBook image total after
+use Rattle.retain_command.proofs.RuleLemmas.{Progress, no_rules, next_line, next_rule, empty_passed, rule_passed, spells_some, behind_more, answers_more}
 
 -- the lines so far were swept and answered
 pub record Going (total : ℕ) (book : List Series) (input : List ℕ) (bytes : Option (List ℕ)) (given : ℕ) (image : Image) (before now : Option (List ℕ)) : Type 0 where

@@ -1,5 +1,5 @@
 -- Where all lines of an input are rules, none is bad, and none names a series that isn't there.
-use Rattle.std.proofs.Common.{◌≡◌, ◌∙◌, ℕ, true, false, cond, List, [], ◌∷◌, ◌++◌, Option, Some, None, refl, ap, sym, subst}
+use Rattle.std.proofs.Common.{◌≡◌, ◌∙◌, ℕ, true, cond, List, [], ◌∷◌, ◌++◌, Option, Some, None, ap, subst}
 use Rattle.std.specs.List.{filter}
 use Rattle.chart_service.specs.Serving.{told}
 use Rattle.chart_world.specs.FrontLaws.{some_left, whole_front}

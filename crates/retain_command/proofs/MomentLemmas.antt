@@ -11,12 +11,14 @@ use Rattle.chart_world.specs.declared.line_answer.LineFault.{LineFault}
 use Rattle.chart_world.specs.declared.line_answer.LineFault.TheVariants as fault
 use Rattle.series_book.specs.declared.one_series.Series.{Series}
 use Rattle.stored_book.specs.Standing.{StandsForBook}
+use Rattle.store_commands.specs.Sides.{CountsSent}
+use Rattle.store_commands.specs.Books.{Stands}
 use Rattle.retain_command.specs.Doing.{DoesLine, LineMoment, end_of}
 use Rattle.retain_command.specs.Sweeping.{EndsSo, IsAhead, SweepsAll, left_by, said_to}
 use Rattle.retain_command.specs.declared.retain_end.RetainEnd.{RetainEnd}
 use Rattle.retain_command.specs.declared.retain_end.RetainEnd.TheVariants.{BadLine, NoMemory}
-use Rattle.retain_command.proofs.EndLemmas.{Going, Stands, goes_first, goes_kept, goes_line, line_ends, long_ends, all_swept, fault_ends, no_memory_first}
-use Rattle.retain_command.proofs.RuleLemmas.{Progress, no_rules, next_rule}
+use Rattle.retain_command.proofs.EndLemmas.{Going, goes_first, goes_kept, goes_line, line_ends, long_ends, all_swept, fault_ends, no_memory_first}
+use Rattle.retain_command.proofs.RuleLemmas.{no_rules, next_rule}
 
 -- at each moment since the start a crash leaves a book that is ahead of it
 abbrev pub AheadOf : ℕ → List Series → List ℕ → ℕ → Image → ℕ → Type 0
@@ -65,10 +67,6 @@ Far total book o bytes given image before now = IfSome o (λ input. Going total 
 
 abbrev pub LastsOn : ℕ → List Series → Option (List ℕ) → Option (List ℕ) → View → View → Type 0
 LastsOn total book o before start at = IfSome o (λ input. IfSome before (λ bytes. Lasts total book input start at))
-
--- as many bytes were sent as are told
-abbrev pub CountsSent : Option (List ℕ) → View → Type 0
-CountsSent sent at = IfSome sent (λ bytes. sent_now at ≡ length bytes)
 
 pub far_first : (total : ℕ) (book : List Series) (o : Option (List ℕ)) (r : Reading) (image : Image) (before : Option (List ℕ)) → r ≡ unread_input → StandsForBook image total book → Far total book o (unread r o) r.given image before before
 far_first total book None r image before fresh stands = tt

@@ -1,27 +1,17 @@
 -- The tokens of a line that is a rule.
-use Rattle.std.proofs.Common.{◌≡◌, ◌∙◌, ℕ, ℤ, ◌+◌, ◌-◌, ◌<◌, ◌≤◌, Bool, true, false, List, [], ◌∷◌, length, take, drop, Option, Some, None, IfSome, IsTrue, refl, ap, sym, subst, arith}
-use Rattle.std.specs.List.{slice_split, before_first, after_first, position_or_len}
-use Rattle.std.specs.Prelude.{position, is_some, slice_index}
+use Rattle.std.proofs.Common.{◌≡◌, ◌∙◌, ℕ, ℤ, ◌-◌, Bool, true, List, [], ◌∷◌, length, IsTrue, ap, sym, subst, arith}
+use Rattle.std.specs.Prelude.{slice_index}
 use Rattle.std.specs.Str.{bytes_eq}
 use Rattle.std.proofs.lemmas.Slice.Eq.{bytes_eq-Decides}
 use lib.Chars.{codes}
-use Rattle.std.proofs.lemmas.List.{length-drop, take_all}
-use Rattle.std.proofs.lemmas.List.Splits.{length-slice_split, slice_split_first, slice_split_none}
-use Rattle.std.proofs.lemmas.List.Sums.{fails_before_first}
-use Rattle.request_lines.proofs.TokenLemmas.{place_found, place_missing}
-use Rattle.request_lines.specs.Tokens.{is_space, tokens}
+use Rattle.request_lines.specs.Tokens.{tokens}
 use Rattle.series_book.specs.Names.{is_name}
 use Rattle.whole_number.proofs.Digits.{one_natural, one_integer}
 use Rattle.whole_number.specs.Spelling.{SpellsInteger, SpellsNatural}
 use Rattle.retention.specs.declared.rule.Rule.{Rule}
 use Rattle.retention.specs.declared.rule.Rule.TheVariants.{Before, Last, Free}
+use Rattle.store_commands.proofs.TokenLemmas.{first_same, rest_same, some_token}
 use Rattle.retain_command.specs.Rules.{Spells, SpellsWords}
-
-first_same : (one other : List ℕ) (ones others : List (List ℕ)) → one ∷ ones ≡ other ∷ others → one ≡ other
-first_same one other ones others is = cc
-
-rest_same : (one other : List ℕ) (ones others : List (List ℕ)) → one ∷ ones ≡ other ∷ others → ones ≡ others
-rest_same one other ones others is = cc
 
 -- the words of a rule are no other rule's
 words_one : (words : List (List ℕ)) (first second : Rule) → SpellsWords first words → SpellsWords second words → first ≡ second
@@ -62,10 +52,6 @@ one_rule line first second one two = words_one (tokens line) first second one tw
 two_one : (bytes first : List ℕ) (rest : List (List ℕ)) (name number : List ℕ) → tokens bytes ≡ name ∷ number ∷ [] → tokens bytes ≡ first ∷ rest → rest ≡ number ∷ []
 two_one bytes first rest name number two is = rest_same _ _ _ _ (sym is ∙ two)
 
--- the tokens of bytes are one at least
-some_token : (bytes : List ℕ) → 0 < length (tokens bytes)
-some_token bytes = omega (arith, length-slice_split is_space bytes)
-
 -- the second of two tokens has no space
 pub no_third : (bytes first number parts_first parts_rest : List ℕ) (name last : List ℕ) → tokens bytes ≡ first ∷ tokens number → tokens number ≡ parts_first ∷ tokens parts_rest → tokens bytes ≡ name ∷ last ∷ [] → ⊥
 no_third bytes first number parts_first parts_rest name last is more two =
@@ -87,11 +73,6 @@ none_last line word rest is same none (Free pages) spells =
     let other : codes "free" ≡ codes "last" = sym (first_same _ _ _ _ (sym is ∙ spells.1)) ∙ same in
     let byte : 102 ≡ 108 = ap (λ (l : List ℕ). slice_index l 0) other in
     absurd (omega (arith, byte))
-
--- what holds of what is there
-pub of_some : {T : Type 0} (o : Option T) (P : T → Type 0) (X : Type 0) → is_some o ≡ true → IfSome o P → ((t : T) → P t → X) → X
-of_some {T} None P X some is more = cc
-of_some {T} (Some t) P X some is more = more t is
 
 -- the word is this text, which was compared with it
 pub word_is : (word text spelled : List ℕ) (same : Bool) → same ≡ bytes_eq word text → same ≡ true → text ≡ spelled → word ≡ spelled

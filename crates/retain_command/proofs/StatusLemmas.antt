@@ -1,45 +1,36 @@
 -- How `retain` ends, by its status.
-use Rattle.std.proofs.Common.{◌≡◌, ◌≢◌, ◌∙◌, ℕ, zero, suc, ◌+◌, ◌≤◌, ◌<◌, ◌⊎◌, ◌^◌, List, [], ◌∷◌, length, Option, Some, None, Result, Ok, Err, IfSome, refl, ap, sym, subst, inl, inr, arith}
-use Rattle.std.specs.Prelude.{Contains}
-use Rattle.block_disk.specs.Counts.{HasRisen}
-use Rattle.block_disk.specs.View.{Image, View, Honest, sent_now}
+use Rattle.std.proofs.Common.{◌≡◌, ◌∙◌, ℕ, List, Option, Result, Ok, Err, IfSome, refl, sym, subst, inl, inr, arith}
+use Rattle.block_disk.specs.View.{View, sent_now}
 use Rattle.chart_service.specs.SentLaws.{sent_none}
 use Rattle.disk_store.specs.Held.{HoldsBook}
-use Rattle.disk_store.specs.Openings.{IsOutside, Opens, Prevents}
+use Rattle.disk_store.specs.Openings.{IsOutside, Prevents}
 use Rattle.disk_store.specs.declared.causes.OpeningCause.{OpeningCause}
 use Rattle.disk_store.specs.declared.causes.OpeningCause.TheVariants as opening
 use Rattle.gate_pages.specs.Journal.{page_count}
-use Rattle.gate_pages.specs.Pages.{GoesOn}
 use Rattle.series_book.specs.declared.one_series.Series.{Series}
 use Rattle.stored_book.specs.Standing.{RecoversTo}
 use Rattle.store_commands.proofs.InputLemmas.{any_told}
 use Rattle.store_commands.proofs.WorldLemmas.{IsUnopened}
 use Rattle.store_commands.proofs.Held.{held}
-use Rattle.store_commands.proofs.Moments.{opened_goes, opened_quiet, since_opened}
-use Rattle.store_commands.specs.Books.{HoldsAgain, Never, OfBook}
+use Rattle.store_commands.proofs.Moments.{opened_goes, since_opened}
+use Rattle.store_commands.specs.Books.{HoldsAgain, Never}
 use Rattle.store_commands.specs.Codes.{low_code, unopened}
 use Rattle.store_commands.specs.Status.{opening_status}
 use Rattle.store_commands.specs.declared.status.Status.{Status}
+use Rattle.store_commands.proofs.HoldsAgain.{again_told}
+use Rattle.chart_world.specs.LineLaws.{told_so}
 use Rattle.retain_command.specs.Retained.{LeavesSwept, RetainEnds, RetainsAll, RetainsSome}
 use Rattle.retain_command.specs.Retaining.{StopsAt, Swept, answer_status}
-use Rattle.retain_command.specs.Sweeping.{SweepsAll, SweepsFirst, left_by}
+use Rattle.retain_command.specs.Sweeping.{SweepsFirst}
 use Rattle.retain_command.specs.declared.retain_end.RetainEnd.{RetainEnd}
 use Rattle.retain_command.specs.declared.retain_end.RetainEnd.TheVariants.{BadLine, UnknownSeries, ReadFault, SendFault, InputTooLong, DiskFault, Damaged, NoMemory}
 use Rattle.retain_command.proofs.DiskLemmas.{ahead_none}
 use Rattle.retain_command.proofs.RuleLemmas.{no_rules}
 
-told_so : (o : Option (List ℕ)) (P Q : List ℕ → Type 0) → ((input : List ℕ) → P input → Q input) → IfSome o P → IfSome o Q
-told_so None P Q more is = tt
-told_so (Some input) P Q more is = more input is
-
 -- the lines of an input were swept over the store of a disk
 module _ (old new : View) (left left' before now : Option (List ℕ)) (reads reads_now sends sends_now : ℕ) where
   abbrev count : ℕ
   count = page_count old.size
-
-  -- where the disk held a book it holds one again
-  again : (S : ℕ → List Series → List ℕ → Type 0) → ((total : ℕ) (book : List Series) (input : List ℕ) → S total book input → (next : List Series) × HoldsBook count total next new) → IfSome left (λ input. OfBook count old (λ total book. S total book input)) → IfSome left (λ input. HoldsAgain count old new)
-  again S next is = told_so left (λ input. OfBook count old (λ total book. S total book input)) (λ input. HoldsAgain count old new) (λ input all total book holds. next total book input (all total book holds)) is
 
   abbrev Ends : Status → Type 0
   Ends end = RetainEnds old new left left' before now reads reads_now sends sends_now end.code end.place
@@ -66,7 +57,7 @@ module _ (old new : View) (left left' before now : Option (List ℕ)) (reads rea
     small = λ is. absurd (omega (arith, is));
     unknown = λ is. absurd (omega (arith, is));
     zero_place = λ is. refl;
-    holds = λ other. told_so left (λ input. RetainsAll count old new input before now) (λ input. HoldsAgain count old new) (λ input all total book holds. (_, (all total book holds).there)) s.done;
+    holds = λ other. told_so (λ input. RetainsAll count old new input before now) (λ input. HoldsAgain count old new) left (λ input all total book holds. (_, (all total book holds).there)) s.done;
     crash = s.crash;
     goes_on = s.goes_on;
   }
@@ -88,7 +79,7 @@ module _ (old new : View) (left left' before now : Option (List ℕ)) (reads rea
     small = λ is. absurd (omega (arith, is));
     unknown = λ is. absurd (omega (arith, is));
     zero_place = λ is. absurd (omega (arith, low_code 8 is));
-    holds = λ other. again (λ total book input. Rattle.retain_command.specs.Sweeping.EndsSo (Rattle.retain_command.specs.Retained.Holds count total new) total book input left' before now (BadLine at)) (λ total book input e. (_, e.swept.there)) s.stops;
+    holds = λ other. again_told count old new left (λ total book input. Rattle.retain_command.specs.Sweeping.EndsSo (Rattle.store_commands.specs.Books.Holds count total new) total book input left' before now (BadLine at)) (λ total book input e. (_, e.swept.there)) s.stops;
     crash = s.crash;
     goes_on = s.goes_on;
   }
@@ -110,7 +101,7 @@ module _ (old new : View) (left left' before now : Option (List ℕ)) (reads rea
     small = λ is. absurd (omega (arith, is));
     unknown = λ is. s.stops;
     zero_place = λ is. absurd (omega (arith, low_code 17 is));
-    holds = λ other. again (λ total book input. Rattle.retain_command.specs.Sweeping.EndsSo (Rattle.retain_command.specs.Retained.Holds count total new) total book input left' before now (UnknownSeries at)) (λ total book input e. (_, e.swept.there)) s.stops;
+    holds = λ other. again_told count old new left (λ total book input. Rattle.retain_command.specs.Sweeping.EndsSo (Rattle.store_commands.specs.Books.Holds count total new) total book input left' before now (UnknownSeries at)) (λ total book input e. (_, e.swept.there)) s.stops;
     crash = s.crash;
     goes_on = s.goes_on;
   }
@@ -132,7 +123,7 @@ module _ (old new : View) (left left' before now : Option (List ℕ)) (reads rea
     small = λ is. absurd (omega (arith, is));
     unknown = λ is. absurd (omega (arith, is));
     zero_place = λ is. refl;
-    holds = λ other. again (λ total book input. Rattle.retain_command.specs.Sweeping.EndsSo (Rattle.retain_command.specs.Retained.Holds count total new) total book input left' before now ReadFault) (λ total book input e. (_, e.swept.there)) s.stops;
+    holds = λ other. again_told count old new left (λ total book input. Rattle.retain_command.specs.Sweeping.EndsSo (Rattle.store_commands.specs.Books.Holds count total new) total book input left' before now ReadFault) (λ total book input e. (_, e.swept.there)) s.stops;
     crash = s.crash;
     goes_on = s.goes_on;
   }
@@ -154,7 +145,7 @@ module _ (old new : View) (left left' before now : Option (List ℕ)) (reads rea
     small = λ is. absurd (omega (arith, is));
     unknown = λ is. absurd (omega (arith, is));
     zero_place = λ is. refl;
-    holds = λ other. again (λ total book input. Rattle.retain_command.specs.Sweeping.EndsSo (Rattle.retain_command.specs.Retained.Holds count total new) total book input left' before now SendFault) (λ total book input e. (_, e.there)) s.stops;
+    holds = λ other. again_told count old new left (λ total book input. Rattle.retain_command.specs.Sweeping.EndsSo (Rattle.store_commands.specs.Books.Holds count total new) total book input left' before now SendFault) (λ total book input e. (_, e.there)) s.stops;
     crash = s.crash;
     goes_on = s.goes_on;
   }
@@ -172,11 +163,11 @@ module _ (old new : View) (left left' before now : Option (List ℕ)) (reads rea
     damaged = λ is. absurd (omega (arith, is));
     undamaged = λ is. absurd (omega (arith, is));
     bad = λ is. absurd (omega (arith, is));
-    much = λ is. told_so left (λ input. StopsAt count old new input left' before now InputTooLong) _ (λ input all. (refl, all)) s.stops;
+    much = λ is. told_so (λ input. StopsAt count old new input left' before now InputTooLong) _ left (λ input all. (refl, all)) s.stops;
     small = λ is. absurd (omega (arith, is));
     unknown = λ is. absurd (omega (arith, is));
     zero_place = λ is. absurd (omega (arith, low_code 9 is));
-    holds = λ other. again (λ total book input. Rattle.retain_command.specs.Sweeping.EndsSo (Rattle.retain_command.specs.Retained.Holds count total new) total book input left' before now InputTooLong) (λ total book input e. (_, e.swept.there)) s.stops;
+    holds = λ other. again_told count old new left (λ total book input. Rattle.retain_command.specs.Sweeping.EndsSo (Rattle.store_commands.specs.Books.Holds count total new) total book input left' before now InputTooLong) (λ total book input e. (_, e.swept.there)) s.stops;
     crash = s.crash;
     goes_on = s.goes_on;
   }
@@ -214,13 +205,13 @@ module _ (old new : View) (left left' before now : Option (List ℕ)) (reads rea
     fault = λ is. absurd (omega (arith, is));
     faulted = λ is. absurd (omega (arith, is));
     damaged = λ is. inr s.cause;
-    undamaged = λ is. told_so left (λ input. StopsAt count old new input left' before now (Damaged page)) (λ input. Never count old) (λ input all. all) s.stops;
+    undamaged = λ is. told_so (λ input. StopsAt count old new input left' before now (Damaged page)) (λ input. Never count old) left (λ input all. all) s.stops;
     bad = λ is. absurd (omega (arith, is));
     much = λ is. absurd (omega (arith, is));
     small = λ is. absurd (omega (arith, is));
     unknown = λ is. absurd (omega (arith, is));
     zero_place = λ is. absurd (omega (arith, low_code 7 is));
-    holds = λ other. again (λ total book input. Rattle.retain_command.specs.Sweeping.EndsSo (Rattle.retain_command.specs.Retained.Holds count total new) total book input left' before now (Damaged page)) (λ total book input e. absurd e) s.stops;
+    holds = λ other. again_told count old new left (λ total book input. Rattle.retain_command.specs.Sweeping.EndsSo (Rattle.store_commands.specs.Books.Holds count total new) total book input left' before now (Damaged page)) (λ total book input e. absurd e) s.stops;
     crash = s.crash;
     goes_on = s.goes_on;
   }
@@ -242,7 +233,7 @@ module _ (old new : View) (left left' before now : Option (List ℕ)) (reads rea
     small = λ is. absurd (omega (arith, is));
     unknown = λ is. absurd (omega (arith, is));
     zero_place = λ is. refl;
-    holds = λ other. again (λ total book input. Rattle.retain_command.specs.Sweeping.EndsSo (Rattle.retain_command.specs.Retained.Holds count total new) total book input left' before now NoMemory) (λ total book input e. elim e [ inl first ↦ (_, first.there) | inr amid ↦ (_, amid.there) ]) s.stops;
+    holds = λ other. again_told count old new left (λ total book input. Rattle.retain_command.specs.Sweeping.EndsSo (Rattle.store_commands.specs.Books.Holds count total new) total book input left' before now NoMemory) (λ total book input e. elim e [ inl first ↦ (_, first.there) | inr amid ↦ (_, amid.there) ]) s.stops;
     crash = s.crash;
     goes_on = s.goes_on;
   }

@@ -1,5 +1,5 @@
 -- What is done of one line, and what calls move. Private contracts are stated by these words.
-use Rattle.std.specs.Prelude.{◌≡◌, ◌≢◌, ℕ, ◌+◌, ◌<◌, ◌≤◌, ◌⊎◌, List, [], length, take, Option, Some, Result, Err, IfErr, IfSome, OnOk, ⊤}
+use Rattle.std.specs.Prelude.{◌≡◌, ℕ, ◌+◌, ◌<◌, ◌≤◌, ◌⊎◌, List, [], length, take, Option, Some, Result, IfErr, IfSome, OnOk, ⊤}
 use Rattle.block_disk.specs.Counts.{HasRisen}
 use Rattle.block_disk.specs.Streams.{sent_after, PartSent}
 use Rattle.block_disk.specs.View.{Image, View, sent_now}
@@ -145,6 +145,15 @@ pub record DoesLine {T : Type 0} (total : ℕ) (book : List Series) (text : List
   pub done : OnOk result (LineDone total book text new.image before now)
   pub stops : IfErr result (LineStops total book text at new.image before now)
   pub moments : IfSome before (λ bytes. Through old new (LineMoment total book text (sent_now old)))
+
+-- ---- the same over a store
+
+module _ {P : Type 0} {g : Ghosts P} {T : Type 0} (sent : P → Option (List ℕ)) where
+  abbrev pub DoesRuleOn : Rule → ℕ → Result T RetainEnd → Store P g → Store P g → ℕ → List Series → Type 0
+  DoesRuleOn rule at result old new total book = DoesRule total book rule at result (shown.view old) (shown.view new) (sent (shown.pages old)) (sent (shown.pages new))
+
+  abbrev pub DoesLineOn : List ℕ → ℕ → Result T RetainEnd → Store P g → Store P g → ℕ → List Series → Type 0
+  DoesLineOn text at result old new total book = DoesLine total book text at result (shown.view old) (shown.view new) (sent (shown.pages old)) (sent (shown.pages new))
 
 -- ---- what calls move, whatever the pages are
 

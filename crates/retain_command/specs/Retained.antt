@@ -1,23 +1,17 @@
 -- How `retain` ends over the store of a disk, by its status.
-use Rattle.std.specs.Prelude.{◌≡◌, ◌≢◌, ℕ, ◌+◌, ◌<◌, ◌≤◌, ◌⊎◌, ◌^◌, List, [], ◌∷◌, length, Contains, Option, IfSome}
+use Rattle.std.specs.Prelude.{◌≡◌, ◌≢◌, ℕ, ◌<◌, ◌≤◌, ◌⊎◌, ◌^◌, List, [], ◌∷◌, length, Contains, Option, IfSome}
 use Rattle.block_disk.specs.Counts.{HasRisen}
 use Rattle.block_disk.specs.View.{View, sent_now}
 use Rattle.chart_service.specs.Moments.{Since}
-use Rattle.disk_store.specs.Held.{HoldsBook}
 use Rattle.gate_pages.specs.Journal.{page_count}
 use Rattle.gate_pages.specs.Pages.{GoesOn}
-use Rattle.series_book.specs.declared.one_series.Series.{Series}
 use Rattle.stored_book.specs.Damage.{IsBadForRequest}
 use Rattle.stored_book.specs.Standing.{RecoversTo}
-use Rattle.store_commands.specs.Books.{HoldsAgain, Never, OfBook}
+use Rattle.store_commands.specs.Books.{HoldsAgain, Never, OfBook, Holds}
 use Rattle.store_commands.specs.Damaged.{IsDamagedAtFirst, IsDamagedLater}
 use Rattle.store_commands.specs.Traffic.{Traffic}
 use Rattle.store_commands.specs.declared.status.Status.{Status}
 use Rattle.retain_command.specs.Sweeping.{IsAhead, SweepsAll, SweepsLines, SweepsPart, SweepsSome, SweepsTaken, SweepsToBad, SweepsToUnknown, SweepsWithin}
-
--- the disk holds the book
-abbrev pub Holds : ℕ → ℕ → View → List Series → Type 0
-Holds count total disk book = HoldsBook count total book disk
 
 -- all lines of the input are rules, they were swept, and their answers were sent
 abbrev pub RetainsAll : ℕ → View → View → List ℕ → Option (List ℕ) → Option (List ℕ) → Type 0

@@ -1,15 +1,15 @@
 -- What is done over a store on a disk. Private contracts are stated by these words.
-use Rattle.std.specs.Prelude.{◌≡◌, ◌≢◌, ℕ, ◌+◌, ◌≤◌, ◌^◌, List, length, Option, Result, Ok, Err, IfErr, IfSome, OnOk, ⊤}
+use Rattle.std.specs.Prelude.{ℕ, ◌+◌, ◌≤◌, ◌^◌, List, length, Option, Result, Ok, Err, IfErr, IfSome, OnOk, ⊤}
 use Rattle.block_disk.specs.Counts.{HasRisen}
 use Rattle.block_disk.specs.View.{View}
 use Rattle.gate_pages.specs.Pages.{GoesOn}
 use Rattle.stored_book.specs.Damage.{IsBadForRequest}
-use Rattle.store_commands.specs.Books.{HoldsAgain, OfBook}
+use Rattle.store_commands.specs.Books.{OfBook, Holds}
 use Rattle.store_commands.specs.Damaged.{IsDamagedLater}
 use Rattle.store_commands.specs.Status.{status}
 use Rattle.store_commands.specs.Traffic.{Traffic}
 use Rattle.store_commands.specs.declared.status.Status.{Status}
-use Rattle.retain_command.specs.Retained.{Holds, LeavesSwept, RetainsAll}
+use Rattle.retain_command.specs.Retained.{LeavesSwept, RetainsAll}
 use Rattle.retain_command.specs.Sweeping.{EndsSo}
 use Rattle.retain_command.specs.declared.retain_end.RetainEnd.{RetainEnd}
 use Rattle.retain_command.specs.declared.retain_end.RetainEnd.TheVariants.{BadLine, UnknownSeries, ReadFault, SendFault, InputTooLong, DiskFault, Damaged, NoMemory}

@@ -1,5 +1,5 @@
 -- The lines of a store's streams, in the words of the store.
-use Rattle.std.specs.Prelude.{ℕ, List, Option, IfSome}
+use Rattle.std.specs.Prelude.{ℕ, List, IfSome}
 use Rattle.block_disk.specs.View.{sent_now}
 use Rattle.block_disk.specs.declared.streams.Streams as streams
 use Rattle.chart_service.specs.Moments.{Since}

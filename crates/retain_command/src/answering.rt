@@ -5,7 +5,7 @@ ghost use Rattle.block_disk.specs.Streams.{sent_after, PartSent};
 ghost use Rattle.series_store.specs.Shown as shown;
 ghost use Rattle.retain_command.specs.Answers.{swept_text};
 ghost use Rattle.store_commands.specs.Sides.{side_of};
-ghost use Rattle.retain_command.specs.Doing.{DoesLine, DoesRule, Goes, IsCause, TextStops, end_at};
+ghost use Rattle.retain_command.specs.Doing.{DoesLineOn, DoesRuleOn, Goes, IsCause, TextStops, end_at};
 
 use crate::retain_end::RetainEnd;
 use crate::rule_error::RuleError;
@@ -66,7 +66,7 @@ fn answer_rule<P: PageWorld>(
     rule: &Rule,
 ) -> Result<(), RetainEnd>
     requires sound { shown.IsSound store.old }
-    ensures does { shown.ForBook store.old (λ total book. DoesRule total book rule.now at result (shown.view store.old) (shown.view store.new) (P.sent (shown.pages store.old)) (P.sent (shown.pages store.new))) }
+    ensures does { shown.ForBook store.old (DoesRuleOn P.sent rule.now at result store.old store.new) }
     ensures goes { Goes (side_of P.Streams store.old) (side_of P.Streams store.new) }
     ensures cause { IfErr result (λ e. IsCause e (side_of P.Streams store.old) (side_of P.Streams store.new)) }
     ensures sound { result ≢ Err RetainEnd.DiskFault → shown.IsSound store.new }
@@ -86,7 +86,7 @@ pub(crate) fn answer_line<P: PageWorld>(
     line: &[u8],
 ) -> Result<(), RetainEnd>
     requires sound { shown.IsSound store.old }
-    ensures does { shown.ForBook store.old (λ total book. DoesLine total book line.now at result (shown.view store.old) (shown.view store.new) (P.sent (shown.pages store.old)) (P.sent (shown.pages store.new))) }
+    ensures does { shown.ForBook store.old (DoesLineOn P.sent line.now at result store.old store.new) }
     ensures goes { Goes (side_of P.Streams store.old) (side_of P.Streams store.new) }
     ensures cause { IfErr result (λ e. IsCause e (side_of P.Streams store.old) (side_of P.Streams store.new)) }
     ensures sound { result ≢ Err RetainEnd.DiskFault → shown.IsSound store.new }

@@ -1,9 +1,10 @@
 -- One clear of a rule is done.
-use Rattle.std.specs.Prelude.{ℕ, ◌≡◌, ◌⊎◌, Bool, true, false, List, [], Result, IfErr, OnOk, IfOk}
+use Rattle.std.specs.Prelude.{ℕ, ◌≡◌, ◌⊎◌, Bool, true, false, List, [], Result, Ok, IfErr, OnOk, IfOk}
 use Rattle.block_disk.specs.View.{Image, View, Passes}
 use Rattle.gate_pages.specs.Pages.{Quiet}
 use Rattle.series_book.specs.declared.edits.Edit.{Edit}
 use Rattle.series_book.specs.declared.one_series.Series.{Series}
+use Rattle.series_book.specs.Edits.{apply}
 use Rattle.series_store.specs.declared.errors.StoreError.{StoreError}
 use Rattle.series_store.specs.declared.errors.StoreError.TheVariants as store
 use Rattle.stored_book.specs.Standing.{StandsForBook}
@@ -37,6 +38,10 @@ pub record ClearsTo {T : Type 0} (total : ℕ) (book after : List Series) (resul
   pub done : OnOk result (StandsForBook new.image total after)
   pub stops : IfErr result (KeepsFor total book new.image)
   pub moments : Passes old new (IsOneOf total book after) (Quiet old)
+
+-- a call does a clear that the book accepts
+abbrev pub DoesClear : {T : Type 0} → Edit → Result T SweepError → View → View → ℕ → List Series → Type 0
+DoesClear clear result old new total book = (after : List Series) (slots : ℕ) → apply book total clear ≡ Ok (record { book = after; slots = slots }) → ClearsTo total book after result old new
 
 -- the next clear of the rule was done
 pub record DidNext (total : ℕ) (book : List Series) (rule : Rule) (image : Image) : Type 0 where

@@ -7,7 +7,7 @@ ghost use Rattle.series_book.specs.Edits.{IsEdit, apply};
 ghost use Rattle.series_store.specs.Shown as shown;
 ghost use Rattle.stored_book.specs.Standing.{StandsForBook};
 ghost use Rattle.retention.specs.Moving.{CarriesOn, LooksOnly};
-ghost use Rattle.retention.specs.Stepping.{ClearsTo, StepsSo, clear_error};
+ghost use Rattle.retention.specs.Stepping.{DoesClear, StepsSo, clear_error};
 ghost use Rattle.retention.specs.Sweeping.{FailsFor, IsNextOrNone, IsOutside, IsSoundFor, IsSwept, PassesSome, ReadFails, StopsSo};
 ghost use Rattle.retention.specs.Sweeps.{NamesNone};
 
@@ -56,7 +56,7 @@ fn next_clear<P: Pages>(store: &mut Store<P>, rule: &Rule) -> Result<Option<Edit
 fn do_clear<P: Pages>(store: &mut Store<P>, clear: &Edit) -> Result<(), SweepError>
     requires sound { shown.IsSound store.old }
     requires is_edit { IsEdit clear.now }
-    ensures done { shown.ForBook store.old (λ total book. (after : List Series) (slots : ℕ) → apply book total clear.now ≡ Ok (record { book = after; slots = slots }) → ClearsTo total book after result (shown.view store.old) (shown.view store.new)) }
+    ensures done { shown.ForBook store.old (DoesClear clear.now result (shown.view store.old) (shown.view store.new)) }
     ensures carries { CarriesOn store.old store.new }
     ensures syncs { (shown.view store.new).syncs ≤ (shown.view store.old).syncs + 4 }
     ensures cause { IfErr result (λ e. ReadFails e store.old store.new) }

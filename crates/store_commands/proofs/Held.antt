@@ -1,6 +1,5 @@
 -- What is done over the pages of a disk, in the words of the disk.
-use Rattle.std.proofs.Common.{◌≡◌, ℕ, ◌≤◌, List, refl, sym, subst, arith, inl, inr}
-use Rattle.block_disk.specs.Counts.{HasRisen}
+use Rattle.std.proofs.Common.{◌≡◌, ℕ, ◌≤◌, List, refl, sym, subst, arith}
 use Rattle.block_disk.specs.View.{Image, View, Now, Honest, DiskKept, Passes}
 use Rattle.block_disk.proofs.Passing.{now_back}
 use Rattle.gate_pages.specs.GateLaws.{closed_readable, kept_told}
@@ -44,11 +43,6 @@ within_held count total book disk holds = (holds.images disk.image holds.honest)
 -- an opening leaves the same book
 pub held : (old mid : View) → Opens (page_count old.size) old mid → (total : ℕ) (book : List Series) → HoldsBook (page_count old.size) total book old → HoldsBook (page_count old.size) total book mid
 held old mid opens total book holds = holds_on (page_count old.size) total book old mid holds opens
-
--- a count that has risen since a later moment has risen
-pub risen_since : (old mid new : ℕ) → old ≤ mid → HasRisen mid new → HasRisen old new
-risen_since old mid new low (inl more) = inl (omega (arith, low, more))
-risen_since old mid new low (inr most) = inr most
 
 -- a disk at rest holds the pages that it has
 pub holds_pages : (count total : ℕ) (IsSo : Image → Type 0) (disk : View) → IsClosed disk → Honest disk → total ≤ count → IsSo (pages_of count disk.image) → HoldsPages count total IsSo disk

@@ -32,7 +32,7 @@ returns g c =
     λ other.
     let P : g.row.W.Denot → Type 0 = λ d. IsClosed (view d) in
     subst P same_disk (c.disk_of.ensures.rests (subst IsTrue (sym (store_sound store after.store c.into_store.ensures)) (made.sound other))) in
-    let rests = rests_new pages.count (view disk) c.args.service.store.space.superblock (pages.at_rest c.requires.sound) (c.args.service.store.space.spelled c.requires.sound) in
+    let rests = rests_new pages.count (view disk) (shown.numbers c.args.service) (pages.at_rest c.requires.sound) (c.args.service.store.space.spelled c.requires.sound) in
     let all = serve_made pages.count end_pages.count pages.sound end_pages.sound (view disk) (view new) (left disk) (left new) (sent disk) (sent new) faults after.sessions made.serves.size made.serves.told made.goes_on made.serves.faults rests
     c.serve-answer.result own c.requires.alone made.done made.within made.ends made.crash closed
     (serve_causes pages.count end_pages.count (view disk) (view new) faults ⊥ c.serve-answer.result made.serves.size made.read made.send made.disk made.bad)

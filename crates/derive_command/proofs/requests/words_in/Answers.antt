@@ -1,5 +1,6 @@
 use Rattle.std.proofs.Common.{◌∙◌, sym}
-use Rattle.derive_command.proofs.SpellLemmas.{no_tenth, of_some}
+use Rattle.store_commands.proofs.TokenLemmas.{of_some}
+use Rattle.derive_command.proofs.SpellLemmas.{no_tenth}
 use Rattle.derive_command.proofs.requests.words_in.Goals as goal
 
 pub returns-then-is_some-clause-other : goal.returns-then-is_some-clause-other

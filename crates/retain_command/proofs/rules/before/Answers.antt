@@ -1,5 +1,3 @@
-use Rattle.std.proofs.Common.{Err, ap}
-use Rattle.retain_command.specs.declared.rule_error.RuleError.TheVariants.{NoRule}
 use Rattle.retain_command.proofs.rules.before.Goals as goal
 
 pub returns-in-Err-clause-none : goal.returns-in-Err-clause-none

@@ -1,5 +1,6 @@
 use Rattle.std.proofs.Common.{◌∙◌, sym}
-use Rattle.retain_command.proofs.SpellLemmas.{no_second, of_some}
+use Rattle.store_commands.proofs.TokenLemmas.{of_some}
+use Rattle.retain_command.proofs.SpellLemmas.{no_second}
 use Rattle.retain_command.proofs.rules.free.Goals as goal
 
 pub returns-then-is_some-clause-none : goal.returns-then-is_some-clause-none

@@ -1,5 +1,6 @@
 use Rattle.std.proofs.Common.{◌∙◌, sym}
-use Rattle.retain_command.proofs.SpellLemmas.{no_third, of_some}
+use Rattle.store_commands.proofs.TokenLemmas.{of_some}
+use Rattle.retain_command.proofs.SpellLemmas.{no_third}
 use Rattle.retain_command.proofs.rules.named.Goals as goal
 
 pub returns-then-is_some-clause-none : goal.returns-then-is_some-clause-none
