@@ -15,6 +15,7 @@ impl MemDisk {
         ensures named { IsErr result ↔ Contains self.old.fails.items self.old.calls }
         ensures counted { self.new.calls ≡ counted self.old.calls }
         ensures cause { OnErr result (HasRisen self.old.faults self.new.faults) }
+        ensures quiet { OnOk result (self.new.faults ≡ self.old.faults) }
         ensures faults { self.old.faults ≤ self.new.faults }
         ensures record { self.new.record.items ≡ self.old.record.items }
         ensures blocks { self.new.blocks ≡ self.old.blocks }
@@ -37,6 +38,7 @@ impl MemDisk {
         ensures ok { OnOk result (self.new.record.items ≡ self.old.record.items ++ call ∷ []) }
         ensures err { OnErr result (self.new.record.items ≡ self.old.record.items) }
         ensures cause { OnErr result (HasRisen self.old.faults self.new.faults) }
+        ensures quiet { OnOk result (self.new.faults ≡ self.old.faults) }
         ensures faults { self.old.faults ≤ self.new.faults }
         ensures blocks { self.new.blocks ≡ self.old.blocks }
         ensures bytes { self.new.bytes.items ≡ self.old.bytes.items }

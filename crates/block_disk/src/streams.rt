@@ -39,6 +39,7 @@ pub trait Streams: Drop {
         ensures left_on_err { OnErr result (left self.new ≡ left self.old) }
         // a fault has its cause in the count, and no count falls
         ensures cause { OnErr result (HasRisen (read_faults self.old) (read_faults self.new)) }
+        ensures quiet { OnOk result (read_faults self.new ≡ read_faults self.old) }
         ensures read_faults { read_faults self.old ≤ read_faults self.new }
         // a take that gave a byte is counted, and no other
         ensures piece { IfOk result (λ count. 0 < count → pieces self.new ≡ counted (pieces self.old)) }
@@ -54,6 +55,7 @@ pub trait Streams: Drop {
         ensures whole { OnOk result (sent self.new ≡ sent_after piece.now (sent self.old)) }
         ensures part { OnErr result (PartSent piece.now (sent self.old) (sent self.new)) }
         ensures cause { OnErr result (HasRisen (send_faults self.old) (send_faults self.new)) }
+        ensures quiet { OnOk result (send_faults self.new ≡ send_faults self.old) }
         ensures send_faults { send_faults self.old ≤ send_faults self.new }
         // the other stream stays
         ensures left { left self.new ≡ left self.old }

@@ -7,6 +7,8 @@ mod faults;
 #[cfg(test)]
 mod frames;
 #[cfg(test)]
+mod long_series;
+#[cfg(test)]
 mod plans;
 #[cfg(test)]
 mod reads;

@@ -124,6 +124,7 @@ impl Feed {
         ensures taken_on_err { OnErr result (self.new.taken ≡ self.old.taken) }
         ensures spill { self.new.spill.items ≡ self.old.spill.items }
         ensures cause { OnErr result (HasRisen (S.read_faults from.old) (S.read_faults from.new)) }
+        ensures quiet { OnOk result (S.read_faults from.new ≡ S.read_faults from.old) }
         ensures sent { S.sent from.new ≡ S.sent from.old }
         ensures send_faults { S.send_faults from.new ≡ S.send_faults from.old }
         ensures read_faults { S.read_faults from.old ≤ S.read_faults from.new }

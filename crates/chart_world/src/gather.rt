@@ -1,5 +1,5 @@
 //! A line that goes on past the piece that it begins in.
-ghost use Rattle.std.specs.Prelude.{◌≡◌, ◌≤◌, ◌<◌, ◌+◌, ◌-◌, ◌^◌, [], IfSome, IfOk, OnOk, OnErr};
+ghost use Rattle.std.specs.Prelude.{◌≡◌, ◌≢◌, ◌≤◌, ◌<◌, ◌+◌, ◌-◌, ◌^◌, [], IfSome, IfOk, OnOk, OnErr};
 ghost use Rattle.block_disk.specs.Counts.{HasRisen};
 ghost use Rattle.block_disk.specs.Streams.{left_after};
 ghost use Rattle.chart_world.specs.Feed.{pending_of, given_of, HasLine, Gathered};
@@ -21,6 +21,7 @@ impl Feed {
         ensures passes_none { result ≡ Ok None → given_of self.new ≡ given_of self.old }
         ensures within { OnOk result (given_of self.new ≤ 2 ^ 32) }
         ensures read_fault { result ≡ Err LineFault.ReadFault → HasRisen (S.read_faults from.old) (S.read_faults from.new) }
+        ensures quiet { result ≢ Err LineFault.ReadFault → S.read_faults from.new ≡ S.read_faults from.old }
         ensures read_before { result ≡ Err LineFault.ReadFault → NoLineIn (self.new.taken - given_of self.old) (in_front_of (pending_of self.old) (S.left from.old)) }
         ensures read_within { result ≡ Err LineFault.ReadFault → self.new.taken ≤ 2 ^ 32 }
         ensures past { result ≡ Err LineFault.InputTooLong → 2 ^ 32 < self.new.taken }

@@ -120,6 +120,7 @@ impl Lines {
         ensures no_line { result ≢ Ok LineAnswer.Line → self.new.line ≡ [] }
         // at a fault each line that could come before it has come
         ensures read_fault { result ≡ Err LineFault.ReadFault → HasRisen (S.read_faults from.old) (S.read_faults from.new) }
+        ensures quiet { result ≢ Err LineFault.ReadFault → S.read_faults from.new ≡ S.read_faults from.old }
         ensures read_before { result ≡ Err LineFault.ReadFault → NoLineIn (self.new.taken - self.old.given) (unread self.old (S.left from.old)) }
         ensures read_within { result ≡ Err LineFault.ReadFault → self.new.taken ≤ 2 ^ 32 }
         ensures past { result ≡ Err LineFault.InputTooLong → 2 ^ 32 < self.new.taken }

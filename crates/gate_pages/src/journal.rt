@@ -20,6 +20,7 @@ fn write_images<D: Disk>(disk: &mut D, batch: &Batch) -> Result<(), Failed>
     ensures moves { Moves IsJournal 0 0 (length (entries batch.now)) (D.view disk.old) (D.view disk.new) }
     ensures images { Honest (D.view disk.old) → OnOk result ((k : ℕ) → k < length (entries batch.now) → (D.view disk.new).image (2 + k) ≡ (slice_index_or (entries batch.now) k (0, [])).1) }
     ensures cause { OnErr result (HasRisen (D.view disk.old).faults (D.view disk.new).faults) }
+    ensures quiet { OnOk result ((D.view disk.new).faults ≡ (D.view disk.old).faults) }
 {
     for i in 0..batch.len() {
         let page = batch.page(i);
@@ -35,6 +36,7 @@ fn write_journal<D: Disk>(disk: &mut D, buffer: &mut [u8], batch: &Batch) -> Res
     ensures moves { Moves IsJournal 0 0 (length (entries batch.now) + 1) (D.view disk.old) (D.view disk.new) }
     ensures holds { Honest (D.view disk.old) → OnOk result (HoldsBatch (entries batch.now) (D.view disk.new).image) }
     ensures cause { OnErr result (HasRisen (D.view disk.old).faults (D.view disk.new).faults) }
+    ensures quiet { OnOk result ((D.view disk.new).faults ≡ (D.view disk.old).faults) }
 {
     write_images(disk, batch)?;
     write_directory(buffer, batch);
@@ -49,6 +51,7 @@ pub(crate) fn write_gate<D: Disk>(disk: &mut D, buffer: &mut [u8], byte: u8) -> 
     ensures moves { Moves (At 0) 0 0 1 (D.view disk.old) (D.view disk.new) }
     ensures gate { Honest (D.view disk.old) → OnOk result (is_open ((D.view disk.new).image 0) ≡ (byte == 1)) }
     ensures cause { OnErr result (HasRisen (D.view disk.old).faults (D.view disk.new).faults) }
+    ensures quiet { OnOk result ((D.view disk.new).faults ≡ (D.view disk.old).faults) }
 {
     buffer.fill(0);
     buffer[0] = byte;
@@ -62,6 +65,7 @@ fn write_pages<D: Disk>(disk: &mut D, batch: &Batch) -> Result<(), Failed>
     ensures moves { Moves (IsHome (numbers (entries batch.now))) 0 0 (length (entries batch.now)) (D.view disk.old) (D.view disk.new) }
     ensures home { Honest (D.view disk.old) → OnOk result (home (D.view disk.new).image ≡ put_all (entries batch.now) (home (D.view disk.old).image)) }
     ensures cause { OnErr result (HasRisen (D.view disk.old).faults (D.view disk.new).faults) }
+    ensures quiet { OnOk result ((D.view disk.new).faults ≡ (D.view disk.old).faults) }
 {
     for i in 0..batch.len() {
         let page = batch.page(i);
@@ -78,6 +82,7 @@ fn stage<D: Disk>(disk: &mut D, buffer: &mut [u8], batch: &Batch) -> Result<(), 
     ensures durable { OnOk result (Only (D.view disk.new).image (Now (D.view disk.new))) }
     ensures holds { Honest (D.view disk.old) → OnOk result (HoldsBatch (entries batch.now) (D.view disk.new).image) }
     ensures cause { OnErr result (HasRisen (D.view disk.old).faults (D.view disk.new).faults) }
+    ensures quiet { OnOk result ((D.view disk.new).faults ≡ (D.view disk.old).faults) }
 {
     write_journal(disk, buffer, batch)?;
     disk.sync()?; // the whole journal, before the gate opens
@@ -92,6 +97,7 @@ pub(crate) fn set_gate<D: Disk>(disk: &mut D, buffer: &mut [u8], byte: u8) -> Re
     ensures durable { OnOk result (Only (D.view disk.new).image (Now (D.view disk.new))) }
     ensures gate { Honest (D.view disk.old) → OnOk result (is_open ((D.view disk.new).image 0) ≡ (byte == 1)) }
     ensures cause { OnErr result (HasRisen (D.view disk.old).faults (D.view disk.new).faults) }
+    ensures quiet { OnOk result ((D.view disk.new).faults ≡ (D.view disk.old).faults) }
 {
     write_gate(disk, buffer, byte)?;
     disk.sync()?; // the gate, before anything else is written
@@ -105,6 +111,7 @@ fn bring_home<D: Disk>(disk: &mut D, batch: &Batch) -> Result<(), Failed>
     ensures durable { OnOk result (Only (D.view disk.new).image (Now (D.view disk.new))) }
     ensures home { Honest (D.view disk.old) → OnOk result (home (D.view disk.new).image ≡ put_all (entries batch.now) (home (D.view disk.old).image)) }
     ensures cause { OnErr result (HasRisen (D.view disk.old).faults (D.view disk.new).faults) }
+    ensures quiet { OnOk result ((D.view disk.new).faults ≡ (D.view disk.old).faults) }
 {
     write_pages(disk, batch)?;
     disk.sync()?; // all pages, before the gate closes
@@ -122,6 +129,7 @@ pub(crate) fn redo<D: Disk>(disk: &mut D, buffer: &mut [u8], batch: &Batch) -> R
     ensures closed { OnOk result (IsClosed (D.view disk.new)) }
     ensures done { Honest (D.view disk.old) → OnOk result (home (D.view disk.new).image ≡ put_all (entries batch.now) (home (D.view disk.old).image)) }
     ensures cause { OnErr result (HasRisen (D.view disk.old).faults (D.view disk.new).faults) }
+    ensures quiet { OnOk result ((D.view disk.new).faults ≡ (D.view disk.old).faults) }
 {
     stage(disk, buffer, batch)?;
     set_gate(disk, buffer, OPEN)?;

@@ -20,6 +20,8 @@ impl<D: Disk> GatePages<D> {
         // each cause, and what it leaves
         ensures cause { IfErr result (λ back. Explains back.cause (D.view disk) (D.view back.value)) }
         ensures left { IfErr result (λ back. Leaves back.cause (D.view disk) (D.view back.value)) }
+        ensures quiet { IfOk result (λ pages. (D.view pages.disk).faults ≡ (D.view disk).faults) }
+        ensures quiet_err { IfErr result (λ back. back.cause ≢ OpenCause.DiskFault → (D.view back.value).faults ≡ (D.view disk).faults) }
         ensures no_memory { IfErr result (λ back. back.cause ≡ OpenCause.NoMemory → back.value ≡ disk) }
         ensures large { IfOk result (λ pages. 128 ≤ (D.view disk).size) }
         ensures journal { IfOk result (λ pages. Honest (D.view disk) → IsBroken (page_count (D.view disk).size) (D.view disk).image → ⊥) }
@@ -49,6 +51,8 @@ impl<D: Disk> GatePages<D> {
     pub fn format(alloc: Global, mut disk: D) -> Result<GatePages<D>, OpenError<D>>
         ensures cause { IfErr result (λ back. Explains back.cause (D.view disk) (D.view back.value)) }
         ensures left { IfErr result (λ back. Leaves back.cause (D.view disk) (D.view back.value)) }
+        ensures quiet { IfOk result (λ pages. (D.view pages.disk).faults ≡ (D.view disk).faults) }
+        ensures quiet_err { IfErr result (λ back. back.cause ≢ OpenCause.DiskFault → (D.view back.value).faults ≡ (D.view disk).faults) }
         ensures no_memory { IfErr result (λ back. back.cause ≡ OpenCause.NoMemory → back.value ≡ disk) }
         ensures never_bad { IfErr result (λ back. back.cause ≢ OpenCause.BadDirectory) }
         ensures large { IfOk result (λ pages. 128 ≤ (D.view disk).size) }
@@ -83,6 +87,8 @@ impl<D: Disk> GatePages<D> {
 fn opened<D: Disk>(alloc: Global, disk: &mut D) -> Result<(Vec<u8>, u32), OpenCause>
     ensures cause { IfErr result (λ cause. Explains cause (D.view disk.old) (D.view disk.new)) }
     ensures left { IfErr result (λ cause. Leaves cause (D.view disk.old) (D.view disk.new)) }
+    ensures quiet { IfOk result (λ found. (D.view disk.new).faults ≡ (D.view disk.old).faults) }
+    ensures quiet_err { IfErr result (λ cause. cause ≢ OpenCause.DiskFault → (D.view disk.new).faults ≡ (D.view disk.old).faults) }
     ensures no_memory { IfErr result (λ cause. cause ≡ OpenCause.NoMemory → disk.new ≡ disk.old) }
     ensures large { IfOk result (λ found. 128 ≤ (D.view disk.old).size) }
     ensures journal { IfOk result (λ found. Honest (D.view disk.old) → IsBroken found.1 (D.view disk.old).image → ⊥) }
@@ -106,6 +112,8 @@ fn opened<D: Disk>(alloc: Global, disk: &mut D) -> Result<(Vec<u8>, u32), OpenCa
 fn formatted<D: Disk>(alloc: Global, disk: &mut D) -> Result<(Vec<u8>, u32), OpenCause>
     ensures cause { IfErr result (λ cause. Explains cause (D.view disk.old) (D.view disk.new)) }
     ensures left { IfErr result (λ cause. Leaves cause (D.view disk.old) (D.view disk.new)) }
+    ensures quiet { IfOk result (λ found. (D.view disk.new).faults ≡ (D.view disk.old).faults) }
+    ensures quiet_err { IfErr result (λ cause. cause ≢ OpenCause.DiskFault → (D.view disk.new).faults ≡ (D.view disk.old).faults) }
     ensures no_memory { IfErr result (λ cause. cause ≡ OpenCause.NoMemory → disk.new ≡ disk.old) }
     ensures never_bad { IfErr result (λ cause. cause ≢ OpenCause.BadDirectory) }
     ensures large { IfOk result (λ found. 128 ≤ (D.view disk.old).size) }

@@ -12,7 +12,7 @@ use crate::errors::DiskFault;
 
 /// Pages of 4,096 bytes. A crash leaves the pages from before a commit or those from after it.
 ///
-/// `get` and `commit` take no memory. `DiskFault` comes only where the count of faults has risen.
+/// `get` and `commit` take no memory. `DiskFault` comes exactly where a fault is counted.
 pub trait Pages: Drop {
     /// The pages, and what a crash at each moment so far may leave of them. They are fit where they
     /// are sound.
@@ -40,7 +40,8 @@ pub trait Pages: Drop {
         ensures page { told self.old → OnOk result (out.new ≡ (view self.old).image p) }
         ensures reads { Reads (told self.old) (told self.new) (view self.old) (view self.new) }
         ensures goes_on { GoesOn (under self.old) (under self.new) }
-        ensures cause { OnErr result (HasRisen (view self.old).faults (view self.new).faults) };
+        ensures cause { OnErr result (HasRisen (view self.old).faults (view self.new).faults) }
+        ensures quiet { OnOk result ((view self.new).faults ≡ (view self.old).faults) };
 
     /// Commits a batch. After `DiskFault` the pages aren't sound, and have to be opened again.
     fn commit(&mut self, batch: &Batch) -> Result<(), DiskFault>
@@ -56,7 +57,8 @@ pub trait Pages: Drop {
         // an empty commit does nothing
         ensures empty_ok { entries batch.now ≡ [] → IsOk result }
         ensures empty { entries batch.now ≡ [] → self.new ≡ self.old }
-        ensures cause { OnErr result (HasRisen (view self.old).faults (view self.new).faults) };
+        ensures cause { OnErr result (HasRisen (view self.old).faults (view self.new).faults) }
+        ensures quiet { OnOk result ((view self.new).faults ≡ (view self.old).faults) };
 
     /// While the pages are sound a crash leaves them as they are.
     ghost rests: { (pages : Self) → (view pages).fit → Only (view pages).image (Now (view pages)) };

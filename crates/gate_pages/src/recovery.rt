@@ -22,6 +22,8 @@ pub(crate) fn pages_on<D: Disk>(disk: &mut D) -> Result<u32, OpenCause>
     ensures large { OnOk result (128 ≤ (D.view disk.old).size) }
     ensures cause { IfErr result (λ cause. Explains cause (D.view disk.old) (D.view disk.new)) }
     ensures left { IfErr result (λ cause. Leaves cause (D.view disk.old) (D.view disk.new)) }
+    ensures quiet { OnOk result ((D.view disk.new).faults ≡ (D.view disk.old).faults) }
+    ensures quiet_err { IfErr result (λ cause. cause ≢ OpenCause.DiskFault → (D.view disk.new).faults ≡ (D.view disk.old).faults) }
     ensures whole { IfErr result (λ cause. cause ≢ OpenCause.BadDirectory) }
     ensures no_memory { IfErr result (λ cause. cause ≡ OpenCause.NoMemory → disk.new ≡ disk.old) }
 {
@@ -42,6 +44,7 @@ fn copy_images<D: Disk>(disk: &mut D, buffer: &mut [u8], numbers: &[u32]) -> Res
     ensures moves { Moves (IsHome numbers.now) (length numbers.now) 0 (length numbers.now) (D.view disk.old) (D.view disk.new) }
     ensures home { Honest (D.view disk.old) → OnOk result (home (D.view disk.new).image ≡ put_all (images numbers.now 2 (D.view disk.old).image) (home (D.view disk.old).image)) }
     ensures cause { OnErr result (HasRisen (D.view disk.old).faults (D.view disk.new).faults) }
+    ensures quiet { OnOk result ((D.view disk.new).faults ≡ (D.view disk.old).faults) }
 {
     for i in 0..numbers.len() {
         let number = numbers[i];
@@ -62,6 +65,7 @@ fn copy_home<D: Disk>(disk: &mut D, buffer: &mut [u8], numbers: &[u32]) -> Resul
     ensures durable { OnOk result (Only (D.view disk.new).image (Now (D.view disk.new))) }
     ensures home { Honest (D.view disk.old) → OnOk result (home (D.view disk.new).image ≡ put_all (images numbers.now 2 (D.view disk.old).image) (home (D.view disk.old).image)) }
     ensures cause { OnErr result (HasRisen (D.view disk.old).faults (D.view disk.new).faults) }
+    ensures quiet { OnOk result ((D.view disk.new).faults ≡ (D.view disk.old).faults) }
 {
     copy_images(disk, buffer, numbers)?;
     disk.sync()?; // all pages, before the gate closes
@@ -82,6 +86,7 @@ fn replay<D: Disk>(disk: &mut D, buffer: &mut [u8], numbers: &[u32]) -> Result<(
     ensures closed { OnOk result (IsClosed (D.view disk.new)) }
     ensures done { (count : ℕ) → Honest (D.view disk.old) → Lists count numbers.now (D.view disk.old) → OnOk result (IsReplayed count (D.view disk.old) (D.view disk.new)) }
     ensures cause { OnErr result (HasRisen (D.view disk.old).faults (D.view disk.new).faults) }
+    ensures quiet { OnOk result ((D.view disk.new).faults ≡ (D.view disk.old).faults) }
 {
     copy_home(disk, buffer, numbers)?;
     set_gate(disk, buffer, CLOSED)?;
@@ -103,6 +108,8 @@ pub(crate) fn recover<D: Disk>(disk: &mut D, buffer: &mut [u8], count: u32) -> R
     ensures no_memory { IfErr result (λ cause. cause ≢ OpenCause.NoMemory) }
     ensures cause { IfErr result (λ cause. Explains cause (D.view disk.old) (D.view disk.new)) }
     ensures left { IfErr result (λ cause. Leaves cause (D.view disk.old) (D.view disk.new)) }
+    ensures quiet { OnOk result ((D.view disk.new).faults ≡ (D.view disk.old).faults) }
+    ensures quiet_err { IfErr result (λ cause. cause ≢ OpenCause.DiskFault → (D.view disk.new).faults ≡ (D.view disk.old).faults) }
 {
     disk.sync()?; // what an earlier run left pending
     disk.read_block(GATE, buffer)?;
@@ -124,6 +131,7 @@ pub(crate) fn shut<D: Disk>(disk: &mut D, buffer: &mut [u8]) -> Result<(), Faile
     ensures moves { Moves (At 0) 0 1 1 (D.view disk.old) (D.view disk.new) }
     ensures closed { OnOk result (IsClosed (D.view disk.new)) }
     ensures cause { OnErr result (HasRisen (D.view disk.old).faults (D.view disk.new).faults) }
+    ensures quiet { OnOk result ((D.view disk.new).faults ≡ (D.view disk.old).faults) }
 {
     set_gate(disk, buffer, CLOSED)?;
     Ok(())

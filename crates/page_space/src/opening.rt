@@ -1,5 +1,5 @@
 //! A space is made, and opened.
-ghost use Rattle.std.specs.Prelude.{◌≡◌, ◌≤◌, ℕ, [], None, IfOk, IfErr, OnOk};
+ghost use Rattle.std.specs.Prelude.{◌≡◌, ◌≢◌, ◌≤◌, ℕ, [], None, IfOk, IfErr, OnOk};
 ghost use Rattle.block_disk.specs.Blocks.{IsBlock};
 ghost use Rattle.gate_pages.specs.Batch.{put_all};
 ghost use Rattle.gate_pages.specs.Pages.{Reads, Commits, GoesOn};
@@ -30,6 +30,8 @@ impl<P: Pages> Space<P> {
         requires sound { (P.view pages).fit }
         requires many { 62 ≤ (P.view pages).size }
         ensures cause { IfErr result (λ back. Uninitialized back.cause (P.view pages) (P.view back.value)) }
+        ensures quiet { IfOk result (λ space. (shown.view space).faults ≡ (P.view pages).faults) }
+        ensures quiet_err { IfErr result (λ back. back.cause ≢ SpaceError.DiskFault → (P.view back.value).faults ≡ (P.view pages).faults) }
         ensures no_memory { IfErr result (λ back. back.cause ≡ SpaceError.NoMemory → back.value ≡ pages) }
         ensures unsound { IfErr result (λ back. back.cause ≡ SpaceError.DiskFault → (P.view back.value).fit → ⊥) }
         // whole or absent at every moment
@@ -70,6 +72,8 @@ impl<P: Pages> Space<P> {
         requires sound { (P.view pages).fit }
         requires many { 62 ≤ (P.view pages).size }
         ensures cause { IfErr result (λ back. Unopened back.cause (P.told pages) (P.view pages) (P.view back.value)) }
+        ensures quiet { IfOk result (λ space. (shown.view space).faults ≡ (P.view pages).faults) }
+        ensures quiet_err { IfErr result (λ back. back.cause ≢ SpaceError.DiskFault → (P.view back.value).faults ≡ (P.view pages).faults) }
         ensures reads { Reads (P.told pages) (P.told (pages_in result)) (P.view pages) (P.view (pages_in result)) }
         ensures goes_on { GoesOn (P.under pages) (P.under (pages_in result)) }
         ensures superblock { IfOk result (λ space. P.told pages → Keeps (P.view pages).size (shown.numbers space) ((P.view pages).image 0)) }
@@ -103,6 +107,8 @@ fn write_first<P: Pages>(alloc: Global, pages: &mut P) -> Result<Superblock, Spa
     requires sound { (P.view pages.old).fit }
     requires many { 62 ≤ (P.view pages.old).size }
     ensures cause { IfErr result (λ cause. Uninitialized cause (P.view pages.old) (P.view pages.new)) }
+    ensures quiet { OnOk result ((P.view pages.new).faults ≡ (P.view pages.old).faults) }
+    ensures quiet_err { IfErr result (λ cause. cause ≢ SpaceError.DiskFault → (P.view pages.new).faults ≡ (P.view pages.old).faults) }
     ensures no_memory { IfErr result (λ cause. cause ≡ SpaceError.NoMemory → pages.new ≡ pages.old) }
     ensures unsound { IfErr result (λ cause. cause ≡ SpaceError.DiskFault → (P.view pages.new).fit → ⊥) }
     ensures goes_on { GoesOn (P.under pages.old) (P.under pages.new) }
@@ -121,6 +127,8 @@ fn read_first<P: Pages>(alloc: Global, pages: &mut P) -> Result<Superblock, Spac
     requires sound { (P.view pages.old).fit }
     requires many { 62 ≤ (P.view pages.old).size }
     ensures cause { IfErr result (λ cause. Unopened cause (P.told pages.old) (P.view pages.old) (P.view pages.new)) }
+    ensures quiet { OnOk result ((P.view pages.new).faults ≡ (P.view pages.old).faults) }
+    ensures quiet_err { IfErr result (λ cause. cause ≢ SpaceError.DiskFault → (P.view pages.new).faults ≡ (P.view pages.old).faults) }
     ensures reads { Reads (P.told pages.old) (P.told pages.new) (P.view pages.old) (P.view pages.new) }
     ensures goes_on { GoesOn (P.under pages.old) (P.under pages.new) }
     ensures superblock { IfOk result (λ s. P.told pages.old → Keeps (P.view pages.old).size s ((P.view pages.old).image 0)) }
@@ -137,6 +145,8 @@ fn first_in<P: Pages>(pages: &mut P, page: &mut [u8]) -> Result<Superblock, Spac
     requires many { 62 ≤ (P.view pages.old).size }
     requires whole { IsBlock page.old }
     ensures cause { IfErr result (λ cause. Unopened cause (P.told pages.old) (P.view pages.old) (P.view pages.new)) }
+    ensures quiet { OnOk result ((P.view pages.new).faults ≡ (P.view pages.old).faults) }
+    ensures quiet_err { IfErr result (λ cause. cause ≢ SpaceError.DiskFault → (P.view pages.new).faults ≡ (P.view pages.old).faults) }
     ensures reads { Reads (P.told pages.old) (P.told pages.new) (P.view pages.old) (P.view pages.new) }
     ensures goes_on { GoesOn (P.under pages.old) (P.under pages.new) }
     ensures superblock { IfOk result (λ s. P.told pages.old → Keeps (P.view pages.old).size s ((P.view pages.old).image 0)) }

@@ -94,6 +94,7 @@ impl<P: Pages> Space<P> {
         ensures goes_on { shown.TimeGoesOn self.old self.new }
         ensures superblock { shown.numbers self.new ≡ shown.numbers self.old }
         ensures cause { OnErr result (HasRisen (shown.view self.old).faults (shown.view self.new).faults) }
+        ensures quiet { OnOk result ((shown.view self.new).faults ≡ (shown.view self.old).faults) }
         // a page that is held is read without the disk
         ensures hit { shown.Holds self.old p → IsOk result × (self.new ≡ self.old) }
         // a page that was read is held, and the other places hold what they held
@@ -134,6 +135,7 @@ impl<P: Pages> Space<P> {
         ensures goes_on { shown.TimeGoesOn self.old self.new }
         ensures superblock { shown.numbers self.new ≡ shown.numbers self.old }
         ensures cause { OnErr result (HasRisen (shown.view self.old).faults (shown.view self.new).faults) }
+        ensures quiet { OnOk result ((shown.view self.new).faults ≡ (shown.view self.old).faults) }
         // else as get does
         ensures hit { shown.Holds self.old p → IsOk result × (self.new ≡ self.old) }
         ensures kept { held_page txn.now p ≡ None → OnOk result (shown.copies self.new p ≡ Some out.new) }
@@ -221,6 +223,7 @@ impl<P: Pages> Space<P> {
         ensures sound { OnOk result (shown.IsSound self.new) }
         ensures unsound { OnErr result (shown.IsSound self.new → ⊥) }
         ensures cause { OnErr result (HasRisen (shown.view self.old).faults (shown.view self.new).faults) }
+        ensures quiet { OnOk result ((shown.view self.new).faults ≡ (shown.view self.old).faults) }
         // a page that was held still is, with its new bytes; after a fault with its old ones
         ensures held { OnOk result ((p : ℕ) → shown.copies self.new p ≡ renewed (held txn) (shown.copies self.old) p) }
         ensures old_held { OnErr result ((p : ℕ) → shown.copies self.new p ≡ shown.copies self.old p) }

@@ -57,4 +57,5 @@ loop-i-preserved g c =
           (c.loop-i.invariant.lies honest)
           (c.in_ok-write_block.ensures.written mid ∙ c.as_slice.ensures.value)
           (c.write_block.ensures.moves.off mid);
+      same = c.in_ok-write_block.ensures.quiet ∙ c.loop-i.invariant.same;
     }

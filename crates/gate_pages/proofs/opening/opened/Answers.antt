@@ -76,3 +76,8 @@ pub returns-in_err-count-clause-no_memory : goal.returns-in_err-count-clause-no_
 returns-in_err-count-clause-no_memory g c =
     let p = err_from_is_err_and c.from_residual-in_err-count.result c.from_residual-in_err-count.ensures.1 in
     rw (p.1, p.2) c.in_err-count.ensures.no_memory
+
+pub returns-in_err-count-clause-quiet_err : goal.returns-in_err-count-clause-quiet_err
+returns-in_err-count-clause-quiet_err g c =
+    let p = err_from_is_err_and c.from_residual-in_err-count.result c.from_residual-in_err-count.ensures.1 in
+    rw (p.1, p.2) c.in_err-count.ensures.quiet_err

@@ -75,6 +75,7 @@ loop-i-preserved g c =
           page
           (c.write_block.ensures.moves.off mid_honest);
       whole = c.read_block.auto.out ∙ c.loop-i.invariant.whole;
+      same = c.in_ok-write_block.ensures.quiet ∙ c.in_ok-read_block.ensures.quiet ∙ c.loop-i.invariant.same;
     }
 
 pub returns-clause-home : goal.returns-clause-home

@@ -188,6 +188,7 @@ loop-self-preserved g c =
       sent = search rules;
       send_faults = search rules;
       read_faults = omega (arith, c.loop-self.invariant.read_faults, c.refill.ensures.read_faults);
+      quiet = c.in-Ok.ensures.quiet ∙ c.loop-self.invariant.quiet;
       pieces = omega (arith, c.loop-self.invariant.pieces, c.refill.ensures.pieces);
       took = inr (counted_rises (streams.pieces c.args.from.now) (streams.pieces c.loop-self.from) (streams.pieces c.refill.new.from) c.loop-self.invariant.pieces (c.in-Ok.ensures.piece (omega (arith, c.if-count-eq0.false))));
       beside = g.met.S.Streams.takes_then _ _ _ c.loop-self.invariant.beside c.refill.ensures.beside;

@@ -16,6 +16,7 @@ invariant-loop-self g l =
       sent : streams.sent l.from ≡ streams.sent l.fn.from;
       send_faults : streams.send_faults l.from ≡ streams.send_faults l.fn.from;
       read_faults : streams.read_faults l.fn.from ≤ streams.read_faults l.from;
+      quiet : streams.read_faults l.from ≡ streams.read_faults l.fn.from;
       pieces : streams.pieces l.fn.from ≤ streams.pieces l.from;
       took : ((l.length ≡ 0) × (pending_of l.self ≡ pending_of l.fn.self)) ⊎ HasRisen (streams.pieces l.fn.from) (streams.pieces l.from);
       beside : streams.takes l.fn.from l.from;

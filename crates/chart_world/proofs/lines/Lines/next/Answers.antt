@@ -74,6 +74,7 @@ returns-then-length g c =
       offset_fault = grind arith;
       no_line = grind arith;
       read_fault = grind arith;
+      quiet = grind arith;
       read_before = grind arith;
       read_within = grind arith;
       past = grind arith;
