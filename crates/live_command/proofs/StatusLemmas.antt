@@ -1,7 +1,7 @@
 -- How `live` ends, by its status.
 use Rattle.std.proofs.Common.{◌≡◌, ◌∙◌, ℕ, List, [], Option, Some, None, Result, Ok, Err, IfSome, refl, sym, subst, inl, inr, arith}
 use Rattle.block_disk.specs.View.{View, Honest, sent_now}
-use Rattle.chart_service.specs.SentLaws.{sent_none}
+use Rattle.block_disk.specs.SentLaws.{sent_none}
 use Rattle.disk_store.specs.Held.{HoldsBook}
 use Rattle.disk_store.specs.Openings.{IsOutside, Opens, Prevents}
 use Rattle.disk_store.specs.declared.causes.OpeningCause.{OpeningCause}

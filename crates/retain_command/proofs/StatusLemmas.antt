@@ -3,7 +3,7 @@ use Rattle.std.proofs.Common.{◌≡◌, ◌≢◌, ◌∙◌, ℕ, zero, suc, �
 use Rattle.std.specs.Prelude.{Contains}
 use Rattle.block_disk.specs.Counts.{HasRisen}
 use Rattle.block_disk.specs.View.{Image, View, Honest, sent_now}
-use Rattle.chart_service.specs.SentLaws.{sent_none}
+use Rattle.block_disk.specs.SentLaws.{sent_none}
 use Rattle.disk_store.specs.Held.{HoldsBook}
 use Rattle.disk_store.specs.Openings.{IsOutside, Opens, Prevents}
 use Rattle.disk_store.specs.declared.causes.OpeningCause.{OpeningCause}
