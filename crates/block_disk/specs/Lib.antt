@@ -1,6 +1,7 @@
 pub mod Blocks
 pub mod Counts
 pub mod Streams
+pub mod SentLaws
 pub mod View
 pub mod MemDisk
 pub mod FuseDisk

@@ -9,7 +9,7 @@ use Rattle.zoom_session.specs.declared.session.Session.{Session}
 use Rattle.zoom_session.specs.Sessions.{is_open}
 use Rattle.chart_service.specs.Knowing.{NamesKnown}
 use Rattle.chart_service.specs.Naming.{opens_all, Gives as GivesFrames, GivesFirst, GivesBy}
-use Rattle.chart_service.specs.SentLaws.{sent_more}
+use Rattle.block_disk.specs.SentLaws.{sent_more}
 use Rattle.chart_service.specs.declared.failure.AnswerEnd.{AnswerEnd}
 use Rattle.chart_service.specs.declared.failure.AnswerEnd.TheVariants as answers
 use Rattle.chart_service.specs.declared.failure.ServeEnd.TheVariants.{ReadFault, SendFault, DiskFault, Damaged, InputTooLong, NoMemory}

@@ -2,6 +2,7 @@
 use Rattle.std.proofs.Common.{◌≡◌, ℕ, ◌≤◌, List, [], Option, Some, None, Result, Ok, Err, IfSome, refl, sym, ap, subst, arith, inl, inr, ◌∙◌}
 use Rattle.std.proofs.lemmas.Bool.{cases_lt}
 use Rattle.block_disk.specs.View.{Image, View, Honest, sent_now}
+use Rattle.block_disk.specs.SentLaws.{sent_none}
 use Rattle.chart_world.specs.LineLaws.{told_so}
 use Rattle.chart_client.specs.declared.errors.ClientError.TheVariants as client
 use Rattle.gate_pages.specs.GateLaws.{goes_then}
@@ -16,7 +17,6 @@ use Rattle.stored_book.specs.Standing.{RecoversTo}
 use Rattle.chart_service.specs.State.{State}
 use Rattle.chart_service.specs.Serving.{told, SendsFirst}
 use Rattle.chart_service.specs.declared.failure.ServeEnd.TheVariants as serve_end
-use Rattle.chart_service.specs.SentLaws.{sent_none}
 use Rattle.chart_service.specs.Telling.{told_none}
 use Rattle.chart_service.proofs.DiskKept.{risen_since}
 use Rattle.chart_program.specs.declared.lines_end.LinesEnd.{LinesEnd}

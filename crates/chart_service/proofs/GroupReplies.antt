@@ -5,6 +5,7 @@ use Rattle.std.proofs.lemmas.Bool.{cases_lt}
 use Rattle.std.proofs.lemmas.List.{append-nil}
 use Rattle.block_disk.specs.Streams.{sent_after}
 use Rattle.block_disk.specs.View.{Image, View, Now, Only, Passes, sent_now}
+use Rattle.block_disk.specs.SentLaws.{sent_none, sent_more}
 use Rattle.chart_frames.specs.declared.frame.Frame.{Frame}
 use Rattle.gate_pages.specs.Pages.{Quiet}
 use Rattle.gate_pages.proofs.Moving.{sent_same}
@@ -19,7 +20,6 @@ use Rattle.chart_service.specs.Making.{Makes, LinesDone, LinesCut, LinesStop, Li
 use Rattle.chart_service.specs.Moments.{Through}
 use Rattle.chart_service.specs.MomentLaws.{through_by, through_so, through_then}
 use Rattle.chart_service.specs.Replies.{Replied, RepliesTo}
-use Rattle.chart_service.specs.SentLaws.{sent_none, sent_more}
 use Rattle.chart_service.specs.Serving.{RepliesToAll, end_of_step}
 use Rattle.chart_service.specs.State.{State}
 use Rattle.chart_service.specs.Stepping.{StandsAfter, RepliedTo, IsOutside, state_of}

@@ -3,6 +3,7 @@ use Rattle.std.proofs.Common.{◌≡◌, ℕ, ◌+◌, ◌-◌, ◌^◌, ◌<◌
 use Rattle.std.proofs.lemmas.List.{append-nil}
 use Rattle.std.proofs.Math.Seq.{take-append-add}
 use Rattle.block_disk.specs.Streams.{sent_after, left_after}
+use Rattle.block_disk.specs.SentLaws.{sent_more}
 use Rattle.chart_world.specs.declared.line_answer.LineFault.{LineFault}
 use Rattle.chart_world.specs.declared.line_answer.LineFault.TheVariants as fault
 use Rattle.chart_world.specs.Fronts.{IsWhole}
@@ -12,7 +13,6 @@ use Rattle.chart_world.specs.Reading.{Reading, unread, input_length, NoLineIn}
 use Rattle.chart_frames.specs.declared.frame.Frame.{Frame}
 use Rattle.chart_service.specs.Answering.{ReplyFails, EndsAt}
 use Rattle.chart_service.specs.Making.{Makes, AreMade, LinesDone, LinesCut, DoesFirst, LinesStopAt}
-use Rattle.chart_service.specs.SentLaws.{sent_more}
 use Rattle.chart_service.specs.Serving.{RepliesToAll, Answers, KeepsBook, SendsSome, most_ahead, end_of}
 use Rattle.chart_service.specs.State.{State}
 use Rattle.chart_service.specs.declared.failure.AnswerEnd.{AnswerEnd}

@@ -20,7 +20,7 @@ use Rattle.chart_service.specs.Knowing.{NamesKnown}
 use Rattle.chart_service.specs.Making.{Makes, AreMade, FrameSent, FrameStops, FramesSent, FramesCut}
 use Rattle.chart_service.specs.Naming.{opens_all, NameOpen, IsOpened, NamesOpened, NameOpened, Gives, StopsBehind, GivesFirst, GivesBy, SendsNamed}
 use Rattle.chart_service.specs.Opening.{NamesOpen}
-use Rattle.chart_service.specs.SentLaws.{sent_none, sent_more}
+use Rattle.block_disk.specs.SentLaws.{sent_none, sent_more}
 use Rattle.chart_service.specs.Serving.{end_of, end_of_step}
 use Rattle.chart_service.specs.declared.failure.AnswerEnd.{AnswerEnd}
 use Rattle.chart_service.specs.declared.failure.AnswerEnd.TheVariants.{Serve, Reply}

@@ -3,6 +3,7 @@ use Rattle.std.proofs.Common.{◌≡◌, ◌≤◌, ℕ, ◌+◌, ◌-◌, ◌^�
 use Rattle.std.specs.List.{filter, after_first}
 use Rattle.std.proofs.lemmas.List.{take-append-drop, append-nil}
 use Rattle.block_disk.specs.Streams.{sent_after, left_after}
+use Rattle.block_disk.specs.SentLaws.{sent_none, sent_more}
 use Rattle.chart_world.specs.Lines.{is_line_feed, lines, NoLineFeed}
 use Rattle.chart_world.specs.StandsLaws.{whole_given}
 use Rattle.chart_world.specs.Reading.{Reading, unread_input, unread, told_lines, input_length, NoLineIn}
@@ -13,7 +14,6 @@ use Rattle.chart_frames.specs.declared.frame.Frame.{Frame}
 use Rattle.chart_service.specs.Answering.{Telling}
 use Rattle.chart_service.specs.State.{State}
 use Rattle.chart_service.specs.Telling.{replies_joined, told_none}
-use Rattle.chart_service.specs.SentLaws.{sent_none, sent_more}
 use Rattle.chart_service.specs.Serving.{told, unless_empty, most_ahead, RepliesToAll, Answers, AnswersNext, SendsText, SendsFirst, SendsTaken, SendsWithin, SendsSome, KeepsBook}
 
 -- with these lines more and their frames the text is as much longer

@@ -3,6 +3,7 @@ use Rattle.std.proofs.Common.{◌≡◌, ℕ, ◌≤◌, List, [], ◌∷◌, le
 use Rattle.std.specs.Prelude.{IsErrAnd, true}
 use Rattle.std.proofs.lemmas.List.{append-nil}
 use Rattle.block_disk.specs.View.{Image, View, Now, Only, Passes, sent_now}
+use Rattle.block_disk.specs.SentLaws.{sent_none}
 use Rattle.chart_world.specs.Fronts.{says}
 use Rattle.chart_world.specs.LineLaws.{said}
 use Rattle.chart_frames.specs.declared.frame.Frame.{Frame}
@@ -15,7 +16,6 @@ use Rattle.stored_book.specs.Standing.{StandsForBook}
 use Rattle.zoom_session.specs.declared.session.Session.{Session}
 use Rattle.chart_service.specs.Making.{Makes, AreMade, FrameSent, FrameStops, LinesDone, LinesCut, LinesStop, ReplySent, FrameMoments, LinesMoments}
 use Rattle.chart_service.specs.Replies.{Replied, line_text, refused}
-use Rattle.chart_service.specs.SentLaws.{sent_none}
 use Rattle.chart_service.specs.Serving.{unless_empty, end_of_step}
 use Rattle.chart_service.specs.State.{State, IsSound}
 use Rattle.chart_service.specs.Stepping.{StandsAfter, IsBeforeOrAfter, IsOutside, IsUnchangedFor, state_of}

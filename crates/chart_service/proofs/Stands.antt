@@ -2,6 +2,7 @@
 use Rattle.std.proofs.Common.{◌≡◌, ℕ, ◌+◌, ◌-◌, ◌^◌, ◌<◌, ◌≤◌, List, [], length, take, Option, Some, None, IfSome, refl, subst, sym, ◌∙◌}
 use Rattle.block_disk.specs.Streams.{left_after}
 use Rattle.block_disk.specs.View.{Image, View, Now, Only, Passes, sent_now}
+use Rattle.block_disk.specs.SentLaws.{sent_is}
 use Rattle.chart_world.specs.declared.line_answer.LineFault.{LineFault}
 use Rattle.chart_world.specs.declared.line_answer.LineFault.TheVariants as fault
 use Rattle.chart_world.specs.Fronts.{IsWhole}
@@ -10,7 +11,6 @@ use Rattle.chart_world.specs.Reading.{Reading, unread_input, unread, told_lines,
 use Rattle.series_book.specs.declared.one_series.Series.{Series}
 use Rattle.stored_book.specs.Standing.{StandsForBook}
 use Rattle.zoom_session.specs.declared.session.Session.{Session}
-use Rattle.chart_service.specs.SentLaws.{sent_is}
 use Rattle.chart_service.specs.Answering.{EndsAt, EndsAnswers}
 use Rattle.chart_service.specs.Making.{Makes, AreMade, AreMadeFrom, LinesDone, LinesStopAt, LinesStop, LinesMoments}
 use Rattle.chart_service.specs.Moments.{IsAhead, Since, Through}

@@ -11,7 +11,6 @@ pub mod Serving
 pub mod Syncing
 pub mod Moments
 pub mod MomentLaws
-pub mod SentLaws
 pub mod ReadingBlocks
 pub mod Making
 pub mod Spelled

@@ -2,7 +2,7 @@
 use Rattle.std.proofs.Common.{◌≡◌, ◌∙◌, ℕ, ◌+◌, ◌-◌, ◌<◌, ◌≤◌, ◌^◌, List, [], ◌++◌, length, take, drop, Option, Some, None, Ok, Err, IfSome, refl, ap, sym, subst, arith, inl, inr, length-append}
 use Rattle.std.proofs.lemmas.List.{take-append-drop, append-nil}
 use Rattle.block_disk.specs.Streams.{sent_after, left_after}
-use Rattle.chart_service.specs.SentLaws.{sent_none, sent_more}
+use Rattle.block_disk.specs.SentLaws.{sent_none, sent_more}
 use Rattle.chart_service.specs.Serving.{told, unless_empty}
 use Rattle.chart_world.specs.Fronts.{Gives, IsWhole}
 use Rattle.chart_world.specs.LineLaws.{no_rest, said, says_text}

@@ -1,7 +1,7 @@
 -- How `derive` ends, by its status.
 use Rattle.std.proofs.Common.{◌≡◌, ◌∙◌, ℕ, ◌+◌, ◌*◌, List, Option, Result, Ok, Err, IfSome, refl, sym, subst, inl, inr, arith}
 use Rattle.block_disk.specs.View.{View}
-use Rattle.chart_service.specs.SentLaws.{sent_none}
+use Rattle.block_disk.specs.SentLaws.{sent_none}
 use Rattle.disk_store.specs.Held.{HoldsBook}
 use Rattle.disk_store.specs.Openings.{IsOutside, Prevents}
 use Rattle.disk_store.specs.declared.causes.OpeningCause.{OpeningCause}

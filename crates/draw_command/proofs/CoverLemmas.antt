@@ -10,6 +10,7 @@ use Rattle.std.specs.Prelude.{slice_get, flat_map, min}
 use Rattle.line_raster.specs.Canvas.{Canvas}
 use Rattle.pbm_writer.specs.Picture.{picture}
 use Rattle.block_disk.specs.Streams.{sent_after, PartSent}
+use Rattle.block_disk.specs.SentLaws.{sent_none, sent_more}
 use Rattle.chart_frames.specs.declared.frame.Frame.{Frame}
 use Rattle.chart_frames.specs.declared.frame.Frame.TheVariants.{Done, Refused, Opened, Closed, View, Rows, Live}
 use Rattle.chart_frames.specs.declared.frame.ViewFrame.{ViewFrame}
@@ -23,7 +24,6 @@ use Rattle.draw_command.specs.declared.draw_end.DrawEnd.{DrawEnd}
 use Rattle.draw_command.specs.declared.draw_end.DrawEnd.TheVariants.{NoMemory, ReadFault, SendFault, InputTooLong, BadFrame, Missing, BadCoefficient, UnknownSession}
 use Rattle.draw_command.specs.Covers.{picture_bytes, IsCoverAfter, AreFirstCovers, AreFirstCoversOf, AreCoversOf}
 use Rattle.draw_command.specs.Draws.{CoversFirst, CoversFrame, DrawsFrame, PictureStops, CoversStop, FrameStops, client_end}
-use Rattle.draw_command.proofs.SendingLemmas.{sent_none, sent_more}
 
 some_eq : {n m : ℕ} → ◌≡◌ {A = Option ℕ} (Some n) (Some m) → n ≡ m
 some_eq is = cc

@@ -7,6 +7,7 @@ use Rattle.std.proofs.lemmas.Grind.{flat_map-append}
 use Rattle.std.proofs.Math.Seq.{take-append-add}
 use Rattle.line_raster.specs.Canvas.{Canvas}
 use Rattle.block_disk.specs.Streams.{Given, left_after}
+use Rattle.block_disk.specs.SentLaws.{sent_none, sent_more}
 use Rattle.chart_frames.specs.declared.frame.Frame.{Frame}
 use Rattle.chart_frames.specs.declared.frame.Frame.TheVariants.{Done}
 use Rattle.chart_frames.specs.Frames.{Fits, spelling}
@@ -18,7 +19,6 @@ use Rattle.chart_frames.specs.declared.errors.FrameFault.TheVariants as fault
 use Rattle.chart_frames.specs.Stream.{Takes, Answers, IsPartial}
 use Rattle.chart_client.specs.declared.holding.Holding.{Holding}
 use Rattle.draw_command.specs.Covers.{SendsFrames}
-use Rattle.draw_command.proofs.SendingLemmas.{sent_none, sent_more}
 use Rattle.draw_command.specs.declared.draw_end.DrawEnd.{DrawEnd}
 use Rattle.draw_command.specs.declared.draw_end.DrawEnd.TheVariants.{NoMemory, ReadFault, SendFault, InputTooLong, BadFrame, Missing, BadCoefficient, UnknownSession}
 use Rattle.draw_command.specs.Draws.{DrawsMore, DrawsFirst, DrawsFrame, FrameStops, NextStops, HoldingStops, FramesStop, PieceStops, EndsDraw, DrawsAll, DrawsTaken, DrawsWithin, IsCut, IsFront, StopsAtFrame, fed, frame_end}

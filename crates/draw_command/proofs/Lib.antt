@@ -1,6 +1,5 @@
 pub mod Errors
 pub mod DiskKept
-pub mod SendingLemmas
 pub mod CoverLemmas
 pub mod CoverLaws
 pub mod DrawnFrames

@@ -2,12 +2,12 @@
 use Rattle.std.proofs.Common.{◌≡◌, ◌≢◌, ◌∙◌, ℕ, ◌≤◌, ◌^◌, Bool, List, [], length, Option, Some, None, Result, Ok, Err, IfSome, ap, subst, arith}
 use Rattle.std.specs.Prelude.{IfErr, OnOk}
 use Rattle.block_disk.specs.View.{Image, View, Honest, sent_now}
+use Rattle.block_disk.specs.SentLaws.{sent_none}
 use Rattle.chart_service.specs.MomentLaws.{since_both, since_none}
 use Rattle.chart_service.specs.Moments.{Since}
 use Rattle.disk_store.proofs.Lowered.{lowered_is, lowered_readable}
 use Rattle.disk_store.specs.Held.{HoldsBook}
 use Rattle.disk_store.specs.Openings.{Opens}
-use Rattle.chart_service.specs.SentLaws.{sent_none}
 use Rattle.gate_pages.specs.GateLaws.{goes_none, goes_then}
 use Rattle.gate_pages.specs.GatePages.{IsClosed, PagesOf, pages_view}
 use Rattle.gate_pages.specs.Journal.{page_count, pages_of}

@@ -3,11 +3,11 @@ use Rattle.std.proofs.Common.{◌≡◌, ◌∙◌, ℕ, ◌+◌, List, [], ◌�
 use Rattle.std.proofs.lemmas.Grind.{flat_map-append}
 use Rattle.std.proofs.lemmas.List.{append-nil}
 use Rattle.block_disk.specs.Streams.{sent_after}
+use Rattle.block_disk.specs.SentLaws.{sent_more}
 use Rattle.chart_frames.specs.declared.frame.Frame.{Frame}
 use Rattle.chart_frames.specs.Frames.{Fits, spelling}
 use Rattle.chart_service.specs.ReadingBlocks.{ReadsLine}
 use Rattle.chart_service.specs.Replies.{refused}
-use Rattle.chart_service.specs.SentLaws.{sent_more}
 use Rattle.chart_service.specs.State.{State, IsSound}
 use Rattle.live_service.specs.LiveReplies.{LiveState, LiveReplied, Pushed, ReadsPush, RepliesTo}
 use Rattle.live_view.specs.Lines.{live_line}

@@ -4,12 +4,12 @@ use Rattle.std.specs.Prelude.{OnOk, IfErr}
 use Rattle.std.proofs.lemmas.List.{append-nil}
 use Rattle.block_disk.specs.Streams.{sent_after}
 use Rattle.block_disk.specs.View.{Image, View, DiskKept, Now, Only, Passes, sent_now}
+use Rattle.block_disk.specs.SentLaws.{sent_none, sent_is}
 use Rattle.chart_frames.specs.declared.frame.Frame.{Frame}
 use Rattle.chart_frames.specs.Frames.{spelling}
 use Rattle.chart_service.specs.MomentLaws.{through_none, through_by, through_so, through_then}
 use Rattle.chart_service.specs.Moments.{Through}
 use Rattle.chart_service.specs.ReadingBlocks.{ReadsLine}
-use Rattle.chart_service.specs.SentLaws.{sent_none, sent_is}
 use Rattle.chart_service.specs.Serving.{end_of_step, unless_empty}
 use Rattle.chart_world.specs.LineLaws.{said, says_text}
 use Rattle.chart_service.specs.State.{IsSound}

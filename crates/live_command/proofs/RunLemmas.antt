@@ -4,10 +4,10 @@ use Rattle.std.specs.List.{filter, after_first}
 use Rattle.std.proofs.lemmas.List.{take-append-drop, append-nil}
 use Rattle.block_disk.specs.Streams.{sent_after, left_after}
 use Rattle.block_disk.specs.View.{Image, View, Now, Only, Passes, sent_now}
+use Rattle.block_disk.specs.SentLaws.{sent_none, sent_is}
 use Rattle.chart_frames.specs.declared.frame.Frame.{Frame}
 use Rattle.chart_service.specs.MomentLaws.{since_none, since_then, through_by, through_so}
 use Rattle.chart_service.specs.Moments.{Since, Through}
-use Rattle.chart_service.specs.SentLaws.{sent_none, sent_is}
 use Rattle.chart_service.specs.Serving.{told, unless_empty, end_of}
 use Rattle.chart_service.specs.State.{IsSound}
 use Rattle.chart_service.specs.Stepping.{state_of}

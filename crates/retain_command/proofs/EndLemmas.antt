@@ -3,7 +3,7 @@ use Rattle.std.proofs.Common.{◌≡◌, ◌∙◌, ℕ, ◌+◌, ◌-◌, ◌<�
 use Rattle.std.proofs.lemmas.List.{take-append-drop, append-nil}
 use Rattle.block_disk.specs.Streams.{sent_after, left_after}
 use Rattle.block_disk.specs.View.{Image}
-use Rattle.chart_service.specs.SentLaws.{sent_none, sent_more}
+use Rattle.block_disk.specs.SentLaws.{sent_none, sent_more}
 use Rattle.chart_service.specs.Serving.{told, unless_empty}
 use Rattle.chart_world.specs.Fronts.{says, Gives, IsWhole}
 use Rattle.chart_world.specs.LineLaws.{no_rest, said, says_text}

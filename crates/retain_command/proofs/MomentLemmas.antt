@@ -2,9 +2,9 @@
 use Rattle.std.proofs.Common.{◌≡◌, ◌∙◌, ℕ, ◌+◌, ◌-◌, ◌<◌, ◌≤◌, ◌^◌, ◌⊎◌, List, [], ◌++◌, length, take, Option, Some, None, Result, Ok, Err, IfSome, refl, ap, sym, subst, arith, inl, inr, length-append}
 use Rattle.block_disk.specs.Streams.{sent_after, left_after}
 use Rattle.block_disk.specs.View.{Image, View, Now, Only, Passes, sent_now}
+use Rattle.block_disk.specs.SentLaws.{sent_is}
 use Rattle.chart_service.specs.MomentLaws.{since_none, since_then, through_by, through_so}
 use Rattle.chart_service.specs.Moments.{Since, Through}
-use Rattle.chart_service.specs.SentLaws.{sent_is}
 use Rattle.chart_world.specs.Fronts.{Gives, IsWhole}
 use Rattle.chart_world.specs.Reading.{Reading, unread, unread_input, told_lines, input_length, NoLineIn}
 use Rattle.chart_world.specs.declared.line_answer.LineFault.{LineFault}

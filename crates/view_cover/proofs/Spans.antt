@@ -3,7 +3,6 @@ use Rattle.std.proofs.Common.{ℕ, ℤ, zero, suc, ◌≡◌, ◌-◌, ◌/◌, 
 use Rattle.std.specs.Option.{option_map}
 use Rattle.std.proofs.lemmas.Bool.{cases_eq}
 use Rattle.std.proofs.lemmas.Int.{ints}
-use Rattle.chart_grid.specs.Projection.{height}
 use Rattle.om3_coeff.specs.declared.key.Key.{Key}
 use Rattle.om3_coeff.specs.declared.span.Span.{Span}
 use Rattle.om3_coeff.specs.declared.coef.Coef.{Coef}
@@ -11,17 +10,7 @@ use Rattle.om3_coeff.specs.Keys.{first_slot, end_slot, parent_of, IsAtOrAbove}
 use Rattle.om3_coeff.specs.Spans.{IsProperIfAny, hull}
 use Rattle.om3_coeff.specs.Coefs.{parts}
 use Rattle.om3_coeff.specs.Known.{half, known_below, known_from, known}
-
--- a greater value is no lower
-abbrev pub HeightsRise : Type 0
-HeightsRise = (u v lo hi : ℤ) (h : ℕ) → u ≤ℤ v → height u lo hi h ≤ℤ height v lo hi h
-
--- what splitting a span gives makes that span, and is ordered
-abbrev pub PartsJoin : Type 0
-PartsJoin = (s : Span) (c : Coef) (left right : Option Span) → parts s c ≡ Some (left, right) → hull left right ≡ Some s
-
-abbrev pub PartsProper : Type 0
-PartsProper = (s : Span) (c : Coef) (left right : Option Span) → parts s c ≡ Some (left, right) → IsProperIfAny left × IsProperIfAny right
+use Rattle.view_keys.proofs.Flatness.{HeightsRise, PartsJoin, PartsProper}
 
 -- what the laws rest on
 pub record Basis : Type 0 where

@@ -1,7 +1,7 @@
 pub mod Ranging
 mod Columns
 pub mod Ends
-mod Flatness
+pub mod Flatness
 mod Clearing
 mod Nested
 mod Same
