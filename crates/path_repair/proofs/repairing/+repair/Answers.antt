@@ -58,8 +58,8 @@ loop-child-init g t c =
         (
           c.in_ok-number.ensures.apart (c.args.at.level - 1) is,
           (
-          still_start (shown.IsTold c.args.space.now) (shown.view c.args.space.now) c.args.txn.now c.open_page.new.txn c.args.slots.first c.args.slots.end c.args.values.now c.args.at.height c.args.at.level (c.args.at.level - 1) c.args.at.index c.args.root.page c.args.root.span c.is_new-is_changed.result
-              is c.is_new-is_changed.ensures.old c.is_new-is_changed.ensures.new c.open_page.ensures.read (c.if-is_settled.ensures.unsettled refl).something,
+            still_start (shown.IsTold c.args.space.now) (shown.view c.args.space.now) c.args.txn.now c.open_page.new.txn c.args.slots.first c.args.slots.end c.args.values.now c.args.at.height c.args.at.level (c.args.at.level - 1) c.args.at.index c.args.root.page c.args.root.span c.is_new-is_changed.result
+                is c.is_new-is_changed.ensures.old c.is_new-is_changed.ensures.new c.open_page.ensures.read (c.if-is_settled.ensures.unsettled refl).something,
             c.in_ok-number.ensures.quiet,
           ),
         ),
@@ -146,11 +146,11 @@ loop-child-preserved-then-is_apart g t c =
               (apart_child stored (left_by c.loop-child.txn base) from c.loop-child.txn.superblock c.args.at.height (c.args.at.level - 1) c.args.at.index c.loop-child.child c.child-below.result.height c.child-below.result.level c.child-below.result.index page c.open_page.new.bytes (and_page c.in_ok-number.number mine) kept
               c.loop-child-test.true c.child-below.ensures.height child_level c.child-below.ensures.index page_is (c.loop-child.invariant.1.1.0 base fits stored from mine kept at apart)),
           (
-          still_on (shown.IsTold c.args.space.now) (shown.IsTold c.loop-child.space) (shown.view c.args.space.now) (shown.view c.loop-child.space) (shown.under c.args.space.now) (shown.under c.loop-child.space) (shown.numbers c.args.space.now) (shown.numbers c.loop-child.space) c.args.txn.now c.loop-child.txn c.loop-child.txn c.args.slots.first c.args.slots.end c.args.values.now c.args.at.height c.args.at.level (c.args.at.level - 1) c.args.at.index c.args.root.page c.args.root.span c.in_ok-number.number c.loop-child.bytes (span_at c.loop-child.spans) c.loop-child.child c.child-below.result.height c.child-below.result.level c.child-below.result.index page top c.loop-child.is_changed c.loop-child.is_changed
-              c.loop-child.invariant.0 c.loop-child-test.true (omega (arith, c.if-at-eq0.false)) c.child-below.ensures.height child_level c.child-below.ensures.index refl refl c.loop-child.invariant.1.1.1.0 (λ no. no) (λ no. refl)
-              (λ no base count list list' others told lists placed. untouched_range c.args.slots.first c.args.slots.end c.args.values.now list list' c.child-below.result.level c.child-below.result.index lists.changed untouched)
-              (λ no base count list list' others told lists placed fits equal. no),
-          c.loop-child.invariant.1.1.1.1,
+            still_on (shown.IsTold c.args.space.now) (shown.IsTold c.loop-child.space) (shown.view c.args.space.now) (shown.view c.loop-child.space) (shown.under c.args.space.now) (shown.under c.loop-child.space) (shown.numbers c.args.space.now) (shown.numbers c.loop-child.space) c.args.txn.now c.loop-child.txn c.loop-child.txn c.args.slots.first c.args.slots.end c.args.values.now c.args.at.height c.args.at.level (c.args.at.level - 1) c.args.at.index c.args.root.page c.args.root.span c.in_ok-number.number c.loop-child.bytes (span_at c.loop-child.spans) c.loop-child.child c.child-below.result.height c.child-below.result.level c.child-below.result.index page top c.loop-child.is_changed c.loop-child.is_changed
+                c.loop-child.invariant.0 c.loop-child-test.true (omega (arith, c.if-at-eq0.false)) c.child-below.ensures.height child_level c.child-below.ensures.index refl refl c.loop-child.invariant.1.1.1.0 (λ no. no) (λ no. refl)
+                (λ no base count list list' others told lists placed. untouched_range c.args.slots.first c.args.slots.end c.args.values.now list list' c.child-below.result.level c.child-below.result.index lists.changed untouched)
+                (λ no base count list list' others told lists placed fits equal. no),
+            c.loop-child.invariant.1.1.1.1,
           ),
         ),
       ),
@@ -175,9 +175,9 @@ loop-child-preserved g t c =
               (apart_child stored (left_by c.loop-child.txn base) from c.loop-child.txn.superblock c.args.at.height (c.args.at.level - 1) c.args.at.index c.loop-child.child c.child-below.result.height c.child-below.result.level c.child-below.result.index c.child_root-old.result.page c.open_page.new.bytes (and_page c.in_ok-number.number mine) kept
               c.loop-child-test.true c.child-below.ensures.height child_level c.child-below.ensures.index page_is (c.loop-child.invariant.1.1.0 base fits stored from mine kept at apart)),
           (
-          still_on (shown.IsTold c.args.space.now) (shown.IsTold c.loop-child.space) (shown.view c.args.space.now) (shown.view c.loop-child.space) (shown.under c.args.space.now) (shown.under c.loop-child.space) (shown.numbers c.args.space.now) (shown.numbers c.loop-child.space) c.args.txn.now c.loop-child.txn c.repair.new.txn c.args.slots.first c.args.slots.end c.args.values.now c.args.at.height c.args.at.level (c.args.at.level - 1) c.args.at.index c.args.root.page c.args.root.span c.in_ok-number.number c.loop-child.bytes (span_at c.loop-child.spans) c.loop-child.child c.child-below.result.height c.child-below.result.level c.child-below.result.index c.child_root-old.result.page c.child_root-old.result.span c.loop-child.is_changed c.repair.new.changed
-              c.loop-child.invariant.0 c.loop-child-test.true (omega (arith, c.if-at-eq0.false)) c.child-below.ensures.height child_level c.child-below.ensures.index c.child_root-old.ensures.page c.child_root-old.ensures.span c.loop-child.invariant.1.1.1.0 c.repair.ensures.was c.in_ok-next.ensures.kept c.in_ok-next.ensures.same c.in_ok-next.ensures.idle,
-          c.in_ok-next.ensures.quiet ∙ c.loop-child.invariant.1.1.1.1,
+            still_on (shown.IsTold c.args.space.now) (shown.IsTold c.loop-child.space) (shown.view c.args.space.now) (shown.view c.loop-child.space) (shown.under c.args.space.now) (shown.under c.loop-child.space) (shown.numbers c.args.space.now) (shown.numbers c.loop-child.space) c.args.txn.now c.loop-child.txn c.repair.new.txn c.args.slots.first c.args.slots.end c.args.values.now c.args.at.height c.args.at.level (c.args.at.level - 1) c.args.at.index c.args.root.page c.args.root.span c.in_ok-number.number c.loop-child.bytes (span_at c.loop-child.spans) c.loop-child.child c.child-below.result.height c.child-below.result.level c.child-below.result.index c.child_root-old.result.page c.child_root-old.result.span c.loop-child.is_changed c.repair.new.changed
+                c.loop-child.invariant.0 c.loop-child-test.true (omega (arith, c.if-at-eq0.false)) c.child-below.ensures.height child_level c.child-below.ensures.index c.child_root-old.ensures.page c.child_root-old.ensures.span c.loop-child.invariant.1.1.1.0 c.repair.ensures.was c.in_ok-next.ensures.kept c.in_ok-next.ensures.same c.in_ok-next.ensures.idle,
+            c.in_ok-next.ensures.quiet ∙ c.loop-child.invariant.1.1.1.1,
           ),
         ),
       ),
