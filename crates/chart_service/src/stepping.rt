@@ -52,7 +52,7 @@ impl<P: Pages> Service<P> {
         // a request that is no edit commits nothing
         ensures idle { edit_asked request.now ≡ [] → IsUnchanged (shown.IsTold self.old) (shown.view self.old) (shown.view self.new) }
         // nor does an edit that leaves the book as it is
-        ensures same_book { shown.ForBook self.old (λ total book. All (λ edit. KeepsBook book (apply book total edit)) (edit_asked request.now) → CommitsNone (shown.view self.old) (shown.view self.new)) }
+        ensures same_book { shown.ForBook self.old (λ total book. All (λ e. KeepsBook book (apply book total e)) (edit_asked request.now) → CommitsNone (shown.view self.old) (shown.view self.new)) }
         ensures cause { IfErr result (IsCause request.now self.old self.new) }
         ensures bad { IfErr result (NamesBad (shown.IsTold self.new) (shown.view self.new).size (shown.image self.new)) }
         ensures steps { Steps (shown.IsTold self.old) (shown.IsTold self.new) (shown.view self.old) (shown.view self.new) }

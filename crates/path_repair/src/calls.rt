@@ -130,7 +130,7 @@ pub fn put_run<P: Pages>(
     // where no change is noted nothing is put and no slot is another, and none is noted of a change that makes the same list
     ensures was { changed.new ≡ false → changed.old ≡ false }
     ensures kept { changed.new ≡ false → OnOk result (txn.new ≡ txn.old) }
-    ensures same { changed.new ≡ false → repairs.ForEdit space.old txn.old tree (run_in tree slot values.now) (λ base count list list' others. length list' ≡ length list → OnOk result (list' ≡ list)) }
+    ensures same { changed.new ≡ false → repairs.ForEdit space.old txn.old tree (run_in tree slot values.now) (λ base count list list' rest. length list' ≡ length list → OnOk result (list' ≡ list)) }
     ensures idle { changed.old ≡ false → repairs.ForEdit space.old txn.old tree (run_in tree slot values.now) (λ base count list list' others. list' ≡ list → OnOk result (changed.new ≡ false)) }
 {
     let end = slot + values.len() as u64;

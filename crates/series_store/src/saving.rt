@@ -68,7 +68,7 @@ pub(crate) fn put<P: Pages>(
     requires whole { IfSome (slice_get (series_in catalog.old) id) (λ one. (slot ≡ one.tree.slots) ⊎ All (λ value. IsSome value) values.now) }
     ensures answered { stages.AnswersPut id slot values.now result space.old space.new txn.old txn.new }
     ensures carried { stages.Stages result space.old space.new txn.old txn.new catalog.old catalog.new }
-    ensures kept { stages.ForStagedSeries space.old txn.old id (λ total book series. KeepsBook book (after_put total book id series slot values.now) → IfOk result (λ staged. staged.undo ≡ Undo.Nothing)) }
+    ensures kept { stages.ForStagedSeries space.old txn.old id (λ total book series. KeepsBook book (after_put total book id series slot values.now) → IfOk result (λ it. it.undo ≡ Undo.Nothing)) }
     ensures quiet { OnOk result ((spaces.view space.new).faults ≡ (spaces.view space.old).faults) }
     ensures quiet_err { IfErr result (λ e. e ≢ StoreError.DiskFault → (spaces.view space.new).faults ≡ (spaces.view space.old).faults) }
 {
@@ -99,7 +99,7 @@ pub(crate) fn clear_slots<P: Pages>(
     requires within { IfSome (slice_get (series_in catalog.old) id) (λ one. slot + count ≤ one.tree.slots) }
     ensures answered { stages.AnswersCleared id slot count result space.old space.new txn.old txn.new }
     ensures carried { stages.Stages result space.old space.new txn.old txn.new catalog.old catalog.new }
-    ensures kept { stages.ForStagedSeries space.old txn.old id (λ total book series. KeepsBook book (Ok (with_cleared book id series slot count)) → IfOk result (λ staged. staged.undo ≡ Undo.Nothing)) }
+    ensures kept { stages.ForStagedSeries space.old txn.old id (λ total book series. KeepsBook book (Ok (with_cleared book id series slot count)) → IfOk result (λ it. it.undo ≡ Undo.Nothing)) }
     ensures quiet { OnOk result ((spaces.view space.new).faults ≡ (spaces.view space.old).faults) }
     ensures quiet_err { IfErr result (λ e. e ≢ StoreError.DiskFault → (spaces.view space.new).faults ≡ (spaces.view space.old).faults) }
 {
