@@ -54,6 +54,7 @@ module _ {V : Type 0} (gives : Gives V) (v w : V) (sessions : List Session) (bef
 
   -- none is shown for an error
   stops_shown : (end : RunEnd) → GivesFirst (MakesText gives) v w own before now (answers.Reply end) → ShowsBy {T = Unit {0}} gives v w sessions before now (Err end)
+  unfolding whole_shown
   stops_shown (Serve end) g = (g.last, whole_shown g.last g.now_open g.sent g.given g.stops.3.0)
   stops_shown (Show e) g = record {
     last = g.last;
