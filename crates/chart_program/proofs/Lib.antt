@@ -10,6 +10,7 @@ pub mod ShownFrames
 pub mod Telling
 pub mod Parsing
 pub mod Ended
+pub mod Faults
 pub mod FirstOpened
 pub mod World
 pub mod Lowering

@@ -9,4 +9,5 @@ pub mod Traffic
 pub mod Lives
 pub mod Ended
 pub mod CommandStatuses
+pub mod Faulting
 pub mod Ran

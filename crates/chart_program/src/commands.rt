@@ -3,12 +3,14 @@ ghost use Rattle.std.specs.Prelude.{◌≡◌, ◌⊎◌, [], ◌∷◌, Contain
 ghost use Rattle.block_disk.specs.Counts.{HasRisen};
 ghost use Rattle.block_disk.specs.View.{View};
 ghost use Rattle.chart_grid.specs.Limits.{IsSide};
+ghost use Rattle.chart_world.specs.Faults.{CountsFault};
 ghost use Rattle.program_words.specs.declared.words.Command.TheVariants.{Plot, Draw, Init, Cover};
 ghost use Rattle.chart_program.specs.Plotted.{plotting_status};
 ghost use Rattle.draw_command.specs.Draws.{IsNumbered};
 ghost use Rattle.program_words.specs.Words.{IsEvery};
 ghost use Rattle.chart_program.specs.CommandStatuses.{drawing_status};
 ghost use Rattle.store_commands.specs.Away.{TurnsAway};
+ghost use Rattle.store_commands.specs.Status.{code_fault};
 ghost use Rattle.store_commands.specs.Traffic.{traffic};
 ghost use Rattle.chart_program.specs.Ran.{EndsCommand, HasOperands, LeavesDisk, IsFree, IsMade, IsTooSmall, IsThere};
 
@@ -46,7 +48,8 @@ pub(crate) fn status_of_command<W: World>(
     mut world: W,
 ) -> (Status, W)
     requires { HasOperands command }
-    ensures { EndsCommand command (W.view world) (W.view result.1) (traffic W.left W.sent W.read_faults W.send_faults world result.1) result.0 }
+    ensures ends { EndsCommand command (W.view world) (W.view result.1) (traffic W.left W.sent W.read_faults W.send_faults world result.1) result.0 }
+    ensures faults { CountsFault (code_fault result.0.code) (W.view world) (W.view result.1) }
 {
     match command {
         Command::Plot { w, h } => {
@@ -87,6 +90,7 @@ fn init_status<W: World>(alloc: Global, world: W) -> (Status, W)
     ensures sent { W.sent result.1 ≡ W.sent world }
     ensures disk { LeavesDisk Init (W.view world) (W.view result.1) }
     ensures made { result.0.code ≡ DONE → IsMade Init (W.view world) (W.view result.1) }
+    ensures faults { CountsFault (code_fault result.0.code) (W.view world) (W.view result.1) }
     ensures ready { IsFree (W.view world) → (HasRisen (W.view world).faults (W.view result.1).faults → ⊥) → (result.0.code ≡ DONE) ⊎ (result.0.code ≡ NO_MEMORY) }
 {
     match make_store(alloc, world) {
@@ -107,7 +111,8 @@ fn init_status<W: World>(alloc: Global, world: W) -> (Status, W)
 fn plot_status<W: World>(alloc: Global, w: u16, h: u16, world: &mut W) -> Status
     requires wide { IsSide w }
     requires high { IsSide h }
-    ensures { EndsCommand (Plot w h) (W.view world.old) (W.view world.new) (traffic W.left W.sent W.read_faults W.send_faults world.old world.new) result }
+    ensures ends { EndsCommand (Plot w h) (W.view world.old) (W.view world.new) (traffic W.left W.sent W.read_faults W.send_faults world.old world.new) result }
+    ensures faults { CountsFault (code_fault result.code) (W.view world.old) (W.view world.new) }
 {
     let answer = plot(alloc, w, h, world);
     plotting_status(answer)
@@ -130,7 +135,8 @@ fn plotting_status(answer: Result<(), PlotEnd>) -> Status
 
 /// Sends the pictures of the input's frames, and says how that ended.
 fn draw_status<W: World>(alloc: Global, world: &mut W) -> Status
-    ensures { EndsCommand Draw (W.view world.old) (W.view world.new) (traffic W.left W.sent W.read_faults W.send_faults world.old world.new) result }
+    ensures ends { EndsCommand Draw (W.view world.old) (W.view world.new) (traffic W.left W.sent W.read_faults W.send_faults world.old world.new) result }
+    ensures faults { CountsFault (code_fault result.code) (W.view world.old) (W.view world.new) }
 {
     one_frame_a_spelling();
     length_is_told();
@@ -147,7 +153,8 @@ fn draw_status<W: World>(alloc: Global, world: &mut W) -> Status
 /// Sends the pictures of the input's frames, each behind its covers, and says how that ended.
 fn cover_status<W: World>(alloc: Global, every: u32, world: &mut W) -> Status
     requires { IsEvery every }
-    ensures { EndsCommand (Cover every) (W.view world.old) (W.view world.new) (traffic W.left W.sent W.read_faults W.send_faults world.old world.new) result }
+    ensures ends { EndsCommand (Cover every) (W.view world.old) (W.view world.new) (traffic W.left W.sent W.read_faults W.send_faults world.old world.new) result }
+    ensures faults { CountsFault (code_fault result.code) (W.view world.old) (W.view world.new) }
 {
     one_frame_a_spelling();
     length_is_told();

@@ -1,4 +1,4 @@
-ghost use Rattle.std.specs.Prelude.{◌≡◌, ◌≤◌, ◌^◌, All, length, IfOk, IfErr, IfSome, OnOk, vec_len};
+ghost use Rattle.std.specs.Prelude.{◌≡◌, ◌≢◌, ◌≤◌, ◌^◌, All, length, IfOk, IfErr, IfSome, OnOk, vec_len};
 ghost use Rattle.block_disk.specs.Counts.{HasRisen};
 ghost use Rattle.plain_chart.specs.Samples.{IsSlot};
 ghost use Rattle.chart_program.specs.declared.input.InputEnd.TheVariants.{NoMemory};
@@ -88,6 +88,7 @@ pub fn read_slots<S: Streams>(alloc: Global, from: &mut S) -> Result<Vec<Option<
     // nothing is sent, and of the stream nothing changes but by takes
     ensures sent { S.sent from.new ≡ S.sent from.old }
     ensures send_faults { S.send_faults from.new ≡ S.send_faults from.old }
+    ensures quiet_reads { result ≢ Err InputEnd.ReadFault → S.read_faults from.new ≡ S.read_faults from.old }
     ensures read_faults { S.read_faults from.old ≤ S.read_faults from.new }
     ensures beside { S.takes from.old from.new }
 {

@@ -1,9 +1,13 @@
 ghost use Rattle.std.specs.Prelude.{◌≡◌, [], IsTrue};
 ghost use Rattle.block_disk.specs.View.{View};
+ghost use Rattle.chart_world.specs.Faults.{CountsFault, fault_in};
 ghost use Rattle.series_store.specs.Shown as stored;
 ghost use Rattle.chart_service.specs.Shown as shown;
+ghost use Rattle.store_commands.specs.Status.{code_fault};
 ghost use Rattle.store_commands.specs.Traffic.{traffic};
 ghost use Rattle.chart_program.specs.CommandStatuses.{OpensFirst};
+ghost use Rattle.chart_program.specs.Ended.{status_by};
+ghost use Rattle.chart_program.specs.Faulting.{run_fault};
 ghost use Rattle.chart_program.specs.Served.{AreTexts, Spelled, served, in_world};
 ghost use Rattle.chart_program.specs.Traffic.{PagesServed, WorldServed};
 
@@ -26,6 +30,7 @@ use std::alloc::Global;
 pub fn serve_world<W: World>(alloc: Global, world: W) -> (Result<(), LinesEnd>, W)
     ensures serves { WorldServed Spelled ⊥ (W.view world) (W.view result.1) (traffic W.left W.sent W.read_faults W.send_faults world result.1) result.0 }
     ensures first { OpensFirst (W.view world) (traffic W.left W.sent W.read_faults W.send_faults world result.1) result.0 }
+    ensures faults { CountsFault (code_fault (status_by result.0).code) (W.view world) (W.view result.1) }
 {
     match open_store(alloc, world) {
         Ok(store) => {
@@ -41,6 +46,7 @@ pub fn serve_world<W: World>(alloc: Global, world: W) -> (Result<(), LinesEnd>, 
 pub fn run_world<W: World>(alloc: Global, world: W) -> (Result<(), LinesEnd>, W)
     ensures serves { WorldServed AreTexts (Unit {0}) (W.view world) (W.view result.1) (traffic W.left W.sent W.read_faults W.send_faults world result.1) result.0 }
     ensures first { OpensFirst (W.view world) (traffic W.left W.sent W.read_faults W.send_faults world result.1) result.0 }
+    ensures faults { CountsFault (code_fault (status_by result.0).code) (W.view world) (W.view result.1) }
 {
     match open_store(alloc, world) {
         Ok(store) => {
@@ -54,7 +60,8 @@ pub fn run_world<W: World>(alloc: Global, world: W) -> (Result<(), LinesEnd>, W)
 /// The same over a store that is open.
 fn serve_lines<W: World>(alloc: Global, store: Store<GatePages<W>>) -> (Result<(), RunEnd>, W)
     requires { IsTrue (stored.pages store).sound }
-    ensures { let pages = stored.pages store in PagesServed Spelled ⊥ W.view pages result.1 (traffic W.left W.sent W.read_faults W.send_faults pages.disk result.1) result.0 }
+    ensures serves { let pages = stored.pages store in PagesServed Spelled ⊥ W.view pages result.1 (traffic W.left W.sent W.read_faults W.send_faults pages.disk result.1) result.0 }
+    ensures faults { CountsFault (fault_in run_fault result.0) (W.view (stored.pages store).disk) (W.view result.1) }
 {
     match Service::new(alloc, store) {
         Ok(service) => serve_service(service),
@@ -64,7 +71,8 @@ fn serve_lines<W: World>(alloc: Global, store: Store<GatePages<W>>) -> (Result<(
 
 fn run_lines<W: World>(alloc: Global, store: Store<GatePages<W>>) -> (Result<(), RunEnd>, W)
     requires { IsTrue (stored.pages store).sound }
-    ensures { let pages = stored.pages store in PagesServed AreTexts (Unit {0}) W.view pages result.1 (traffic W.left W.sent W.read_faults W.send_faults pages.disk result.1) result.0 }
+    ensures serves { let pages = stored.pages store in PagesServed AreTexts (Unit {0}) W.view pages result.1 (traffic W.left W.sent W.read_faults W.send_faults pages.disk result.1) result.0 }
+    ensures faults { CountsFault (fault_in run_fault result.0) (W.view (stored.pages store).disk) (W.view result.1) }
 {
     match Service::new(alloc, store) {
         Ok(service) => run_service(alloc, service),
@@ -76,7 +84,8 @@ fn run_lines<W: World>(alloc: Global, store: Store<GatePages<W>>) -> (Result<(),
 fn serve_service<W: World>(mut service: Service<GatePages<W>>) -> (Result<(), RunEnd>, W)
     requires sound { IsTrue (shown.pages service).sound }
     requires alone { service.sessions ≡ [] }
-    ensures { let pages = shown.pages service in PagesServed Spelled ⊥ W.view pages result.1 (traffic W.left W.sent W.read_faults W.send_faults pages.disk result.1) result.0 }
+    ensures serves { let pages = shown.pages service in PagesServed Spelled ⊥ W.view pages result.1 (traffic W.left W.sent W.read_faults W.send_faults pages.disk result.1) result.0 }
+    ensures faults { CountsFault (fault_in run_fault result.0) (W.view (shown.pages service).disk) (W.view result.1) }
 {
     let answer = serve(&mut service);
     (of_serving(answer), disk_of(service.into_store()))
@@ -88,7 +97,8 @@ fn run_service<W: World>(
 ) -> (Result<(), RunEnd>, W)
     requires sound { IsTrue (shown.pages service).sound }
     requires alone { service.sessions ≡ [] }
-    ensures { let pages = shown.pages service in PagesServed AreTexts (Unit {0}) W.view pages result.1 (traffic W.left W.sent W.read_faults W.send_faults pages.disk result.1) result.0 }
+    ensures serves { let pages = shown.pages service in PagesServed AreTexts (Unit {0}) W.view pages result.1 (traffic W.left W.sent W.read_faults W.send_faults pages.disk result.1) result.0 }
+    ensures faults { CountsFault (fault_in run_fault result.0) (W.view (shown.pages service).disk) (W.view result.1) }
 {
     one_frame_a_spelling();
     frames_have_one_answer();

@@ -3,8 +3,10 @@ ghost use Rattle.block_disk.specs.Counts.{HasRisen};
 ghost use Rattle.block_disk.specs.View.{View};
 ghost use Rattle.chart_grid.specs.Limits.{IsSide};
 ghost use Rattle.chart_grid.specs.Projection.{ShowsWindow, HasCanvas};
+ghost use Rattle.chart_world.specs.Faults.{CountsFault, fault_in};
 ghost use Rattle.plain_chart.specs.Samples.{IsSlot};
 ghost use Rattle.draw_command.specs.Alone.{StaysAlone};
+ghost use Rattle.chart_program.specs.Faulting.{plot_fault};
 ghost use Rattle.chart_program.specs.Plotted.{IsPlot, SendsPlot, EndsPlot};
 ghost use Rattle.chart_program.specs.declared.plot.PlotEnd.TheVariants.{Input};
 
@@ -45,6 +47,7 @@ pub fn plot<S: World>(alloc: Global, w: u16, h: u16, streams: &mut S) -> Result<
     ensures unsent { IfErr result (λ end. end ≢ PlotEnd.SendFault → S.sent streams.new ≡ S.sent streams.old) }
     ensures read { result ≡ Err (PlotEnd.Input InputEnd.ReadFault) → HasRisen (S.read_faults streams.old) (S.read_faults streams.new) }
     ensures send { result ≡ Err PlotEnd.SendFault → HasRisen (S.send_faults streams.old) (S.send_faults streams.new) }
+    ensures faults { CountsFault (fault_in plot_fault result) (S.view streams.old) (S.view streams.new) }
     ensures disk { StaysAlone (S.view streams.old) (S.view streams.new) }
 {
     let slots = read_slots(alloc, streams)?;

@@ -1,11 +1,13 @@
 ghost use Rattle.std.specs.Prelude.{◌≡◌, ◌≢◌, ◌≤◌, ◌^◌, ℕ, Bool, length, IfErr, IfOk, IfSome, OnOk};
 ghost use Rattle.block_disk.specs.Counts.{HasRisen};
 ghost use Rattle.chart_frames.specs.Frames.{Fits};
+ghost use Rattle.chart_world.specs.Faults.{CountsFault, fault_in};
 ghost use Rattle.gate_pages.specs.Pages.{GoesOn};
 ghost use Rattle.chart_service.specs.Answering.{SendsAll, LastsBy, ReadsByLines, SyncsByLines};
 ghost use Rattle.chart_service.specs.Knowing.{KnowsOpen};
 ghost use Rattle.chart_service.specs.Serving.{Serves};
 ghost use Rattle.chart_service.specs.Shown as shown;
+ghost use Rattle.chart_program.specs.Faulting.{run_fault};
 ghost use Rattle.chart_program.specs.Known.{Follows, EndsKnown, ShowsBy};
 ghost use Rattle.chart_program.specs.Runs.{AreShown, AreShownFrom, EndsAtBad, IsShown, IsShownText, MakesText, RunEndsBy, TextStops, run_answer};
 
@@ -53,6 +55,7 @@ pub fn run_on<P: PageWorld, V: Show>(
     ensures read { result ≡ Err (RunEnd.Serve ServeEnd.ReadFault) → HasRisen (P.read_faults (shown.pages service.old)) (P.read_faults (shown.pages service.new)) }
     ensures send { result ≡ Err (RunEnd.Serve ServeEnd.SendFault) → HasRisen (P.send_faults (shown.pages service.old)) (P.send_faults (shown.pages service.new)) }
     ensures disk { result ≡ Err (RunEnd.Serve ServeEnd.DiskFault) → HasRisen (shown.view service.old).faults (shown.view service.new).faults }
+    ensures faults { CountsFault (fault_in run_fault result) (shown.view service.old) (shown.view service.new) }
     ensures shown { IfErr result (IsShown V.gives) }
     // where `show` knows the open sessions, each frame that it wasn't able to show names known ones
     ensures known { (knows : V → ℕ → Bool) → Follows V.gives knows → KnowsOpen knows show.old service.old.sessions → IfErr result (EndsKnown V.gives knows) }

@@ -1,9 +1,10 @@
 ghost use Rattle.std.specs.Prelude.{◌≡◌, Contains, IfErr};
 ghost use Rattle.block_disk.specs.View.{View};
 ghost use Rattle.chart_client.specs.Accepting.{HasNumber};
+ghost use Rattle.chart_world.specs.Faults.{CountsFault};
 ghost use Rattle.program_words.specs.declared.words.Command.TheVariants.{Run, Serve};
 ghost use Rattle.store_commands.specs.Away.{TurnsAway};
-ghost use Rattle.store_commands.specs.Status.{status};
+ghost use Rattle.store_commands.specs.Status.{code_fault, status};
 ghost use Rattle.store_commands.specs.Traffic.{traffic};
 ghost use Rattle.chart_program.specs.CommandStatuses.{codes_of, IsBarredBy};
 ghost use Rattle.chart_program.specs.Ended.{HasNumberedKey, client_status, serve_end_status, status_by};
@@ -30,6 +31,7 @@ pub(crate) fn serve_status<W: World>(alloc: Global, world: W) -> (Status, W)
     ensures own { Contains (codes_of Serve) result.0.code }
     ensures away { TurnsAway (W.view world) (traffic W.left W.sent W.read_faults W.send_faults world result.1) result.0 }
     ensures bars { IsBarredBy (W.view world) (W.view result.1) (traffic W.left W.sent W.read_faults W.send_faults world result.1) result.0 }
+    ensures faults { CountsFault (code_fault result.0.code) (W.view world) (W.view result.1) }
 {
     let (answer, world) = serve_world(alloc, world);
     (status_of(answer), world)
@@ -42,6 +44,7 @@ pub(crate) fn run_status<W: World>(alloc: Global, world: W) -> (Status, W)
     ensures own { Contains (codes_of Run) result.0.code }
     ensures away { TurnsAway (W.view world) (traffic W.left W.sent W.read_faults W.send_faults world result.1) result.0 }
     ensures bars { IsBarredBy (W.view world) (W.view result.1) (traffic W.left W.sent W.read_faults W.send_faults world result.1) result.0 }
+    ensures faults { CountsFault (code_fault result.0.code) (W.view world) (W.view result.1) }
 {
     let (answer, world) = run_world(alloc, world);
     (status_of(answer), world)

@@ -1,9 +1,11 @@
 ghost use Rattle.std.specs.Prelude.{◌≡◌, ◌≢◌, ◌⊎◌, [], ◌∷◌, map, Contains, string_bytes, IfSome};
 ghost use Rattle.block_disk.specs.Counts.{HasRisen};
 ghost use Rattle.block_disk.specs.View.{View};
+ghost use Rattle.chart_world.specs.Faults.{CountsFault};
 ghost use Rattle.program_words.specs.CommandLine.{plain_words};
 ghost use Rattle.program_words.specs.declared.words.Command.TheVariants.{Draw, Init};
 ghost use Rattle.program_words.specs.Words.{AreCommand, AreWordsOf, ByCommand, Spells, IsWrong};
+ghost use Rattle.store_commands.specs.Status.{code_fault};
 ghost use Rattle.chart_program.specs.CommandStatuses.{all_codes, codes_of, TakesNone, BarsBy};
 ghost use Rattle.chart_program.specs.Lives.{IsLived};
 ghost use Rattle.chart_program.specs.Ran.{ForCommand, ForStreams, IsUnread, IsAwayFor, SendsAll, SendsPart, StopsWith, StopsAtDisk, IsBadInput, IsTooMuch, IsCutShort, IsInput, HasGoodInput, IsFree, IsWithin, LeavesDisk, LeavesTold, HoldsNow, IsDamaged, IsUndamaged, IsMade, IsTooSmall, IsThere, IsRefusedWith, IsUnknown, IsRefusedLine, TellsUnnamed, ReadsFew, ReadsByInput, SyncsByInput, Lacks, Misfits, NamesUnopened, DrawsReplies, IsOfReplies, IsCoverOfReplies, CoversBook, BeginStream};
@@ -45,6 +47,8 @@ pub fn chart<W: World>(alloc: Global, words: &[String], world: W) -> (Status, W)
     ensures memory { result.0.code ≡ NO_MEMORY → (result.1 ≡ world) ⊎ ForCommand words.now W.view W.left W.sent world result.1 IsCutShort }
     ensures within { result.0.code ≡ DONE → ByCommand words.now (λ command. IfSome (W.left world) (IsWithin command)) }
     ensures fault { result.0.code ≡ DISK_FAULT → HasRisen (W.view world).faults (W.view result.1).faults }
+    // the failed call that the status tells is counted, and no other failed
+    ensures faults { CountsFault (code_fault result.0.code) (W.view world) (W.view result.1) }
     ensures faulted { result.0.code ≡ DISK_FAULT → ForCommand words.now W.view W.left W.sent world result.1 (λ command old new. StopsAtDisk command old) }
     ensures damaged { result.0.code ≡ DAMAGED → ByCommand words.now (λ command. IsDamaged command (W.view world) (W.view result.1) result.0.place) }
     ensures undamaged { result.0.code ≡ DAMAGED → ByCommand words.now (λ command. IfSome (W.left world) (λ input. IsUndamaged command (W.view world))) }

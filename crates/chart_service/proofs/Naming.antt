@@ -1,5 +1,5 @@
 -- Frames are given that name sessions which are open.
-use Rattle.std.proofs.Common.{◌≡◌, ◌≢◌, ◌⊎◌, ℕ, ◌+◌, ◌≤◌, ◌<◌, Bool, true, false, ◌==◌, IsTrue, List, [], ◌∷◌, ◌++◌, length, take, Option, Result, Ok, Err, IfErr, refl, ap, sym, subst, ◌∙◌, inl, inr, arith, length-append}
+use Rattle.std.proofs.Common.{◌≡◌, ◌≢◌, ◌⊎◌, ℕ, ◌+◌, Bool, true, false, ◌==◌, IsTrue, List, [], ◌∷◌, ◌++◌, length, take, Option, Result, Ok, Err, IfErr, refl, ap, sym, subst, ◌∙◌, inl, inr, arith, length-append}
 use Rattle.std.specs.Prelude.{All, IsErrAnd, OnOk, flat_map, not, ◌&&◌, ◌||◌}
 use Rattle.std.proofs.Math.Seq.{take-append-add, take-length}
 use Rattle.std.proofs.lemmas.Bool.{eqb-true, eqb-false}
@@ -17,7 +17,7 @@ use Rattle.zoom_session.specs.declared.session.Session.{Session}
 use Rattle.zoom_session.specs.Sessions.{is_open}
 use Rattle.chart_service.specs.EditGroups.{IsEditReply}
 use Rattle.chart_service.specs.Knowing.{NamesKnown}
-use Rattle.chart_service.specs.Making.{Makes, AreMade, FrameSent, FrameStops, FramesSent, FramesCut}
+use Rattle.chart_service.specs.Making.{Makes, FrameSent, FrameStops, FramesSent, FramesCut}
 use Rattle.chart_service.specs.Naming.{opens_all, NameOpen, IsOpened, NamesOpened, NameOpened, Gives, StopsBehind, GivesFirst, GivesBy, SendsNamed}
 use Rattle.chart_service.specs.Opening.{NamesOpen}
 use Rattle.block_disk.specs.SentLaws.{sent_none, sent_more}

@@ -19,7 +19,9 @@ pub mod Knowing
 pub mod Naming
 pub mod Answering
 pub mod Telling
+pub mod Faulting
 pub mod Called
 pub mod Holding
 pub mod HoldingLaws
 pub mod Shown
+pub mod Laws

@@ -1,5 +1,5 @@
 //! A service answers a view of a series in an open session.
-ghost use Rattle.std.specs.Prelude.{◌≡◌, ◌≤◌, ◌<◌, ◌+◌, ℕ, List, None, Some, length, slice_get, IfOk, IfErr, IsTrue, IsSomeAnd};
+ghost use Rattle.std.specs.Prelude.{◌≡◌, ◌≢◌, ◌≤◌, ◌<◌, ◌+◌, ℕ, List, None, Some, length, slice_get, IfOk, IfErr, IsTrue, IsSomeAnd, OnOk};
 ghost use Rattle.block_disk.specs.View.{View};
 ghost use Rattle.series_book.specs.declared.one_series.Series.{Series};
 ghost use Rattle.stored_book.specs.Standing.{StandsForBook};
@@ -46,6 +46,8 @@ impl<P: Pages> Service<P> {
         requires view { IsViewIn (length (shown.catalog self.old)) spec }
         ensures replying { RepliesOver (HasRows spec number) ReadsAny result self.old self.new }
         ensures looked { LooksIn (Some number) result self.old self.new }
+        ensures quiet { OnOk result ((shown.view self.new).faults ≡ (shown.view self.old).faults) }
+        ensures quiet_err { IfErr result (λ e. e ≢ ServiceError.DiskFault → (shown.view self.new).faults ≡ (shown.view self.old).faults) }
         ensures stays { StaysIn number result self.old.sessions self.new.sessions }
     {
         let shown = match self.rows(&spec) {
@@ -68,6 +70,8 @@ impl<P: Pages> Service<P> {
         ensures fit { IfOk result (FitInFrame spec.now.grid.w) }
         ensures cause { IfErr result (λ error. IsScanCause error (shown.IsTold self.old) (shown.catalog self.old) (shown.total self.old) (shown.view self.old) (shown.view self.new)) }
         ensures looks { LooksOnly self.old self.new }
+        ensures quiet { OnOk result ((shown.view self.new).faults ≡ (shown.view self.old).faults) }
+        ensures quiet_err { IfErr result (λ e. e ≢ ScanError.Node NodeError.DiskFault → (shown.view self.new).faults ≡ (shown.view self.old).faults) }
         ensures sessions { self.new.sessions ≡ self.old.sessions }
     {
         let axis = selected(&mut self.store, spec.series);
@@ -87,6 +91,8 @@ impl<P: Pages> Service<P> {
         requires unfiltered { spec.filter ≡ None }
         ensures replying { RepliesOver (HasCoefs spec number) (ReadsForSpec spec) result self.old self.new }
         ensures looked { LooksIn (Some number) result self.old self.new }
+        ensures quiet { OnOk result ((shown.view self.new).faults ≡ (shown.view self.old).faults) }
+        ensures quiet_err { IfErr result (λ e. e ≢ ServiceError.DiskFault → (shown.view self.new).faults ≡ (shown.view self.old).faults) }
         ensures stays { StaysIn number result self.old.sessions self.new.sessions }
     {
         let planned = match self.plan(number, &spec) {
@@ -118,6 +124,8 @@ impl<P: Pages> Service<P> {
         ensures good { IfOk result IsGoodPlan }
         ensures cause { IfErr result (λ error. IsPlanCause error (shown.IsTold self.old) (shown.catalog self.old) (shown.total self.old) (shown.view self.old) (shown.view self.new)) }
         ensures looks { LooksOnly self.old self.new }
+        ensures quiet { OnOk result ((shown.view self.new).faults ≡ (shown.view self.old).faults) }
+        ensures quiet_err { IfErr result (λ e. e ≢ PlanError.Node NodeError.DiskFault → (shown.view self.new).faults ≡ (shown.view self.old).faults) }
         ensures reads { shown.ForBook self.old (λ total book. ReadsFor spec.now.grid.w (slice_get book spec.now.series) (shown.view self.old).reads (shown.view self.new).reads) }
         ensures sessions { self.new.sessions ≡ self.old.sessions }
         ensures few { spec.now.series < 512 }

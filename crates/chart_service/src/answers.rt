@@ -3,6 +3,7 @@ ghost use Rattle.std.specs.Prelude.{◌≡◌, ◌≢◌, ◌≤◌, ◌<◌, �
 ghost use Rattle.block_disk.specs.Counts.{HasRisen};
 ghost use Rattle.block_disk.specs.View.{Now, Only};
 ghost use Rattle.chart_frames.specs.Frames.{Fits};
+ghost use Rattle.chart_world.specs.Faults.{CountsFault, fault_in};
 ghost use Rattle.gate_pages.specs.Pages.{GoesOn};
 ghost use Rattle.series_book.specs.Edits.{IsEdit};
 ghost use Rattle.series_book.specs.EditLists.{after_edits};
@@ -11,6 +12,7 @@ ghost use Rattle.stored_book.specs.Standing.{StandsForBook};
 ghost use Rattle.chart_service.specs.Answering.{SendsAll, EndsBy, LastsBy, ReadsByLines, SyncsByLines, EndsAtBad, AnswersOn, StopsOn, LeavesBy, LeavesTold, ReadsAsFirst};
 ghost use Rattle.chart_service.specs.Knowing.{Follows, KnowsOpen, EndsKnown};
 ghost use Rattle.chart_service.specs.EditGroups.{IsEditReply, SpelledBy};
+ghost use Rattle.chart_service.specs.Faulting.{answer_fault};
 ghost use Rattle.chart_service.specs.Making.{AreMade, AreMadeFrom, FrameSent, FrameStops, FramesCut, FramesMoments, FramesSent, IsReplyEnd, FrameMoments};
 ghost use Rattle.chart_service.specs.Naming.{GivesBy};
 ghost use Rattle.chart_service.specs.Serving.{KeepsPages, Serves, most_ahead, unless_empty};
@@ -53,6 +55,7 @@ pub fn answer_lines<P: PageWorld, S, F, R: Reply<S, F>>(
     ensures read { result ≡ Err (AnswerEnd.Serve ServeEnd.ReadFault) → HasRisen (P.read_faults (shown.pages service.old)) (P.read_faults (shown.pages service.new)) }
     ensures send { result ≡ Err (AnswerEnd.Serve ServeEnd.SendFault) → HasRisen (P.send_faults (shown.pages service.old)) (P.send_faults (shown.pages service.new)) }
     ensures disk { result ≡ Err (AnswerEnd.Serve ServeEnd.DiskFault) → HasRisen (shown.view service.old).faults (shown.view service.new).faults }
+    ensures faults { CountsFault (fault_in answer_fault result) (shown.view service.old) (shown.view service.new) }
     // where the open sessions are known, a frame whose bytes weren't made names known ones
     ensures known { (knows : S → ℕ → Bool) → Follows R.makes knows → KnowsOpen knows kept.old service.old.sessions → IfErr result (EndsKnown R.makes knows) }
     // each frame that closes a session or answers in it names one that is open by those before it
@@ -100,6 +103,7 @@ fn answer_edits<P: PageWorld, S, F, R: Reply<S, F>>(
     ensures gives { GivesBy R.makes kept.old kept.new service.old.sessions service.new.sessions (P.sent (shown.pages service.old)) (P.sent (shown.pages service.new)) result }
     ensures send { result ≡ Err (AnswerEnd.Serve ServeEnd.SendFault) → HasRisen (P.send_faults (shown.pages service.old)) (P.send_faults (shown.pages service.new)) }
     ensures disk { result ≡ Err (AnswerEnd.Serve ServeEnd.DiskFault) → HasRisen (shown.view service.old).faults (shown.view service.new).faults }
+    ensures faults { CountsFault (fault_in answer_fault result) (shown.view service.old) (shown.view service.new) }
     ensures read { result ≢ Err (AnswerEnd.Serve ServeEnd.ReadFault) }
     ensures bad { IfErr result (EndsAtBad (shown.IsTold service.new) (shown.view service.new).size (shown.image service.new)) }
     ensures serves { Serves (shown.IsTold service.old) (shown.IsTold service.new) (shown.view service.old) (shown.view service.new) }
@@ -132,6 +136,7 @@ fn send_replies<P: PageWorld, S, F, R: Reply<S, F>>(
     ensures named { (knows : S → ℕ → Bool) → Follows R.makes knows → KnowsOpen knows kept.old service.old.sessions → IfErr result (EndsKnown R.makes knows) }
     ensures ends { IfErr result IsReplyEnd }
     ensures send { result ≡ Err (AnswerEnd.Serve ServeEnd.SendFault) → HasRisen (P.send_faults (shown.pages service.old)) (P.send_faults (shown.pages service.new)) }
+    ensures faults { CountsFault (fault_in answer_fault result) (shown.view service.old) (shown.view service.new) }
     ensures keeps { KeepsPages (shown.IsTold service.old) (shown.IsTold service.new) (shown.view service.old) (shown.view service.new) (shown.under service.old) (shown.under service.new) }
     ensures total { shown.total service.new ≡ shown.total service.old }
     ensures sessions { service.new.sessions ≡ service.old.sessions }
@@ -168,6 +173,7 @@ fn answer_line<P: PageWorld, S, F, R: Reply<S, F>>(
     ensures gives { GivesBy R.makes kept.old kept.new service.old.sessions service.new.sessions (P.sent (shown.pages service.old)) (P.sent (shown.pages service.new)) result }
     ensures send { result ≡ Err (AnswerEnd.Serve ServeEnd.SendFault) → HasRisen (P.send_faults (shown.pages service.old)) (P.send_faults (shown.pages service.new)) }
     ensures disk { result ≡ Err (AnswerEnd.Serve ServeEnd.DiskFault) → HasRisen (shown.view service.old).faults (shown.view service.new).faults }
+    ensures faults { CountsFault (fault_in answer_fault result) (shown.view service.old) (shown.view service.new) }
     ensures read { result ≢ Err (AnswerEnd.Serve ServeEnd.ReadFault) }
     ensures bad { IfErr result (EndsAtBad (shown.IsTold service.new) (shown.view service.new).size (shown.image service.new)) }
     ensures serves { Serves (shown.IsTold service.old) (shown.IsTold service.new) (shown.view service.old) (shown.view service.new) }
@@ -201,6 +207,7 @@ fn answer_long_line<P: PageWorld, S, F, R: Reply<S, F>>(
     ensures gives { GivesBy R.makes kept.old kept.new service.old.sessions service.new.sessions (P.sent (shown.pages service.old)) (P.sent (shown.pages service.new)) result }
     ensures ends { IfErr result IsReplyEnd }
     ensures send { result ≡ Err (AnswerEnd.Serve ServeEnd.SendFault) → HasRisen (P.send_faults (shown.pages service.old)) (P.send_faults (shown.pages service.new)) }
+    ensures faults { CountsFault (fault_in answer_fault result) (shown.view service.old) (shown.view service.new) }
     ensures keeps { KeepsPages (shown.IsTold service.old) (shown.IsTold service.new) (shown.view service.old) (shown.view service.new) (shown.under service.old) (shown.under service.new) }
     ensures total { shown.total service.new ≡ shown.total service.old }
     ensures left { P.left (shown.pages service.new) ≡ P.left (shown.pages service.old) }
@@ -226,6 +233,7 @@ fn send_reply<P: PageWorld, S, F, R: Reply<S, F>>(
     ensures moments { FrameMoments R.makes kept.old frame.now (shown.view service.old) (shown.view service.new) }
     ensures ends { IfErr result IsReplyEnd }
     ensures send { result ≡ Err (AnswerEnd.Serve ServeEnd.SendFault) → HasRisen (P.send_faults (shown.pages service.old)) (P.send_faults (shown.pages service.new)) }
+    ensures faults { CountsFault (fault_in answer_fault result) (shown.view service.old) (shown.view service.new) }
     ensures keeps { KeepsPages (shown.IsTold service.old) (shown.IsTold service.new) (shown.view service.old) (shown.view service.new) (shown.under service.old) (shown.under service.new) }
     ensures total { shown.total service.new ≡ shown.total service.old }
     ensures catalog { shown.catalog service.new ≡ shown.catalog service.old }

@@ -1,5 +1,5 @@
 //! A service does edits.
-ghost use Rattle.std.specs.Prelude.{◌≡◌, ◌≤◌, ◌<◌, ◌+◌, ℕ, List, length, IfOk, IfErr, OnOk, MatchResult};
+ghost use Rattle.std.specs.Prelude.{◌≡◌, ◌≢◌, ◌≤◌, ◌<◌, ◌+◌, ℕ, List, length, IfOk, IfErr, OnOk, MatchResult};
 ghost use Rattle.block_disk.specs.View.{View, Passes};
 ghost use Rattle.chart_frames.specs.Frames.{Fits};
 ghost use Rattle.gate_pages.specs.Pages.{GoesOn, Quiet};
@@ -36,6 +36,8 @@ impl<P: Pages> Service<P> {
         ensures unchanged { CommitsOnly result self.old self.new }
         ensures same_book { shown.ForBook self.old (λ total book. KeepsBook book (apply book total edit.now) → CommitsNone (shown.view self.old) (shown.view self.new)) }
         ensures cause { IfErr result (IsCause (EditRequest edit.now) self.old self.new) }
+        ensures quiet { OnOk result ((shown.view self.new).faults ≡ (shown.view self.old).faults) }
+        ensures quiet_err { IfErr result (λ e. e ≢ ServiceError.DiskFault → (shown.view self.new).faults ≡ (shown.view self.old).faults) }
         ensures steps { Steps (shown.IsTold self.old) (shown.IsTold self.new) (shown.view self.old) (shown.view self.new) }
         ensures goes_on { GoesOn (shown.under self.old) (shown.under self.new) }
         ensures sound { OnOk result (shown.view self.new).fit }

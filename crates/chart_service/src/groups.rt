@@ -2,12 +2,14 @@
 ghost use Rattle.std.specs.Prelude.{◌≡◌, ◌≢◌, ◌≤◌, ◌<◌, ◌+◌, ◌*◌, ◌^◌, ℕ, List, ◌++◌, All, length, map, IfOk, IfErr, OnOk};
 ghost use Rattle.block_disk.specs.Counts.{HasRisen};
 ghost use Rattle.chart_frames.specs.Frames.{Fits};
+ghost use Rattle.chart_world.specs.Faults.{CountsFault, fault_in};
 ghost use Rattle.gate_pages.specs.Pages.{GoesOn};
 ghost use Rattle.series_book.specs.declared.limits.TheConstants.{MOST_SLOTS};
 ghost use Rattle.series_book.specs.Books.{IsNamed};
 ghost use Rattle.series_book.specs.Edits.{IsEdit};
 ghost use Rattle.series_store.specs.Groups.{HaveFewSlots, answer_of};
 ghost use Rattle.chart_service.specs.EditGroups.{AnswersSome, DoesSome, IsAfterSome, IsEditReply, IsOfGroup, ReadsByFrames, RepliesToEdits, frame_of, frames_of, group_end};
+ghost use Rattle.chart_service.specs.Faulting.{step_fault};
 ghost use Rattle.chart_service.specs.Serving.{most_ahead};
 ghost use Rattle.chart_service.specs.Stepping.{IsOutside, NamesBad};
 ghost use Rattle.chart_service.specs.Syncing.{group_syncs};
@@ -47,6 +49,7 @@ impl<P: Pages> Service<P> {
         ensures replies { IfOk result (λ frames. All IsEditReply frames.items) }
         ensures sessions { self.new.sessions ≡ self.old.sessions }
         ensures disk { result ≡ Err ServiceError.DiskFault → HasRisen (shown.view self.old).faults (shown.view self.new).faults }
+        ensures faults { CountsFault (fault_in step_fault result) (shown.view self.old) (shown.view self.new) }
         ensures bad { IfErr result (NamesBad (shown.IsTold self.new) (shown.view self.new).size (shown.image self.new)) }
         ensures moves { shown.MovesSo self.old self.new }
         ensures goes_on { GoesOn (shown.under self.old) (shown.under self.new) }
@@ -81,6 +84,8 @@ impl<P: Pages> Service<P> {
         ensures replies { All IsEditReply frames.old.items → OnOk result (All IsEditReply frames.new.items) }
         ensures sessions { self.new.sessions ≡ self.old.sessions }
         ensures disk { result ≡ Err ServiceError.DiskFault → HasRisen (shown.view self.old).faults (shown.view self.new).faults }
+        ensures quiet { OnOk result ((shown.view self.new).faults ≡ (shown.view self.old).faults) }
+        ensures quiet_err { IfErr result (λ e. e ≢ ServiceError.DiskFault → (shown.view self.new).faults ≡ (shown.view self.old).faults) }
         ensures bad { IfErr result (NamesBad (shown.IsTold self.new) (shown.view self.new).size (shown.image self.new)) }
         ensures moves { shown.MovesSo self.old self.new }
         ensures goes_on { GoesOn (shown.under self.old) (shown.under self.new) }

@@ -3,11 +3,11 @@
 ghost use Rattle.std.specs.Prelude.{◌≡◌, ℕ, false, List, Option};
 ghost use Rattle.chart_frames.specs.declared.frame.Frame.{Frame};
 ghost use Rattle.chart_service.specs.State.{State};
-ghost use Rattle.chart_service.specs.Alone.{alone, own_lines, own_frames, NeverCrowded};
+ghost use Rattle.chart_service.specs.Alone.{alone};
 ghost use Rattle.chart_service.specs.Naming.{NameOpen, NameOpened};
 ghost use Rattle.chart_service.specs.Replies.{RepliesToLine};
-ghost use Rattle.chart_service.specs.Serving.{RepliesToAll};
 ghost use Rattle.chart_service.specs.Syncing.{FirstLinesSyncLess};
+ghost use Rattle.chart_service.specs.Laws.{SessionsStandAlone, OwnFramesAreTheSame, FramesAreOne};
 
 use m4_groups::laws::rows_are_one;
 use value_filter::laws::a_text_is_read_in_one_way;
@@ -17,13 +17,8 @@ use value_filter::laws::a_text_is_read_in_one_way;
 /// the same whatever lines of other sessions stand between. Only where 16 sessions are open do other
 /// sessions keep one from being opened.
 pub fn sessions_stand_alone()
-    ensures alone { (n : ℕ) (lines : List (Option (List ℕ))) (frames : List Frame) (old new : State) →
-        RepliesToAll old lines frames new → NeverCrowded (own_frames n lines frames) →
-        RepliesToAll (alone n old) (own_lines n lines) (own_frames n lines frames) (alone n new) }
-    ensures same { (n : ℕ) (lines others : List (Option (List ℕ))) (frames answers : List Frame) (old new behind : State) →
-        RepliesToAll old lines frames new → RepliesToAll old others answers behind →
-        NeverCrowded (own_frames n lines frames) → NeverCrowded (own_frames n others answers) →
-        own_lines n lines ≡ own_lines n others → own_frames n lines frames ≡ own_frames n others answers }
+    ensures alone { SessionsStandAlone }
+    ensures same { OwnFramesAreTheSame }
 {
     rows_are_one();
     a_text_is_read_in_one_way();
@@ -34,8 +29,7 @@ pub fn sessions_stand_alone()
 pub fn replies_are_one()
     ensures line { (line : Option (List ℕ)) (frame other : Frame) (old new behind : State) →
         RepliesToLine line frame old new → RepliesToLine line other old behind → (frame ≡ other) × (new ≡ behind) }
-    ensures lines { (lines : List (Option (List ℕ))) (frames others : List Frame) (old new behind : State) →
-        RepliesToAll old lines frames new → RepliesToAll old lines others behind → (frames ≡ others) × (new ≡ behind) }
+    ensures lines { FramesAreOne }
 {
     rows_are_one();
     a_text_is_read_in_one_way();

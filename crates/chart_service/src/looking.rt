@@ -1,5 +1,5 @@
 //! A service answers requests that are no edits.
-ghost use Rattle.std.specs.Prelude.{◌≡◌, ◌≤◌, ℕ, List, Some, IfOk, IfErr, OnErr};
+ghost use Rattle.std.specs.Prelude.{◌≡◌, ◌≢◌, ◌≤◌, ℕ, List, Some, IfOk, IfErr, OnErr, OnOk};
 ghost use Rattle.block_disk.specs.View.{View};
 ghost use Rattle.chart_frames.specs.Frames.{Fits};
 ghost use Rattle.request_lines.specs.Requests.{IsInRange};
@@ -32,6 +32,8 @@ impl<P: Pages> Service<P> {
         ensures replying { RepliesOver (Replies request.now) (λ book. ReadsFew request.now book self.old.sessions) result self.old self.new }
         ensures cause { IfErr result (IsCause request.now self.old self.new) }
         ensures looked { LooksIn (session_in request.now) result self.old self.new }
+        ensures quiet { OnOk result ((shown.view self.new).faults ≡ (shown.view self.old).faults) }
+        ensures quiet_err { IfErr result (λ e. e ≢ ServiceError.DiskFault → (shown.view self.new).faults ≡ (shown.view self.old).faults) }
     {
         match request {
             Request::Edit(_) => unreachable!(),

@@ -1,4 +1,4 @@
-ghost use Rattle.std.specs.Prelude.{◌≡◌, ◌+◌, ◌*◌, ◌≤◌, ◌<◌, ◌^◌, ℤ, List, Option, Some, length, IsTrue, IfOk, IfErr, IsSome, None};
+ghost use Rattle.std.specs.Prelude.{◌≡◌, ◌≢◌, ◌+◌, ◌*◌, ◌≤◌, ◌<◌, ◌^◌, ℤ, List, Option, Some, length, IsTrue, IfOk, IfErr, IsSome, None, OnOk};
 ghost use Rattle.om3_coeff.specs.Keys.{height};
 ghost use Rattle.om3_coeff.specs.Spans.{IsProperIfAny};
 ghost use Rattle.om3_coeff.specs.View.{Agrees, HasCause};
@@ -73,6 +73,8 @@ pub(crate) fn plan<N: Nodes>(
     ensures kept { N.keeps nodes.old nodes.new }
     ensures reads { (N.view nodes.new).reads ≤ (N.view nodes.old).reads + most_view_reads spec.now.grid.w axis.slots }
     ensures faults { (N.view nodes.old).faults ≤ (N.view nodes.new).faults }
+    ensures quiet { OnOk result ((N.view nodes.new).faults ≡ (N.view nodes.old).faults) }
+    ensures quiet_err { IfErr result (λ e. e ≢ PlanError.Node NodeError.DiskFault → (N.view nodes.new).faults ≡ (N.view nodes.old).faults) }
 {
     spans_add_up();
     let range = match shown_range(nodes, axis, spec.grid, spec.range) {
@@ -109,6 +111,8 @@ pub(crate) fn shown_range<N: Nodes>(
     ensures kept { N.keeps nodes.old nodes.new }
     ensures reads { (N.view nodes.new).reads ≤ (N.view nodes.old).reads + 2 * height axis.slots }
     ensures faults { (N.view nodes.old).faults ≤ (N.view nodes.new).faults }
+    ensures quiet { OnOk result ((N.view nodes.new).faults ≡ (N.view nodes.old).faults) }
+    ensures quiet_err { IfErr result (λ e. e ≢ NodeError.DiskFault → (N.view nodes.new).faults ≡ (N.view nodes.old).faults) }
 {
     match range {
         RangeSpec::Fixed { lo, hi } => Ok(ValueRange { lo, hi }),

@@ -1,6 +1,7 @@
 //! What a filtered view shows.
 
-ghost use Rattle.std.specs.Prelude.{◌≡◌, ◌+◌, ◌*◌, ◌≤◌, ◌<◌, ℕ, ℤ, List, All, Option, IfOk, IfErr};
+ghost use Rattle.std.specs.Prelude.{◌≡◌, ◌≢◌, ◌+◌, ◌*◌, ◌≤◌, ◌<◌, ℕ, ℤ, List, All, Option, IfOk, IfErr, OnOk};
+ghost use Rattle.om3_coeff.specs.declared.errors.NodeError.TheVariants.{DiskFault};
 ghost use Rattle.om3_coeff.specs.Keys.{height};
 ghost use Rattle.om3_coeff.specs.View.{Agrees};
 ghost use Rattle.chart_grid.specs.declared.grid.Grid.{Grid};
@@ -53,6 +54,8 @@ pub(crate) fn shown_rows<N: Nodes>(
     ensures kept { N.keeps nodes.old nodes.new }
     ensures reads { (N.view nodes.new).reads ≤ (N.view nodes.old).reads + (axis.slots + 2 * height axis.slots) }
     ensures faults { (N.view nodes.old).faults ≤ (N.view nodes.new).faults }
+    ensures quiet { OnOk result ((N.view nodes.new).faults ≡ (N.view nodes.old).faults) }
+    ensures quiet_err { IfErr result (λ e. e ≢ ScanError.Node DiskFault → (N.view nodes.new).faults ≡ (N.view nodes.old).faults) }
 {
     let query = match query_of(spec, axis) {
         Ok(query) => query,

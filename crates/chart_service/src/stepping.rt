@@ -3,6 +3,7 @@ ghost use Rattle.std.specs.Prelude.{◌≡◌, ◌≤◌, ◌^◌, ℕ, List, []
 ghost use Rattle.block_disk.specs.Counts.{HasRisen};
 ghost use Rattle.block_disk.specs.View.{View, Now, Passes};
 ghost use Rattle.chart_frames.specs.Frames.{Fits};
+ghost use Rattle.chart_world.specs.Faults.{CountsFault, fault_in};
 ghost use Rattle.gate_pages.specs.Pages.{GoesOn, Quiet};
 ghost use Rattle.request_lines.specs.Requests.{IsInRange};
 ghost use Rattle.series_book.specs.declared.one_series.Series.{Series};
@@ -10,6 +11,7 @@ ghost use Rattle.series_book.specs.Edits.{apply};
 ghost use Rattle.series_store.specs.Results.{IsUnchanged, KeepsBook, CommitsNone};
 ghost use Rattle.stored_book.specs.Standing.{StandsForBook};
 ghost use Rattle.chart_service.specs.Alone.{session_in, session_named};
+ghost use Rattle.chart_service.specs.Faulting.{step_fault};
 ghost use Rattle.chart_service.specs.Opening.{OpensBy, LosesAtMost, StaysIn};
 ghost use Rattle.zoom_session.specs.Sessions.{session_of, last_of};
 ghost use Rattle.chart_service.specs.Replies.{Replied, line_text, own_zoom};
@@ -54,6 +56,7 @@ impl<P: Pages> Service<P> {
         // nor does an edit that leaves the book as it is
         ensures same_book { shown.ForBook self.old (λ total book. All (λ e. KeepsBook book (apply book total e)) (edit_asked request.now) → CommitsNone (shown.view self.old) (shown.view self.new)) }
         ensures cause { IfErr result (IsCause request.now self.old self.new) }
+        ensures faults { CountsFault (fault_in step_fault result) (shown.view self.old) (shown.view self.new) }
         ensures bad { IfErr result (NamesBad (shown.IsTold self.new) (shown.view self.new).size (shown.image self.new)) }
         ensures steps { Steps (shown.IsTold self.old) (shown.IsTold self.new) (shown.view self.old) (shown.view self.new) }
         ensures goes_on { GoesOn (shown.under self.old) (shown.under self.new) }
@@ -87,6 +90,7 @@ impl<P: Pages> Service<P> {
         ensures idle { edit_of (line_text line.now) ≡ [] → IsUnchanged (shown.IsTold self.old) (shown.view self.old) (shown.view self.new) }
         ensures cause { IfErr result (IsCauseOfLine (line_text line.now) self.old self.new) }
         ensures disk { result ≡ Err ServiceError.DiskFault → HasRisen (shown.view self.old).faults (shown.view self.new).faults }
+        ensures faults { CountsFault (fault_in step_fault result) (shown.view self.old) (shown.view self.new) }
         ensures bad { IfErr result (NamesBad (shown.IsTold self.new) (shown.view self.new).size (shown.image self.new)) }
         ensures steps { Steps (shown.IsTold self.old) (shown.IsTold self.new) (shown.view self.old) (shown.view self.new) }
         ensures goes_on { GoesOn (shown.under self.old) (shown.under self.new) }
@@ -122,6 +126,7 @@ impl<P: Pages> Service<P> {
         ensures moments { shown.PassesTo (Now (shown.view self.old)) self.old self.new }
         ensures idle { IsUnchanged (shown.IsTold self.old) (shown.view self.old) (shown.view self.new) }
         ensures cause { ForLast session self.old (λ last. IfErr result (IsCause (own_zoom session last) self.old self.new)) }
+        ensures faults { CountsFault (fault_in step_fault result) (shown.view self.old) (shown.view self.new) }
         ensures bad { IfErr result (NamesBad (shown.IsTold self.new) (shown.view self.new).size (shown.image self.new)) }
         ensures steps { Steps (shown.IsTold self.old) (shown.IsTold self.new) (shown.view self.old) (shown.view self.new) }
         ensures goes_on { GoesOn (shown.under self.old) (shown.under self.new) }

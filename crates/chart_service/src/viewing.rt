@@ -1,5 +1,5 @@
 //! A service answers views.
-ghost use Rattle.std.specs.Prelude.{◌≡◌, ◌≤◌, ◌+ℤ◌, ℕ, ℤ, List, None, Some, length, slice_get, IfOk, IfSome, OnOk, IsTrue, IsSomeAnd, MatchResult, Ok, Err};
+ghost use Rattle.std.specs.Prelude.{◌≡◌, ◌≢◌, ◌≤◌, ◌+ℤ◌, ℕ, ℤ, List, None, Some, length, slice_get, IfOk, IfErr, IfSome, OnOk, IsTrue, IsSomeAnd, MatchResult, Ok, Err};
 ghost use Rattle.block_disk.specs.View.{View};
 ghost use Rattle.series_book.specs.declared.one_series.Series.{Series};
 ghost use Rattle.stored_book.specs.Standing.{StandsForBook};
@@ -44,6 +44,8 @@ impl<P: Pages> Service<P> {
         requires short { IfSome text.now (λ text. length text ≤ 8192) }
         ensures replying { RepliesOver (ShowsByText text.now number name.now viewport word) (ReadsByName text.now name.now viewport) result self.old self.new }
         ensures looked { LooksIn (Some number) result self.old self.new }
+        ensures quiet { OnOk result ((shown.view self.new).faults ≡ (shown.view self.old).faults) }
+        ensures quiet_err { IfErr result (λ e. e ≢ ServiceError.DiskFault → (shown.view self.new).faults ≡ (shown.view self.old).faults) }
     {
         match filter_of(self.alloc, text) {
             Ok(filter) => self.view(number, name, viewport, word, filter),
@@ -65,6 +67,8 @@ impl<P: Pages> Service<P> {
         requires number { 1 ≤ number }
         ensures replying { RepliesOver (ShowsBy filter number name.now viewport word) (ReadsNamed filter name.now viewport) result self.old self.new }
         ensures looked { LooksIn (Some number) result self.old self.new }
+        ensures quiet { OnOk result ((shown.view self.new).faults ≡ (shown.view self.old).faults) }
+        ensures quiet_err { IfErr result (λ e. e ≢ ServiceError.DiskFault → (shown.view self.new).faults ≡ (shown.view self.old).faults) }
     {
         if !self.sessions.is_open(number) {
             return Ok(refused(Refusal::UnknownSession));
@@ -86,6 +90,8 @@ impl<P: Pages> Service<P> {
         requires number { 1 ≤ number }
         ensures replying { RepliesOver (MovesTo number (λ last. (t0, t1))) (ReadsLastOf number self.old.sessions) result self.old self.new }
         ensures looked { LooksIn (Some number) result self.old self.new }
+        ensures quiet { OnOk result ((shown.view self.new).faults ≡ (shown.view self.old).faults) }
+        ensures quiet_err { IfErr result (λ e. e ≢ ServiceError.DiskFault → (shown.view self.new).faults ≡ (shown.view self.old).faults) }
         ensures stays { StaysIn number result self.old.sessions self.new.sessions }
     {
         let last = match self.last_answered(number) {
@@ -102,6 +108,8 @@ impl<P: Pages> Service<P> {
         requires number { 1 ≤ number }
         ensures replying { RepliesOver (MovesTo number (λ last. (last.grid.t0 +ℤ by, last.grid.t1 +ℤ by))) (ReadsLastOf number self.old.sessions) result self.old self.new }
         ensures looked { LooksIn (Some number) result self.old self.new }
+        ensures quiet { OnOk result ((shown.view self.new).faults ≡ (shown.view self.old).faults) }
+        ensures quiet_err { IfErr result (λ e. e ≢ ServiceError.DiskFault → (shown.view self.new).faults ≡ (shown.view self.old).faults) }
     {
         let last = match self.last_answered(number) {
             Ok(last) => last.copy()?,
@@ -125,6 +133,8 @@ impl<P: Pages> Service<P> {
         ensures replying { (total : ℕ) (book : List Series) (t0 t1 : ℤ) → shown.IsTold self.old → StandsForBook (shown.image self.old) total book → IsMoved last.grid t0 t1 grid
             → Replying (λ frame old new. Moves last number t0 t1 frame old new) (ReadsLast book (Some last)) result total book self.old.sessions self.new.sessions (shown.view self.old) (shown.view self.new) }
         ensures looked { LooksIn (Some number) result self.old self.new }
+        ensures quiet { OnOk result ((shown.view self.new).faults ≡ (shown.view self.old).faults) }
+        ensures quiet_err { IfErr result (λ e. e ≢ ServiceError.DiskFault → (shown.view self.new).faults ≡ (shown.view self.old).faults) }
         ensures stays { StaysIn number result self.old.sessions self.new.sessions }
     {
         // It brings in how many series there are.
@@ -167,6 +177,8 @@ impl<P: Pages> Service<P> {
         requires view { IsViewIn (length (shown.catalog self.old)) spec }
         ensures replying { RepliesOver (Shows spec number) (ReadsFiltered spec) result self.old self.new }
         ensures looked { LooksIn (Some number) result self.old self.new }
+        ensures quiet { OnOk result ((shown.view self.new).faults ≡ (shown.view self.old).faults) }
+        ensures quiet_err { IfErr result (λ e. e ≢ ServiceError.DiskFault → (shown.view self.new).faults ≡ (shown.view self.old).faults) }
         ensures stays { StaysIn number result self.old.sessions self.new.sessions }
     {
         if spec.filter.is_none() {

@@ -14,3 +14,5 @@ pub mod Sends
 pub mod SentOn
 pub mod SendMoments
 pub mod Timed
+pub mod Faults
+pub mod FaultLaws

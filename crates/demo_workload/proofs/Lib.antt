@@ -5,3 +5,4 @@ pub mod Replies
 pub mod Knowing
 pub mod Moved
 pub mod Stepped
+pub mod Faulting

@@ -1,9 +1,10 @@
 -- Why a workload wasn't answered to its end, and what stays.
-use Rattle.std.specs.Prelude.{◌≡◌, ◌≢◌, ◌≤◌, ◌⊎◌, List, [], Option, Result, IfErr, ⊤}
+use Rattle.std.specs.Prelude.{◌≡◌, ◌≢◌, ◌≤◌, ◌⊎◌, List, [], Option, None, Some, Result, IfErr, ⊤}
 use Rattle.block_disk.specs.Counts.{HasRisen}
 use Rattle.block_disk.specs.View.{View}
 use Rattle.line_raster.specs.Canvas.{Canvas}
 use Rattle.chart_frames.specs.declared.frame.Frame.{Frame}
+use Rattle.chart_world.specs.Faults.{Fault, OfDisk}
 use Rattle.chart_client.specs.declared.holding.Holding.{Holding}
 use Rattle.chart_client.specs.declared.errors.ClientError.{ClientError}
 use Rattle.chart_client.specs.declared.errors.ClientError.TheVariants as client
@@ -20,6 +21,14 @@ abbrev pub end_of_step : ServiceError → DemoEnd
 end_of_step step.DiskFault = DiskFault
 end_of_step (step.Damaged page) = Damaged page
 end_of_step step.NoMemory = NoMemory
+
+-- which call failed, by the end that tells of it
+abbrev pub demo_fault : DemoEnd → Option Fault
+demo_fault DiskFault = Some OfDisk
+demo_fault (Damaged page) = None
+demo_fault (Missing key) = None
+demo_fault (BadCoefficient key) = None
+demo_fault NoMemory = None
 
 -- where the pages stand for a book, a fault of the disk or want of memory alone keeps from the summary
 abbrev pub IsOutside : DemoEnd → Type 0

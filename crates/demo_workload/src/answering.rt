@@ -1,6 +1,7 @@
 //! One request of a workload: the service answers it, and a client draws what it is sent.
 ghost use Rattle.std.specs.Prelude.{◌≡◌, ◌≢◌, ◌+◌, ◌<◌, ◌^◌, ℕ, None, Some, IfOk, IfErr, OnOk, Err};
 ghost use Rattle.block_disk.specs.View.{View};
+ghost use Rattle.chart_world.specs.Faults.{CountsFault, fault_in};
 ghost use Rattle.gate_pages.specs.Pages.{GoesOn};
 ghost use Rattle.request_lines.specs.Requests.{IsInRange};
 ghost use Rattle.chart_frames.specs.Frames.{Fits};
@@ -9,7 +10,7 @@ ghost use Rattle.chart_client.specs.Accepting.{Accepts, session_in};
 ghost use Rattle.chart_service.specs.Shown as shown;
 ghost use Rattle.chart_service.specs.Stepping.{RepliedTo, IsBeforeOrAfter, Steps};
 ghost use Rattle.demo_workload.specs.Summaries.{IsSmall};
-ghost use Rattle.demo_workload.specs.Ending.{IfStopped, IsOutside, end_of_step};
+ghost use Rattle.demo_workload.specs.Ending.{IfStopped, IsOutside, demo_fault, end_of_step};
 ghost use Rattle.demo_workload.specs.Answering.{ForMirrored, KnowsOpen, AnswersOne, AcceptsOne, RejectsAs, IsOneCause};
 
 use crate::demo_end::DemoEnd;
@@ -47,6 +48,7 @@ pub(crate) fn answer<P: Pages>(
     ensures known { OnOk result (KnowsOpen service.new.sessions client.new) }
     ensures accepts { OnOk result (AcceptsOne client.old client.new) }
     ensures cause { IfErr result (λ end. IsOneCause end client.old (shown.IsTold service.new) (shown.view service.old) (shown.view service.new)) }
+    ensures faults { CountsFault (fault_in demo_fault result) (shown.view service.old) (shown.view service.new) }
     ensures steps { Steps (shown.IsTold service.old) (shown.IsTold service.new) (shown.view service.old) (shown.view service.new) }
     ensures goes_on { GoesOn (shown.under service.old) (shown.under service.new) }
     ensures fit { result ≢ Err DemoEnd.DiskFault → (shown.view service.new).fit }

@@ -1,12 +1,13 @@
 //! A workload is given to a service and a client of it.
 ghost use Rattle.std.specs.Prelude.{◌≡◌, ◌≢◌, ◌≤◌, [], IfOk, IfErr, Err};
 ghost use Rattle.block_disk.specs.View.{View, Now, Only};
+ghost use Rattle.chart_world.specs.Faults.{CountsFault, fault_in};
 ghost use Rattle.gate_pages.specs.Pages.{GoesOn};
 ghost use Rattle.chart_service.specs.Shown as shown;
 ghost use Rattle.chart_service.specs.Stepping.{state_of};
 ghost use Rattle.demo_workload.specs.Workload.{workload};
 ghost use Rattle.demo_workload.specs.Replying.{Summarizes, IsPartWay, PassesPartWay};
-ghost use Rattle.demo_workload.specs.Ending.{IfStopped, IsOutside, IsCause, Runs};
+ghost use Rattle.demo_workload.specs.Ending.{IfStopped, IsOutside, IsCause, Runs, demo_fault};
 
 use crate::answering::answer;
 use crate::demo_end::DemoEnd;
@@ -42,6 +43,7 @@ pub fn run_workload<P: Pages>(
     ensures left { shown.ForBook service.old (λ total book. IfStopped result (IsPartWay (workload seed count) total (state_of book total []) (shown.image service.new))) }
     // whatever the pages are
     ensures cause { IfErr result (λ end. IsCause end (shown.IsTold service.new) (shown.view service.old) (shown.view service.new)) }
+    ensures faults { CountsFault (fault_in demo_fault result) (shown.view service.old) (shown.view service.new) }
     ensures runs { Runs (shown.IsTold service.old) (shown.IsTold service.new) (shown.view service.old) (shown.view service.new) }
     ensures goes_on { GoesOn (shown.under service.old) (shown.under service.new) }
     ensures fit { result ≢ Err DemoEnd.DiskFault → (shown.view service.new).fit }

@@ -11,7 +11,6 @@ use Rattle.chart_world.specs.LineLaws.{says_text, told_behind}
 use Rattle.derived_chart.specs.Points.{IsSumAt}
 use Rattle.line_raster.specs.Canvas.{Canvas}
 use Rattle.plain_chart.specs.declared.value_range.ValueRange.{ValueRange}
-use Rattle.request_lines.specs.declared.ranges.RangeWord.TheVariants as word
 use Rattle.series_book.specs.Edits.{id_of}
 use Rattle.series_book.specs.declared.one_series.Series.{Series}
 use Rattle.series_pair.proofs.ChartLemmas.{same_series}

@@ -3,6 +3,7 @@ pub mod LineLemmas
 pub mod EndLemmas
 pub mod AskLemmas
 pub mod DoingLemmas
+pub mod FaultLemmas
 pub mod DiskLemmas
 pub mod StatusLemmas
 pub mod PictureLemmas

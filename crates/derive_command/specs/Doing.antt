@@ -1,12 +1,12 @@
 -- What is asked, what is done of one line, and what calls move. Private contracts are stated by these words.
-use Rattle.std.specs.Prelude.{◌≡◌, ℕ, ◌<◌, ◌≤◌, ◌⊎◌, List, [], length, Option, Some, Result, Ok, Err, IfErr, OnOk, ⊤}
+use Rattle.std.specs.Prelude.{◌≡◌, ℕ, ◌<◌, ◌≤◌, ◌⊎◌, List, [], length, Option, None, Some, Result, Ok, Err, IfErr, OnOk, ⊤}
 use Rattle.block_disk.specs.Counts.{HasRisen}
 use Rattle.block_disk.specs.Streams.{sent_after, PartSent}
 use Rattle.block_disk.specs.View.{Now, Passes, sent_now}
-use Rattle.block_disk.specs.declared.streams.Streams as streams
 use Rattle.chart_grid.specs.Limits.{IsWindow, IsSide, IsBadWindow, IsBadSide}
 use Rattle.chart_grid.specs.declared.grid.Grid.{Grid}
 use Rattle.chart_service.specs.Viewing.{IsBadRange}
+use Rattle.chart_world.specs.Faults.{Fault, OfDisk, OfSend, OfTake}
 use Rattle.chart_world.specs.declared.line_answer.LineFault.{LineFault}
 use Rattle.chart_world.specs.declared.line_answer.LineFault.TheVariants as fault
 use Rattle.gate_pages.specs.Pages.{GoesOn}
@@ -15,7 +15,6 @@ use Rattle.series_book.specs.declared.one_series.Series.{Series}
 use Rattle.series_pair.specs.Derived.{AreShifted}
 use Rattle.series_pair.specs.declared.sum_error.SumError.{SumError}
 use Rattle.series_pair.specs.declared.sum_error.SumError.TheVariants as sum
-use Rattle.series_store.specs.Shown as shown
 use Rattle.store_commands.specs.Sides.{Side}
 use Rattle.stored_book.specs.Damage.{IsBadForRequest}
 use Rattle.derive_command.specs.Answers.{AnswersLine, AreNamed, IsAnswer, IsGridOf, IsRefused, RefusesLine, asked_range}
@@ -166,3 +165,14 @@ IsCause InputTooLong old new = ⊤
 IsCause DiskFault old new = HasRisen old.view.faults new.view.faults
 IsCause (Damaged page) old new = (page < old.total) × (new.told → IsBadForRequest new.view.size new.view.image page)
 IsCause NoMemory old new = ⊤
+
+-- the failed call of which the end tells
+abbrev pub derive_fault : DeriveEnd → Option Fault
+derive_fault (BadLine at) = None
+derive_fault (Refused at refusal) = None
+derive_fault ReadFault = Some OfTake
+derive_fault SendFault = Some OfSend
+derive_fault InputTooLong = None
+derive_fault DiskFault = Some OfDisk
+derive_fault (Damaged page) = None
+derive_fault NoMemory = None

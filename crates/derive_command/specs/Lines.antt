@@ -1,8 +1,8 @@
 -- How far the lines of an input are answered.
-use Rattle.std.specs.Prelude.{◌≡◌, ℕ, ◌+◌, ◌-◌, ◌^◌, ◌<◌, ◌≤◌, List, [], ◌∷◌, ◌++◌, length, take, Option, IfSome, IsTrue}
+use Rattle.std.specs.Prelude.{◌≡◌, ℕ, ◌-◌, ◌^◌, ◌<◌, ◌≤◌, List, [], ◌∷◌, ◌++◌, length, take, Option, IfSome, IsTrue}
 use Rattle.block_disk.specs.Streams.{sent_after, PartSent}
 use Rattle.chart_service.specs.Serving.{told}
-use Rattle.chart_world.specs.Fronts.{says, BeginsWith, IsWhole, first_piece}
+use Rattle.chart_world.specs.Fronts.{says, BeginsWith, IsWhole}
 use Rattle.chart_world.specs.Lines.{lines, NoLineFeed}
 use Rattle.series_book.specs.declared.one_series.Series.{Series}
 use Rattle.store_commands.specs.InputLines.{NextLine, Unended}

@@ -2,10 +2,11 @@
 ghost use Rattle.std.specs.Prelude.{◌≡◌, ◌≤◌, Err, length, IfErr, OnOk};
 ghost use Rattle.block_disk.specs.Counts.{HasRisen};
 ghost use Rattle.block_disk.specs.Streams.{sent_after, PartSent};
+ghost use Rattle.chart_world.specs.Faults.{CountsFault, fault_in};
 ghost use Rattle.pbm_writer.specs.Picture.{picture};
 ghost use Rattle.series_store.specs.Shown as shown;
 ghost use Rattle.store_commands.specs.Sides.{side_of};
-ghost use Rattle.derive_command.specs.Doing.{DoesLine, DoesRequest, Goes, IsCause, TextStops, end_at};
+ghost use Rattle.derive_command.specs.Doing.{DoesLine, DoesRequest, Goes, IsCause, TextStops, derive_fault, end_at};
 ghost use Rattle.derive_command.specs.Requests.{IsFactor};
 
 use crate::asking::asked_of;
@@ -50,6 +51,7 @@ fn send_picture<P: PageWorld>(
     ensures left { P.left (shown.pages store.new) ≡ P.left (shown.pages store.old) }
     ensures read_faults { P.read_faults (shown.pages store.new) ≡ P.read_faults (shown.pages store.old) }
     ensures beside { shown.Keeps (P.sends (length (picture chart.now)) (shown.pages store.old) (shown.pages store.new)) store.old store.new }
+    ensures faults { CountsFault (fault_in derive_fault result) (shown.view store.old) (shown.view store.new) }
 {
     let Ok(text) = pbm(alloc, chart) else {
         return Err(DeriveEnd::NoMemory);
@@ -74,6 +76,7 @@ fn answer_request<P: PageWorld>(
     ensures goes { Goes (side_of P.Streams store) (side_of P.Streams result.1) }
     ensures cause { IfErr result.0 (λ e. IsCause e (side_of P.Streams store) (side_of P.Streams result.1)) }
     ensures left { P.left (shown.pages result.1) ≡ P.left (shown.pages store) }
+    ensures faults { CountsFault (fault_in derive_fault result.0) (shown.view store) (shown.view result.1) }
 {
     let asked = match asked_of(&store, request) {
         Ok(asked) => asked,
@@ -109,6 +112,7 @@ pub(crate) fn answer_line<P: PageWorld>(
     ensures goes { Goes (side_of P.Streams store) (side_of P.Streams result.1) }
     ensures cause { IfErr result.0 (λ e. IsCause e (side_of P.Streams store) (side_of P.Streams result.1)) }
     ensures left { P.left (shown.pages result.1) ≡ P.left (shown.pages store) }
+    ensures faults { CountsFault (fault_in derive_fault result.0) (shown.view store) (shown.view result.1) }
 {
     if line.is_empty() {
         return (Ok(()), store);

@@ -1,12 +1,15 @@
 //! The command `derive`: a picture for each line of the input, drawn of the store of a disk.
 ghost use Rattle.std.specs.Prelude.{◌≡◌, ◌+◌, ◌*◌, IsTrue};
 ghost use Rattle.block_disk.specs.View.{View};
+ghost use Rattle.chart_world.specs.Faults.{CountsFault, fault_in};
 ghost use Rattle.series_store.specs.Shown as shown;
 ghost use Rattle.store_commands.specs.Away.{TurnsAway};
+ghost use Rattle.store_commands.specs.Status.{code_fault};
 ghost use Rattle.store_commands.specs.Traffic.{traffic};
 ghost use Rattle.derive_command.specs.Answers.{number_of};
 ghost use Rattle.derive_command.specs.Derived.{EndsDerive};
 ghost use Rattle.derive_command.specs.Deriving.{DrawnOn, answer_status};
+ghost use Rattle.derive_command.specs.Doing.{derive_fault};
 
 use crate::derive_end::DeriveEnd;
 use crate::derive_refusal::DeriveRefusal;
@@ -30,6 +33,8 @@ pub const REFUSED_LINE: u8 = 16;
 pub fn derive<W: World>(alloc: Global, world: W) -> (Status, W)
     ensures ends { EndsDerive (W.view world) (W.view result.1) (traffic W.left W.sent W.read_faults W.send_faults world result.1) result.0 }
     ensures away { TurnsAway (W.view world) (traffic W.left W.sent W.read_faults W.send_faults world result.1) result.0 }
+    // a count of faults has risen just where the status tells of such a fault
+    ensures faults { CountsFault (code_fault result.0.code) (W.view world) (W.view result.1) }
 {
     match open_store(alloc, world) {
         Ok(store) => {
@@ -43,7 +48,8 @@ pub fn derive<W: World>(alloc: Global, world: W) -> (Status, W)
 /// The same over a store that is open: what that answers, and the disk.
 fn draw_store<W: World>(alloc: Global, store: Store<GatePages<W>>) -> (Result<(), DeriveEnd>, W)
     requires { IsTrue (shown.pages store).sound }
-    ensures { let pages = shown.pages store in DrawnOn pages.count (W.view pages.disk) (W.view result.1) (traffic W.left W.sent W.read_faults W.send_faults pages.disk result.1) result.0 }
+    ensures drawn { let pages = shown.pages store in DrawnOn pages.count (W.view pages.disk) (W.view result.1) (traffic W.left W.sent W.read_faults W.send_faults pages.disk result.1) result.0 }
+    ensures faults { CountsFault (fault_in derive_fault result.0) (W.view (shown.pages store).disk) (W.view result.1) }
 {
     let (answer, store) = draw_lines(alloc, store);
     (answer, disk_of(store))

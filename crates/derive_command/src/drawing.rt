@@ -1,9 +1,10 @@
 //! The lines of a store's streams are answered.
 ghost use Rattle.std.specs.Prelude.{◌≡◌, ◌≤◌, ◌<◌, ◌^◌, length, IfErr, IfSome, OnOk};
+ghost use Rattle.chart_world.specs.Faults.{CountsFault, fault_in};
 ghost use Rattle.chart_world.specs.Reading.{unread_input};
 ghost use Rattle.series_store.specs.Shown as shown;
 ghost use Rattle.store_commands.specs.Sides.{side_of};
-ghost use Rattle.derive_command.specs.Doing.{Goes, IsCause, end_of};
+ghost use Rattle.derive_command.specs.Doing.{Goes, IsCause, derive_fault, end_of};
 ghost use Rattle.derive_command.specs.Shown.{AreDrawn, StopSo};
 
 use crate::answering::answer_line;
@@ -33,6 +34,7 @@ pub fn draw_lines<P: PageWorld>(alloc: Global, store: Store<P>) -> (Result<(), D
     // whatever the pages are: a crash leaves at each moment what it might have left before
     ensures goes { Goes (side_of P.Streams store) (side_of P.Streams result.1) }
     ensures cause { IfErr result.0 (λ e. IsCause e (side_of P.Streams store) (side_of P.Streams result.1)) }
+    ensures faults { CountsFault (fault_in derive_fault result.0) (shown.view store) (shown.view result.1) }
 {
     let Ok(mut lines) = Lines::new(alloc) else {
         return (Err(DeriveEnd::NoMemory), store);
@@ -53,6 +55,7 @@ fn answer_lines<P: PageWorld>(
     ensures stops { shown.ForBook store (λ total book. IfErr result.0 (StopSo P.Streams book store result.1)) }
     ensures goes { Goes (side_of P.Streams store) (side_of P.Streams result.1) }
     ensures cause { IfErr result.0 (λ e. IsCause e (side_of P.Streams store) (side_of P.Streams result.1)) }
+    ensures faults { CountsFault (fault_in derive_fault result.0) (shown.view store) (shown.view result.1) }
 {
     'lines: loop {
         let answer = match lines.next(&mut store) {

@@ -1,5 +1,5 @@
 //! Between which numbers the sums of a range lie.
-ghost use Rattle.std.specs.Prelude.{◌≡◌, ℤ, true, false, ◌+◌, ◌^◌, ◌≤◌, List, length, Option, IfOk, IfErr};
+ghost use Rattle.std.specs.Prelude.{◌≡◌, ◌≢◌, ℤ, true, false, ◌+◌, ◌^◌, ◌≤◌, List, length, Option, IfOk, IfErr, OnOk};
 ghost use Rattle.om3_coeff.specs.Spans.{IsProperIfAny, span_over};
 ghost use Rattle.derived_chart.specs.Bounds.{AreBetween, IsValueOf};
 ghost use Rattle.derived_chart.specs.Sums.{AreSums, IsSmall, one_of};
@@ -25,6 +25,8 @@ fn span_in<T: TwoTrees>(
     ensures fit { (T.view trees.new).fit }
     ensures goes { T.goes trees.old trees.new }
     ensures cause { IfErr result (T.causes trees.old trees.new) }
+    ensures quiet { OnOk result ((T.view trees.new).faults ≡ (T.view trees.old).faults) }
+    ensures quiet_err { IfErr result (λ e. e ≢ NodeError.DiskFault → (T.view trees.new).faults ≡ (T.view trees.old).faults) }
 {
     trees.turn(second);
     range_span(trees, a, b)
@@ -47,6 +49,8 @@ pub(crate) fn bounds<T: TwoTrees>(
     ensures fit { (T.view trees.new).fit }
     ensures goes { T.goes trees.old trees.new }
     ensures cause { IfErr result (T.causes trees.old trees.new) }
+    ensures quiet { OnOk result ((T.view trees.new).faults ≡ (T.view trees.old).faults) }
+    ensures quiet_err { IfErr result (λ e. e ≢ NodeError.DiskFault → (T.view trees.new).faults ≡ (T.view trees.old).faults) }
 {
     let Some(x) = span_in(trees, false, p, q)? else {
         return Ok(None);
@@ -69,6 +73,7 @@ fn slots_of_second<T: TwoTrees>(trees: &mut T) -> u64
     ensures length { (xs ys : List (Option ℤ)) → T.are trees.old xs ys → result ≡ length ys }
     ensures fit { (T.view trees.new).fit }
     ensures goes { T.goes trees.old trees.new }
+    ensures quiet { (T.view trees.new).faults ≡ (T.view trees.old).faults }
 {
     trees.turn(true);
     trees.slots()

@@ -1,5 +1,5 @@
 //! The row of a column.
-ghost use Rattle.std.specs.Prelude.{◌≡◌, ℤ, ◌+◌, ◌<◌, ◌≤◌, ◌^◌, List, Option, IfOk, IfErr, IfSome, ℕ, false, ◌≤ℤ◌};
+ghost use Rattle.std.specs.Prelude.{◌≡◌, ◌≢◌, ℤ, ◌+◌, ◌<◌, ◌≤◌, ◌^◌, List, Option, IfOk, IfErr, OnOk, IfSome, ℕ, false, ◌≤ℤ◌};
 ghost use Rattle.whole_number.specs.Range.{IsValue};
 ghost use Rattle.m4_groups.specs.Heights.{IsDrawable};
 ghost use Rattle.derived_chart.specs.Rows.{AreFound, AreValues, IsRowIn, IsRowIfAny};
@@ -32,6 +32,8 @@ pub(crate) fn row_of_column<T: TwoTrees>(
     ensures fit { (T.view trees.new).fit }
     ensures goes { T.goes trees.old trees.new }
     ensures cause { IfErr result (T.causes trees.old trees.new) }
+    ensures quiet { OnOk result ((T.view trees.new).faults ≡ (T.view trees.old).faults) }
+    ensures quiet_err { IfErr result (λ e. e ≢ NodeError.DiskFault → (T.view trees.new).faults ≡ (T.view trees.old).faults) }
 {
     let Some(first) = first_sum(trees, sum, p, q)? else {
         return Ok(None);

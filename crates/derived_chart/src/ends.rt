@@ -1,5 +1,5 @@
 //! The ends of the sums of a range.
-ghost use Rattle.std.specs.Prelude.{◌≡◌, ℤ, Bool, true, false, ◌+◌, ◌<◌, ◌^◌, ◌≤◌, List, Option, IfOk, IfErr, unsigned_abs};
+ghost use Rattle.std.specs.Prelude.{◌≡◌, ◌≢◌, ℤ, Bool, true, false, ◌+◌, ◌<◌, ◌^◌, ◌≤◌, List, Option, IfOk, IfErr, OnOk, unsigned_abs};
 ghost use Rattle.derived_chart.specs.Bounds.{AreInLimits};
 ghost use Rattle.om3_coeff.specs.Walks.{IsFirstStored, IsLastStored};
 ghost use Rattle.derived_chart.specs.Searches.{AreHalves, AreShorter, IsEndOf, IsFirstLarge, IsOneFound};
@@ -69,6 +69,8 @@ pub(crate) fn end_from<T: TwoTrees>(
     ensures fit { (T.view trees.new).fit }
     ensures goes { T.goes trees.old trees.new }
     ensures cause { IfErr result (T.causes trees.old trees.new) }
+    ensures quiet { OnOk result ((T.view trees.new).faults ≡ (T.view trees.old).faults) }
+    ensures quiet_err { IfErr result (λ e. e ≢ NodeError.DiskFault → (T.view trees.new).faults ≡ (T.view trees.old).faults) }
 {
     if p == q {
         return Ok(None);
@@ -105,6 +107,8 @@ pub fn first_sum<T: TwoTrees>(
     ensures fit { (T.view trees.new).fit }
     ensures goes { T.goes trees.old trees.new }
     ensures cause { IfErr result (T.causes trees.old trees.new) }
+    ensures quiet { OnOk result ((T.view trees.new).faults ≡ (T.view trees.old).faults) }
+    ensures quiet_err { IfErr result (λ e. e ≢ NodeError.DiskFault → (T.view trees.new).faults ≡ (T.view trees.old).faults) }
 {
     end_from(trees, sum, p, q, Side::First, false)
 }
@@ -125,6 +129,8 @@ pub fn last_sum<T: TwoTrees>(
     ensures fit { (T.view trees.new).fit }
     ensures goes { T.goes trees.old trees.new }
     ensures cause { IfErr result (T.causes trees.old trees.new) }
+    ensures quiet { OnOk result ((T.view trees.new).faults ≡ (T.view trees.old).faults) }
+    ensures quiet_err { IfErr result (λ e. e ≢ NodeError.DiskFault → (T.view trees.new).faults ≡ (T.view trees.old).faults) }
 {
     end_from(trees, sum, p, q, Side::Last, false)
 }
@@ -146,6 +152,8 @@ pub fn first_large_sum<T: TwoTrees>(
     ensures fit { (T.view trees.new).fit }
     ensures goes { T.goes trees.old trees.new }
     ensures cause { IfErr result (T.causes trees.old trees.new) }
+    ensures quiet { OnOk result ((T.view trees.new).faults ≡ (T.view trees.old).faults) }
+    ensures quiet_err { IfErr result (λ e. e ≢ NodeError.DiskFault → (T.view trees.new).faults ≡ (T.view trees.old).faults) }
 {
     end_from(trees, sum, p, q, Side::First, true)
 }

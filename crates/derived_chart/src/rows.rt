@@ -1,11 +1,13 @@
 //! The rows of a sum of two series.
-ghost use Rattle.std.specs.Prelude.{◌≡◌, ℤ, ◌+◌, ◌<◌, ◌≤◌, ◌^◌, List, Option, IfOk, IfErr, OnOk, All, false, length};
+ghost use Rattle.std.specs.Prelude.{◌≡◌, ◌≢◌, ℤ, ◌+◌, ◌<◌, ◌≤◌, ◌^◌, List, Option, IfOk, IfErr, OnOk, All, false, length};
 ghost use Rattle.m4_groups.specs.Heights.{IsDrawable};
 ghost use Rattle.m4_groups.specs.Rows.{AreRising};
 ghost use Rattle.plain_chart.specs.Samples.{kept};
 ghost use Rattle.derived_chart.specs.Lists.{sums_of};
 ghost use Rattle.derived_chart.specs.Rows.{IsAnswer, IsCause, IsRowCause, AreShown, AreRowsBelow, ForColumnSums};
 ghost use Rattle.derived_chart.specs.Sums.{IsSmall};
+ghost use Rattle.derived_chart.specs.declared.derived_error.DerivedError.TheVariants.{Node};
+ghost use Rattle.om3_coeff.specs.declared.errors.NodeError.TheVariants.{DiskFault};
 
 use crate::column_row::row_of_column;
 use crate::derived_error::DerivedError;
@@ -39,6 +41,8 @@ pub fn derived_rows<T: TwoTrees>(
     ensures fit { (T.view trees.new).fit }
     ensures goes { T.goes trees.old trees.new }
     ensures cause { IfErr result (IsCause (T.causes trees.old trees.new)) }
+    ensures quiet { OnOk result ((T.view trees.new).faults ≡ (T.view trees.old).faults) }
+    ensures quiet_err { IfErr result (λ e. e ≢ Node DiskFault → (T.view trees.new).faults ≡ (T.view trees.old).faults) }
 {
     columns_rise();
     let _slots = slots_of_first(trees);
@@ -59,6 +63,7 @@ fn slots_of_first<T: TwoTrees>(trees: &mut T) -> u64
     ensures length { (xs ys : List (Option ℤ)) → T.are trees.old xs ys → result ≡ length xs }
     ensures fit { (T.view trees.new).fit }
     ensures goes { T.goes trees.old trees.new }
+    ensures quiet { (T.view trees.new).faults ≡ (T.view trees.old).faults }
 {
     trees.turn(false);
     trees.slots()
@@ -82,6 +87,8 @@ fn rows_of_columns<T: TwoTrees>(
     ensures fit { (T.view trees.new).fit }
     ensures goes { T.goes trees.old trees.new }
     ensures cause { IfErr result (IsRowCause (T.causes trees.old trees.new)) }
+    ensures quiet { OnOk result ((T.view trees.new).faults ≡ (T.view trees.old).faults) }
+    ensures quiet_err { IfErr result (λ e. e ≢ Node DiskFault → (T.view trees.new).faults ≡ (T.view trees.old).faults) }
 {
     let mut rows = Vec::with_capacity(alloc, usize::from(grid.w()))?;
     for column in 0..grid.w() {
@@ -110,6 +117,8 @@ fn add_column<T: TwoTrees>(
     ensures fit { (T.view trees.new).fit }
     ensures goes { T.goes trees.old trees.new }
     ensures cause { IfErr result (IsRowCause (T.causes trees.old trees.new)) }
+    ensures quiet { OnOk result ((T.view trees.new).faults ≡ (T.view trees.old).faults) }
+    ensures quiet_err { IfErr result (λ e. e ≢ Node DiskFault → (T.view trees.new).faults ≡ (T.view trees.old).faults) }
 {
     let (p, q) = grid.slot_range(axis, column);
     let Some(row) = row_of_column(trees, sum, column, p, q)? else {

@@ -1,5 +1,5 @@
 //! The least and the greatest of the sums of a range.
-ghost use Rattle.std.specs.Prelude.{◌≡◌, ℕ, ℤ, true, false, ◌+◌, ◌+ℤ◌, ◌*ℤ◌, ◌*◌, ◌^◌, ◌<◌, ◌≤◌, ◌⊎◌, pos, List, Option, IfOk, IfErr, IfSome, length, unsigned_abs};
+ghost use Rattle.std.specs.Prelude.{◌≡◌, ◌≢◌, ℕ, ℤ, true, false, ◌+◌, ◌+ℤ◌, ◌*ℤ◌, ◌*◌, ◌^◌, ◌<◌, ◌≤◌, ◌⊎◌, pos, List, Option, IfOk, IfErr, OnOk, IfSome, length, unsigned_abs};
 ghost use Rattle.whole_number.specs.Range.{IsValue};
 ghost use Rattle.derived_chart.specs.Searches.{Beats, IsBestOf, IsBestWith, IsBetter, IsNoBetter, IsRangeOf};
 ghost use Rattle.derived_chart.specs.Slots.{AreArraySums, HasValues, IsBetterOf, IsEmpty, sum_of_slots};
@@ -177,6 +177,8 @@ fn best_of_few<T: TwoTrees>(
     ensures fit { (T.view trees.new).fit }
     ensures goes { T.goes trees.old trees.new }
     ensures cause { IfErr result (T.causes trees.old trees.new) }
+    ensures quiet { OnOk result ((T.view trees.new).faults ≡ (T.view trees.old).faults) }
+    ensures quiet_err { IfErr result (λ e. e ≢ NodeError.DiskFault → (T.view trees.new).faults ≡ (T.view trees.old).faults) }
 {
     let count = q - p;
     let mut xs = no_slots();
@@ -207,6 +209,8 @@ fn best_from<T: TwoTrees>(
     ensures fit { (T.view trees.new).fit }
     ensures goes { T.goes trees.old trees.new }
     ensures cause { IfErr result (T.causes trees.old trees.new) }
+    ensures quiet { OnOk result ((T.view trees.new).faults ≡ (T.view trees.old).faults) }
+    ensures quiet_err { IfErr result (λ e. e ≢ NodeError.DiskFault → (T.view trees.new).faults ≡ (T.view trees.old).faults) }
 {
     let Some(range) = range else {
         return Ok(*found);
@@ -246,6 +250,8 @@ pub fn best_sum<T: TwoTrees>(
     ensures fit { (T.view trees.new).fit }
     ensures goes { T.goes trees.old trees.new }
     ensures cause { IfErr result (T.causes trees.old trees.new) }
+    ensures quiet { OnOk result ((T.view trees.new).faults ≡ (T.view trees.old).faults) }
+    ensures quiet_err { IfErr result (λ e. e ≢ NodeError.DiskFault → (T.view trees.new).faults ≡ (T.view trees.old).faults) }
 {
     if p == q {
         return Ok(None);

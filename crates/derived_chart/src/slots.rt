@@ -1,5 +1,5 @@
 //! The values of a few slots in a row, read by one walk.
-ghost use Rattle.std.specs.Prelude.{◌≡◌, ℤ, true, false, ◌+◌, ◌^◌, ◌*◌, ◌<◌, ◌≤◌, ◌≤ℤ◌, ◌<ℤ◌, ◌+ℤ◌, pos, List, Option, Some, IfOk, IfErr, OnOk, length, unsigned_abs};
+ghost use Rattle.std.specs.Prelude.{◌≡◌, ◌≢◌, ℤ, true, false, ◌+◌, ◌^◌, ◌*◌, ◌<◌, ◌≤◌, ◌≤ℤ◌, ◌<ℤ◌, ◌+ℤ◌, pos, List, Option, Some, IfOk, IfErr, OnOk, length, unsigned_abs};
 ghost use Rattle.whole_number.specs.Range.{IsValue};
 ghost use Rattle.om3_coeff.specs.Keys.{end_slot};
 ghost use Rattle.om3_coeff.specs.View.{Agrees, HasCause};
@@ -68,6 +68,8 @@ fn read_below<N: Nodes>(
     ensures kept { N.keeps nodes.old nodes.new }
     ensures faults { (N.view nodes.old).faults ≤ (N.view nodes.new).faults }
     ensures cause { IfErr result (HasCause (N.view nodes.old) (N.view nodes.new)) }
+    ensures quiet { OnOk result ((N.view nodes.new).faults ≡ (N.view nodes.old).faults) }
+    ensures quiet_err { IfErr result (λ e. e ≢ NodeError.DiskFault → (N.view nodes.new).faults ≡ (N.view nodes.old).faults) }
 {
     let Some(span) = span else {
         return Ok(());
@@ -104,6 +106,8 @@ pub(crate) fn read_slots<T: TwoTrees>(
     ensures fit { (T.view trees.new).fit }
     ensures goes { T.goes trees.old trees.new }
     ensures cause { IfErr result (T.causes trees.old trees.new) }
+    ensures quiet { OnOk result ((T.view trees.new).faults ≡ (T.view trees.old).faults) }
+    ensures quiet_err { IfErr result (λ e. e ≢ NodeError.DiskFault → (T.view trees.new).faults ≡ (T.view trees.old).faults) }
 {
     trees.turn(second);
     let root = trees.root();

@@ -28,6 +28,7 @@ pub trait TwoTrees: Nodes {
         requires { (Self.view self.old).fit }
         ensures fit { (Self.view self.new).fit }
         ensures turned { asks_second self.new ≡ second }
+        ensures quiet { (Self.view self.new).faults ≡ (Self.view self.old).faults }
         ensures goes { goes self.old self.new };
 
     /// No step changes nothing, and steps after steps are steps.

@@ -1,3 +1,4 @@
 pub mod Alone
 pub mod Covers
 pub mod Draws
+pub mod Laws

@@ -1,6 +1,6 @@
 //! The covers of a view, sent one after the other.
 
-ghost use Rattle.std.specs.Prelude.{◌≡◌, ◌≤◌, ◌<◌, ◌+◌, length, min, IfErr, IfSome, OnOk};
+ghost use Rattle.std.specs.Prelude.{◌≡◌, ◌≢◌, ◌≤◌, ◌<◌, ◌+◌, length, min, IfErr, IfSome, OnOk};
 ghost use Rattle.block_disk.specs.Counts.{HasRisen};
 ghost use Rattle.block_disk.specs.View.{View};
 ghost use Rattle.chart_frames.specs.declared.frame.Frame.TheVariants.{View as AView};
@@ -29,6 +29,7 @@ pub(crate) fn send_covers<S: World>(
     ensures done { OnOk result (CoversFrame every frame.now client.now (S.sent streams.old) (S.sent streams.new)) }
     ensures stops { IfErr result (CoversStop every frame.now client.now (S.sent streams.old) (S.sent streams.new)) }
     ensures send { result ≡ Err DrawEnd.SendFault → HasRisen (S.send_faults streams.old) (S.send_faults streams.new) }
+    ensures quiet_sends { result ≢ Err DrawEnd.SendFault → S.send_faults streams.new ≡ S.send_faults streams.old }
     ensures send_faults { S.send_faults streams.old ≤ S.send_faults streams.new }
     ensures left { S.left streams.new ≡ S.left streams.old }
     ensures read_faults { S.read_faults streams.new ≡ S.read_faults streams.old }
@@ -56,6 +57,7 @@ fn send_view_covers<S: World>(
     ensures done { OnOk result (CoversFrame (Some every) (AView view.now) client.now (S.sent streams.old) (S.sent streams.new)) }
     ensures stops { IfErr result (CoversStop (Some every) (AView view.now) client.now (S.sent streams.old) (S.sent streams.new)) }
     ensures send { result ≡ Err DrawEnd.SendFault → HasRisen (S.send_faults streams.old) (S.send_faults streams.new) }
+    ensures quiet_sends { result ≢ Err DrawEnd.SendFault → S.send_faults streams.new ≡ S.send_faults streams.old }
     ensures send_faults { S.send_faults streams.old ≤ S.send_faults streams.new }
     ensures left { S.left streams.new ≡ S.left streams.old }
     ensures read_faults { S.read_faults streams.new ≡ S.read_faults streams.old }

@@ -1,4 +1,4 @@
-ghost use Rattle.std.specs.Prelude.{◌≡◌, ◌≤◌, ◌<◌, ◌^◌, [], length, None, Some, IfErr, IfOk, IfSome, OnErr, OnOk};
+ghost use Rattle.std.specs.Prelude.{◌≡◌, ◌≢◌, ◌≤◌, ◌<◌, ◌^◌, [], length, None, Some, IfErr, IfOk, IfSome, OnErr, OnOk};
 ghost use Rattle.block_disk.specs.Counts.{HasRisen};
 ghost use Rattle.block_disk.specs.Streams.{Given, left_after};
 ghost use Rattle.block_disk.specs.View.{View};
@@ -31,8 +31,10 @@ pub fn draw<S: World>(alloc: Global, streams: &mut S) -> Result<(), DrawEnd>
     ensures within { OnOk result (IfSome (S.left streams.old) (λ input. length input ≤ 2 ^ 32)) }
     ensures ends { IfErr result (λ end. IfSome (S.left streams.old) (λ input. EndsDraw None input (S.left streams.new) (S.sent streams.old) (S.sent streams.new) end)) }
     ensures read { result ≡ Err DrawEnd.ReadFault → HasRisen (S.read_faults streams.old) (S.read_faults streams.new) }
+    ensures quiet_reads { result ≢ Err DrawEnd.ReadFault → S.read_faults streams.new ≡ S.read_faults streams.old }
     ensures numbered { IfErr result IsNumbered }
     ensures send { result ≡ Err DrawEnd.SendFault → HasRisen (S.send_faults streams.old) (S.send_faults streams.new) }
+    ensures quiet_sends { result ≢ Err DrawEnd.SendFault → S.send_faults streams.new ≡ S.send_faults streams.old }
     ensures disk { StaysAlone (S.view streams.old) (S.view streams.new) }
 {
     draw_input(alloc, None, streams)
@@ -46,8 +48,10 @@ pub fn cover<S: World>(alloc: Global, every: u32, streams: &mut S) -> Result<(),
     ensures within { OnOk result (IfSome (S.left streams.old) (λ input. length input ≤ 2 ^ 32)) }
     ensures ends { IfErr result (λ end. IfSome (S.left streams.old) (λ input. EndsDraw (Some every) input (S.left streams.new) (S.sent streams.old) (S.sent streams.new) end)) }
     ensures read { result ≡ Err DrawEnd.ReadFault → HasRisen (S.read_faults streams.old) (S.read_faults streams.new) }
+    ensures quiet_reads { result ≢ Err DrawEnd.ReadFault → S.read_faults streams.new ≡ S.read_faults streams.old }
     ensures numbered { IfErr result IsNumbered }
     ensures send { result ≡ Err DrawEnd.SendFault → HasRisen (S.send_faults streams.old) (S.send_faults streams.new) }
+    ensures quiet_sends { result ≢ Err DrawEnd.SendFault → S.send_faults streams.new ≡ S.send_faults streams.old }
     ensures disk { StaysAlone (S.view streams.old) (S.view streams.new) }
 {
     draw_input(alloc, Some(every), streams)
@@ -61,8 +65,10 @@ fn draw_input<S: World>(alloc: Global, every: Option<u32>, streams: &mut S) -> R
     ensures within { OnOk result (IfSome (S.left streams.old) (λ input. length input ≤ 2 ^ 32)) }
     ensures ends { IfErr result (λ end. IfSome (S.left streams.old) (λ input. EndsDraw every input (S.left streams.new) (S.sent streams.old) (S.sent streams.new) end)) }
     ensures read { result ≡ Err DrawEnd.ReadFault → HasRisen (S.read_faults streams.old) (S.read_faults streams.new) }
+    ensures quiet_reads { result ≢ Err DrawEnd.ReadFault → S.read_faults streams.new ≡ S.read_faults streams.old }
     ensures numbered { IfErr result IsNumbered }
     ensures send { result ≡ Err DrawEnd.SendFault → HasRisen (S.send_faults streams.old) (S.send_faults streams.new) }
+    ensures quiet_sends { result ≢ Err DrawEnd.SendFault → S.send_faults streams.new ≡ S.send_faults streams.old }
     ensures disk { StaysAlone (S.view streams.old) (S.view streams.new) }
 {
     let mut client = Client::new(alloc)?;
@@ -95,8 +101,10 @@ fn draw_pieces<S: World>(
     ensures within { OnOk result (IfSome (S.left streams.old) (λ input. length input ≤ 2 ^ 32)) }
     ensures ends { IfErr result (λ end. IfSome (S.left streams.old) (λ input. EndsDraw every input (S.left streams.new) (S.sent streams.old) (S.sent streams.new) end)) }
     ensures read { result ≡ Err DrawEnd.ReadFault → HasRisen (S.read_faults streams.old) (S.read_faults streams.new) }
+    ensures quiet_reads { result ≢ Err DrawEnd.ReadFault → S.read_faults streams.new ≡ S.read_faults streams.old }
     ensures numbered { IfErr result IsNumbered }
     ensures send { result ≡ Err DrawEnd.SendFault → HasRisen (S.send_faults streams.old) (S.send_faults streams.new) }
+    ensures quiet_sends { result ≢ Err DrawEnd.SendFault → S.send_faults streams.new ≡ S.send_faults streams.old }
     ensures disk { StaysAlone (S.view streams.old) (S.view streams.new) }
 {
     more_bytes_mend_nothing();
@@ -134,6 +142,7 @@ fn take_piece<S: World>(buffer: &mut [u8], streams: &mut S) -> Result<usize, Dra
     ensures fault { IfErr result (λ end. end ≡ draw_end.ReadFault) }
     ensures left_on_err { OnErr result (S.left streams.new ≡ S.left streams.old) }
     ensures cause { OnErr result (HasRisen (S.read_faults streams.old) (S.read_faults streams.new)) }
+    ensures quiet_reads { result ≢ Err DrawEnd.ReadFault → S.read_faults streams.new ≡ S.read_faults streams.old }
     ensures read_faults { S.read_faults streams.old ≤ S.read_faults streams.new }
     ensures sent { S.sent streams.new ≡ S.sent streams.old }
     ensures send_faults { S.send_faults streams.new ≡ S.send_faults streams.old }
@@ -171,6 +180,7 @@ fn draw_piece<S: World>(
     ensures stops { IfErr result (PieceStops every piece.now decoder.old client.old (S.sent streams.old) (S.sent streams.new)) }
     ensures numbered { IfErr result IsNumbered }
     ensures send { result ≡ Err DrawEnd.SendFault → HasRisen (S.send_faults streams.old) (S.send_faults streams.new) }
+    ensures quiet_sends { result ≢ Err DrawEnd.SendFault → S.send_faults streams.new ≡ S.send_faults streams.old }
     ensures send_faults { S.send_faults streams.old ≤ S.send_faults streams.new }
     ensures left { S.left streams.new ≡ S.left streams.old }
     ensures read_faults { S.read_faults streams.new ≡ S.read_faults streams.old }
@@ -194,6 +204,7 @@ fn draw_frames<S: World>(
     ensures stops { IfErr result (FramesStop every decoder.old client.old (S.sent streams.old) (S.sent streams.new)) }
     ensures numbered { IfErr result IsNumbered }
     ensures send { result ≡ Err DrawEnd.SendFault → HasRisen (S.send_faults streams.old) (S.send_faults streams.new) }
+    ensures quiet_sends { result ≢ Err DrawEnd.SendFault → S.send_faults streams.new ≡ S.send_faults streams.old }
     ensures send_faults { S.send_faults streams.old ≤ S.send_faults streams.new }
     ensures left { S.left streams.new ≡ S.left streams.old }
     ensures read_faults { S.read_faults streams.new ≡ S.read_faults streams.old }
@@ -222,6 +233,7 @@ fn draw_frame<S: World>(
     ensures stops { IfErr result (FrameStops every frame.now client.old (S.sent streams.old) (S.sent streams.new)) }
     ensures numbered { IfErr result IsNumbered }
     ensures send { result ≡ Err DrawEnd.SendFault → HasRisen (S.send_faults streams.old) (S.send_faults streams.new) }
+    ensures quiet_sends { result ≢ Err DrawEnd.SendFault → S.send_faults streams.new ≡ S.send_faults streams.old }
     ensures send_faults { S.send_faults streams.old ≤ S.send_faults streams.new }
     ensures left { S.left streams.new ≡ S.left streams.old }
     ensures read_faults { S.read_faults streams.new ≡ S.read_faults streams.old }

@@ -1,6 +1,6 @@
 //! A drawing, sent as a picture.
 
-ghost use Rattle.std.specs.Prelude.{◌≡◌, ◌≤◌, IfErr, OnOk};
+ghost use Rattle.std.specs.Prelude.{◌≡◌, ◌≢◌, ◌≤◌, IfErr, OnOk};
 ghost use Rattle.block_disk.specs.Counts.{HasRisen};
 ghost use Rattle.block_disk.specs.Streams.{sent_after};
 ghost use Rattle.block_disk.specs.View.{View};
@@ -23,6 +23,7 @@ pub(crate) fn send_picture<S: World>(
     ensures done { OnOk result (S.sent streams.new ≡ sent_after (picture drawing.now) (S.sent streams.old)) }
     ensures stops { IfErr result (PictureStops drawing.now (S.sent streams.old) (S.sent streams.new)) }
     ensures send { result ≡ Err DrawEnd.SendFault → HasRisen (S.send_faults streams.old) (S.send_faults streams.new) }
+    ensures quiet_sends { result ≢ Err DrawEnd.SendFault → S.send_faults streams.new ≡ S.send_faults streams.old }
     ensures send_faults { S.send_faults streams.old ≤ S.send_faults streams.new }
     ensures left { S.left streams.new ≡ S.left streams.old }
     ensures read_faults { S.read_faults streams.new ≡ S.read_faults streams.old }

@@ -1,18 +1,12 @@
 //! What a client draws of a service's replies. The functions do nothing: their contracts are the laws.
 
 ghost use Rattle.std.specs.Prelude.{ℕ, ◌≡◌, List, [], Option};
-ghost use Rattle.std.specs.List.{filter};
-ghost use Rattle.line_raster.specs.Canvas.{Canvas};
-ghost use Rattle.chart_client.specs.declared.holding.Holding.{Holding};
-ghost use Rattle.request_lines.specs.declared.requests.Request.{Request};
 ghost use Rattle.chart_frames.specs.declared.frame.Frame.{Frame};
 ghost use Rattle.chart_service.specs.State.{State, IsSound};
-ghost use Rattle.chart_service.specs.Replies.{Replies, RepliesToLine};
 ghost use Rattle.chart_service.specs.Serving.{RepliesToAll};
-ghost use Rattle.chart_service.specs.Alone.{only};
 ghost use Rattle.chart_service.specs.Naming.{NameOpened};
-ghost use Rattle.drawn_replies.specs.Mirrors.{Mirrors, DrawsTheBook, OnlyLacksMemory};
-ghost use Rattle.drawn_replies.specs.Pictures.{AcceptsAll, ArePictured, AreOwnPictured, NoneRejected, names};
+ghost use Rattle.drawn_replies.specs.Pictures.{NoneRejected};
+ghost use Rattle.drawn_replies.specs.Laws.{LinesAreDrawn, LinesAreAccepted, RequestsAreDrawn, RequestsAreAccepted, RepliesDrawTheBook, OwnRepliesDrawTheBook, OwnRepliesAreAccepted};
 
 use chart_service::laws::frames_name_opened_sessions;
 use coefficient_cache::laws::sent_and_held_give_the_needed;
@@ -25,10 +19,8 @@ use view_keys::laws::wanted_keys_are_needed;
 /// holds each session's list as the service does after the reply. Nothing but want of memory can come in
 /// its way.
 pub fn clients_draw_the_book()
-    ensures draws { (line : Option (List ℕ)) (frame : Frame) (old new : State) (holdings : List Holding) →
-        IsSound old → RepliesToLine line frame old new → Mirrors old.sessions holdings → DrawsTheBook frame old new holdings }
-    ensures accepts { (line : Option (List ℕ)) (frame : Frame) (old new : State) (holdings : List Holding) →
-        IsSound old → RepliesToLine line frame old new → Mirrors old.sessions holdings → OnlyLacksMemory frame holdings }
+    ensures draws { LinesAreDrawn }
+    ensures accepts { LinesAreAccepted }
 {
     wanted_keys_are_needed();
     sent_and_held_give_the_needed();
@@ -39,10 +31,8 @@ pub fn clients_draw_the_book()
 
 /// The same of the frame that answers a request, however the request came.
 pub fn clients_draw_requests()
-    ensures draws { (request : Request) (frame : Frame) (old new : State) (holdings : List Holding) →
-        IsSound old → Replies request frame old new → Mirrors old.sessions holdings → DrawsTheBook frame old new holdings }
-    ensures accepts { (request : Request) (frame : Frame) (old new : State) (holdings : List Holding) →
-        IsSound old → Replies request frame old new → Mirrors old.sessions holdings → OnlyLacksMemory frame holdings }
+    ensures draws { RequestsAreDrawn }
+    ensures accepts { RequestsAreAccepted }
 {
     wanted_keys_are_needed();
     sent_and_held_give_the_needed();
@@ -54,9 +44,7 @@ pub fn clients_draw_requests()
 /// The same of all replies to lines: the client's drawings are the pictures of the book, each as the book
 /// is at its line.
 pub fn replies_draw_the_book()
-    ensures { (lines : List (Option (List ℕ))) (frames : List Frame) (drawings : List (Option Canvas)) (old new : State) (holdings now : List Holding) →
-        IsSound old → RepliesToAll old lines frames new → Mirrors old.sessions holdings → AcceptsAll holdings frames drawings now →
-        ArePictured old lines frames drawings new × Mirrors new.sessions now }
+    ensures { RepliesDrawTheBook }
 {
     clients_draw_the_book();
 }
@@ -64,9 +52,7 @@ pub fn replies_draw_the_book()
 /// The same of a client that is sent the frames of one session alone, whatever other sessions' lines and
 /// edits stand between: it draws that session's pictures of the book.
 pub fn one_session_draws_the_book()
-    ensures { (n : ℕ) (lines : List (Option (List ℕ))) (frames : List Frame) (drawings : List (Option Canvas)) (old new : State) (holdings now : List Holding) →
-        IsSound old → RepliesToAll old lines frames new → Mirrors (only n old.sessions) holdings → AcceptsAll holdings (filter (names n) frames) drawings now →
-        AreOwnPictured n old lines frames drawings new × Mirrors (only n new.sessions) now }
+    ensures { OwnRepliesDrawTheBook }
 {
     wanted_keys_are_needed();
     sent_and_held_give_the_needed();
@@ -87,8 +73,7 @@ pub fn replies_are_accepted()
 /// The same of a client that is sent the frames of one session alone, whatever other sessions' lines and
 /// edits stand between.
 pub fn own_replies_are_accepted()
-    ensures { (n : ℕ) (lines : List (Option (List ℕ))) (frames : List Frame) (old new : State) →
-        IsSound old → old.sessions ≡ [] → RepliesToAll old lines frames new → NoneRejected (filter (names n) frames) }
+    ensures { OwnRepliesAreAccepted }
 {
     wanted_keys_are_needed();
     sent_and_held_give_the_needed();

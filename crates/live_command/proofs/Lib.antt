@@ -4,6 +4,7 @@ pub mod RunLemmas
 pub mod ReadLemmas
 pub mod SyncLemmas
 pub mod GoesLemmas
+pub mod FaultLemmas
 pub mod LiveShown
 pub mod DiskLemmas
 pub mod StatusLemmas

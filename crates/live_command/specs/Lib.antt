@@ -7,3 +7,4 @@ pub mod Doing
 pub mod Ended
 pub mod Ending
 pub mod Drawn
+pub mod Laws

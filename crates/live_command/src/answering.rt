@@ -3,9 +3,11 @@ ghost use Rattle.std.specs.Prelude.{◌≡◌, ◌≢◌, ◌≤◌, ◌<◌, �
 ghost use Rattle.block_disk.specs.Counts.{HasRisen};
 ghost use Rattle.block_disk.specs.Streams.{sent_after};
 ghost use Rattle.chart_frames.specs.Frames.{Fits, spelling};
+ghost use Rattle.chart_service.specs.Faulting.{serve_fault};
 ghost use Rattle.chart_service.specs.Serving.{end_of_step, unless_empty};
 ghost use Rattle.chart_service.specs.Shown as shown;
 ghost use Rattle.chart_service.specs.Syncing.{edit_of, edits_of};
+ghost use Rattle.chart_world.specs.Faults.{CountsFault, fault_in};
 ghost use Rattle.live_service.specs.Shown as its;
 ghost use Rattle.live_view.specs.Live as follows;
 ghost use Rattle.live_command.specs.Doing.{DoesFor, FrameStops, Goes, IsCause, side_of};
@@ -41,6 +43,7 @@ fn send_frame<P: PageWorld>(
     ensures whole { OnOk result (P.sent (pages live.new) ≡ sent_after (spelling frame.now) (P.sent (pages live.old))) }
     ensures stops { IfErr result (FrameStops frame.now (P.sent (pages live.old)) (P.sent (pages live.new))) }
     ensures cause { result ≡ Err ServeEnd.SendFault → HasRisen (P.send_faults (pages live.old)) (P.send_faults (pages live.new)) }
+    ensures faults { CountsFault (fault_in serve_fault result) (its.view live.old) (its.view live.new) }
     ensures send_faults { P.send_faults (pages live.old) ≤ P.send_faults (pages live.new) }
     ensures left { P.left (pages live.new) ≡ P.left (pages live.old) }
     ensures read_faults { P.read_faults (pages live.new) ≡ P.read_faults (pages live.old) }
@@ -65,6 +68,7 @@ pub(crate) fn refuse_line<P: PageWorld>(
     ensures does { ForSound live.old (λ total book. DoesFor P.Streams (None ∷ []) total book result live.old live.new) }
     ensures goes { Goes (side_of P.Streams live.old) (side_of P.Streams live.new) }
     ensures cause { IfErr result (λ e. IsCause e (side_of P.Streams live.old) (side_of P.Streams live.new)) }
+    ensures faults { CountsFault (fault_in serve_fault result) (its.view live.old) (its.view live.new) }
     ensures sound { result ≢ Err ServeEnd.DiskFault → (its.view live.new).fit }
     ensures syncs { (its.view live.new).syncs ≡ (its.view live.old).syncs }
     ensures idle { OnOk result (follows.IsIdle live.new) }
@@ -85,6 +89,7 @@ fn answer_frame<P: PageWorld>(
     ensures does { ForSound live.old (λ total book. DoesFor P.Streams (Some line.now ∷ []) total book result live.old live.new) }
     ensures goes { Goes (side_of P.Streams live.old) (side_of P.Streams live.new) }
     ensures cause { IfErr result (λ e. IsCause e (side_of P.Streams live.old) (side_of P.Streams live.new)) }
+    ensures faults { CountsFault (fault_in serve_fault result) (its.view live.old) (its.view live.new) }
     ensures sound { result ≢ Err ServeEnd.DiskFault → (its.view live.new).fit }
     ensures syncs { (its.view live.new).syncs ≤ (its.view live.old).syncs + 4 * length (edit_of (Some line.now)) }
     ensures left { P.left (pages live.new) ≡ P.left (pages live.old) }
@@ -105,6 +110,7 @@ fn send_push<P: PageWorld>(
     ensures does { ForSound live.old (λ total book. DoesFor P.Streams [] total book result live.old live.new) }
     ensures goes { Goes (side_of P.Streams live.old) (side_of P.Streams live.new) }
     ensures cause { IfErr result (λ e. IsCause e (side_of P.Streams live.old) (side_of P.Streams live.new)) }
+    ensures faults { CountsFault (fault_in serve_fault result) (its.view live.old) (its.view live.new) }
     ensures sound { result ≢ Err ServeEnd.DiskFault → (its.view live.new).fit }
     ensures syncs { (its.view live.new).syncs ≡ (its.view live.old).syncs }
     ensures left { P.left (pages live.new) ≡ P.left (pages live.old) }
@@ -126,6 +132,7 @@ fn send_pushes<P: PageWorld>(
     ensures does { ForSound live.old (λ total book. DoesFor P.Streams [] total book result live.old live.new) }
     ensures goes { Goes (side_of P.Streams live.old) (side_of P.Streams live.new) }
     ensures cause { IfErr result (λ e. IsCause e (side_of P.Streams live.old) (side_of P.Streams live.new)) }
+    ensures faults { CountsFault (fault_in serve_fault result) (its.view live.old) (its.view live.new) }
     ensures sound { result ≢ Err ServeEnd.DiskFault → (its.view live.new).fit }
     ensures syncs { (its.view live.new).syncs ≡ (its.view live.old).syncs }
     ensures left { P.left (pages live.new) ≡ P.left (pages live.old) }
@@ -152,6 +159,7 @@ pub(crate) fn answer_line<P: PageWorld>(
     ensures does { ForSound live.old (λ total book. DoesFor P.Streams (unless_empty (Some line.now)) total book result live.old live.new) }
     ensures goes { Goes (side_of P.Streams live.old) (side_of P.Streams live.new) }
     ensures cause { IfErr result (λ e. IsCause e (side_of P.Streams live.old) (side_of P.Streams live.new)) }
+    ensures faults { CountsFault (fault_in serve_fault result) (its.view live.old) (its.view live.new) }
     ensures sound { result ≢ Err ServeEnd.DiskFault → (its.view live.new).fit }
     ensures syncs { (its.view live.new).syncs ≤ (its.view live.old).syncs + 4 * length (edits_of (unless_empty (Some line.now))) }
     ensures left { P.left (pages live.new) ≡ P.left (pages live.old) }

@@ -1,9 +1,12 @@
 //! The command `live`: the lines of the input are answered over the store of a disk, and pushes are made behind edits.
 ghost use Rattle.std.specs.Prelude.{◌≡◌, [], IfSome, IsTrue};
 ghost use Rattle.block_disk.specs.View.{View};
+ghost use Rattle.chart_service.specs.Faulting.{serve_fault};
 ghost use Rattle.chart_service.specs.Shown as shown;
+ghost use Rattle.chart_world.specs.Faults.{CountsFault, fault_in};
 ghost use Rattle.series_store.specs.Shown as stored;
 ghost use Rattle.store_commands.specs.Away.{TurnsAway};
+ghost use Rattle.store_commands.specs.Status.{code_fault};
 ghost use Rattle.store_commands.specs.Traffic.{traffic};
 ghost use Rattle.live_command.specs.Ended.{EndsLive, ReadsFrom, ReadsLiving, SyncsLiving};
 ghost use Rattle.live_command.specs.Syncs.{SyncsLines};
@@ -31,6 +34,8 @@ pub fn live<W: World>(alloc: Global, world: W) -> (Status, W)
     ensures reads { IfSome (W.left world) (λ input. ReadsLiving (W.view world) (W.view result.1) input) }
     // and it is synced by the opening, and for edits alone
     ensures syncs { IfSome (W.left world) (λ input. SyncsLiving (W.view world) (W.view result.1) input) }
+    // a call failed exactly where the status tells of one
+    ensures faults { CountsFault (code_fault result.0.code) (W.view world) (W.view result.1) }
     ensures away { TurnsAway (W.view world) (traffic W.left W.sent W.read_faults W.send_faults world result.1) result.0 }
 {
     match open_store(alloc, world) {
@@ -46,6 +51,7 @@ pub fn live<W: World>(alloc: Global, world: W) -> (Status, W)
 fn serve_store<W: World>(alloc: Global, store: Store<GatePages<W>>) -> (Result<(), ServeEnd>, W)
     requires { IsTrue (stored.pages store).sound }
     ensures serves { let pages = stored.pages store in ServedOn pages.count (W.view pages.disk) (W.view result.1) (traffic W.left W.sent W.read_faults W.send_faults pages.disk result.1) result.0 }
+    ensures faults { CountsFault (fault_in serve_fault result.0) (W.view (stored.pages store).disk) (W.view result.1) }
     ensures reads { let pages = stored.pages store in IfSome (W.left pages.disk) (λ input. ReadsFrom pages.count (W.view pages.disk) (W.view result.1) input (W.view pages.disk).reads) }
     ensures syncs { let pages = stored.pages store in IfSome (W.left pages.disk) (λ input. SyncsLines input (W.view pages.disk).syncs (W.view result.1).syncs) }
 {
@@ -63,6 +69,7 @@ fn serve_service<W: World>(
     requires sound { IsTrue (shown.pages service).sound }
     requires alone { service.sessions ≡ [] }
     ensures serves { let pages = shown.pages service in ServedOn pages.count (W.view pages.disk) (W.view result.1) (traffic W.left W.sent W.read_faults W.send_faults pages.disk result.1) result.0 }
+    ensures faults { CountsFault (fault_in serve_fault result.0) (W.view (shown.pages service).disk) (W.view result.1) }
     ensures reads { let pages = shown.pages service in IfSome (W.left pages.disk) (λ input. ReadsFrom pages.count (W.view pages.disk) (W.view result.1) input (W.view pages.disk).reads) }
     ensures syncs { let pages = shown.pages service in IfSome (W.left pages.disk) (λ input. SyncsLines input (W.view pages.disk).syncs (W.view result.1).syncs) }
 {

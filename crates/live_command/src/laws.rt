@@ -1,15 +1,12 @@
 //! What a client draws of a run. The functions do nothing: their contracts are the laws.
-ghost use Rattle.std.specs.Prelude.{ℕ, List, [], Option};
-ghost use Rattle.line_raster.specs.Canvas.{Canvas};
-ghost use Rattle.chart_client.specs.declared.holding.Holding.{Holding};
+ghost use Rattle.std.specs.Prelude.{ℕ, List, Option};
 ghost use Rattle.chart_frames.specs.declared.frame.Frame.{Frame};
-ghost use Rattle.chart_service.specs.Serving.{told};
 ghost use Rattle.chart_service.specs.State.{IsSound};
-ghost use Rattle.drawn_replies.specs.Mirrors.{Mirrors};
-ghost use Rattle.drawn_replies.specs.Pictures.{AcceptsAll, NoneRejected};
-ghost use Rattle.live_command.specs.Drawn.{IsFirst, PicturesLines};
+ghost use Rattle.drawn_replies.specs.Pictures.{NoneRejected};
+ghost use Rattle.live_command.specs.Drawn.{IsFirst};
 ghost use Rattle.live_command.specs.Lives.{LivesBy};
 ghost use Rattle.live_service.specs.LiveReplies.{LiveState};
+ghost use Rattle.live_command.specs.Laws.{RunsDrawTheBook};
 
 use live_service::laws::{
     clients_draw_lines, clients_draw_pushes, followed_sessions_can_follow, pushes_show_views,
@@ -18,9 +15,7 @@ use live_service::laws::{
 /// A client that is sent all frames of a run draws the pictures of the book: of each line's frame as the book is at
 /// that line, and of each push, which always shows a view, as it is behind the edit.
 pub fn runs_draw_the_book()
-    ensures { (input : List ℕ) (frames : List Frame) (drawings : List (Option Canvas)) (old new : LiveState) (now : List Holding) →
-        IsSound old.state → IsFirst old → LivesBy (told input) frames old new → AcceptsAll [] frames drawings now →
-        PicturesLines (told input) frames drawings old new × Mirrors new.state.sessions now }
+    ensures { RunsDrawTheBook }
 {
     clients_draw_lines();
     clients_draw_pushes();

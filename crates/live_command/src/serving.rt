@@ -1,6 +1,8 @@
 //! The lines of a live service's streams are answered, and the pushes behind them made.
 ghost use Rattle.std.specs.Prelude.{◌≡◌, ◌≢◌, ◌≤◌, ◌^◌, Err, length, IfErr, IfSome, OnOk};
+ghost use Rattle.chart_service.specs.Faulting.{serve_fault};
 ghost use Rattle.chart_service.specs.Serving.{end_of};
+ghost use Rattle.chart_world.specs.Faults.{CountsFault, fault_in};
 ghost use Rattle.chart_world.specs.Reading.{unread_input};
 ghost use Rattle.live_service.specs.Shown as its;
 ghost use Rattle.live_view.specs.Live as follows;
@@ -48,6 +50,7 @@ pub fn serve_live<P: PageWorld>(
     // whatever the pages are
     ensures goes { Goes (side_of P.Streams live.old) (side_of P.Streams live.new) }
     ensures cause { IfErr result (λ e. IsCause e (side_of P.Streams live.old) (side_of P.Streams live.new)) }
+    ensures faults { CountsFault (fault_in serve_fault result) (its.view live.old) (its.view live.new) }
     ensures sound { result ≢ Err ServeEnd.DiskFault → (its.view live.new).fit }
 {
     let Ok(mut lines) = Lines::new(alloc) else {
@@ -74,6 +77,7 @@ fn answer_lines<P: PageWorld>(
     ensures syncs { IfSome (P.left (pages live.old)) (λ input. SyncsLines input (its.view live.old).syncs (its.view live.new).syncs) }
     ensures goes { Goes (side_of P.Streams live.old) (side_of P.Streams live.new) }
     ensures cause { IfErr result (λ e. IsCause e (side_of P.Streams live.old) (side_of P.Streams live.new)) }
+    ensures faults { CountsFault (fault_in serve_fault result) (its.view live.old) (its.view live.new) }
     ensures sound { result ≢ Err ServeEnd.DiskFault → (its.view live.new).fit }
 {
     'lines: loop {

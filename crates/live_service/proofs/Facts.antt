@@ -8,6 +8,7 @@ use Rattle.block_disk.proofs.Passing.{passes_none}
 use Rattle.chart_frames.specs.declared.frame.Frame.{Frame}
 use Rattle.chart_service.proofs.LookLemmas.{unchanged_so}
 use Rattle.chart_service.specs.Called.{AnswersSo, CommitsOnly, IsCause}
+use Rattle.chart_service.specs.Faulting.{step_fault}
 use Rattle.chart_service.specs.ReadingBlocks.{ReadsLine}
 use Rattle.chart_service.specs.Replies.{line_text, own_zoom}
 use Rattle.chart_service.specs.Shown as shown
@@ -16,6 +17,7 @@ use Rattle.chart_service.specs.Syncing.{edit_of}
 use Rattle.chart_service.specs.declared.failure.ServiceError.{ServiceError}
 use Rattle.chart_service.specs.declared.failure.ServiceError.TheVariants.{DiskFault, NoMemory}
 use Rattle.chart_service.specs.declared.service.Service.{Service}
+use Rattle.chart_world.specs.Faults.{CountsFault, fault_in}
 use Rattle.gate_pages.specs.GateLaws.{goes_none}
 use Rattle.gate_pages.specs.Pages.{GoesOn, Quiet}
 use Rattle.gate_pages.specs.declared.pages.Pages.{Ghosts}
@@ -47,6 +49,7 @@ use Rattle.zoom_session.specs.Sessions.{is_open, session_of, last_of}
 
 pub record Rests {P : Type 0} {g : Ghosts P} (old new : Service P g) : Type 0 where
   pub unchanged : IsUnchanged (shown.IsTold old) (shown.view old) (shown.view new)
+  pub faults : CountsFault None (shown.view old) (shown.view new)
   pub steps : Steps (shown.IsTold old) (shown.IsTold new) (shown.view old) (shown.view new)
   pub goes_on : GoesOn (shown.under old) (shown.under new)
   pub total : shown.total new ≡ shown.total old
@@ -54,6 +57,7 @@ pub record Rests {P : Type 0} {g : Ghosts P} (old new : Service P g) : Type 0 wh
 rests_none : {P : Type 0} {g : Ghosts P} (it : Service P g) → Rests it it
 rests_none it = record {
   unchanged = record { image = λ t. refl; fit = λ f. f; syncs = refl; writes = refl };
+  faults = refl;
   steps = record {
     told = λ t. t;
     was_told = λ t. t;
@@ -114,6 +118,7 @@ module _ {P : Type 0} {g : Ghosts P} {h : StepperGhosts (ServiceStepper P g) Ser
     pub unchanged : CommitsOnly result (its.service old) (its.service new)
     pub idle : edit_of (line_text line) ≡ [] → IsUnchanged (shown.IsTold (its.service old)) (its.view old) (its.view new)
     pub disk : result ≡ Err DiskFault → HasRisen (its.view old).faults (its.view new).faults
+    pub faults : CountsFault (fault_in step_fault result) (its.view old) (its.view new)
     pub bad : IfErr result (NamesBad (shown.IsTold (its.service new)) (its.view new).size (its.view new).image)
     pub steps : Steps (shown.IsTold (its.service old)) (shown.IsTold (its.service new)) (its.view old) (its.view new)
     pub goes_on : GoesOn (shown.under (its.service old)) (shown.under (its.service new))
@@ -145,6 +150,7 @@ module _ {P : Type 0} {g : Ghosts P} {h : StepperGhosts (ServiceStepper P g) Ser
         unchanged = unchanged_so (Ok frame) _ _ _ rest.unchanged;
         idle = λ none. rest.unchanged;
         disk = λ is. absurd (never_fails Frame frame DiskFault is);
+        faults = rest.faults;
         bad = tt;
         steps = rest.steps;
         goes_on = rest.goes_on;
@@ -176,6 +182,7 @@ module _ {P : Type 0} {g : Ghosts P} {h : StepperGhosts (ServiceStepper P g) Ser
         unchanged = answers.unchanged;
         idle = answers.idle;
         disk = answers.disk;
+        faults = answers.faults;
         bad = tt;
         steps = answers.steps;
         goes_on = answers.goes_on;
@@ -222,6 +229,7 @@ module _ {P : Type 0} {g : Ghosts P} {h : StepperGhosts (ServiceStepper P g) Ser
         unchanged = answers.unchanged;
         idle = answers.idle;
         disk = answers.disk;
+        faults = answers.faults;
         bad = answers.bad;
         steps = answers.steps;
         goes_on = answers.goes_on;
@@ -242,6 +250,7 @@ module _ {P : Type 0} {g : Ghosts P} {h : StepperGhosts (ServiceStepper P g) Ser
         unchanged = unchanged_so (Err NoMemory) _ _ _ rest.unchanged;
         idle = λ none. rest.unchanged;
         disk = λ is. absurd (lacks_no_disk Frame is);
+        faults = rest.faults;
         bad = tt;
         steps = rest.steps;
         goes_on = rest.goes_on;
@@ -258,6 +267,7 @@ module _ {P : Type 0} {g : Ghosts P} {h : StepperGhosts (ServiceStepper P g) Ser
     pub moments : shown.PassesTo (Now (its.view old)) (its.service old) (its.service new)
     pub unchanged : IsUnchanged (shown.IsTold (its.service old)) (its.view old) (its.view new)
     pub disk : result ≡ Err DiskFault → HasRisen (its.view old).faults (its.view new).faults
+    pub faults : CountsFault (fault_in step_fault result) (its.view old) (its.view new)
     pub bad : IfErr result (NamesBad (shown.IsTold (its.service new)) (its.view new).size (its.view new).image)
     pub steps : Steps (shown.IsTold (its.service old)) (shown.IsTold (its.service new)) (its.view old) (its.view new)
     pub goes_on : GoesOn (shown.under (its.service old)) (shown.under (its.service new))
@@ -277,6 +287,7 @@ module _ {P : Type 0} {g : Ghosts P} {h : StepperGhosts (ServiceStepper P g) Ser
         moments = let Q : ServiceStepper P g → Type 0 = λ s. Passes (its.view old) (shown.view s.service) (Now (its.view old)) (Quiet (its.view old)) in subst Q (sym stays.stepper) (passes_none (its.view old) _ _);
         unchanged = rest.unchanged;
         disk = λ is. absurd (never_fails (Option Frame) None DiskFault is);
+        faults = rest.faults;
         bad = tt;
         steps = rest.steps;
         goes_on = rest.goes_on;
@@ -330,6 +341,7 @@ module _ {P : Type 0} {g : Ghosts P} {h : StepperGhosts (ServiceStepper P g) Ser
         moments = repeats.moments;
         unchanged = repeats.idle;
         disk = λ is. absurd (never_fails (Option Frame) (Some frame) DiskFault is);
+        faults = repeats.faults;
         bad = tt;
         steps = repeats.steps;
         goes_on = repeats.goes_on;
@@ -351,6 +363,7 @@ module _ {P : Type 0} {g : Ghosts P} {h : StepperGhosts (ServiceStepper P g) Ser
         moments = repeats.moments;
         unchanged = repeats.idle;
         disk = λ is. disk_cause (own_zoom session viewed.0) error _ _ _ (its.view old) (its.view new) (subst C viewed.1 repeats.cause) (same_error (Option Frame) error DiskFault is);
+        faults = repeats.faults;
         bad = repeats.bad;
         steps = repeats.steps;
         goes_on = repeats.goes_on;

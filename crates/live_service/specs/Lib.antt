@@ -2,3 +2,4 @@ pub mod Steps
 pub mod LiveReplies
 pub mod Following
 pub mod Shown
+pub mod Laws

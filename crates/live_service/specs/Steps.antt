@@ -7,6 +7,8 @@ use Rattle.gate_pages.specs.Pages.{GoesOn}
 use Rattle.gate_pages.specs.declared.pages.Pages.{Ghosts}
 use Rattle.series_store.specs.Results.{IsUnchanged}
 use Rattle.chart_service.specs.Alone.{session_named}
+use Rattle.chart_world.specs.Faults.{CountsFault, fault_in}
+use Rattle.chart_service.specs.Faulting.{step_fault}
 use Rattle.chart_service.specs.Called.{AnswersSo, CommitsOnly, ForLast, IsCause, IsCauseOfLine, ReadsFewFor}
 use Rattle.chart_service.specs.Opening.{OpensBy, LosesAtMost}
 use Rattle.chart_service.specs.Replies.{Replied, line_text, own_zoom}
@@ -30,6 +32,7 @@ module _ {P : Type 0} {g : Ghosts P} where
     pub idle : edit_of (line_text line) ≡ [] → IsUnchanged (shown.IsTold old) (shown.view old) (shown.view new)
     pub cause : IfErr result (IsCauseOfLine (line_text line) old new)
     pub disk : result ≡ Err DiskFault → HasRisen (shown.view old).faults (shown.view new).faults
+    pub faults : CountsFault (fault_in step_fault result) (shown.view old) (shown.view new)
     pub bad : IfErr result (NamesBad (shown.IsTold new) (shown.view new).size (shown.image new))
     pub steps : Steps (shown.IsTold old) (shown.IsTold new) (shown.view old) (shown.view new)
     pub goes_on : GoesOn (shown.under old) (shown.under new)
@@ -45,6 +48,7 @@ module _ {P : Type 0} {g : Ghosts P} where
     pub sessions : OnErr result (LosesAtMost (Some session) old.sessions new.sessions)
     pub idle : IsUnchanged (shown.IsTold old) (shown.view old) (shown.view new)
     pub cause : ForLast session old (λ last. IfErr result (IsCause (own_zoom session last) old new))
+    pub faults : CountsFault (fault_in step_fault result) (shown.view old) (shown.view new)
     pub bad : IfErr result (NamesBad (shown.IsTold new) (shown.view new).size (shown.image new))
     pub steps : Steps (shown.IsTold old) (shown.IsTold new) (shown.view old) (shown.view new)
     pub goes_on : GoesOn (shown.under old) (shown.under new)

@@ -4,10 +4,12 @@ ghost use Rattle.block_disk.specs.Counts.{HasRisen};
 ghost use Rattle.block_disk.specs.View.{Now};
 ghost use Rattle.chart_frames.specs.Frames.{Fits};
 ghost use Rattle.chart_service.specs.Called.{CommitsOnly};
+ghost use Rattle.chart_service.specs.Faulting.{step_fault};
 ghost use Rattle.chart_service.specs.Replies.{line_text};
 ghost use Rattle.chart_service.specs.Shown as shown;
 ghost use Rattle.chart_service.specs.Stepping.{NamesBad, IsOutside, Steps};
 ghost use Rattle.chart_service.specs.Syncing.{edit_of};
+ghost use Rattle.chart_world.specs.Faults.{CountsFault, fault_in};
 ghost use Rattle.gate_pages.specs.Pages.{GoesOn};
 ghost use Rattle.live_service.specs.LiveReplies.{LiveReplied, Pushed};
 ghost use Rattle.live_service.specs.Shown as its;
@@ -41,6 +43,7 @@ pub fn step_line<P: PageWorld>(
     // a line that spells no edit commits nothing
     ensures idle { edit_of (line_text line.now) ≡ [] → IsUnchanged (shown.IsTold (its.service live.old)) (its.view live.old) (its.view live.new) }
     ensures disk { result ≡ Err ServiceError.DiskFault → HasRisen (its.view live.old).faults (its.view live.new).faults }
+    ensures faults { CountsFault (fault_in step_fault result) (its.view live.old) (its.view live.new) }
     ensures bad { IfErr result (NamesBad (shown.IsTold (its.service live.new)) (its.view live.new).size (its.view live.new).image) }
     ensures steps { Steps (shown.IsTold (its.service live.old)) (shown.IsTold (its.service live.new)) (its.view live.old) (its.view live.new) }
     ensures goes_on { GoesOn (shown.under (its.service live.old)) (shown.under (its.service live.new)) }
@@ -69,6 +72,7 @@ pub fn push<P: PageWorld>(live: &mut Live<ServiceStepper<P>>) -> Result<Option<F
     ensures moments { shown.PassesTo (Now (its.view live.old)) (its.service live.old) (its.service live.new) }
     ensures unchanged { IsUnchanged (shown.IsTold (its.service live.old)) (its.view live.old) (its.view live.new) }
     ensures disk { result ≡ Err ServiceError.DiskFault → HasRisen (its.view live.old).faults (its.view live.new).faults }
+    ensures faults { CountsFault (fault_in step_fault result) (its.view live.old) (its.view live.new) }
     ensures bad { IfErr result (NamesBad (shown.IsTold (its.service live.new)) (its.view live.new).size (its.view live.new).image) }
     ensures steps { Steps (shown.IsTold (its.service live.old)) (shown.IsTold (its.service live.new)) (its.view live.old) (its.view live.new) }
     ensures goes_on { GoesOn (shown.under (its.service live.old)) (shown.under (its.service live.new)) }

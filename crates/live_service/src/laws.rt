@@ -3,10 +3,11 @@ ghost use Rattle.std.specs.Prelude.{◌≡◌, ℕ, List, [], Option};
 ghost use Rattle.chart_client.specs.declared.holding.Holding.{Holding};
 ghost use Rattle.chart_frames.specs.declared.frame.Frame.{Frame};
 ghost use Rattle.chart_service.specs.State.{IsSound};
-ghost use Rattle.drawn_replies.specs.Mirrors.{Mirrors, DrawsTheBook, OnlyLacksMemory};
+ghost use Rattle.drawn_replies.specs.Mirrors.{Mirrors, OnlyLacksMemory};
 ghost use Rattle.chart_service.specs.Replies.{line_text};
 ghost use Rattle.live_service.specs.Following.{FollowsWell, ShowsView};
 ghost use Rattle.live_service.specs.LiveReplies.{LiveState, LiveReplied, Pushed};
+ghost use Rattle.live_service.specs.Laws.{PushesAreDrawn, LinesAreDrawn, LinesAreAccepted};
 
 use drawn_replies::laws::{clients_draw_requests, clients_draw_the_book};
 use live_view::laws::followed_views_fit;
@@ -16,8 +17,7 @@ use live_view::laws::followed_views_fit;
 /// each session's list as the service does after the push. Nothing but want of memory can come in its way. The book
 /// stays, so that of all pushes behind an edit the chart of one book is drawn.
 pub fn clients_draw_pushes()
-    ensures draws { (frame : Frame) (old new : LiveState) (holdings : List Holding) →
-        IsSound old.state → Pushed frame old new → Mirrors old.state.sessions holdings → DrawsTheBook frame old.state new.state holdings }
+    ensures draws { PushesAreDrawn }
     ensures accepts { (frame : Frame) (old new : LiveState) (holdings : List Holding) →
         IsSound old.state → Pushed frame old new → Mirrors old.state.sessions holdings → OnlyLacksMemory frame holdings }
     ensures book { (frame : Frame) (old new : LiveState) → Pushed frame old new → new.state.book ≡ old.state.book }
@@ -27,10 +27,8 @@ pub fn clients_draw_pushes()
 
 /// The same of the frame that answers a line: a client goes on holding each session's list, from the first line on.
 pub fn clients_draw_lines()
-    ensures draws { (line : Option (List ℕ)) (frame : Frame) (old new : LiveState) (holdings : List Holding) →
-        IsSound old.state → LiveReplied line frame old new → Mirrors old.state.sessions holdings → DrawsTheBook frame old.state new.state holdings }
-    ensures accepts { (line : Option (List ℕ)) (frame : Frame) (old new : LiveState) (holdings : List Holding) →
-        IsSound old.state → LiveReplied line frame old new → Mirrors old.state.sessions holdings → OnlyLacksMemory frame holdings }
+    ensures draws { LinesAreDrawn }
+    ensures accepts { LinesAreAccepted }
     ensures sound { (line : Option (List ℕ)) (frame : Frame) (old new : LiveState) → IsSound old.state → LiveReplied line frame old new → IsSound new.state }
 {
     clients_draw_the_book();

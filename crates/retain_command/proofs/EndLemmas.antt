@@ -5,7 +5,7 @@ use Rattle.block_disk.specs.Streams.{sent_after, left_after}
 use Rattle.block_disk.specs.View.{Image}
 use Rattle.block_disk.specs.SentLaws.{sent_none, sent_more}
 use Rattle.chart_service.specs.Serving.{told, unless_empty}
-use Rattle.chart_world.specs.Fronts.{says, Gives, IsWhole}
+use Rattle.chart_world.specs.Fronts.{Gives, IsWhole}
 use Rattle.chart_world.specs.LineLaws.{no_rest, said, says_text}
 use Rattle.chart_world.specs.StandsLaws.{whole_given}
 use Rattle.chart_world.specs.Lines.{NoLineFeed}

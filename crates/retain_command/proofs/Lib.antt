@@ -6,3 +6,4 @@ pub mod DoingLemmas
 pub mod DiskLemmas
 pub mod StatusLemmas
 pub mod GoodLemmas
+pub mod Counting

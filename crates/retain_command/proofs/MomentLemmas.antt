@@ -1,6 +1,6 @@
 -- What a crash leaves while lines are swept, and how many bytes were sent by then.
-use Rattle.std.proofs.Common.{◌≡◌, ◌∙◌, ℕ, ◌+◌, ◌-◌, ◌<◌, ◌≤◌, ◌^◌, ◌⊎◌, List, [], ◌++◌, length, take, Option, Some, None, Result, Ok, Err, IfSome, refl, ap, sym, subst, arith, inl, inr, length-append}
-use Rattle.block_disk.specs.Streams.{sent_after, left_after}
+use Rattle.std.proofs.Common.{◌≡◌, ℕ, ◌+◌, ◌-◌, ◌<◌, ◌≤◌, ◌^◌, List, [], length, take, Option, Some, None, Result, Ok, Err, IfSome, sym, subst, arith, inl, inr}
+use Rattle.block_disk.specs.Streams.{left_after}
 use Rattle.block_disk.specs.View.{Image, View, Now, Only, Passes, sent_now}
 use Rattle.block_disk.specs.SentLaws.{sent_is}
 use Rattle.chart_service.specs.MomentLaws.{since_none, since_then, through_by, through_so}

@@ -5,3 +5,4 @@ pub mod Doing
 pub mod Shown
 pub mod Retained
 pub mod Retaining
+pub mod Faults

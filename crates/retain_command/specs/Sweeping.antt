@@ -3,8 +3,8 @@
 use Rattle.std.specs.Prelude.{◌≡◌, ℕ, ◌+◌, ◌-◌, ◌^◌, ◌<◌, ◌≤◌, ◌⊎◌, List, length, take, Option, IfSome, IsTrue}
 use Rattle.block_disk.specs.Streams.{sent_after, PartSent}
 use Rattle.chart_service.specs.Serving.{told}
-use Rattle.chart_world.specs.Fronts.{says, BeginsWith, IsWhole, first_piece}
-use Rattle.chart_world.specs.Lines.{lines, NoLineFeed}
+use Rattle.chart_world.specs.Fronts.{says, BeginsWith, IsWhole}
+use Rattle.chart_world.specs.Lines.{NoLineFeed}
 use Rattle.series_book.specs.declared.one_series.Series.{Series}
 use Rattle.series_book.specs.EditLists.{after_edits}
 use Rattle.retention.specs.declared.rule.Rule.{Rule}

@@ -2,10 +2,12 @@
 ghost use Rattle.std.specs.Prelude.{◌≡◌, ◌≢◌, ◌≤◌, Err, length, IfErr, IfOk, OnOk, OnErr};
 ghost use Rattle.block_disk.specs.Counts.{HasRisen};
 ghost use Rattle.block_disk.specs.Streams.{sent_after, PartSent};
+ghost use Rattle.chart_world.specs.Faults.{CountsFault, fault_in};
 ghost use Rattle.series_store.specs.Shown as shown;
 ghost use Rattle.retain_command.specs.Answers.{swept_text};
 ghost use Rattle.store_commands.specs.Sides.{side_of};
 ghost use Rattle.retain_command.specs.Doing.{DoesLineOn, DoesRuleOn, Goes, IsCause, TextStops, end_at};
+ghost use Rattle.retain_command.specs.Faults.{retain_fault};
 
 use crate::retain_end::RetainEnd;
 use crate::rule_error::RuleError;
@@ -44,6 +46,7 @@ fn send_swept<P: PageWorld>(
     ensures whole { OnOk result (P.sent (shown.pages store.new) ≡ sent_after (swept_text swept.clears swept.used) (P.sent (shown.pages store.old))) }
     ensures stops { IfErr result (TextStops (swept_text swept.clears swept.used) (P.sent (shown.pages store.old)) (P.sent (shown.pages store.new))) }
     ensures cause { result ≡ Err RetainEnd.SendFault → HasRisen (P.send_faults (shown.pages store.old)) (P.send_faults (shown.pages store.new)) }
+    ensures faults { CountsFault (fault_in retain_fault result) (shown.view store.old) (shown.view store.new) }
     ensures send_faults { P.send_faults (shown.pages store.old) ≤ P.send_faults (shown.pages store.new) }
     ensures left { P.left (shown.pages store.new) ≡ P.left (shown.pages store.old) }
     ensures read_faults { P.read_faults (shown.pages store.new) ≡ P.read_faults (shown.pages store.old) }
@@ -69,6 +72,7 @@ fn answer_rule<P: PageWorld>(
     ensures does { shown.ForBook store.old (DoesRuleOn P.sent rule.now at result store.old store.new) }
     ensures goes { Goes (side_of P.Streams store.old) (side_of P.Streams store.new) }
     ensures cause { IfErr result (λ e. IsCause e (side_of P.Streams store.old) (side_of P.Streams store.new)) }
+    ensures faults { CountsFault (fault_in retain_fault result) (shown.view store.old) (shown.view store.new) }
     ensures sound { result ≢ Err RetainEnd.DiskFault → shown.IsSound store.new }
     ensures left { P.left (shown.pages store.new) ≡ P.left (shown.pages store.old) }
 {
@@ -89,6 +93,7 @@ pub(crate) fn answer_line<P: PageWorld>(
     ensures does { shown.ForBook store.old (DoesLineOn P.sent line.now at result store.old store.new) }
     ensures goes { Goes (side_of P.Streams store.old) (side_of P.Streams store.new) }
     ensures cause { IfErr result (λ e. IsCause e (side_of P.Streams store.old) (side_of P.Streams store.new)) }
+    ensures faults { CountsFault (fault_in retain_fault result) (shown.view store.old) (shown.view store.new) }
     ensures sound { result ≢ Err RetainEnd.DiskFault → shown.IsSound store.new }
     ensures left { P.left (shown.pages store.new) ≡ P.left (shown.pages store.old) }
 {

@@ -1,9 +1,12 @@
 //! The command `retain`: the rules of the input are swept over the store of a disk, and each is answered.
 ghost use Rattle.std.specs.Prelude.{◌≡◌, IsTrue};
 ghost use Rattle.block_disk.specs.View.{View};
+ghost use Rattle.chart_world.specs.Faults.{CountsFault, fault_in};
 ghost use Rattle.series_store.specs.Shown as shown;
 ghost use Rattle.store_commands.specs.Away.{TurnsAway};
+ghost use Rattle.store_commands.specs.Status.{code_fault};
 ghost use Rattle.store_commands.specs.Traffic.{traffic};
+ghost use Rattle.retain_command.specs.Faults.{retain_fault};
 ghost use Rattle.retain_command.specs.Retained.{EndsRetain};
 ghost use Rattle.retain_command.specs.Retaining.{SweptOn, answer_status};
 
@@ -28,6 +31,8 @@ pub const NO_SERIES: u8 = 17;
 pub fn retain<W: World>(alloc: Global, world: W) -> (Status, W)
     ensures ends { EndsRetain (W.view world) (W.view result.1) (traffic W.left W.sent W.read_faults W.send_faults world result.1) result.0 }
     ensures away { TurnsAway (W.view world) (traffic W.left W.sent W.read_faults W.send_faults world result.1) result.0 }
+    // no count of faults rises but that of the call that the code tells
+    ensures faults { CountsFault (code_fault result.0.code) (W.view world) (W.view result.1) }
 {
     match open_store(alloc, world) {
         Ok(store) => {
@@ -44,7 +49,8 @@ fn sweep_store<W: World>(
     mut store: Store<GatePages<W>>,
 ) -> (Result<(), RetainEnd>, W)
     requires { IsTrue (shown.pages store).sound }
-    ensures { let pages = shown.pages store in SweptOn pages.count (W.view pages.disk) (W.view result.1) (traffic W.left W.sent W.read_faults W.send_faults pages.disk result.1) result.0 }
+    ensures swept { let pages = shown.pages store in SweptOn pages.count (W.view pages.disk) (W.view result.1) (traffic W.left W.sent W.read_faults W.send_faults pages.disk result.1) result.0 }
+    ensures faults { CountsFault (fault_in retain_fault result.0) (W.view (shown.pages store).disk) (W.view result.1) }
 {
     let answer = sweep_lines(alloc, &mut store);
     (answer, disk_of(store))

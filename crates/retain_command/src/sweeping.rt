@@ -2,10 +2,12 @@
 ghost use Rattle.std.specs.Prelude.{◌≡◌, ◌≢◌, ◌≤◌, ◌<◌, ◌^◌, Err, length, IfErr, IfOk, IfSome, OnOk};
 ghost use Rattle.block_disk.specs.View.{sent_now};
 ghost use Rattle.chart_service.specs.Moments.{Since};
+ghost use Rattle.chart_world.specs.Faults.{CountsFault, fault_in};
 ghost use Rattle.chart_world.specs.Reading.{unread_input};
 ghost use Rattle.series_store.specs.Shown as shown;
 ghost use Rattle.store_commands.specs.Sides.{side_of};
 ghost use Rattle.retain_command.specs.Doing.{Goes, IsCause, end_of};
+ghost use Rattle.retain_command.specs.Faults.{retain_fault};
 ghost use Rattle.retain_command.specs.Shown.{AreSwept, LastsFor, StopSo};
 
 use crate::answering::answer_line;
@@ -37,6 +39,8 @@ pub fn sweep_lines<P: PageWorld>(alloc: Global, store: &mut Store<P>) -> Result<
     // whatever the pages are
     ensures goes { Goes (side_of P.Streams store.old) (side_of P.Streams store.new) }
     ensures cause { IfErr result (λ e. IsCause e (side_of P.Streams store.old) (side_of P.Streams store.new)) }
+    // no count of faults rises but that of the call that the end tells
+    ensures faults { CountsFault (fault_in retain_fault result) (shown.view store.old) (shown.view store.new) }
     ensures sound { result ≢ Err RetainEnd.DiskFault → shown.IsSound store.new }
 {
     let Ok(mut lines) = Lines::new(alloc) else {
@@ -59,6 +63,7 @@ fn answer_lines<P: PageWorld>(
     ensures crash { shown.ForBook store.old (λ total book. LastsFor P.Streams total book store.old store.new) }
     ensures goes { Goes (side_of P.Streams store.old) (side_of P.Streams store.new) }
     ensures cause { IfErr result (λ e. IsCause e (side_of P.Streams store.old) (side_of P.Streams store.new)) }
+    ensures faults { CountsFault (fault_in retain_fault result) (shown.view store.old) (shown.view store.new) }
     ensures sound { result ≢ Err RetainEnd.DiskFault → shown.IsSound store.new }
 {
     'lines: loop {

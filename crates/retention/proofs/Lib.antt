@@ -9,3 +9,4 @@ pub mod LawLemmas
 pub mod LookLemmas
 pub mod NextLemmas
 pub mod SweepLemmas
+pub mod Counting

@@ -4,3 +4,4 @@ pub mod Steps
 pub mod Moving
 pub mod Sweeping
 pub mod Stepping
+pub mod Faults

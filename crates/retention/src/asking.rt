@@ -1,6 +1,7 @@
 //! A series of a store is asked for its first stored slot.
-ghost use Rattle.std.specs.Prelude.{◌≡◌, ◌≤◌, ◌<◌, ℕ, ℤ, List, Option, length, IfOk, IfErr, IfSome};
+ghost use Rattle.std.specs.Prelude.{◌≡◌, ◌≤◌, ◌<◌, ℕ, ℤ, List, None, Option, length, IfOk, IfErr, IfSome};
 ghost use Rattle.block_disk.specs.View.{View};
+ghost use Rattle.chart_world.specs.Faults.{CountsFault, fault_in};
 ghost use Rattle.om3_coeff.specs.View.{Agrees};
 ghost use Rattle.om3_coeff.specs.Walks.{IsFirstStored};
 ghost use Rattle.series_book.specs.declared.limits.TheConstants.{MOST_SLOTS};
@@ -8,6 +9,7 @@ ghost use Rattle.series_book.specs.declared.one_series.Series.{Series};
 ghost use Rattle.series_book.specs.Axes.{IsAxisOf};
 ghost use Rattle.series_store.specs.Shown as shown;
 ghost use Rattle.stored_book.specs.Standing.{StandsForBook};
+ghost use Rattle.retention.specs.Faults.{sweep_fault};
 ghost use Rattle.retention.specs.Moving.{LooksOnly};
 ghost use Rattle.retention.specs.Sweeping.{IsAskCause, IsOfPages, TellsBad, TellsNone, error_of};
 
@@ -41,6 +43,7 @@ pub(crate) fn selected<P: Pages>(store: &mut Store<P>, id: u16) -> Axis
     ensures agrees { shown.ForSeries store.old id (λ total book series. Agrees (shown.nodes store.new) series.slots) }
     ensures bad { TellsBad store.new }
     ensures whole { shown.ForSeries store.old id (λ total book series. TellsNone store.new) }
+    ensures faults { CountsFault None (shown.view store.old) (shown.view store.new) }
     ensures looks { LooksOnly store.old store.new }
 {
     let info = store.info(id);
@@ -62,6 +65,7 @@ pub(crate) fn first_stored<P: Pages>(
     ensures first { (list : List (Option ℤ)) → Agrees (shown.nodes store.old) list → IfOk result (IsFirstStored list 0 end) }
     ensures slot { IfOk result (λ found. IfSome found (λ p. p.0 < end)) }
     ensures cause { IfErr result (IsAskCause (shown.nodes store.old) (shown.nodes store.new)) }
+    ensures faults { CountsFault (fault_in sweep_fault result) (shown.view store.old) (shown.view store.new) }
     ensures looks { LooksOnly store.old store.new }
 {
     match first_in(store, 0, end) {

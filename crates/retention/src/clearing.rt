@@ -1,12 +1,14 @@
 //! The next clear of a rule that names a series.
 ghost use Rattle.std.specs.Prelude.{◌≡◌, ◌≤◌, ◌<◌, ◌/◌, ℕ, List, length, IfOk, IfErr, IfSome};
 ghost use Rattle.block_disk.specs.View.{View};
+ghost use Rattle.chart_world.specs.Faults.{CountsFault, fault_in};
 ghost use Rattle.series_book.specs.declared.limits.TheConstants.{MOST_SLOTS};
 ghost use Rattle.series_book.specs.declared.one_series.Series.{Series};
 ghost use Rattle.series_book.specs.Axes.{IsAxisOf};
 ghost use Rattle.series_book.specs.Edits.{IsEdit};
 ghost use Rattle.series_store.specs.Shown as shown;
 ghost use Rattle.stored_book.specs.Standing.{StandsForBook};
+ghost use Rattle.retention.specs.Faults.{sweep_fault};
 ghost use Rattle.retention.specs.Moving.{LooksOnly};
 ghost use Rattle.retention.specs.Sweeping.{IsFirstOrNone, IsNextOrNone, IsOutside, ReadFails};
 ghost use Rattle.retention.specs.Sweeps.{Names, clear_of, old_slots, range_end, range_first};
@@ -45,6 +47,7 @@ fn next_of<P: Pages>(
     ensures is_edit { IfOk result (λ next. IfSome next IsEdit) }
     ensures outside { shown.ForSeries store.old id (λ total book series. IfErr result IsOutside) }
     ensures cause { IfErr result (λ e. ReadFails e store.old store.new) }
+    ensures faults { CountsFault (fault_in sweep_fault result) (shown.view store.old) (shown.view store.new) }
     ensures looks { LooksOnly store.old store.new }
 {
     let axis = selected(store, id);
@@ -72,6 +75,7 @@ pub(crate) fn next_named<P: Pages>(
     ensures is_edit { IfOk result (λ next. IfSome next IsEdit) }
     ensures outside { shown.ForBook store.old (λ total book. IfErr result IsOutside) }
     ensures cause { IfErr result (λ e. ReadFails e store.old store.new) }
+    ensures faults { CountsFault (fault_in sweep_fault result) (shown.view store.old) (shown.view store.new) }
     ensures looks { LooksOnly store.old store.new }
 {
     let Some(info) = store.series(name) else {

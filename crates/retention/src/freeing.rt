@@ -1,12 +1,14 @@
 //! The next clear of a rule that frees pages.
 ghost use Rattle.std.specs.Prelude.{◌≡◌, ◌≤◌, ◌<◌, ◌/◌, ℕ, List, Option, Some, length, IfOk, IfErr, IfSome};
 ghost use Rattle.block_disk.specs.View.{View};
+ghost use Rattle.chart_world.specs.Faults.{CountsFault, fault_in};
 ghost use Rattle.series_book.specs.declared.one_series.Series.{Series};
 ghost use Rattle.series_book.specs.Edits.{IsEdit};
 ghost use Rattle.series_store.specs.Shown as shown;
 ghost use Rattle.stored_book.specs.Standing.{StandsForBook};
 ghost use Rattle.retention.specs.declared.rule.Rule.TheVariants.{Free};
 ghost use Rattle.retention.specs.Drops.{IsOldest};
+ghost use Rattle.retention.specs.Faults.{sweep_fault};
 ghost use Rattle.retention.specs.Moving.{LooksOnly};
 ghost use Rattle.retention.specs.Sweeping.{AreKept, IsKept, IsNextOrNone, IsOutside, ReadFails};
 ghost use Rattle.retention.specs.Sweeps.{Found, clear_page, found_at, older, oldest};
@@ -27,6 +29,7 @@ fn first_of<P: Pages>(store: &mut Store<P>, id: u16) -> Result<Option<Oldest>, S
     ensures first { shown.ForSeries store.old id (λ total book series. IfOk result (AreKept (found_at id (Some series)))) }
     ensures outside { shown.ForSeries store.old id (λ total book series. IfErr result IsOutside) }
     ensures cause { IfErr result (λ e. ReadFails e store.old store.new) }
+    ensures faults { CountsFault (fault_in sweep_fault result) (shown.view store.old) (shown.view store.new) }
     ensures looks { LooksOnly store.old store.new }
 {
     let axis = selected(store, id);
@@ -62,6 +65,7 @@ fn oldest<P: Pages>(store: &mut Store<P>) -> Result<Option<Oldest>, SweepError>
     ensures oldest { shown.ForBook store.old (λ total book. IfOk result (AreKept (oldest book))) }
     ensures outside { shown.ForBook store.old (λ total book. IfErr result IsOutside) }
     ensures cause { IfErr result (λ e. ReadFails e store.old store.new) }
+    ensures faults { CountsFault (fault_in sweep_fault result) (shown.view store.old) (shown.view store.new) }
     ensures looks { LooksOnly store.old store.new }
 {
     let count = store.len() as u16;
@@ -102,6 +106,7 @@ pub(crate) fn next_free<P: Pages>(
     ensures is_edit { IfOk result (λ next. IfSome next IsEdit) }
     ensures outside { shown.ForBook store.old (λ total book. IfErr result IsOutside) }
     ensures cause { IfErr result (λ e. ReadFails e store.old store.new) }
+    ensures faults { CountsFault (fault_in sweep_fault result) (shown.view store.old) (shown.view store.new) }
     ensures looks { LooksOnly store.old store.new }
 {
     let free = store.total() - store.used();

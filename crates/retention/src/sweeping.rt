@@ -1,11 +1,13 @@
 //! The clears of a rule are done, one commit each.
 ghost use Rattle.std.specs.Prelude.{◌≡◌, ◌≢◌, ◌≤◌, ◌+◌, ◌*◌, ◌↔◌, ℕ, List, Ok, Err, true, false, length, IfOk, IfErr, IfSome, OnOk};
 ghost use Rattle.block_disk.specs.View.{View, Passes};
+ghost use Rattle.chart_world.specs.Faults.{CountsFault, fault_in};
 ghost use Rattle.gate_pages.specs.Pages.{Quiet};
 ghost use Rattle.series_book.specs.declared.one_series.Series.{Series};
 ghost use Rattle.series_book.specs.Edits.{IsEdit, apply};
 ghost use Rattle.series_store.specs.Shown as shown;
 ghost use Rattle.stored_book.specs.Standing.{StandsForBook};
+ghost use Rattle.retention.specs.Faults.{sweep_fault};
 ghost use Rattle.retention.specs.Moving.{CarriesOn, LooksOnly};
 ghost use Rattle.retention.specs.Stepping.{DoesClear, StepsSo, clear_error};
 ghost use Rattle.retention.specs.Sweeping.{FailsFor, IsNextOrNone, IsOutside, IsSoundFor, IsSwept, PassesSome, ReadFails, StopsSo};
@@ -43,6 +45,7 @@ fn next_clear<P: Pages>(store: &mut Store<P>, rule: &Rule) -> Result<Option<Edit
     ensures is_edit { IfOk result (λ next. IfSome next IsEdit) }
     ensures outside { shown.ForBook store.old (λ total book. IfErr result IsOutside) }
     ensures cause { IfErr result (λ e. ReadFails e store.old store.new) }
+    ensures faults { CountsFault (fault_in sweep_fault result) (shown.view store.old) (shown.view store.new) }
     ensures looks { LooksOnly store.old store.new }
 {
     match rule {
@@ -60,6 +63,7 @@ fn do_clear<P: Pages>(store: &mut Store<P>, clear: &Edit) -> Result<(), SweepErr
     ensures carries { CarriesOn store.old store.new }
     ensures syncs { (shown.view store.new).syncs ≤ (shown.view store.old).syncs + 4 }
     ensures cause { IfErr result (λ e. ReadFails e store.old store.new) }
+    ensures faults { CountsFault (fault_in sweep_fault result) (shown.view store.old) (shown.view store.new) }
     ensures sound { OnOk result (shown.IsSound store.new) }
     ensures sound_for { IfErr result (λ e. IsSoundFor e (shown.view store.new)) }
 {
@@ -77,6 +81,7 @@ fn clear_next<P: Pages>(store: &mut Store<P>, rule: &Rule) -> Result<bool, Sweep
     ensures syncs { (shown.view store.new).syncs ≤ (shown.view store.old).syncs + 4 }
     ensures idle { result ≡ Ok false → (shown.view store.new).syncs ≤ (shown.view store.old).syncs }
     ensures cause { IfErr result (λ e. ReadFails e store.old store.new) }
+    ensures faults { CountsFault (fault_in sweep_fault result) (shown.view store.old) (shown.view store.new) }
     ensures sound { OnOk result (shown.IsSound store.new) }
     ensures sound_for { IfErr result (λ e. IsSoundFor e (shown.view store.new)) }
 {
@@ -103,6 +108,7 @@ fn sweep_all<P: Pages>(store: &mut Store<P>, rule: &Rule) -> Result<Swept, Sweep
     ensures carries { CarriesOn store.old store.new }
     ensures syncs { IfOk result (λ swept. (shown.view store.new).syncs ≤ (shown.view store.old).syncs + 4 * swept.clears) }
     ensures cause { IfErr result (λ e. FailsFor e store.old store.new) }
+    ensures faults { CountsFault (fault_in sweep_fault result) (shown.view store.old) (shown.view store.new) }
     ensures sound { OnOk result (shown.IsSound store.new) }
     ensures sound_for { IfErr result (λ e. IsSoundFor e (shown.view store.new)) }
 {
@@ -152,6 +158,8 @@ pub fn sweep<P: Pages>(store: &mut Store<P>, rule: &Rule) -> Result<Swept, Sweep
     ensures carries { CarriesOn store.old store.new }
     ensures syncs { IfOk result (λ swept. (shown.view store.new).syncs ≤ (shown.view store.old).syncs + 4 * swept.clears) }
     ensures cause { IfErr result (λ e. FailsFor e store.old store.new) }
+    // no count of faults rises but that of the disk, where the error tells of it
+    ensures faults { CountsFault (fault_in sweep_fault result) (shown.view store.old) (shown.view store.new) }
     ensures sound { OnOk result (shown.IsSound store.new) }
     ensures sound_for { IfErr result (λ e. IsSoundFor e (shown.view store.new)) }
 {

@@ -1,3 +1,5 @@
 pub mod Exports
+pub mod Faults
 pub mod RoundTrips
 pub mod Room
+pub mod Laws

@@ -2,10 +2,12 @@
 ghost use Rattle.std.specs.Prelude.{◌≡◌, ◌≤◌, ◌<◌, ◌+◌, length, IfOk, IfErr, OnOk, OnErr};
 ghost use Rattle.block_disk.specs.Streams.{sent_after, PartSent};
 ghost use Rattle.block_disk.specs.View.{View};
+ghost use Rattle.chart_world.specs.Faults.{CountsFault, fault_in};
 ghost use Rattle.series_book.specs.Pages.{series_pages};
 ghost use Rattle.series_store.specs.Sending.{SendsOn, IsSeriesCause, IsNoDamage};
 ghost use Rattle.series_store.specs.Shown as shown;
 ghost use Rattle.series_export.specs.Exports.{header, export_text};
+ghost use Rattle.series_export.specs.Faults.{send_fault};
 
 use crate::reading_texts::ReadingTexts;
 use crate::window::Window;
@@ -31,8 +33,8 @@ fn started(alloc: Global) -> Result<Vec<u8>, NoMemory>
 /// most, so memory doesn't grow with the series.
 ///
 /// After an error a front of this text was sent. `SendFault` and `DiskFault` come where the count of their
-/// faults has risen, `Damaged` with the first page that is bad for its place, `NoMemory` for want of memory.
-/// Nothing is written, and the selected series stays.
+/// faults has risen, and with no other end does it rise; `Damaged` comes with the first page that is bad for its
+/// place, `NoMemory` for want of memory. Nothing is written, and the selected series stays.
 pub fn export_series<P: PageWorld>(
     alloc: Global,
     store: &mut Store<P>,
@@ -46,6 +48,7 @@ pub fn export_series<P: PageWorld>(
     ensures no_damage { shown.ForSeries store.old id (λ total book series. IfErr result IsNoDamage) }
     ensures reads { shown.ForSeries store.old id (λ total book series. (shown.view store.new).reads ≤ (shown.view store.old).reads + series_pages series.slots) }
     ensures cause { IfErr result (λ e. IsSeriesCause e (shown.IsTold store.old) (shown.numbers store.old) id (shown.view store.old) (shown.view store.new)) }
+    ensures faults { CountsFault (fault_in send_fault result) (shown.view store.old) (shown.view store.new) }
     // a crash leaves at each moment what it might have left before
     ensures sends { SendsOn store.old store.new }
     ensures catalog { store.new.catalog ≡ store.old.catalog }

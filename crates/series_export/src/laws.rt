@@ -1,17 +1,13 @@
 //! What follows from the definitions. The functions do nothing: their contracts are the laws.
-ghost use Rattle.std.specs.Prelude.{◌≡◌, ◌≤◌, ℕ, List, [], Option, None};
-ghost use Rattle.block_disk.specs.View.{Image};
+ghost use Rattle.std.specs.Prelude.{◌≡◌, ℕ, List, [], Option, None};
 ghost use Rattle.series_book.specs.declared.one_series.Series.{Series};
 ghost use Rattle.series_book.specs.Books.{IsSeries};
-ghost use Rattle.series_book.specs.Pages.{pages_of};
-ghost use Rattle.series_load.specs.Ends.{IsLoaded};
 ghost use Rattle.series_load.specs.Rows.{Reading, ReadsRows};
-ghost use Rattle.series_load.specs.Runs.{Run, AllRuns};
-ghost use Rattle.series_load.specs.Sets.{IsNamed, Loads};
-ghost use Rattle.series_export.specs.Exports.{stored_values, export_text};
-ghost use Rattle.series_export.specs.RoundTrips.{values_of, IsBegunAs, HoldsSame, HoldsNamed, StandsForSame};
-ghost use Rattle.series_export.specs.Room.{HasNewFor, HasRoomFor, AreRunsOf, Accepts, AcceptsRunsOf, LoadsBack, GoesThrough};
+ghost use Rattle.series_export.specs.Exports.{export_text};
+ghost use Rattle.series_export.specs.RoundTrips.{HoldsSame};
+ghost use Rattle.series_export.specs.Room.{HasRoomFor, AcceptsRunsOf, LoadsBack};
 ghost use Rattle.series_export.specs.declared.window.Window.{Window};
+ghost use Rattle.series_export.specs.Laws.{SetsHoldTheSame, RowsAreTheValues, LoadedExportsAreTheSame, RoomIsNeeded, ExportsGoThrough};
 
 use csv_load::laws::{one_answer, plain_lines};
 use reading_lines::laws::{lines_are_plain, lines_are_read_back};
@@ -21,8 +17,7 @@ use series_load::laws::runs_are_one;
 /// step and scale the same values at the same slots; and the export of a series that holds the same is the
 /// same text.
 pub fn loads_hold_the_same()
-    ensures sets { (series begun : Series) (rows : List (Option Reading)) (runs : List Run) (total : ℕ) (name : List ℕ) (book new : List Series) →
-        1 ≤ series.step → IsBegunAs series begun → IsNamed book name begun → values_of rows ≡ stored_values series → AllRuns series.step rows runs → Loads total name book runs new → HoldsNamed new name series }
+    ensures sets { SetsHoldTheSame }
     ensures text { (series after : Series) (window : Option Window) → HoldsSame series after → export_text after window ≡ export_text series window }
 {}
 
@@ -30,11 +25,9 @@ pub fn loads_hold_the_same()
 /// and there are such rows: all its lines are rows. So a load of the whole export into a new series of the same
 /// start, step and scale gives it the same values at the same slots.
 pub fn exports_are_read_back()
-    ensures rows { (series : Series) (rows : List (Option Reading)) → IsSeries series
-        → ReadsRows series.scale (export_text series None) (export_text series None) [] rows → values_of rows ≡ stored_values series }
+    ensures rows { RowsAreTheValues }
     ensures reads { (series : Series) → IsSeries series → (rows : List (Option Reading)) × ReadsRows series.scale (export_text series None) (export_text series None) [] rows }
-    ensures loaded { (total : ℕ) (name : List ℕ) (book : List Series) (series begun : Series) (count : ℕ) (image : Image) →
-        IsSeries series → IsBegunAs series begun → IsNamed book name begun → IsLoaded total name book begun (export_text series None) count image → StandsForSame total name series image }
+    ensures loaded { LoadedExportsAreTheSame }
 {
     lines_are_plain();
     lines_are_read_back();
@@ -47,11 +40,9 @@ pub fn exports_are_read_back()
 /// are accepted of any rows that read the series' stored values, and that room is needed for it.
 pub fn exports_load_where_there_is_room()
     ensures sets { (total : ℕ) (name : List ℕ) (book : List Series) (series : Series) → IsSeries series → HasRoomFor total name book series → AcceptsRunsOf total name book series }
-    ensures needed { (total : ℕ) (name : List ℕ) (book : List Series) (series : Series) (runs : List Run) →
-        IsSeries series → HasNewFor name book series → pages_of book ≤ total → AreRunsOf series runs → Accepts total name book runs → HasRoomFor total name book series }
+    ensures needed { RoomIsNeeded }
     ensures back { (total : ℕ) (name : List ℕ) (book : List Series) (series : Series) → IsSeries series → HasRoomFor total name book series → LoadsBack total name book series }
-    ensures through { (total : ℕ) (name : List ℕ) (book : List Series) (series begun : Series) →
-        IsSeries series → HasRoomFor total name book series → IsNamed book name begun → GoesThrough total name book begun (export_text series None) }
+    ensures through { ExportsGoThrough }
 {
     lines_are_plain();
     lines_are_read_back();

@@ -1,14 +1,10 @@
 -- The lines of whole lines with more bytes behind them, and their places.
-use Rattle.std.proofs.Common.{◌≡◌, ℕ, ◌+◌, ◌<◌, List, [], ◌∷◌, ◌++◌, length, take, get_or, map, refl, ap, subst, inl, inr, ◌⊎◌, sym, ◌∙◌, arith, append_assoc, length-append, Option}
-use Rattle.std.specs.Prelude.{true, false, cond}
-use Rattle.std.specs.List.{filter, flat_map, slice_split, onto_first, after_first, position_or_len}
-use Rattle.std.proofs.lemmas.List.{map-append, append-nil, take-append-drop, take_more, drop_all, append_cancel_right}
+use Rattle.std.proofs.Common.{◌≡◌, ℕ, ◌+◌, List, [], ◌∷◌, ◌++◌, length, map, refl, ap, subst, inl, inr, ◌⊎◌, sym, ◌∙◌, arith, length-append, Option}
+use Rattle.std.specs.List.{filter, flat_map}
+use Rattle.std.proofs.lemmas.List.{append-nil}
 use Rattle.std.proofs.lemmas.List.Elements.{filter-append}
-use Rattle.std.proofs.lemmas.List.Sums.{passes_at_first}
-use Rattle.std.proofs.lemmas.List.Splits.{length-slice_split}
-use Rattle.std.proofs.lemmas.Bool.{cases_lt, eqb-true}
 use Rattle.chart_world.specs.Laws.{with_line_feed}
-use Rattle.chart_world.specs.Lines.{is_line_feed, without_empty_end, split_lines, text_of, lines}
+use Rattle.chart_world.specs.Lines.{split_lines, text_of, lines}
 use Rattle.chart_world.specs.LineLaws.{split_none, split_whole, joined_lines}
 use Rattle.chart_world.specs.Fronts.{says, IsWhole, BeginsWith}
 use Rattle.series_load.specs.Fronts.{PlacedLine, placed_from, told}

@@ -12,3 +12,4 @@ pub mod Going
 pub mod Sides
 pub mod OneCut
 pub mod Knowing
+pub mod Counting

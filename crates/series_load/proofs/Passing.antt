@@ -1,8 +1,6 @@
 -- An input whose lines were all given.
-use Rattle.std.proofs.Common.{◌≡◌, ◌≢◌, ◌≤◌, ◌^◌, ℕ, ◌+◌, ◌⊎◌, List, [], ◌∷◌, ◌++◌, length, Option, Some, None, Result, Ok, Err, OnOk, IfSome, refl, ap, subst, inl, inr, sym, ◌∙◌, arith, append_assoc, length-append}
-use Rattle.std.specs.List.{after_first}
-use Rattle.chart_world.specs.Lines.{is_line_feed, lines}
-use Rattle.chart_world.specs.Reading.{Reading, unread, told_lines, with_first, behind_first, input_length}
+use Rattle.std.proofs.Common.{◌≡◌, ◌≤◌, ◌^◌, ℕ, ◌+◌, List, [], ◌++◌, length, Option, Some, None, Result, Ok, Err, OnOk, IfSome, ap, arith, length-append}
+use Rattle.chart_world.specs.Reading.{Reading, unread, told_lines, input_length}
 use Rattle.chart_world.specs.LineLaws.{no_rest}
 
 -- an input whose lines were all given is no longer than they are

@@ -6,3 +6,4 @@ pub mod Ends
 pub mod Steps
 pub mod Sides
 pub mod Shown
+pub mod Faults

@@ -1,5 +1,7 @@
 //! The lines of an input, one after the other, into a series.
 ghost use Rattle.std.specs.Prelude.{◌≡◌, ◌<◌, ◌≤◌, ◌+◌, ◌^◌, ℕ, List, [], ◌∷◌, Option, Some, None, true, false, length, unsigned_abs, IfOk, IfErr, OnOk};
+ghost use Rattle.chart_world.specs.Faults.{CountsFault, fault_in};
+ghost use Rattle.series_load.specs.Faults.{load_fault};
 ghost use Rattle.series_load.specs.Steps.{Closes, IsSoundFor, end_at};
 ghost use Rattle.series_load.specs.Shown as loads;
 ghost use Rattle.series_store.specs.Shown as shown;
@@ -71,6 +73,7 @@ impl Loader {
         ensures does { loads.ForRun store.old self.old.run (λ total book open_run. loads.EndsRuns (Closes open_run) total self.old.name book result self.new.run store.old store.new) }
         ensures carries { loads.CarriesOn store.old store.new }
         ensures cause { IfErr result (λ e. loads.FailsFor e store.old store.new) }
+        ensures faults { CountsFault (fault_in load_fault result) (shown.view store.old) (shown.view store.new) }
         ensures sound { OnOk result (shown.IsSound store.new) }
         ensures sound_for { IfErr result (λ e. IsSoundFor e (shown.view store.new)) }
         ensures none { OnOk result (self.new.run.values.items ≡ []) }
@@ -106,6 +109,7 @@ impl Loader {
         ensures does { loads.ForRun store.old self.old.run (λ total book open_run. loads.TakesReading at next.now total book open_run result self.old self.new store.old store.new) }
         ensures carries { loads.CarriesOn store.old store.new }
         ensures cause { IfErr result (λ e. loads.FailsFor e store.old store.new) }
+        ensures faults { CountsFault (fault_in load_fault result) (shown.view store.old) (shown.view store.new) }
         ensures sound { OnOk result (shown.IsSound store.new) }
         ensures sound_for { IfErr result (λ e. IsSoundFor e (shown.view store.new)) }
         ensures name { self.new.name ≡ self.old.name }
@@ -131,6 +135,7 @@ impl Loader {
         ensures does { loads.ForRun store.old self.old.run (λ total book open_run. loads.StopsAt at open_run total self.old.name book result self.new.run store.old store.new) }
         ensures carries { loads.CarriesOn store.old store.new }
         ensures cause { loads.FailsFor result store.old store.new }
+        ensures faults { CountsFault (load_fault result) (shown.view store.old) (shown.view store.new) }
         ensures sound_for { IsSoundFor result (shown.view store.new) }
         ensures name { self.new.name ≡ self.old.name }
         ensures step { self.new.step ≡ self.old.step }
@@ -150,6 +155,7 @@ impl Loader {
         ensures does { loads.ForRun store.old self.old.run (λ total book open_run. loads.EndsRuns (Closes open_run) total self.old.name book result self.new.run store.old store.new) }
         ensures carries { loads.CarriesOn store.old store.new }
         ensures cause { IfErr result (λ e. loads.FailsFor e store.old store.new) }
+        ensures faults { CountsFault (fault_in load_fault result) (shown.view store.old) (shown.view store.new) }
         ensures sound { OnOk result (shown.IsSound store.new) }
         ensures sound_for { IfErr result (λ e. IsSoundFor e (shown.view store.new)) }
         ensures points { IfOk result (λ count. count ≡ self.old.points) }
@@ -173,6 +179,7 @@ impl Loader {
         ensures does { loads.ForText store.old self.old said (λ total book open_run text. loads.TakesLine at text total book open_run result self.old self.new store.old store.new) }
         ensures carries { loads.CarriesOn store.old store.new }
         ensures cause { IfErr result (λ e. loads.FailsFor e store.old store.new) }
+        ensures faults { CountsFault (fault_in load_fault result) (shown.view store.old) (shown.view store.new) }
         ensures sound { OnOk result (shown.IsSound store.new) }
         ensures sound_for { IfErr result (λ e. IsSoundFor e (shown.view store.new)) }
         ensures name { self.new.name ≡ self.old.name }
@@ -210,6 +217,7 @@ impl Loader {
         ensures does { loads.ForRun store.old self.old.run (λ total book open_run. loads.TakesLine at line.now total book open_run result self.old self.new store.old store.new) }
         ensures carries { loads.CarriesOn store.old store.new }
         ensures cause { IfErr result (λ e. loads.FailsFor e store.old store.new) }
+        ensures faults { CountsFault (fault_in load_fault result) (shown.view store.old) (shown.view store.new) }
         ensures sound { OnOk result (shown.IsSound store.new) }
         ensures sound_for { IfErr result (λ e. IsSoundFor e (shown.view store.new)) }
         ensures name { self.new.name ≡ self.old.name }

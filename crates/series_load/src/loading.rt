@@ -1,7 +1,9 @@
 //! A whole input into a series.
 ghost use Rattle.std.specs.Prelude.{◌≡◌, ◌≢◌, ◌≤◌, ◌<◌, ◌^◌, ◌↔◌, ℕ, List, [], None, Err, true, length, IfOk, IfErr, IfSome, OnOk, OnErr};
+ghost use Rattle.chart_world.specs.Faults.{CountsFault, fault_in};
 ghost use Rattle.chart_world.specs.Reading.{unread_input};
 ghost use Rattle.series_book.specs.Edits.{id_of};
+ghost use Rattle.series_load.specs.Faults.{load_fault};
 ghost use Rattle.series_load.specs.Sides.{Goes};
 ghost use Rattle.series_load.specs.Shown as loads;
 ghost use Rattle.series_store.specs.Shown as shown;
@@ -44,6 +46,8 @@ pub fn load<P: PageWorld>(alloc: Global, store: &mut Store<P>, name: &Name) -> R
     ensures within { OnOk result (IfSome (P.left (shown.pages store.old)) (λ input. length input ≤ 2 ^ 32)) }
     ensures goes { Goes (loads.side_of P.Streams store.old) (loads.side_of P.Streams store.new) }
     ensures cause { IfErr result (λ e. loads.EndsFor P.Streams e store.old store.new) }
+    // no count of faults rises but that of the call that the error tells
+    ensures faults { CountsFault (fault_in load_fault result) (shown.view store.old) (shown.view store.new) }
     ensures sound { OnOk result (shown.IsSound store.new) }
     ensures sound_for { IfErr result (λ e. IsSoundFor e (shown.view store.new)) }
 {
@@ -71,6 +75,7 @@ fn load_lines<P: PageWorld>(
     ensures within { OnOk result (IfSome (P.left (shown.pages store.old)) (λ input. length input ≤ 2 ^ 32)) }
     ensures goes { Goes (loads.side_of P.Streams store.old) (loads.side_of P.Streams store.new) }
     ensures cause { IfErr result (λ e. loads.EndsFor P.Streams e store.old store.new) }
+    ensures faults { CountsFault (fault_in load_fault result) (shown.view store.old) (shown.view store.new) }
     ensures sound { OnOk result (shown.IsSound store.new) }
     ensures sound_for { IfErr result (λ e. IsSoundFor e (shown.view store.new)) }
 {

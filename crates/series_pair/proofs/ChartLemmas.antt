@@ -1,9 +1,11 @@
 -- The chart of a sum: its samples, and what errors of its rows are for it.
-use Rattle.std.proofs.Common.{◌≡◌, ◌∙◌, ℕ, ℤ, ◌<◌, false, List, length, Option, None, Some, refl, sym, ap, subst}
+use Rattle.std.proofs.Common.{◌≡◌, ◌≢◌, ◌∙◌, ℕ, ℤ, ◌<◌, false, List, length, Option, None, Some, refl, sym, ap, subst}
 use Rattle.std.specs.Prelude.{Result, Err, IfNone, IfSome, MatchOption, slice_get}
 use Rattle.std.specs.Option.{unwrap_or}
 use Rattle.chart_grid.specs.declared.axis.Axis.{Axis}
 use Rattle.chart_grid.specs.declared.grid.Grid.{Grid}
+use Rattle.chart_world.specs.FaultLaws.{counts_disk, counts_no_disk}
+use Rattle.chart_world.specs.Faults.{CountsFault}
 use Rattle.derived_chart.specs.Lists.{sums_of}
 use Rattle.derived_chart.specs.Points.{IsShift, AreSumSamples}
 use Rattle.derived_chart.specs.Rows.{IsAnswer, IsCause}
@@ -26,7 +28,7 @@ use Rattle.series_store.specs.declared.store.Store.{Store}
 use Rattle.stored_book.specs.Standing.{StandsForBook}
 use Rattle.series_pair.specs.AskLaws.{book_there, causes_later, pair_agrees, still_are_pair}
 use Rattle.series_pair.specs.Asking.{ArePair, Causes, GoesPair}
-use Rattle.series_pair.specs.Derived.{AreSamplesOf, AreShifted, AreUnlike, IsChartAnswer, IsChartCause, axis_of}
+use Rattle.series_pair.specs.Derived.{AreSamplesOf, AreShifted, AreUnlike, IsChartAnswer, IsChartCause, axis_of, sum_fault}
 use Rattle.series_pair.specs.Drawing.{error_of}
 use Rattle.series_pair.specs.declared.store_pair.StorePair.{StorePair}
 use Rattle.series_pair.specs.declared.sum_error.SumError.{SumError}
@@ -135,6 +137,16 @@ module _ {P : Type 0} {g : Ghosts P} where
   error_cause (derived.Node (node.Missing key)) old new sound cause = absurd (cause sound)
   error_cause (derived.Node (node.BadCoefficient key)) old new sound cause = absurd (cause sound)
   error_cause derived.NoMemory old new sound cause = tt
+
+  -- the fault of which an error of the rows tells
+  pub error_faults : (e : DerivedError) (old new : StorePair P g) → shown.IsSound old.store → GoesPair old new → IsCause (Causes old new) e → (e ≢ derived.Node node.DiskFault → (shown.view new.store).faults ≡ (shown.view old.store).faults)
+      → CountsFault (sum_fault (error_of e)) (shown.view old.store) (shown.view new.store)
+  error_faults (derived.TooLarge time) old new sound going cause quiet = counts_no_disk (shown.view old.store) (shown.view new.store) going.looks.beside (quiet (λ is. cc))
+  error_faults (derived.Node node.DiskFault) old new sound going cause quiet = counts_disk (shown.view old.store) (shown.view new.store) going.looks.beside (cause sound)
+  error_faults (derived.Node (node.Damaged page)) old new sound going cause quiet = counts_no_disk (shown.view old.store) (shown.view new.store) going.looks.beside (quiet (λ is. cc))
+  error_faults (derived.Node (node.Missing key)) old new sound going cause quiet = absurd (cause sound)
+  error_faults (derived.Node (node.BadCoefficient key)) old new sound going cause quiet = absurd (cause sound)
+  error_faults derived.NoMemory old new sound going cause quiet = counts_no_disk (shown.view old.store) (shown.view new.store) going.looks.beside (quiet (λ is. cc))
 
   pub error_answer : (e : DerivedError) (old new : StorePair P g) (total : ℕ) (book : List Series) (x y : ℕ) (a b : ℤ) (grid : Grid) (asked : Option ValueRange) (samples : List Sample) → shown.IsSound old.store → shown.IsTold old.store → StandsForBook (shown.image old.store) total book
       → IsCause (Causes old new) e → AreSamplesOf book x y a b grid samples → IsAnswer grid samples (Err e) → IsChartAnswer book x y a b grid asked (Err (error_of e))

@@ -2,6 +2,7 @@
 use Rattle.std.specs.Prelude.{ℕ, ℤ, ◌≡◌, ◌<◌, ◌↔◌, ⊤, IsTrue, List, length, slice_get, All, Option, None, Some, Result, Ok, Err}
 use Rattle.block_disk.specs.Counts.{HasRisen}
 use Rattle.block_disk.specs.View.{View}
+use Rattle.chart_world.specs.Faults.{Fault, OfDisk}
 use Rattle.chart_grid.specs.declared.axis.Axis.{Axis}
 use Rattle.chart_grid.specs.declared.grid.Grid.{Grid}
 use Rattle.derived_chart.specs.Points.{IsShift, AreSumSamples}
@@ -84,6 +85,13 @@ IsChartCause (TooLarge time) told total old new = ⊤
 IsChartCause DiskFault told total old new = HasRisen old.faults new.faults
 IsChartCause (Damaged page) told total old new = IsBadPage told total new page
 IsChartCause NoMemory told total old new = ⊤
+
+-- the failed call of which an error of a chart tells
+abbrev pub sum_fault : SumError → Option Fault
+sum_fault (TooLarge time) = None
+sum_fault DiskFault = Some OfDisk
+sum_fault (Damaged page) = None
+sum_fault NoMemory = None
 
 -- a range that may be asked for: its ends are in order, and at most 10^18 in size
 pub record MayShow (range : ValueRange) : Type 0 where

@@ -3,3 +3,4 @@ pub mod Pairs
 pub mod Asking
 pub mod AskLaws
 pub mod Drawing
+pub mod Laws

@@ -1,6 +1,7 @@
 //! The chart of a sum of two series of a store.
 ghost use Rattle.std.specs.Prelude.{◌≡◌, ◌<◌, ◌≤◌, ℕ, List, false, length, All, IfErr, IfSome};
 ghost use Rattle.chart_grid.specs.declared.grid.Grid.{Grid};
+ghost use Rattle.chart_world.specs.Faults.{CountsFault, fault_in};
 ghost use Rattle.derived_chart.specs.Rows.{IsCause};
 ghost use Rattle.derived_chart.specs.Sums.{IsSmall};
 ghost use Rattle.m4_groups.specs.Heights.{IsDrawable};
@@ -12,7 +13,7 @@ ghost use Rattle.retention.specs.Sweeping.{IsOfPages};
 ghost use Rattle.series_book.specs.declared.limits.TheConstants.{MOST_SLOTS};
 ghost use Rattle.series_store.specs.Shown as shown;
 ghost use Rattle.series_pair.specs.Asking.{GoesPair, count};
-ghost use Rattle.series_pair.specs.Derived.{AreShifted, IsChartAnswer, IsChartCause, MayShow, ShowsRange, axis_of};
+ghost use Rattle.series_pair.specs.Derived.{AreShifted, IsChartAnswer, IsChartCause, MayShow, ShowsRange, axis_of, sum_fault};
 ghost use Rattle.series_pair.specs.Drawing.{error_of, node_error};
 
 use crate::store_pair::StorePair;
@@ -39,6 +40,7 @@ fn first_axis<P: Pages>(pair: &mut StorePair<P>) -> Axis
     ensures step { 0 < result.step }
     ensures axis { shown.ForSeries pair.old.store pair.old.x (λ total book series. result ≡ axis_of series) }
     ensures goes { GoesPair pair.old pair.new }
+    ensures quiet { (shown.view pair.new.store).faults ≡ (shown.view pair.old.store).faults }
 {
     sound_stores_are_fit(&pair.store);
     let info = pair.store.info(pair.x);
@@ -100,6 +102,7 @@ fn chart_of_pair<P: Pages>(
     ensures answer { shown.ForBook pair.old.store (λ total book. AreShifted book pair.old.x pair.old.y sum.shift → IsChartAnswer book pair.old.x pair.old.y sum.a sum.b grid range result) }
     ensures cause { IfErr result (λ e. IsChartCause e (shown.IsTold pair.new.store) (shown.total pair.old.store) (shown.view pair.old.store) (shown.view pair.new.store)) }
     ensures goes { GoesPair pair.old pair.new }
+    ensures faults { CountsFault (fault_in sum_fault result) (shown.view pair.old.store) (shown.view pair.new.store) }
 {
     kept_sums_are_the_samples();
     let axis = first_axis(pair);
@@ -135,6 +138,7 @@ pub fn chart_of_sum<P: Pages>(
     ensures answer { shown.ForBook store (λ total book. AreShifted book x y sum.shift → IsChartAnswer book x y sum.a sum.b grid range result.0) }
     ensures cause { IfErr result.0 (λ e. IsChartCause e (shown.IsTold result.1) (shown.total store) (shown.view store) (shown.view result.1)) }
     ensures looks { LooksOnly store result.1 }
+    ensures faults { CountsFault (fault_in sum_fault result.0) (shown.view store) (shown.view result.1) }
 {
     let mut pair = StorePair::new(store, x, y);
     let chart = chart_of_pair(alloc, &mut pair, sum, grid, range);

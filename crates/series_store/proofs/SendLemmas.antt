@@ -553,3 +553,8 @@ none_by (Ok done) error f list level below index span' old new waiting later is 
 none_by (Err x) error f list level below index span' old new waiting later is there same read is_error fault =
     let P : SendError → Type 0 = λ y. SendsPart f (first_slot (top_of_page level index)) (end_slot (top_of_page level index)) (page_count list level index) old new waiting later (Err y) in
     subst P (sym (is_error ∙ ap send_error_of fault)) (send_none f list level below index span' old new waiting later DiskFault is there same read tt)
+
+-- an error that is handed on is the result
+pub error_is : (r : Result (Unit {0}) SendError) (e : SendError) → IsErrAnd r (λ x. x ≡ e) → r ≡ Err e
+error_is (Ok done) e is = absurd is
+error_is (Err x) e is = ap (λ (y : SendError). Err y) is

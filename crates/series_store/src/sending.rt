@@ -1,5 +1,5 @@
 //! The values of a tree are sent as texts, page by page.
-ghost use Rattle.std.specs.Prelude.{◌≡◌, ◌<◌, ◌≤◌, ◌+◌, ◌++◌, List, [], length, false, IsTrue, IfErr, OnOk, ◌≢◌};
+ghost use Rattle.std.specs.Prelude.{◌≡◌, ◌<◌, ◌≤◌, ◌+◌, ◌++◌, List, [], length, false, IsTrue, Err, IfErr, OnOk, ◌≢◌};
 ghost use Rattle.block_disk.specs.View.{View};
 ghost use Rattle.om3_coeff.specs.Keys.{first_slot, end_slot};
 ghost use Rattle.om3_coeff.specs.Spans.{IsProperIfAny};
@@ -32,6 +32,7 @@ pub(crate) fn send_waiting<P: PageWorld>(
     ensures gives { GivesMore (λ text. text) result space.old space.new out.old.items out.new.items }
     ensures cause { IfErr result (λ e. IsTextCause e (P.view space.old.pages) (P.view space.new.pages)) }
     ensures quiet { (P.view space.new.pages).faults ≡ (P.view space.old.pages).faults }
+    ensures quiet_sends { result ≢ Err SendError.SendFault → (P.view space.new.pages).beside.send_faults ≡ (P.view space.old.pages).beside.send_faults }
 {
     let Ok(()) = space.send(out.as_slice()) else {
         return Err(SendError::SendFault);
@@ -55,6 +56,7 @@ fn send_value<P: PageWorld, T: Texts>(
     ensures gives { GivesMore (λ text. text ++ T.text texts.now slot value) result space.old space.new out.old.items out.new.items }
     ensures cause { IfErr result (λ e. IsTextCause e (P.view space.old.pages) (P.view space.new.pages)) }
     ensures quiet { (P.view space.new.pages).faults ≡ (P.view space.old.pages).faults }
+    ensures quiet_sends { result ≢ Err SendError.SendFault → (P.view space.new.pages).beside.send_faults ≡ (P.view space.old.pages).beside.send_faults }
 {
     texts.add(slot, value, out)?;
     if out.len() < PIECE {
@@ -106,6 +108,7 @@ pub(crate) fn send_below<P: PageWorld, T: Texts>(
     ensures cause { IfErr result (λ e. IsSendCause e (P.told space.old.pages) (P.view space.old.pages) (P.view space.new.pages) space.old.superblock.total level page top) }
     ensures quiet { OnOk result ((P.view space.new.pages).faults ≡ (P.view space.old.pages).faults) }
     ensures quiet_err { IfErr result (λ e. e ≢ SendError.DiskFault → (P.view space.new.pages).faults ≡ (P.view space.old.pages).faults) }
+    ensures quiet_sends { result ≢ Err SendError.SendFault → (P.view space.new.pages).beside.send_faults ≡ (P.view space.old.pages).beside.send_faults }
     ensures part { ForListBelow space.old level index page top (SendsBelow (first_said slots (T.text texts.now)) level index space.old space.new out.old.items out.new.items result) }
 {
     let Some(span) = top else {

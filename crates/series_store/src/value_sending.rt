@@ -1,5 +1,5 @@
 //! The values of a series are sent as texts.
-ghost use Rattle.std.specs.Prelude.{◌≡◌, ◌<◌, ◌≤◌, ◌+◌, ◌++◌, ℤ, List, Option, Some, length, slice_get, IfErr, OnOk, OnErr, ◌≢◌};
+ghost use Rattle.std.specs.Prelude.{◌≡◌, ◌<◌, ◌≤◌, ◌+◌, ◌++◌, ℤ, List, Option, Some, length, slice_get, Err, IfErr, OnOk, OnErr, ◌≢◌};
 ghost use Rattle.block_disk.specs.Streams.{sent_after, PartSent};
 ghost use Rattle.block_disk.specs.View.{View};
 ghost use Rattle.om3_coeff.specs.Spans.{IsProperIfAny};
@@ -20,7 +20,8 @@ use om3_coeff::page_levels;
 use page_space::Space;
 use tree_walk::Tree;
 
-/// Sends what waits and what is said of the values of a tree.
+/// Sends what waits and what is said of the values of a tree. Where a page is damaged, what is said of the values
+/// in front of it is sent before; where that send fails, `SendFault` comes in place of `Damaged`.
 fn send_tree<P: PageWorld, T: Texts>(
     space: &mut Space<P>,
     tree: Tree,
@@ -45,6 +46,7 @@ fn send_tree<P: PageWorld, T: Texts>(
     ensures cause { IfErr result (IsCauseOf tree space.old space.new) }
     ensures quiet { OnOk result ((P.view space.new.pages).faults ≡ (P.view space.old.pages).faults) }
     ensures quiet_err { IfErr result (λ e. e ≢ SendError.DiskFault → (P.view space.new.pages).faults ≡ (P.view space.old.pages).faults) }
+    ensures quiet_sends { result ≢ Err SendError.SendFault → (P.view space.new.pages).beside.send_faults ≡ (P.view space.old.pages).beside.send_faults }
 {
     let levels = page_levels(tree.slots);
     match send_below(
@@ -52,8 +54,8 @@ fn send_tree<P: PageWorld, T: Texts>(
     ) {
         Ok(()) => send_waiting(space, out),
         Err(SendError::Damaged { page }) => {
-            // What is said of the values in front of the damage goes out, where it can.
-            let _ = send_waiting(space, out);
+            // What is said of the values in front of the damage goes out first.
+            send_waiting(space, out)?;
             Err(SendError::Damaged { page })
         }
         Err(error) => Err(error),
@@ -67,8 +69,9 @@ impl<P: PageWorld> Store<P> {
     /// may be said of its slots. A value that stands past the series' last slot is passed over.
     ///
     /// After an error a front of the bytes was sent. Each page that is read is checked; the first that is bad
-    /// for its place is `Damaged`, and what is said of the values in front of it was sent, unless a send failed.
-    /// Where the pages stand for a book none is. Nothing is written, and the selected series stays.
+    /// for its place is `Damaged`, and what is said of the values in front of it was sent before; where that send
+    /// fails, `SendFault` comes in its place. Where the pages stand for a book none is `Damaged`. Nothing is
+    /// written, and the selected series stays.
     pub fn send_values<T: Texts>(
         &mut self,
         id: u16,
@@ -88,6 +91,7 @@ impl<P: PageWorld> Store<P> {
         ensures cause { IfErr result (λ e. IsSeriesCause e (shown.IsTold self.old) (shown.numbers self.old) id (shown.view self.old) (shown.view self.new)) }
         ensures quiet { OnOk result ((shown.view self.new).faults ≡ (shown.view self.old).faults) }
         ensures quiet_err { IfErr result (λ e. e ≢ SendError.DiskFault → (shown.view self.new).faults ≡ (shown.view self.old).faults) }
+        ensures quiet_sends { result ≢ Err SendError.SendFault → (shown.view self.new).beside.send_faults ≡ (shown.view self.old).beside.send_faults }
         ensures sends { SendsOn self.old self.new }
         ensures catalog { self.new.catalog ≡ self.old.catalog }
         ensures selected { (self.new.tree ≡ self.old.tree) × (self.new.trail ≡ self.old.trail) }

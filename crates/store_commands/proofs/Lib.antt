@@ -18,3 +18,4 @@ pub mod Damages
 pub mod InputLemmas
 pub mod TokenLemmas
 pub mod HoldsAgain
+pub mod FaultLemmas

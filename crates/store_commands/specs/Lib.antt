@@ -17,3 +17,4 @@ pub mod Exporting
 pub mod Copied
 pub mod Demonstrated
 pub mod Answering
+pub mod Faulting

@@ -1,10 +1,12 @@
 //! The command `check`: every page of the store is read, and what it holds is counted and sent.
 ghost use Rattle.std.specs.Prelude.{◌≡◌, IfOk, IsTrue};
 ghost use Rattle.block_disk.specs.View.{View};
+ghost use Rattle.chart_world.specs.Faults.{CountsFault};
 ghost use Rattle.series_store.specs.Shown as shown;
 ghost use Rattle.store_commands.specs.Checked.{CheckEnds, counts_text};
 ghost use Rattle.store_commands.specs.Checking.{ChecksOn, check_status};
 ghost use Rattle.store_commands.specs.Away.{TurnsAway};
+ghost use Rattle.store_commands.specs.Status.{code_fault};
 ghost use Rattle.store_commands.specs.Traffic.{traffic};
 
 use crate::sending::send_text;
@@ -21,6 +23,7 @@ pub fn check_store<W: World>(alloc: Global, world: W) -> (Status, W)
     ensures ends { CheckEnds (W.view world) (W.view result.1) (W.sent world) (W.sent result.1) (W.send_faults world) (W.send_faults result.1) result.0.code result.0.place }
     ensures away { TurnsAway (W.view world) (traffic W.left W.sent W.read_faults W.send_faults world result.1) result.0 }
     ensures untaken { W.left result.1 ≡ W.left world }
+    ensures faults { CountsFault (code_fault result.0.code) (W.view world) (W.view result.1) }
 {
     match open_store(alloc, world) {
         Ok(store) => check_opened(alloc, store),
@@ -33,6 +36,7 @@ fn check_opened<W: World>(alloc: Global, mut store: Store<GatePages<W>>) -> (Sta
     requires { IsTrue (shown.pages store).sound }
     ensures checks { let pages = shown.pages store in ChecksOn pages.count (W.view pages.disk) (W.view result.1) (traffic W.left W.sent W.read_faults W.send_faults pages.disk result.1) result.0 }
     ensures untaken { W.left result.1 ≡ W.left (shown.pages store).disk }
+    ensures faults { CountsFault (code_fault result.0.code) (W.view (shown.pages store).disk) (W.view result.1) }
 {
     let counted = store.check();
     let world = disk_of(store);

@@ -1,14 +1,17 @@
 //! The command `demo`: the workload that a number makes is answered, and the summary of its replies is sent.
 ghost use Rattle.std.specs.Prelude.{◌≡◌, ◌≢◌, ◌≤◌, [], IsTrue};
 ghost use Rattle.block_disk.specs.View.{View};
+ghost use Rattle.chart_world.specs.Faults.{CountsFault, fault_in};
 ghost use Rattle.gate_pages.specs.Journal.{page_count};
 ghost use Rattle.series_store.specs.Shown as shown;
 ghost use Rattle.chart_service.specs.Shown as service_shown;
+ghost use Rattle.demo_workload.specs.Ending.{demo_fault};
 ghost use Rattle.demo_workload.specs.Workload.{workload};
 ghost use Rattle.store_commands.specs.Answering.{Answered, HasNumberedKey, end_status};
 ghost use Rattle.store_commands.specs.Away.{TurnsAway};
 ghost use Rattle.store_commands.specs.Books.{HoldsAgain};
 ghost use Rattle.store_commands.specs.Demonstrated.{DemoEnds};
+ghost use Rattle.store_commands.specs.Status.{code_fault};
 ghost use Rattle.store_commands.specs.Traffic.{traffic};
 
 use crate::sending::send_text;
@@ -33,6 +36,7 @@ pub fn run_demo<W: World>(alloc: Global, seed: u64, rounds: u16, world: W) -> (S
     ensures holds { result.0.code ≢ DISK_FAULT → HoldsAgain (page_count (W.view world).size) (W.view world) (W.view result.1) }
     ensures away { TurnsAway (W.view world) (traffic W.left W.sent W.read_faults W.send_faults world result.1) result.0 }
     ensures untaken { W.left result.1 ≡ W.left world }
+    ensures faults { CountsFault (code_fault result.0.code) (W.view world) (W.view result.1) }
 {
     match open_store(alloc, world) {
         Ok(store) => {
@@ -55,7 +59,8 @@ fn answer_store<W: World>(
 ) -> (Result<Summary, DemoEnd>, W)
     requires sound { IsTrue (shown.pages store).sound }
     requires rounds { rounds ≤ 4096 }
-    ensures { let pages = shown.pages store in Answered (workload seed rounds) pages.count (W.view pages.disk) (W.view result.1) result.0 }
+    ensures answered { let pages = shown.pages store in Answered (workload seed rounds) pages.count (W.view pages.disk) (W.view result.1) result.0 }
+    ensures faults { CountsFault (fault_in demo_fault result.0) (W.view (shown.pages store).disk) (W.view result.1) }
 {
     match Service::new(alloc, store) {
         Ok(service) => answer_all(alloc, seed, rounds, service),
@@ -73,7 +78,8 @@ fn answer_all<W: World>(
     requires sound { IsTrue (service_shown.pages service).sound }
     requires alone { service.sessions ≡ [] }
     requires rounds { rounds ≤ 4096 }
-    ensures { let pages = service_shown.pages service in Answered (workload seed rounds) pages.count (W.view pages.disk) (W.view result.1) result.0 }
+    ensures answered { let pages = service_shown.pages service in Answered (workload seed rounds) pages.count (W.view pages.disk) (W.view result.1) result.0 }
+    ensures faults { CountsFault (fault_in demo_fault result.0) (W.view (service_shown.pages service).disk) (W.view result.1) }
 {
     frames_have_one_answer();
     let answer = run_workload(alloc, &mut service, seed, u32::from(rounds));

@@ -1,8 +1,10 @@
 //! The command `export`: the stored values of a series are sent as lines that a load reads.
 ghost use Rattle.std.specs.Prelude.{◌≡◌, IsTrue};
 ghost use Rattle.block_disk.specs.View.{View};
+ghost use Rattle.chart_world.specs.Faults.{CountsFault};
 ghost use Rattle.series_store.specs.Shown as shown;
 ghost use Rattle.store_commands.specs.Away.{TurnsAway};
+ghost use Rattle.store_commands.specs.Status.{code_fault};
 ghost use Rattle.store_commands.specs.Exported.{ExportEnds};
 ghost use Rattle.store_commands.specs.Exporting.{ExportsOn, export_status};
 ghost use Rattle.store_commands.specs.Traffic.{traffic};
@@ -30,6 +32,7 @@ pub fn export_values<W: World>(
     ensures ends { ExportEnds name.now window (W.view world) (W.view result.1) (W.sent world) (W.sent result.1) (W.send_faults world) (W.send_faults result.1) result.0.code result.0.place }
     ensures away { TurnsAway (W.view world) (traffic W.left W.sent W.read_faults W.send_faults world result.1) result.0 }
     ensures untaken { W.left result.1 ≡ W.left world }
+    ensures faults { CountsFault (code_fault result.0.code) (W.view world) (W.view result.1) }
 {
     match open_store(alloc, world) {
         Ok(store) => export_opened(alloc, name, window, store),
@@ -47,6 +50,7 @@ fn export_opened<W: World>(
     requires { IsTrue (shown.pages store).sound }
     ensures exports { let pages = shown.pages store in ExportsOn name.now window W.view pages result.1 (traffic W.left W.sent W.read_faults W.send_faults pages.disk result.1) result.0 }
     ensures untaken { W.left result.1 ≡ W.left (shown.pages store).disk }
+    ensures faults { CountsFault (code_fault result.0.code) (W.view (shown.pages store).disk) (W.view result.1) }
 {
     let Some(info) = store.series(name) else {
         return (ended(REFUSED, UNKNOWN_SERIES), disk_of(store));

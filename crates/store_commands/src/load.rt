@@ -1,11 +1,14 @@
 //! The command `load`: the readings of the input are stored in a series, and their number is sent.
 ghost use Rattle.std.specs.Prelude.{◌≡◌, ◌≢◌, IfOk, IsTrue};
 ghost use Rattle.block_disk.specs.View.{View};
+ghost use Rattle.chart_world.specs.Faults.{CountsFault, fault_in};
 ghost use Rattle.gate_pages.specs.Journal.{page_count};
+ghost use Rattle.series_load.specs.Faults.{load_fault};
 ghost use Rattle.series_store.specs.Shown as shown;
 ghost use Rattle.store_commands.specs.Loaded.{EndsLoad, loaded_text};
 ghost use Rattle.store_commands.specs.Storing.{StoresOn, end_status};
 ghost use Rattle.store_commands.specs.Away.{TurnsAway};
+ghost use Rattle.store_commands.specs.Status.{code_fault};
 ghost use Rattle.store_commands.specs.Books.{HoldsAgain};
 ghost use Rattle.store_commands.specs.Traffic.{traffic};
 
@@ -28,6 +31,7 @@ pub fn load_series<W: World>(alloc: Global, name: &Name, world: W) -> (Status, W
     ensures ends { EndsLoad name.now (W.view world) (W.view result.1) (traffic W.left W.sent W.read_faults W.send_faults world result.1) result.0 }
     ensures holds { result.0.code ≢ DISK_FAULT → HoldsAgain (page_count (W.view world).size) (W.view world) (W.view result.1) }
     ensures away { TurnsAway (W.view world) (traffic W.left W.sent W.read_faults W.send_faults world result.1) result.0 }
+    ensures faults { CountsFault (code_fault result.0.code) (W.view world) (W.view result.1) }
 {
     match open_store(alloc, world) {
         Ok(store) => {
@@ -48,7 +52,8 @@ fn load_store<W: World>(
     mut store: Store<GatePages<W>>,
 ) -> (Result<u64, LoadEnd>, W)
     requires { IsTrue (shown.pages store).sound }
-    ensures { let pages = shown.pages store in StoresOn name.now pages.count (W.view pages.disk) (W.view result.1) (traffic W.left W.sent W.read_faults W.send_faults pages.disk result.1) result.0 }
+    ensures stores { let pages = shown.pages store in StoresOn name.now W.view pages result.1 (traffic W.left W.sent W.read_faults W.send_faults pages.disk result.1) result.0 }
+    ensures faults { CountsFault (fault_in load_fault result.0) (W.view (shown.pages store).disk) (W.view result.1) }
 {
     let answer = load(alloc, &mut store, name);
     (answer, disk_of(store))

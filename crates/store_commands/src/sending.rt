@@ -1,7 +1,9 @@
 //! The text of a command is sent.
 ghost use Rattle.std.specs.Prelude.{◌≡◌};
 ghost use Rattle.block_disk.specs.View.{View};
+ghost use Rattle.chart_world.specs.Faults.{CountsFault};
 ghost use Rattle.store_commands.specs.Sending.{SendsMade};
+ghost use Rattle.store_commands.specs.Status.{code_fault};
 
 use crate::status::{DONE, NO_MEMORY, SEND_FAULT, Status, ended};
 use block_disk::World;
@@ -10,6 +12,7 @@ use block_disk::World;
 pub(crate) fn send_text<W: World, E: Drop>(made: Result<Vec<u8>, E>, mut world: W) -> (Status, W)
     ensures sends { SendsMade made (W.view world) (W.view result.1) (W.sent world) (W.sent result.1) (W.send_faults world) (W.send_faults result.1) result.0 }
     ensures left { W.left result.1 ≡ W.left world }
+    ensures faults { CountsFault (code_fault result.0.code) (W.view world) (W.view result.1) }
 {
     let Ok(text) = made else {
         return (ended(NO_MEMORY, 0), world);

@@ -1,13 +1,16 @@
 use Rattle.std.proofs.Common.{sym, subst}
+use Rattle.store_commands.specs.Faulting.{counts_as}
 use Rattle.store_commands.specs.declared.status.Status.{Status}
 use Rattle.program_words.specs.declared.words.Command.TheVariants.{Draw}
+use Rattle.chart_program.specs.CommandStatuses.{drawing_status}
 use Rattle.chart_program.specs.Served.{faults_of}
 use Rattle.chart_program.specs.Ran.{CommandEnds}
+use Rattle.chart_program.proofs.Faults.{counts_drawn}
 use Rattle.chart_program.proofs.Statuses.{drawn}
 use Rattle.chart_program.proofs.commands.draw_status.Goals as goal
 
-pub returns : goal.returns
-returns g c =
+pub returns-clause-ends : goal.returns-clause-ends
+returns-clause-ends g c =
     let view = g.W.Disk.view in
     let left = g.W.Streams.left in
     let sent = g.W.Streams.sent in
@@ -19,3 +22,14 @@ returns g c =
     subst P (sym c.drawing_status.ensures)
     (drawn (record { one = c.one_frame_a_spelling.ensures; told = c.length_is_told.ensures; good = c.spellings_are_good.ensures }) c.more_bytes_mend_nothing.ensures.stays
     c.replies_draw_the_book.ensures c.one_session_draws_the_book.ensures c.replies_are_accepted.ensures c.own_replies_are_accepted.ensures (view old) (view new) (left old) (left new) (sent old) (sent new) faults c.draw-answer.result e.done e.within e.ends e.read e.send e.disk)
+
+pub returns-clause-faults : goal.returns-clause-faults
+returns-clause-faults g c =
+    let view = g.W.Disk.view in
+    let w = g.met.W.World in
+    let old = c.args.world.now in
+    let new = c.draw-answer.new.streams in
+    let answer = c.draw-answer.result in
+    let e = c.draw-answer.ensures in
+    counts_as c.drawing_status.result (drawing_status answer) (view old) (view new) c.drawing_status.ensures
+    (counts_drawn view g.W.Streams.read_faults g.W.Streams.send_faults w.beside_read_faults w.beside_send_faults old new e.disk.kept answer e.read e.send e.quiet_reads e.quiet_sends)

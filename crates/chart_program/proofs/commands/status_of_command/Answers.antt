@@ -9,8 +9,8 @@ use Rattle.chart_program.proofs.LiveEnds.{live_ends}
 use Rattle.chart_program.proofs.DeriveEnds.{derive_ends}
 use Rattle.chart_program.proofs.commands.status_of_command.Goals as goal
 
-pub returns-in-Plot : goal.returns-in-Plot
-returns-in-Plot g c =
+pub returns-in-Plot-clause-ends : goal.returns-in-Plot-clause-ends
+returns-in-Plot-clause-ends g c =
     let view = g.W.Disk.view in
     let left = g.W.Streams.left in
     let sent = g.W.Streams.sent in
@@ -21,10 +21,10 @@ returns-in-Plot g c =
     let status = c.plot_status-status.result in
     let faults = faults_of (reads old) (reads new) (sends old) (sends new) in
     let P : Command → Type 0 = λ command. CommandEnds command (view old) (view new) (left old) (left new) (sent old) (sent new) faults status.code status.place in
-    subst P (sym c.in-Plot.is) c.plot_status-status.ensures
+    subst P (sym c.in-Plot.is) c.plot_status-status.ensures.ends
 
-pub returns-in-Load : goal.returns-in-Load
-returns-in-Load g c =
+pub returns-in-Load-clause-ends : goal.returns-in-Load-clause-ends
+returns-in-Load-clause-ends g c =
     let view = g.W.Disk.view in
     let left = g.W.Streams.left in
     let sent = g.W.Streams.sent in
@@ -38,8 +38,8 @@ returns-in-Load g c =
     let P : Command → Type 0 = λ command. CommandEnds command (view old) (view new) (left old) (left new) (sent old) (sent new) faults status.code status.place in
     subst P (sym c.in-Load.is) (load_ends c.in-Load.name (view old) (view new) (left old) (left new) (sent old) (sent new) faults status.code status.place e.ends e.away e.holds)
 
-pub returns-in-Demo : goal.returns-in-Demo
-returns-in-Demo g c =
+pub returns-in-Demo-clause-ends : goal.returns-in-Demo-clause-ends
+returns-in-Demo-clause-ends g c =
     let view = g.W.Disk.view in
     let left = g.W.Streams.left in
     let sent = g.W.Streams.sent in
@@ -53,8 +53,8 @@ returns-in-Demo g c =
     let P : Command → Type 0 = λ command. CommandEnds command (view old) (view new) (left old) (left new) (sent old) (sent new) faults status.code status.place in
     subst P (sym c.in-Demo.is) (demo_ends c.in-Demo.seed c.in-Demo.count (view old) (view new) (left old) (left new) (sent old) (sent new) faults status.code status.place e.ends e.away e.untaken e.holds)
 
-pub returns-in-Run : goal.returns-in-Run
-returns-in-Run g c =
+pub returns-in-Run-clause-ends : goal.returns-in-Run-clause-ends
+returns-in-Run-clause-ends g c =
     let view = g.W.Disk.view in
     let left = g.W.Streams.left in
     let sent = g.W.Streams.sent in
@@ -68,8 +68,8 @@ returns-in-Run g c =
     let P : Command → Type 0 = λ command. CommandEnds command (view old) (view new) (left old) (left new) (sent old) (sent new) faults status.code status.place in
     subst P (sym c.in-Run.is) (run_ends (view old) (view new) (left old) (left new) (sent old) (sent new) faults status.code status.place e.ends e.own e.away e.bars)
 
-pub returns-in-Serve : goal.returns-in-Serve
-returns-in-Serve g c =
+pub returns-in-Serve-clause-ends : goal.returns-in-Serve-clause-ends
+returns-in-Serve-clause-ends g c =
     let view = g.W.Disk.view in
     let left = g.W.Streams.left in
     let sent = g.W.Streams.sent in
@@ -83,8 +83,8 @@ returns-in-Serve g c =
     let P : Command → Type 0 = λ command. CommandEnds command (view old) (view new) (left old) (left new) (sent old) (sent new) faults status.code status.place in
     subst P (sym c.in-Serve.is) (serve_ends (view old) (view new) (left old) (left new) (sent old) (sent new) faults status.code status.place e.ends e.own e.away e.bars)
 
-pub returns-in-Draw : goal.returns-in-Draw
-returns-in-Draw g c =
+pub returns-in-Draw-clause-ends : goal.returns-in-Draw-clause-ends
+returns-in-Draw-clause-ends g c =
     let view = g.W.Disk.view in
     let left = g.W.Streams.left in
     let sent = g.W.Streams.sent in
@@ -95,10 +95,10 @@ returns-in-Draw g c =
     let status = c.draw_status-status.result in
     let faults = faults_of (reads old) (reads new) (sends old) (sends new) in
     let P : Command → Type 0 = λ command. CommandEnds command (view old) (view new) (left old) (left new) (sent old) (sent new) faults status.code status.place in
-    subst P (sym c.in-Draw.is) c.draw_status-status.ensures
+    subst P (sym c.in-Draw.is) c.draw_status-status.ensures.ends
 
-pub returns-in-Init : goal.returns-in-Init
-returns-in-Init g c =
+pub returns-in-Init-clause-ends : goal.returns-in-Init-clause-ends
+returns-in-Init-clause-ends g c =
     let view = g.W.Disk.view in
     let left = g.W.Streams.left in
     let sent = g.W.Streams.sent in
@@ -112,8 +112,8 @@ returns-in-Init g c =
     let P : Command → Type 0 = λ command. CommandEnds command (view old) (view new) (left old) (left new) (sent old) (sent new) faults status.code status.place in
     subst P (sym c.in-Init.is) (init_ends (view old) (view new) (left old) (left new) (sent old) (sent new) faults status.code status.place e.codes e.away e.untaken e.fault e.small e.there e.place e.sent e.disk e.made e.ready)
 
-pub returns-in-Check : goal.returns-in-Check
-returns-in-Check g c =
+pub returns-in-Check-clause-ends : goal.returns-in-Check-clause-ends
+returns-in-Check-clause-ends g c =
     let view = g.W.Disk.view in
     let left = g.W.Streams.left in
     let sent = g.W.Streams.sent in
@@ -127,8 +127,8 @@ returns-in-Check g c =
     let P : Command → Type 0 = λ command. CommandEnds command (view old) (view new) (left old) (left new) (sent old) (sent new) faults status.code status.place in
     subst P (sym c.in-Check.is) (check_ends (view old) (view new) (left old) (left new) (sent old) (sent new) faults status.code status.place e.ends e.away e.untaken)
 
-pub returns-in-ListSeries : goal.returns-in-ListSeries
-returns-in-ListSeries g c =
+pub returns-in-ListSeries-clause-ends : goal.returns-in-ListSeries-clause-ends
+returns-in-ListSeries-clause-ends g c =
     let view = g.W.Disk.view in
     let left = g.W.Streams.left in
     let sent = g.W.Streams.sent in
@@ -141,8 +141,8 @@ returns-in-ListSeries g c =
     let P : Command → Type 0 = λ command. CommandEnds command (view old) (view new) (left old) (left new) (sent old) (sent new) faults status.code status.place in
     subst P (sym c.in-ListSeries.is) (list_ends (view old) (view new) (left old) (left new) (sent old) (sent new) faults status.code status.place c.list_series.ensures.ends c.list_series.ensures.away c.list_series.ensures.untaken)
 
-pub returns-in-Export : goal.returns-in-Export
-returns-in-Export g c =
+pub returns-in-Export-clause-ends : goal.returns-in-Export-clause-ends
+returns-in-Export-clause-ends g c =
     let view = g.W.Disk.view in
     let left = g.W.Streams.left in
     let sent = g.W.Streams.sent in
@@ -155,8 +155,8 @@ returns-in-Export g c =
     let P : Command → Type 0 = λ command. CommandEnds command (view old) (view new) (left old) (left new) (sent old) (sent new) faults status.code status.place in
     subst P (sym c.in-Export.is) (export_ends c.in-Export.name c.in-Export.window (view old) (view new) (left old) (left new) (sent old) (sent new) faults status.code status.place c.export_values.ensures.ends c.export_values.ensures.away c.export_values.ensures.untaken)
 
-pub returns-in-Retain : goal.returns-in-Retain
-returns-in-Retain g c =
+pub returns-in-Retain-clause-ends : goal.returns-in-Retain-clause-ends
+returns-in-Retain-clause-ends g c =
     let view = g.W.Disk.view in
     let left = g.W.Streams.left in
     let sent = g.W.Streams.sent in
@@ -169,8 +169,8 @@ returns-in-Retain g c =
     let P : Command → Type 0 = λ command. CommandEnds command (view old) (view new) (left old) (left new) (sent old) (sent new) faults status.code status.place in
     subst P (sym c.in-Retain.is) (retain_ends (view old) (view new) (left old) (left new) (sent old) (sent new) faults status.code status.place c.retain.ensures.ends c.retain.ensures.away)
 
-pub returns-in-Cover : goal.returns-in-Cover
-returns-in-Cover g c =
+pub returns-in-Cover-clause-ends : goal.returns-in-Cover-clause-ends
+returns-in-Cover-clause-ends g c =
     let view = g.W.Disk.view in
     let left = g.W.Streams.left in
     let sent = g.W.Streams.sent in
@@ -181,10 +181,10 @@ returns-in-Cover g c =
     let status = c.cover_status-status.result in
     let faults = faults_of (reads old) (reads new) (sends old) (sends new) in
     let P : Command → Type 0 = λ command. CommandEnds command (view old) (view new) (left old) (left new) (sent old) (sent new) faults status.code status.place in
-    subst P (sym c.in-Cover.is) c.cover_status-status.ensures
+    subst P (sym c.in-Cover.is) c.cover_status-status.ensures.ends
 
-pub returns-in-Live : goal.returns-in-Live
-returns-in-Live g c =
+pub returns-in-Live-clause-ends : goal.returns-in-Live-clause-ends
+returns-in-Live-clause-ends g c =
     let view = g.W.Disk.view in
     let left = g.W.Streams.left in
     let sent = g.W.Streams.sent in
@@ -197,8 +197,8 @@ returns-in-Live g c =
     let P : Command → Type 0 = λ command. CommandEnds command (view old) (view new) (left old) (left new) (sent old) (sent new) faults status.code status.place in
     subst P (sym c.in-Live.is) (live_ends (view old) (view new) (left old) (left new) (sent old) (sent new) faults status.code status.place c.live.ensures.ends c.live.ensures.away c.live.ensures.reads c.live.ensures.syncs)
 
-pub returns-in-Derive : goal.returns-in-Derive
-returns-in-Derive g c =
+pub returns-in-Derive-clause-ends : goal.returns-in-Derive-clause-ends
+returns-in-Derive-clause-ends g c =
     let view = g.W.Disk.view in
     let left = g.W.Streams.left in
     let sent = g.W.Streams.sent in

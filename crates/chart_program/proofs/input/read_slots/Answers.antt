@@ -5,7 +5,9 @@ use Rattle.chart_world.specs.FrontLaws.{same_line}
 use Rattle.chart_world.specs.StandsLaws.{stands_first}
 use Rattle.plain_chart.specs.Samples.{IsSlot}
 use Rattle.chart_program.specs.declared.input.InputEnd.{InputEnd}
-use Rattle.chart_program.specs.Reads.{Stops}
+use Rattle.chart_program.specs.Reads.{Stops, end_of}
+use Rattle.chart_service.proofs.Ends.{error_is}
+use Rattle.chart_program.proofs.Faults.{is_of_take}
 use Rattle.program_words.specs.Errors.{error_so}
 use Rattle.chart_program.proofs.Ending.{start_so, end_so, read_all, bad_so, too_long_bad, not_added_so, early_so, fault_so, line_so, values_so, few_so}
 use Rattle.chart_program.proofs.input.read_slots.Goals as goal
@@ -26,7 +28,7 @@ lines-init g c =
       progress = start_so (g.S.Streams.left c.args.from.now) c.in_ok-lines.lines c.new-slots.result.items fresh c.new-slots.ensures.items;
       sent = refl;
       send_faults = refl;
-      read_faults = omega arith;
+      read_faults = refl;
       beside = g.met.S.Streams.takes_none c.args.from.now;
     }
 
@@ -88,6 +90,21 @@ lines-preserved g c =
           told next.rest inv.counted next.given next.total (omega (arith, inv.few, c.lines.slots.ok)) done inv.progress;
       sent = next.sent ∙ inv.sent;
       send_faults = next.send_faults ∙ inv.send_faults;
-      read_faults = omega (arith, next.read_faults, inv.read_faults);
+      read_faults = next.quiet (λ is. cc) ∙ inv.read_faults;
       beside = g.met.S.Streams.takes_then c.args.from.now c.lines.from c.next.new.from inv.beside next.beside;
     }
+
+pub returns-in_err-next-clause-quiet_reads : goal.returns-in_err-next-clause-quiet_reads
+returns-in_err-next-clause-quiet_reads g c = λ other.
+    let f = c.in_err-next.field-0.0 in
+    let is = error_is c.from_residual-in_err-next.result (end_of f) c.from_residual-in_err-next.ensures.1 in
+    c.in_err-next.ensures.quiet (λ read. is_of_take f c.from_residual-in_err-next.result is other (cc)) ∙ c.lines.invariant.read_faults
+
+pub returns-in_err-add_line-in-Line-clause-quiet_reads : goal.returns-in_err-add_line-in-Line-clause-quiet_reads
+returns-in_err-add_line-in-Line-clause-quiet_reads g c = λ other. c.in_ok-next.ensures.quiet (λ is. cc) ∙ c.lines.invariant.read_faults
+
+pub returns-in-End-clause-quiet_reads : goal.returns-in-End-clause-quiet_reads
+returns-in-End-clause-quiet_reads g c = λ other. c.in_ok-next.ensures.quiet (λ is. cc) ∙ c.lines.invariant.read_faults
+
+pub returns-in-TooLong-clause-quiet_reads : goal.returns-in-TooLong-clause-quiet_reads
+returns-in-TooLong-clause-quiet_reads g c = λ other. c.in_ok-next.ensures.quiet (λ is. cc) ∙ c.lines.invariant.read_faults

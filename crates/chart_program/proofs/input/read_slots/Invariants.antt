@@ -19,7 +19,7 @@ invariant-lines g l = record {
   progress : IfSome (g.S.Streams.left l.initial.from) (λ input. Progress input (unread l.lines (g.S.Streams.left l.from)) l.lines.given l.slots.items);
   sent : g.S.Streams.sent l.from ≡ g.S.Streams.sent l.initial.from;
   send_faults : g.S.Streams.send_faults l.from ≡ g.S.Streams.send_faults l.initial.from;
-  read_faults : g.S.Streams.read_faults l.initial.from ≤ g.S.Streams.read_faults l.from;
+  read_faults : g.S.Streams.read_faults l.from ≡ g.S.Streams.read_faults l.initial.from;
   beside : g.S.Streams.takes l.initial.from l.from;
 }
 

@@ -1,7 +1,10 @@
-use Rattle.std.proofs.Common.{ℕ, Err, sym, subst, ◌∙◌}
+use Rattle.std.proofs.Common.{ℕ, None, Err, sym, subst, ◌∙◌, refl}
 use Rattle.std.specs.Prelude.{IsTrue}
 use Rattle.chart_service.specs.declared.failure.ServeEnd.TheVariants.{NoMemory}
+use Rattle.chart_world.specs.Faults.{CountsFault, fault_in}
+use Rattle.chart_world.specs.FaultLaws.{counts_none}
 use Rattle.series_store.specs.Shown as stored
+use Rattle.chart_program.specs.Faulting.{run_fault}
 use Rattle.chart_program.specs.declared.run_end.RunEnd.TheVariants.{Serve}
 use Rattle.chart_program.specs.Served.{AreTexts, faults_of, ServesLines}
 use Rattle.chart_program.proofs.Telling.{texts_none}
@@ -12,8 +15,8 @@ use Rattle.chart_program.proofs.lines.run_lines.Goals as goal
 pub run_service-requires-clause-sound : goal.run_service-requires-clause-sound
 run_service-requires-clause-sound g c = subst IsTrue (sym (store_sound c.in-Ok.service.store c.args.store c.in-Ok.ensures.store)) c.requires
 
-pub returns-in-Ok : goal.returns-in-Ok
-returns-in-Ok g c =
+pub returns-in-Ok-clause-serves : goal.returns-in-Ok-clause-serves
+returns-in-Ok-clause-serves g c =
     let view = g.W.Disk.view in
     let left = g.W.Streams.left in
     let sent = g.W.Streams.sent in
@@ -26,10 +29,10 @@ returns-in-Ok g c =
     let answer = c.run_service.result.0 in
     let D : g.row.W.Denot → Type 0 = λ d. ServesLines AreTexts (Unit {0}) (stored.pages made).count (view d) (view new) (left d) (left new) (sent d) (sent new) (faults_of (reads d) (reads new) (sends d) (sends new)) answer in
     let C : ℕ → Type 0 = λ n. ServesLines AreTexts (Unit {0}) n (view disk) (view new) (left disk) (left new) (sent disk) (sent new) (faults_of (reads disk) (reads new) (sends disk) (sends new)) answer in
-    subst C (store_count made store c.in-Ok.ensures.store) (subst D (store_disk made store c.in-Ok.ensures.store) c.run_service.ensures)
+    subst C (store_count made store c.in-Ok.ensures.store) (subst D (store_disk made store c.in-Ok.ensures.store) c.run_service.ensures.serves)
 
-pub returns-in-Err : goal.returns-in-Err
-returns-in-Err g c =
+pub returns-in-Err-clause-serves : goal.returns-in-Err-clause-serves
+returns-in-Err-clause-serves g c =
     let view = g.W.Disk.view in
     let left = g.W.Streams.left in
     let sent = g.W.Streams.sent in
@@ -41,3 +44,16 @@ returns-in-Err g c =
     let D : g.row.W.Denot → Type 0 = λ d. ServesLines AreTexts (Unit {0}) (stored.pages store).count (view disk) (view d) (left disk) (left d) (sent disk) (sent d) (faults_of (reads disk) (reads d) (sends disk) (sends d)) (Err (Serve NoMemory)) in
     subst D (sym (c.disk_of.ensures.disk ∙ store_disk back store c.in-Err.ensures.back))
     (made_none AreTexts (Unit {0}) (stored.pages store).count (view disk) (left disk) (sent disk) (faults_of (reads disk) (reads disk) (sends disk) (sends disk)) texts_none)
+
+pub returns-in-Ok-clause-faults : goal.returns-in-Ok-clause-faults
+returns-in-Ok-clause-faults g c =
+    let view = g.W.Disk.view in
+    let D : g.row.W.Denot → Type 0 = λ d. CountsFault (fault_in run_fault c.run_service.result.0) (view d) (view c.run_service.result.1) in
+    subst D (store_disk c.in-Ok.service.store c.args.store c.in-Ok.ensures.store) c.run_service.ensures.faults
+
+pub returns-in-Err-clause-faults : goal.returns-in-Err-clause-faults
+returns-in-Err-clause-faults g c =
+    let view = g.W.Disk.view in
+    let disk = (stored.pages c.args.store).disk in
+    let D : g.row.W.Denot → Type 0 = λ d. CountsFault None (view disk) (view d) in
+    subst D (sym (c.disk_of.ensures.disk ∙ store_disk c.in-Err.field-0.value c.args.store c.in-Err.ensures.back)) (counts_none (view disk) (view disk) refl refl refl)

@@ -1,8 +1,11 @@
-use Rattle.std.proofs.Common.{◌≡◌, Err, sym, subst, ◌∙◌}
+use Rattle.std.proofs.Common.{◌≡◌, None, Err, refl, sym, subst, ◌∙◌}
 use Rattle.std.specs.Prelude.{IsTrue}
+use Rattle.chart_world.specs.Faults.{CountsFault, fault_in}
+use Rattle.chart_world.specs.FaultLaws.{counts_none}
 use Rattle.gate_pages.specs.GatePages.{IsClosed}
 use Rattle.chart_service.specs.declared.failure.ServeEnd.TheVariants.{DiskFault, NoMemory}
 use Rattle.chart_service.specs.Shown as shown
+use Rattle.chart_program.specs.Faulting.{run_fault}
 use Rattle.chart_program.specs.declared.run_end.RunEnd.TheVariants.{Serve}
 use Rattle.chart_program.specs.Served.{AreTexts, faults_of, ServesLines}
 use Rattle.chart_program.proofs.Counts.{reads_served, syncs_served}
@@ -15,8 +18,8 @@ use Rattle.store_commands.proofs.Held.{rests_new}
 use Rattle.store_commands.proofs.Stores.{store_disk, store_sound}
 use Rattle.chart_program.proofs.lines.run_service.Goals as goal
 
-pub returns-in-Ok : goal.returns-in-Ok
-returns-in-Ok g c =
+pub returns-in-Ok-clause-serves : goal.returns-in-Ok-clause-serves
+returns-in-Ok-clause-serves g c =
     let view = g.W.Disk.view in
     let left = g.W.Streams.left in
     let sent = g.W.Streams.sent in
@@ -51,8 +54,8 @@ returns-in-Ok g c =
     let D : g.row.W.Denot → Type 0 = λ d. ServesLines AreTexts (Unit {0}) pages.count (view disk) (view d) (left disk) (left d) (sent disk) (sent d) (faults_of (reads disk) (reads d) (sends disk) (sends d)) c.run_on-answer.result in
     subst D (sym same_disk) all
 
-pub returns-in-Err : goal.returns-in-Err
-returns-in-Err g c =
+pub returns-in-Err-clause-serves : goal.returns-in-Err-clause-serves
+returns-in-Err-clause-serves g c =
     let view = g.W.Disk.view in
     let left = g.W.Streams.left in
     let sent = g.W.Streams.sent in
@@ -63,3 +66,18 @@ returns-in-Err g c =
     let D : g.row.W.Denot → Type 0 = λ d. ServesLines AreTexts (Unit {0}) pages.count (view disk) (view d) (left disk) (left d) (sent disk) (sent d) (faults_of (reads disk) (reads d) (sends disk) (sends d)) (Err (Serve NoMemory)) in
     subst D (sym (c.disk_of-in-Err.ensures.disk ∙ store_disk c.into_store-in-Err.result c.args.service.store c.into_store-in-Err.ensures))
     (made_none AreTexts (Unit {0}) pages.count (view disk) (left disk) (sent disk) (faults_of (reads disk) (reads disk) (sends disk) (sends disk)) texts_none)
+
+pub returns-in-Ok-clause-faults : goal.returns-in-Ok-clause-faults
+returns-in-Ok-clause-faults g c =
+    let view = g.W.Disk.view in
+    let after = c.run_on-answer.new.service in
+    let same_disk = c.disk_of.ensures.disk ∙ store_disk c.into_store.result after.store c.into_store.ensures in
+    let D : g.row.W.Denot → Type 0 = λ d. CountsFault (fault_in run_fault c.run_on-answer.result) (view (shown.pages c.args.service).disk) (view d) in
+    subst D (sym same_disk) c.run_on-answer.ensures.faults
+
+pub returns-in-Err-clause-faults : goal.returns-in-Err-clause-faults
+returns-in-Err-clause-faults g c =
+    let view = g.W.Disk.view in
+    let disk = (shown.pages c.args.service).disk in
+    let D : g.row.W.Denot → Type 0 = λ d. CountsFault None (view disk) (view d) in
+    subst D (sym (c.disk_of-in-Err.ensures.disk ∙ store_disk c.into_store-in-Err.result c.args.service.store c.into_store-in-Err.ensures)) (counts_none (view disk) (view disk) refl refl refl)

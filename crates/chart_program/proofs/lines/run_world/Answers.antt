@@ -1,7 +1,15 @@
-use Rattle.std.proofs.Common.{sym, ap, ◌∙◌}
+use Rattle.std.proofs.Common.{Result, sym, ap, ◌∙◌, subst}
 use Rattle.block_disk.specs.View.{Beside}
+use Rattle.chart_world.specs.Faults.{CountsFault, fault_in}
+use Rattle.chart_world.specs.FaultLaws.{counts_no_disk, counts_then}
 use Rattle.series_store.specs.Shown as stored
-use Rattle.chart_program.specs.Served.{AreTexts, faults_of}
+use Rattle.store_commands.specs.Faulting.{counts_told, counts_unopened}
+use Rattle.store_commands.specs.Status.{code_fault}
+use Rattle.chart_program.specs.Ended.{status_by}
+use Rattle.chart_program.specs.Faulting.{run_fault}
+use Rattle.chart_program.specs.declared.lines_end.LinesEnd.{LinesEnd}
+use Rattle.chart_program.proofs.Faults.{told_in_world}
+use Rattle.chart_program.specs.Served.{AreTexts, faults_of, in_world}
 use Rattle.chart_program.proofs.Telling.{texts_none}
 use Rattle.chart_program.proofs.World.{serves_opened, serves_not, same_faults}
 use Rattle.store_commands.specs.Traffic.{traffic}
@@ -27,7 +35,7 @@ returns-in-Ok-clause-serves g c =
     (same_faults (reads mid) (reads old) (reads new) (sends mid) (sends old) (sends new)
     (sym (w.beside_read_faults mid) ∙ ap (λ (b : Beside). b.read_faults) beside ∙ w.beside_read_faults old)
     (sym (w.beside_send_faults mid) ∙ ap (λ (b : Beside). b.send_faults) beside ∙ w.beside_send_faults old))
-    c.of_answering.ensures c.run_lines-answer.ensures
+    c.of_answering.ensures c.run_lines-answer.ensures.serves
 
 pub returns-in-Err-clause-serves : goal.returns-in-Err-clause-serves
 returns-in-Err-clause-serves g c =
@@ -60,3 +68,23 @@ returns-in-Err-clause-first g c =
       left_is = sym (w.beside_left new) ∙ ap (λ (b : Beside). b.left) beside ∙ w.beside_left old;
       sent_is = sym (w.beside_sent new) ∙ ap (λ (b : Beside). b.sent) beside ∙ w.beside_sent old;
     }
+
+pub returns-in-Ok-clause-faults : goal.returns-in-Ok-clause-faults
+returns-in-Ok-clause-faults g c =
+    let view = g.W.Disk.view in
+    let old = view c.args.world in
+    let mid = view (stored.pages c.in-Ok.store).disk in
+    let new = view c.run_lines-answer.result.1 in
+    let answer = c.run_lines-answer.result.0 in
+    let e = c.in-Ok.ensures in
+    let P : Result (Unit {0}) LinesEnd → Type 0 = λ r. CountsFault (code_fault (status_by r).code) old new in
+    subst P (sym c.of_answering.ensures)
+    (counts_told (fault_in run_fault answer) (code_fault (status_by (in_world answer)).code) old new (told_in_world answer)
+    (counts_then (fault_in run_fault answer) old mid new (counts_no_disk old mid e.opens.beside_is e.quiet) c.run_lines-answer.ensures.faults))
+
+pub returns-in-Err-clause-faults : goal.returns-in-Err-clause-faults
+returns-in-Err-clause-faults g c =
+    let view = g.W.Disk.view in
+    let back = c.in-Err.field-0 in
+    let e = c.in-Err.ensures in
+    counts_unopened back.cause (view c.args.world) (view back.value) e.opens.beside_is e.cause e.quiet_err

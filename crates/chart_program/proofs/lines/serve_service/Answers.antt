@@ -1,8 +1,14 @@
-use Rattle.std.proofs.Common.{◌≡◌, Err, sym, subst, ◌∙◌}
+use Rattle.std.proofs.Common.{◌≡◌, Result, Err, sym, subst, ◌∙◌}
 use Rattle.std.specs.Prelude.{IsTrue}
+use Rattle.chart_world.specs.Faults.{CountsFault, fault_in}
 use Rattle.gate_pages.specs.GatePages.{IsClosed}
 use Rattle.chart_service.specs.declared.failure.ServeEnd.TheVariants.{DiskFault}
+use Rattle.chart_service.specs.Faulting.{serve_fault}
 use Rattle.chart_service.specs.Shown as shown
+use Rattle.store_commands.specs.Faulting.{counts_told}
+use Rattle.chart_program.specs.Faulting.{run_fault}
+use Rattle.chart_program.specs.declared.run_end.RunEnd.{RunEnd}
+use Rattle.chart_program.proofs.Faults.{told_served}
 use Rattle.chart_program.specs.Served.{Spelled, faults_of, ServesLines, served}
 use Rattle.chart_program.proofs.Counts.{reads_served, syncs_served}
 use Rattle.chart_program.proofs.LinesServed.{serve_made, serve_causes, same_answer}
@@ -10,8 +16,8 @@ use Rattle.store_commands.proofs.Held.{rests_new}
 use Rattle.store_commands.proofs.Stores.{store_disk, store_sound}
 use Rattle.chart_program.proofs.lines.serve_service.Goals as goal
 
-pub returns : goal.returns
-returns g c =
+pub returns-clause-serves : goal.returns-clause-serves
+returns-clause-serves g c =
     let view = g.W.Disk.view in
     let left = g.W.Streams.left in
     let sent = g.W.Streams.sent in
@@ -40,3 +46,15 @@ returns g c =
     (syncs_served (left disk) pages.count (view disk) (view new) (pieces disk) (pieces new) rests (g.met.W.World.beside_pieces disk) (g.met.W.World.beside_pieces new) made.syncs) in
     let D : g.row.W.Denot → Type 0 = λ d. ServesLines Spelled ⊥ pages.count (view disk) (view d) (left disk) (left d) (sent disk) (sent d) (faults_of (reads disk) (reads d) (sends disk) (sends d)) (served c.serve-answer.result) in
     same_answer Spelled ⊥ pages.count (view disk) (view c.disk_of.result) (left disk) (left c.disk_of.result) (sent disk) (sent c.disk_of.result) (faults_of (reads disk) (reads c.disk_of.result) (sends disk) (sends c.disk_of.result)) (served c.serve-answer.result) c.of_serving.result c.of_serving.ensures (subst D (sym same_disk) all)
+
+pub returns-clause-faults : goal.returns-clause-faults
+returns-clause-faults g c =
+    let view = g.W.Disk.view in
+    let after = c.serve-answer.new.service in
+    let disk = view (shown.pages c.args.service).disk in
+    let answer = c.serve-answer.result in
+    let same_disk = c.disk_of.ensures.disk ∙ store_disk c.into_store.result after.store c.into_store.ensures in
+    let D : g.row.W.Denot → Type 0 = λ d. CountsFault (fault_in run_fault (served answer)) disk (view d) in
+    let A : Result (Unit {0}) RunEnd → Type 0 = λ r. CountsFault (fault_in run_fault r) disk (view c.disk_of.result) in
+    subst A (sym c.of_serving.ensures)
+    (subst D (sym same_disk) (counts_told (fault_in serve_fault answer) (fault_in run_fault (served answer)) disk (view (shown.pages after).disk) (told_served answer) c.serve-answer.ensures.faults))

@@ -1,10 +1,19 @@
-use Rattle.std.proofs.Common.{◌≡◌, ◌≢◌, Result, Err, IfSome, refl, sym, ap, ◌∙◌}
+use Rattle.std.proofs.Common.{◌≡◌, ◌≢◌, true, false, None, Some, Result, Err, IfSome, refl, sym, subst, ap, ◌∙◌, rules}
+use Rattle.std.specs.Prelude.{is_err}
+use Rattle.block_disk.specs.Counts.{HasRisen}
+use Rattle.chart_world.specs.Faults.{OfSend, CountsFault, fault_in}
+use Rattle.chart_world.specs.FaultLaws.{counts_then}
 use Rattle.chart_service.proofs.Sending.{error_goes}
 use Rattle.chart_service.proofs.Ends.{error_is, on_err}
+use Rattle.chart_service.proofs.Faulting.{of_err, of_ok}
 use Rattle.chart_program.specs.declared.input.InputEnd.{InputEnd}
 use Rattle.chart_program.specs.declared.plot.PlotEnd.{PlotEnd}
 use Rattle.chart_program.specs.declared.plot.PlotEnd.TheVariants.{Input, SendFault}
+use Rattle.store_commands.specs.Faulting.{counts_kept, counts_unsent}
+use Rattle.chart_program.specs.declared.input.InputEnd.TheVariants as input
+use Rattle.chart_program.specs.Faulting.{plot_fault}
 use Rattle.chart_program.specs.Plotted.{EndsPlot}
+use Rattle.chart_program.proofs.Faults.{counts_slots}
 use Rattle.draw_command.proofs.DiskKept.{stays_taken, stays_sent, stays_then}
 use Rattle.chart_program.proofs.plot.plot.Goals as goal
 
@@ -107,3 +116,58 @@ returns-clause-disk g c =
     stays_then (view old) (view mid) (view new)
     (stays_taken (view old) (view mid) (g.met.S.World.take_keeps old mid taken) (g.met.S.World.take_passes old mid taken))
     (stays_sent (view mid) (view new) (g.met.S.World.send_keeps _ mid new sent) (g.met.S.World.send_passes _ mid new sent))
+
+pub returns-in_err-slots-clause-faults : goal.returns-in_err-slots-clause-faults
+returns-in_err-slots-clause-faults g c =
+    let view = g.S.Disk.view in
+    let w = g.met.S.World in
+    let old = c.args.streams.now in
+    let mid = c.read_slots.new.from in
+    let e = c.in_err-slots.ensures in
+    let end = c.in_err-slots.field-0.0 in
+    let P : Result (Unit {0}) PlotEnd → Type 0 = λ r. CountsFault (fault_in plot_fault r) (view old) (view mid) in
+    subst P (sym (error_is c.from_residual.result (Input end) c.from_residual.ensures.1))
+    (counts_slots view g.S.Streams.read_faults g.S.Streams.send_faults w.beside_read_faults w.beside_send_faults old mid (w.take_keeps old mid e.beside) end (λ is. e.read (ap Err is)) (λ other. e.quiet_reads (λ is. other (cc))) e.send_faults)
+
+pub returns-in_err-bytes-clause-faults : goal.returns-in_err-bytes-clause-faults
+returns-in_err-bytes-clause-faults g c =
+    let view = g.S.Disk.view in
+    let w = g.met.S.World in
+    let old = c.args.streams.now in
+    let mid = c.read_slots.new.from in
+    let e = c.read_slots.ensures in
+    let end = c.in_err-bytes.field-0.0 in
+    let kept = counts_kept view g.S.Streams.read_faults g.S.Streams.send_faults w.beside_read_faults w.beside_send_faults old mid (w.take_keeps old mid e.beside) (c.in_ok-slots.ensures.quiet_reads (λ is. cc)) e.send_faults in
+    let I : InputEnd → Type 0 = λ x. CountsFault (plot_fault (Input x)) (view old) (view mid) in
+    let P : Result (Unit {0}) PlotEnd → Type 0 = λ r. CountsFault (fault_in plot_fault r) (view old) (view mid) in
+    subst P (sym (error_is c.from_residual-in_err-bytes.result (Input end) c.from_residual-in_err-bytes.ensures.1)) (subst I (sym c.in_err-bytes.ensures.memory) kept)
+
+pub returns-then-is_err-clause-faults : goal.returns-then-is_err-clause-faults
+returns-then-is_err-clause-faults g c =
+    let view = g.S.Disk.view in
+    let w = g.met.S.World in
+    let old = c.args.streams.now in
+    let mid = c.read_slots.new.from in
+    let new = c.send.new.self in
+    let e = c.read_slots.ensures in
+    let reads = g.S.Streams.read_faults in
+    let sends = g.S.Streams.send_faults in
+    let kept = counts_kept view reads sends w.beside_read_faults w.beside_send_faults old mid (w.take_keeps old mid e.beside) (c.in_ok-slots.ensures.quiet_reads (λ is. cc)) e.send_faults in
+    let failed : is_err c.send.result ≡ true = search rules in
+    counts_then (Some OfSend) (view old) (view mid) (view new) kept
+    (counts_unsent view reads sends w.beside_read_faults w.beside_send_faults mid new (w.send_keeps _ mid new c.send.ensures.beside) c.send.ensures.read_faults (of_err c.send.result (HasRisen (sends mid) (sends new)) failed c.send.ensures.cause))
+
+pub returns-clause-faults : goal.returns-clause-faults
+returns-clause-faults g c =
+    let view = g.S.Disk.view in
+    let w = g.met.S.World in
+    let old = c.args.streams.now in
+    let mid = c.read_slots.new.from in
+    let new = c.send.new.self in
+    let e = c.read_slots.ensures in
+    let reads = g.S.Streams.read_faults in
+    let sends = g.S.Streams.send_faults in
+    let kept = counts_kept view reads sends w.beside_read_faults w.beside_send_faults old mid (w.take_keeps old mid e.beside) (c.in_ok-slots.ensures.quiet_reads (λ is. cc)) e.send_faults in
+    let done : is_err c.send.result ≡ false = search rules in
+    counts_then None (view old) (view mid) (view new) kept
+    (counts_kept view reads sends w.beside_read_faults w.beside_send_faults mid new (w.send_keeps _ mid new c.send.ensures.beside) c.send.ensures.read_faults (of_ok c.send.result (sends new ≡ sends mid) done c.send.ensures.quiet))

@@ -1,9 +1,15 @@
-use Rattle.std.proofs.Common.{◌≤◌, ◌^◌, IfErr, IfSome, OnOk, length, ap, sym, subst, ◌∙◌}
+use Rattle.std.proofs.Common.{Result, ◌≤◌, ◌^◌, IfErr, IfSome, OnOk, length, ap, sym, subst, ◌∙◌}
 use Rattle.block_disk.specs.View.{sent_now}
 use Rattle.chart_service.specs.Answering.{SendsAll}
+use Rattle.chart_service.specs.Faulting.{answer_fault}
 use Rattle.chart_service.specs.Shown as shown
 use Rattle.chart_service.specs.declared.failure.ServeEnd.TheVariants.{ReadFault, SendFault, DiskFault}
 use Rattle.chart_service.proofs.Sending.{ok_so}
+use Rattle.chart_world.specs.Faults.{CountsFault, fault_in}
+use Rattle.store_commands.specs.Faulting.{counts_told}
+use Rattle.chart_program.specs.Faulting as faulting
+use Rattle.chart_program.specs.declared.run_end.RunEnd.{RunEnd}
+use Rattle.chart_program.proofs.Faults.{told_run}
 use Rattle.chart_program.specs.Known.{EndsKnown, ShowsBy}
 use Rattle.chart_program.specs.Runs.{AreShown, RunEndsBy, EndsAtBad, IsShown, run_answer}
 use Rattle.chart_program.proofs.Running.{done_shown, ends_shown, lasts_shown, run_fault, run_bad, run_shown, run_known, run_ok, follows, all_follow, all_known}
@@ -89,3 +95,14 @@ returns-clause-named g c =
     let now = g.P.Streams.sent (shown.pages new) in
     subst (λ r. ShowsBy gives c.args.show.now c.answer_lines-answer.new.kept old.sessions before now r) (sym c.of_answers.ensures)
     (named_shown gives c.args.show.now c.answer_lines-answer.new.kept old.sessions before now new.sessions c.answer_lines-answer.result c.answer_lines-answer.ensures.gives)
+
+pub returns-clause-faults : goal.returns-clause-faults
+returns-clause-faults g c =
+    let gives = g.V.Show.gives in
+    let old = shown.view c.args.service.now in
+    let new = shown.view c.answer_lines-answer.new.service in
+    let answer = c.answer_lines-answer.result in
+    let unmade = c.answer_lines-answer.ensures.known _ (all_follow gives) (all_known c.args.show.now c.args.service.now.sessions) in
+    let told = told_run answer (λ f other is. run_fault gives answer f other unmade is) in
+    let P : Result (Unit {0}) RunEnd → Type 0 = λ r. CountsFault (fault_in faulting.run_fault r) old new in
+    subst P (sym c.of_answers.ensures) (counts_told (fault_in answer_fault answer) (fault_in faulting.run_fault (run_answer answer)) old new told c.answer_lines-answer.ensures.faults)

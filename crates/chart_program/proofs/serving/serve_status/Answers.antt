@@ -1,6 +1,8 @@
 use Rattle.chart_program.specs.Served.{Spelled, faults_of}
 use Rattle.chart_program.proofs.Ended.{numbered_by, ends_so}
+use Rattle.store_commands.specs.Faulting.{counts_as}
 use Rattle.store_commands.specs.Traffic.{traffic}
+use Rattle.chart_program.specs.Ended.{status_by}
 use Rattle.chart_program.proofs.CommandCodes.{serve_codes}
 use Rattle.chart_program.proofs.FirstOpened.{away_served, barred_served}
 use Rattle.chart_program.proofs.serving.serve_status.Goals as goal
@@ -48,3 +50,8 @@ returns-clause-own g c =
     let faults = faults_of (g.W.Streams.read_faults old) (g.W.Streams.read_faults new) (g.W.Streams.send_faults old) (g.W.Streams.send_faults new) in
     let e = ends_so Spelled ⊥ (g.W.Disk.view old) (g.W.Disk.view new) (g.W.Streams.left old) (g.W.Streams.left new) (g.W.Streams.sent old) (g.W.Streams.sent new) faults c.serve_world-answer.result.0 c.status_of.result c.status_of.ensures c.serve_world-answer.ensures.serves in
     serve_codes c.status_of.result.code e.codes (λ is. (e.missing is).0) (λ is. (e.misfit is).0) e.opened
+
+pub returns-clause-faults : goal.returns-clause-faults
+returns-clause-faults g c =
+    let view = g.W.Disk.view in
+    counts_as c.status_of.result (status_by c.serve_world-answer.result.0) (view c.args.world) (view c.serve_world-answer.result.1) c.status_of.ensures c.serve_world-answer.ensures.faults

@@ -1,4 +1,8 @@
-use Rattle.std.proofs.Common.{arith, inl, inr, sym, refl, ◌∙◌, [], ◌∷◌}
+use Rattle.std.proofs.Common.{ℕ, arith, subst, inl, inr, sym, refl, ◌∙◌, [], ◌∷◌}
+use Rattle.chart_world.specs.Faults.{CountsFault}
+use Rattle.chart_world.specs.FaultLaws.{counts_none}
+use Rattle.store_commands.specs.Faulting.{counts_as}
+use Rattle.store_commands.specs.Status.{code_fault, status}
 use Rattle.chart_program.proofs.Apart.{apart}
 use Rattle.chart_program.proofs.CommandCodes.{never}
 use Rattle.chart_program.proofs.LivesLemmas.{lives_told}
@@ -19,162 +23,162 @@ status_of_command-requires g c = with_operands c.in-Ok.command _ c.in-Ok.ensures
 
 pub returns-in-Ok-clause-codes : goal.returns-in-Ok-clause-codes
 returns-in-Ok-clause-codes g c =
-    let e = c.status_of_command.ensures in
+    let e = c.status_of_command.ensures.ends in
     chart_codes c.status_of_command.result.0.code e.codes
 
 pub returns-in-Ok-clause-read : goal.returns-in-Ok-clause-read
 returns-in-Ok-clause-read g c =
-    let e = c.status_of_command.ensures in
+    let e = c.status_of_command.ensures.ends in
     e.read
 
 pub returns-in-Ok-clause-send : goal.returns-in-Ok-clause-send
 returns-in-Ok-clause-send g c =
-    let e = c.status_of_command.ensures in
+    let e = c.status_of_command.ensures.ends in
     e.send
 
 pub returns-in-Ok-clause-fault : goal.returns-in-Ok-clause-fault
 returns-in-Ok-clause-fault g c =
-    let e = c.status_of_command.ensures in
+    let e = c.status_of_command.ensures.ends in
     e.fault
 
 pub returns-in-Ok-clause-place : goal.returns-in-Ok-clause-place
 returns-in-Ok-clause-place g c =
-    let e = c.status_of_command.ensures in
+    let e = c.status_of_command.ensures.ends in
     e.zero_place
 
 pub returns-in-Ok-clause-stopped : goal.returns-in-Ok-clause-stopped
 returns-in-Ok-clause-stopped g c =
-    let e = c.status_of_command.ensures in
+    let e = c.status_of_command.ensures.ends in
     λ is. of_command _ c.in-Ok.command c.in-Ok.command _ refl c.in-Ok.ensures.command (e.stopped is)
 
 pub returns-in-Ok-clause-bad : goal.returns-in-Ok-clause-bad
 returns-in-Ok-clause-bad g c =
-    let e = c.status_of_command.ensures in
+    let e = c.status_of_command.ensures.ends in
     λ is. of_command _ c.in-Ok.command c.in-Ok.command _ refl c.in-Ok.ensures.command (e.bad is)
 
 pub returns-in-Ok-clause-much : goal.returns-in-Ok-clause-much
 returns-in-Ok-clause-much g c =
-    let e = c.status_of_command.ensures in
+    let e = c.status_of_command.ensures.ends in
     λ is. of_command _ c.in-Ok.command c.in-Ok.command _ refl c.in-Ok.ensures.command (e.much is)
 
 pub returns-in-Ok-clause-missing : goal.returns-in-Ok-clause-missing
 returns-in-Ok-clause-missing g c =
-    let e = c.status_of_command.ensures in
+    let e = c.status_of_command.ensures.ends in
     λ is. of_command _ c.in-Ok.command c.in-Ok.command _ refl c.in-Ok.ensures.command (e.missing is)
 
 pub returns-in-Ok-clause-misfit : goal.returns-in-Ok-clause-misfit
 returns-in-Ok-clause-misfit g c =
-    let e = c.status_of_command.ensures in
+    let e = c.status_of_command.ensures.ends in
     λ is. of_command _ c.in-Ok.command c.in-Ok.command _ refl c.in-Ok.ensures.command (e.misfit is)
 
 pub returns-in-Ok-clause-unopened : goal.returns-in-Ok-clause-unopened
 returns-in-Ok-clause-unopened g c =
-    let e = c.status_of_command.ensures in
+    let e = c.status_of_command.ensures.ends in
     λ is. of_command _ c.in-Ok.command c.in-Ok.command _ refl c.in-Ok.ensures.command (e.unopened is)
 
 pub returns-in-Ok-clause-within : goal.returns-in-Ok-clause-within
 returns-in-Ok-clause-within g c =
-    let e = c.status_of_command.ensures in
+    let e = c.status_of_command.ensures.ends in
     λ is. of_command _ c.in-Ok.command c.in-Ok.command _ refl c.in-Ok.ensures.command (e.within is)
 
 pub returns-in-Ok-clause-faulted : goal.returns-in-Ok-clause-faulted
 returns-in-Ok-clause-faulted g c =
-    let e = c.status_of_command.ensures in
+    let e = c.status_of_command.ensures.ends in
     λ is. of_command _ c.in-Ok.command c.in-Ok.command _ refl c.in-Ok.ensures.command (e.faulted is)
 
 pub returns-in-Ok-clause-damaged : goal.returns-in-Ok-clause-damaged
 returns-in-Ok-clause-damaged g c =
-    let e = c.status_of_command.ensures in
+    let e = c.status_of_command.ensures.ends in
     λ is. of_command _ c.in-Ok.command c.in-Ok.command _ refl c.in-Ok.ensures.command (e.damaged is)
 
 pub returns-in-Ok-clause-undamaged : goal.returns-in-Ok-clause-undamaged
 returns-in-Ok-clause-undamaged g c =
-    let e = c.status_of_command.ensures in
+    let e = c.status_of_command.ensures.ends in
     λ is. of_command _ c.in-Ok.command c.in-Ok.command _ refl c.in-Ok.ensures.command (e.undamaged is)
 
 pub returns-in-Ok-clause-small : goal.returns-in-Ok-clause-small
 returns-in-Ok-clause-small g c =
-    let e = c.status_of_command.ensures in
+    let e = c.status_of_command.ensures.ends in
     λ is. of_command _ c.in-Ok.command c.in-Ok.command _ refl c.in-Ok.ensures.command (e.small is)
 
 pub returns-in-Ok-clause-there : goal.returns-in-Ok-clause-there
 returns-in-Ok-clause-there g c =
-    let e = c.status_of_command.ensures in
+    let e = c.status_of_command.ensures.ends in
     λ is. of_command _ c.in-Ok.command c.in-Ok.command _ refl c.in-Ok.ensures.command (e.there is)
 
 pub returns-in-Ok-clause-refused : goal.returns-in-Ok-clause-refused
 returns-in-Ok-clause-refused g c =
-    let e = c.status_of_command.ensures in
+    let e = c.status_of_command.ensures.ends in
     λ is. of_command _ c.in-Ok.command c.in-Ok.command _ refl c.in-Ok.ensures.command (told_both _ _ _ (e.unsent is) (e.refused is))
 
 pub returns-in-Ok-clause-done : goal.returns-in-Ok-clause-done
 returns-in-Ok-clause-done g c =
-    let e = c.status_of_command.ensures in
+    let e = c.status_of_command.ensures.ends in
     λ is. of_command _ c.in-Ok.command c.in-Ok.command _ refl c.in-Ok.ensures.command (e.done is)
 
 pub returns-in-Ok-clause-part : goal.returns-in-Ok-clause-part
 returns-in-Ok-clause-part g c =
-    let e = c.status_of_command.ensures in
+    let e = c.status_of_command.ensures.ends in
     λ is. of_command _ c.in-Ok.command c.in-Ok.command _ refl c.in-Ok.ensures.command (e.part is)
 
 pub returns-in-Ok-clause-made : goal.returns-in-Ok-clause-made
 returns-in-Ok-clause-made g c =
-    let e = c.status_of_command.ensures in
+    let e = c.status_of_command.ensures.ends in
     λ is. of_command _ c.in-Ok.command c.in-Ok.command _ refl c.in-Ok.ensures.command (e.made is)
 
 pub returns-in-Ok-clause-memory : goal.returns-in-Ok-clause-memory
 returns-in-Ok-clause-memory g c =
-    let e = c.status_of_command.ensures in
+    let e = c.status_of_command.ensures.ends in
     λ is. inr (of_command _ c.in-Ok.command c.in-Ok.command _ refl c.in-Ok.ensures.command (e.memory is))
 
 pub returns-in-Ok-clause-unnamed : goal.returns-in-Ok-clause-unnamed
 returns-in-Ok-clause-unnamed g c =
-    let e = c.status_of_command.ensures in
+    let e = c.status_of_command.ensures.ends in
     λ other. inr (of_command _ c.in-Ok.command c.in-Ok.command _ refl c.in-Ok.ensures.command e.unnamed)
 
 pub returns-in-Ok-clause-reads : goal.returns-in-Ok-clause-reads
 returns-in-Ok-clause-reads g c =
-    let e = c.status_of_command.ensures in
+    let e = c.status_of_command.ensures.ends in
     λ other. inr (of_command _ c.in-Ok.command c.in-Ok.command _ refl c.in-Ok.ensures.command e.reads)
 
 pub returns-in-Ok-clause-reads_lines : goal.returns-in-Ok-clause-reads_lines
 returns-in-Ok-clause-reads_lines g c =
-    let e = c.status_of_command.ensures in
+    let e = c.status_of_command.ensures.ends in
     λ other. inr (of_command _ c.in-Ok.command c.in-Ok.command _ refl c.in-Ok.ensures.command e.reads_lines)
 
 pub returns-in-Ok-clause-syncs : goal.returns-in-Ok-clause-syncs
 returns-in-Ok-clause-syncs g c =
-    let e = c.status_of_command.ensures in
+    let e = c.status_of_command.ensures.ends in
     λ other. inr (of_command _ c.in-Ok.command c.in-Ok.command _ refl c.in-Ok.ensures.command e.syncs)
 
 pub returns-in-Ok-clause-crash : goal.returns-in-Ok-clause-crash
 returns-in-Ok-clause-crash g c =
-    let e = c.status_of_command.ensures in
+    let e = c.status_of_command.ensures.ends in
     λ other. inr (of_command _ c.in-Ok.command c.in-Ok.command _ refl c.in-Ok.ensures.command e.crash)
 
 pub returns-in-Ok-clause-disk : goal.returns-in-Ok-clause-disk
 returns-in-Ok-clause-disk g c =
-    let e = c.status_of_command.ensures in
+    let e = c.status_of_command.ensures.ends in
     λ other. inr (of_command _ c.in-Ok.command c.in-Ok.command _ refl c.in-Ok.ensures.command e.disk)
 
 pub returns-in-Ok-clause-nothing : goal.returns-in-Ok-clause-nothing
 returns-in-Ok-clause-nothing g c =
-    let e = c.status_of_command.ensures in
+    let e = c.status_of_command.ensures.ends in
     λ some unsent quiet. e.nothing some unsent (streams c.in-Ok.command _ c.in-Ok.ensures.command quiet)
 
 pub returns-in-Ok-clause-pictures : goal.returns-in-Ok-clause-pictures
 returns-in-Ok-clause-pictures g c =
-    let e = c.status_of_command.ensures in
+    let e = c.status_of_command.ensures.ends in
     λ is drawn. e.pictures is (one_draw c.in-Ok.command _ c.in-Ok.ensures.command drawn)
 
 pub returns-in-Ok-clause-ready : goal.returns-in-Ok-clause-ready
 returns-in-Ok-clause-ready g c =
-    let e = c.status_of_command.ensures in
+    let e = c.status_of_command.ensures.ends in
     λ own. e.ready (one_init c.in-Ok.command _ c.in-Ok.ensures.command own.1)
 
 pub returns-in-Ok-clause-complete : goal.returns-in-Ok-clause-complete
 returns-in-Ok-clause-complete g c =
-    let e = c.status_of_command.ensures in
+    let e = c.status_of_command.ensures.ends in
     completes c.args.words.now _ c.in-Ok.command _ _ _ c.in-Ok.ensures.command e.complete
 
 pub returns-in-Err-Wrong-clause-codes : goal.returns-in-Err-Wrong-clause-codes
@@ -378,22 +382,22 @@ returns-in-Err-NoMemory-clause-complete g c = λ given. (1, omega arith, sym c.e
 
 pub returns-in-Ok-clause-statuses : goal.returns-in-Ok-clause-statuses
 returns-in-Ok-clause-statuses g c =
-    let e = c.status_of_command.ensures in
+    let e = c.status_of_command.ensures.ends in
     λ other more. of_command _ c.in-Ok.command c.in-Ok.command _ refl c.in-Ok.ensures.command e.own
 
 pub returns-in-Ok-clause-away : goal.returns-in-Ok-clause-away
 returns-in-Ok-clause-away g c =
-    let e = c.status_of_command.ensures in
+    let e = c.status_of_command.ensures.ends in
     λ other. inr (of_command _ c.in-Ok.command c.in-Ok.command _ refl c.in-Ok.ensures.command e.away)
 
 pub returns-in-Ok-clause-untaken : goal.returns-in-Ok-clause-untaken
 returns-in-Ok-clause-untaken g c =
-    let e = c.status_of_command.ensures in
+    let e = c.status_of_command.ensures.ends in
     λ other. inr (of_command _ c.in-Ok.command c.in-Ok.command _ refl c.in-Ok.ensures.command e.untaken)
 
 pub returns-in-Ok-clause-bars : goal.returns-in-Ok-clause-bars
 returns-in-Ok-clause-bars g c =
-    let e = c.status_of_command.ensures in
+    let e = c.status_of_command.ensures.ends in
     λ is. of_command _ c.in-Ok.command c.in-Ok.command _ refl c.in-Ok.ensures.command (e.bars is)
 
 pub returns-in-Err-Wrong-clause-statuses : goal.returns-in-Err-Wrong-clause-statuses
@@ -422,7 +426,7 @@ returns-in-Err-NoMemory-clause-bars g c = λ is. apart (sym c.ended-in-Err-NoMem
 
 pub returns-in-Ok-clause-drawn : goal.returns-in-Ok-clause-drawn
 returns-in-Ok-clause-drawn g c =
-    let e = c.status_of_command.ensures in
+    let e = c.status_of_command.ensures.ends in
     λ own. e.drawn (one_draw c.in-Ok.command _ c.in-Ok.ensures.command own.1)
 
 pub returns-in-Err-Wrong-clause-drawn : goal.returns-in-Err-Wrong-clause-drawn
@@ -433,7 +437,7 @@ returns-in-Err-NoMemory-clause-drawn g c = λ own. told_good _ _ (1, omega arith
 
 pub returns-in-Ok-clause-holds : goal.returns-in-Ok-clause-holds
 returns-in-Ok-clause-holds g c =
-    let e = c.status_of_command.ensures in
+    let e = c.status_of_command.ensures.ends in
     λ other more. inr (of_command _ c.in-Ok.command c.in-Ok.command _ refl c.in-Ok.ensures.command (e.holds more))
 
 pub returns-in-Err-Wrong-clause-holds : goal.returns-in-Err-Wrong-clause-holds
@@ -449,7 +453,7 @@ returns-in-Ok-clause-life g c =
     let sent = g.W.Streams.sent in
     let old = c.args.world in
     let new = c.status_of_command.result.1 in
-    let e = c.status_of_command.ensures in
+    let e = c.status_of_command.ensures.ends in
     λ other. inr (of_command _ c.in-Ok.command c.in-Ok.command _ refl c.in-Ok.ensures.command (lives_told c.in-Ok.command (view old) (view new) (left old) (sent old) (sent new) e.crash))
 
 pub returns-in-Err-Wrong-clause-life : goal.returns-in-Err-Wrong-clause-life
@@ -460,7 +464,7 @@ returns-in-Err-NoMemory-clause-life g c = λ other. inl (c.ended-in-Err-NoMemory
 
 pub returns-in-Ok-clause-unknown : goal.returns-in-Ok-clause-unknown
 returns-in-Ok-clause-unknown g c =
-    let e = c.status_of_command.ensures in
+    let e = c.status_of_command.ensures.ends in
     λ is. of_command _ c.in-Ok.command c.in-Ok.command _ refl c.in-Ok.ensures.command (e.unknown is)
 
 pub returns-in-Err-Wrong-clause-unknown : goal.returns-in-Err-Wrong-clause-unknown
@@ -471,7 +475,7 @@ returns-in-Err-NoMemory-clause-unknown g c = λ is. apart (sym c.ended-in-Err-No
 
 pub returns-in-Ok-clause-covered : goal.returns-in-Ok-clause-covered
 returns-in-Ok-clause-covered g c =
-    let e = c.status_of_command.ensures in
+    let e = c.status_of_command.ensures.ends in
     covers_complete c.args.words.now _ c.in-Ok.command _ _ _ (replies_good c.replies_are_accepted.ensures c.own_replies_are_accepted.ensures) c.in-Ok.ensures.command e.complete
 
 pub returns-in-Err-Wrong-clause-covered : goal.returns-in-Err-Wrong-clause-covered
@@ -483,7 +487,7 @@ returns-in-Err-NoMemory-clause-covered g c = λ given. (1, omega arith, sym c.en
 
 pub returns-in-Ok-clause-covers : goal.returns-in-Ok-clause-covers
 returns-in-Ok-clause-covers g c =
-    let e = c.status_of_command.ensures in
+    let e = c.status_of_command.ensures.ends in
     λ is. of_command _ c.in-Ok.command c.in-Ok.command _ refl c.in-Ok.ensures.command
     (covers_book (record { one = c.one_frame_a_spelling.ensures; told = c.length_is_told.ensures; good = c.spellings_are_good.ensures }) c.replies_draw_the_book.ensures c.one_session_draws_the_book.ensures
     c.in-Ok.command (g.W.Disk.view c.args.world) (g.W.Disk.view c.status_of_command.result.1) (g.W.Streams.left c.args.world) (g.W.Streams.sent c.args.world) (g.W.Streams.sent c.status_of_command.result.1) (e.done is))
@@ -496,7 +500,7 @@ returns-in-Err-NoMemory-clause-covers g c = λ is. apart (sym c.ended-in-Err-NoM
 
 pub returns-in-Ok-clause-refused_line : goal.returns-in-Ok-clause-refused_line
 returns-in-Ok-clause-refused_line g c =
-    let e = c.status_of_command.ensures in
+    let e = c.status_of_command.ensures.ends in
     λ is. of_command _ c.in-Ok.command c.in-Ok.command _ refl c.in-Ok.ensures.command (e.refused_line is)
 
 pub returns-in-Err-Wrong-clause-refused_line : goal.returns-in-Err-Wrong-clause-refused_line
@@ -504,3 +508,17 @@ returns-in-Err-Wrong-clause-refused_line g c = λ is. apart (sym c.ended.ensures
 
 pub returns-in-Err-NoMemory-clause-refused_line : goal.returns-in-Err-NoMemory-clause-refused_line
 returns-in-Err-NoMemory-clause-refused_line g c = λ is. apart (sym c.ended-in-Err-NoMemory.ensures.code ∙ is) refl
+
+pub returns-in-Ok-clause-faults : goal.returns-in-Ok-clause-faults
+returns-in-Ok-clause-faults g c = c.status_of_command.ensures.faults
+
+pub returns-in-Err-Wrong-clause-faults : goal.returns-in-Err-Wrong-clause-faults
+returns-in-Err-Wrong-clause-faults g c =
+    let view = g.W.Disk.view c.args.world in
+    let P : ℕ → Type 0 = λ code. CountsFault (code_fault code) view view in
+    subst P (sym c.ended.ensures.code) (counts_none view view refl refl refl)
+
+pub returns-in-Err-NoMemory-clause-faults : goal.returns-in-Err-NoMemory-clause-faults
+returns-in-Err-NoMemory-clause-faults g c =
+    let view = g.W.Disk.view c.args.world in
+    counts_as c.ended-in-Err-NoMemory.result (status 3 0) view view c.ended-in-Err-NoMemory.ensures.status (counts_none view view refl refl refl)

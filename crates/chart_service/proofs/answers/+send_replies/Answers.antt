@@ -1,10 +1,14 @@
 use Rattle.std.proofs.Common.{rules, ◌≡◌, ◌∷◌, List, All, length, ap, subst, arith}
 use Rattle.std.proofs.lemmas.List.Elements.{All-tail}
+use Rattle.chart_world.specs.FaultLaws.{counts_then}
+use Rattle.chart_world.specs.Faults.{fault_in}
 use Rattle.chart_frames.specs.declared.frame.Frame.{Frame}
 use Rattle.chart_frames.specs.Frames.{Fits}
 use Rattle.chart_service.specs.EditGroups.{IsEditReply}
+use Rattle.chart_service.specs.Faulting.{answer_fault}
 use Rattle.chart_service.specs.Making.{FramesCut}
 use Rattle.chart_service.specs.Shown as shown
+use Rattle.chart_service.proofs.Faulting.{fault_goes}
 use Rattle.chart_service.proofs.GroupReplies.{cut_first, cut_later, sent_later, moments_first, moments_told, moments_later}
 use Rattle.chart_service.proofs.Known.{known_next, edit_opens}
 use Rattle.chart_service.proofs.Sending.{error_goes}
@@ -83,3 +87,13 @@ returns-in_ok-send_reply-in-Some-clause-named g t c = λ knows follows known.
     c.send_replies.ensures.named knows follows
     (known_next g.R.Reply.makes knows c.args.kept.now c.send_reply.new.kept frame own c.send_reply.new.service.sessions follows (subst A c.in-Some.ensures.cases.0 c.requires.fits 0 frame (omega arith)) known
     (edit_opens frame own c.send_reply.new.service.sessions (subst E c.in-Some.ensures.cases.0 c.requires.replies 0 frame (omega arith)) c.send_reply.ensures.sessions) one.0 one.1)
+
+pub returns-in_err-send_reply-in-Some-clause-faults : goal.returns-in_err-send_reply-in-Some-clause-faults
+returns-in_err-send_reply-in-Some-clause-faults g t c =
+    let view = g.P.Pages.view in
+    fault_goes answer_fault c.from_residual.result c.in_err-send_reply-in-Some.field-0.0 (view (shown.pages c.args.service.now)) (view (shown.pages c.send_reply.new.service)) c.from_residual.ensures.1 c.in_err-send_reply-in-Some.ensures.faults
+
+pub returns-in_ok-send_reply-in-Some-clause-faults : goal.returns-in_ok-send_reply-in-Some-clause-faults
+returns-in_ok-send_reply-in-Some-clause-faults g t c =
+    let view = g.P.Pages.view in
+    counts_then (fault_in answer_fault c.send_replies.result) (view (shown.pages c.args.service.now)) (view (shown.pages c.send_reply.new.service)) (view (shown.pages c.send_replies.new.service)) c.in_ok-send_reply-in-Some.ensures.faults c.send_replies.ensures.faults

@@ -2,11 +2,14 @@ use Rattle.std.proofs.Common.{◌≡◌, ◌∙◌, List, All, ap, sym, subst, a
 use Rattle.block_disk.specs.View.{Image, sent_now}
 use Rattle.chart_frames.specs.declared.frame.Frame.{Frame}
 use Rattle.chart_frames.specs.Frames.{Fits}
+use Rattle.chart_world.specs.FaultLaws.{counts_then}
+use Rattle.chart_world.specs.Faults.{fault_in}
 use Rattle.series_book.specs.EditLists.{after_edits}
 use Rattle.series_book.specs.declared.one_series.Series.{Series}
 use Rattle.stored_book.specs.Standing.{StandsForBook}
 use Rattle.zoom_session.specs.Sessions.{is_open}
 use Rattle.chart_service.specs.EditGroups.{IsEditReply, RepliesToEdits}
+use Rattle.chart_service.specs.Faulting.{answer_fault}
 use Rattle.chart_service.specs.Making.{LinesStop, LinesMoments}
 use Rattle.chart_service.specs.Moments.{Through}
 use Rattle.chart_service.specs.Serving.{end_of_step}
@@ -14,6 +17,7 @@ use Rattle.chart_service.specs.Shown as shown
 use Rattle.chart_service.specs.Stepping.{StandsAfter, state_of}
 use Rattle.chart_service.specs.declared.failure.AnswerEnd.TheVariants.{Serve}
 use Rattle.chart_service.proofs.Ends.{err_is}
+use Rattle.chart_service.proofs.Faulting.{step_goes}
 use Rattle.chart_service.proofs.GroupReplies.{if_told, group_done, group_stops, edits_stop, edits_moments, group_moments}
 use Rattle.chart_service.proofs.Naming.{first_step, gives_error, edits_give}
 use Rattle.chart_service.proofs.Sending.{error_goes}
@@ -128,3 +132,12 @@ returns-clause-gives g c =
     sym (g.met.P.PageWorld.beside_sent mid) ∙ ap (λ b. b.sent) c.step_edits.ensures.moves.beside ∙ g.met.P.PageWorld.beside_sent pages in
     edits_give g.R.Reply.makes c.args.kept.now c.send_replies.new.kept c.send_replies.result c.as_slice.result.now c.args.service.now.sessions new.sessions (g.P.Streams.sent pages) (g.P.Streams.sent mid) (g.P.Streams.sent (shown.pages new))
     (subst A (sym c.as_slice.ensures.value) c.in_ok-frames.ensures.fits) (subst E (sym c.as_slice.ensures.value) c.in_ok-frames.ensures.replies) (c.send_replies.ensures.sessions ∙ c.step_edits.ensures.sessions) sent c.send_replies.ensures.done c.send_replies.ensures.stops
+
+pub returns-in_err-frames-clause-faults : goal.returns-in_err-frames-clause-faults
+returns-in_err-frames-clause-faults g c =
+    step_goes c.from_residual.result c.in_err-frames.field-0.0 (g.P.Pages.view (shown.pages c.args.service.now)) (g.P.Pages.view (shown.pages c.step_edits.new.self)) c.from_residual.ensures.1 c.in_err-frames.ensures.faults
+
+pub returns-clause-faults : goal.returns-clause-faults
+returns-clause-faults g c =
+    let view = g.P.Pages.view in
+    counts_then (fault_in answer_fault c.send_replies.result) (view (shown.pages c.args.service.now)) (view (shown.pages c.step_edits.new.self)) (view (shown.pages c.send_replies.new.service)) c.in_ok-frames.ensures.faults c.send_replies.ensures.faults

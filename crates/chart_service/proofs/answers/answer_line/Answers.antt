@@ -1,10 +1,13 @@
 use Rattle.std.proofs.Common.{◌≡◌, ◌≤◌, ◌<◌, ℕ, Some, Err, length, arith, refl, sym, ap, subst, ◌∙◌}
 use Rattle.std.proofs.lemmas.Grind.{common_steps}
 use Rattle.block_disk.specs.Counts.{HasRisen}
+use Rattle.chart_world.specs.FaultLaws.{counts_then}
+use Rattle.chart_world.specs.Faults.{fault_in}
 use Rattle.chart_world.specs.LineLaws.{says_text}
 use Rattle.gate_pages.specs.GateLaws.{goes_none, goes_then}
 use Rattle.zoom_session.specs.Sessions.{is_open}
 use Rattle.chart_service.specs.Answering.{EndsAtBad}
+use Rattle.chart_service.specs.Faulting.{answer_fault}
 use Rattle.chart_service.specs.Knowing.{KnowsOpen, EndsKnown}
 use Rattle.chart_service.specs.Making.{FrameSent, FrameStops, LinesStop, IsReplyEnd}
 use Rattle.chart_service.specs.ReadingBlocks.{ReadsFirst}
@@ -16,6 +19,7 @@ use Rattle.chart_service.specs.Syncing.{edit_of}
 use Rattle.chart_service.specs.declared.failure.AnswerEnd.TheVariants.{Serve}
 use Rattle.chart_service.proofs.DiskKept.{serves_none, serves_then, serves_kept, serves_step}
 use Rattle.chart_service.proofs.Ends.{differ, error_is, on_err, step_unread, step_unsent, step_fault, step_bad, step_sound, reply_bad, not_of_disk, not_of_input, stays}
+use Rattle.chart_service.proofs.Faulting.{step_goes}
 use Rattle.chart_service.proofs.Known.{known_next, named_known, ends_known, same_opens}
 use Rattle.chart_service.proofs.Naming.{gives_none, first_step, gives_error, answer_gives, names_open}
 use Rattle.chart_service.proofs.SyncLemmas.{unchanged_kept}
@@ -60,6 +64,7 @@ returns-in_err-frame g c =
       read = λ fault. step_unread c.in_err-frame.field-0.0 (sym (error_is c.from_residual.result (Serve (end_of_step c.in_err-frame.field-0.0)) c.from_residual.ensures.1) ∙ fault);
       bad = error_goes (EndsAtBad told ((g.P.Pages.view (shown.pages it)).size) image) c.from_residual.result (Serve (end_of_step c.in_err-frame.field-0.0)) c.from_residual.ensures.1
           (step_bad told ((g.P.Pages.view (shown.pages it)).size) image c.in_err-frame.field-0.0 c.in_err-frame.ensures.bad);
+      faults = step_goes c.from_residual.result c.in_err-frame.field-0.0 (g.P.Pages.view pages) (g.P.Pages.view pages') c.from_residual.ensures.1 c.in_err-frame.ensures.faults;
       serves = serves_step (g.P.Pages.told pages) (g.P.Pages.told pages') (g.P.Pages.view pages) (g.P.Pages.view pages') c.step_line.ensures.steps;
       goes_on = c.step_line.ensures.goes_on;
       sound = λ other. step_sound (g.P.Pages.told pages) (g.P.Pages.view pages) (g.P.Pages.view pages') c.in_err-frame.field-0.0 c.requires.sound c.in_err-frame.ensures.unchanged
@@ -130,6 +135,7 @@ returns g c =
       disk = λ fault. absurd (not_of_disk c.send_reply.result c.send_reply.ensures.ends fault);
       read = not_of_input c.send_reply.result c.send_reply.ensures.ends;
       bad = error_so c.send_reply.result IsReplyEnd (EndsAtBad told ((g.P.Pages.view (shown.pages it)).size) image) (reply_bad told ((g.P.Pages.view (shown.pages it)).size) image) c.send_reply.ensures.ends;
+      faults = counts_then (fault_in answer_fault c.send_reply.result) (view pages) (view mid) (view pages') yes.faults made.faults;
       serves = serves_then (told_in pages) (told_in mid) (told_in pages') (view pages) (view mid) (view pages') (serves_step (told_in pages) (told_in mid) (view pages) (view mid) c.step_line.ensures.steps)
           (serves_kept (told_in mid) (told_in pages') (view mid) (view pages') kept.disk kept.told kept.was_told);
       goes_on = goes_then (g.P.Pages.under pages) (g.P.Pages.under mid) (g.P.Pages.under pages') c.step_line.ensures.goes_on c.send_reply.ensures.keeps.goes_on;
@@ -163,6 +169,7 @@ returns-then-is_empty g c =
       disk = λ fault. differ fault refl;
       read = λ fault. differ fault refl;
       bad = tt;
+      faults = refl;
       serves = serves_none (g.P.Pages.told at) (g.P.Pages.view at);
       goes_on = goes_none (g.P.Pages.under at);
       sound = λ other. c.requires.sound;

@@ -1,5 +1,6 @@
 use Rattle.std.proofs.Common.{ℕ, ◌≡◌, ◌≤◌, ◌^◌, [], ◌∷◌, List, Option, None, Some, Ok, Err, IfNone, IfSome, IsTrue, Vec, Global, length, refl, ap, sym, subst, ◌∙◌, arith}
 use Rattle.block_disk.specs.View.{Image}
+use Rattle.chart_world.specs.FaultLaws.{counts_then}
 use Rattle.chart_world.specs.FrontLaws.{read_whole, same_line}
 use Rattle.chart_world.specs.Fronts.{Gives}
 use Rattle.chart_world.specs.Lines.{lines}
@@ -12,6 +13,7 @@ use Rattle.stored_book.specs.Standing.{StandsForBook}
 use Rattle.zoom_session.specs.Sessions.{is_open}
 use Rattle.chart_service.specs.Answering.{EndsAnswers, EndsAtBad}
 use Rattle.chart_service.specs.EditGroups.{IsGroupOf}
+use Rattle.chart_service.specs.Faulting.{answer_fault, serve_fault}
 use Rattle.chart_service.specs.Knowing.{EndsKnown}
 use Rattle.chart_service.specs.Making.{IsReplyEnd}
 use Rattle.chart_service.specs.Serving.{end_of, most_ahead, unless_empty}
@@ -21,7 +23,8 @@ use Rattle.chart_service.specs.Syncing.{EndsGroup, edit_of}
 use Rattle.chart_service.specs.declared.failure.AnswerEnd.TheVariants.{Serve}
 use Rattle.chart_service.specs.declared.failure.ServeEnd.TheVariants.{NoMemory}
 use Rattle.chart_service.proofs.DiskKept.{serves_none, serves_then, serves_kept as serves_disk, risen_since}
-use Rattle.chart_service.proofs.Ends.{differ, end_is, error_is, on_err, fault_read, fault_unsent, fault_disk, fault_bad, reply_bad}
+use Rattle.chart_service.proofs.Ends.{differ, end_is, err_is, error_is, on_err, fault_read, fault_unsent, fault_disk, fault_bad, reply_bad}
+use Rattle.chart_service.proofs.Faulting.{counts_lines, counts_taken, fault_goes}
 use Rattle.chart_service.proofs.GatherLemmas.{group_passed, spelled_length}
 use Rattle.chart_service.proofs.GroupReplies.{if_told}
 use Rattle.chart_service.proofs.Known.{known_kept}
@@ -57,6 +60,7 @@ lines-init g c =
       syncs = λ total book told stands. sync_first o total book (view pages).syncs (g.P.Streams.pieces pages) (view pages).image c.in_ok-lines.lines stands fresh;
       known = λ knows follows known. known;
       gives = gives_none g.R.Reply.makes c.args.kept.now (λ n. is_open n c.args.service.now.sessions) before;
+      faults = refl;
       serves = serves_none (g.P.Pages.told pages) (view pages);
       goes_on = goes_none (g.P.Pages.under pages);
       total_is = refl;
@@ -91,6 +95,7 @@ returns-in_err-lines g c =
       known = λ knows follows known. error_goes (EndsKnown g.R.Reply.makes knows) c.from_residual.result (Serve NoMemory) c.from_residual.ensures.1 tt;
       gives = gives_error g.R.Reply.makes c.args.kept.now c.args.kept.now own own before before c.from_residual.result (Serve NoMemory) c.from_residual.ensures.1 (first_memory g.R.Reply.makes c.args.kept.now c.args.kept.now (λ n. is_open n own) (λ n. is_open n own) before before (gives_none g.R.Reply.makes c.args.kept.now (λ n. is_open n own) before));
       bad = error_goes (EndsAtBad (g.P.Pages.told (shown.pages it)) (g.P.Pages.view (shown.pages it)).size (g.P.Pages.view (shown.pages it)).image) c.from_residual.result (Serve NoMemory) c.from_residual.ensures.1 tt;
+      faults = fault_goes answer_fault c.from_residual.result (Serve NoMemory) (view pages) (view pages) c.from_residual.ensures.1 refl;
       serves = serves_none (g.P.Pages.told (shown.pages c.args.service.now)) (g.P.Pages.view (shown.pages c.args.service.now));
       goes_on = goes_none (g.P.Pages.under (shown.pages c.args.service.now));
       sound = λ other. c.requires;
@@ -136,6 +141,8 @@ returns-in_err-next g c =
           (first_fault g.R.Reply.makes c.args.kept.now c.lines.kept (λ n. is_open n c.args.service.now.sessions) (λ n. is_open n c.next.new.from.sessions) before (g.P.Streams.sent taken) f (gives_kept g.R.Reply.makes c.args.kept.now c.lines.kept (λ n. is_open n c.args.service.now.sessions) (λ n. is_open n c.lines.service.sessions) (λ n. is_open n c.next.new.from.sessions) before (g.P.Streams.sent mid) (g.P.Streams.sent taken) (λ n. ap (λ l. is_open n l) beside.sessions) c.next.ensures.sent inv.gives));
       bad = error_goes (EndsAtBad (g.P.Pages.told taken) (g.P.Pages.view taken).size (g.P.Pages.view taken).image) c.from_residual-in_err-next.result (Serve (end_of c.in_err-next.field-0.0)) c.from_residual-in_err-next.ensures.1
           (fault_bad (g.P.Pages.told taken) (g.P.Pages.view taken).size (g.P.Pages.view taken).image c.in_err-next.field-0.0);
+      faults = fault_goes answer_fault c.from_residual-in_err-next.result (Serve (end_of f)) (view pages) (view taken) c.from_residual-in_err-next.ensures.1
+          (counts_then (serve_fault (end_of f)) (view pages) (view mid) (view taken) inv.faults (counts_lines f view g.P.Streams.read_faults g.P.Streams.send_faults g.met.P.PageWorld.beside_read_faults g.met.P.PageWorld.beside_send_faults mid taken kept (λ is. no.read_fault (ap Err is)) (λ other. no.quiet (λ is. other (err_is is))) c.next.ensures.send_faults));
       serves = serves_then (told_in pages) (told_in mid) (told_in taken) (view pages) (view mid) (view taken) inv.serves (serves_disk (told_in mid) (told_in taken) (view mid) (view taken) kept (g.met.P.PageWorld.take_told mid taken takes) (g.met.P.PageWorld.take_was_told mid taken takes));
       goes_on = goes_then (g.P.Pages.under pages) (g.P.Pages.under mid) (g.P.Pages.under taken) inv.goes_on (g.met.P.PageWorld.take_goes_on mid taken takes);
       sound = λ other. kept.fit inv.fit;
@@ -157,6 +164,7 @@ returns-in-End g c =
     let takes = beside.store_is.pages_are in
     let kept = g.met.P.PageWorld.take_keeps mid taken takes in
     let told_in = g.P.Pages.told in
+    let quiet = counts_then None (view pages) (view mid) (view taken) inv.faults (counts_taken view g.P.Streams.read_faults g.P.Streams.send_faults g.met.P.PageWorld.beside_read_faults g.met.P.PageWorld.beside_send_faults mid taken kept (c.in_ok-next.ensures.quiet (λ is. cc)) c.next.ensures.send_faults) in
     record {
       done = λ total book told stands.
           let far = far_kept g.R.Reply.makes c.args.kept.now o total book own before c.lines.kept c.lines.lines (g.P.Streams.left mid) (g.P.Streams.sent mid) (g.P.Streams.sent taken) (view mid).image (view taken).image c.lines.service.sessions c.next.new.from.sessions kept.image beside.sessions c.next.ensures.sent (inv.far total book told stands) in
@@ -172,6 +180,7 @@ returns-in-End g c =
       known = λ knows follows known. tt;
       gives = gives_kept g.R.Reply.makes c.args.kept.now c.lines.kept (λ n. is_open n c.args.service.now.sessions) (λ n. is_open n c.lines.service.sessions) (λ n. is_open n c.next.new.from.sessions) before (g.P.Streams.sent mid) (g.P.Streams.sent taken) (λ n. ap (λ l. is_open n l) beside.sessions) c.next.ensures.sent inv.gives;
       bad = tt;
+      faults = quiet;
       serves = serves_then (told_in pages) (told_in mid) (told_in taken) (view pages) (view mid) (view taken) inv.serves (serves_disk (told_in mid) (told_in taken) (view mid) (view taken) kept (g.met.P.PageWorld.take_told mid taken takes) (g.met.P.PageWorld.take_was_told mid taken takes));
       goes_on = goes_then (g.P.Pages.under pages) (g.P.Pages.under mid) (g.P.Pages.under taken) inv.goes_on (g.met.P.PageWorld.take_goes_on mid taken takes);
       sound = λ other. kept.fit inv.fit;
@@ -205,6 +214,7 @@ lines-preserved-in-Continue-branch-4 g c =
     } in
     let passed = one_passed c.lines.lines c.next.new.self (g.P.Streams.left mid) (g.P.Streams.left taken) None gives next.within in
     let few = few_lines None in
+    let quiet = counts_then None (view pages) (view mid) (view taken) inv.faults (counts_taken view g.P.Streams.read_faults g.P.Streams.send_faults g.met.P.PageWorld.beside_read_faults g.met.P.PageWorld.beside_send_faults mid taken kept (next.quiet (λ is. cc)) c.next.ensures.send_faults) in
     record {
       usable = next.usable;
       counted = next.given;
@@ -230,6 +240,7 @@ lines-preserved-in-Continue-branch-4 g c =
       known = λ knows follows known. c.in_ok-answer_long_line-in-TooLong.ensures.known knows follows (known_kept knows c.lines.kept c.lines.service.sessions c.next.new.from.sessions c.next.ensures.beside.sessions (c.lines.invariant.known knows follows known));
       gives = gives_joined g.R.Reply.makes c.args.kept.now c.lines.kept c.answer_long_line.new.kept (λ n. is_open n c.args.service.now.sessions) (λ n. is_open n c.next.new.from.sessions) (λ n. is_open n c.answer_long_line.new.service.sessions) before (g.P.Streams.sent taken) (g.P.Streams.sent new)
           (gives_kept g.R.Reply.makes c.args.kept.now c.lines.kept (λ n. is_open n c.args.service.now.sessions) (λ n. is_open n c.lines.service.sessions) (λ n. is_open n c.next.new.from.sessions) before (g.P.Streams.sent mid) (g.P.Streams.sent taken) (λ n. ap (λ l. is_open n l) beside.sessions) c.next.ensures.sent inv.gives) c.in_ok-answer_long_line-in-TooLong.ensures.gives;
+      faults = counts_then None (view pages) (view taken) (view new) quiet c.in_ok-answer_long_line-in-TooLong.ensures.faults;
       serves = serves_then (told_in pages) (told_in taken) (told_in new) (view pages) (view taken) (view new) (serves_then (told_in pages) (told_in mid) (told_in taken) (view pages) (view mid) (view taken) inv.serves (serves_disk (told_in mid) (told_in taken) (view mid) (view taken) kept (g.met.P.PageWorld.take_told mid taken takes) (g.met.P.PageWorld.take_was_told mid taken takes))) (serves_disk (told_in taken) (told_in new) (view taken) (view new) made.keeps.disk made.keeps.told made.keeps.was_told);
       goes_on = goes_then (g.P.Pages.under pages) (g.P.Pages.under taken) (g.P.Pages.under new) (goes_then (g.P.Pages.under pages) (g.P.Pages.under mid) (g.P.Pages.under taken) inv.goes_on (g.met.P.PageWorld.take_goes_on mid taken takes)) made.keeps.goes_on;
       total_is = made.total ∙ ap (λ (s : Superblock). s.total) beside.store_is.superblock ∙ inv.total_is;
@@ -266,6 +277,7 @@ returns-in_err-answer_long_line-in-TooLong g c =
     let sends = g.P.Streams.send_faults in
     let Low : ℕ → Type 0 = λ n. sends pages ≤ n in
     let it = c.answer_long_line.new.service in
+    let quiet = counts_then None (view pages) (view mid) (view taken) inv.faults (counts_taken view g.P.Streams.read_faults g.P.Streams.send_faults g.met.P.PageWorld.beside_read_faults g.met.P.PageWorld.beside_send_faults mid taken kept (next.quiet (λ is. cc)) c.next.ensures.send_faults) in
     record {
       done = λ total book told stands. on_err c.from_residual-in_err-answer_long_line-in-TooLong.result _ _ c.from_residual-in_err-answer_long_line-in-TooLong.ensures.1;
       within = on_err c.from_residual-in_err-answer_long_line-in-TooLong.result _ _ c.from_residual-in_err-answer_long_line-in-TooLong.ensures.1;
@@ -297,6 +309,8 @@ returns-in_err-answer_long_line-in-TooLong g c =
           gives_error g.R.Reply.makes c.args.kept.now c.answer_long_line.new.kept c.args.service.now.sessions c.answer_long_line.new.service.sessions before (g.P.Streams.sent new) c.from_residual-in_err-answer_long_line-in-TooLong.result f c.from_residual-in_err-answer_long_line-in-TooLong.ensures.1
           (first_behind g.R.Reply.makes c.args.kept.now c.lines.kept c.answer_long_line.new.kept (λ n. is_open n c.args.service.now.sessions) (λ n. is_open n c.next.new.from.sessions) before (g.P.Streams.sent taken) (g.P.Streams.sent new) f (gives_kept g.R.Reply.makes c.args.kept.now c.lines.kept (λ n. is_open n c.args.service.now.sessions) (λ n. is_open n c.lines.service.sessions) (λ n. is_open n c.next.new.from.sessions) before (g.P.Streams.sent mid) (g.P.Streams.sent taken) (λ n. ap (λ l. is_open n l) beside.sessions) c.next.ensures.sent inv.gives) c.in_err-answer_long_line-in-TooLong.ensures.gives);
       bad = error_goes (EndsAtBad (g.P.Pages.told new) (g.P.Pages.view new).size (g.P.Pages.view new).image) c.from_residual-in_err-answer_long_line-in-TooLong.result c.in_err-answer_long_line-in-TooLong.field-0.0 c.from_residual-in_err-answer_long_line-in-TooLong.ensures.1 (reply_bad (g.P.Pages.told new) (g.P.Pages.view new).size (g.P.Pages.view new).image c.in_err-answer_long_line-in-TooLong.field-0.0 c.in_err-answer_long_line-in-TooLong.ensures.ends);
+      faults = fault_goes answer_fault c.from_residual-in_err-answer_long_line-in-TooLong.result c.in_err-answer_long_line-in-TooLong.field-0.0 (view pages) (view new) c.from_residual-in_err-answer_long_line-in-TooLong.ensures.1
+          (counts_then (answer_fault c.in_err-answer_long_line-in-TooLong.field-0.0) (view pages) (view taken) (view new) quiet c.in_err-answer_long_line-in-TooLong.ensures.faults);
       serves = serves_then (told_in pages) (told_in taken) (told_in new) (view pages) (view taken) (view new) (serves_then (told_in pages) (told_in mid) (told_in taken) (view pages) (view mid) (view taken) inv.serves (serves_disk (told_in mid) (told_in taken) (view mid) (view taken) kept (g.met.P.PageWorld.take_told mid taken takes) (g.met.P.PageWorld.take_was_told mid taken takes))) (serves_disk (told_in taken) (told_in new) (view taken) (view new) made.keeps.disk made.keeps.told made.keeps.was_told);
       goes_on = goes_then (g.P.Pages.under pages) (g.P.Pages.under taken) (g.P.Pages.under new) (goes_then (g.P.Pages.under pages) (g.P.Pages.under mid) (g.P.Pages.under taken) inv.goes_on (g.met.P.PageWorld.take_goes_on mid taken takes)) made.keeps.goes_on;
       sound = λ other. c.answer_long_line.ensures.keeps.disk.fit (kept.fit inv.fit);
@@ -336,6 +350,7 @@ lines-preserved g c =
     let few = few_lines (Some text) in
     let none : edit_of (Some text) ≡ [] = ap (λ t. edit_of (Some t)) (c.line.ensures.line ∙ ap (λ (x : Reading). x.line) same) ∙ subst (λ (x : Option (Vec Edit Global)). IfNone x (edit_of (Some m.line) ≡ [])) c.in-None.is c.in_ok-edits-in-Line.ensures.other in
     let idle = made.idle none in
+    let quiet = counts_then None (view pages) (view mid) (view taken) inv.faults (counts_taken view g.P.Streams.read_faults g.P.Streams.send_faults g.met.P.PageWorld.beside_read_faults g.met.P.PageWorld.beside_send_faults mid taken kept (next.quiet (λ is. cc)) c.next.ensures.send_faults) in
     record {
       usable = c.in_ok-edits-in-Line.ensures.usable;
       counted = c.in_ok-edits-in-Line.ensures.counted;
@@ -362,6 +377,7 @@ lines-preserved g c =
       known = λ knows follows known. c.in_ok-answer_line-in-None.ensures.known knows follows (known_kept knows c.lines.kept c.lines.service.sessions c.next.new.from.sessions c.next.ensures.beside.sessions (c.lines.invariant.known knows follows known));
       gives = gives_joined g.R.Reply.makes c.args.kept.now c.lines.kept c.answer_line.new.kept (λ n. is_open n c.args.service.now.sessions) (λ n. is_open n c.next.new.from.sessions) (λ n. is_open n c.answer_line.new.service.sessions) before (g.P.Streams.sent taken) (g.P.Streams.sent new)
           (gives_kept g.R.Reply.makes c.args.kept.now c.lines.kept (λ n. is_open n c.args.service.now.sessions) (λ n. is_open n c.lines.service.sessions) (λ n. is_open n c.next.new.from.sessions) before (g.P.Streams.sent mid) (g.P.Streams.sent taken) (λ n. ap (λ l. is_open n l) beside.sessions) c.next.ensures.sent inv.gives) c.in_ok-answer_line-in-None.ensures.gives;
+      faults = counts_then None (view pages) (view taken) (view new) quiet c.in_ok-answer_line-in-None.ensures.faults;
       serves = serves_then (told_in pages) (told_in taken) (told_in new) (view pages) (view taken) (view new) (serves_then (told_in pages) (told_in mid) (told_in taken) (view pages) (view mid) (view taken) inv.serves (serves_disk (told_in mid) (told_in taken) (view mid) (view taken) kept (g.met.P.PageWorld.take_told mid taken takes) (g.met.P.PageWorld.take_was_told mid taken takes))) made.serves;
       goes_on = goes_then (g.P.Pages.under pages) (g.P.Pages.under taken) (g.P.Pages.under new) (goes_then (g.P.Pages.under pages) (g.P.Pages.under mid) (g.P.Pages.under taken) inv.goes_on (g.met.P.PageWorld.take_goes_on mid taken takes)) made.goes_on;
       total_is = made.total ∙ ap (λ (s : Superblock). s.total) beside.store_is.superblock ∙ inv.total_is;
@@ -404,6 +420,7 @@ returns-in_err-answer_line-in-None g c =
     let sends = g.P.Streams.send_faults in
     let Low : ℕ → Type 0 = λ n. sends pages ≤ n in
     let it = c.answer_line.new.service in
+    let quiet = counts_then None (view pages) (view mid) (view taken) inv.faults (counts_taken view g.P.Streams.read_faults g.P.Streams.send_faults g.met.P.PageWorld.beside_read_faults g.met.P.PageWorld.beside_send_faults mid taken kept (next.quiet (λ is. cc)) c.next.ensures.send_faults) in
     record {
       done = λ total book told stands. on_err c.from_residual-in_err-answer_line-in-None.result _ _ c.from_residual-in_err-answer_line-in-None.ensures.1;
       within = on_err c.from_residual-in_err-answer_line-in-None.result _ _ c.from_residual-in_err-answer_line-in-None.ensures.1;
@@ -435,6 +452,8 @@ returns-in_err-answer_line-in-None g c =
           gives_error g.R.Reply.makes c.args.kept.now c.answer_line.new.kept c.args.service.now.sessions c.answer_line.new.service.sessions before (g.P.Streams.sent new) c.from_residual-in_err-answer_line-in-None.result f c.from_residual-in_err-answer_line-in-None.ensures.1
           (first_behind g.R.Reply.makes c.args.kept.now c.lines.kept c.answer_line.new.kept (λ n. is_open n c.args.service.now.sessions) (λ n. is_open n c.next.new.from.sessions) before (g.P.Streams.sent taken) (g.P.Streams.sent new) f (gives_kept g.R.Reply.makes c.args.kept.now c.lines.kept (λ n. is_open n c.args.service.now.sessions) (λ n. is_open n c.lines.service.sessions) (λ n. is_open n c.next.new.from.sessions) before (g.P.Streams.sent mid) (g.P.Streams.sent taken) (λ n. ap (λ l. is_open n l) beside.sessions) c.next.ensures.sent inv.gives) c.in_err-answer_line-in-None.ensures.gives);
       bad = error_goes (EndsAtBad (g.P.Pages.told new) (g.P.Pages.view new).size (g.P.Pages.view new).image) c.from_residual-in_err-answer_line-in-None.result c.in_err-answer_line-in-None.field-0.0 c.from_residual-in_err-answer_line-in-None.ensures.1 c.in_err-answer_line-in-None.ensures.bad;
+      faults = fault_goes answer_fault c.from_residual-in_err-answer_line-in-None.result c.in_err-answer_line-in-None.field-0.0 (view pages) (view new) c.from_residual-in_err-answer_line-in-None.ensures.1
+          (counts_then (answer_fault c.in_err-answer_line-in-None.field-0.0) (view pages) (view taken) (view new) quiet c.in_err-answer_line-in-None.ensures.faults);
       serves = serves_then (told_in pages) (told_in taken) (told_in new) (view pages) (view taken) (view new) (serves_then (told_in pages) (told_in mid) (told_in taken) (view pages) (view mid) (view taken) inv.serves (serves_disk (told_in mid) (told_in taken) (view mid) (view taken) kept (g.met.P.PageWorld.take_told mid taken takes) (g.met.P.PageWorld.take_was_told mid taken takes))) made.serves;
       goes_on = goes_then (g.P.Pages.under pages) (g.P.Pages.under taken) (g.P.Pages.under new) (goes_then (g.P.Pages.under pages) (g.P.Pages.under mid) (g.P.Pages.under taken) inv.goes_on (g.met.P.PageWorld.take_goes_on mid taken takes)) made.goes_on;
       sound = λ other. c.in_err-answer_line-in-None.ensures.sound (λ fault. other (error_is c.from_residual-in_err-answer_line-in-None.result c.in_err-answer_line-in-None.field-0.0 c.from_residual-in_err-answer_line-in-None.ensures.1 ∙ fault));
@@ -477,6 +496,7 @@ lines-preserved-in-Some g c =
     let spells = both.1 in
     let few : length all ≤ most_ahead = omega (arith, most, spelled_length all edits spells) in
     let ends = subst (λ (e : List Edit). EndsGroup r e) (sym c.as_slice.ensures.value) (subst (λ (x : Option (Vec Edit Global)). IfSome x (λ edits. EndsGroup r edits.items)) c.in-Some.is c.in_ok-edits-in-Line.ensures.ends) in
+    let quiet = counts_then None (view pages) (view mid) (view taken) inv.faults (counts_taken view g.P.Streams.read_faults g.P.Streams.send_faults g.met.P.PageWorld.beside_read_faults g.met.P.PageWorld.beside_send_faults mid taken kept (next.quiet (λ is. cc)) c.next.ensures.send_faults) in
     record {
       usable = c.in_ok-edits-in-Line.ensures.usable;
       counted = c.in_ok-edits-in-Line.ensures.counted;
@@ -504,6 +524,7 @@ lines-preserved-in-Some g c =
       known = λ knows follows known. c.in_ok-answer_edits-in-Some.ensures.known knows follows (known_kept knows c.lines.kept c.lines.service.sessions c.next.new.from.sessions c.next.ensures.beside.sessions (c.lines.invariant.known knows follows known));
       gives = gives_joined g.R.Reply.makes c.args.kept.now c.lines.kept c.answer_edits.new.kept (λ n. is_open n c.args.service.now.sessions) (λ n. is_open n c.next.new.from.sessions) (λ n. is_open n c.answer_edits.new.service.sessions) before (g.P.Streams.sent taken) (g.P.Streams.sent new)
           (gives_kept g.R.Reply.makes c.args.kept.now c.lines.kept (λ n. is_open n c.args.service.now.sessions) (λ n. is_open n c.lines.service.sessions) (λ n. is_open n c.next.new.from.sessions) before (g.P.Streams.sent mid) (g.P.Streams.sent taken) (λ n. ap (λ l. is_open n l) beside.sessions) c.next.ensures.sent inv.gives) c.in_ok-answer_edits-in-Some.ensures.gives;
+      faults = counts_then None (view pages) (view taken) (view new) quiet c.in_ok-answer_edits-in-Some.ensures.faults;
       serves = serves_then (told_in pages) (told_in taken) (told_in new) (view pages) (view taken) (view new) (serves_then (told_in pages) (told_in mid) (told_in taken) (view pages) (view mid) (view taken) inv.serves (serves_disk (told_in mid) (told_in taken) (view mid) (view taken) kept (g.met.P.PageWorld.take_told mid taken takes) (g.met.P.PageWorld.take_was_told mid taken takes))) made.serves;
       goes_on = goes_then (g.P.Pages.under pages) (g.P.Pages.under taken) (g.P.Pages.under new) (goes_then (g.P.Pages.under pages) (g.P.Pages.under mid) (g.P.Pages.under taken) inv.goes_on (g.met.P.PageWorld.take_goes_on mid taken takes)) made.goes_on;
       total_is = made.total ∙ ap (λ (s : Superblock). s.total) beside.store_is.superblock ∙ inv.total_is;
@@ -548,6 +569,7 @@ returns-in_err-answer_edits-in-Some g c =
     let sends = g.P.Streams.send_faults in
     let Low : ℕ → Type 0 = λ n. sends pages ≤ n in
     let it = c.answer_edits.new.service in
+    let quiet = counts_then None (view pages) (view mid) (view taken) inv.faults (counts_taken view g.P.Streams.read_faults g.P.Streams.send_faults g.met.P.PageWorld.beside_read_faults g.met.P.PageWorld.beside_send_faults mid taken kept (next.quiet (λ is. cc)) c.next.ensures.send_faults) in
     record {
       done = λ total book told stands. on_err c.from_residual-in_err-answer_edits-in-Some.result _ _ c.from_residual-in_err-answer_edits-in-Some.ensures.1;
       within = on_err c.from_residual-in_err-answer_edits-in-Some.result _ _ c.from_residual-in_err-answer_edits-in-Some.ensures.1;
@@ -581,6 +603,8 @@ returns-in_err-answer_edits-in-Some g c =
           gives_error g.R.Reply.makes c.args.kept.now c.answer_edits.new.kept c.args.service.now.sessions c.answer_edits.new.service.sessions before (g.P.Streams.sent new) c.from_residual-in_err-answer_edits-in-Some.result f c.from_residual-in_err-answer_edits-in-Some.ensures.1
           (first_behind g.R.Reply.makes c.args.kept.now c.lines.kept c.answer_edits.new.kept (λ n. is_open n c.args.service.now.sessions) (λ n. is_open n c.next.new.from.sessions) before (g.P.Streams.sent taken) (g.P.Streams.sent new) f (gives_kept g.R.Reply.makes c.args.kept.now c.lines.kept (λ n. is_open n c.args.service.now.sessions) (λ n. is_open n c.lines.service.sessions) (λ n. is_open n c.next.new.from.sessions) before (g.P.Streams.sent mid) (g.P.Streams.sent taken) (λ n. ap (λ l. is_open n l) beside.sessions) c.next.ensures.sent inv.gives) c.in_err-answer_edits-in-Some.ensures.gives);
       bad = error_goes (EndsAtBad (g.P.Pages.told new) (g.P.Pages.view new).size (g.P.Pages.view new).image) c.from_residual-in_err-answer_edits-in-Some.result c.in_err-answer_edits-in-Some.field-0.0 c.from_residual-in_err-answer_edits-in-Some.ensures.1 c.in_err-answer_edits-in-Some.ensures.bad;
+      faults = fault_goes answer_fault c.from_residual-in_err-answer_edits-in-Some.result c.in_err-answer_edits-in-Some.field-0.0 (view pages) (view new) c.from_residual-in_err-answer_edits-in-Some.ensures.1
+          (counts_then (answer_fault c.in_err-answer_edits-in-Some.field-0.0) (view pages) (view taken) (view new) quiet c.in_err-answer_edits-in-Some.ensures.faults);
       serves = serves_then (told_in pages) (told_in taken) (told_in new) (view pages) (view taken) (view new) (serves_then (told_in pages) (told_in mid) (told_in taken) (view pages) (view mid) (view taken) inv.serves (serves_disk (told_in mid) (told_in taken) (view mid) (view taken) kept (g.met.P.PageWorld.take_told mid taken takes) (g.met.P.PageWorld.take_was_told mid taken takes))) made.serves;
       goes_on = goes_then (g.P.Pages.under pages) (g.P.Pages.under taken) (g.P.Pages.under new) (goes_then (g.P.Pages.under pages) (g.P.Pages.under mid) (g.P.Pages.under taken) inv.goes_on (g.met.P.PageWorld.take_goes_on mid taken takes)) made.goes_on;
       sound = λ other. c.in_err-answer_edits-in-Some.ensures.sound (λ fault. other (error_is c.from_residual-in_err-answer_edits-in-Some.result c.in_err-answer_edits-in-Some.field-0.0 c.from_residual-in_err-answer_edits-in-Some.ensures.1 ∙ fault));
@@ -604,6 +628,7 @@ returns-in_err-edits-in-Line g c =
     let told_in = g.P.Pages.told in
     let residual = c.from_residual-in_err-edits-in-Line.ensures.1 in
     let result = c.from_residual-in_err-edits-in-Line.result in
+    let quiet = counts_then None (view pages) (view mid) (view taken) inv.faults (counts_taken view g.P.Streams.read_faults g.P.Streams.send_faults g.met.P.PageWorld.beside_read_faults g.met.P.PageWorld.beside_send_faults mid taken kept (c.in_ok-next.ensures.quiet (λ is. cc)) c.next.ensures.send_faults) in
     record {
       done = λ total book told stands. on_err result _ _ residual;
       within = on_err result _ _ residual;
@@ -627,6 +652,7 @@ returns-in_err-edits-in-Line g c =
           gives_error g.R.Reply.makes c.args.kept.now c.lines.kept own c.next.new.from.sessions before (g.P.Streams.sent taken) result (Serve NoMemory) residual
           (first_memory g.R.Reply.makes c.args.kept.now c.lines.kept (λ n. is_open n c.args.service.now.sessions) (λ n. is_open n c.next.new.from.sessions) before (g.P.Streams.sent taken) (gives_kept g.R.Reply.makes c.args.kept.now c.lines.kept (λ n. is_open n c.args.service.now.sessions) (λ n. is_open n c.lines.service.sessions) (λ n. is_open n c.next.new.from.sessions) before (g.P.Streams.sent mid) (g.P.Streams.sent taken) (λ n. ap (λ l. is_open n l) beside.sessions) c.next.ensures.sent inv.gives));
       bad = error_goes (EndsAtBad (g.P.Pages.told taken) (g.P.Pages.view taken).size (g.P.Pages.view taken).image) result (Serve NoMemory) residual tt;
+      faults = fault_goes answer_fault result (Serve NoMemory) (view pages) (view taken) residual quiet;
       serves = serves_then (told_in pages) (told_in mid) (told_in taken) (view pages) (view mid) (view taken) inv.serves (serves_disk (told_in mid) (told_in taken) (view mid) (view taken) kept (g.met.P.PageWorld.take_told mid taken takes) (g.met.P.PageWorld.take_was_told mid taken takes));
       goes_on = goes_then (g.P.Pages.under pages) (g.P.Pages.under mid) (g.P.Pages.under taken) inv.goes_on (g.met.P.PageWorld.take_goes_on mid taken takes);
       sound = λ other. kept.fit inv.fit;

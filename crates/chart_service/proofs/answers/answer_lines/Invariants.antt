@@ -1,4 +1,5 @@
-use Rattle.std.proofs.Common.{◌≡◌, ℕ, ◌+◌, ◌-◌, ◌^◌, ◌≤◌, Bool, List, length, IsTrue}
+use Rattle.std.proofs.Common.{◌≡◌, ℕ, ◌+◌, ◌-◌, ◌^◌, ◌≤◌, Bool, List, None, length, IsTrue}
+use Rattle.chart_world.specs.Faults.{CountsFault}
 use Rattle.chart_world.specs.Fronts.{StandsIn}
 use Rattle.chart_world.specs.Reading.{input_length}
 use Rattle.gate_pages.specs.Pages.{GoesOn}
@@ -38,6 +39,7 @@ invariant-lines g l =
           → HasSynced (g.P.Streams.left first) total book (view first).syncs (g.P.Streams.pieces first) l.lines (g.P.Streams.left pages) (view pages).image (view pages).syncs (g.P.Streams.pieces pages);
       known : (knows : g.row.S.Denot → ℕ → Bool) → Follows g.R.Reply.makes knows → KnowsOpen knows l.initial.kept l.initial.service.sessions → KnowsOpen knows l.kept l.service.sessions;
       gives : Gives g.R.Reply.makes l.initial.kept l.kept (λ n. is_open n l.initial.service.sessions) (λ n. is_open n l.service.sessions) (g.P.Streams.sent first) (g.P.Streams.sent pages);
+      faults : CountsFault None (view first) (view pages);
       serves : Serves (told first) (told pages) (view first) (view pages);
       goes_on : GoesOn (g.P.Pages.under first) (g.P.Pages.under pages);
       total_is : shown.total l.service ≡ shown.total l.initial.service;

@@ -1,10 +1,13 @@
 use Rattle.std.proofs.Common.{IfErr, IfSome, OnOk, length, ap, sym, subst, ◌≤◌, ◌^◌, ◌∙◌}
 use Rattle.block_disk.specs.View.{sent_now}
+use Rattle.chart_world.specs.Faults.{CountsFault, fault_in}
 use Rattle.chart_service.specs.Answering.{SendsWhole, ServeEndsBy}
+use Rattle.chart_service.specs.Faulting.{serve_fault}
 use Rattle.chart_service.specs.Serving.{AreSpelled, EndsAtBad}
 use Rattle.chart_service.specs.Shown as shown
 use Rattle.chart_service.specs.Spelled.{serve_end}
 use Rattle.chart_service.specs.declared.failure.ServeEnd.TheVariants.{ReadFault, SendFault, DiskFault}
+use Rattle.chart_service.proofs.Faulting.{serve_goes}
 use Rattle.chart_service.proofs.Naming.{serve_named}
 use Rattle.chart_service.proofs.Sending.{ok_so}
 use Rattle.chart_service.proofs.Served.{spelling_makes, spells, done_spelled, ends_spelled, lasts_spelled, served_ok, served_fault, served_bad}
@@ -68,3 +71,9 @@ returns-clause-named g c =
     let old = c.args.service.now in
     let new = c.answer_lines-answer.new.service in
     serve_named _ _ old.sessions new.sessions (g.P.Streams.sent (shown.pages old)) (g.P.Streams.sent (shown.pages new)) c.answer_lines-answer.result c.answer_lines-answer.ensures.gives
+
+pub returns-clause-faults : goal.returns-clause-faults
+returns-clause-faults g c =
+    let old = shown.view c.args.service.now in
+    let new = shown.view c.answer_lines-answer.new.service in
+    subst (λ r. CountsFault (fault_in serve_fault r) old new) (sym c.served.ensures) (serve_goes c.answer_lines-answer.result old new c.answer_lines-answer.ensures.faults)

@@ -2,6 +2,7 @@ use Rattle.std.proofs.Common.{sym, subst}
 use Rattle.chart_service.specs.Shown as shown
 use Rattle.demo_workload.specs.declared.demo_end.DemoEnd.{DemoEnd}
 use Rattle.demo_workload.specs.Ending.{IsOutside}
+use Rattle.demo_workload.proofs.Faulting.{step_counts, draw_counts}
 use Rattle.demo_workload.proofs.Knowing.{Changes, knows_on}
 use Rattle.demo_workload.proofs.Stepped.{answered_one, outside_frame, outside_step, left_behind}
 use Rattle.demo_workload.proofs.answering.answer.Goals as goal
@@ -42,3 +43,10 @@ returns-clause-known g c =
     } in
     knows_on laws c.in-Ok.frame c.in-Ok-draw.picture c.args.service.now.sessions c.step.new.self.sessions c.args.client.now c.draw.new.client c.requires.known c.in-Ok.ensures.opens
     c.in-Ok-draw.ensures.accepted
+
+pub returns-in-Err-clause-faults : goal.returns-in-Err-clause-faults
+returns-in-Err-clause-faults g c = step_counts c.end_of_step.result c.in-Err.error (shown.view c.args.service.now) (shown.view c.step.new.self) c.end_of_step.ensures c.in-Err.ensures.faults
+
+pub returns-in-Err-draw-clause-faults : goal.returns-in-Err-draw-clause-faults
+returns-in-Err-draw-clause-faults g c =
+    draw_counts c.in-Err-draw.end c.in-Ok.frame c.args.client.now (shown.view c.args.service.now) (shown.view c.step.new.self) c.in-Err-draw.ensures.rejected c.in-Ok.ensures.faults

@@ -1,10 +1,12 @@
-use Rattle.std.proofs.Common.{◌≡◌, ◌+◌, ◌≤◌, [], ◌∷◌, length, refl, ap, ◌∙◌, arith}
+use Rattle.std.proofs.Common.{◌≡◌, ◌+◌, ◌≤◌, [], ◌∷◌, None, length, refl, ap, ◌∙◌, arith}
 use Rattle.block_disk.proofs.Passing.{passes_none}
+use Rattle.chart_world.specs.FaultLaws.{counts_then}
 use Rattle.gate_pages.specs.Pages.{Quiet}
 use Rattle.gate_pages.specs.GateLaws.{goes_none, goes_then}
 use Rattle.chart_service.specs.Stepping.{state_of}
 use Rattle.chart_service.specs.Shown as shown
 use Rattle.demo_workload.specs.declared.demo_end.DemoEnd.TheVariants.{DiskFault}
+use Rattle.demo_workload.specs.Ending.{demo_fault}
 use Rattle.demo_workload.specs.Workload.{workload}
 use Rattle.demo_workload.specs.Replying.{IsPartWay}
 use Rattle.demo_workload.proofs.Rounds.{few_requests}
@@ -33,6 +35,7 @@ requests-init g c = record {
   moments = λ total book told stands.
       passes_none (shown.view c.args.service.now) (IsPartWay (workload c.args.seed c.args.count) total (state_of book total []))
       (Quiet (shown.view c.args.service.now));
+  faults = refl;
   runs = runs_none (shown.IsTold c.args.service.now) (shown.view c.args.service.now);
   goes_on = goes_none (shown.under c.args.service.now);
   total = refl;
@@ -89,9 +92,14 @@ requests-preserved g c =
           let r = next_reaches (workload c.args.seed c.args.count) c.requests.workload c.next.new.self c.in-Some.request total (state_of book total []) (shown.image c.requests.service) c.requests.service.sessions c.requests.client c.requests.summary is (c.requests.invariant.reaches total book told stands) in
           moments_more (workload c.args.seed c.args.count) c.next.new.self c.in-Some.request total (state_of book total []) (shown.view c.args.service.now) (shown.view c.requests.service) (shown.view c.answer-answered.new.service) c.requests.service.sessions c.requests.client c.requests.summary r
           (c.requests.invariant.moments total book told stands) (c.in-Ok-answered.ensures.moments total r.book (c.requests.invariant.runs.told told) r.stands);
+      faults = counts_then None (shown.view c.args.service.now) (shown.view c.requests.service) (shown.view c.answer-answered.new.service) c.requests.invariant.faults c.in-Ok-answered.ensures.faults;
       runs = runs_on (shown.IsTold c.args.service.now) (shown.IsTold c.requests.service) (shown.IsTold c.answer-answered.new.service)
           (shown.view c.args.service.now) (shown.view c.requests.service) (shown.view c.answer-answered.new.service) c.requests.invariant.runs c.in-Ok-answered.ensures.steps;
       goes_on = goes_then (shown.under c.args.service.now) (shown.under c.requests.service) (shown.under c.answer-answered.new.service)
           c.requests.invariant.goes_on c.in-Ok-answered.ensures.goes_on;
       total = c.in-Ok-answered.ensures.total ∙ c.requests.invariant.total;
     }
+
+pub returns-in-Err-clause-faults : goal.returns-in-Err-clause-faults
+returns-in-Err-clause-faults g c =
+    counts_then (demo_fault c.in-Err.end) (shown.view c.args.service.now) (shown.view c.requests.service) (shown.view c.answer-answered.new.service) c.requests.invariant.faults c.in-Err.ensures.faults

@@ -1,5 +1,6 @@
-use Rattle.std.proofs.Common.{ℕ, ◌≡◌, ◌+◌, ◌≤◌, List, [], length}
+use Rattle.std.proofs.Common.{ℕ, ◌≡◌, ◌+◌, ◌≤◌, List, [], None, length}
 use Rattle.block_disk.specs.View.{Passes}
+use Rattle.chart_world.specs.Faults.{CountsFault}
 use Rattle.gate_pages.specs.Pages.{GoesOn, Quiet}
 use Rattle.series_book.specs.declared.one_series.Series.{Series}
 use Rattle.stored_book.specs.Standing.{StandsForBook}
@@ -24,6 +25,7 @@ invariant-requests g l = record {
       → Reaches (workload l.fn.seed l.fn.count) l.workload total (state_of book total []) (shown.image l.service) l.service.sessions l.client l.summary;
   moments : (total : ℕ) (book : List Series) → shown.IsTold l.fn.service → StandsForBook (shown.image l.fn.service) total book
       → Passes (shown.view l.fn.service) (shown.view l.service) (IsPartWay (workload l.fn.seed l.fn.count) total (state_of book total [])) (Quiet (shown.view l.fn.service));
+  faults : CountsFault None (shown.view l.fn.service) (shown.view l.service);
   runs : Runs (shown.IsTold l.fn.service) (shown.IsTold l.service) (shown.view l.fn.service) (shown.view l.service);
   goes_on : GoesOn (shown.under l.fn.service) (shown.under l.service);
   total : shown.total l.service ≡ shown.total l.fn.service;

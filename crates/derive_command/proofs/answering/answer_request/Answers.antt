@@ -1,13 +1,19 @@
 use Rattle.std.proofs.Common.{◌∙◌, Result, ap, arith, length, subst, sym}
 use Rattle.block_disk.specs.View.{Beside}
+use Rattle.chart_world.specs.FaultLaws.{counts_then}
+use Rattle.chart_world.specs.Faults.{CountsFault, fault_in}
 use Rattle.line_raster.specs.Canvas.{Canvas}
 use Rattle.page_space.specs.declared.superblock.Superblock.{Superblock}
 use Rattle.pbm_writer.specs.Picture.{picture}
-use Rattle.series_pair.specs.Derived.{IsChartAnswer}
+use Rattle.series_pair.specs.Derived.{IsChartAnswer, sum_fault}
 use Rattle.series_pair.specs.declared.sum_error.SumError.{SumError}
 use Rattle.series_store.specs.Shown as shown
 use Rattle.derive_command.proofs.DoingLemmas.{causes_later, chart_cause, goes_further, goes_looks, goes_sends, request_drawn, request_refused, request_undrawn, sent_cause}
+use Rattle.derive_command.proofs.FaultLemmas.{end_fault}
+use Rattle.store_commands.specs.Faulting.{counts_told}
 use Rattle.store_commands.specs.Sides.{side_of}
+use Rattle.derive_command.specs.Doing.{derive_fault, end_at}
+use Rattle.derive_command.specs.declared.derive_end.DeriveEnd.{DeriveEnd}
 use Rattle.derive_command.proofs.answering.answer_request.Goals as goal
 
 pub returns-in-Err-clause-does : goal.returns-in-Err-clause-does
@@ -115,3 +121,20 @@ returns-in-Err-chart-clause-left g c =
     let first = shown.pages c.args.store in
     let mid = shown.pages c.chart_of_sum-chart.result.1 in
     sym (w.beside_left mid) ∙ ap (λ (b : Beside). b.left) c.chart_of_sum-chart.ensures.looks.beside ∙ w.beside_left first
+
+pub returns-in-Ok-chart-clause-faults : goal.returns-in-Ok-chart-clause-faults
+returns-in-Ok-chart-clause-faults g c =
+    let first = c.args.store in
+    let mid = c.chart_of_sum-chart.result.1 in
+    let new = c.send_picture-answer.new.store in
+    let P : Result Canvas SumError → Type 0 = λ r. CountsFault (fault_in sum_fault r) (shown.view first) (shown.view mid) in
+    counts_then (fault_in derive_fault c.send_picture-answer.result) (shown.view first) (shown.view mid) (shown.view new) (subst P c.in-Ok-chart.is c.chart_of_sum-chart.ensures.faults) c.send_picture-answer.ensures.faults
+
+pub returns-in-Err-chart-clause-faults : goal.returns-in-Err-chart-clause-faults
+returns-in-Err-chart-clause-faults g c =
+    let first = c.args.store in
+    let mid = c.chart_of_sum-chart.result.1 in
+    let P : Result Canvas SumError → Type 0 = λ r. CountsFault (fault_in sum_fault r) (shown.view first) (shown.view mid) in
+    let error = c.in-Err-chart.error in
+    let E : DeriveEnd → Type 0 = λ e. CountsFault (derive_fault e) (shown.view first) (shown.view mid) in
+    subst E (sym c.end_at.ensures) (counts_told (sum_fault error) (derive_fault (end_at c.args.at error)) (shown.view first) (shown.view mid) (end_fault c.args.at error) (subst P c.in-Err-chart.is c.chart_of_sum-chart.ensures.faults))

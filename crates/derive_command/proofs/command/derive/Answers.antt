@@ -1,10 +1,17 @@
 use Rattle.std.proofs.Common.{◌∙◌, ap, sym}
 use Rattle.block_disk.specs.View.{Beside}
+use Rattle.chart_world.specs.FaultLaws.{counts_no_disk, counts_then}
+use Rattle.chart_world.specs.Faults.{fault_in}
 use Rattle.series_store.specs.Shown as shown
 use Rattle.store_commands.proofs.TurnedAway.{away_never}
 use Rattle.store_commands.proofs.WorldLemmas.{away_over, unopened_over}
+use Rattle.store_commands.specs.Faulting.{counts_as, counts_told, counts_unopened}
+use Rattle.store_commands.specs.Status.{code_fault, opening_status}
 use Rattle.derive_command.proofs.DiskLemmas.{drawn_on}
+use Rattle.derive_command.proofs.FaultLemmas.{answer_fault}
 use Rattle.derive_command.proofs.StatusLemmas.{ends_by, unopened_ends}
+use Rattle.derive_command.specs.Deriving.{answer_status}
+use Rattle.derive_command.specs.Doing.{derive_fault}
 use Rattle.derive_command.proofs.command.derive.Goals as goal
 
 pub returns-in-Ok-clause-ends : goal.returns-in-Ok-clause-ends
@@ -25,7 +32,7 @@ returns-in-Ok-clause-ends g c =
     (sym (w.beside_sent start) ∙ ap (λ (b : Beside). b.sent) beside ∙ w.beside_sent old)
     (sym (w.beside_read_faults start) ∙ ap (λ (b : Beside). b.read_faults) beside ∙ w.beside_read_faults old)
     (sym (w.beside_send_faults start) ∙ ap (λ (b : Beside). b.send_faults) beside ∙ w.beside_send_faults old)
-    c.draw_store-answer.ensures in
+    c.draw_store-answer.ensures.drawn in
     ends_by (view old) (view new) (left old) (left new) (sent old) (sent new) (reads old) (reads new) (sends old) (sends new) c.draw_store-answer.result.0 c.answer_status.result c.answer_status.ensures s
 
 pub returns-in-Err-clause-ends : goal.returns-in-Err-clause-ends
@@ -38,3 +45,23 @@ returns-in-Ok-clause-away g c = away_never _ _ c.in-Ok.ensures.large
 pub returns-in-Err-clause-away : goal.returns-in-Err-clause-away
 returns-in-Err-clause-away g c =
     away_over g.W.Disk.view g.W.Streams.left g.W.Streams.sent g.met.W.World.beside_left g.met.W.World.beside_sent c.args.world c.in-Err.field-0.value c.in-Err.field-0.cause c.in-Err.ensures.opens.beside_is c.opening_status.result c.opening_status.ensures c.in-Err.ensures.cause
+
+pub returns-in-Ok-clause-faults : goal.returns-in-Ok-clause-faults
+returns-in-Ok-clause-faults g c =
+    let view = g.W.Disk.view in
+    let old = view c.args.world in
+    let start = view (shown.pages c.in-Ok.store).disk in
+    let new = view c.draw_store-answer.result.1 in
+    let answer = c.draw_store-answer.result.0 in
+    let told = fault_in derive_fault answer in
+    let opened = counts_no_disk old start c.in-Ok.ensures.opens.beside_is c.in-Ok.ensures.quiet in
+    counts_as c.answer_status.result (answer_status answer) old new c.answer_status.ensures
+    (counts_told told (code_fault (answer_status answer).code) old new (answer_fault answer) (counts_then told old start new opened c.draw_store-answer.ensures.faults))
+
+pub returns-in-Err-clause-faults : goal.returns-in-Err-clause-faults
+returns-in-Err-clause-faults g c =
+    let old = g.W.Disk.view c.args.world in
+    let back = c.in-Err.field-0 in
+    let new = g.W.Disk.view back.value in
+    let e = c.in-Err.ensures in
+    counts_as c.opening_status.result (opening_status back.cause) old new c.opening_status.ensures (counts_unopened back.cause old new e.opens.beside_is e.cause e.quiet_err)

@@ -1,4 +1,6 @@
 use Rattle.std.proofs.Common.{◌≡◌, ◌∙◌, ℕ, List, Option, None, Some, Ok, Err, IsTrue, ◌^◌, length, refl, ap, sym, subst, arith}
+use Rattle.chart_world.specs.FaultLaws.{counts_then}
+use Rattle.chart_world.specs.Faults.{CountsFault, fault_in}
 use Rattle.chart_world.specs.FrontLaws.{gives_by, read_whole, same_line}
 use Rattle.chart_world.specs.Fronts.{Gives}
 use Rattle.chart_world.specs.StandsLaws.{stands_beside, stands_first}
@@ -6,9 +8,11 @@ use Rattle.chart_world.specs.Reading.{Reading, input_length, unread}
 use Rattle.page_space.specs.declared.superblock.Superblock.{Superblock}
 use Rattle.series_store.specs.Shown as shown
 use Rattle.derive_command.proofs.DoingLemmas.{cause_later, goes_further, goes_nowhere, goes_takes}
+use Rattle.derive_command.proofs.FaultLemmas.{line_failed}
 use Rattle.derive_command.proofs.EndLemmas.{Far, all_on, far_first, far_kept, far_line, fault_on, line_stops, long_on}
+use Rattle.store_commands.specs.Faulting.{counts_kept}
 use Rattle.store_commands.specs.Sides.{side_of}
-use Rattle.derive_command.specs.Doing.{DoesLine, end_of}
+use Rattle.derive_command.specs.Doing.{DoesLine, derive_fault, end_of}
 use Rattle.derive_command.specs.Shown.{StopSo}
 use Rattle.derive_command.specs.declared.derive_end.DeriveEnd.{DeriveEnd}
 use Rattle.derive_command.proofs.drawing.answer_lines.Goals as goal
@@ -25,6 +29,7 @@ lines-init g c =
       whole = ap (λ (r : Reading). input_length r.taken o) fresh;
       stands_in = stands_first o c.args.lines.now fresh;
       sound = c.requires.sound;
+      faults = refl;
       goes = goes_nowhere (side_of g.P.Streams c.args.store);
       far = λ total book told stands. far_first book o c.args.lines.now (g.P.Streams.sent (shown.pages c.args.store)) fresh;
     }
@@ -185,6 +190,13 @@ lines-preserved g c =
       whole = subst U (sym made.left) (e.total ∙ inv.whole);
       stands_in = stands_beside (left first) (left taken) (left new) c.next.new.self made.left (e.stands (left first) inv.stands_in);
       sound = made.goes.fit (kept.fit inv.sound);
+      faults =
+          let view = g.P.Pages.view in
+          let reads = g.P.Streams.read_faults in
+          let sends = g.P.Streams.send_faults in
+          let D : _ → Type 0 = λ r. CountsFault (fault_in {T = Unit {0}} derive_fault r) (view taken) (view new) in
+          let none = counts_then None (view first) (view mid) (view taken) inv.faults (counts_kept view reads sends w.beside_read_faults w.beside_send_faults mid taken kept (c.in-Ok.ensures.quiet (λ same. cc)) c.next.ensures.send_faults) in
+          counts_then None (view first) (view taken) (view new) none (subst D c.in_default.is made.faults);
       goes = goes_further (side c.args.store) (side c.next.new.from) (side c.answer_line-answer.result.1) goes made.goes;
       far = λ total book told stands.
           let far = far_kept book (left first) _ c.lines.lines.given (sent first) (sent mid) (sent taken) c.next.ensures.sent (inv.far total book told stands) in
@@ -195,3 +207,55 @@ lines-preserved g c =
           let does = subst D c.in_default.is (made.does total book (goes.is_told told) there) in
           subst F (sym made.left) (far_line book c.lines.lines c.next.new.self (left mid) (left taken) text gives e.within c.offset_of.result (sent first) (sent taken) (sent new) c.in_default.field-0 (left first) does far);
     }
+
+pub returns-in-Err-clause-faults : goal.returns-in-Err-clause-faults
+returns-in-Err-clause-faults g c =
+    let mid = shown.pages c.lines.store in
+    let taken = shown.pages c.next.new.from in
+    let w = g.met.P.PageWorld in
+    let view = g.P.Pages.view in
+    let kept = w.take_keeps mid taken c.next.ensures.beside.pages_are in
+    let reads = g.P.Streams.read_faults in
+    let sends = g.P.Streams.send_faults in
+    let E : DeriveEnd → Type 0 = λ end. CountsFault (derive_fault end) (view (shown.pages c.args.store)) (view taken) in
+    let failed = line_failed view reads sends w.beside_read_faults w.beside_send_faults mid taken kept c.in-Err.fault (λ is. c.in-Err.ensures.read_fault (ap Err is)) (λ other. c.in-Err.ensures.quiet (λ same. other cc)) c.next.ensures.send_faults in
+    subst E (sym c.end_of.ensures) (counts_then (derive_fault (end_of c.in-Err.fault)) (view (shown.pages c.args.store)) (view mid) (view taken) c.lines.invariant.faults failed)
+
+pub returns-in-End-clause-faults : goal.returns-in-End-clause-faults
+returns-in-End-clause-faults g c =
+    let mid = shown.pages c.lines.store in
+    let taken = shown.pages c.next.new.from in
+    let w = g.met.P.PageWorld in
+    let view = g.P.Pages.view in
+    let kept = w.take_keeps mid taken c.next.ensures.beside.pages_are in
+    let reads = g.P.Streams.read_faults in
+    let sends = g.P.Streams.send_faults in
+    counts_then None (view (shown.pages c.args.store)) (view mid) (view taken) c.lines.invariant.faults
+    (counts_kept view reads sends w.beside_read_faults w.beside_send_faults mid taken kept (c.in-Ok.ensures.quiet (λ same. cc)) c.next.ensures.send_faults)
+
+pub returns-in-TooLong-clause-faults : goal.returns-in-TooLong-clause-faults
+returns-in-TooLong-clause-faults g c =
+    let mid = shown.pages c.lines.store in
+    let taken = shown.pages c.next.new.from in
+    let w = g.met.P.PageWorld in
+    let view = g.P.Pages.view in
+    let kept = w.take_keeps mid taken c.next.ensures.beside.pages_are in
+    let reads = g.P.Streams.read_faults in
+    let sends = g.P.Streams.send_faults in
+    counts_then None (view (shown.pages c.args.store)) (view mid) (view taken) c.lines.invariant.faults
+    (counts_kept view reads sends w.beside_read_faults w.beside_send_faults mid taken kept (c.in-Ok.ensures.quiet (λ same. cc)) c.next.ensures.send_faults)
+
+pub returns-in-Err-answer-clause-faults : goal.returns-in-Err-answer-clause-faults
+returns-in-Err-answer-clause-faults g c =
+    let mid = shown.pages c.lines.store in
+    let taken = shown.pages c.next.new.from in
+    let w = g.met.P.PageWorld in
+    let view = g.P.Pages.view in
+    let kept = w.take_keeps mid taken c.next.ensures.beside.pages_are in
+    let reads = g.P.Streams.read_faults in
+    let sends = g.P.Streams.send_faults in
+    let first = shown.pages c.args.store in
+    let new = shown.pages c.answer_line-answer.result.1 in
+    let D : _ → Type 0 = λ r. CountsFault (fault_in {T = Unit {0}} derive_fault r) (view taken) (view new) in
+    let none = counts_then None (view first) (view mid) (view taken) c.lines.invariant.faults (counts_kept view reads sends w.beside_read_faults w.beside_send_faults mid taken kept (c.in-Ok.ensures.quiet (λ same. cc)) c.next.ensures.send_faults) in
+    counts_then (derive_fault c.in-Err-answer.end) (view first) (view taken) (view new) none (subst D c.in-Err-answer.is c.answer_line-answer.ensures.faults)

@@ -1,4 +1,4 @@
-use Rattle.std.proofs.Common.{ℕ, ◌≡◌, ◌∙◌, List, false, sym, subst, arith}
+use Rattle.std.proofs.Common.{ℕ, ◌≡◌, ◌∙◌, List, false, refl, sym, subst, arith}
 use Rattle.m4_groups.specs.declared.row.Row.{Row}
 use Rattle.derived_chart.specs.Rows.{AreShown, AreRowsBelow, IsRowCause}
 use Rattle.derived_chart.proofs.RowLemmas.{none_below, none_shown, passed_error, row_cause}
@@ -8,6 +8,7 @@ pub loop-column-init : goal.loop-column-init
 loop-column-init g c = record {
   fit = c.requires.fit;
   goes = g.met.T.TwoTrees.goes_nowhere c.args.trees.now;
+  quiet = refl;
   shown = (let P : List Row → Type 0 = λ rows. AreShown c.args.grid.w 0 rows in subst P (sym c.in_ok-rows.ensures.items) (none_shown c.args.grid.w));
   rows = λ xs ys sums trees are small. (let P : List Row → Type 0 = λ rows. AreRowsBelow c.args.axis c.args.grid sums 0 rows in subst P (sym c.in_ok-rows.ensures.items) (none_below c.args.axis c.args.grid sums));
 }
@@ -16,6 +17,7 @@ pub loop-column-preserved : goal.loop-column-preserved
 loop-column-preserved g c = record {
   fit = c.in_ok-add_column.ensures.fit;
   goes = g.met.T.TwoTrees.goes_on _ _ _ c.loop-column.invariant.goes c.in_ok-add_column.ensures.goes;
+  quiet = c.in_ok-add_column.ensures.quiet ∙ c.loop-column.invariant.quiet;
   shown = c.in_ok-add_column.ensures.shown c.loop-column.invariant.shown;
   rows = λ xs ys sums trees are small. c.in_ok-add_column.ensures.rows xs ys sums (g.met.T.TwoTrees.still_are _ _ xs ys c.loop-column.invariant.goes trees) are small (c.loop-column.invariant.rows xs ys sums trees are small);
 }

@@ -16,7 +16,7 @@ covers-init g c =
       view = ap (λ (p : Taking). p.view) begun;
       holdings = ap (λ (p : Taking). p.holdings) begun;
       sent = covers_begun c.args.every c.args.view.now c.args.client.now c.in_ok-progress.progress.taken (g.S.Streams.sent c.args.streams.now) (ap (λ (p : Taking). p.taken) begun);
-      send_faults = omega arith;
+      send_faults = refl;
       left = refl;
       read_faults = refl;
       disk = stays_none (g.S.Disk.view c.args.streams.now);
@@ -50,7 +50,7 @@ covers-preserved g c =
       holdings = next.holdings ∙ inv.holdings;
       sent = covers_more c.args.every c.args.view.now c.args.client.now c.covers.progress.taken c.advance_by.new.progress.taken c.in_ok-cover.cover before (sent c.covers.streams) later
           more draws made.done (omega (arith, next.taken, ap (λ v. length v.coefs) inv.view)) inv.sent;
-      send_faults = omega (arith, inv.send_faults, made.send_faults);
+      send_faults = made.quiet_sends (λ is. cc) ∙ inv.send_faults;
       left = made.left ∙ inv.left;
       read_faults = made.read_faults ∙ inv.read_faults;
       disk = stays_then (view c.args.streams.now) (view c.covers.streams) (view c.send_picture.new.streams) inv.disk made.disk;

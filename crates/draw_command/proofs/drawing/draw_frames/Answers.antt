@@ -1,4 +1,4 @@
-use Rattle.std.proofs.Common.{refl, sym, subst, ◌∙◌, arith}
+use Rattle.std.proofs.Common.{refl, sym, subst, ◌∙◌}
 use Rattle.draw_command.specs.declared.draw_end.DrawEnd.{DrawEnd}
 use Rattle.draw_command.specs.Draws.{FramesStop}
 use Rattle.draw_command.proofs.Errors.{error_so}
@@ -9,7 +9,7 @@ use Rattle.draw_command.proofs.drawing.draw_frames.Goals as goal
 pub frames-init : goal.frames-init
 frames-init g c = record {
   drawn = drawn_none c.args.every c.args.decoder.now c.args.client.now (g.S.Streams.sent c.args.streams.now);
-  send_faults = omega arith;
+  send_faults = refl;
   left = refl;
   read_faults = refl;
   disk = stays_none (g.S.Disk.view c.args.streams.now);
@@ -30,7 +30,7 @@ frames-preserved-in_ok-draw_frame-in-Some g c =
     record {
       drawn = drawn_frame c.args.every c.args.decoder.now c.frames.decoder c.next.new.self c.in-Some.frame c.args.client.now c.frames.client c.draw_frame.new.client
           (sent c.args.streams.now) (sent c.frames.streams) (sent c.draw_frame.new.streams) takes made.done inv.drawn;
-      send_faults = omega (arith, inv.send_faults, made.send_faults);
+      send_faults = made.quiet_sends (λ is. cc) ∙ inv.send_faults;
       left = made.left ∙ inv.left;
       read_faults = made.read_faults ∙ inv.read_faults;
       disk = stays_then (view c.args.streams.now) (view c.frames.streams) (view c.draw_frame.new.streams) inv.disk made.disk;
@@ -51,7 +51,7 @@ frames-preserved-in_ok-draw_frame-in-Some-2 g c =
     record {
       drawn = drawn_frame c.args.every c.args.decoder.now c.frames.decoder c.next.new.self c.in-Some.frame c.args.client.now c.frames.client c.draw_frame.new.client
           (sent c.args.streams.now) (sent c.frames.streams) (sent c.draw_frame.new.streams) takes made.done inv.drawn;
-      send_faults = omega (arith, inv.send_faults, made.send_faults);
+      send_faults = made.quiet_sends (λ is. cc) ∙ inv.send_faults;
       left = made.left ∙ inv.left;
       read_faults = made.read_faults ∙ inv.read_faults;
       disk = stays_then (view c.args.streams.now) (view c.frames.streams) (view c.draw_frame.new.streams) inv.disk made.disk;
@@ -72,7 +72,7 @@ frames-preserved g c =
     record {
       drawn = drawn_frame c.args.every c.args.decoder.now c.frames.decoder c.next.new.self c.in-Some.frame c.args.client.now c.frames.client c.draw_frame.new.client
           (sent c.args.streams.now) (sent c.frames.streams) (sent c.draw_frame.new.streams) takes made.done inv.drawn;
-      send_faults = omega (arith, inv.send_faults, made.send_faults);
+      send_faults = made.quiet_sends (λ is. cc) ∙ inv.send_faults;
       left = made.left ∙ inv.left;
       read_faults = made.read_faults ∙ inv.read_faults;
       disk = stays_then (view c.args.streams.now) (view c.frames.streams) (view c.draw_frame.new.streams) inv.disk made.disk;

@@ -14,8 +14,8 @@ pieces-init g c = record {
   counted = start_counted c.args.decoder.now c.requires.start;
   unended = start_partial c.more_bytes_mend_nothing.ensures.stays c.spellings_are_good.ensures c.args.decoder.now c.requires.start;
   drawn = drawn_start c.args.every (g.S.Streams.left c.args.streams.now) c.args.decoder.now c.args.client.now (g.S.Streams.sent c.args.streams.now) c.requires.start c.requires.client;
-  read_faults = omega arith;
-  send_faults = omega arith;
+  read_faults = refl;
+  send_faults = refl;
   disk = stays_none (g.S.Disk.view c.args.streams.now);
 }
 
@@ -96,8 +96,8 @@ pieces-preserved g c =
       drawn = drawn_piece c.args.every o (left c.pieces.streams) (left c.draw_piece.new.streams) c.min-fits.result c.in_ok-count.count
           c.take_piece.new.buffer (take c.min-fits.result c.take_piece.new.buffer) c.pieces.decoder c.draw_piece.new.decoder c.pieces.client c.draw_piece.new.client
           before (sent c.take_piece.new.streams) (sent c.draw_piece.new.streams) taken.given (made.left ∙ taken.left) all refl made.done.0 drawn;
-      read_faults = omega (arith, inv.read_faults, taken.read_faults, made.read_faults);
-      send_faults = omega (arith, inv.send_faults, taken.send_faults, made.send_faults);
+      read_faults = made.read_faults ∙ taken.quiet_reads (λ is. cc) ∙ inv.read_faults;
+      send_faults = made.quiet_sends (λ is. cc) ∙ taken.send_faults ∙ inv.send_faults;
       disk = stays_then (view c.args.streams.now) (view c.take_piece.new.streams) (view c.draw_piece.new.streams)
           (stays_then (view c.args.streams.now) (view c.pieces.streams) (view c.take_piece.new.streams) inv.disk
           (stays_taken (view c.pieces.streams) (view c.take_piece.new.streams) (g.met.S.World.take_keeps c.pieces.streams c.take_piece.new.streams taken.beside) (g.met.S.World.take_passes c.pieces.streams c.take_piece.new.streams taken.beside))) made.disk;

@@ -2,6 +2,9 @@ use Rattle.std.proofs.Common.{rules, arith, [], refl}
 use Rattle.live_command.specs.Doing.{held_by, held_with}
 use Rattle.live_command.specs.Shown.{pages}
 use Rattle.live_command.proofs.LineLemmas.{still_does, then_does}
+use Rattle.chart_world.specs.FaultLaws.{counts_then}
+use Rattle.chart_service.specs.Faulting.{serve_fault}
+use Rattle.chart_world.specs.Faults.{fault_in}
 use Rattle.live_command.proofs.answering.+send_pushes.Goals as goal
 
 pub returns-then-is_idle-clause-does : goal.returns-then-is_idle-clause-does
@@ -25,3 +28,8 @@ returns-in-Ok-clause-does g t c = λ total book told stands sound.
     then_does [] total (held_with total book (held_by old)) (held_by mid) (held_by new) (view (pages old)) (view (pages mid)) (view (pages new)) (sent (pages old)) (sent (pages mid)) (sent (pages new)) first.done
     (w.counts_sent (pages old)) (w.counts_sent (pages mid)) first.moments c.send_pushes.result
     (c.send_pushes.ensures.does total first.done.book (c.in-Ok.ensures.goes.is_told told) first.done.stands first.done.sound)
+
+pub returns-in-Ok-clause-faults : goal.returns-in-Ok-clause-faults
+returns-in-Ok-clause-faults g t c =
+    let view = g.P.Pages.view in
+    counts_then (fault_in serve_fault c.send_pushes.result) (view (pages c.args.live.now)) (view (pages c.send_push.new.live)) (view (pages c.send_pushes.new.live)) c.in-Ok.ensures.faults c.send_pushes.ensures.faults

@@ -15,6 +15,10 @@ use Rattle.gate_pages.proofs.Moving.{sent_same}
 use Rattle.live_command.proofs.EventLemmas.{by_answer, reads_answer, sound_replied}
 use Rattle.live_command.proofs.GoesLemmas.{held_same}
 use Rattle.live_command.proofs.LineLemmas.{frame_does, line_read, made_moments, nothing_with, unmade_does}
+use Rattle.chart_world.specs.FaultLaws.{counts_then}
+use Rattle.chart_service.specs.Faulting.{serve_fault}
+use Rattle.chart_world.specs.Faults.{fault_in}
+use Rattle.live_command.proofs.FaultLemmas.{unmade_counts}
 use Rattle.live_command.proofs.answering.answer_frame.Goals as goal
 
 pub returns-in-Ok-clause-does : goal.returns-in-Ok-clause-does
@@ -98,3 +102,13 @@ returns-in-Err-clause-syncs g c =
     let text = c.args.line.now in
     let L : Option (List ℕ) → Type 0 = λ l. edit_of l ≡ [] → (view mid).syncs ≡ (view at).syncs in
     edit_syncs (edit_of (Some text)) (view at).syncs (view mid).syncs e.steps.syncs.high (subst L (text_is text c.requires.short) (λ none. (e.idle none).syncs))
+
+pub returns-in-Ok-clause-faults : goal.returns-in-Ok-clause-faults
+returns-in-Ok-clause-faults g c =
+    let view = g.P.Pages.view in
+    counts_then (fault_in serve_fault c.send_frame.result) (view (pages c.args.live.now)) (view (pages c.step_line.new.live)) (view (pages c.send_frame.new.live)) c.in-Ok.ensures.faults c.send_frame.ensures.faults
+
+pub returns-in-Err-clause-faults : goal.returns-in-Err-clause-faults
+returns-in-Err-clause-faults g c =
+    let view = g.P.Pages.view in
+    unmade_counts c.in-Err.error c.end_of_step.result (view (pages c.args.live.now)) (view (pages c.step_line.new.live)) c.end_of_step.ensures c.in-Err.ensures.faults

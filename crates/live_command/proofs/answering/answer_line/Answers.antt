@@ -6,6 +6,9 @@ use Rattle.live_command.proofs.SyncLemmas.{none_syncs, text_syncs}
 use Rattle.live_command.specs.Doing.{held_by, held_with}
 use Rattle.live_command.specs.Shown.{pages}
 use Rattle.live_command.proofs.LineLemmas.{line_empty, line_some, then_does}
+use Rattle.chart_world.specs.FaultLaws.{counts_then}
+use Rattle.chart_service.specs.Faulting.{serve_fault}
+use Rattle.chart_world.specs.Faults.{fault_in}
 use Rattle.live_command.proofs.answering.answer_line.Goals as goal
 
 pub returns-then-is_empty-clause-does : goal.returns-then-is_empty-clause-does
@@ -57,3 +60,8 @@ returns-in-Err-clause-syncs g c =
     let view = g.P.Pages.view in
     let some : 0 < length c.args.line.now = grind (arith, common_steps) in
     text_syncs c.args.line.now (view (pages c.args.live.now)).syncs (view (pages c.answer_frame.new.live)).syncs some c.in-Err.ensures.syncs
+
+pub returns-in-Ok-clause-faults : goal.returns-in-Ok-clause-faults
+returns-in-Ok-clause-faults g c =
+    let view = g.P.Pages.view in
+    counts_then (fault_in serve_fault c.send_pushes.result) (view (pages c.args.live.now)) (view (pages c.answer_frame.new.live)) (view (pages c.send_pushes.new.live)) c.in-Ok.ensures.faults c.send_pushes.ensures.faults

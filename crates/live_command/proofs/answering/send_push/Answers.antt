@@ -11,6 +11,10 @@ use Rattle.gate_pages.proofs.Moving.{sent_same}
 use Rattle.live_command.proofs.EventLemmas.{by_push, reads_push, sound_pushed}
 use Rattle.live_command.proofs.GoesLemmas.{held_same}
 use Rattle.live_command.proofs.LineLemmas.{frame_does, nothing_pushed, of_frame, push_moments, push_read, unmade_does}
+use Rattle.chart_world.specs.FaultLaws.{counts_then}
+use Rattle.chart_service.specs.Faulting.{serve_fault}
+use Rattle.chart_world.specs.Faults.{fault_in}
+use Rattle.live_command.proofs.FaultLemmas.{unmade_counts}
 use Rattle.live_command.proofs.answering.send_push.Goals as goal
 
 pub returns-in-Ok-Some-clause-does : goal.returns-in-Ok-Some-clause-does
@@ -65,3 +69,13 @@ returns-in-Ok-Some-clause-syncs g c =
 
 pub returns-in-Err-clause-syncs : goal.returns-in-Err-clause-syncs
 returns-in-Err-clause-syncs g c = c.in-Err.ensures.unchanged.syncs
+
+pub returns-in-Ok-Some-clause-faults : goal.returns-in-Ok-Some-clause-faults
+returns-in-Ok-Some-clause-faults g c =
+    let view = g.P.Pages.view in
+    counts_then (fault_in serve_fault c.send_frame.result) (view (pages c.args.live.now)) (view (pages c.push.new.live)) (view (pages c.send_frame.new.live)) c.in-Ok-Some.ensures.faults c.send_frame.ensures.faults
+
+pub returns-in-Err-clause-faults : goal.returns-in-Err-clause-faults
+returns-in-Err-clause-faults g c =
+    let view = g.P.Pages.view in
+    unmade_counts c.in-Err.error c.end_of_step.result (view (pages c.args.live.now)) (view (pages c.push.new.live)) c.end_of_step.ensures c.in-Err.ensures.faults

@@ -5,6 +5,13 @@ use Rattle.store_commands.proofs.TurnedAway.{away_never}
 use Rattle.store_commands.proofs.WorldLemmas.{away_over, unopened_over}
 use Rattle.live_command.proofs.DiskLemmas.{reads_on, reads_unopened, served_on, syncs_on, syncs_unopened}
 use Rattle.live_command.proofs.StatusLemmas.{ends_by, unopened_ends}
+use Rattle.chart_service.specs.Faulting.{serve_fault}
+use Rattle.chart_world.specs.FaultLaws.{counts_no_disk, counts_then}
+use Rattle.chart_world.specs.Faults.{fault_in}
+use Rattle.store_commands.specs.Faulting.{counts_as, counts_told, counts_unopened}
+use Rattle.store_commands.specs.Status.{code_fault, opening_status}
+use Rattle.live_command.specs.Ending.{answer_status}
+use Rattle.live_command.proofs.FaultLemmas.{serve_fault_is}
 use Rattle.live_command.proofs.command.live.Goals as goal
 
 pub returns-in-Ok-clause-ends : goal.returns-in-Ok-clause-ends
@@ -71,3 +78,22 @@ pub returns-in-Err-clause-syncs : goal.returns-in-Err-clause-syncs
 returns-in-Err-clause-syncs g c =
     let view = g.W.Disk.view in
     syncs_unopened (view c.args.world) (view c.in-Err.field-0.value) (g.W.Streams.left c.args.world) c.in-Err.ensures.opens
+
+pub returns-in-Ok-clause-faults : goal.returns-in-Ok-clause-faults
+returns-in-Ok-clause-faults g c =
+    let view = g.W.Disk.view in
+    let old = view c.args.world in
+    let start = view (stored.pages c.in-Ok.store).disk in
+    let new = view c.serve_store-answer.result.1 in
+    let answer = c.serve_store-answer.result.0 in
+    let fault = fault_in serve_fault answer in
+    let e = c.in-Ok.ensures in
+    let answered = counts_then fault old start new (counts_no_disk old start e.opens.beside_is e.quiet) c.serve_store-answer.ensures.faults in
+    counts_as c.answer_status.result (answer_status answer) old new c.answer_status.ensures (counts_told fault (code_fault (answer_status answer).code) old new (serve_fault_is answer) answered)
+
+pub returns-in-Err-clause-faults : goal.returns-in-Err-clause-faults
+returns-in-Err-clause-faults g c =
+    let view = g.W.Disk.view in
+    let back = c.in-Err.field-0 in
+    let e = c.in-Err.ensures in
+    counts_as c.opening_status.result (opening_status back.cause) (view c.args.world) (view back.value) c.opening_status.ensures (counts_unopened back.cause (view c.args.world) (view back.value) e.opens.beside_is e.cause e.quiet_err)

@@ -14,6 +14,8 @@ use Rattle.live_command.specs.Ended.{ReadsFrom, begun_live}
 use Rattle.live_command.specs.Ending.{Served}
 use Rattle.live_command.proofs.DiskLemmas.{begins_so, reads_from, served_from}
 use Rattle.live_command.proofs.LiveShown.{begun_service, ended_store}
+use Rattle.chart_service.specs.Faulting.{serve_fault}
+use Rattle.chart_world.specs.Faults.{CountsFault, fault_in}
 use Rattle.live_command.proofs.command.serve_service.Goals as goal
 
 pub returns-clause-serves : goal.returns-clause-serves
@@ -94,3 +96,18 @@ returns-clause-syncs g c =
     let D : g.row.W.Denot → Type 0 = λ d. IfSome (left disk) (λ input. SyncsLines input (view disk).syncs (view d).syncs) in
     let S : Service _ _ → Type 0 = λ s. IfSome (left (shown.pages s).disk) (λ input. SyncsLines input (view (shown.pages s).disk).syncs (view c.disk_of.result).syncs) in
     subst S is_service (subst D (sym same_disk) made.syncs)
+
+pub returns-clause-faults : goal.returns-clause-faults
+returns-clause-faults g c =
+    let view = g.W.Disk.view in
+    let service = c.args.service in
+    let start = c.new-live.result in
+    let after = c.serve_live-answer.new.live in
+    let fault = fault_in serve_fault c.serve_live-answer.result in
+    let store = c.into_store.result in
+    let is_service = begun_service start c.new.result service c.new-live.ensures.stepper c.new.ensures in
+    let is_store = ended_store after c.into_stepper.result c.into_service-service.result store c.into_stepper.ensures c.into_service-service.ensures c.into_store.ensures in
+    let same_disk = c.disk_of.ensures.disk ∙ store_disk store (its.service after).store is_store in
+    let D : g.row.W.Denot → Type 0 = λ d. CountsFault fault (view (shown.pages (its.service start)).disk) (view d) in
+    let S : Service _ _ → Type 0 = λ s. CountsFault fault (view (shown.pages s).disk) (view c.disk_of.result) in
+    subst S is_service (subst D (sym same_disk) c.serve_live-answer.ensures.faults)

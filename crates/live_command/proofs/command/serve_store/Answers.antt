@@ -1,4 +1,4 @@
-use Rattle.std.proofs.Common.{ℕ, Err, sym, subst, ◌∙◌}
+use Rattle.std.proofs.Common.{ℕ, None, Err, refl, sym, subst, ◌∙◌}
 use Rattle.std.specs.Prelude.{IfSome, IsTrue}
 use Rattle.chart_service.specs.declared.failure.ServeEnd.TheVariants.{NoMemory}
 use Rattle.series_store.specs.Shown as stored
@@ -8,6 +8,8 @@ use Rattle.live_command.specs.Syncs.{SyncsLines}
 use Rattle.live_command.proofs.SyncLemmas.{syncs_nothing}
 use Rattle.live_command.specs.Ending.{Served}
 use Rattle.live_command.proofs.DiskLemmas.{reads_untaken, served_none}
+use Rattle.chart_service.specs.Faulting.{serve_fault}
+use Rattle.chart_world.specs.Faults.{CountsFault, fault_in}
 use Rattle.live_command.proofs.command.serve_store.Goals as goal
 
 pub serve_service-requires-clause-sound : goal.serve_service-requires-clause-sound
@@ -82,3 +84,16 @@ returns-in-Err-clause-syncs g c =
     let disk = (stored.pages store).disk in
     let D : g.row.W.Denot → Type 0 = λ d. IfSome (left disk) (λ input. SyncsLines input (view disk).syncs (view d).syncs) in
     subst D (sym (c.disk_of.ensures.disk ∙ store_disk c.in-Err.field-0.value store c.in-Err.ensures.back)) (syncs_nothing (left disk) (view disk).syncs)
+
+pub returns-in-Ok-clause-faults : goal.returns-in-Ok-clause-faults
+returns-in-Ok-clause-faults g c =
+    let view = g.W.Disk.view in
+    let D : g.row.W.Denot → Type 0 = λ d. CountsFault (fault_in serve_fault c.serve_service.result.0) (view d) (view c.serve_service.result.1) in
+    subst D (store_disk c.in-Ok.service.store c.args.store c.in-Ok.ensures.store) c.serve_service.ensures.faults
+
+pub returns-in-Err-clause-faults : goal.returns-in-Err-clause-faults
+returns-in-Err-clause-faults g c =
+    let view = g.W.Disk.view in
+    let store = c.args.store in
+    let D : g.row.W.Denot → Type 0 = λ d. CountsFault None (view (stored.pages store).disk) (view d) in
+    subst D (sym (c.disk_of.ensures.disk ∙ store_disk c.in-Err.field-0.value store c.in-Err.ensures.back)) refl

@@ -6,12 +6,17 @@ use Rattle.chart_world.specs.Reading.{Reading, input_length, unread}
 use Rattle.live_service.specs.Shown as its
 use Rattle.live_command.proofs.GoesLemmas.{cause_later, goes_further, goes_nowhere, goes_streams, held_same}
 use Rattle.live_command.proofs.ReadLemmas.{FarRead, far_read_first, far_read_kept, far_read_line, reads_far, reads_stopped}
-use Rattle.chart_service.specs.Serving.{unless_empty}
+use Rattle.chart_service.specs.Serving.{end_of, unless_empty}
 use Rattle.chart_service.specs.Syncing.{edits_of}
 use Rattle.live_command.proofs.SyncLemmas.{FarSynced, far_synced_first, far_synced_kept, far_synced_line, none_syncs, syncs_far}
 use Rattle.live_command.proofs.RunLemmas.{Far, all_on, far_first, far_kept, far_line, fault_on, lasts_on_first, lasts_on_line, lasts_on_take, line_stops}
 use Rattle.live_command.specs.Doing.{held_by, side_of}
 use Rattle.live_command.specs.Shown.{StopSo, pages}
+use Rattle.chart_service.specs.Faulting.{serve_fault}
+use Rattle.chart_world.specs.FaultLaws.{counts_then}
+use Rattle.chart_service.proofs.Faulting.{counts_lines}
+use Rattle.store_commands.specs.Faulting.{counts_kept, counts_told}
+use Rattle.live_command.proofs.FaultLemmas.{same_fault}
 use Rattle.live_command.proofs.serving.answer_lines.Goals as goal
 
 pub lines-init : goal.lines-init
@@ -32,6 +37,7 @@ lines-init g c =
       sound = c.requires.sound;
       idle = c.requires.idle;
       goes = goes_nowhere (side_of g.P.Streams old);
+      faults = refl;
       far = λ total book told stands. far_first o c.args.lines.now total book (view at).image (held_by old) before fresh stands (c.requires.book total book told stands);
       synced = far_synced_first o c.args.lines.now (view at).syncs fresh;
       read = λ total book told stands. far_read_first o c.args.lines.now total book (view at).image (held_by old) (view at).reads fresh stands (c.requires.book total book told stands);
@@ -141,6 +147,8 @@ lines-preserved-in-Ok-refuse_line g c =
       sound = it.sound (λ no. cc);
       idle = it.idle;
       goes = goes_further (side start) (side c.next.new.from) (side c.refuse_line.new.live) goes it.goes;
+      faults = counts_then None (view first) (view taken) (view new)
+          (counts_then None (view first) (view mid) (view taken) inv.faults (counts_kept view g.P.Streams.read_faults g.P.Streams.send_faults w.beside_read_faults w.beside_send_faults mid taken kept (e.quiet (λ is. cc)) c.next.ensures.send_faults)) it.faults;
       far = λ total book told stands.
           let state = its.state start total book in
           let far = far_kept (left first) (unread c.lines.lines (left mid)) c.lines.lines.given total state (view mid).image (view taken).image (held_by c.lines.live) (held_by c.next.new.from) (sent first) (sent mid) (sent taken) kept.image same c.next.ensures.sent (inv.far total book told stands) in
@@ -298,6 +306,8 @@ lines-preserved g c =
       sound = it.sound (λ no. cc);
       idle = it.idle;
       goes = goes_further (side start) (side c.next.new.from) (side c.answer_line.new.live) goes it.goes;
+      faults = counts_then None (view first) (view taken) (view new)
+          (counts_then None (view first) (view mid) (view taken) inv.faults (counts_kept view g.P.Streams.read_faults g.P.Streams.send_faults w.beside_read_faults w.beside_send_faults mid taken kept (e.quiet (λ is. cc)) c.next.ensures.send_faults)) it.faults;
       far = λ total book told stands.
           let state = its.state start total book in
           let far = far_kept (left first) (unread c.lines.lines (left mid)) c.lines.lines.given total state (view mid).image (view taken).image (held_by c.lines.live) (held_by c.next.new.from) (sent first) (sent mid) (sent taken) kept.image same c.next.ensures.sent (inv.far total book told stands) in
@@ -568,3 +578,57 @@ returns-in-Err-answer_line-clause-syncs g c =
     gives_by c.lines.lines c.next.new.self (left mid) (left taken) (Some text) (same_line _ _ text c.next.new.self.line c.line.ensures.line (e.line (ap Ok c.in-Line.is))) e.rest inv.counted e.given e.total in
     syncs_far (left first) (unread c.next.new.self (left taken)) c.next.new.self.given (view first).syncs (view new).syncs
     (far_synced_line (left first) c.lines.lines c.next.new.self (left mid) (left taken) line gives (view first).syncs (view taken).syncs (view new).syncs (c.in-Err-answer_line.ensures.syncs) (far_synced_kept (left first) (unread c.lines.lines (left mid)) c.lines.lines.given (view first).syncs (view mid).syncs (view taken).syncs kept.syncs inv.synced))
+
+pub returns-in-Err-clause-faults : goal.returns-in-Err-clause-faults
+returns-in-Err-clause-faults g c =
+    let view = g.P.Pages.view in
+    let first = pages c.args.live.now in
+    let mid = pages c.lines.live in
+    let taken = pages c.next.new.from in
+    let w = g.met.P.PageWorld in
+    let inv = c.lines.invariant in
+    let kept = w.take_keeps mid taken c.next.ensures.beside.changed.store_is.pages_are in
+    let fault = c.in-Err.fault in
+    let no = c.in-Err.ensures in
+    let unread = counts_lines fault view g.P.Streams.read_faults g.P.Streams.send_faults w.beside_read_faults w.beside_send_faults mid taken kept
+    (λ is. no.read_fault (ap Err is)) (λ other. no.quiet (λ is. other (same_fault fault _ is))) c.next.ensures.send_faults in
+    counts_then (serve_fault c.end_of.result) (view first) (view mid) (view taken) inv.faults
+    (counts_told (serve_fault (end_of fault)) (serve_fault c.end_of.result) (view mid) (view taken) (ap serve_fault c.end_of.ensures) unread)
+
+pub returns-in-End-clause-faults : goal.returns-in-End-clause-faults
+returns-in-End-clause-faults g c =
+    let view = g.P.Pages.view in
+    let first = pages c.args.live.now in
+    let mid = pages c.lines.live in
+    let taken = pages c.next.new.from in
+    let w = g.met.P.PageWorld in
+    let inv = c.lines.invariant in
+    let kept = w.take_keeps mid taken c.next.ensures.beside.changed.store_is.pages_are in
+    let next = counts_kept view g.P.Streams.read_faults g.P.Streams.send_faults w.beside_read_faults w.beside_send_faults mid taken kept (c.in-Ok.ensures.quiet (λ is. cc)) c.next.ensures.send_faults in
+    counts_then None (view first) (view mid) (view taken) inv.faults next
+
+pub returns-in-Err-refuse_line-clause-faults : goal.returns-in-Err-refuse_line-clause-faults
+returns-in-Err-refuse_line-clause-faults g c =
+    let view = g.P.Pages.view in
+    let first = pages c.args.live.now in
+    let mid = pages c.lines.live in
+    let taken = pages c.next.new.from in
+    let w = g.met.P.PageWorld in
+    let inv = c.lines.invariant in
+    let kept = w.take_keeps mid taken c.next.ensures.beside.changed.store_is.pages_are in
+    let new = pages c.refuse_line.new.live in
+    let next = counts_kept view g.P.Streams.read_faults g.P.Streams.send_faults w.beside_read_faults w.beside_send_faults mid taken kept (c.in-Ok.ensures.quiet (λ is. cc)) c.next.ensures.send_faults in
+    counts_then (serve_fault c.in-Err-refuse_line.end) (view first) (view taken) (view new) (counts_then None (view first) (view mid) (view taken) inv.faults next) c.in-Err-refuse_line.ensures.faults
+
+pub returns-in-Err-answer_line-clause-faults : goal.returns-in-Err-answer_line-clause-faults
+returns-in-Err-answer_line-clause-faults g c =
+    let view = g.P.Pages.view in
+    let first = pages c.args.live.now in
+    let mid = pages c.lines.live in
+    let taken = pages c.next.new.from in
+    let w = g.met.P.PageWorld in
+    let inv = c.lines.invariant in
+    let kept = w.take_keeps mid taken c.next.ensures.beside.changed.store_is.pages_are in
+    let new = pages c.answer_line.new.live in
+    let next = counts_kept view g.P.Streams.read_faults g.P.Streams.send_faults w.beside_read_faults w.beside_send_faults mid taken kept (c.in-Ok.ensures.quiet (λ is. cc)) c.next.ensures.send_faults in
+    counts_then (serve_fault c.in-Err-answer_line.end) (view first) (view taken) (view new) (counts_then None (view first) (view mid) (view taken) inv.faults next) c.in-Err-answer_line.ensures.faults

@@ -1,4 +1,5 @@
-use Rattle.std.proofs.Common.{◌≡◌, ◌+◌, ◌-◌, ◌^◌, ◌≤◌, length, IsTrue}
+use Rattle.std.proofs.Common.{◌≡◌, ◌+◌, ◌-◌, ◌^◌, ◌≤◌, length, IsTrue, None}
+use Rattle.chart_world.specs.Faults.{CountsFault}
 use Rattle.chart_world.specs.Fronts.{StandsIn}
 use Rattle.chart_world.specs.Reading.{unread, input_length}
 use Rattle.live_service.specs.Shown as its
@@ -26,6 +27,7 @@ invariant-lines g l =
       sound : (its.view live).fit;
       idle : follows.IsIdle live;
       goes : Goes (side_of g.P.Streams first) (side_of g.P.Streams live);
+      faults : CountsFault None (its.view first) (its.view live);
       far : its.ForBook first (λ total book. Far (left (pages first)) (unread l.lines (left (pages live))) l.lines.given total (its.state first total book) (its.view live).image (held_by live) (sent (pages first)) (sent (pages live)));
       read : its.ForBook first (λ total book. FarRead (left (pages first)) (unread l.lines (left (pages live))) l.lines.given total (its.state first total book) (its.view live).image (held_by live) (its.view first).reads (its.view live).reads);
       synced : FarSynced (left (pages first)) (unread l.lines (left (pages live))) l.lines.given (its.view first).syncs (its.view live).syncs;

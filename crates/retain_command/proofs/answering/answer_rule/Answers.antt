@@ -2,6 +2,10 @@ use Rattle.std.proofs.Common.{◌∙◌, length, ap, sym}
 use Rattle.block_disk.specs.View.{Beside}
 use Rattle.series_store.specs.Shown as shown
 use Rattle.retain_command.specs.Answers.{swept_text}
+use Rattle.chart_world.specs.Faults.{fault_in}
+use Rattle.chart_world.specs.FaultLaws.{counts_then}
+use Rattle.retain_command.specs.Faults.{retain_fault}
+use Rattle.retain_command.proofs.Counting.{sweep_counts}
 use Rattle.retain_command.proofs.DoingLemmas.{rule_answered, rule_stopped, swept_there}
 use Rattle.retain_command.proofs.answering.answer_rule.Goals as goal
 
@@ -31,3 +35,10 @@ returns-in-Err-clause-does g c = λ total book told stands.
     let e = c.in-Err.ensures in
     rule_stopped total book c.args.rule.now c.args.at (view pages) (view mid) (sent pages) (sent mid) c.in-Err.error c.end_at.result c.end_at.ensures (e.unknown total book told stands) (λ is. ap (λ s. shown.view s) (e.untouched is)) stands
     (sym (w.beside_sent mid) ∙ ap (λ (b : Beside). b.sent) e.carries.beside ∙ w.beside_sent pages) (e.stops total book told stands) (e.moments total book told stands)
+
+pub returns-in-Ok-clause-faults : goal.returns-in-Ok-clause-faults
+returns-in-Ok-clause-faults g c =
+    counts_then (fault_in retain_fault c.send_swept.result) (shown.view c.args.store.now) (shown.view c.sweep.new.store) (shown.view c.send_swept.new.store) c.in-Ok.ensures.faults c.send_swept.ensures.faults
+
+pub returns-in-Err-clause-faults : goal.returns-in-Err-clause-faults
+returns-in-Err-clause-faults g c = sweep_counts c.args.at c.in-Err.error c.end_at.result (shown.view c.args.store.now) (shown.view c.sweep.new.store) c.end_at.ensures c.in-Err.ensures.faults

@@ -2,13 +2,15 @@ use Rattle.std.proofs.Common.{◌≢◌, Err, sym, subst, arith}
 use Rattle.gate_pages.specs.GatePages.{IsClosed}
 use Rattle.series_store.specs.Shown as shown
 use Rattle.store_commands.proofs.Held.{rests_new}
+use Rattle.chart_world.specs.Faults.{CountsFault, fault_in}
+use Rattle.retain_command.specs.Faults.{retain_fault}
 use Rattle.retain_command.proofs.DiskLemmas.{swept_by}
 use Rattle.retain_command.specs.Retaining.{Swept}
 use Rattle.retain_command.specs.declared.retain_end.RetainEnd.TheVariants.{DiskFault}
 use Rattle.retain_command.proofs.command.sweep_store.Goals as goal
 
-pub returns : goal.returns
-returns g c =
+pub returns-clause-swept : goal.returns-clause-swept
+returns-clause-swept g c =
     let view = g.W.Disk.view in
     let left = g.W.Streams.left in
     let sent = g.W.Streams.sent in
@@ -30,3 +32,10 @@ returns g c =
     answer (left disk) (left new) (sent disk) (sent new) made.done made.within made.stops made.crash made.cause closed made.goes.faults in
     let D : g.row.W.Denot → Type 0 = λ d. Swept pages.count (view disk) (view d) (left disk) (left d) (sent disk) (sent d) (reads disk) (reads d) (sends disk) (sends d) answer in
     subst D (sym c.disk_of.ensures.disk) all
+
+pub returns-clause-faults : goal.returns-clause-faults
+returns-clause-faults g c =
+    let view = g.W.Disk.view in
+    let answer = c.sweep_lines-answer.result in
+    let D : g.row.W.Denot → Type 0 = λ d. CountsFault (fault_in retain_fault answer) (view (shown.pages c.args.store).disk) (view d) in
+    subst D (sym c.disk_of.ensures.disk) c.sweep_lines-answer.ensures.faults

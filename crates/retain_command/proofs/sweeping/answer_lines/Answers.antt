@@ -3,12 +3,16 @@ use Rattle.chart_world.specs.FrontLaws.{gives_by, read_whole, same_line}
 use Rattle.chart_world.specs.Fronts.{Gives}
 use Rattle.chart_world.specs.StandsLaws.{stands_beside, stands_first}
 use Rattle.chart_world.specs.Reading.{Reading, input_length}
+use Rattle.chart_world.specs.declared.line_answer.LineFault.TheVariants as fault
 use Rattle.page_space.specs.declared.superblock.Superblock.{Superblock}
 use Rattle.series_store.specs.Shown as shown
+use Rattle.chart_world.specs.FaultLaws.{counts_then}
+use Rattle.store_commands.specs.Faulting.{counts_kept, counts_untaken}
+use Rattle.retain_command.specs.Faults.{retain_fault}
+use Rattle.retain_command.proofs.Counting.{take_counts}
 use Rattle.retain_command.proofs.DoingLemmas.{cause_later, goes_further, goes_nowhere, goes_streams}
 use Rattle.retain_command.proofs.MomentLemmas.{all_on, far_first, far_kept, far_line, fault_on, lasts_on_first, lasts_on_line, lasts_on_take, line_stops, long_on}
 use Rattle.store_commands.specs.Sides.{side_of}
-use Rattle.retain_command.specs.Doing.{end_of}
 use Rattle.retain_command.proofs.sweeping.answer_lines.Goals as goal
 
 pub lines-init : goal.lines-init
@@ -27,6 +31,7 @@ lines-init g c =
       stands_in = stands_first o c.args.lines.now fresh;
       sound = c.requires.sound;
       goes = goes_nowhere (side_of g.P.Streams c.args.store.now);
+      quiet = refl;
       far = λ total book told stands. far_first total book o c.args.lines.now (view pages).image before fresh stands;
       lasts = λ total book told stands. lasts_on_first total book o before (view pages) (g.met.P.Pages.rests pages c.requires.sound) stands;
     }
@@ -142,6 +147,7 @@ lines-preserved g c =
     let text = c.line.result.now in
     let gives : Gives c.lines.lines c.next.new.self (left mid) (left taken) (Some text) =
     gives_by c.lines.lines c.next.new.self (left mid) (left taken) (Some text) (same_line _ _ text c.next.new.self.line c.line.ensures.line (e.line is)) e.rest inv.counted e.given e.total in
+    let quiet = counts_then None (view first) (view mid) (view taken) inv.quiet (counts_kept view g.P.Streams.read_faults g.P.Streams.send_faults w.beside_read_faults w.beside_send_faults mid taken kept (e.quiet (λ no. cc)) c.next.ensures.send_faults) in
     let I : Option ℕ → Type 0 = λ n. n ≡ input_length 0 (left first) in
     let U : Option (List ℕ) → Type 0 = λ l. input_length c.next.new.self.taken l ≡ input_length 0 (left first) in
     record {
@@ -152,6 +158,7 @@ lines-preserved g c =
       stands_in = stands_beside (left first) (left taken) (left new) c.next.new.self does.left (e.stands (left first) inv.stands_in);
       sound = does.sound (λ no. cc);
       goes = goes_further (side c.args.store.now) (side c.next.new.from) (side c.answer_line.new.store) goes does.goes;
+      quiet = counts_then None (view first) (view taken) (view new) quiet does.faults;
       far = λ total book told stands.
           let far = far_kept total book (left first) _ c.lines.lines.given (view mid).image (view taken).image (sent first) (sent mid) (sent taken) kept.image c.next.ensures.sent (inv.far total book told stands) in
           let F : Option (List ℕ) → Type 0 = λ l. Rattle.retain_command.proofs.MomentLemmas.Far total book (left first) (Rattle.chart_world.specs.Reading.unread c.next.new.self l) c.next.new.self.given (view new).image (sent first) (sent new) in
@@ -228,3 +235,49 @@ returns-in-Err-answer_line-clause-cause g c =
     let takes = beside.pages_are in
     let goes = goes_further (side c.args.store.now) (side c.lines.store) (side c.next.new.from) c.lines.invariant.goes (goes_streams (side c.lines.store) (side c.next.new.from) (w.take_keeps mid taken takes) (w.take_told mid taken takes) (w.take_was_told mid taken takes) (w.take_goes_on mid taken takes) (ap (λ (s : Superblock). s.total) beside.superblock) c.next.ensures.read_faults (omega (arith, c.next.ensures.send_faults))) in
     cause_later (side c.args.store.now) (side c.next.new.from) (side c.answer_line.new.store) c.in-Err-answer_line.end goes c.in-Err-answer_line.ensures.cause
+
+pub returns-in-Err-clause-faults : goal.returns-in-Err-clause-faults
+returns-in-Err-clause-faults g c =
+    let view = g.P.Pages.view in
+    let w = g.met.P.PageWorld in
+    let first = shown.pages c.args.store.now in
+    let mid = shown.pages c.lines.store in
+    let taken = shown.pages c.next.new.from in
+    let kept = w.take_keeps mid taken c.next.ensures.beside.pages_are in
+    let f = c.in-Err.fault in
+    let no = c.in-Err.ensures in
+    let sends = c.next.ensures.send_faults in
+    counts_then (retain_fault c.end_of.result) (view first) (view mid) (view taken) c.lines.invariant.quiet
+    (take_counts f c.end_of.result (view mid) (view taken) c.end_of.ensures (λ is. counts_untaken view g.P.Streams.read_faults g.P.Streams.send_faults w.beside_read_faults w.beside_send_faults mid taken kept (no.read_fault (ap Err is)) sends)
+    (λ other. counts_kept view g.P.Streams.read_faults g.P.Streams.send_faults w.beside_read_faults w.beside_send_faults mid taken kept (no.quiet (λ same. let here : f ≡ fault.ReadFault = cc in other here)) sends))
+
+pub returns-in-End-clause-faults : goal.returns-in-End-clause-faults
+returns-in-End-clause-faults g c =
+    let view = g.P.Pages.view in
+    let w = g.met.P.PageWorld in
+    let first = shown.pages c.args.store.now in
+    let mid = shown.pages c.lines.store in
+    let taken = shown.pages c.next.new.from in
+    let kept = w.take_keeps mid taken c.next.ensures.beside.pages_are in
+    counts_then None (view first) (view mid) (view taken) c.lines.invariant.quiet (counts_kept view g.P.Streams.read_faults g.P.Streams.send_faults w.beside_read_faults w.beside_send_faults mid taken kept (c.in-Ok.ensures.quiet (λ no. cc)) c.next.ensures.send_faults)
+
+pub returns-in-TooLong-clause-faults : goal.returns-in-TooLong-clause-faults
+returns-in-TooLong-clause-faults g c =
+    let view = g.P.Pages.view in
+    let w = g.met.P.PageWorld in
+    let first = shown.pages c.args.store.now in
+    let mid = shown.pages c.lines.store in
+    let taken = shown.pages c.next.new.from in
+    let kept = w.take_keeps mid taken c.next.ensures.beside.pages_are in
+    counts_then None (view first) (view mid) (view taken) c.lines.invariant.quiet (counts_kept view g.P.Streams.read_faults g.P.Streams.send_faults w.beside_read_faults w.beside_send_faults mid taken kept (c.in-Ok.ensures.quiet (λ no. cc)) c.next.ensures.send_faults)
+
+pub returns-in-Err-answer_line-clause-faults : goal.returns-in-Err-answer_line-clause-faults
+returns-in-Err-answer_line-clause-faults g c =
+    let view = g.P.Pages.view in
+    let w = g.met.P.PageWorld in
+    let first = shown.pages c.args.store.now in
+    let mid = shown.pages c.lines.store in
+    let taken = shown.pages c.next.new.from in
+    let kept = w.take_keeps mid taken c.next.ensures.beside.pages_are in
+    let quiet = counts_then None (view first) (view mid) (view taken) c.lines.invariant.quiet (counts_kept view g.P.Streams.read_faults g.P.Streams.send_faults w.beside_read_faults w.beside_send_faults mid taken kept (c.in-Ok.ensures.quiet (λ no. cc)) c.next.ensures.send_faults) in
+    counts_then (retain_fault c.in-Err-answer_line.end) (view first) (view taken) (shown.view c.answer_line.new.store) quiet c.in-Err-answer_line.ensures.faults

@@ -1,4 +1,5 @@
-use Rattle.std.proofs.Common.{◌≡◌, ℕ, ◌+◌, ◌-◌, ◌^◌, ◌≤◌, List, length, IsTrue}
+use Rattle.std.proofs.Common.{◌≡◌, ℕ, ◌+◌, ◌-◌, ◌^◌, ◌≤◌, List, length, None, IsTrue}
+use Rattle.chart_world.specs.Faults.{CountsFault}
 use Rattle.chart_world.specs.Fronts.{StandsIn}
 use Rattle.chart_world.specs.Reading.{unread, input_length}
 use Rattle.series_book.specs.declared.one_series.Series.{Series}
@@ -24,6 +25,7 @@ invariant-lines g l =
       stands_in : StandsIn (left first) l.lines (left pages);
       sound : shown.IsSound l.store;
       goes : Goes (side_of g.P.Streams l.initial.store) (side_of g.P.Streams l.store);
+      quiet : CountsFault None (shown.view l.initial.store) (shown.view l.store);
       far : (total : ℕ) (book : List Series) → shown.IsTold l.initial.store → StandsForBook (shown.image l.initial.store) total book
           → Far total book (left first) (unread l.lines (left pages)) l.lines.given (shown.image l.store) (sent first) (sent pages);
       lasts : (total : ℕ) (book : List Series) → shown.IsTold l.initial.store → StandsForBook (shown.image l.initial.store) total book

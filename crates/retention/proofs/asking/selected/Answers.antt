@@ -7,6 +7,7 @@ use Rattle.series_catalog.specs.declared.catalog.Catalog.{Catalog}
 use Rattle.series_store.proofs.AskLemmas.{own_store, start_same}
 use Rattle.series_store.specs.Shown as shown
 use Rattle.stored_book.specs.Standing.{StandsForBook}
+use Rattle.chart_world.specs.Faults.{faults_of}
 use Rattle.retention.proofs.LookLemmas.{bad_in, there, whole_in}
 use Rattle.retention.proofs.asking.selected.Goals as goal
 
@@ -43,3 +44,6 @@ returns-clause-whole g c = λ total book series told stands at page is.
     let at' : slice_get (shown.catalog new) c.args.id ≡ Some one.0 = ap (λ (k : Catalog). slice_get (series_in k) c.args.id) c.select.ensures.catalog ∙ one.1 in
     let own = own_store (shown.view new).size total (shown.image new) book (shown.numbers new) new.space.rules new.small (new.space.spelled sound told') stands' in
     whole_in (shown.image new) (shown.numbers new) book (shown.catalog new) c.args.id one.0 series new.tree page own.0 (new.told sound told') at' at (c.select.ensures.slots one.0 one.1) (is.1 told')
+
+pub returns-clause-faults : goal.returns-clause-faults
+returns-clause-faults g c = ap (λ (x : Space _ _). faults_of (spaces.view x)) c.select.ensures.space

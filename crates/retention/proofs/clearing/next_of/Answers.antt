@@ -1,4 +1,8 @@
 use Rattle.series_store.specs.Shown as shown
+use Rattle.std.proofs.Common.{None}
+use Rattle.chart_world.specs.FaultLaws.{counts_then}
+use Rattle.retention.specs.Faults.{sweep_fault}
+use Rattle.retention.proofs.Counting.{no_memory_on}
 use Rattle.retention.proofs.LookLemmas.{ask_outside}
 use Rattle.retention.proofs.NextLemmas.{clear_is, none_first, some_first}
 use Rattle.retention.proofs.clearing.next_of.Goals as goal
@@ -20,3 +24,17 @@ returns-clause-first g c = λ total book series told stands at.
     (some_first series.slots c.old_slots-old.result _ c.in-Ok.found (c.in-Some.slot, c.in-Some.field-0-1) same c.in-Some.is
     (c.in-Ok.ensures.first series.slots (c.selected-axis.ensures.agrees total book series told stands at)))
     (c.in_ok-clear.ensures.clear series axis)
+
+pub returns-in-Err-clause-faults : goal.returns-in-Err-clause-faults
+returns-in-Err-clause-faults g c = counts_then (sweep_fault c.in-Err.error) (shown.view c.args.store.now) (shown.view c.selected-axis.new.store) (shown.view c.first_stored.new.store) c.selected-axis.ensures.faults c.in-Err.ensures.faults
+
+pub returns-in_default-clause-faults : goal.returns-in_default-clause-faults
+returns-in_default-clause-faults g c = counts_then None (shown.view c.args.store.now) (shown.view c.selected-axis.new.store) (shown.view c.first_stored.new.store) c.selected-axis.ensures.faults c.in-Ok.ensures.faults
+
+pub returns-in_err-clear-clause-faults : goal.returns-in_err-clear-clause-faults
+returns-in_err-clear-clause-faults g c =
+    no_memory_on c.from_residual.result (shown.view c.args.store.now) (shown.view c.first_stored.new.store) c.from_residual.ensures.1
+    (counts_then None (shown.view c.args.store.now) (shown.view c.selected-axis.new.store) (shown.view c.first_stored.new.store) c.selected-axis.ensures.faults c.in-Ok.ensures.faults)
+
+pub returns-clause-faults : goal.returns-clause-faults
+returns-clause-faults g c = counts_then None (shown.view c.args.store.now) (shown.view c.selected-axis.new.store) (shown.view c.first_stored.new.store) c.selected-axis.ensures.faults c.in-Ok.ensures.faults

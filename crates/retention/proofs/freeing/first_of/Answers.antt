@@ -1,5 +1,7 @@
-use Rattle.std.proofs.Common.{refl}
+use Rattle.std.proofs.Common.{None, refl}
 use Rattle.series_store.specs.Shown as shown
+use Rattle.chart_world.specs.FaultLaws.{counts_then}
+use Rattle.retention.specs.Faults.{sweep_fault}
 use Rattle.retention.proofs.LookLemmas.{ask_outside}
 use Rattle.retention.proofs.NextLemmas.{kept_none, kept_some, none_first, some_first}
 use Rattle.retention.proofs.freeing.first_of.Goals as goal
@@ -20,3 +22,12 @@ returns-clause-first g c = λ total book series told stands at.
     kept_some c.args.id series (c.in-Some.slot, c.in-Some.field-0-1) _
     (some_first series.slots c.selected-axis.result.slots _ c.in-Ok.found (c.in-Some.slot, c.in-Some.field-0-1) axis.slots c.in-Some.is
     (c.in-Ok.ensures.first series.slots (c.selected-axis.ensures.agrees total book series told stands at))) refl axis refl
+
+pub returns-in-Err-clause-faults : goal.returns-in-Err-clause-faults
+returns-in-Err-clause-faults g c = counts_then (sweep_fault c.in-Err.error) (shown.view c.args.store.now) (shown.view c.selected-axis.new.store) (shown.view c.first_stored.new.store) c.selected-axis.ensures.faults c.in-Err.ensures.faults
+
+pub returns-in_default-clause-faults : goal.returns-in_default-clause-faults
+returns-in_default-clause-faults g c = counts_then None (shown.view c.args.store.now) (shown.view c.selected-axis.new.store) (shown.view c.first_stored.new.store) c.selected-axis.ensures.faults c.in-Ok.ensures.faults
+
+pub returns-clause-faults : goal.returns-clause-faults
+returns-clause-faults g c = counts_then None (shown.view c.args.store.now) (shown.view c.selected-axis.new.store) (shown.view c.first_stored.new.store) c.selected-axis.ensures.faults c.in-Ok.ensures.faults

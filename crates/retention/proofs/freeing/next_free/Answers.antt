@@ -3,6 +3,8 @@ use Rattle.block_disk.specs.View.{Image}
 use Rattle.series_book.specs.Pages.{pages_of}
 use Rattle.stored_book.specs.Standing.{StandsForBook}
 use Rattle.retention.specs.Sweeps.{oldest}
+use Rattle.series_store.specs.Shown as shown
+use Rattle.retention.proofs.Counting.{no_memory_counts}
 use Rattle.retention.proofs.FreeLemmas.{free_enough, free_none}
 use Rattle.retention.proofs.NextLemmas.{free_result, le_false, le_true, none_kept, some_kept}
 use Rattle.retention.proofs.OldestLemmas.{oldest_is}
@@ -29,3 +31,6 @@ returns-clause-next g c = λ total book told stands.
     let stands' = subst S (sym (c.in-Ok.ensures.looks.image told)) stands in
     free_result total c.args.pages book it.0 c.clear_page.result stands.store.is_book (le_false c.args.pages (total - pages_of book) few) it.1
     (c.clear_page.ensures.clear total book (c.in-Ok.ensures.looks.told told) stands' it.0 (oldest_is book it.0 it.1) it.2)
+
+pub returns-clause-faults : goal.returns-clause-faults
+returns-clause-faults g c = no_memory_counts c.clear_page.result (shown.view c.args.store.now) (shown.view c.oldest.new.store) c.clear_page.ensures.err c.in-Ok.ensures.faults

@@ -1,10 +1,12 @@
-use Rattle.std.proofs.Common.{◌<◌, Some, length, sym, ap, subst, arith}
+use Rattle.std.proofs.Common.{◌<◌, None, Some, length, refl, sym, ap, subst, arith}
 use Rattle.block_disk.specs.View.{Image}
 use Rattle.series_catalog.specs.Shown.{series_in}
 use Rattle.series_catalog.specs.declared.catalog.Catalog.{Catalog}
 use Rattle.series_store.specs.Shown as shown
 use Rattle.stored_book.specs.Standing.{StandsForBook}
 use Rattle.retention.specs.Sweeps.{found_at, oldest_among}
+use Rattle.chart_world.specs.FaultLaws.{counts_then}
+use Rattle.retention.specs.Faults.{sweep_fault}
 use Rattle.retention.proofs.LookLemmas.{looks_none, looks_then, there}
 use Rattle.retention.proofs.NextLemmas.{kept_all, kept_more, kept_zero}
 use Rattle.retention.proofs.freeing.oldest.Goals as goal
@@ -12,7 +14,7 @@ use Rattle.retention.proofs.freeing.oldest.Goals as goal
 pub loop-id-init : goal.loop-id-init
 loop-id-init g c =
     let store = c.args.store.now in
-    record { sound = c.requires.sound; looks = looks_none (shown.IsTold store) (shown.view store) (shown.under store) (shown.numbers store) store.catalog; best = λ total book told stands. kept_zero book }
+    record { sound = c.requires.sound; looks = looks_none (shown.IsTold store) (shown.view store) (shown.under store) (shown.numbers store) store.catalog; quiet = refl; best = λ total book told stands. kept_zero book }
 
 pub first_of-requires-clause-there : goal.first_of-requires-clause-there
 first_of-requires-clause-there g c = omega (arith, c.loop-id-test.true, c.len-count.ensures.count, ap (λ (k : Catalog). length (series_in k)) c.loop-id.invariant.looks.catalog_is)
@@ -23,6 +25,7 @@ loop-id-preserved g c =
     record {
       sound = c.in-Ok.ensures.looks.fit was.sound;
       looks = looks_then _ _ _ _ _ _ _ _ _ _ _ _ _ _ _ was.looks c.in-Ok.ensures.looks;
+      quiet = counts_then None (shown.view c.args.store.now) (shown.view c.loop-id.store) (shown.view c.first_of.new.store) was.quiet c.in-Ok.ensures.faults;
       best = λ total book told stands.
           let S : Image → Type 0 = λ i. StandsForBook i total book in
           let stands' = subst S (sym (was.looks.image told)) stands in
@@ -44,3 +47,6 @@ returns-in-Err-clause-outside g c = λ total book told stands.
 pub returns-clause-oldest : goal.returns-clause-oldest
 returns-clause-oldest g c = λ total book told stands.
     kept_all book c.loop-id.id c.len-count.result c.loop-id.best c.loop-id.auto.id-end c.loop-id-test.false (c.len-count.ensures.books total book c.requires.sound told stands) (c.loop-id.invariant.best total book told stands)
+
+pub returns-in-Err-clause-faults : goal.returns-in-Err-clause-faults
+returns-in-Err-clause-faults g c = counts_then (sweep_fault c.in-Err.error) (shown.view c.args.store.now) (shown.view c.loop-id.store) (shown.view c.first_of.new.store) c.loop-id.invariant.quiet c.in-Err.ensures.faults

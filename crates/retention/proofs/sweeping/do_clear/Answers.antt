@@ -2,6 +2,10 @@ use Rattle.std.proofs.Common.{sym, subst}
 use Rattle.series_store.specs.Shown as shown
 use Rattle.retention.specs.Sweeping.{IsReadCause, IsSoundFor}
 use Rattle.retention.specs.declared.sweep_error.SweepError.{SweepError}
+use Rattle.chart_world.specs.Faults.{CountsFault}
+use Rattle.chart_world.specs.FaultLaws.{counts_no_disk}
+use Rattle.retention.specs.Faults.{sweep_fault}
+use Rattle.retention.proofs.Counting.{clear_counts}
 use Rattle.retention.proofs.SweepLemmas.{clear_cause, clear_does, clear_fails, clear_sound}
 use Rattle.retention.proofs.sweeping.do_clear.Goals as goal
 
@@ -26,3 +30,13 @@ pub returns-in-Err-clause-sound_for : goal.returns-in-Err-clause-sound_for
 returns-in-Err-clause-sound_for g c =
     let P : SweepError → Type 0 = λ e. IsSoundFor e (shown.view c.edit.new.self) in
     subst P (sym c.clear_error.ensures) (clear_sound c.in-Err.cause (shown.IsTold c.args.store.now) (shown.view c.args.store.now) (shown.view c.edit.new.self) c.in-Err.ensures.unchanged c.requires.sound)
+
+pub returns-in-Ok-clause-faults : goal.returns-in-Ok-clause-faults
+returns-in-Ok-clause-faults g c = counts_no_disk (shown.view c.args.store.now) (shown.view c.edit.new.self) c.edit.ensures.moves.beside c.in-Ok.ensures.quiet
+
+pub returns-in-Err-clause-faults : goal.returns-in-Err-clause-faults
+returns-in-Err-clause-faults g c =
+    let store = c.args.store.now in
+    let new = c.edit.new.self in
+    let P : SweepError → Type 0 = λ e. CountsFault (sweep_fault e) (shown.view store) (shown.view new) in
+    subst P (sym c.clear_error.ensures) (clear_counts c.in-Err.cause (shown.IsTold store) (shown.numbers store) (shown.view store) (shown.view new) c.edit.ensures.moves.beside c.in-Err.ensures.quiet_err c.in-Err.ensures.cause)

@@ -1,5 +1,8 @@
 use Rattle.std.proofs.Common.{◌≡◌, ◌∙◌, true, false, arith}
 use Rattle.series_store.specs.Shown as shown
+use Rattle.std.proofs.Common.{None}
+use Rattle.chart_world.specs.FaultLaws.{counts_then}
+use Rattle.retention.specs.Faults.{sweep_fault}
 use Rattle.retention.proofs.LookLemmas.{carries_then}
 use Rattle.retention.proofs.SweepLemmas.{going_more, later_moments, swept_end, swept_last, swept_stops}
 use Rattle.retention.proofs.sweeping.sweep_all.Goals as goal
@@ -37,6 +40,7 @@ clearing-preserved g c =
     record {
       sound = c.in-Ok.ensures.sound;
       carries = carries_then _ _ _ _ _ _ _ _ _ _ _ _ _ _ _ was.carries c.in-Ok.ensures.carries;
+      quiet = counts_then None (shown.view c.args.store.now) (shown.view c.clearing.store) (shown.view c.clear_next.new.store) was.quiet c.in-Ok.ensures.faults;
       syncs = omega (arith, was.syncs, c.in-Ok.ensures.syncs);
       going = λ total book told stands.
           let going = was.going total book told stands in
@@ -52,3 +56,9 @@ returns-clause-done g c = λ total book told stands.
 
 pub returns-clause-moments : goal.returns-clause-moments
 returns-clause-moments g c = λ total book told stands. (c.clearing.invariant.going total book told stands).moments
+
+pub returns-in-Err-clause-faults : goal.returns-in-Err-clause-faults
+returns-in-Err-clause-faults g c = counts_then (sweep_fault c.in-Err.error) (shown.view c.args.store.now) (shown.view c.clearing.store) (shown.view c.clear_next.new.store) c.clearing.invariant.quiet c.in-Err.ensures.faults
+
+pub returns-then-not-more-clause-faults : goal.returns-then-not-more-clause-faults
+returns-then-not-more-clause-faults g c = counts_then None (shown.view c.args.store.now) (shown.view c.clearing.store) (shown.view c.clear_next.new.store) c.clearing.invariant.quiet c.in-Ok.ensures.faults

@@ -1,4 +1,5 @@
-use Rattle.std.proofs.Common.{ℕ, List, ◌+◌, ◌*◌, ◌-◌, ◌≤◌}
+use Rattle.std.proofs.Common.{ℕ, List, None, ◌+◌, ◌*◌, ◌-◌, ◌≤◌}
+use Rattle.chart_world.specs.Faults.{CountsFault}
 use Rattle.series_book.specs.declared.limits.TheConstants.{MOST_SERIES, MOST_SLOTS}
 use Rattle.series_book.specs.declared.one_series.Series.{Series}
 use Rattle.series_store.specs.Shown as shown
@@ -12,6 +13,7 @@ abbrev pub invariant-clearing : goal.invariant-clearing
 invariant-clearing g l = record {
   sound : shown.IsSound l.store;
   carries : CarriesOn l.initial.store l.store;
+  quiet : CountsFault None (shown.view l.initial.store) (shown.view l.store);
   syncs : (shown.view l.store).syncs ≤ (shown.view l.initial.store).syncs + 4 * l.clears;
   going : (total : ℕ) (book : List Series) → shown.IsTold l.initial.store → StandsForBook (shown.image l.initial.store) total book → Going total book l.rule l.clears (shown.view l.initial.store) (shown.view l.store);
 }

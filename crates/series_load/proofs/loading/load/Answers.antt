@@ -1,6 +1,6 @@
-use Rattle.std.proofs.Common.{◌∙◌, ℕ, List, length, refl, subst}
+use Rattle.std.proofs.Common.{◌∙◌, ℕ, List, refl, subst}
 use Rattle.series_load.specs.Ends.{Outcome}
-use Rattle.series_load.specs.Sides.{side}
+use Rattle.series_load.proofs.Counting.{no_memory_on}
 use Rattle.series_load.proofs.Sides.{goes_nowhere}
 use Rattle.series_load.proofs.Going.{unstarted, no_value, no_memory_cause, no_memory_sound}
 use Rattle.series_load.proofs.Knowing.{info_of, none_so, not_named, found_so, no_memory_known, some_at_first}
@@ -43,6 +43,9 @@ returns-in_err-loader-clause-goes g c = goes_nowhere (side_of g.P.Streams c.args
 pub returns-in_err-loader-clause-cause : goal.returns-in_err-loader-clause-cause
 returns-in_err-loader-clause-cause g c = no_memory_cause (shown.IsTold c.args.store.now) c.from_residual.result c.in_err-loader.field-0.0 _ _ _ _ _ c.from_residual.ensures.1 c.in_err-loader.ensures.err
 
+pub returns-in_err-loader-clause-faults : goal.returns-in_err-loader-clause-faults
+returns-in_err-loader-clause-faults g c = no_memory_on c.from_residual.result c.in_err-loader.field-0.0 (shown.view c.args.store.now) (shown.view c.args.store.now) c.from_residual.ensures.1 c.in_err-loader.ensures.err refl
+
 pub returns-in_err-loader-clause-sound : goal.returns-in_err-loader-clause-sound
 returns-in_err-loader-clause-sound g c = no_value c.from_residual.result c.in_err-loader.field-0.0 _ c.from_residual.ensures.1
 
@@ -67,6 +70,9 @@ returns-in_err-lines-clause-goes g c = goes_nowhere (side_of g.P.Streams c.args.
 
 pub returns-in_err-lines-clause-cause : goal.returns-in_err-lines-clause-cause
 returns-in_err-lines-clause-cause g c = no_memory_cause (shown.IsTold c.args.store.now) c.from_residual-in_err-lines.result c.in_err-lines.field-0.0 _ _ _ _ _ c.from_residual-in_err-lines.ensures.1 c.in_err-lines.ensures.err
+
+pub returns-in_err-lines-clause-faults : goal.returns-in_err-lines-clause-faults
+returns-in_err-lines-clause-faults g c = no_memory_on c.from_residual-in_err-lines.result c.in_err-lines.field-0.0 (shown.view c.args.store.now) (shown.view c.args.store.now) c.from_residual-in_err-lines.ensures.1 c.in_err-lines.ensures.err refl
 
 pub returns-in_err-lines-clause-sound : goal.returns-in_err-lines-clause-sound
 returns-in_err-lines-clause-sound g c = no_value c.from_residual-in_err-lines.result c.in_err-lines.field-0.0 _ c.from_residual-in_err-lines.ensures.1
@@ -109,6 +115,9 @@ returns-clause-goes g c = c.load_lines.ensures.goes
 
 pub returns-clause-cause : goal.returns-clause-cause
 returns-clause-cause g c = c.load_lines.ensures.cause
+
+pub returns-clause-faults : goal.returns-clause-faults
+returns-clause-faults g c = c.load_lines.ensures.faults
 
 pub returns-clause-sound : goal.returns-clause-sound
 returns-clause-sound g c = c.load_lines.ensures.sound

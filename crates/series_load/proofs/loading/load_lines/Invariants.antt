@@ -1,9 +1,10 @@
-use Rattle.std.proofs.Common.{◌≡◌, ℕ, ◌+◌, ◌-◌, ◌^◌, ◌≤◌, List, length, IsTrue}
+use Rattle.std.proofs.Common.{◌≡◌, ℕ, ◌+◌, ◌-◌, ◌^◌, ◌≤◌, List, length, None, IsTrue}
 use Rattle.series_book.specs.declared.one_series.Series.{Series}
 use Rattle.stored_book.specs.Standing.{StandsForBook}
+use Rattle.chart_world.specs.Faults.{CountsFault}
 use Rattle.chart_world.specs.Fronts.{StandsIn}
 use Rattle.chart_world.specs.Reading.{unread, input_length}
-use Rattle.series_load.specs.Sides.{side, Goes}
+use Rattle.series_load.specs.Sides.{Goes}
 use Rattle.series_load.proofs.Going.{Going}
 use Rattle.series_load.specs.Shown.{side_of}
 use Rattle.series_store.specs.Shown as shown
@@ -21,6 +22,7 @@ invariant-lines g l = record {
   stands_in : StandsIn (g.P.Streams.left (shown.pages l.initial.store)) l.lines (g.P.Streams.left (shown.pages l.store));
   goes : Goes (side_of g.P.Streams l.initial.store)
       (side_of g.P.Streams l.store);
+  quiet : CountsFault None (shown.view l.initial.store) (shown.view l.store);
   going : (total : ℕ) (book : List Series) (series : Series) → shown.IsTold l.initial.store → StandsForBook (shown.image l.initial.store) total book → l.initial.loader.step ≡ series.step → l.initial.loader.scale ≡ series.scale
       → Going total l.initial.loader.name book series (g.P.Streams.left (shown.pages l.initial.store)) (unread l.lines (g.P.Streams.left (shown.pages l.store))) l.lines.given l.loader (shown.view l.initial.store) (shown.view l.store);
 }

@@ -1,11 +1,14 @@
-use Rattle.std.proofs.Common.{sym, subst}
+use Rattle.std.proofs.Common.{sym, subst, ◌∙◌}
 use Rattle.std.specs.Prelude.{Err}
+use Rattle.chart_world.specs.FaultLaws.{counts_no_disk}
+use Rattle.chart_world.specs.Faults.{CountsFault}
 use Rattle.derived_chart.specs.Lists.{sums_of}
 use Rattle.plain_chart.specs.Samples.{kept}
-use Rattle.series_pair.specs.AskLaws.{still_are_pair}
-use Rattle.series_pair.specs.Derived.{IsChartAnswer}
+use Rattle.series_store.specs.Shown as shown
+use Rattle.series_pair.specs.AskLaws.{pair_goes_on, still_are_pair}
+use Rattle.series_pair.specs.Derived.{IsChartAnswer, sum_fault}
 use Rattle.series_pair.specs.declared.sum_error.SumError.{SumError}
-use Rattle.series_pair.proofs.ChartLemmas.{cause_later, error_answer, pair_is, samples_are}
+use Rattle.series_pair.proofs.ChartLemmas.{cause_later, error_answer, error_faults, pair_is, samples_are}
 use Rattle.series_pair.proofs.drawing.chart_of_pair.Goals as goal
 
 pub returns-in-Err-clause-answer : goal.returns-in-Err-clause-answer
@@ -38,3 +41,17 @@ returns-clause-answer g c = λ total book told stands on.
       shows = c.shown_range-range.ensures.shows c.args.grid samples rows.0;
       chart = c.in_ok-bitmap.ensures axis sums c.first_axis-axis.ensures.step rows.0;
     }
+
+pub returns-in-Err-clause-faults : goal.returns-in-Err-clause-faults
+returns-in-Err-clause-faults g c =
+    let old = c.args.pair.now in
+    let axis = c.first_axis-axis.ensures in
+    let going = pair_goes_on axis.goes c.derived_rows.ensures.goes in
+    let cause = cause_later c.in-Err.error old c.first_axis-axis.new.pair c.derived_rows.new.trees axis.goes c.in-Err.ensures.cause in
+    let E : SumError → Type 0 = λ e. CountsFault (sum_fault e) (shown.view old.store) (shown.view c.derived_rows.new.trees.store) in
+    subst E (sym c.error_of.ensures) (error_faults c.in-Err.error old c.derived_rows.new.trees c.requires.sound going cause (λ other. c.in-Err.ensures.quiet_err other ∙ axis.quiet))
+
+pub returns-clause-faults : goal.returns-clause-faults
+returns-clause-faults g c =
+    let axis = c.first_axis-axis.ensures in
+    counts_no_disk (shown.view c.args.pair.now.store) (shown.view c.derived_rows.new.trees.store) (pair_goes_on axis.goes c.derived_rows.ensures.goes).looks.beside (c.in-Ok.ensures.quiet ∙ axis.quiet)

@@ -1,4 +1,5 @@
 use Rattle.std.proofs.Common.{rules, ◌≡◌, ◌-◌, ◌<◌, suc, is_some, Option, Some, List, ◌++◌, ℕ, ℤ, to_z, of_z, w64, sym, ap, subst, arith, ◌∙◌}
+use Rattle.block_disk.specs.View.{Beside}
 use Rattle.om3_coeff.specs.declared.span.Span.{Span}
 use Rattle.om3_coeff.specs.Keys.{first_slot, end_slot}
 use Rattle.om3_coeff.specs.Spans.{IsProper, IsProperIfAny}
@@ -14,7 +15,7 @@ use Rattle.series_store.specs.Sending.{said, first_said, IsGiven, GivesBy, IsSen
 use Rattle.series_store.specs.declared.send_errors.SendError.{SendError}
 use Rattle.series_store.proofs.AskLemmas.{start_same}
 use Rattle.series_store.proofs.TreeCountLemmas.{is_there, child_matched, nodes_of, children_below}
-use Rattle.series_store.proofs.SendLemmas.{is_said, slot_there, by_as, part_silent, said_none, said_silent, part_order, part_value, no_damage_by, value_cause_by, page_send_cause, child_send_cause, sends_then, send_start, send_on, child_range, stops_by, none_by, send_end}
+use Rattle.series_store.proofs.SendLemmas.{is_said, slot_there, by_as, part_silent, said_none, said_silent, part_order, part_value, no_damage_by, value_cause_by, page_send_cause, child_send_cause, sends_then, send_start, send_on, child_range, stops_by, none_by, send_end, error_is}
 use Rattle.series_store.proofs.sending.+send_below.Goals as goal
 
 pub returns-in_default-clause-part : goal.returns-in_default-clause-part
@@ -64,7 +65,7 @@ returns-in_err-read_page-clause-part g t c = λ list told slots tree top.
 pub loop-child-init : goal.loop-child-init
 loop-child-init g t c =
     let is : c.args.level ≡ suc (c.args.level - 1) = omega (arith, c.if-level-eq0.false) in
-    (send_start (g.P.Pages.told c.args.space.now.pages) (g.P.Pages.told c.read_page.new.space.pages) (g.P.Pages.view c.args.space.now.pages) (g.P.Pages.view c.read_page.new.space.pages) (g.P.Pages.under c.args.space.now.pages) (g.P.Pages.under c.read_page.new.space.pages) c.args.space.now.superblock c.read_page.new.space.superblock (first_said c.args.slots (g.T.Texts.text c.args.texts.now)) c.args.level (c.args.level - 1) c.args.index c.args.page c.args.top c.args.out.now.items is c.read_page.ensures.looks c.read_page.ensures.one_read c.requires.few, c.in_ok-read_page.ensures.quiet)
+    (send_start (g.P.Pages.told c.args.space.now.pages) (g.P.Pages.told c.read_page.new.space.pages) (g.P.Pages.view c.args.space.now.pages) (g.P.Pages.view c.read_page.new.space.pages) (g.P.Pages.under c.args.space.now.pages) (g.P.Pages.under c.read_page.new.space.pages) c.args.space.now.superblock c.read_page.new.space.superblock (first_said c.args.slots (g.T.Texts.text c.args.texts.now)) c.args.level (c.args.level - 1) c.args.index c.args.page c.args.top c.args.out.now.items is c.read_page.ensures.looks c.read_page.ensures.one_read c.requires.few, c.in_ok-read_page.ensures.quiet, ap (λ (b : Beside). b.send_faults) c.read_page.ensures.looks.kept.beside)
 
 pub send_below-requires : goal.send_below-requires
 send_below-requires g t c κs within =
@@ -137,6 +138,7 @@ loop-child-preserved g t c =
           (λ list told slots tree top. (c.in_ok-read_page.ensures.tops list (c.args.level - 1) c.args.index told is slots (nodes_of (g.P.Pages.view c.args.space.now.pages).image c.args.space.now.superblock.total list c.args.level (c.args.level - 1) c.args.index c.args.page is some tree) (sym c.in-Some.is ∙ top)))
           c.send_below.ensures.sends c.in_ok-send_below.ensures.few c.in_ok-send_below.ensures.part,
       c.in_ok-send_below.ensures.quiet ∙ c.loop-child.invariant.1,
+      c.in_ok-send_below.ensures.quiet_sends (λ is. cc) ∙ c.loop-child.invariant.2,
     )
 
 pub returns-clause-part : goal.returns-clause-part
@@ -158,3 +160,13 @@ returns-in_err-send_below-clause-quiet_err g t c =
 
 pub returns-clause-quiet : goal.returns-clause-quiet
 returns-clause-quiet g t c = c.loop-child.invariant.1
+
+pub returns-in_err-read_page-clause-quiet_sends : goal.returns-in_err-read_page-clause-quiet_sends
+returns-in_err-read_page-clause-quiet_sends g t c = λ other. ap (λ (b : Beside). b.send_faults) c.read_page.ensures.looks.kept.beside
+
+pub returns-in_err-send_below-clause-quiet_sends : goal.returns-in_err-send_below-clause-quiet_sends
+returns-in_err-send_below-clause-quiet_sends g t c = λ other.
+    c.in_err-send_below.ensures.quiet_sends (λ is. other (error_is c.from_residual-in_err-send_below.result c.in_err-send_below.field-0.0 c.from_residual-in_err-send_below.ensures.1 ∙ is)) ∙ c.loop-child.invariant.2
+
+pub returns-clause-quiet_sends : goal.returns-clause-quiet_sends
+returns-clause-quiet_sends g t c = λ other. c.loop-child.invariant.2

@@ -1,11 +1,16 @@
 use Rattle.std.proofs.Common.{◌≡◌, sym, subst, ap, ◌∙◌}
 use Rattle.block_disk.specs.View.{Image, Beside}
+use Rattle.chart_world.specs.Faults.{CountsFault}
+use Rattle.chart_world.specs.FaultLaws.{counts_no_disk, counts_then}
 use Rattle.page_space.specs.Layout.{superblock_page}
 use Rattle.series_store.specs.Counting.{AreSound}
 use Rattle.stored_book.specs.Standing.{AreCatalog}
 use Rattle.store_commands.specs.Checked.{counts_text}
 use Rattle.series_store.specs.Shown as shown
-use Rattle.store_commands.specs.Checking.{ChecksStore}
+use Rattle.store_commands.specs.Checking.{ChecksStore, check_status}
+use Rattle.store_commands.specs.Faulting.{counts_as}
+use Rattle.store_commands.specs.Status.{code_fault}
+use Rattle.store_commands.proofs.FaultLemmas.{counts_unchecked}
 use Rattle.store_commands.specs.Sending.{SendsText}
 use Rattle.store_commands.proofs.Held.{rests_new, stands_held}
 use Rattle.store_commands.proofs.CheckLooks.{checks_sent, checks_not}
@@ -82,3 +87,24 @@ returns-in-Err-clause-untaken g c =
     let mid = (shown.pages c.check-counted.new.self).disk in
     let w = g.met.W.World in
     ap left c.disk_of-world.ensures.disk ∙ sym (w.beside_left mid) ∙ ap (λ (b : Beside). b.left) c.check-counted.ensures.looks.kept.beside ∙ w.beside_left old
+
+pub returns-in-Ok-clause-faults : goal.returns-in-Ok-clause-faults
+returns-in-Ok-clause-faults g c =
+    let view = g.W.Disk.view in
+    let old = view (shown.pages c.args.store).disk in
+    let mid = (shown.pages c.check-counted.new.self).disk in
+    let new = view c.send_text.result.1 in
+    let fault = code_fault c.send_text.result.0.code in
+    let P : g.row.W.Denot → Type 0 = λ d. CountsFault fault (view d) new in
+    counts_then fault old (view mid) new (counts_no_disk old (view mid) c.check-counted.ensures.looks.kept.beside c.in-Ok.ensures.quiet) (subst P c.disk_of-world.ensures.disk c.send_text.ensures.faults)
+
+pub returns-in-Err-clause-faults : goal.returns-in-Err-clause-faults
+returns-in-Err-clause-faults g c =
+    let view = g.W.Disk.view in
+    let old = view (shown.pages c.args.store).disk in
+    let mid = (shown.pages c.check-counted.new.self).disk in
+    let error = c.in-Err.error in
+    let P : g.row.W.Denot → Type 0 = λ d. CountsFault (code_fault c.check_status.result.code) old (view d) in
+    subst P (sym c.disk_of-world.ensures.disk)
+    (counts_as c.check_status.result (check_status error) old (view mid) c.check_status.ensures
+    (counts_unchecked error (shown.IsTold c.args.store) (shown.numbers c.args.store) (shown.view c.args.store) (shown.view c.check-counted.new.self) c.check-counted.ensures.looks.kept.beside c.in-Err.ensures.cause c.in-Err.ensures.quiet_err))

@@ -1,8 +1,10 @@
 use Rattle.std.proofs.Common.{◌≢◌, ℕ, Err, sym, subst, ◌∙◌}
 use Rattle.std.specs.Prelude.{IsTrue}
+use Rattle.chart_world.specs.Faults.{CountsFault, fault_in}
 use Rattle.gate_pages.specs.GatePages.{IsClosed}
 use Rattle.chart_service.specs.Shown as shown
 use Rattle.demo_workload.specs.declared.demo_end.DemoEnd.TheVariants.{DiskFault}
+use Rattle.demo_workload.specs.Ending.{demo_fault}
 use Rattle.demo_workload.specs.Workload.{workload}
 use Rattle.store_commands.proofs.Stores.{store_disk, store_sound}
 use Rattle.store_commands.specs.Answering.{Answered}
@@ -10,8 +12,8 @@ use Rattle.store_commands.proofs.Held.{rests_new}
 use Rattle.store_commands.proofs.DemoRequests.{answered_by}
 use Rattle.store_commands.proofs.demo.answer_all.Goals as goal
 
-pub returns : goal.returns
-returns g c =
+pub returns-clause-answered : goal.returns-clause-answered
+returns-clause-answered g c =
     let view = g.W.Disk.view in
     let pages = shown.pages c.args.service in
     let after = c.run_workload-answer.new.service in
@@ -31,3 +33,12 @@ returns g c =
     subst D (sym same_disk) (subst R c.from.ensures (answered_by (workload c.args.seed c.from.result) pages.count end_pages.count pages.sound end_pages.sound (view disk) (view new) after.sessions
     made.runs.size made.runs.told made.runs.faults made.runs.beside made.goes_on (rests_new pages.count (view disk) (shown.numbers c.args.service) (pages.at_rest c.requires.sound) (c.args.service.store.space.spelled c.requires.sound)) c.frames_have_one_answer.ensures.numbered answer
     made.done made.standing made.moments made.left made.cause closed))
+
+pub returns-clause-faults : goal.returns-clause-faults
+returns-clause-faults g c =
+    let view = g.W.Disk.view in
+    let after = c.run_workload-answer.new.service in
+    let answer = c.run_workload-answer.result in
+    let same_disk = c.disk_of.ensures.disk ∙ store_disk c.into_store.result after.store c.into_store.ensures in
+    let D : g.row.W.Denot → Type 0 = λ d. CountsFault (fault_in demo_fault answer) (view (shown.pages c.args.service).disk) (view d) in
+    subst D (sym same_disk) c.run_workload-answer.ensures.faults

@@ -1,4 +1,6 @@
-use Rattle.std.proofs.Common.{Err, sym, subst, ◌∙◌}
+use Rattle.std.proofs.Common.{None, Err, refl, sym, subst, ◌∙◌}
+use Rattle.chart_world.specs.Faults.{CountsFault}
+use Rattle.chart_world.specs.FaultLaws.{counts_none}
 use Rattle.series_store.specs.Shown as shown
 use Rattle.demo_workload.specs.declared.demo_end.DemoEnd.TheVariants.{NoMemory}
 use Rattle.demo_workload.specs.Workload.{workload}
@@ -7,8 +9,8 @@ use Rattle.store_commands.specs.Answering.{Answered}
 use Rattle.store_commands.proofs.DemoRequests.{answered_none}
 use Rattle.store_commands.proofs.demo.answer_store.Goals as goal
 
-pub returns-in-Err : goal.returns-in-Err
-returns-in-Err g c =
+pub returns-in-Err-clause-answered : goal.returns-in-Err-clause-answered
+returns-in-Err-clause-answered g c =
     let view = g.W.Disk.view in
     let store = c.args.store in
     let pages = shown.pages store in
@@ -16,3 +18,10 @@ returns-in-Err g c =
     let requests = workload c.args.seed c.args.rounds in
     let D : g.row.W.Denot → Type 0 = λ d. Answered requests pages.count (view pages.disk) (view d) (Err NoMemory) in
     subst D (sym (c.disk_of.ensures.disk ∙ store_disk back store c.in-Err.ensures.back)) (answered_none requests pages.count (view pages.disk))
+
+pub returns-in-Err-clause-faults : goal.returns-in-Err-clause-faults
+returns-in-Err-clause-faults g c =
+    let view = g.W.Disk.view in
+    let old = view (shown.pages c.args.store).disk in
+    let D : g.row.W.Denot → Type 0 = λ d. CountsFault None old (view d) in
+    subst D (sym (c.disk_of.ensures.disk ∙ store_disk c.in-Err.field-0.value c.args.store c.in-Err.ensures.back)) (counts_none old old refl refl refl)

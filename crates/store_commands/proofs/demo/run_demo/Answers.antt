@@ -1,6 +1,12 @@
-use Rattle.std.proofs.Common.{◌≡◌, Ok, Err, sym, ap, ◌∙◌}
+use Rattle.std.proofs.Common.{◌≡◌, None, Result, Ok, Err, sym, subst, ap, ◌∙◌}
 use Rattle.block_disk.specs.View.{Beside}
+use Rattle.chart_world.specs.Faults.{CountsFault, fault_in}
+use Rattle.chart_world.specs.FaultLaws.{counts_no_disk, counts_then}
+use Rattle.demo_workload.specs.Ending.{demo_fault}
 use Rattle.series_store.specs.Shown as shown
+use Rattle.store_commands.specs.Faulting.{counts_as, counts_told, counts_unopened}
+use Rattle.store_commands.specs.Status.{code_fault, opening_status}
+use Rattle.store_commands.proofs.FaultLemmas.{demo_fault_is}
 use Rattle.demo_workload.specs.Summaries.{summary_line}
 use Rattle.demo_workload.specs.Workload.{workload}
 use Rattle.store_commands.proofs.DemoRequests.{answered_opened}
@@ -10,6 +16,7 @@ use Rattle.std.specs.Prelude.{◌≤◌}
 use Rattle.block_disk.specs.View.{sent_now}
 use Rattle.gate_pages.specs.Journal.{page_count}
 use Rattle.demo_workload.specs.declared.demo_end.DemoEnd.{DemoEnd}
+use Rattle.demo_workload.specs.declared.summaries.Summary.{Summary}
 use Rattle.demo_workload.specs.declared.demo_end.DemoEnd.TheVariants as demo_end
 use Rattle.store_commands.specs.declared.status.Status.{Status}
 use Rattle.store_commands.specs.Answering.{end_status}
@@ -29,7 +36,7 @@ returns-in-Ok-answer-clause-ends g c =
     let new = c.send_text.result.1 in
     let summary = c.in-Ok-answer.summary in
     let w = g.met.W.World in
-    let a = answered_opened (workload c.args.seed c.args.rounds) opened.count (view old) (view opened.disk) (view mid) c.answer_store-answer.result.0 (Ok summary) c.in-Ok.ensures.count c.in-Ok-answer.is c.in-Ok.ensures.opens c.answer_store-answer.ensures in
+    let a = answered_opened (workload c.args.seed c.args.rounds) opened.count (view old) (view opened.disk) (view mid) c.answer_store-answer.result.0 (Ok summary) c.in-Ok.ensures.count c.in-Ok-answer.is c.in-Ok.ensures.opens c.answer_store-answer.ensures.answered in
     sent_ends c.args.seed c.args.rounds (view old) (view mid) (view new) (sent old) (sent mid) (sent new) (sends old) (sends mid) (sends new) c.send_text.result.0 summary a
     (sym (w.beside_sent mid) ∙ ap (λ (b : Beside). b.sent) a.beside ∙ w.beside_sent old)
     (sym (w.beside_send_faults mid) ∙ ap (λ (b : Beside). b.send_faults) a.beside ∙ w.beside_send_faults old)
@@ -45,7 +52,7 @@ returns-in-Err-answer-clause-ends g c =
     let new = c.answer_store-answer.result.1 in
     let end = c.in-Err-answer.end in
     let w = g.met.W.World in
-    let a = answered_opened (workload c.args.seed c.args.rounds) opened.count (view old) (view opened.disk) (view new) c.answer_store-answer.result.0 (Err end) c.in-Ok.ensures.count c.in-Err-answer.is c.in-Ok.ensures.opens c.answer_store-answer.ensures in
+    let a = answered_opened (workload c.args.seed c.args.rounds) opened.count (view old) (view opened.disk) (view new) c.answer_store-answer.result.0 (Err end) c.in-Ok.ensures.count c.in-Err-answer.is c.in-Ok.ensures.opens c.answer_store-answer.ensures.answered in
     stopped_ends_so c.args.seed c.args.rounds (view old) (view new) (sent old) (sent new) (sends old) (sends new) end c.end_status.result c.end_status.ensures a
     (sym (w.beside_sent new) ∙ ap (λ (b : Beside). b.sent) a.beside ∙ w.beside_sent old)
 
@@ -82,14 +89,14 @@ returns-in-Ok-answer-clause-untaken g c =
     let old = c.args.world in
     let mid = c.answer_store-answer.result.1 in
     let w = g.met.W.World in
-    c.send_text.ensures.left ∙ sym (w.beside_left mid) ∙ ap (λ (b : Beside). b.left) (c.answer_store-answer.ensures.beside ∙ c.in-Ok.ensures.opens.beside_is) ∙ w.beside_left old
+    c.send_text.ensures.left ∙ sym (w.beside_left mid) ∙ ap (λ (b : Beside). b.left) (c.answer_store-answer.ensures.answered.beside ∙ c.in-Ok.ensures.opens.beside_is) ∙ w.beside_left old
 
 pub returns-in-Err-answer-clause-untaken : goal.returns-in-Err-answer-clause-untaken
 returns-in-Err-answer-clause-untaken g c =
     let old = c.args.world in
     let new = c.answer_store-answer.result.1 in
     let w = g.met.W.World in
-    sym (w.beside_left new) ∙ ap (λ (b : Beside). b.left) (c.answer_store-answer.ensures.beside ∙ c.in-Ok.ensures.opens.beside_is) ∙ w.beside_left old
+    sym (w.beside_left new) ∙ ap (λ (b : Beside). b.left) (c.answer_store-answer.ensures.answered.beside ∙ c.in-Ok.ensures.opens.beside_is) ∙ w.beside_left old
 
 pub returns-in-Ok-answer-clause-holds : goal.returns-in-Ok-answer-clause-holds
 returns-in-Ok-answer-clause-holds g c = λ other.
@@ -98,7 +105,7 @@ returns-in-Ok-answer-clause-holds g c = λ other.
     let opened = shown.pages c.in-Ok.store in
     let mid = c.answer_store-answer.result.1 in
     let requests = workload c.args.seed c.args.rounds in
-    let a = answered_opened requests opened.count (view old) (view opened.disk) (view mid) c.answer_store-answer.result.0 (Ok c.in-Ok-answer.summary) c.in-Ok.ensures.count c.in-Ok-answer.is c.in-Ok.ensures.opens c.answer_store-answer.ensures in
+    let a = answered_opened requests opened.count (view old) (view opened.disk) (view mid) c.answer_store-answer.result.0 (Ok c.in-Ok-answer.summary) c.in-Ok.ensures.count c.in-Ok-answer.is c.in-Ok.ensures.opens c.answer_store-answer.ensures.answered in
     let new = c.send_text.result.1 in
     let text = c.send_text.ensures.sends (summary_line c.in-Ok-answer.summary) c.line.ensures in
     again_sent (page_count (view old).size) (view old) (view mid) (view new) (λ count. (sent_now (view mid) ≤ count) × (count ≤ sent_now (view new))) text.kept text.time
@@ -111,10 +118,41 @@ returns-in-Err-answer-clause-holds g c = λ other.
     let opened = shown.pages c.in-Ok.store in
     let mid = c.answer_store-answer.result.1 in
     let requests = workload c.args.seed c.args.rounds in
-    let a = answered_opened requests opened.count (view old) (view opened.disk) (view mid) c.answer_store-answer.result.0 (Err c.in-Err-answer.end) c.in-Ok.ensures.count c.in-Err-answer.is c.in-Ok.ensures.opens c.answer_store-answer.ensures in
+    let a = answered_opened requests opened.count (view old) (view opened.disk) (view mid) c.answer_store-answer.result.0 (Err c.in-Err-answer.end) c.in-Ok.ensures.count c.in-Err-answer.is c.in-Ok.ensures.opens c.answer_store-answer.ensures.answered in
     let end = c.in-Err-answer.end in
     again_answered requests (page_count (view old).size) (view old) (view mid) (Err end)
     (λ is. let same : end ≡ demo_end.DiskFault = cc in other (ap (λ (s : Status). s.code) c.end_status.ensures ∙ ap (λ (e : DemoEnd). (end_status e).code) same)) a
 
 pub returns-in-Err-clause-holds : goal.returns-in-Err-clause-holds
 returns-in-Err-clause-holds g c = λ other. again_opened (g.W.Disk.view c.args.world) (g.W.Disk.view c.in-Err.field-0.value) c.in-Err.ensures.opens
+
+pub returns-in-Ok-answer-clause-faults : goal.returns-in-Ok-answer-clause-faults
+returns-in-Ok-answer-clause-faults g c =
+    let view = g.W.Disk.view in
+    let old = view c.args.world in
+    let start = view (shown.pages c.in-Ok.store).disk in
+    let mid = view c.answer_store-answer.result.1 in
+    let new = view c.send_text.result.1 in
+    let e = c.in-Ok.ensures in
+    let P : Result Summary DemoEnd → Type 0 = λ r. CountsFault (fault_in demo_fault r) start mid in
+    let answered = counts_then None old start mid (counts_no_disk old start e.opens.beside_is e.quiet) (subst P c.in-Ok-answer.is c.answer_store-answer.ensures.faults) in
+    counts_then (code_fault c.send_text.result.0.code) old mid new answered c.send_text.ensures.faults
+
+pub returns-in-Err-answer-clause-faults : goal.returns-in-Err-answer-clause-faults
+returns-in-Err-answer-clause-faults g c =
+    let view = g.W.Disk.view in
+    let old = view c.args.world in
+    let start = view (shown.pages c.in-Ok.store).disk in
+    let new = view c.answer_store-answer.result.1 in
+    let end = c.in-Err-answer.end in
+    let e = c.in-Ok.ensures in
+    let P : Result Summary DemoEnd → Type 0 = λ r. CountsFault (fault_in demo_fault r) start new in
+    let answered = counts_then (demo_fault end) old start new (counts_no_disk old start e.opens.beside_is e.quiet) (subst P c.in-Err-answer.is c.answer_store-answer.ensures.faults) in
+    counts_as c.end_status.result (end_status end) old new c.end_status.ensures (counts_told (demo_fault end) (code_fault (end_status end).code) old new (demo_fault_is end) answered)
+
+pub returns-in-Err-clause-faults : goal.returns-in-Err-clause-faults
+returns-in-Err-clause-faults g c =
+    let view = g.W.Disk.view in
+    let back = c.in-Err.field-0 in
+    let e = c.in-Err.ensures in
+    counts_as c.opening_status.result (opening_status back.cause) (view c.args.world) (view back.value) c.opening_status.ensures (counts_unopened back.cause (view c.args.world) (view back.value) e.opens.beside_is e.cause e.quiet_err)

@@ -1,7 +1,13 @@
-use Rattle.std.proofs.Common.{sym, subst, ap, ◌∙◌, arith}
+use Rattle.std.proofs.Common.{refl, sym, subst, ap, ◌∙◌, arith}
+use Rattle.chart_world.specs.Faults.{CountsFault, fault_in}
+use Rattle.chart_world.specs.FaultLaws.{counts_none}
 use Rattle.gate_pages.specs.GatePages.{IsClosed}
+use Rattle.series_export.specs.Faults.{send_fault}
 use Rattle.series_store.specs.Shown as shown
-use Rattle.store_commands.specs.Exporting.{ExportsStore}
+use Rattle.store_commands.specs.Exporting.{ExportsStore, export_status}
+use Rattle.store_commands.specs.Faulting.{counts_as, counts_told}
+use Rattle.store_commands.specs.Status.{code_fault, status}
+use Rattle.store_commands.proofs.FaultLemmas.{send_fault_is}
 use Rattle.store_commands.specs.declared.status.Status.{Status}
 use Rattle.store_commands.proofs.Held.{rests_new}
 use Rattle.store_commands.proofs.ExportEnds.{series_sent, none_found}
@@ -64,3 +70,21 @@ returns-clause-untaken g c =
     let new = (shown.pages c.export_series-answer.new.store).disk in
     let w = g.met.W.World in
     ap g.W.Streams.left c.disk_of-2.ensures.disk ∙ sym (w.beside_left new) ∙ c.export_series-answer.ensures.sends.left ∙ w.beside_left disk
+
+pub returns-in_default-clause-faults : goal.returns-in_default-clause-faults
+returns-in_default-clause-faults g c =
+    let view = g.W.Disk.view in
+    let old = view (shown.pages c.args.store).disk in
+    let D : g.row.W.Denot → Type 0 = λ d. CountsFault (code_fault c.ended.result.code) old (view d) in
+    subst D (sym c.disk_of.ensures.disk) (counts_as c.ended.result (status 14 8) old old c.ended.ensures.status (counts_none old old refl refl refl))
+
+pub returns-clause-faults : goal.returns-clause-faults
+returns-clause-faults g c =
+    let view = g.W.Disk.view in
+    let old = view (shown.pages c.args.store).disk in
+    let new = (shown.pages c.export_series-answer.new.store).disk in
+    let answer = c.export_series-answer.result in
+    let D : g.row.W.Denot → Type 0 = λ d. CountsFault (code_fault c.export_status.result.code) old (view d) in
+    subst D (sym c.disk_of-2.ensures.disk)
+    (counts_as c.export_status.result (export_status answer) old (view new) c.export_status.ensures
+    (counts_told (fault_in send_fault answer) (code_fault (export_status answer).code) old (view new) (send_fault_is answer) c.export_series-answer.ensures.faults))

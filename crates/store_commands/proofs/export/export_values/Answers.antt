@@ -1,6 +1,9 @@
 use Rattle.std.proofs.Common.{sym, ap, ◌∙◌}
 use Rattle.block_disk.specs.View.{Beside}
+use Rattle.chart_world.specs.FaultLaws.{counts_no_disk, counts_then}
 use Rattle.series_store.specs.Shown as shown
+use Rattle.store_commands.specs.Faulting.{counts_as, counts_unopened}
+use Rattle.store_commands.specs.Status.{code_fault, opening_status}
 use Rattle.store_commands.proofs.Held.{opened_book}
 use Rattle.store_commands.proofs.ExportEnds.{ends_opened, unexported}
 use Rattle.store_commands.proofs.TurnedAway.{away_never}
@@ -60,3 +63,18 @@ returns-in-Ok-clause-untaken g c =
     let mid = (shown.pages c.in-Ok.store).disk in
     let w = g.met.W.World in
     c.export_opened.ensures.untaken ∙ sym (w.beside_left mid) ∙ ap (λ (b : Beside). b.left) c.in-Ok.ensures.opens.beside_is ∙ w.beside_left old
+
+pub returns-in-Ok-clause-faults : goal.returns-in-Ok-clause-faults
+returns-in-Ok-clause-faults g c =
+    let view = g.W.Disk.view in
+    let old = view c.args.world in
+    let mid = view (shown.pages c.in-Ok.store).disk in
+    let e = c.in-Ok.ensures in
+    counts_then (code_fault c.export_opened.result.0.code) old mid (view c.export_opened.result.1) (counts_no_disk old mid e.opens.beside_is e.quiet) c.export_opened.ensures.faults
+
+pub returns-in-Err-clause-faults : goal.returns-in-Err-clause-faults
+returns-in-Err-clause-faults g c =
+    let view = g.W.Disk.view in
+    let back = c.in-Err.field-0 in
+    let e = c.in-Err.ensures in
+    counts_as c.opening_status.result (opening_status back.cause) (view c.args.world) (view back.value) c.opening_status.ensures (counts_unopened back.cause (view c.args.world) (view back.value) e.opens.beside_is e.cause e.quiet_err)

@@ -1,6 +1,10 @@
 use Rattle.std.proofs.Common.{sym, ap, subst, ◌∙◌}
 use Rattle.block_disk.specs.View.{Beside}
+use Rattle.chart_world.specs.Faults.{CountsFault}
+use Rattle.chart_world.specs.FaultLaws.{counts_no_disk, counts_then}
 use Rattle.series_store.specs.Shown as shown
+use Rattle.store_commands.specs.Faulting.{counts_as, counts_unopened}
+use Rattle.store_commands.specs.Status.{code_fault, opening_status}
 use Rattle.store_commands.specs.Listed.{list_text}
 use Rattle.store_commands.specs.Sending.{SendsMade}
 use Rattle.store_commands.proofs.ListEnds.{listed, unlisted, text_in, made_is}
@@ -64,3 +68,20 @@ returns-in-Ok-clause-untaken g c =
     let mid = (shown.pages c.in-Ok.store).disk in
     let w = g.met.W.World in
     c.send_text.ensures.left ∙ ap g.W.Streams.left c.disk_of.ensures.disk ∙ sym (w.beside_left mid) ∙ ap (λ (b : Beside). b.left) c.in-Ok.ensures.opens.beside_is ∙ w.beside_left old
+
+pub returns-in-Ok-clause-faults : goal.returns-in-Ok-clause-faults
+returns-in-Ok-clause-faults g c =
+    let view = g.W.Disk.view in
+    let old = view c.args.world in
+    let mid = (shown.pages c.in-Ok.store).disk in
+    let e = c.in-Ok.ensures in
+    let fault = code_fault c.send_text.result.0.code in
+    let P : g.row.W.Denot → Type 0 = λ d. CountsFault fault (view d) (view c.send_text.result.1) in
+    counts_then fault old (view mid) (view c.send_text.result.1) (counts_no_disk old (view mid) e.opens.beside_is e.quiet) (subst P c.disk_of.ensures.disk c.send_text.ensures.faults)
+
+pub returns-in-Err-clause-faults : goal.returns-in-Err-clause-faults
+returns-in-Err-clause-faults g c =
+    let view = g.W.Disk.view in
+    let back = c.in-Err.field-0 in
+    let e = c.in-Err.ensures in
+    counts_as c.opening_status.result (opening_status back.cause) (view c.args.world) (view back.value) c.opening_status.ensures (counts_unopened back.cause (view c.args.world) (view back.value) e.opens.beside_is e.cause e.quiet_err)

@@ -1,7 +1,13 @@
 use Rattle.std.specs.Prelude.{◌≤◌}
-use Rattle.std.proofs.Common.{◌≡◌, Ok, Err, sym, ap, ◌∙◌}
+use Rattle.std.proofs.Common.{◌≡◌, ℕ, None, Result, Ok, Err, sym, subst, ap, ◌∙◌}
 use Rattle.block_disk.specs.View.{Beside}
+use Rattle.chart_world.specs.Faults.{CountsFault, fault_in}
+use Rattle.chart_world.specs.FaultLaws.{counts_no_disk, counts_then}
+use Rattle.series_load.specs.Faults.{load_fault}
 use Rattle.series_store.specs.Shown as shown
+use Rattle.store_commands.specs.Faulting.{counts_as, counts_told, counts_unopened}
+use Rattle.store_commands.specs.Status.{code_fault, opening_status}
+use Rattle.store_commands.proofs.FaultLemmas.{load_fault_is}
 use Rattle.store_commands.specs.Loaded.{loaded_text}
 use Rattle.store_commands.proofs.LoadEnds.{opening_ends_so, stopped_ends_so, sent_ends, stores_on}
 use Rattle.block_disk.specs.View.{sent_now}
@@ -35,7 +41,7 @@ returns-in-Ok-answer-clause-ends g c =
     (sym (w.beside_sent start) ∙ ap (λ (b : Beside). b.sent) beside ∙ w.beside_sent old)
     (sym (w.beside_read_faults start) ∙ ap (λ (b : Beside). b.read_faults) beside ∙ w.beside_read_faults old)
     (sym (w.beside_send_faults start) ∙ ap (λ (b : Beside). b.send_faults) beside ∙ w.beside_send_faults old)
-    c.load_store-answer.ensures in
+    c.load_store-answer.ensures.stores in
     sent_ends name (view old) (view mid) (view new) (left old) (left mid) (left new) (sent old) (sent mid) (sent new) (reads old) (reads mid) (reads new) (sends old) (sends mid) (sends new) c.in-Ok-answer.readings c.send_text.result.0 s (c.send_text.ensures.sends (loaded_text c.in-Ok-answer.readings) c.loaded_text.ensures)
 
 pub returns-in-Err-answer-clause-ends : goal.returns-in-Err-answer-clause-ends
@@ -57,7 +63,7 @@ returns-in-Err-answer-clause-ends g c =
     (sym (w.beside_sent start) ∙ ap (λ (b : Beside). b.sent) beside ∙ w.beside_sent old)
     (sym (w.beside_read_faults start) ∙ ap (λ (b : Beside). b.read_faults) beside ∙ w.beside_read_faults old)
     (sym (w.beside_send_faults start) ∙ ap (λ (b : Beside). b.send_faults) beside ∙ w.beside_send_faults old)
-    c.load_store-answer.ensures in
+    c.load_store-answer.ensures.stores in
     stopped_ends_so name (view old) (view new) (left old) (left new) (sent old) (sent new) (reads old) (reads new) (sends old) (sends new) c.in-Err-answer.end c.end_status.result c.end_status.ensures s
 
 pub returns-in-Err-clause-ends : goal.returns-in-Err-clause-ends
@@ -102,7 +108,7 @@ returns-in-Ok-answer-clause-holds g c = λ other.
     (sym (w.beside_sent start) ∙ ap (λ (b : Beside). b.sent) beside ∙ w.beside_sent old)
     (sym (w.beside_read_faults start) ∙ ap (λ (b : Beside). b.read_faults) beside ∙ w.beside_read_faults old)
     (sym (w.beside_send_faults start) ∙ ap (λ (b : Beside). b.send_faults) beside ∙ w.beside_send_faults old)
-    c.load_store-answer.ensures in
+    c.load_store-answer.ensures.stores in
     let new = c.send_text.result.1 in
     let text = c.send_text.ensures.sends (loaded_text c.in-Ok-answer.readings) c.loaded_text.ensures in
     again_sent (page_count (view old).size) (view old) (view mid) (view new) (λ count. (sent_now (view mid) ≤ count) × (count ≤ sent_now (view new))) text.kept text.time
@@ -127,10 +133,41 @@ returns-in-Err-answer-clause-holds g c = λ other.
     (sym (w.beside_sent start) ∙ ap (λ (b : Beside). b.sent) beside ∙ w.beside_sent old)
     (sym (w.beside_read_faults start) ∙ ap (λ (b : Beside). b.read_faults) beside ∙ w.beside_read_faults old)
     (sym (w.beside_send_faults start) ∙ ap (λ (b : Beside). b.send_faults) beside ∙ w.beside_send_faults old)
-    c.load_store-answer.ensures in
+    c.load_store-answer.ensures.stores in
     let end = c.in-Err-answer.end in
     again_loaded name (page_count (view old).size) (view old) (view mid) (left old) (left mid) (sent old) (sent mid) (reads old) (reads mid) (sends old) (sends mid) (Err end)
     (λ is. let same : end ≡ load_end.DiskFault = cc in other (ap (λ (s : Status). s.code) c.end_status.ensures ∙ ap (λ (e : LoadEnd). (end_status e).code) same)) s
 
 pub returns-in-Err-clause-holds : goal.returns-in-Err-clause-holds
 returns-in-Err-clause-holds g c = λ other. again_opened (g.W.Disk.view c.args.world) (g.W.Disk.view c.in-Err.field-0.value) c.in-Err.ensures.opens
+
+pub returns-in-Ok-answer-clause-faults : goal.returns-in-Ok-answer-clause-faults
+returns-in-Ok-answer-clause-faults g c =
+    let view = g.W.Disk.view in
+    let old = view c.args.world in
+    let start = view (shown.pages c.in-Ok.store).disk in
+    let mid = view c.load_store-answer.result.1 in
+    let new = view c.send_text.result.1 in
+    let e = c.in-Ok.ensures in
+    let P : Result ℕ LoadEnd → Type 0 = λ r. CountsFault (fault_in load_fault r) start mid in
+    let answered = counts_then None old start mid (counts_no_disk old start e.opens.beside_is e.quiet) (subst P c.in-Ok-answer.is c.load_store-answer.ensures.faults) in
+    counts_then (code_fault c.send_text.result.0.code) old mid new answered c.send_text.ensures.faults
+
+pub returns-in-Err-answer-clause-faults : goal.returns-in-Err-answer-clause-faults
+returns-in-Err-answer-clause-faults g c =
+    let view = g.W.Disk.view in
+    let old = view c.args.world in
+    let start = view (shown.pages c.in-Ok.store).disk in
+    let new = view c.load_store-answer.result.1 in
+    let end = c.in-Err-answer.end in
+    let e = c.in-Ok.ensures in
+    let P : Result ℕ LoadEnd → Type 0 = λ r. CountsFault (fault_in load_fault r) start new in
+    let answered = counts_then (load_fault end) old start new (counts_no_disk old start e.opens.beside_is e.quiet) (subst P c.in-Err-answer.is c.load_store-answer.ensures.faults) in
+    counts_as c.end_status.result (end_status end) old new c.end_status.ensures (counts_told (load_fault end) (code_fault (end_status end).code) old new (load_fault_is end) answered)
+
+pub returns-in-Err-clause-faults : goal.returns-in-Err-clause-faults
+returns-in-Err-clause-faults g c =
+    let view = g.W.Disk.view in
+    let back = c.in-Err.field-0 in
+    let e = c.in-Err.ensures in
+    counts_as c.opening_status.result (opening_status back.cause) (view c.args.world) (view back.value) c.opening_status.ensures (counts_unopened back.cause (view c.args.world) (view back.value) e.opens.beside_is e.cause e.quiet_err)

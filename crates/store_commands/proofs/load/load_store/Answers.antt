@@ -1,6 +1,8 @@
 use Rattle.std.proofs.Common.{◌≢◌, Err, sym, ap, subst, arith}
+use Rattle.chart_world.specs.Faults.{CountsFault, fault_in}
 use Rattle.gate_pages.specs.GatePages.{IsClosed, pages_view}
 use Rattle.series_load.specs.declared.load_end.LoadEnd.TheVariants.{DiskFault}
+use Rattle.series_load.specs.Faults.{load_fault}
 use Rattle.series_store.specs.Shown as shown
 use Rattle.store_commands.specs.Storing.{Stores}
 use Rattle.store_commands.proofs.Held.{rests_new}
@@ -8,8 +10,8 @@ use Rattle.store_commands.proofs.Stores.{store_disk}
 use Rattle.store_commands.proofs.LoadStored.{stores_by, sound_after}
 use Rattle.store_commands.proofs.load.load_store.Goals as goal
 
-pub returns : goal.returns
-returns g c =
+pub returns-clause-stores : goal.returns-clause-stores
+returns-clause-stores g c =
     let view = g.W.Disk.view in
     let left = g.W.Streams.left in
     let sent = g.W.Streams.sent in
@@ -32,3 +34,10 @@ returns g c =
     made.outcome made.unknown made.within (omega (arith, before.space.rules.total_high, made.goes.size)) made.cause closed (λ is. let same = store_disk after before (made.untouched is) in (ap view same, ap left same)) made.goes.sent_is made.goes.sends made.goes.reads made.goes.faults in
     let D : g.row.W.Denot → Type 0 = λ d. Stores name pages.count (view disk) (view d) (left disk) (left d) (sent disk) (sent d) (reads disk) (reads d) (sends disk) (sends d) answer in
     subst D (sym c.disk_of.ensures.disk) all
+
+pub returns-clause-faults : goal.returns-clause-faults
+returns-clause-faults g c =
+    let view = g.W.Disk.view in
+    let answer = c.load-answer.result in
+    let D : g.row.W.Denot → Type 0 = λ d. CountsFault (fault_in load_fault answer) (view (shown.pages c.args.store).disk) (view d) in
+    subst D (sym c.disk_of.ensures.disk) c.load-answer.ensures.faults

@@ -1,6 +1,10 @@
+use Rattle.std.proofs.Common.{◌≡◌, ◌≢◌, ◌∙◌, ap}
+use Rattle.chart_service.specs.EditGroups.{group_end}
 use Rattle.chart_service.specs.Shown as shown
 use Rattle.series_store.specs.Shown as stored
-use Rattle.chart_service.proofs.StepLemmas.{AreOwn, group_bad}
+use Rattle.chart_service.specs.declared.failure.ServiceError.TheVariants.{DiskFault}
+use Rattle.chart_service.proofs.Faulting.{quiet_any}
+use Rattle.chart_service.proofs.StepLemmas.{AreOwn, group_bad, on_ok}
 use Rattle.chart_service.proofs.Together.{after_first, whole_passes, group_outside, does_some, few_read}
 use Rattle.chart_service.proofs.service.Service.edit_some.Goals as goal
 
@@ -39,3 +43,13 @@ returns-clause-moments g c = λ total book told stands.
 pub returns-clause-few_reads : goal.returns-clause-few_reads
 returns-clause-few_reads g c = λ total book told stands.
     few_read c.add_frames.result c.in-Ok.answers.items c.as_slice.result.now c.args.frames.now.items c.add_frames.new.frames.items _ _ c.as_slice.ensures.value (c.in-Ok.ensures.few_reads total book told stands) c.add_frames.ensures.done
+
+pub returns-in-Err-clause-quiet_err : goal.returns-in-Err-clause-quiet_err
+returns-in-Err-clause-quiet_err g c = λ other. c.in-Err.ensures.quiet_err (λ is. other (c.group_error.ensures ∙ ap group_end is))
+
+pub returns-clause-quiet : goal.returns-clause-quiet
+returns-clause-quiet g c = on_ok c.add_frames.result _ c.in-Ok.ensures.quiet
+
+pub returns-clause-quiet_err : goal.returns-clause-quiet_err
+returns-clause-quiet_err g c =
+    quiet_any c.add_frames.result (λ e. e ≢ DiskFault) ((g.P.Pages.view (stored.pages c.edit_group.new.self)).faults ≡ (g.P.Pages.view (shown.pages c.args.self.now)).faults) c.in-Ok.ensures.quiet

@@ -14,6 +14,7 @@ use Rattle.chart_service.specs.Replies.{own_zoom}
 use Rattle.chart_service.specs.Stepping.{RepliedTo, ReadsFew}
 use Rattle.chart_service.specs.Shown as shown
 use Rattle.series_store.specs.Shown as stored
+use Rattle.chart_service.proofs.Faulting.{counts_step, view_risen}
 use Rattle.chart_service.proofs.LookLemmas.{unchanged, steps_so}
 use Rattle.chart_service.proofs.StepLemmas.{AreOwn, look_reply, look_bad, on_ok, zoom_why}
 use Rattle.chart_service.proofs.service.Service.repeat.Goals as goal
@@ -69,6 +70,9 @@ returns g c =
       idle = unchanged _ _ _ _ _ _ _ _ _ _ looks;
       cause = subst C (sym viewed) (subst Why at (zoom_why r number t0 t1 (g.P.Pages.told (stored.pages store)) (stored.catalog store) (stored.numbers store) (g.P.Pages.view (stored.pages store)) (g.P.Pages.view (stored.pages new)) looked.cause));
       bad = look_bad r _ _ _ _ _ _ _ _ _ _ own looks looked.cause;
+      faults =
+          let view = g.P.Pages.view in
+          counts_step r (view (stored.pages store)) (view (stored.pages new)) looks.beside (view_risen r (g.P.Pages.told (stored.pages store)) (stored.catalog store) (stored.total store) (view (stored.pages store)) (view (stored.pages new)) looked.cause) c.zoom-reply.ensures.quiet c.zoom-reply.ensures.quiet_err;
       steps = steps_so _ _ _ _ _ _ _ _ _ _ looks;
       goes_on = looks.goes_on;
       sound = on_ok r (g.P.Pages.view (stored.pages new)).fit fit;

@@ -12,6 +12,7 @@ use Rattle.stored_book.specs.Standing.{StandsForBook}
 use Rattle.chart_service.specs.Stepping.{StandsAfter, state_of, RepliedTo, IsBeforeOrAfter, ReadsFew}
 use Rattle.chart_service.specs.Shown as shown
 use Rattle.series_store.specs.Shown as stored
+use Rattle.chart_service.proofs.Faulting.{counts_step, step_risen, view_risen}
 use Rattle.chart_service.proofs.LookLemmas.{unchanged, unchanged_so, steps_so, moments_so}
 use Rattle.chart_service.proofs.StepLemmas.{AreOwn, look_reply, look_bad, edit_bad, on_ok}
 use Rattle.chart_service.proofs.SyncLemmas.{asks_one}
@@ -76,6 +77,9 @@ returns-in_default g c =
       same_book = λ total book told stands keeps. let kept = unchanged _ _ _ _ _ _ _ _ _ _ looks in (kept.syncs, kept.writes);
       cause = c.look-reply.ensures.cause;
       bad = look_bad r _ _ _ _ _ _ _ _ _ _ own looks looked.cause;
+      faults =
+          let view = g.P.Pages.view in
+          counts_step r (view (stored.pages store)) (view (stored.pages new)) looks.beside (view_risen r (g.P.Pages.told (stored.pages store)) (stored.catalog store) (stored.total store) (view (stored.pages store)) (view (stored.pages new)) looked.cause) c.look-reply.ensures.quiet c.look-reply.ensures.quiet_err;
       steps = steps_so _ _ _ _ _ _ _ _ _ _ looks;
       goes_on = looks.goes_on;
       sound = on_ok r (g.P.Pages.view (stored.pages new)).fit fit;
@@ -91,3 +95,10 @@ returns-in-Edit-clause-same_book g c = λ total book told stands keeps.
     let is : c.args.request.now ≡ EditRequest c.in-Edit.edit = c.in-Edit.is in
     let kept : All (λ edit. KeepsBook book (apply book total edit)) (c.in-Edit.edit ∷ []) = subst K is keeps in
     c.edit.ensures.same_book total book told stands (All-head (λ edit. KeepsBook book (apply book total edit)) c.in-Edit.edit [] kept)
+
+pub returns-in-Edit-clause-faults : goal.returns-in-Edit-clause-faults
+returns-in-Edit-clause-faults g c =
+    let store = c.args.self.now.store in
+    let old = g.P.Pages.view (stored.pages store) in
+    let new = g.P.Pages.view (stored.pages c.edit.new.self.store) in
+    counts_step c.edit.result old new c.edit.ensures.steps.beside (step_risen c.edit.result (EditRequest c.in-Edit.edit) (g.P.Pages.told (stored.pages store)) (stored.catalog store) (stored.numbers store) old new c.edit.ensures.cause) c.edit.ensures.quiet c.edit.ensures.quiet_err

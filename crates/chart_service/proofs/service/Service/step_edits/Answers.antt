@@ -1,15 +1,18 @@
 use Rattle.std.proofs.Common.{◌∙◌, List, length, take, Err, ap, sym, subst, arith}
 use Rattle.std.proofs.lemmas.List.{length-drop}
 use Rattle.block_disk.specs.View.{Passes}
+use Rattle.chart_world.specs.FaultLaws.{counts_no_disk}
 use Rattle.gate_pages.specs.GateLaws.{goes_then}
 use Rattle.gate_pages.specs.Pages.{Quiet}
 use Rattle.series_book.specs.declared.edits.Edit.{Edit}
 use Rattle.series_book.specs.EditLists.{after_edits}
 use Rattle.chart_service.specs.EditGroups.{DoesSome, IsAfterSome}
+use Rattle.chart_service.specs.Faulting.{step_fault}
 use Rattle.chart_service.specs.Shown as shown
 use Rattle.chart_service.specs.Stepping.{IsOutside}
-use Rattle.chart_service.proofs.DiskKept.{group_then}
+use Rattle.chart_service.proofs.DiskKept.{group_then, risen_since}
 use Rattle.chart_service.proofs.Ends.{err_is, error_is}
+use Rattle.chart_service.proofs.Faulting.{counts_error, fault_goes}
 use Rattle.chart_service.proofs.Sending.{error_goes}
 use Rattle.chart_service.proofs.SyncLemmas.{group_next, group_stop, group_end}
 use Rattle.chart_service.proofs.Together.{after_more, after_first, more_done, tail_is, all_done, more_passes, some_replied, some_passes}
@@ -52,6 +55,7 @@ edits-preserved g c =
       fits = yes.fits inv.fits;
       replies = yes.replies inv.replies;
       sessions = c.edit_some.ensures.sessions ∙ inv.sessions;
+      quiet = yes.quiet ∙ inv.quiet;
       moves = group_then (told_in first) (told_in mid) (told_in new) (view first) (view mid) (view new) inv.moves c.edit_some.ensures.moves;
       goes_on = goes_then (g.P.Pages.under first) (g.P.Pages.under mid) (g.P.Pages.under new) inv.goes_on c.edit_some.ensures.goes_on;
       total = c.edit_some.ensures.total ∙ inv.total;
@@ -128,3 +132,20 @@ returns-in_err-edit_some-clause-syncs g c = λ total book told stands.
 
 pub returns-clause-syncs : goal.returns-clause-syncs
 returns-clause-syncs g c = λ total book told stands. group_end total book c.args.edits.now (length c.edits.frames.items) _ _ (c.edits.invariant.syncs total book told stands)
+
+pub returns-in_err-edit_some-clause-faults : goal.returns-in_err-edit_some-clause-faults
+returns-in_err-edit_some-clause-faults g c =
+    let view = g.P.Pages.view in
+    let first = view (shown.pages c.args.self.now) in
+    let mid = view (shown.pages c.edits.self) in
+    let new = view (shown.pages c.edit_some.new.self) in
+    let inv = c.edits.invariant in
+    let no = c.in_err-edit_some.ensures in
+    let e = c.in_err-edit_some.field-0.0 in
+    fault_goes step_fault c.from_residual.result e first new c.from_residual.ensures.1
+    (counts_error e first new (c.edit_some.ensures.moves.beside ∙ inv.moves.beside) (λ is. risen_since first.faults mid.faults new.faults inv.moves.faults (no.disk (ap Err is))) (λ other. no.quiet_err other ∙ inv.quiet))
+
+pub returns-clause-faults : goal.returns-clause-faults
+returns-clause-faults g c =
+    let inv = c.edits.invariant in
+    counts_no_disk (g.P.Pages.view (shown.pages c.args.self.now)) (g.P.Pages.view (shown.pages c.edits.self)) inv.moves.beside inv.quiet

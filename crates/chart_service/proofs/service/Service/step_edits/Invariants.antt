@@ -28,6 +28,7 @@ invariant-edits g l =
       fits : All Fits l.frames.items;
       replies : All IsEditReply l.frames.items;
       sessions : l.self.sessions ≡ l.initial.self.sessions;
+      quiet : (view pages).faults ≡ (view first).faults;
       moves : GroupSteps (told first) (told pages) (view first) (view pages);
       goes_on : GoesOn (g.P.Pages.under first) (g.P.Pages.under pages);
       total : shown.total l.self ≡ shown.total l.initial.self;

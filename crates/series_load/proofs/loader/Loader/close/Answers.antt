@@ -1,7 +1,11 @@
-use Rattle.std.proofs.Common.{sym, subst}
+use Rattle.std.proofs.Common.{refl, sym, subst}
 use Rattle.series_load.proofs.SetLemmas.{some_items, set_is_edit, set_does, set_fails, cause_of}
 use Rattle.series_load.specs.Steps.{IsSetCause}
 use Rattle.series_load.specs.declared.load_end.LoadEnd.{LoadEnd}
+use Rattle.chart_world.specs.Faults.{CountsFault}
+use Rattle.chart_world.specs.FaultLaws.{counts_no_disk}
+use Rattle.series_load.specs.Faults.{load_fault}
+use Rattle.series_load.proofs.Counting.{no_memory_on, set_counts}
 use Rattle.series_store.specs.Shown as shown
 use Rattle.series_load.proofs.loader.Loader.close.Goals as goal
 
@@ -32,3 +36,16 @@ returns-clause-cause g c =
     let P : LoadEnd → Type 0 = λ e. IsSetCause e (shown.IsTold new) (shown.total store) (shown.view store) (shown.view new) in
     subst P (sym c.end_at.ensures) (cause_of c.args.self.now.run.at c.in-Err.error (shown.IsTold store) (shown.IsTold new) (shown.numbers store) (shown.view store) (shown.view new) c.edit.ensures.moves.was_told c.edit.ensures.moves.size
     (λ t. record { spelled = store.space.spelled c.requires.sound t; rules = store.space.rules }) c.in-Err.ensures.unchanged c.in-Err.ensures.cause)
+
+pub returns-in_err-set-clause-faults : goal.returns-in_err-set-clause-faults
+returns-in_err-set-clause-faults g c = no_memory_on c.from_residual.result c.in_err-set.field-0.0 (shown.view c.args.store.now) (shown.view c.args.store.now) c.from_residual.ensures.1 c.in_err-set.ensures.err refl
+
+pub returns-in-Ok-clause-faults : goal.returns-in-Ok-clause-faults
+returns-in-Ok-clause-faults g c = counts_no_disk (shown.view c.args.store.now) (shown.view c.edit.new.self) c.edit.ensures.moves.beside c.in-Ok.ensures.quiet
+
+pub returns-clause-faults : goal.returns-clause-faults
+returns-clause-faults g c =
+    let store = c.args.store.now in
+    let new = c.edit.new.self in
+    let P : LoadEnd → Type 0 = λ e. CountsFault (load_fault e) (shown.view store) (shown.view new) in
+    subst P (sym c.end_at.ensures) (set_counts c.args.self.now.run.at c.in-Err.error (shown.IsTold store) (shown.numbers store) (shown.view store) (shown.view new) c.edit.ensures.moves.beside c.in-Err.ensures.quiet_err c.in-Err.ensures.cause)

@@ -4,6 +4,7 @@ use Rattle.series_load.specs.Steps.{Closes, Adds, NoBad}
 use Rattle.series_load.proofs.Carrying.{err_less}
 use Rattle.series_load.proofs.RunLemmas.{run_more}
 use Rattle.series_load.proofs.ReadingLemmas.{apart_of, goes_with, keeps_more, ends_apart, begins, goes_on, fills, not_full}
+use Rattle.series_load.proofs.Counting.{counts_on, no_memory_counts}
 use Rattle.series_store.specs.Shown as shown
 use Rattle.series_load.proofs.loader.Loader.take_reading.Goals as goal
 
@@ -42,3 +43,9 @@ returns-clause-does g c = λ total book old told stands keeps.
     let more = keeps_more goes.run kept c.push.new.self next goes.keeps c.in_ok-push.ensures.at c.in_ok-push.ensures.time c.in_ok-push.ensures.last c.in_ok-push.ensures.values in
     goes_on step total c.args.self.now.name book old next kept c.push.new.self _ (shown.view c.args.store.now) goes more
     (not_full c.is_full.result _ c.is_full.ensures c.if-is_full.false) stands
+
+pub returns-in_err-close-clause-faults : goal.returns-in_err-close-clause-faults
+returns-in_err-close-clause-faults g c = counts_on c.from_residual.result c.in_err-close.field-0.0 (shown.view c.args.store.now) (shown.view c.close.new.store) c.from_residual.ensures.1 c.in_err-close.ensures.faults
+
+pub returns-then-not-is_followed_by-clause-faults : goal.returns-then-not-is_followed_by-clause-faults
+returns-then-not-is_followed_by-clause-faults g c = no_memory_counts c.begin.result (shown.view c.args.store.now) (shown.view c.close.new.store) c.begin.ensures.err c.in_ok-close.ensures.faults

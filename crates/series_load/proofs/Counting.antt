@@ -1,0 +1,49 @@
+-- The counts of faults from call to call.
+use Rattle.std.proofs.Common.{◌≡◌, ◌≢◌, ℕ, None, Result, Ok, Err, IfErr, refl, subst, sym, ◌∙◌}
+use Rattle.std.specs.Prelude.{IsErrAnd}
+use Rattle.block_disk.specs.Counts.{HasRisen}
+use Rattle.block_disk.specs.View.{View}
+use Rattle.chart_world.specs.Faults.{CountsFault, fault_in}
+use Rattle.chart_world.specs.FaultLaws.{counts_none, counts_disk, counts_no_disk}
+use Rattle.chart_world.specs.declared.line_answer.LineFault.{LineFault}
+use Rattle.chart_world.specs.declared.line_answer.LineFault.TheVariants as fault
+use Rattle.page_space.specs.declared.superblock.Superblock.{Superblock}
+use Rattle.series_store.specs.Results.{IsEditCause}
+use Rattle.series_store.specs.declared.errors.StoreError.{StoreError}
+use Rattle.series_store.specs.declared.errors.StoreError.TheVariants as store
+use Rattle.series_load.specs.Faults.{load_fault}
+use Rattle.series_load.specs.Steps.{end_at, end_of}
+use Rattle.series_load.specs.declared.load_end.LoadEnd.{LoadEnd}
+use Rattle.series_load.specs.declared.load_end.LoadEnd.TheVariants.{NoMemory}
+
+-- an error that is passed on
+pub counts_on : {T : Type 0} (result : Result T LoadEnd) (e : LoadEnd) (old new : View) → IsErrAnd result (λ x. x ≡ e) → CountsFault (load_fault e) old new → CountsFault (fault_in load_fault result) old new
+counts_on (Ok v) e old new is counts = absurd is
+counts_on (Err x) e old new is counts = let P : LoadEnd → Type 0 = λ y. CountsFault (load_fault y) old new in subst P (sym is) counts
+
+-- want of memory behind what counted no fault
+pub no_memory_counts : {T : Type 0} (result : Result T LoadEnd) (old new : View) → IfErr result (λ e. e ≡ NoMemory) → CountsFault None old new → CountsFault (fault_in load_fault result) old new
+no_memory_counts (Ok v) old new none counts = counts
+no_memory_counts (Err e) old new none counts = let P : LoadEnd → Type 0 = λ y. CountsFault (load_fault y) old new in subst P (sym none) counts
+
+pub no_memory_on : {T : Type 0} (result : Result T LoadEnd) (e : LoadEnd) (old new : View) → IsErrAnd result (λ x. x ≡ e) → e ≡ NoMemory → CountsFault None old new → CountsFault (fault_in load_fault result) old new
+no_memory_on result e old new is none counts =
+    let P : LoadEnd → Type 0 = λ y. CountsFault (load_fault y) old new in
+    counts_on result e old new is (subst P (sym none) counts)
+
+-- a set that wasn't done
+pub set_counts : (at : ℕ) (e : StoreError) (told : Type 0) (s : Superblock) (old new : View) → new.beside ≡ old.beside → (e ≢ store.DiskFault → new.faults ≡ old.faults) → IsEditCause e told s old new → CountsFault (load_fault (end_at at e)) old new
+set_counts at (store.Refused refusal) told s old new beside quiet cause = counts_no_disk old new beside (quiet (λ is. cc))
+set_counts at store.NotAStore told s old new beside quiet cause = counts_no_disk old new beside (quiet (λ is. cc))
+set_counts at store.DiskFault told s old new beside quiet cause = counts_disk old new beside cause
+set_counts at (store.Damaged page) told s old new beside quiet cause = counts_no_disk old new beside (quiet (λ is. cc))
+set_counts at store.NoMemory told s old new beside quiet cause = counts_no_disk old new beside (quiet (λ is. cc))
+
+-- takes that ended in a fault of the lines
+pub takes_fault : (f : LineFault) (old new : View) (reads reads' : ℕ) → old.beside.read_faults ≡ reads → new.beside.read_faults ≡ reads' → new.faults ≡ old.faults → (f ≡ fault.ReadFault → HasRisen reads reads') → (f ≢ fault.ReadFault → reads' ≡ reads) → new.beside.send_faults ≡ old.beside.send_faults
+    → CountsFault (load_fault (end_of f)) old new
+takes_fault fault.ReadFault old new reads reads' was are disk risen same sends =
+    let F : ℕ → Type 0 = λ n. HasRisen n new.beside.read_faults in
+    let N : ℕ → Type 0 = λ n. HasRisen reads n in
+    (disk, subst F (sym was) (subst N (sym are) (risen refl)), sends)
+takes_fault fault.InputTooLong old new reads reads' was are disk risen same sends = counts_none old new disk (are ∙ same (λ is. cc) ∙ sym was) sends
