@@ -4,3 +4,4 @@ pub mod Meaning
 pub mod Sessions
 pub mod Replies
 pub mod Live
+pub mod Laws

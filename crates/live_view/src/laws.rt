@@ -1,19 +1,14 @@
 //! What follows from the definitions. The functions do nothing: their contracts are the laws.
-ghost use Rattle.std.specs.Prelude.{◌≡◌, ◌≢◌, ◌⊎◌, ◌↔◌, ℕ, ℤ, ◌≤◌, List, length, Contains, Option, Some, IsTrue, codes};
+ghost use Rattle.std.specs.Prelude.{◌≡◌, ◌≢◌, ◌⊎◌, ◌↔◌, ℕ, ◌≤◌, List, Contains, Some, codes};
 ghost use Rattle.std.specs.List.Sorted.{IsStrictlyIncreasing};
-ghost use Rattle.chart_grid.specs.declared.axis.Axis.{Axis};
-ghost use Rattle.chart_grid.specs.declared.grid.Grid.{Grid};
-ghost use Rattle.om3_coeff.specs.declared.key.Key.{Key};
-ghost use Rattle.om3_coeff.specs.declared.coef.Coef.{Coef};
 ghost use Rattle.coefficient_cache.specs.Caches.{IsCapacity};
 ghost use Rattle.zoom_session.specs.declared.session.Session.{Session};
 ghost use Rattle.zoom_session.specs.declared.view_spec.ViewSpec.{ViewSpec};
-ghost use Rattle.zoom_session.specs.Plans.{AreNeeded};
-ghost use Rattle.zoom_session.specs.Sessions.{session_of, last_of};
 ghost use Rattle.live_view.specs.declared.live_lines.LiveLine.TheVariants.{Follow, Unfollow};
 ghost use Rattle.live_view.specs.Lines.{live_line, SpellsWith};
 ghost use Rattle.live_view.specs.Numbers.{with_number, without_number};
-ghost use Rattle.live_view.specs.Replies.{FollowsUnfiltered, followers, shows};
+ghost use Rattle.live_view.specs.Replies.{FollowsUnfiltered, followers};
+ghost use Rattle.live_view.specs.Laws.{EditsGoToFollowers, FollowedViewsFit};
 
 use view_keys::laws::keys_of_a_view_are_few;
 
@@ -34,8 +29,7 @@ pub fn numbers_are_sets()
 /// The sessions that an edit of a series is pushed to are just the followed ones whose last view is one of that
 /// series, each of them once, by rising number.
 pub fn edits_go_to_followers()
-    ensures just { (series n : ℕ) (sessions : List Session) (followed : List ℕ) →
-        Contains (followers (Some series) sessions followed) n ↔ (Contains followed n × IsTrue (shows series (last_of (session_of n sessions)))) }
+    ensures just { EditsGoToFollowers }
     ensures rising { (series : ℕ) (sessions : List Session) (followed : List ℕ) →
         IsStrictlyIncreasing followed → IsStrictlyIncreasing (followers (Some series) sessions followed) }
 {}
@@ -44,8 +38,7 @@ pub fn edits_go_to_followers()
 /// coefficients than its client keeps, whatever the window and the range; and there are at most 1,247 columns. So
 /// where zooms keep the columns, no push is too large.
 pub fn followed_views_fit()
-    ensures needed { (session : Session) (view : ViewSpec) (list : List (Option ℤ)) (axis : Axis) (grid : Grid) (lo hi : ℤ) (keys : List (Key × Coef)) →
-        FollowsUnfiltered session view → grid.w ≡ view.grid.w → AreNeeded list axis grid lo hi keys → length keys ≤ session.cache.capacity }
+    ensures needed { FollowedViewsFit }
     ensures columns { (session : Session) (view : ViewSpec) → FollowsUnfiltered session view → IsCapacity session.cache.capacity → view.grid.w ≤ 1247 }
 {
     keys_of_a_view_are_few();

@@ -1,5 +1,5 @@
 -- The failed call that an end tells is the one of its status.
-use Rattle.std.proofs.Common.{◌≡◌, ◌≢◌, Option, None, Some, Result, Ok, Err, refl}
+use Rattle.std.proofs.Common.{◌≡◌, ◌≢◌, Result, Ok, Err, refl}
 use Rattle.block_disk.specs.View.{View}
 use Rattle.chart_world.specs.Faults.{CountsFault, fault_in}
 use Rattle.chart_world.specs.FaultLaws.{counts_disk, counts_no_disk}

@@ -1,8 +1,8 @@
 -- That a command counts the failed call that its status tells, and no other.
-use Rattle.std.proofs.Common.{◌≡◌, ◌≢◌, ◌∙◌, ℕ, Option, None, Some, Result, Ok, Err, refl, sym, subst}
+use Rattle.std.proofs.Common.{◌≡◌, ◌≢◌, ◌∙◌, ℕ, Option, None, Some, sym, subst}
 use Rattle.block_disk.specs.Counts.{HasRisen}
 use Rattle.block_disk.specs.View.{View, DiskKept}
-use Rattle.chart_world.specs.Faults.{Fault, OfDisk, OfTake, OfSend, CountsFault, fault_in}
+use Rattle.chart_world.specs.Faults.{Fault, OfTake, OfSend, CountsFault}
 use Rattle.chart_world.specs.FaultLaws.{counts_none, counts_disk, counts_no_disk}
 use Rattle.disk_store.specs.Openings.{Prevents}
 use Rattle.disk_store.specs.declared.causes.OpeningCause.{OpeningCause}

@@ -18,3 +18,4 @@ pub mod Copied
 pub mod Demonstrated
 pub mod Answering
 pub mod Faulting
+pub mod Laws
