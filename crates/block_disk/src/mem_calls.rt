@@ -32,7 +32,25 @@ impl MemDisk {
         Ok(())
     }
 
-    /// Notes a call in the record. Fails where there is no memory for it.
+    /// Puts a call into the record. Fails where there is no memory for it; no fault is counted.
+    fn keep(&mut self, call: Call) -> Result<(), Failed>
+        requires { IsTrue (call_fits self.old.blocks call) }
+        ensures ok { OnOk result (self.new.record.items ≡ self.old.record.items ++ call ∷ []) }
+        ensures err { OnErr result (self.new.record.items ≡ self.old.record.items) }
+        ensures faults { self.new.faults ≡ self.old.faults }
+        ensures blocks { self.new.blocks ≡ self.old.blocks }
+        ensures bytes { self.new.bytes.items ≡ self.old.bytes.items }
+        ensures reads { self.new.reads ≡ self.old.reads }
+        ensures syncs { self.new.syncs ≡ self.old.syncs }
+        ensures writes { self.new.writes ≡ self.old.writes }
+    {
+        if self.record.push(call).is_err() {
+            return Err(Failed);
+        }
+        Ok(())
+    }
+
+    /// Notes a call in the record. Fails, with a fault, where there is no memory for it.
     fn note(&mut self, call: Call) -> Result<(), Failed>
         requires { IsTrue (call_fits self.old.blocks call) }
         ensures ok { OnOk result (self.new.record.items ≡ self.old.record.items ++ call ∷ []) }
@@ -46,9 +64,9 @@ impl MemDisk {
         ensures syncs { self.new.syncs ≡ self.old.syncs }
         ensures writes { self.new.writes ≡ self.old.writes }
     {
-        if self.record.push(call).is_err() {
+        let Ok(()) = self.keep(call) else {
             return Err(self.fault());
-        }
+        };
         Ok(())
     }
 
@@ -115,9 +133,13 @@ impl Disk for MemDisk {
         let start = BLOCK * no as usize;
         let bytes = self.bytes.as_slice();
         let Ok(block) = Vec::from_slice(self.alloc, &bytes[start..start + BLOCK]) else {
+            begun?;
             return Err(self.fault());
         };
-        self.note(Call::Wrote(no, block))?;
+        let Ok(()) = self.keep(Call::Wrote(no, block)) else {
+            begun?;
+            return Err(self.fault());
+        };
         begun?;
         replace(&mut self.bytes, start, from);
         Ok(())

@@ -3,3 +3,4 @@ pub mod Entries
 pub mod Layout
 pub mod Spelling
 pub mod Places
+pub mod Laws

@@ -1,20 +1,18 @@
 //! What follows from the layout. The functions do nothing: their contracts are the laws.
 
-ghost use Rattle.std.specs.Prelude.{◌≡◌, ◌≢◌, ◌<◌, ◌≤◌, ◌+◌, ◌↔◌, ℕ, List, slice_index};
+ghost use Rattle.std.specs.Prelude.{◌≡◌, ◌≢◌, ◌<◌, ◌≤◌, ◌+◌, ◌↔◌, ℕ, List};
 ghost use Rattle.block_disk.specs.Blocks.{IsBlock};
 ghost use Rattle.page_space.specs.Layout.{catalog_page};
 ghost use Rattle.catalog_page.specs.Entries.{IsEntry, entry_at};
 ghost use Rattle.catalog_page.specs.Layout.{HasRecord, KeepsLayout, IsFirstBad};
 ghost use Rattle.catalog_page.specs.Places.{page_of, number_of, records_of};
 ghost use Rattle.catalog_page.specs.declared.errors.BadCatalog.{BadCatalog};
+ghost use Rattle.catalog_page.specs.Laws.{PagesAreTheirRecords};
 
 /// A page that keeps the layout has no byte but what its records say: one that says the same of as many
 /// series is the same.
 pub fn pages_are_their_records()
-    ensures { (one other : List ℕ) (count fresh fresh' : ℕ) → IsBlock one → IsBlock other
-        → ((k : ℕ) → slice_index one k < 256) → ((k : ℕ) → slice_index other k < 256)
-        → KeepsLayout count fresh one → KeepsLayout count fresh' other
-        → ((i : ℕ) → i < count → entry_at one i ≡ entry_at other i) → one ≡ other }
+    ensures { PagesAreTheirRecords }
 {}
 
 /// What a record of a series says is in range.

@@ -9,3 +9,4 @@ pub mod Drawing
 pub mod Finding
 pub mod Accepting
 pub mod Showing
+pub mod Laws

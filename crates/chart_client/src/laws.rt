@@ -1,16 +1,15 @@
 //! What follows from the definitions. The functions do nothing: their contracts are the laws.
 
-ghost use Rattle.std.specs.Prelude.{◌≡◌, ◌≢◌, ◌⊎◌, ℕ, List, [], ◌∷◌, ◌++◌, Option, None, Some};
-ghost use Rattle.std.specs.List.{cons_option};
+ghost use Rattle.std.specs.Prelude.{◌≡◌, ◌≢◌, ◌⊎◌, ℕ, List, [], Option, None, Some};
 ghost use Rattle.line_raster.specs.Canvas.{Canvas};
 ghost use Rattle.chart_frames.specs.declared.frame.Frame.{Frame};
-ghost use Rattle.chart_frames.specs.declared.frame.Frame.TheVariants.{Opened, Closed};
-ghost use Rattle.chart_frames.specs.declared.frame.ViewFrame.{ViewFrame};
+ghost use Rattle.chart_frames.specs.declared.frame.Frame.TheVariants.{Closed};
 ghost use Rattle.chart_client.specs.declared.holding.Holding.{Holding};
 ghost use Rattle.chart_client.specs.Holdings.{holding_of};
-ghost use Rattle.chart_client.specs.Accepting.{Accepts, AcceptsAll, AcceptsView, Rejects, HasNumber, named_in, viewed};
+ghost use Rattle.chart_client.specs.Accepting.{Accepts, AcceptsAll, Rejects, HasNumber, named_in, viewed};
 ghost use Rattle.chart_client.specs.declared.errors.ClientError.{ClientError};
 ghost use Rattle.chart_client.specs.declared.errors.ClientError.TheVariants.{NoMemory};
+ghost use Rattle.chart_client.specs.Laws.{OpenedSessionsHoldNothing, ViewedSessionsHoldTheirKeys, AcceptedFramesGoOn};
 
 /// A frame that a client accepts changes what it holds of no session but the one that the frame names.
 /// An opening leaves an empty list of the stated size, a closing none, and a view the list that is
@@ -18,14 +17,10 @@ ghost use Rattle.chart_client.specs.declared.errors.ClientError.TheVariants.{NoM
 pub fn frames_change_one_session()
     ensures others { (frame : Frame) (drawing : Option Canvas) (old new : List Holding) (number : ℕ) →
         Accepts frame drawing old new → named_in frame ≢ Some number → holding_of number new ≡ holding_of number old }
-    ensures opened { (number size : ℕ) (drawing : Option Canvas) (old new : List Holding) →
-        Accepts (Opened number size) drawing old new →
-        holding_of number new ≡ Some (record { number = number; cache = record { pairs = []; capacity = size } }) }
+    ensures opened { OpenedSessionsHoldNothing }
     ensures closed { (number : ℕ) (drawing : Option Canvas) (old new : List Holding) →
         Accepts (Closed number) drawing old new → holding_of number new ≡ None }
-    ensures viewed { (view : ViewFrame) (holding : Holding) (drawing : Canvas) (old new : List Holding) →
-        holding_of view.session old ≡ Some holding → (accepted : AcceptsView view holding.cache drawing old new) →
-        holding_of view.session new ≡ Some (record { number = view.session; cache = viewed view holding.cache accepted.wanted }) }
+    ensures viewed { ViewedSessionsHoldTheirKeys }
 {}
 
 /// A frame is accepted, or there is one cause for which it isn't, unless memory runs out. A key that an
@@ -41,7 +36,5 @@ pub fn frames_have_one_answer()
 /// Frames that are accepted one after the other, and one that is accepted after them, are all accepted.
 pub fn frames_follow_one_another()
     ensures none { (old : List Holding) → AcceptsAll [] [] old old }
-    ensures next { (frames : List Frame) (drawings : List Canvas) (old between new : List Holding) (frame : Frame) (drawing : Option Canvas) →
-        AcceptsAll frames drawings old between → Accepts frame drawing between new →
-        AcceptsAll (frames ++ frame ∷ []) (drawings ++ cons_option drawing []) old new }
+    ensures next { AcceptedFramesGoOn }
 {}

@@ -7,6 +7,9 @@ use Rattle.chart_frames.specs.declared.fields.Stop.{Stop}
 use Rattle.chart_frames.specs.declared.item_stop.ItemStop.{ItemStop}
 use Rattle.chart_frames.specs.declared.item_stop.ItemStop.TheVariants as stops
 use Rattle.chart_frames.specs.Frames.{key_number}
+use Rattle.chart_frames.specs.Fields.{coefs_fields, rows_fields}
+use Rattle.chart_frames.specs.Reading.{read}
+use Rattle.chart_frames.specs.Spelled.{coefs_before, rows_all_before}
 
 -- a function ended for this cause: reading ends with the same one, unless memory ran out
 abbrev pub Fails : ItemStop → Result (List ℕ) Stop → Type 0
@@ -20,3 +23,13 @@ last_key coefs = option_map (λ e. key_number e.0) (slice_get coefs (length coef
 -- the last column
 abbrev pub last_column : List Row → Option ℕ
 last_column rows = option_map (λ r. r.column) (slice_get rows (length rows - 1))
+
+-- behind the coefficients that were read, reading one of count ends for this cause
+abbrev pub FailsInCoefs : ℕ → ℕ → ItemStop → List (Key × Coef) → List (Key × Coef) → List ℕ → Type 0
+FailsInCoefs slots count e old new bytes =
+    (tail : List ℕ) × (coefs_before new tail ≡ coefs_before old bytes) × Fails e (read (coefs_fields slots (last_key new) (count - length new)) tail)
+
+-- behind the rows that were read, reading one of count ends for this cause
+abbrev pub FailsInRows : ℕ → ℕ → ItemStop → List Row → List Row → List ℕ → Type 0
+FailsInRows w count e old new bytes =
+    (tail : List ℕ) × (rows_all_before new tail ≡ rows_all_before old bytes) × Fails e (read (rows_fields w (last_column new) (count - length new)) tail)

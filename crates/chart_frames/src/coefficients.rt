@@ -1,14 +1,14 @@
 // The coefficients of a view.
-ghost use Rattle.std.specs.Prelude.{◌≡◌, ◌≢◌, ◌<◌, ◌≤◌, ◌+◌, ◌-◌, ◌*◌, ◌^◌, ◌++◌, ◌&&◌, ◌||◌, false, true, ℕ, pos, List, length, All, IsTrue, OnErr, IfOk, IfErr, IfSome, MatchOption};
+ghost use Rattle.std.specs.Prelude.{◌≡◌, ◌≢◌, ◌<◌, ◌≤◌, ◌+◌, ◌-◌, ◌^◌, ◌++◌, ◌&&◌, ◌||◌, false, true, ℕ, pos, length, All, IsTrue, OnErr, IfOk, IfErr, MatchOption};
 ghost use Rattle.om3_coeff.specs.Keys.{height, IsNode};
 ghost use Rattle.chart_frames.specs.declared.limits.TheConstants.{MOST_SLOTS};
 ghost use Rattle.chart_frames.specs.Format.{Format, number_bytes};
 ghost use Rattle.chart_frames.specs.Reading.{Reads, read};
-ghost use Rattle.chart_frames.specs.Fields.{follows, is_key, key_field, difference_field, coef_fields, coefs_fields};
+ghost use Rattle.chart_frames.specs.Fields.{follows, is_key, key_field, difference_field, coef_fields};
 ghost use Rattle.chart_frames.specs.Frames.{IsCoef, FitsCoef, FitCoefs, key_number, flags_of};
 ghost use Rattle.whole_number.specs.Range.{IsTime};
 ghost use Rattle.chart_frames.specs.Spelled.{signed_bytes, two_before, coef_before, coefs_before};
-ghost use Rattle.chart_frames.specs.Items.{Fails, last_key};
+ghost use Rattle.chart_frames.specs.Items.{Fails, last_key, FailsInCoefs};
 ghost use Rattle.om3_coeff.specs.declared.key.Key.{Key};
 ghost use Rattle.om3_coeff.specs.declared.coef.Coef.{Coef};
 
@@ -169,8 +169,7 @@ pub fn fill_coefs<'a>(
     ensures fits { FitCoefs slots coefs.new.items }
     ensures room { length coefs.new.items ≤ count }
     ensures ok { IfOk result (λ rest. (length coefs.new.items ≡ count) × (coefs_before coefs.new.items rest.now ≡ coefs_before coefs.old.items bytes.now)) }
-    ensures err { IfErr result (λ e. (tail : List ℕ) × (coefs_before coefs.new.items tail ≡ coefs_before coefs.old.items bytes.now)
-        × Fails e (read (coefs_fields slots (last_key coefs.new.items) (count - length coefs.new.items)) tail)) }
+    ensures err { IfErr result (λ e. FailsInCoefs slots count e coefs.old.items coefs.new.items bytes.now) }
 {
     let mut rest = bytes;
     for _ in coefs.len()..count as usize {

@@ -1,12 +1,12 @@
 // The rows of a filtered view.
-ghost use Rattle.std.specs.Prelude.{◌≡◌, ◌<◌, ◌≤◌, ◌≤ℤ◌, ◌+◌, ◌-◌, ◌++◌, ℕ, ℤ, List, length, IsTrue, OnErr, IfOk, IfErr};
+ghost use Rattle.std.specs.Prelude.{◌≡◌, ◌<◌, ◌≤◌, ◌≤ℤ◌, ◌+◌, ◌-◌, ◌++◌, ℕ, ℤ, length, IsTrue, OnErr, IfOk, IfErr};
 ghost use Rattle.whole_number.specs.Range.{IsValue};
 ghost use Rattle.chart_frames.specs.Format.{Format, number_bytes};
 ghost use Rattle.chart_frames.specs.Reading.{Reads, read};
-ghost use Rattle.chart_frames.specs.Fields.{rises, column_field, value_field, at_most_field, at_least_field, between_field, row_fields, rows_fields};
+ghost use Rattle.chart_frames.specs.Fields.{rises, column_field, value_field, at_most_field, at_least_field, between_field, row_fields};
 ghost use Rattle.chart_frames.specs.Frames.{AreOrdered, FitsRow, FitRows};
 ghost use Rattle.chart_frames.specs.Spelled.{signed_bytes, two_before, row_before, rows_all_before};
-ghost use Rattle.chart_frames.specs.Items.{Fails, last_column};
+ghost use Rattle.chart_frames.specs.Items.{Fails, last_column, FailsInRows};
 
 use crate::fields::{Stop, short_at, signed_at};
 use crate::heads::is_value;
@@ -167,8 +167,7 @@ pub fn fill_rows<'a>(
     ensures fits { FitRows w rows.new.items }
     ensures room { length rows.new.items ≤ count }
     ensures ok { IfOk result (λ rest. (length rows.new.items ≡ count) × (rows_all_before rows.new.items rest.now ≡ rows_all_before rows.old.items bytes.now)) }
-    ensures err { IfErr result (λ e. (tail : List ℕ) × (rows_all_before rows.new.items tail ≡ rows_all_before rows.old.items bytes.now)
-        × Fails e (read (rows_fields w (last_column rows.new.items) (count - length rows.new.items)) tail)) }
+    ensures err { IfErr result (λ e. FailsInRows w count e rows.old.items rows.new.items bytes.now) }
 {
     let mut rest = bytes;
     for _ in rows.len()..count as usize {

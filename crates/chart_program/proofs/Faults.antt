@@ -13,7 +13,6 @@ use Rattle.chart_world.specs.declared.line_answer.LineFault.{LineFault}
 use Rattle.chart_world.specs.declared.line_answer.LineFault.TheVariants as fault
 use Rattle.draw_command.specs.declared.draw_end.DrawEnd.{DrawEnd}
 use Rattle.draw_command.specs.declared.draw_end.DrawEnd.TheVariants as draw_end
-use Rattle.store_commands.specs.Faulting.{counts_kept, counts_unsent, counts_untaken}
 use Rattle.store_commands.specs.Status.{code_fault}
 use Rattle.chart_program.specs.CommandStatuses.{drawing_status}
 use Rattle.chart_program.specs.Ended.{status_by}
@@ -28,6 +27,7 @@ use Rattle.chart_program.specs.declared.plot.PlotEnd.{PlotEnd}
 use Rattle.chart_program.specs.declared.plot.PlotEnd.TheVariants.{Input, SendFault}
 use Rattle.chart_program.specs.declared.run_end.RunEnd.{RunEnd}
 use Rattle.chart_program.specs.declared.run_end.RunEnd.TheVariants.{Serve, Show}
+use Rattle.chart_world.specs.FaultLaws.{counts_kept, counts_unsent, counts_untaken}
 
 -- ---- what a status tells
 

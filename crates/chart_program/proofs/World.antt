@@ -120,17 +120,17 @@ ends_on IsText old mid new input left before now (run_end.Show (client.Missing k
 ends_on IsText old mid new input left before now (run_end.Show (client.BadCoefficient key)) opens ends = λ total book holds. ends total book (held old mid opens total book holds)
 ends_on IsText old mid new input left before now (run_end.Show (client.UnknownSession number)) opens ends = λ total book holds. ends total book (held old mid opens total book holds)
 
-cause_on : (CanShow : Type 0) (count : ℕ) (old mid new : View) (faults : Faults) (end : RunEnd) → old.faults ≤ mid.faults → IsLinesCause CanShow count mid new faults end → IsLinesCause CanShow count old new faults end
-cause_on CanShow count old mid new faults (run_end.Serve serve_end.ReadFault) low is = is
-cause_on CanShow count old mid new faults (run_end.Serve serve_end.SendFault) low is = is
-cause_on CanShow count old mid new faults (run_end.Serve serve_end.DiskFault) low is = risen_since old.faults mid.faults new.faults low is
-cause_on CanShow count old mid new faults (run_end.Serve (serve_end.Damaged page)) low is = is
-cause_on CanShow count old mid new faults (run_end.Serve serve_end.InputTooLong) low is = is
-cause_on CanShow count old mid new faults (run_end.Serve serve_end.NoMemory) low is = is
-cause_on CanShow count old mid new faults (run_end.Show (client.Missing key)) low is = is
-cause_on CanShow count old mid new faults (run_end.Show (client.BadCoefficient key)) low is = is
-cause_on CanShow count old mid new faults (run_end.Show (client.UnknownSession number)) low is = is
-cause_on CanShow count old mid new faults (run_end.Show client.NoMemory) low is = is
+cause_on : (CanShow : Type 0) (count : ℕ) (old mid new : View) (faults : Faults) (end : RunEnd) → mid.faults ≡ old.faults → IsLinesCause CanShow count mid new faults end → IsLinesCause CanShow count old new faults end
+cause_on CanShow count old mid new faults (run_end.Serve serve_end.ReadFault) same is = is
+cause_on CanShow count old mid new faults (run_end.Serve serve_end.SendFault) same is = is
+cause_on CanShow count old mid new faults (run_end.Serve serve_end.DiskFault) same is = risen_since old.faults mid.faults new.faults same is
+cause_on CanShow count old mid new faults (run_end.Serve (serve_end.Damaged page)) same is = is
+cause_on CanShow count old mid new faults (run_end.Serve serve_end.InputTooLong) same is = is
+cause_on CanShow count old mid new faults (run_end.Serve serve_end.NoMemory) same is = is
+cause_on CanShow count old mid new faults (run_end.Show (client.Missing key)) same is = is
+cause_on CanShow count old mid new faults (run_end.Show (client.BadCoefficient key)) same is = is
+cause_on CanShow count old mid new faults (run_end.Show (client.UnknownSession number)) same is = is
+cause_on CanShow count old mid new faults (run_end.Show client.NoMemory) same is = is
 
 crash_on : (IsText : Says) (left before : Option (List ℕ)) (old mid new : View) → SaysNothing IsText → Opens (page_count old.size) old mid
     → IfSome left (λ input. IfSome before (λ bytes. LeavesBooks IsText (page_count old.size) input mid new)) → IfSome left (λ input. IfSome before (λ bytes. LeavesBooks IsText (page_count old.size) input old new))
@@ -143,9 +143,9 @@ again_on left old mid new opens = told_so (λ input. HoldsAgain (page_count old.
     (λ input again total book holds. again total book (held old mid opens total book holds))
 
 -- lines were served over the store that was opened
-serves_on : {T : Type 0} (IsText : Says) (CanShow : Type 0) (old mid new : View) (left left' before now : Option (List ℕ)) (faults : Faults) (answer : Result T RunEnd) → SaysNothing IsText → Opens (page_count old.size) old mid
+serves_on : {T : Type 0} (IsText : Says) (CanShow : Type 0) (old mid new : View) (left left' before now : Option (List ℕ)) (faults : Faults) (answer : Result T RunEnd) → SaysNothing IsText → Opens (page_count old.size) old mid → mid.faults ≡ old.faults
     → ServesLines IsText CanShow (page_count old.size) mid new left left' before now faults answer → ServesWorld IsText CanShow old new left left' before now faults (in_world answer)
-serves_on {T} IsText CanShow old mid new left left' before now faults (Ok done) none opens s = record {
+serves_on {T} IsText CanShow old mid new left left' before now faults (Ok done) none opens quiet s = record {
   done = told_so (λ input. AnswersAll IsText (page_count old.size) mid new input before now) (λ input. AnswersAll IsText (page_count old.size) old new input before now) left
       (λ input all total book holds. all total book (held old mid opens total book holds)) s.done;
   within = s.within;
@@ -157,13 +157,13 @@ serves_on {T} IsText CanShow old mid new left left' before now faults (Ok done) 
   syncs = syncs_opened left old mid new opens s.syncs;
   goes_on = goes_then old mid new (opens_goes (page_count old.size) old mid opens) s.goes_on;
 }
-serves_on {T} IsText CanShow old mid new left left' before now faults (Err end) none opens s = record {
+serves_on {T} IsText CanShow old mid new left left' before now faults (Err end) none opens quiet s = record {
   done = tt;
   within = tt;
   ends = told_so (λ input. EndsLines IsText (page_count old.size) mid new input left' before now end) (λ input. EndsLines IsText (page_count old.size) old new input left' before now end) left
       (λ input ends. ends_on IsText old mid new input left' before now end opens ends) s.ends;
   crash = crash_on IsText left before old mid new none opens s.crash;
-  cause = cause_on CanShow (page_count old.size) old mid new faults end opens.faults s.cause;
+  cause = cause_on CanShow (page_count old.size) old mid new faults end quiet s.cause;
   holds = λ other. again_on left old mid new opens (s.holds (λ e. other (ap (λ (r : Result T RunEnd). in_world r) e)));
   reads = reads_opened left old mid new opens s.reads;
   syncs = syncs_opened left old mid new opens s.syncs;
@@ -171,15 +171,15 @@ serves_on {T} IsText CanShow old mid new left left' before now faults (Err end) 
 }
 
 -- the same, where equals stand for equals
-pub serves_opened : {T : Type 0} (IsText : Says) (CanShow : Type 0) (count : ℕ) (old mid new : View) (left first_left left' before first_before now : Option (List ℕ)) (faults first_faults : Faults) (answer : Result T RunEnd) (answer' : Result T LinesEnd) → SaysNothing IsText → Opens (page_count old.size) old mid
+pub serves_opened : {T : Type 0} (IsText : Says) (CanShow : Type 0) (count : ℕ) (old mid new : View) (left first_left left' before first_before now : Option (List ℕ)) (faults first_faults : Faults) (answer : Result T RunEnd) (answer' : Result T LinesEnd) → SaysNothing IsText → Opens (page_count old.size) old mid → mid.faults ≡ old.faults
     → count ≡ page_count old.size → left ≡ first_left → before ≡ first_before → faults ≡ first_faults → answer' ≡ in_world answer → ServesLines IsText CanShow count mid new left left' before now faults answer → ServesWorld IsText CanShow old new first_left left' first_before now first_faults answer'
-serves_opened {T} IsText CanShow count old mid new left first_left left' before first_before now faults first_faults answer answer' none opens counted same_left same_before same_faults same_answer s =
+serves_opened {T} IsText CanShow count old mid new left first_left left' before first_before now faults first_faults answer answer' none opens quiet counted same_left same_before same_faults same_answer s =
     let C : ℕ → Type 0 = λ c. ServesLines IsText CanShow c mid new left left' before now faults answer in
     let L : Option (List ℕ) → Type 0 = λ l. ServesWorld IsText CanShow old new l left' before now faults (in_world answer) in
     let B : Option (List ℕ) → Type 0 = λ b. ServesWorld IsText CanShow old new first_left left' b now faults (in_world answer) in
     let F : Faults → Type 0 = λ f. ServesWorld IsText CanShow old new first_left left' first_before now f (in_world answer) in
     let A : Result T LinesEnd → Type 0 = λ a. ServesWorld IsText CanShow old new first_left left' first_before now first_faults a in
-    subst A (sym same_answer) (subst F same_faults (subst B same_before (subst L same_left (serves_on IsText CanShow old mid new left left' before now faults answer none opens (subst C counted s)))))
+    subst A (sym same_answer) (subst F same_faults (subst B same_before (subst L same_left (serves_on IsText CanShow old mid new left left' before now faults answer none opens quiet (subst C counted s)))))
 
 -- ---- no store was opened
 

@@ -47,7 +47,7 @@ pub fn chart<W: World>(alloc: Global, words: &[String], world: W) -> (Status, W)
     ensures memory { result.0.code ≡ NO_MEMORY → (result.1 ≡ world) ⊎ ForCommand words.now W.view W.left W.sent world result.1 IsCutShort }
     ensures within { result.0.code ≡ DONE → ByCommand words.now (λ command. IfSome (W.left world) (IsWithin command)) }
     ensures fault { result.0.code ≡ DISK_FAULT → HasRisen (W.view world).faults (W.view result.1).faults }
-    // the failed call that the status tells is counted, and no other failed
+    // with 4, 5 or 6 one call failed, and that count rose by one, or stood at its last value; no other count rose
     ensures faults { CountsFault (code_fault result.0.code) (W.view world) (W.view result.1) }
     ensures faulted { result.0.code ≡ DISK_FAULT → ForCommand words.now W.view W.left W.sent world result.1 (λ command old new. StopsAtDisk command old) }
     ensures damaged { result.0.code ≡ DAMAGED → ByCommand words.now (λ command. IsDamaged command (W.view world) (W.view result.1) result.0.place) }

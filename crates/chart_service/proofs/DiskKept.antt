@@ -1,5 +1,5 @@
 -- What calls in a row leave of the disk.
-use Rattle.std.proofs.Common.{◌≤◌, ℕ, refl, ◌∙◌, arith, inl, inr}
+use Rattle.std.proofs.Common.{◌≡◌, ℕ, refl, subst, ◌∙◌, arith}
 use Rattle.block_disk.specs.Counts.{HasRisen}
 use Rattle.block_disk.specs.View.{View, DiskKept}
 use Rattle.chart_service.specs.Serving.{Serves}
@@ -92,7 +92,6 @@ serves_group told told' old new steps = record {
   writes = steps.writes;
 }
 
--- a count that has risen since a later moment has risen
-pub risen_since : (old mid new : ℕ) → old ≤ mid → HasRisen mid new → HasRisen old new
-risen_since old mid new low (inl more) = inl (omega (arith, low, more))
-risen_since old mid new low (inr most) = inr most
+-- a count that has risen since a moment up to which it stayed has risen
+pub risen_since : (old mid new : ℕ) → mid ≡ old → HasRisen mid new → HasRisen old new
+risen_since old mid new stays risen = let P : ℕ → Type 0 = λ n. HasRisen n new in subst P stays risen

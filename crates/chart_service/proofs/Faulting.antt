@@ -1,10 +1,10 @@
 -- The counts of faults behind the calls of a service.
-use Rattle.std.proofs.Common.{◌≡◌, ◌∙◌, ℕ, true, false, List, Option, None, Some, Result, Ok, Err, IfErr, refl, sym, ap, subst}
+use Rattle.std.proofs.Common.{◌≡◌, ◌∙◌, ℕ, true, false, List, Option, None, Result, Ok, Err, IfErr, refl, sym, ap, subst}
 use Rattle.std.specs.Prelude.{OnErr, OnOk, IsErrAnd, is_err, ◌≢◌}
 use Rattle.block_disk.specs.Counts.{HasRisen}
 use Rattle.block_disk.specs.View.{View, DiskKept}
-use Rattle.chart_world.specs.Faults.{Fault, OfSend, CountsFault, fault_in}
-use Rattle.chart_world.specs.FaultLaws.{counts_none, counts_disk, counts_no_disk}
+use Rattle.chart_world.specs.Faults.{Fault, FaultCounts, CountsFault, fault_in, faults_of}
+use Rattle.chart_world.specs.FaultLaws.{counts_disk, counts_no_disk, counts_kept, counts_untaken}
 use Rattle.chart_world.specs.declared.line_answer.LineFault.{LineFault}
 use Rattle.chart_world.specs.declared.line_answer.LineFault.TheVariants as fault
 use Rattle.page_space.specs.declared.superblock.Superblock.{Superblock}
@@ -75,32 +75,15 @@ serve_goes (Ok done) old new counts = counts
 serve_goes (Err (Serve e)) old new counts = counts
 serve_goes (Err (Reply e)) old new counts = counts
 
--- ---- takes and sends leave the disk
-
--- a line was taken, and no take failed
-pub counts_taken : {W : Type 0} (view : W → View) (takes sends : W → ℕ) → ((w : W) → (view w).beside.read_faults ≡ takes w) → ((w : W) → (view w).beside.send_faults ≡ sends w)
-    → (old new : W) → DiskKept (view old) (view new) → takes new ≡ takes old → sends new ≡ sends old → CountsFault None (view old) (view new)
-counts_taken view takes sends taken sent old new kept same_takes same_sends = counts_none (view old) (view new) kept.faults (taken new ∙ same_takes ∙ sym (taken old)) (sent new ∙ same_sends ∙ sym (sent old))
-
--- a count that rose, by other names
-risen_so : (old new old' new' : ℕ) → old' ≡ old → new' ≡ new → HasRisen old new → HasRisen old' new'
-risen_so old new old' new' same same_new risen =
-    let O : ℕ → Type 0 = λ n. HasRisen n new' in
-    let N : ℕ → Type 0 = λ n. HasRisen old n in
-    subst O (sym same) (subst N (sym same_new) risen)
+-- where no fault was counted, each count stays
+pub count_stays : {W : Type 0} (view : W → View) (part : FaultCounts → ℕ) (count : W → ℕ) → ((w : W) → part (faults_of (view w)) ≡ count w) → (old new : W) → CountsFault None (view old) (view new) → count new ≡ count old
+count_stays view part count is old new same = sym (is new) ∙ ap part same ∙ is old
 
 -- a fault of the lines
 pub counts_lines : {W : Type 0} (f : LineFault) (view : W → View) (takes sends : W → ℕ) → ((w : W) → (view w).beside.read_faults ≡ takes w) → ((w : W) → (view w).beside.send_faults ≡ sends w)
     → (old new : W) → DiskKept (view old) (view new) → (f ≡ fault.ReadFault → HasRisen (takes old) (takes new)) → (f ≢ fault.ReadFault → takes new ≡ takes old) → sends new ≡ sends old → CountsFault (serve_fault (end_of f)) (view old) (view new)
-counts_lines fault.ReadFault view takes sends taken sent old new kept risen quiet same_sends =
-    (kept.faults, risen_so (takes old) (takes new) (view old).beside.read_faults (view new).beside.read_faults (taken old) (taken new) (risen refl), sent new ∙ same_sends ∙ sym (sent old))
-counts_lines fault.InputTooLong view takes sends taken sent old new kept risen quiet same_sends = counts_taken view takes sends taken sent old new kept (quiet (λ is. cc)) same_sends
-
--- a send that failed
-pub counts_send : {W : Type 0} (view : W → View) (takes sends : W → ℕ) → ((w : W) → (view w).beside.read_faults ≡ takes w) → ((w : W) → (view w).beside.send_faults ≡ sends w)
-    → (old new : W) → DiskKept (view old) (view new) → takes new ≡ takes old → HasRisen (sends old) (sends new) → CountsFault (Some OfSend) (view old) (view new)
-counts_send view takes sends taken sent old new kept same_takes risen =
-    (kept.faults, taken new ∙ same_takes ∙ sym (taken old), risen_so (sends old) (sends new) (view old).beside.send_faults (view new).beside.send_faults (sent old) (sent new) risen)
+counts_lines fault.ReadFault view takes sends taken sent old new kept risen quiet same_sends = counts_untaken view takes sends taken sent old new kept (risen refl) same_sends
+counts_lines fault.InputTooLong view takes sends taken sent old new kept risen quiet same_sends = counts_kept view takes sends taken sent old new kept (quiet (λ is. cc)) same_sends
 
 -- ---- what is said of a result
 

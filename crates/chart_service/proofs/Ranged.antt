@@ -1,5 +1,5 @@
 -- A plan that is made over the range that was found before it.
-use Rattle.std.proofs.Common.{◌≡◌, ℕ, ℤ, ◌≤◌, ◌≤ℤ◌, FitsSigned, to_z, of_z, w64, List, Option, None, Some, IsTrue, sym, subst}
+use Rattle.std.proofs.Common.{◌≡◌, ℕ, ℤ, ◌≤ℤ◌, FitsSigned, to_z, of_z, w64, List, Option, None, Some, IsTrue, sym, subst}
 use Rattle.std.proofs.lemmas.Int.{to_z-of_z}
 use Rattle.chart_grid.specs.declared.axis.Axis.{Axis}
 use Rattle.chart_grid.specs.declared.grid.Grid.{Grid}
@@ -27,12 +27,12 @@ range_refused number sessions old new e there cause =
     subst P (sym found.1) cause
 
 -- there was no plan
-pub plan_refused : (session : Option Session) (old mid new : NodesView) (axis : Axis) (grid : Grid) (lo hi : ℤ) (e : PlanError) → StaysSame old mid → old.faults ≤ mid.faults
+pub plan_refused : (session : Option Session) (old mid new : NodesView) (axis : Axis) (grid : Grid) (lo hi : ℤ) (e : PlanError) → StaysSame old mid → mid.faults ≡ old.faults
     → RefusesPlan session mid new axis grid lo hi e → RefusesView session old new e
-plan_refused None old mid new axis grid lo hi e same le refuses = absurd refuses
-plan_refused (Some s) old mid new axis grid lo hi (TooLarge needed cache) same le refuses = refuses
-plan_refused (Some s) old mid new axis grid lo hi (Node e) same le refuses = has_cause_earlier old mid new e same le refuses.0
-plan_refused (Some s) old mid new axis grid lo hi NoMemory same le refuses = tt
+plan_refused None old mid new axis grid lo hi e same quiet refuses = absurd refuses
+plan_refused (Some s) old mid new axis grid lo hi (TooLarge needed cache) same quiet refuses = refuses
+plan_refused (Some s) old mid new axis grid lo hi (Node e) same quiet refuses = has_cause_earlier old mid new e same quiet refuses.0
+plan_refused (Some s) old mid new axis grid lo hi NoMemory same quiet refuses = tt
 
 -- it was too large
 pub plan_counts : (list : List (Option ℤ)) (axis : Axis) (spec : ViewSpec) (range : ValueRange) (e : PlanError) → ShowsRange spec.range (values_of (kept spec.grid axis list)) range

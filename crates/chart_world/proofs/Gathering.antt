@@ -7,7 +7,7 @@ use Rattle.std.proofs.lemmas.List.Folds.{prefix_len-append, length-prefix_len}
 use Rattle.std.proofs.lemmas.Bool.{eqb-false, cases_lt, lt-ltb, ltb-true, false_from_ne_true}
 use Rattle.std.proofs.lemmas.Bool.Decides.{nat_tests}
 use Rattle.std.proofs.Math.Seq.{take-add, drop-append_seam}
-use Rattle.block_disk.specs.Counts.{HasRisen, counted}
+use Rattle.block_disk.specs.Counts.{HasGrown, counted}
 use Rattle.block_disk.specs.Streams.{Given, left_after}
 use Rattle.chart_world.specs.Lines.{is_line_feed}
 use Rattle.chart_world.specs.Feed.{Gathered}
@@ -238,7 +238,7 @@ nothing_left None left' pending empty none is = subst (λ o. IfSome (in_front_of
 nothing_left (Some rest) left' pending empty none is = subst (λ o. IfSome (in_front_of pending o) (λ bytes. bytes ≡ [])) (sym is) (ap (λ l. l ++ rest) empty ∙ none)
 
 -- a count that is one more than a later one has risen
-pub counted_rises : (old mid new : ℕ) → old ≤ mid → new ≡ counted mid → HasRisen old new
+pub counted_rises : (old mid new : ℕ) → old ≤ mid → new ≡ counted mid → HasGrown old new
 counted_rises old mid new later is = elim (cases_lt mid (2 ^ 64 - 1)) [
   | inl below ↦ inl (omega (arith, later, is ∙ ap (λ b. cond b (mid + 1) mid) (lt-ltb mid (2 ^ 64 - 1) below)))
   | inr last ↦ inr (omega (arith, last, is ∙ ap (λ b. cond b (mid + 1) mid) (false_from_ne_true (ltb mid (2 ^ 64 - 1)) (λ (is : ltb mid (2 ^ 64 - 1) ≡ true). absurd (omega (arith, last, ltb-true mid (2 ^ 64 - 1) is))))))

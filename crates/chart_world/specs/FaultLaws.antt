@@ -1,7 +1,7 @@
 -- How counts of faults go on from one call to the next.
 use Rattle.std.proofs.Common.{ℕ, ◌≡◌, ◌∙◌, Option, None, Some, refl, sym, subst, ap}
 use Rattle.block_disk.specs.Counts.{HasRisen}
-use Rattle.block_disk.specs.View.{View, Beside, Moves, DiskKept}
+use Rattle.block_disk.specs.View.{View, Beside, DiskKept}
 use Rattle.chart_world.specs.Faults.{Fault, OfDisk, OfTake, OfSend, FaultCounts, faults_of, CountsBy, CountsFault}
 
 -- three counts that stayed are the same counts
@@ -44,3 +44,23 @@ counts_disk old new beside risen = (risen, ap (λ (b : Beside). b.read_faults) b
 
 pub counts_no_disk : (old new : View) → new.beside ≡ old.beside → new.faults ≡ old.faults → CountsFault None old new
 counts_no_disk old new beside faults = counts_none old new faults (ap (λ (b : Beside). b.read_faults) beside) (ap (λ (b : Beside). b.send_faults) beside)
+
+-- calls of the streams, which keep the disk
+module _ {W : Type 0} (view : W → View) (reads sends : W → ℕ) (beside_reads : (world : W) → (view world).beside.read_faults ≡ reads world) (beside_sends : (world : W) → (view world).beside.send_faults ≡ sends world) (old new : W) (kept : DiskKept (view old) (view new)) where
+  -- a take or a send that succeeds
+  pub counts_kept : reads new ≡ reads old → sends new ≡ sends old → CountsFault None (view old) (view new)
+  counts_kept read send = counts_none (view old) (view new) kept.faults (beside_reads new ∙ read ∙ sym (beside_reads old)) (beside_sends new ∙ send ∙ sym (beside_sends old))
+
+  -- a send that fails
+  pub counts_unsent : reads new ≡ reads old → HasRisen (sends old) (sends new) → CountsFault (Some OfSend) (view old) (view new)
+  counts_unsent read risen =
+      let P : ℕ → Type 0 = λ n. HasRisen n (view new).beside.send_faults in
+      let Q : ℕ → Type 0 = λ n. HasRisen (sends old) n in
+      (kept.faults, beside_reads new ∙ read ∙ sym (beside_reads old), subst P (sym (beside_sends old)) (subst Q (sym (beside_sends new)) risen))
+
+  -- a take that fails
+  pub counts_untaken : HasRisen (reads old) (reads new) → sends new ≡ sends old → CountsFault (Some OfTake) (view old) (view new)
+  counts_untaken risen send =
+      let P : ℕ → Type 0 = λ n. HasRisen n (view new).beside.read_faults in
+      let Q : ℕ → Type 0 = λ n. HasRisen (reads old) n in
+      (kept.faults, subst P (sym (beside_reads old)) (subst Q (sym (beside_reads new)) risen), beside_sends new ∙ send ∙ sym (beside_sends old))

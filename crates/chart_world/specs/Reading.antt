@@ -1,7 +1,7 @@
 -- How far a reader of lines has come in its input.
 use Rattle.std.specs.Prelude.{ℕ, ◌≡◌, ◌⊎◌, ◌<◌, ◌+◌, ◌-◌, ◌^◌, Bool, true, false, List, [], ◌∷◌, ◌++◌, Contains, Option, None, Some, length, take, IfSome}
 use Rattle.std.specs.List.{after_first, position_or_len}
-use Rattle.block_disk.specs.Counts.{HasRisen}
+use Rattle.block_disk.specs.Counts.{HasGrown}
 use Rattle.chart_world.specs.Lines.{is_line_feed, lines, NoLineFeed}
 
 pub record Reading : Type 0 where
@@ -62,7 +62,7 @@ NoLineIn count bytes = IfSome bytes (λ told. NoLineFeed (take count told))
 
 -- the count of pieces has risen, or all of the input is read, where it is told
 abbrev pub Took : ℕ → ℕ → Option (List ℕ) → Type 0
-Took before now bytes = HasRisen before now ⊎ IfSome bytes (λ told. told ≡ [])
+Took before now bytes = HasGrown before now ⊎ IfSome bytes (λ told. told ≡ [])
 
 -- the next line is pending behind so many bytes
 pub record HasLineAt (before : ℕ) (reading : Reading) : Type 0 where

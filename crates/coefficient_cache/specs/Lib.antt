@@ -1,3 +1,4 @@
 pub mod Pairs
 pub mod Views
 pub mod Caches
+pub mod Laws

@@ -1,12 +1,13 @@
 //! What follows from the definitions. The functions do nothing: their contracts are the laws.
 
-ghost use Rattle.std.specs.Prelude.{◌≡◌, ◌≢◌, ℕ, ◌≤◌, ◌↔◌, List, [], Some, length, take, IsTrue};
+ghost use Rattle.std.specs.Prelude.{◌≡◌, ℕ, ◌↔◌, List, Some, IsTrue};
 ghost use Rattle.std.specs.Map.{keys_of};
 ghost use Rattle.om3_coeff.specs.declared.key.Key.{Key};
 ghost use Rattle.om3_coeff.specs.declared.coef.Coef.{Coef};
 ghost use Rattle.coefficient_cache.specs.declared.series_key.SeriesKey.{SeriesKey};
-ghost use Rattle.coefficient_cache.specs.Pairs.{in_series, coefficient_at, holds};
-ghost use Rattle.coefficient_cache.specs.Views.{AreDistinct, Gives, to_send, sent_and_held, looked_up, renewed, of_series};
+ghost use Rattle.coefficient_cache.specs.Pairs.{coefficient_at, holds};
+ghost use Rattle.coefficient_cache.specs.Views.{AreDistinct, Gives, sent_and_held, looked_up, renewed};
+ghost use Rattle.coefficient_cache.specs.Laws.{BothEndsKeepOneList, NeededKeysAreGiven, HeldKeysAreNotSent, OtherSeriesLoseTheLast};
 
 /// A list holds a pair exactly where a look-up of its key gives its coefficient.
 pub fn held_is_found()
@@ -27,27 +28,18 @@ pub fn both_ends_keep_one_list()
     ensures looked_up { (pairs : List (SeriesKey × Coef)) (series : ℕ) (needed : List (Key × Coef)) →
         AreDistinct needed →
         looked_up (sent_and_held pairs series needed) series (keys_of needed) ≡ needed }
-    ensures renewed { (capacity : ℕ) (pairs : List (SeriesKey × Coef)) (series : ℕ) (needed : List (Key × Coef)) →
-        AreDistinct needed →
-        renewed capacity pairs (in_series series (looked_up (sent_and_held pairs series needed) series (keys_of needed)))
-        ≡ renewed capacity pairs (in_series series needed) }
+    ensures renewed { BothEndsKeepOneList }
 {}
 
 /// After a view that needs at most as many keys as the capacity, the list holds each of them with its
 /// coefficient, so the same view sends nothing then.
 pub fn needed_keys_are_held()
-    ensures given { (capacity : ℕ) (pairs : List (SeriesKey × Coef)) (series : ℕ) (needed : List (Key × Coef)) →
-        AreDistinct needed → length needed ≤ capacity →
-        Gives (renewed capacity pairs (in_series series needed)) series needed }
-    ensures nothing_to_send { (capacity : ℕ) (pairs : List (SeriesKey × Coef)) (series : ℕ) (needed : List (Key × Coef)) →
-        AreDistinct needed → length needed ≤ capacity →
-        to_send (renewed capacity pairs (in_series series needed)) series needed ≡ [] }
+    ensures given { NeededKeysAreGiven }
+    ensures nothing_to_send { HeldKeysAreNotSent }
 {}
 
 /// Of the pairs of any other series a view takes only the least recently used ones: the first ones
 /// stay, in their order and with their coefficients.
 pub fn other_series_lose_the_last()
-    ensures { (capacity : ℕ) (pairs : List (SeriesKey × Coef)) (series other : ℕ) (needed : List (Key × Coef)) →
-        other ≢ series →
-        (n : ℕ) × (of_series other (renewed capacity pairs (in_series series needed)) ≡ take n (of_series other pairs)) }
+    ensures { OtherSeriesLoseTheLast }
 {}

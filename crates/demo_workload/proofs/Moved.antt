@@ -1,14 +1,16 @@
 -- What a workload has moved so far, and one request more.
-use Rattle.std.proofs.Common.{ℕ, suc, ◌≡◌, ◌+◌, ◌≤◌, inl, inr, List, ◌∷◌, length, Option, None, Some, Result, Ok, Err, refl, ap, ◌∙◌, subst, arith}
+use Rattle.std.proofs.Common.{ℕ, suc, ◌≡◌, ◌+◌, ◌≤◌, List, ◌∷◌, length, Option, None, Some, Result, Ok, Err, refl, ap, ◌∙◌, subst, arith}
 use Rattle.std.specs.Prelude.{MatchOption}
-use Rattle.block_disk.specs.Counts.{HasRisen}
 use Rattle.block_disk.specs.View.{View, Passes}
 use Rattle.block_disk.proofs.Passing.{passes_weaker}
+use Rattle.chart_world.specs.Faults.{CountsFault}
+use Rattle.chart_world.specs.FaultLaws.{disk_stays}
 use Rattle.gate_pages.specs.Pages.{Quiet}
 use Rattle.gate_pages.proofs.Moving.{time_then}
 use Rattle.request_lines.specs.declared.requests.Request.{Request}
 use Rattle.zoom_session.specs.declared.session.Session.{Session}
 use Rattle.chart_client.specs.declared.holding.Holding.{Holding}
+use Rattle.chart_service.proofs.DiskKept.{risen_since}
 use Rattle.chart_service.specs.State.{State}
 use Rattle.chart_service.specs.Stepping.{RepliedTo, IsBeforeOrAfter, Steps}
 use Rattle.demo_workload.specs.declared.summaries.Summary.{Summary}
@@ -40,14 +42,10 @@ moments_more requests left request total state old mid new sessions holdings sum
     (passes_weaker mid new (IsBeforeOrAfter (RepliedTo request) total r.book sessions) (IsPartWay requests total state) (Quiet mid) (Quiet mid)
     (λ image way. next_part requests left request total state mid.image image sessions holdings summary r way) (λ count quiet. quiet) second)
 
-risen_on : (old mid new : ℕ) → old ≤ mid → HasRisen mid new → HasRisen old new
-risen_on old mid new low (inl risen) = inl (omega (arith, low, risen))
-risen_on old mid new low (inr top) = inr top
-
 -- why the requests end
 pub cause_on : (end : DemoEnd) (holdings : List Holding) (told : Type 0) (old mid new : View) → HasAccepted holdings
-    → old.faults ≤ mid.faults → IsOneCause end holdings told mid new → IsCause end told old new
-cause_on DiskFault holdings told old mid new accepted faults cause = risen_on old.faults mid.faults new.faults faults cause
+    → CountsFault None old mid → IsOneCause end holdings told mid new → IsCause end told old new
+cause_on DiskFault holdings told old mid new accepted faults cause = risen_since old.faults mid.faults new.faults (disk_stays old mid faults) cause
 cause_on (Damaged page) holdings told old mid new accepted faults cause = cause
 cause_on (Missing key) holdings told old mid new accepted faults cause = record {
   frames = accepted.frames;

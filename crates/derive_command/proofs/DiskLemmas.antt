@@ -97,7 +97,7 @@ module _ (count count' : ℕ) (sound sound' : Bool) (old new : View) (total tota
 
 -- ---- the store is opened first
 
-module _ (old mid new : View) (opens : Opens (page_count old.size) old mid) where
+module _ (old mid new : View) (opens : Opens (page_count old.size) old mid) (same_faults : mid.faults ≡ old.faults) where
   done_opened : (left before now : Option (List ℕ)) → IfSome left (λ input. DerivesAll (page_count old.size) mid input before now) → IfSome left (λ input. DerivesAll (page_count old.size) old input before now)
   done_opened None before now all = tt
   done_opened (Some input) before now all = λ total book holds. all total book (held old mid opens total book holds)
@@ -116,7 +116,7 @@ module _ (old mid new : View) (opens : Opens (page_count old.size) old mid) wher
   cause_opened ReadFault reads reads_now sends sends_now is = is
   cause_opened SendFault reads reads_now sends sends_now is = is
   cause_opened InputTooLong reads reads_now sends sends_now is = tt
-  cause_opened DiskFault reads reads_now sends sends_now is = risen_since old.faults mid.faults new.faults opens.faults is
+  cause_opened DiskFault reads reads_now sends sends_now is = risen_since old.faults mid.faults new.faults same_faults is
   cause_opened (Damaged page) reads reads_now sends sends_now is = is
   cause_opened NoMemory reads reads_now sends sends_now is = tt
 
@@ -143,13 +143,13 @@ module _ (old mid new : View) (opens : Opens (page_count old.size) old mid) wher
   }
 
 -- the same of a store that was opened
-pub drawn_on : {T : Type 0} (count : ℕ) (old start new : View) (left_start left left' before_start before now : Option (List ℕ)) (reads_start reads reads_now sends_start sends sends_now : ℕ) (answer : Result T DeriveEnd) → count ≡ page_count old.size → Opens (page_count old.size) old start
+pub drawn_on : {T : Type 0} (count : ℕ) (old start new : View) (left_start left left' before_start before now : Option (List ℕ)) (reads_start reads reads_now sends_start sends sends_now : ℕ) (answer : Result T DeriveEnd) → count ≡ page_count old.size → Opens (page_count old.size) old start → start.faults ≡ old.faults
     → left_start ≡ left → before_start ≡ before → reads_start ≡ reads → sends_start ≡ sends → Drawn count start new left_start left' before_start now reads_start reads_now sends_start sends_now answer
     → Drawn (page_count old.size) old new left left' before now reads reads_now sends sends_now answer
-drawn_on {T} count old start new left_start left left' before_start before now reads_start reads reads_now sends_start sends sends_now answer counted opens same_left same_sent same_reads same_sends s =
+drawn_on {T} count old start new left_start left left' before_start before now reads_start reads reads_now sends_start sends sends_now answer counted opens same_faults same_left same_sent same_reads same_sends s =
     let C : ℕ → Type 0 = λ n. Drawn n start new left_start left' before_start now reads_start reads_now sends_start sends_now answer in
     let L : Option (List ℕ) → Type 0 = λ l. Drawn (page_count old.size) start new l left' before_start now reads_start reads_now sends_start sends_now answer in
     let B : Option (List ℕ) → Type 0 = λ b. Drawn (page_count old.size) start new left left' b now reads_start reads_now sends_start sends_now answer in
     let D : ℕ → Type 0 = λ n. Drawn (page_count old.size) start new left left' before now n reads_now sends_start sends_now answer in
     let S : ℕ → Type 0 = λ n. Drawn (page_count old.size) start new left left' before now reads reads_now n sends_now answer in
-    drawn_opened old start new opens left left' before now reads reads_now sends sends_now answer (subst S same_sends (subst D same_reads (subst B same_sent (subst L same_left (subst C counted s)))))
+    drawn_opened old start new opens same_faults left left' before now reads reads_now sends sends_now answer (subst S same_sends (subst D same_reads (subst B same_sent (subst L same_left (subst C counted s)))))

@@ -1,5 +1,5 @@
 -- A request is answered, and a line; and what calls move.
-use Rattle.std.proofs.Common.{◌≡◌, ◌∙◌, ℕ, ℤ, ◌<◌, ◌≤◌, List, length, Option, Some, Result, Ok, Err, refl, ap, sym, subst, arith, inr}
+use Rattle.std.proofs.Common.{◌≡◌, ◌∙◌, ℕ, ℤ, ◌<◌, ◌≤◌, List, length, Option, None, Some, Result, Ok, Err, refl, ap, sym, subst, arith, inr}
 use Rattle.std.specs.Prelude.{OnOk, IfErr}
 use Rattle.block_disk.proofs.Passing.{passes_none, passes_weaker, sends_then_sends}
 use Rattle.block_disk.specs.Counts.{HasRisen}
@@ -19,9 +19,13 @@ use Rattle.series_pair.specs.Derived.{HasLargeSum, IsChartAnswer, IsChartCause, 
 use Rattle.series_pair.specs.declared.sum_error.SumError.{SumError}
 use Rattle.series_pair.specs.declared.sum_error.SumError.TheVariants as sum
 use Rattle.chart_service.proofs.DiskKept.{risen_since}
+use Rattle.chart_world.specs.FaultLaws.{disk_stays, sends_stay, takes_stay}
+use Rattle.chart_world.specs.Faults.{CountsFault}
+use Rattle.chart_world.specs.declared.line_answer.LineFault.{LineFault}
+use Rattle.chart_world.specs.declared.line_answer.LineFault.TheVariants as fault
 use Rattle.derive_command.specs.Answers.{AreOnOneGrid, HasLarge, IsAnswer, IsRefused}
 use Rattle.store_commands.specs.Sides.{Side, AreBeside}
-use Rattle.derive_command.specs.Doing.{DoesLine, DoesRequest, Goes, IsAsked, IsCause, LineStops, RequestStops, TextStops, end_at}
+use Rattle.derive_command.specs.Doing.{DoesLine, DoesRequest, Goes, IsAsked, IsCause, LineStops, RequestStops, TextStops, end_at, end_of}
 use Rattle.derive_command.specs.Requests.{Spells, SaysNone}
 use Rattle.derive_command.specs.declared.asked.Asked.{Asked}
 use Rattle.derive_command.specs.declared.derive_end.DeriveEnd.{DeriveEnd}
@@ -200,16 +204,29 @@ goes_sends old new kept passes told was_told on total_is reads sends = record {
 
 -- ---- causes
 
--- why a later call ended is why all ended
-pub cause_later : (old mid new : Side) (end : DeriveEnd) → Goes old mid → IsCause end mid new → IsCause end old new
-cause_later old mid new (BadLine at) goes is = tt
-cause_later old mid new (Refused at why) goes is = tt
-cause_later old mid new ReadFault goes is = risen_since old.read_faults mid.read_faults new.read_faults goes.reads is
-cause_later old mid new SendFault goes is = risen_since old.send_faults mid.send_faults new.send_faults goes.sends is
-cause_later old mid new InputTooLong goes is = tt
-cause_later old mid new DiskFault goes is = risen_since old.view.faults mid.view.faults new.view.faults goes.faults is
-cause_later old mid new (Damaged page) goes is = (omega (arith, is.0, goes.total_is), is.1)
-cause_later old mid new NoMemory goes is = tt
+-- why a later call ended is why all ended, where no fault was counted before
+module _ (old mid new : Side) (was : AreBeside old.view old.read_faults old.send_faults) (are : AreBeside mid.view mid.read_faults mid.send_faults) (quiet : CountsFault None old.view mid.view) where
+  pub cause_later : (end : DeriveEnd) → Goes old mid → IsCause end mid new → IsCause end old new
+  cause_later (BadLine at) goes is = tt
+  cause_later (Refused at why) goes is = tt
+  cause_later ReadFault goes is = risen_since old.read_faults mid.read_faults new.read_faults (sym are.reads_are ∙ takes_stay old.view mid.view quiet ∙ was.reads_are) is
+  cause_later SendFault goes is = risen_since old.send_faults mid.send_faults new.send_faults (sym are.sends_are ∙ sends_stay old.view mid.view quiet ∙ was.sends_are) is
+  cause_later InputTooLong goes is = tt
+  cause_later DiskFault goes is = risen_since old.view.faults mid.view.faults new.view.faults (disk_stays old.view mid.view quiet) is
+  cause_later (Damaged page) goes is = (omega (arith, is.0, goes.total_is), is.1)
+  cause_later NoMemory goes is = tt
+
+  pub causes_later : {T : Type 0} (result : Result T DeriveEnd) → Goes old mid → IfErr result (λ end. IsCause end mid new) → IfErr result (λ end. IsCause end old new)
+  causes_later {T} (Ok v) goes cause = tt
+  causes_later {T} (Err end) goes cause = cause_later end goes cause
+
+-- a fault of the lines
+fault_cause : (old new : Side) (f : LineFault) → (f ≡ fault.ReadFault → HasRisen old.read_faults new.read_faults) → IsCause (end_of f) old new
+fault_cause old new fault.ReadFault risen = risen refl
+fault_cause old new fault.InputTooLong risen = tt
+
+pub line_fault_cause : (old new : Side) (f : LineFault) (end : DeriveEnd) → end ≡ end_of f → (f ≡ fault.ReadFault → HasRisen old.read_faults new.read_faults) → IsCause end old new
+line_fault_cause old new f end is risen = let P : DeriveEnd → Type 0 = λ e. IsCause e old new in subst P (sym is) (fault_cause old new f risen)
 
 -- why there is no chart
 pub chart_cause : (old new : Side) (at : ℕ) (error : SumError) (end : DeriveEnd) → end ≡ end_at at error → IsChartCause error new.told old.total old.view new.view → IsCause end old new
@@ -237,8 +254,3 @@ text_cause old new text before now NoMemory stops risen = tt
 pub sent_cause : {T : Type 0} (old new : Side) (text : List ℕ) (before now : Option (List ℕ)) (result : Result T DeriveEnd) → IfErr result (TextStops text before now) → (result ≡ Err SendFault → HasRisen old.send_faults new.send_faults) → IfErr result (λ end. IsCause end old new)
 sent_cause {T} old new text before now (Ok v) stops risen = tt
 sent_cause {T} old new text before now (Err end) stops risen = text_cause old new text before now end stops (λ is. risen (ap Err is))
-
--- the same by what calls before moved
-pub causes_later : {T : Type 0} (old mid new : Side) (result : Result T DeriveEnd) → Goes old mid → IfErr result (λ end. IsCause end mid new) → IfErr result (λ end. IsCause end old new)
-causes_later {T} old mid new (Ok v) goes cause = tt
-causes_later {T} old mid new (Err end) goes cause = cause_later old mid new end goes cause

@@ -2,13 +2,13 @@
 use Rattle.std.proofs.Common.{◌≡◌, ◌≢◌, ℕ, Result, Ok, Err, refl}
 use Rattle.block_disk.specs.Counts.{HasRisen}
 use Rattle.block_disk.specs.View.{View, DiskKept}
+use Rattle.chart_world.specs.FaultLaws.{counts_kept, counts_untaken}
 use Rattle.chart_world.specs.Faults.{CountsFault, fault_in}
 use Rattle.chart_world.specs.declared.line_answer.LineFault.{LineFault}
 use Rattle.chart_world.specs.declared.line_answer.LineFault.TheVariants as fault
 use Rattle.series_pair.specs.Derived.{sum_fault}
 use Rattle.series_pair.specs.declared.sum_error.SumError.{SumError}
 use Rattle.series_pair.specs.declared.sum_error.SumError.TheVariants as sum
-use Rattle.store_commands.specs.Faulting.{counts_kept, counts_untaken}
 use Rattle.store_commands.specs.Status.{code_fault}
 use Rattle.derive_command.specs.Deriving.{answer_status, end_status}
 use Rattle.derive_command.specs.Doing.{derive_fault, end_at, end_of}

@@ -125,5 +125,5 @@ impl<'a> TwoTrees for ListPair<'a> {
 
     ghost asks_cause = { λ old new error kept cause. no_cause old.is_second new.is_second old.first.slots.now old.second.slots.now new.first.slots.now new.second.slots.now old.first.asked old.second.asked new.first.asked new.second.asked error kept.side cause };
 
-    ghost causes_behind = { λ old between new error going cause. cause };
+    ghost causes_behind = { λ old between new error going quiet cause. cause };
 }

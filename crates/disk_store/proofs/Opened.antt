@@ -263,12 +263,12 @@ pages_outside (of_pages.TooSmall blocks) total book old new is honest recovers =
 pages_outside of_pages.BadDirectory total book old new is honest recovers = absurd (recovers.readable (is.1 honest))
 pages_outside of_pages.NoMemory total book old new is honest recovers = inr refl
 
-risen_before : (low before now : ℕ) → low ≤ before → HasRisen before now → HasRisen low now
-risen_before low before now less (inl risen) = inl (omega (arith, risen, less))
-risen_before low before now less (inr last) = inr last
+risen_before : (old mid new : ℕ) → mid ≡ old → HasRisen mid new → HasRisen old new
+risen_before old mid new same (inl risen) = inl (omega (arith, same, risen))
+risen_before old mid new same (inr last) = inr (omega (arith, same, last.0), last.1 ∙ same)
 
 -- why no store was opened on the pages
-pub store_prevents : (cause : StoreError) (n count count' : ℕ) (sound sound' : Bool) (old mid new : View) → count ≡ n → n ≡ page_count old.size → 128 ≤ old.size → (Honest old → Honest mid) → (Honest old → pages_of count mid.image ≡ book_pages count old.image) → old.faults ≤ mid.faults → IsFirstPage cause
+pub store_prevents : (cause : StoreError) (n count count' : ℕ) (sound sound' : Bool) (old mid new : View) → count ≡ n → n ≡ page_count old.size → 128 ≤ old.size → (Honest old → Honest mid) → (Honest old → pages_of count mid.image ≡ book_pages count old.image) → mid.faults ≡ old.faults → IsFirstPage cause
     → IsOpenCause cause (Honest mid) (pages_view count sound mid) (pages_view count' sound' new) → Prevents (store_cause_of cause) old new
 store_prevents (of_store.Refused refusal) n count count' sound sound' old mid new counted is_n large honest same faults first is = tt
 store_prevents of_store.NotAStore n count count' sound sound' old mid new counted is_n large honest same faults first is =
@@ -283,7 +283,7 @@ store_prevents (of_store.Damaged page) n count count' sound sound' old mid new c
 store_prevents of_store.NoMemory n count count' sound sound' old mid new counted is_n large honest same faults first is = tt
 
 -- why the pages weren't brought to version 2
-pub upgrade_prevents : (cause : UpgradeError) (n count count' : ℕ) (sound sound' : Bool) (old mid new : View) → count ≡ n → n ≡ page_count old.size → 128 ≤ old.size → (Honest old → Honest mid) → (Honest old → pages_of count mid.image ≡ pages_of count old.image) → old.faults ≤ mid.faults → IsPlace cause
+pub upgrade_prevents : (cause : UpgradeError) (n count count' : ℕ) (sound sound' : Bool) (old mid new : View) → count ≡ n → n ≡ page_count old.size → 128 ≤ old.size → (Honest old → Honest mid) → (Honest old → pages_of count mid.image ≡ pages_of count old.image) → mid.faults ≡ old.faults → IsPlace cause
     → of_upgrades.Prevents cause (Honest mid) (pages_view count sound mid) (pages_view count' sound' new) → Prevents (upgrade_cause_of cause) old new
 upgrade_prevents (of_upgrade.Damaged page) n count count' sound sound' old mid new counted is_n large honest same faults place is =
     let P : ℕ → Type 0 = λ m. IsDamagedBlock m old.image (66 + page) in

@@ -211,15 +211,14 @@ both_below k first second third (inr p) (inl q) = let P : Option Key → Type 0 
 both_below k first second third p (inr q) = inr q
 
 -- the cause of an error of a later ask
-risen_before : (a b c : ℕ) → a ≤ b → HasRisen b c → HasRisen a c
-risen_before a b c le (inl less) = inl (omega (arith, le, less))
-risen_before a b c le (inr last) = inr last
+risen_before : (a b c : ℕ) → b ≡ a → HasRisen b c → HasRisen a c
+risen_before a b c quiet h = let P : ℕ → Type 0 = λ n. HasRisen n c in subst P quiet h
 
-pub cause_before : (old mid new : NodesView) (e : NodeError) → StaysSame old mid → old.faults ≤ mid.faults → HasCause mid new e → HasCause old new e
-cause_before old mid new DiskFault same le h = risen_before old.faults mid.faults new.faults le h
-cause_before old mid new (Damaged page) same le h = same.was_bad (Damaged page) h
-cause_before old mid new (Missing key) same le h = same.was_bad (Missing key) h
-cause_before old mid new (BadCoefficient key) same le h = same.was_bad (BadCoefficient key) h
+pub cause_before : (old mid new : NodesView) (e : NodeError) → StaysSame old mid → mid.faults ≡ old.faults → HasCause mid new e → HasCause old new e
+cause_before old mid new DiskFault same quiet h = risen_before old.faults mid.faults new.faults quiet h
+cause_before old mid new (Damaged page) same quiet h = same.was_bad (Damaged page) h
+cause_before old mid new (Missing key) same quiet h = same.was_bad (Missing key) h
+cause_before old mid new (BadCoefficient key) same quiet h = same.was_bad (BadCoefficient key) h
 
 pub err_cause : (P : NodeError → Type 0) (result : Result (Unit {0}) NodeError) (e : NodeError) → IsErrAnd result (λ d. d ≡ e) → P e → IfErr result P
 err_cause P (Ok u) e is h = tt

@@ -15,17 +15,17 @@ module _ (old mid new : View) (asked : Moves Nowhere 0 0 0 old mid) where
   broken_size : (image : Image) → IsBroken (page_count mid.size) image → IsBroken (page_count old.size) image
   broken_size image broken = let P : ℕ → Type 0 = λ n. IsBroken (page_count n) image in subst P asked.size broken
 
-  pub explains_back : (cause : OpenCause) → Explains cause mid new → Explains cause old new
-  explains_back DiskFault (inl risen) = inl (omega (arith, risen, asked.faults))
-  explains_back DiskFault (inr last) = inr last
-  explains_back (TooSmall size) is = (is.0 ∙ asked.size, is.1)
-  explains_back BadDirectory is = (
+  pub explains_back : mid.faults ≡ old.faults → (cause : OpenCause) → Explains cause mid new → Explains cause old new
+  explains_back same DiskFault (inl risen) = inl (omega (arith, risen, same))
+  explains_back same DiskFault (inr last) = inr (omega (arith, last.0, same), last.1 ∙ same)
+  explains_back same (TooSmall size) is = (is.0 ∙ asked.size, is.1)
+  explains_back same BadDirectory is = (
     omega (arith, is.0, asked.size),
     λ honest.
         let P : Image → Type 0 = λ i. IsBroken (page_count old.size) i in
         subst P (untouched 0 0 0 old mid asked honest) (broken_size mid.image (is.1 (asked.honest honest))),
   )
-  explains_back NoMemory is = tt
+  explains_back same NoMemory is = tt
 
   pub leaves_back : (cause : OpenCause) → Leaves cause mid new → Leaves cause old new
   leaves_back DiskFault is = tt

@@ -110,7 +110,7 @@ module _ (count count' : ℕ) (sound sound' : Bool) (old new : View) (same : cou
 
 -- ---- the store is opened first
 
-module _ (old mid new : View) (opens : Opens (page_count old.size) old mid) where
+module _ (old mid new : View) (opens : Opens (page_count old.size) old mid) (quiet : mid.faults ≡ old.faults) where
   done_opened : (left before now : Option (List ℕ)) → IfSome left (λ input. LivesAll (page_count old.size) mid new input before now) → IfSome left (λ input. LivesAll (page_count old.size) old new input before now)
   done_opened None before now all = tt
   done_opened (Some input) before now all = λ total book holds. all total book (held old mid opens total book holds)
@@ -133,7 +133,7 @@ module _ (old mid new : View) (opens : Opens (page_count old.size) old mid) wher
   cause_opened ReadFault reads reads_now sends sends_now is = is
   cause_opened SendFault reads reads_now sends sends_now is = is
   cause_opened InputTooLong reads reads_now sends sends_now is = tt
-  cause_opened DiskFault reads reads_now sends sends_now is = risen_since old.faults mid.faults new.faults opens.faults is
+  cause_opened DiskFault reads reads_now sends sends_now is = risen_since old.faults mid.faults new.faults quiet is
   cause_opened (Damaged page) reads reads_now sends sends_now is = is
   cause_opened NoMemory reads reads_now sends sends_now is = tt
 
@@ -221,16 +221,16 @@ begins_so total book sessions followed pending none none_followed none_pending =
     ap (λ s. live_of (state_of book total s) followed pending) none ∙ ap (λ f. live_of (state_of book total []) f pending) none_followed ∙ ap (λ p. live_of (state_of book total []) [] p) none_pending
 
 -- the same of a store that was opened
-pub served_on : {T : Type 0} (count : ℕ) (old start new : View) (left_start left left' before_start before now : Option (List ℕ)) (reads_start reads reads_now sends_start sends sends_now : ℕ) (answer : Result T ServeEnd) → count ≡ page_count old.size → Opens (page_count old.size) old start
+pub served_on : {T : Type 0} (count : ℕ) (old start new : View) (left_start left left' before_start before now : Option (List ℕ)) (reads_start reads reads_now sends_start sends sends_now : ℕ) (answer : Result T ServeEnd) → count ≡ page_count old.size → Opens (page_count old.size) old start → start.faults ≡ old.faults
     → left_start ≡ left → before_start ≡ before → reads_start ≡ reads → sends_start ≡ sends → Served count start new left_start left' before_start now reads_start reads_now sends_start sends_now answer
     → Served (page_count old.size) old new left left' before now reads reads_now sends sends_now answer
-served_on {T} count old start new left_start left left' before_start before now reads_start reads reads_now sends_start sends sends_now answer counted opens same_left same_sent same_reads same_sends s =
+served_on {T} count old start new left_start left left' before_start before now reads_start reads reads_now sends_start sends sends_now answer counted opens quiet same_left same_sent same_reads same_sends s =
     let C : ℕ → Type 0 = λ n. Served n start new left_start left' before_start now reads_start reads_now sends_start sends_now answer in
     let L : Option (List ℕ) → Type 0 = λ l. Served (page_count old.size) start new l left' before_start now reads_start reads_now sends_start sends_now answer in
     let B : Option (List ℕ) → Type 0 = λ b. Served (page_count old.size) start new left left' b now reads_start reads_now sends_start sends_now answer in
     let D : ℕ → Type 0 = λ n. Served (page_count old.size) start new left left' before now n reads_now sends_start sends_now answer in
     let S : ℕ → Type 0 = λ n. Served (page_count old.size) start new left left' before now reads reads_now n sends_now answer in
-    served_opened old start new opens left left' before now reads reads_now sends sends_now answer (subst S same_sends (subst D same_reads (subst B same_sent (subst L same_left (subst C counted s)))))
+    served_opened old start new opens quiet left left' before now reads reads_now sends sends_now answer (subst S same_sends (subst D same_reads (subst B same_sent (subst L same_left (subst C counted s)))))
 
 -- ---- nothing was done
 

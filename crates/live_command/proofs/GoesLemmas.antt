@@ -1,7 +1,9 @@
 -- What calls move, whatever the pages are.
-use Rattle.std.proofs.Common.{◌≡◌, ◌∙◌, ℕ, ◌≤◌, List, refl, ap, sym, subst, arith}
+use Rattle.std.proofs.Common.{◌≡◌, ◌∙◌, ℕ, ◌≤◌, List, None, refl, ap, sym, subst, arith}
 use Rattle.block_disk.specs.Counts.{HasRisen}
 use Rattle.block_disk.specs.View.{Beside, DiskKept}
+use Rattle.chart_world.specs.Faults.{CountsFault}
+use Rattle.chart_world.specs.FaultLaws.{disk_stays, sends_stay, takes_stay}
 use Rattle.chart_service.specs.Serving.{end_of_step}
 use Rattle.chart_service.specs.Stepping.{NamesBad, Steps}
 use Rattle.chart_service.specs.declared.failure.ServeEnd.{ServeEnd}
@@ -14,6 +16,10 @@ use Rattle.gate_pages.specs.Pages.{GoesOn}
 use Rattle.zoom_session.specs.declared.session.Session.{Session}
 use Rattle.store_commands.specs.Sides.{AreBeside}
 use Rattle.live_command.specs.Doing.{Goes, Held, IsCause, Side}
+
+-- what stands beside the pages are the streams
+abbrev pub IsBeside : Side → Type 0
+IsBeside side = AreBeside side.view side.read_faults side.send_faults
 
 pub goes_nowhere : (at : Side) → Goes at at
 goes_nowhere at = record { is_told = λ t. t; was_told = λ t. t; size = refl; faults = omega arith; goes_on = goes_none at.under; reads = omega arith; sends = omega arith }
@@ -30,7 +36,7 @@ goes_further old mid new first second = record {
 }
 
 -- an answer, and a push
-pub goes_step : (old new : Side) → AreBeside old.view old.read_faults old.send_faults → AreBeside new.view new.read_faults new.send_faults → Steps old.told new.told old.view new.view → GoesOn old.under new.under → Goes old new
+pub goes_step : (old new : Side) → IsBeside old → IsBeside new → Steps old.told new.told old.view new.view → GoesOn old.under new.under → Goes old new
 goes_step old new was are steps on = record {
   is_told = steps.told;
   was_told = steps.was_told;
@@ -46,13 +52,13 @@ pub goes_streams : (old new : Side) → DiskKept old.view new.view → (old.told
 goes_streams old new kept told was_told on reads sends = record { is_told = told; was_told = was_told; size = kept.size; faults = omega (arith, kept.faults); goes_on = on; reads = reads; sends = sends }
 
 -- why a later call ended is why all ended
-pub cause_later : (old mid new : Side) (end : ServeEnd) → Goes old mid → IsCause end mid new → IsCause end old new
-cause_later old mid new ReadFault goes is = risen_since old.read_faults mid.read_faults new.read_faults goes.reads is
-cause_later old mid new SendFault goes is = risen_since old.send_faults mid.send_faults new.send_faults goes.sends is
-cause_later old mid new DiskFault goes is = risen_since old.view.faults mid.view.faults new.view.faults goes.faults is
-cause_later old mid new (Damaged page) goes is = is
-cause_later old mid new InputTooLong goes is = tt
-cause_later old mid new NoMemory goes is = tt
+pub cause_later : (old mid new : Side) (end : ServeEnd) → IsBeside old → IsBeside mid → CountsFault None old.view mid.view → IsCause end mid new → IsCause end old new
+cause_later old mid new ReadFault was are quiet is = risen_since old.read_faults mid.read_faults new.read_faults (sym are.reads_are ∙ takes_stay old.view mid.view quiet ∙ was.reads_are) is
+cause_later old mid new SendFault was are quiet is = risen_since old.send_faults mid.send_faults new.send_faults (sym are.sends_are ∙ sends_stay old.view mid.view quiet ∙ was.sends_are) is
+cause_later old mid new DiskFault was are quiet is = risen_since old.view.faults mid.view.faults new.view.faults (disk_stays old.view mid.view quiet) is
+cause_later old mid new (Damaged page) was are quiet is = is
+cause_later old mid new InputTooLong was are quiet is = tt
+cause_later old mid new NoMemory was are quiet is = tt
 
 -- why an answer or a push failed
 step_cause : (old new : Side) (error : ServiceError) → (error ≡ step.DiskFault → HasRisen old.view.faults new.view.faults) → NamesBad new.told new.view.size new.view.image error → IsCause (end_of_step error) old new

@@ -2,13 +2,11 @@
 use Rattle.std.proofs.Common.{◌≡◌, ◌≢◌, ℕ, ℤ, ◌<◌, ◌≤◌, Bool, true, false, not, ◌==◌, ◌&&◌, if◌then◌else◌, List, [], ◌∷◌, ◌++◌, length, get_or, Option, None, Some, Result, Ok, Err, refl, sym, ap, ◌∙◌, subst, inl, inr, arith}
 use Rattle.std.specs.Prelude.{All, is_none, nat_lt, slice_get}
 use Rattle.std.proofs.lemmas.Bool.{eqb-true, eq-eqb, both_ways}
-use Rattle.std.proofs.lemmas.Int.{ints}
 use Rattle.std.proofs.lemmas.List.Elements.{All-filter, All-weaker, filter_passes}
 use Rattle.chart_frames.specs.declared.frame.Frame.{Frame}
 use Rattle.chart_frames.specs.declared.frame.Frame.TheVariants.{Done, Refused, Opened, Closed, View as ViewOf, Rows, Live as LiveOf}
 use Rattle.chart_grid.specs.declared.axis.Axis.{Axis}
 use Rattle.chart_grid.specs.declared.grid.Grid.{Grid}
-use Rattle.chart_grid.specs.Limits.{IsWindow, IsBadWindow}
 use Rattle.chart_service.proofs.Others.{viewed_others, without_others}
 use Rattle.chart_service.specs.Replies.{Refuses, Edits, Opens, Closes, AnswersBy, ViewsSeries, ViewsId, RepliesToView, RepliesByText, Moves, MovesLast, MovesIn, RepliesTo, line_text, cache_of}
 use Rattle.chart_service.specs.State.{State}

@@ -5,3 +5,4 @@ pub mod Gathered
 pub mod Folded
 pub mod Spanned
 pub mod Drawn
+pub mod Laws

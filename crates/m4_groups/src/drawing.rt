@@ -1,15 +1,12 @@
-ghost use Rattle.std.specs.Prelude.{◌≡◌, ℕ, ℤ, pos, ◌<◌, ◌≤◌, ◌≤ℤ◌, List, All};
-ghost use Rattle.chart_grid.specs.declared.grid.Grid.{Grid};
-ghost use Rattle.chart_grid.specs.Projection.{HasCanvas};
-ghost use Rattle.line_raster.specs.Canvas.{Canvas, Adds};
+ghost use Rattle.std.specs.Prelude.{ℤ, pos, ◌<◌, ◌≤ℤ◌, All};
+ghost use Rattle.line_raster.specs.Canvas.{Adds};
 ghost use Rattle.line_raster.specs.Segment.{On, InFill};
-ghost use Rattle.line_raster.specs.Raster.{InRaster};
-ghost use Rattle.m4_groups.specs.Points.{AreInOrder, pixels};
-ghost use Rattle.m4_groups.specs.Rows.{AreRising, AreRowsOf};
-ghost use Rattle.m4_groups.specs.Heights.{HaveSameHeights, row_height, row_heights, IsDrawable};
+ghost use Rattle.m4_groups.specs.Rows.{AreRising};
+ghost use Rattle.m4_groups.specs.Heights.{row_height, row_heights, IsDrawable};
 ghost use Rattle.whole_number.specs.Range.{IsValue};
 ghost use Rattle.m4_groups.specs.Drawn.{Drawn, first_of, last_of};
 ghost use Rattle.m4_groups.specs.declared.row.Row.{Row};
+ghost use Rattle.m4_groups.specs.Laws.{AddsRasters};
 
 use crate::row::Row;
 use crate::rows::Rows;
@@ -27,10 +24,7 @@ pub fn draw_rows(bitmap: &mut Bitmap, rows: &Rows, lo: i64, hi: i64)
     requires drawable { All (IsDrawable bitmap.old.w) rows.now }
 
     ensures rows { Adds (λ x y. Drawn (row_heights lo hi bitmap.old.h rows.now) x (pos y)) bitmap.old bitmap.new }
-    ensures raster { (g : Grid) (points : List (ℤ × ℤ)) (of : List Row) →
-        HasCanvas g bitmap.old.w bitmap.old.h → AreInOrder g points → AreRowsOf g points of →
-        HaveSameHeights lo hi bitmap.old.h rows.now of →
-        Adds (λ x y. InRaster (pixels g lo hi points) x (pos y)) bitmap.old bitmap.new }
+    ensures raster { AddsRasters lo hi rows.now bitmap.old bitmap.new }
 {
     let h = bitmap.height();
     draw_all(bitmap, Scale { lo, hi, h }, rows.as_slice());

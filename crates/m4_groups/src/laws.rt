@@ -1,17 +1,16 @@
 //! What follows from the definition of rows. The functions do nothing: their contracts are the laws.
 
-ghost use Rattle.std.specs.Prelude.{◌≡◌, ℕ, ℤ, pos, ◌↔◌, List, [], ◌∷◌, ◌++◌, All};
+ghost use Rattle.std.specs.Prelude.{◌≡◌, ℤ, List, [], ◌∷◌, ◌++◌, All};
 ghost use Rattle.chart_grid.specs.declared.grid.Grid.{Grid};
 ghost use Rattle.chart_grid.specs.Projection.{InWindow};
-ghost use Rattle.line_raster.specs.Raster.{InRaster};
-ghost use Rattle.m4_groups.specs.Points.{AreInOrder, spots, pixels};
+ghost use Rattle.m4_groups.specs.Points.{AreInOrder, spots};
 ghost use Rattle.m4_groups.specs.Rows.{AreRising, AreRowsOf};
-ghost use Rattle.m4_groups.specs.Heights.{row_heights, IsDrawable};
+ghost use Rattle.m4_groups.specs.Heights.{IsDrawable};
 ghost use Rattle.whole_number.specs.Range.{IsValue};
-ghost use Rattle.m4_groups.specs.Drawn.{Drawn};
 ghost use Rattle.m4_groups.specs.Folded.{rows_from};
 ghost use Rattle.m4_groups.specs.Gathered.{Gathered, IsGathered, IsLater};
 ghost use Rattle.m4_groups.specs.declared.row.Row.{Row};
+ghost use Rattle.m4_groups.specs.Laws.{DrawnRowsAreTheRaster};
 
 /// Points in order of time have one list of rows. It is also the one that takes in the points one
 /// after another, from the last to the first.
@@ -32,9 +31,7 @@ pub fn rows_are_drawable()
 
 /// The drawn rows of points are the raster of the points, pixel for pixel.
 pub fn drawn_rows_are_the_raster()
-    ensures { (g : Grid) (lo hi : ℤ) (points : List (ℤ × ℤ)) (rows : List Row) →
-        AreInOrder g points → AreRowsOf g points rows →
-        (x y : ℕ) → Drawn (row_heights lo hi g.h rows) x (pos y) ↔ InRaster (pixels g lo hi points) x (pos y) }
+    ensures { DrawnRowsAreTheRaster }
 {}
 
 /// The next point of a list in order of time may be pushed where those before it were gathered.

@@ -26,18 +26,18 @@ use Rattle.needed_nodes.proofs.ServeLaws.{serves_later, list_shown}
 use Rattle.needed_nodes.proofs.GatherLaws.{Joins, gathers_one, gathers_join, gathers_earlier}
 
 -- a cause stays one for the nodes as they were before
-risen_earlier : (a b c : ℕ) → a ≤ b → HasRisen b c → HasRisen a c
-risen_earlier a b c le h = elim h [ inl less ↦ inl (omega arith) | inr full ↦ inr full ]
+risen_earlier : (a b c : ℕ) → b ≡ a → HasRisen b c → HasRisen a c
+risen_earlier a b c quiet h = let P : ℕ → Type 0 = λ n. HasRisen n c in subst P quiet h
 
-pub has_cause_earlier : (v u t : NodesView) (e : NodeError) → StaysSame v u → v.faults ≤ u.faults → HasCause u t e → HasCause v t e
-has_cause_earlier v u t DiskFault same le h = risen_earlier v.faults u.faults t.faults le h
-has_cause_earlier v u t (Damaged page) same le h = same.was_bad (Damaged page) h
-has_cause_earlier v u t (Missing key) same le h = same.was_bad (Missing key) h
-has_cause_earlier v u t (BadCoefficient key) same le h = same.was_bad (BadCoefficient key) h
+pub has_cause_earlier : (v u t : NodesView) (e : NodeError) → StaysSame v u → u.faults ≡ v.faults → HasCause u t e → HasCause v t e
+has_cause_earlier v u t DiskFault same quiet h = risen_earlier v.faults u.faults t.faults quiet h
+has_cause_earlier v u t (Damaged page) same quiet h = same.was_bad (Damaged page) h
+has_cause_earlier v u t (Missing key) same quiet h = same.was_bad (Missing key) h
+has_cause_earlier v u t (BadCoefficient key) same quiet h = same.was_bad (BadCoefficient key) h
 
-pub cause_earlier : (v u t : NodesView) (w : Window) (e : ScanOf) → StaysSame v u → v.faults ≤ u.faults → IsCauseOf u t w e → IsCauseOf v t w e
-cause_earlier v u t w (Node e) same le h = (has_cause_earlier v u t e same le h.0, λ S served. h.1 S (serves_later v u w S same served))
-cause_earlier v u t w NoMemory same le h = tt
+pub cause_earlier : (v u t : NodesView) (w : Window) (e : ScanOf) → StaysSame v u → u.faults ≡ v.faults → IsCauseOf u t w e → IsCauseOf v t w e
+cause_earlier v u t w (Node e) same quiet h = (has_cause_earlier v u t e same quiet h.0, λ S served. h.1 S (serves_later v u w S same served))
+cause_earlier v u t w NoMemory same quiet h = tt
 
 -- the span that a walk has of a key is the list's
 pub list_span : (v : NodesView) (w : Window) (k : Key) (s : Option Span) (list : List (Option ℤ)) → IsReady v w k s → ServesList v w list → span list k ≡ s

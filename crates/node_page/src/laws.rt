@@ -1,21 +1,17 @@
 //! What follows from the layout. The functions do nothing: their contracts are the laws.
 
 ghost use Rattle.std.specs.Prelude.{◌≡◌, ◌<◌, ◌≤◌, ◌+◌, ◌*◌, ◌/◌, ◌%◌, ◌||◌, false, pos, ℕ, suc, List, slice_index};
-ghost use Rattle.block_disk.specs.Blocks.{IsBlock};
 ghost use Rattle.om3_coeff.specs.declared.key.Key.{Key};
 ghost use Rattle.om3_coeff.specs.Keys.{parent_of};
-ghost use Rattle.node_page.specs.Fields.{level_at, flag_at, coef_at, child_at};
+ghost use Rattle.node_page.specs.Fields.{flag_at, coef_at, child_at};
 ghost use Rattle.node_page.specs.Layout.{KeepsLayout, has_child};
 ghost use Rattle.node_page.specs.Places.{page_level, page_index, node_number};
+ghost use Rattle.node_page.specs.Laws.{PagesAreTheirFields};
 
 /// A page that keeps the layout has no byte but its fields: one of the same level, coefficients and
 /// children is the same.
 pub fn pages_are_their_fields()
-    ensures { (one other : List ℕ) → IsBlock one → IsBlock other
-        → ((k : ℕ) → slice_index one k < 256) → ((k : ℕ) → slice_index other k < 256)
-        → KeepsLayout one → KeepsLayout other → level_at one ≡ level_at other
-        → ((n : ℕ) → n < 127 → coef_at one n ≡ coef_at other n)
-        → ((c : ℕ) → c < 128 → child_at one c ≡ child_at other c) → one ≡ other }
+    ensures { PagesAreTheirFields }
 {}
 
 /// The flag above node n is flag n - 1, and that above child c is flag 126 + c: in a page that keeps the

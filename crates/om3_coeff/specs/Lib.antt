@@ -6,3 +6,4 @@ pub mod View
 pub mod Walks
 pub mod ListNodes
 pub mod Held
+pub mod Laws

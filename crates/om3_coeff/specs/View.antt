@@ -1,5 +1,5 @@
 -- What nodes mean: their slots, the root's span, the coefficients that they tell, and what asks cost.
-use Rattle.std.specs.Prelude.{ℕ, ℤ, ◌≡◌, ◌^◌, ◌<◌, ◌≤◌, ◌-◌, ◌⊎◌, List, length, Option, Some, IsSome}
+use Rattle.std.specs.Prelude.{ℕ, ℤ, ◌≡◌, ◌+◌, ◌^◌, ◌<◌, ◌≤◌, ◌-◌, ◌⊎◌, List, length, Option, Some, IsSome}
 use Rattle.om3_coeff.specs.declared.key.Key.{Key}
 use Rattle.om3_coeff.specs.declared.span.Span.{Span}
 use Rattle.om3_coeff.specs.declared.coef.Coef.{Coef}
@@ -42,9 +42,9 @@ IsNodeOf view k = IsNode (height view.slots) k
 abbrev pub MayAsk : NodesView → Key → Type 0
 MayAsk view k = MayFollow (height view.slots) view.asked k
 
--- a count of 64 bits has risen, or stands at its last value and couldn't
+-- a count of 64 bits has risen by one, or stood at its last value and stays there
 abbrev pub HasRisen : ℕ → ℕ → Type 0
-HasRisen before now = (before < now) ⊎ (2 ^ 64 - 1 ≤ now)
+HasRisen before now = (now ≡ before + 1) ⊎ ((2 ^ 64 - 1 ≤ before) × (now ≡ before))
 
 -- the cause of an error: a fault of the disk was counted between old and new; another error is one
 -- that the nodes may answer

@@ -1,14 +1,15 @@
 //! What follows from the definitions. The functions do nothing: their contracts are the laws.
 
-ghost use Rattle.std.specs.Prelude.{◌≡◌, ℕ, ℤ, ◌+◌, ◌≤◌, ◌<◌, List, length, Option, None, Some, IfSome, IsSome};
+ghost use Rattle.std.specs.Prelude.{◌≡◌, ℕ, ℤ, ◌+◌, ◌≤◌, ◌<◌, List, length, Option, None, Some, IfSome};
 ghost use Rattle.om3_coeff.specs.declared.key.Key.{Key};
 ghost use Rattle.om3_coeff.specs.declared.span.Span.{Span};
 ghost use Rattle.om3_coeff.specs.declared.coef.Coef.{Coef};
-ghost use Rattle.om3_coeff.specs.Keys.{height, top_key, parent_of, left_of, right_of, first_slot, end_slot, IsKey, IsNode, IsAtOrAbove};
+ghost use Rattle.om3_coeff.specs.Keys.{height, top_key, parent_of, left_of, right_of, first_slot, end_slot, IsKey, IsAtOrAbove};
 ghost use Rattle.om3_coeff.specs.Spans.{AreSlots, IsProperIfAny, IsSpanOf, hull, span_of, span_over, span};
-ghost use Rattle.om3_coeff.specs.Coefs.{coef_of, coef, parts};
+ghost use Rattle.om3_coeff.specs.Coefs.{coef_of, parts};
 ghost use Rattle.om3_coeff.specs.Known.{known, known_below};
 ghost use Rattle.om3_coeff.specs.View.{Agrees, known_of};
+ghost use Rattle.om3_coeff.specs.Laws.{KnownSpansAreTheLists};
 
 use crate::nodes::Nodes;
 
@@ -66,12 +67,7 @@ pub fn what_is_known()
 /// Where the root has the list's span and each key above another one, if it has a stored value, is told
 /// with the list's coefficient, that key's span is known and is the list's.
 pub fn known_spans_are_the_list_s()
-    ensures { (root : Option Span) (told : Key → Option Coef) (list : List (Option ℤ)) (k : Key) →
-        AreSlots list → root ≡ span list (top_key (length list)) →
-        IsKey (height (length list)) k →
-        ((w : Key) → IsNode (height (length list)) w → k.level < w.level → IsAtOrAbove w k →
-        IsSome (span list w) → told w ≡ Some (coef list w)) →
-        known root told (height (length list)) k ≡ Some (span list k) }
+    ensures { KnownSpansAreTheLists }
 {}
 
 /// Nodes that agree with a list know each key's span, and it is the list's.

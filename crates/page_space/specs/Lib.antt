@@ -10,3 +10,4 @@ pub mod Copies
 pub mod Beside
 pub mod Shown
 pub mod Changing
+pub mod Laws

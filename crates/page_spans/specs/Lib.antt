@@ -2,3 +2,4 @@ pub mod Heaps
 pub mod Failing
 pub mod Lists
 pub mod Seen
+pub mod Spreading

@@ -1,17 +1,14 @@
 //! The spans of a page's places.
 ghost use Rattle.std.specs.Prelude.{◌≡◌, ◌≢◌, ◌<◌, ◌≤◌, ◌+◌, ℕ, ℤ, false, List, Option, None, Some, is_some, IsSome, OnOk, OnErr, IfErr};
 ghost use Rattle.block_disk.specs.Blocks.{IsBlock};
-ghost use Rattle.om3_coeff.specs.declared.key.Key.{Key};
 ghost use Rattle.om3_coeff.specs.declared.span.Span.{Span};
-ghost use Rattle.om3_coeff.specs.declared.coef.Coef.{Coef};
-ghost use Rattle.om3_coeff.specs.Known.{known};
 ghost use Rattle.om3_coeff.specs.Spans.{AreSlots, IsProper, IsProperIfAny, span};
 ghost use Rattle.node_page.specs.Fields.{flag_at, coef_at};
 ghost use Rattle.node_page.specs.Layout.{AreFlags, AreDifferences, has_child};
 ghost use Rattle.page_spans.specs.Heaps.{span_at, AreProper, IsHeap, IsSplit, IsKept};
-ghost use Rattle.page_spans.specs.Lists.{key_of_top, key_of_leaf, AreNodesOf, AreLeavesOf};
-ghost use Rattle.page_spans.specs.Seen.{IsSeen, HasBadKey};
+ghost use Rattle.page_spans.specs.Lists.{key_of_top, AreNodesOf, AreLeavesOf};
 ghost use Rattle.page_spans.specs.Failing.{IsFirstBad};
+ghost use Rattle.page_spans.specs.Spreading.{SpreadsLists, SpreadsSeen, BlamesSeen};
 
 use crate::errors::BadNode;
 use crate::joining::{join_above, join_all};
@@ -78,13 +75,10 @@ impl PageSpans {
             → (n : ℕ) → n < 255 → span_at self.new n ≡ want n }
         ensures split { (list : List (Option ℤ)) (level index : ℕ) → AreSlots list → 1 ≤ level → AreNodesOf list level index page.now.bytes.now
             → Some top ≡ span list (key_of_top level index) → OnErr result ⊥ }
-        ensures leaves { (list : List (Option ℤ)) (level index : ℕ) → AreSlots list → 1 ≤ level → AreNodesOf list level index page.now.bytes.now
-            → Some top ≡ span list (key_of_top level index) → AreLeavesOf list level index (span_at self.new) }
+        ensures leaves { SpreadsLists page.now.bytes.now top (span_at self.new) }
         ensures children { OnOk result ((child : ℕ) → child < 128 → has_child page.now.bytes.now child ≡ is_some (span_at self.new (127 + child))) }
-        ensures seen { (root : Option Span) (told : Key → Option Coef) (highest level index : ℕ) → IsSeen root told highest level index page.now.bytes.now top
-            → OnOk result ((leaf : ℕ) → leaf < 128 → known root told highest (key_of_leaf level index leaf) ≡ Some (span_at self.new (127 + leaf))) }
-        ensures bad_key { (root : Option Span) (told : Key → Option Coef) (highest level index : ℕ) → IsSeen root told highest level index page.now.bytes.now top
-            → OnErr result (HasBadKey root told highest level index page.now.bytes.now) }
+        ensures seen { SpreadsSeen page.now.bytes.now top result (span_at self.new) }
+        ensures bad_key { BlamesSeen page.now.bytes.now top result }
     {
         self.spans[0] = Some(top);
         split_all(&mut self.spans, page)

@@ -1,7 +1,6 @@
 -- Calls that read, one after the other.
-use Rattle.std.proofs.Common.{◌≡◌, ℕ, ◌+◌, ◌*◌, ◌<◌, ◌≤◌, ◌||◌, true, suc, cond, refl, ap, subst, arith, inl, inr, ◌∙◌}
+use Rattle.std.proofs.Common.{◌≡◌, ℕ, ◌+◌, ◌*◌, ◌<◌, ◌≤◌, ◌||◌, true, suc, cond, refl, ap, subst, arith, ◌∙◌}
 use Rattle.block_disk.specs.View.{Image, View, Now}
-use Rattle.block_disk.specs.Counts.{HasRisen}
 use Rattle.block_disk.proofs.Passing.{passes_none, passes_weaker, now_back}
 use Rattle.gate_pages.specs.GateLaws.{goes_none}
 use Rattle.gate_pages.specs.Pages.{Quiet}
@@ -12,11 +11,9 @@ use Rattle.page_space.specs.declared.txn.Txn.{Txn}
 use Rattle.tree_walk.specs.Trees.{top_of_page}
 use Rattle.tree_walk.specs.SpaceViews.{StaysOn}
 use Rattle.tree_walk.proofs.SpaceLemmas.{stays_then}
-use Rattle.path_repair.specs.declared.errors.RepairError.{RepairError}
-use Rattle.path_repair.specs.declared.errors.RepairError.TheVariants.{Full, DiskFault, Damaged, NoMemory}
 use Rattle.path_repair.specs.Sums.{sum_below}
 use Rattle.path_repair.specs.Costs.{touch, is_touched, is_new_root}
-use Rattle.path_repair.specs.Standing.{AreTold, ReadsMost, Moved, IsCause}
+use Rattle.path_repair.specs.Standing.{AreTold, ReadsMost, Moved}
 use Rattle.path_repair.proofs.ListLemmas.{child_end}
 
 reads_then : (a b : ℕ) (told told' told'' : Type 0) (old mid new : View) → ReadsMost a told told' old mid → ReadsMost b told' told'' mid new → ReadsMost (a + b) told told'' old new
@@ -94,16 +91,6 @@ moved_more a b p q told told' old new under under' s s' t t' less fewer moved = 
 
 pub told_on : (a : ℕ) (told told' : Type 0) (old new : View) (base : Image) → ReadsMost a told told' old new → AreTold told old base → AreTold told' new base
 told_on a told told' old new base reads at = record { are_told = reads.told at.are_told; are = reads.image at.are_told ∙ at.are }
-
-risen_on : (old mid new : ℕ) → old ≤ mid → HasRisen mid new → HasRisen old new
-risen_on old mid new less (inl risen) = inl (omega (arith, less, risen))
-risen_on old mid new less (inr most) = inr most
-
-pub cause_on : (total total' : ℕ) (e : RepairError) (old mid new : ℕ) → total' ≡ total → old ≤ mid → IsCause total' e mid new → IsCause total e old new
-cause_on total total' (Full needed have) old mid new same less cause = (omega (arith, cause.0, same), omega (arith, cause.1, same))
-cause_on total total' DiskFault old mid new same less cause = risen_on old mid new less cause
-cause_on total total' (Damaged page) old mid new same less cause = omega (arith, cause, same)
-cause_on total total' NoMemory old mid new same less cause = cause
 
 pub touch_suc : (first end height level index : ℕ) → (is_touched first end (suc level) index || is_new_root height (suc level) index) ≡ true
     → touch first end height (suc level) index ≡ suc (sum_below (λ child. touch first end height level (128 * index + child)) 128)

@@ -1,14 +1,11 @@
 //! What follows from the definitions, in plain words. The functions do nothing: their contracts are the laws.
 
-ghost use Rattle.std.specs.Prelude.{◌≡◌, ℕ, ℤ, ◌<◌, ◌≤◌, ◌^◌, List, [], ◌∷◌, unsigned_abs, length, All};
-ghost use Rattle.std.specs.List.{slice_split};
-ghost use Rattle.std.specs.Fmt.{decimal, signed_decimal};
+ghost use Rattle.std.specs.Prelude.{ℕ, ℤ, ◌<◌, ◌≤◌, ◌^◌, unsigned_abs, length, All};
 ghost use Rattle.std.specs.Int.{IsInRange};
-ghost use Rattle.csv_load.specs.Fields.{is_space};
 ghost use Rattle.csv_load.specs.Rows.{Says};
 ghost use Rattle.csv_load.specs.declared.row.Row.TheVariants.{Point};
-ghost use Rattle.reading_lines.specs.Lines.{reading_row, reading_line, series_row, series_line, IsTold};
-ghost use Rattle.series_book.specs.declared.axis.Axis.{Axis};
+ghost use Rattle.reading_lines.specs.Lines.{reading_row, reading_line};
+ghost use Rattle.reading_lines.specs.Laws.{LinesTellOneReading, SeriesLinesAreWords, LinesTellOneSeries};
 
 use csv_load::laws::{one_answer, plain_lines};
 
@@ -17,9 +14,7 @@ use csv_load::laws::{one_answer, plain_lines};
 pub fn lines_are_read_back()
     ensures reading { (scale : ℕ) (time value : ℤ) → unsigned_abs time < 10 ^ 19 → unsigned_abs value < 10 ^ 19 →
         Says scale (reading_row scale time value) (Point time value) }
-    ensures one_reading { (scale : ℕ) (time value later other : ℤ) →
-        unsigned_abs time < 10 ^ 19 → unsigned_abs value < 10 ^ 19 → unsigned_abs later < 10 ^ 19 → unsigned_abs other < 10 ^ 19 →
-        reading_line scale time value ≡ reading_line scale later other → (time ≡ later) × (value ≡ other) }
+    ensures one_reading { LinesTellOneReading }
 {
     plain_lines();
     one_answer();
@@ -37,8 +32,6 @@ pub fn lines_are_plain()
 /// Cut at its spaces, the line of a series without its line feed is its name, start, step, scale and number of slots; and two series
 /// with the same line are told the same.
 pub fn series_lines_are_words()
-    ensures words { (name : List ℕ) (axis : Axis) (scale : ℕ) → IsTold name axis scale →
-        slice_split is_space (series_row name axis scale) ≡ name ∷ signed_decimal axis.start ∷ decimal axis.step ∷ decimal scale ∷ decimal axis.slots ∷ [] }
-    ensures one_series { (name other : List ℕ) (axis later : Axis) (scale places : ℕ) → IsTold name axis scale → IsTold other later places →
-        series_line name axis scale ≡ series_line other later places → (name ≡ other) × (axis ≡ later) × (scale ≡ places) }
+    ensures words { SeriesLinesAreWords }
+    ensures one_series { LinesTellOneSeries }
 {}

@@ -2,11 +2,16 @@
 use Rattle.std.proofs.Common.{◌≡◌, ◌≢◌, ◌∙◌, ◌↔◌, ℕ, ◌+◌, ◌<◌, ◌≤◌, List, [], length, take, Option, Some, None, Result, Ok, Err, IfSome, refl, ap, sym, subst, arith, inl, inr}
 use Rattle.std.specs.Prelude.{OnOk, IfErr}
 use Rattle.std.proofs.lemmas.List.{take_all}
+use Rattle.block_disk.specs.Counts.{HasRisen}
 use Rattle.block_disk.specs.Streams.{sent_after}
 use Rattle.block_disk.specs.View.{Image, View, Beside, DiskKept, Now, Only, Passes, sent_now}
 use Rattle.chart_service.specs.MomentLaws.{through_none, through_by, through_so, through_then}
 use Rattle.chart_service.specs.Moments.{Through}
 use Rattle.chart_service.proofs.DiskKept.{risen_since}
+use Rattle.chart_world.specs.FaultLaws.{disk_stays, sends_stay, takes_stay}
+use Rattle.chart_world.specs.Faults.{CountsFault}
+use Rattle.chart_world.specs.declared.line_answer.LineFault.{LineFault}
+use Rattle.chart_world.specs.declared.line_answer.LineFault.TheVariants as fault
 use Rattle.gate_pages.proofs.Moving.{sent_same}
 use Rattle.gate_pages.specs.GateLaws.{goes_none, goes_then as goes_on_then}
 use Rattle.gate_pages.specs.Pages.{GoesOn, Quiet}
@@ -24,7 +29,7 @@ use Rattle.retention.specs.declared.swept.Swept.{Swept}
 use Rattle.retain_command.specs.Answers.{answer, swept_text}
 use Rattle.store_commands.specs.Sides.{Side, AreBeside}
 use Rattle.store_commands.proofs.InputLemmas.{told_any}
-use Rattle.retain_command.specs.Doing.{DoesLine, DoesRule, Goes, IsCause, LineMoment, LineStops, RuleMoment, RuleStops, TextStops, Untouched, end_at}
+use Rattle.retain_command.specs.Doing.{DoesLine, DoesRule, Goes, IsCause, LineMoment, LineStops, RuleMoment, RuleStops, TextStops, Untouched, end_at, end_of}
 use Rattle.retain_command.specs.Rules.{Spells, SaysNone}
 use Rattle.retain_command.specs.declared.retain_end.RetainEnd.{RetainEnd}
 use Rattle.retain_command.specs.declared.retain_end.RetainEnd.TheVariants.{BadLine, UnknownSeries, ReadFault, SendFault, InputTooLong, DiskFault, Damaged, NoMemory}
@@ -224,13 +229,22 @@ goes_call old new count count' was are carries = record {
 pub goes_streams : (old new : Side) → DiskKept old.view new.view → (old.told → new.told) → (new.told → old.told) → GoesOn old.under new.under → new.total ≡ old.total → old.read_faults ≤ new.read_faults → old.send_faults ≤ new.send_faults → Goes old new
 goes_streams old new kept told was_told on total_is reads sends = record { is_told = told; was_told = was_told; size = kept.size; faults = omega (arith, kept.faults); goes_on = on; total_is = total_is; reads = reads; sends = sends }
 
--- why a later call ended is why all ended
-pub cause_later : (old mid new : Side) (end : RetainEnd) → Goes old mid → IsCause end mid new → IsCause end old new
-cause_later old mid new (BadLine at) goes is = tt
-cause_later old mid new (UnknownSeries at) goes is = tt
-cause_later old mid new ReadFault goes is = risen_since old.read_faults mid.read_faults new.read_faults goes.reads is
-cause_later old mid new SendFault goes is = risen_since old.send_faults mid.send_faults new.send_faults goes.sends is
-cause_later old mid new InputTooLong goes is = tt
-cause_later old mid new DiskFault goes is = risen_since old.view.faults mid.view.faults new.view.faults goes.faults is
-cause_later old mid new (Damaged page) goes is = (omega (arith, is.0, goes.total_is), is.1)
-cause_later old mid new NoMemory goes is = tt
+-- why a later call ended is why all ended, where no fault was counted before
+module _ (old mid new : Side) (was : AreBeside old.view old.read_faults old.send_faults) (are : AreBeside mid.view mid.read_faults mid.send_faults) (quiet : CountsFault None old.view mid.view) where
+  pub cause_later : (end : RetainEnd) → Goes old mid → IsCause end mid new → IsCause end old new
+  cause_later (BadLine at) goes is = tt
+  cause_later (UnknownSeries at) goes is = tt
+  cause_later ReadFault goes is = risen_since old.read_faults mid.read_faults new.read_faults (sym are.reads_are ∙ takes_stay old.view mid.view quiet ∙ was.reads_are) is
+  cause_later SendFault goes is = risen_since old.send_faults mid.send_faults new.send_faults (sym are.sends_are ∙ sends_stay old.view mid.view quiet ∙ was.sends_are) is
+  cause_later InputTooLong goes is = tt
+  cause_later DiskFault goes is = risen_since old.view.faults mid.view.faults new.view.faults (disk_stays old.view mid.view quiet) is
+  cause_later (Damaged page) goes is = (omega (arith, is.0, goes.total_is), is.1)
+  cause_later NoMemory goes is = tt
+
+-- a fault of the lines
+fault_cause : (old new : Side) (f : LineFault) → (f ≡ fault.ReadFault → HasRisen old.read_faults new.read_faults) → IsCause (end_of f) old new
+fault_cause old new fault.ReadFault risen = risen refl
+fault_cause old new fault.InputTooLong risen = tt
+
+pub line_fault_cause : (old new : Side) (f : LineFault) (end : RetainEnd) → end ≡ end_of f → (f ≡ fault.ReadFault → HasRisen old.read_faults new.read_faults) → IsCause end old new
+line_fault_cause old new f end is risen = let P : RetainEnd → Type 0 = λ e. IsCause e old new in subst P (sym is) (fault_cause old new f risen)

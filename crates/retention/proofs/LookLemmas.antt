@@ -1,5 +1,5 @@
 -- Calls that read pages and change nothing else.
-use Rattle.std.proofs.Common.{◌≡◌, ℕ, zero, suc, ◌<◌, ◌≤◌, List, [], ◌∷◌, length, Some, refl, sym, ap, subst, inl, inr, ◌∙◌, arith}
+use Rattle.std.proofs.Common.{◌≡◌, ℕ, zero, suc, ◌<◌, ◌≤◌, List, [], ◌∷◌, length, Some, refl, sym, ap, subst, inl, ◌∙◌, arith}
 use Rattle.std.proofs.lemmas.Option.{slice_get_within}
 use Rattle.std.specs.List.{slice_get}
 use Rattle.block_disk.specs.View.{Image, View, Now}
@@ -137,33 +137,11 @@ bad_later told told' old new under under' s s' catalog catalog' total page looks
     let C : ℕ → Type 0 = λ n. IsBadForRequest n new.image page in
     (bad.0, λ t. subst C (sym looks.size) (subst I (sym (looks.image (looks.was_told t))) (bad.1 (looks.was_told t))))
 
--- why asks gave no answer is why a clear wasn't found
-pub ask_fails : (e : SweepError) (told told' : Type 0) (before old new under under' : View) (s s' : Superblock) (catalog catalog' : Catalog) (nodes nodes' : NodesView) (total : ℕ) → Looks told told' old new under under' s s' catalog catalog'
-    → before.faults ≤ old.faults → nodes.faults ≡ old.faults → nodes'.faults ≡ new.faults → ((page : ℕ) → nodes.bad (node.Damaged page) → IsBadPage told total old page) → IsAskCause nodes nodes' e → IsReadCause e told' total before new
-ask_fails UnknownSeries told told' before old new under under' s s' catalog catalog' nodes nodes' total looks low first last bad cause = absurd cause
-ask_fails DiskFault told told' before old new under under' s s' catalog catalog' nodes nodes' total looks low first last bad cause = elim cause [
-  | inl risen ↦ inl (omega (arith, low, first, last, risen))
-  | inr full ↦ inr (omega (arith, last, full))
-]
-ask_fails (Damaged page) told told' before old new under under' s s' catalog catalog' nodes nodes' total looks low first last bad cause =
-    bad_later told told' old new under under' s s' catalog catalog' total page looks (bad page cause)
-ask_fails NoMemory told told' before old new under under' s s' catalog catalog' nodes nodes' total looks low first last bad cause = absurd cause
-
 pub ask_outside : (e : SweepError) (nodes nodes' : NodesView) → ((page : ℕ) → nodes.bad (node.Damaged page) → ⊥) → IsAskCause nodes nodes' e → IsOutside e
 ask_outside UnknownSeries nodes nodes' none cause = absurd cause
 ask_outside DiskFault nodes nodes' none cause = tt
 ask_outside (Damaged page) nodes nodes' none cause = absurd (none page cause)
 ask_outside NoMemory nodes nodes' none cause = absurd cause
-
--- why a look behind another failed
-pub fails_later : (e : SweepError) (told : Type 0) (total total' : ℕ) (before old new : View) → before.faults ≤ old.faults → total' ≡ total → IsReadCause e told total' old new → IsReadCause e told total before new
-fails_later UnknownSeries told total total' before old new low same cause = absurd cause
-fails_later DiskFault told total total' before old new low same cause = elim cause [
-  | inl risen ↦ inl (omega (arith, low, risen))
-  | inr full ↦ inr full
-]
-fails_later (Damaged page) told total total' before old new low same cause = (omega (arith, cause.0, same), cause.1)
-fails_later NoMemory told total total' before old new low same cause = tt
 
 pub read_sweeps : (e : SweepError) (told : Type 0) (total : ℕ) (old new : View) → IsReadCause e told total old new → IsSweepCause e told total old new
 read_sweeps UnknownSeries told total old new cause = absurd cause

@@ -5,3 +5,4 @@ pub mod Edits
 pub mod Books
 pub mod Axes
 pub mod EditLists
+pub mod Laws

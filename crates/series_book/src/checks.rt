@@ -1,12 +1,12 @@
 //! Which refusal of an edit stands before the pages are counted. The clauses speak of every series with
 //! this start, this step and so many slots.
-ghost use Rattle.std.specs.Prelude.{◌≡◌, ◌+◌, ◌≤◌, max, Ok, Err, length, false, IfNone, MatchOption};
+ghost use Rattle.std.specs.Prelude.{◌≡◌, ◌+◌, ◌≤◌, max, length, false, IfNone, MatchOption};
 ghost use Rattle.std.specs.List.{list_any};
 ghost use Rattle.series_book.specs.declared.limits.TheConstants.{MOST_SLOTS, MOST_CLEARED, MOST_VALUES};
 ghost use Rattle.whole_number.specs.SlotTimes.{EndsInTime};
 ghost use Rattle.series_book.specs.declared.one_series.Series.{Series};
 ghost use Rattle.series_book.specs.Edits.{is_too_large, place_of, distance, overwritten, cleared, appended, set_at, cleared_at, IsOnGrid, RefusesTime};
-ghost use Rattle.series_book.specs.Axes.{IsAxisOf};
+ghost use Rattle.series_book.specs.Axes.{IsAxisOf, IsRefusalOf};
 
 use crate::axis::Axis;
 use crate::limits::{MOST_CLEARED, MOST_SLOTS, MOST_VALUES};
@@ -20,7 +20,7 @@ use whole_number::slot_times::ends_in_time;
 pub fn append_refusal(axis: Axis, values: &Values) -> Option<Refusal>
     requires slots { axis.slots ≤ MOST_SLOTS }
     ensures refusal { (series : Series) → IsAxisOf series axis
-        → MatchOption result (appended series values.now ≡ Ok (overwritten series.slots (length series.slots) values.now)) (λ refusal. appended series values.now ≡ Err refusal) }
+        → IsRefusalOf (appended series values.now) (overwritten series.slots (length series.slots) values.now) result }
     ensures in_range { IfNone result (list_any is_too_large values.now ≡ false) }
     ensures few { IfNone result (length values.now ≤ MOST_VALUES) }
     ensures room { IfNone result (axis.slots + length values.now ≤ MOST_SLOTS) }
@@ -48,7 +48,7 @@ pub fn set_refusal(axis: Axis, time: i128, values: &Values) -> Option<Refusal>
     requires slots { axis.slots ≤ MOST_SLOTS }
     requires step { 1 ≤ axis.step }
     ensures refusal { (series : Series) → IsAxisOf series axis
-        → MatchOption result (set_at series time values.now ≡ Ok (overwritten series.slots (place_of series time) values.now)) (λ refusal. set_at series time values.now ≡ Err refusal) }
+        → IsRefusalOf (set_at series time values.now) (overwritten series.slots (place_of series time) values.now) result }
     ensures in_range { IfNone result (list_any is_too_large values.now ≡ false) }
     ensures few { IfNone result (length values.now ≤ MOST_VALUES) }
     ensures room { (series : Series) → IsAxisOf series axis → IfNone result (place_of series time + length values.now ≤ MOST_SLOTS) }
@@ -80,7 +80,7 @@ pub fn set_refusal(axis: Axis, time: i128, values: &Values) -> Option<Refusal>
 pub fn clear_refusal(axis: Axis, time: i128, count: u64) -> Option<Refusal>
     requires { 1 ≤ axis.step }
     ensures refusal { (series : Series) → IsAxisOf series axis
-        → MatchOption result (cleared_at series time count ≡ Ok (cleared series.slots (place_of series time) count)) (λ refusal. cleared_at series time count ≡ Err refusal) }
+        → IsRefusalOf (cleared_at series time count) (cleared series.slots (place_of series time) count) result }
     ensures few { IfNone result (count ≤ MOST_CLEARED) }
 {
     if let Some(refusal) = time_refusal(axis, time) {

@@ -1,12 +1,12 @@
 //! What follows from the definitions. The functions do nothing: their contracts are the laws.
-ghost use Rattle.std.specs.Prelude.{◌≡◌, ◌<◌, ◌≤◌, ℕ, ℤ, Some, None, Ok, List, Option, [], ◌∷◌, ◌++◌, All, false, length, slice_get};
-ghost use Rattle.series_book.specs.declared.limits.TheConstants.{MOST_SERIES, MOST_SLOTS};
-ghost use Rattle.whole_number.specs.SlotTimes.{EndsInTime};
+ghost use Rattle.std.specs.Prelude.{◌≡◌, ◌<◌, ℕ, None, Ok, List, [], ◌∷◌, ◌++◌, length};
+ghost use Rattle.series_book.specs.declared.limits.TheConstants.{MOST_SERIES};
 ghost use Rattle.series_book.specs.declared.one_series.Series.{Series};
 ghost use Rattle.series_book.specs.declared.edits.Edit.{Edit};
 ghost use Rattle.series_book.specs.Books.{IsBook, IsSeries, IsNamed};
 ghost use Rattle.series_book.specs.EditLists.{after_edits, edits_give};
-ghost use Rattle.series_book.specs.Edits.{Edited, IsEdit, apply, id_of, is_too_large, with_slots};
+ghost use Rattle.series_book.specs.Edits.{Edited, IsEdit, apply, id_of};
+ghost use Rattle.series_book.specs.Laws.{OtherSlotsKeepBooks};
 
 /// An accepted edit makes a book of a book.
 pub fn accepted_edits_keep_books()
@@ -15,8 +15,7 @@ pub fn accepted_edits_keep_books()
 
 /// A book with other slots in a series is a book, where these are in range.
 pub fn other_slots_keep_books()
-    ensures { (book : List Series) (id : ℕ) (series : Series) (slots : List (Option ℤ)) → IsBook book → slice_get book id ≡ Some series
-        → length slots ≤ MOST_SLOTS → EndsInTime series.start series.step (length slots) → All (λ value. is_too_large value ≡ false) slots → IsBook (with_slots book id series slots) }
+    ensures { OtherSlotsKeepBooks }
 {}
 
 /// A book with a series of a new name behind the others is a book.

@@ -70,18 +70,18 @@ page_placed DiskFault page bad low high cause = tt
 page_placed (Damaged at) page bad low high cause = (omega (arith, low, cause.0), omega (arith, high, cause.0))
 page_placed NoMemory page bad low high cause = tt
 
-pub risen_on : (old mid new : ℕ) → old ≤ mid → HasRisen mid new → HasRisen old new
-risen_on old mid new less (inl risen) = inl (omega (arith, less, risen))
-risen_on old mid new less (inr most) = inr most
+pub risen_on : (old mid new : ℕ) → mid ≡ old → HasRisen mid new → HasRisen old new
+risen_on old mid new quiet (inl risen) = inl (omega (arith, quiet, risen))
+risen_on old mid new quiet (inr last) = inr (omega (arith, quiet, last.0), omega (arith, quiet, last.1))
 
 -- an error at a page that is read after others
-pub cause_on : (most : ℕ) (told told' : Type 0) (old mid new : View) (s s' : Superblock) (e : CatalogError) → ReadsMost most told told' old mid → s' ≡ s → IsCatalogCause e told' s' mid new → IsCatalogCause e told s old new
-cause_on most told told' old mid new s s' DiskFault reads same cause = risen_on old.faults mid.faults new.faults reads.faults cause
-cause_on most told told' old mid new s s' (Damaged page) reads same cause = λ t.
+pub cause_on : (most : ℕ) (told told' : Type 0) (old mid new : View) (s s' : Superblock) (e : CatalogError) → ReadsMost most told told' old mid → mid.faults ≡ old.faults → s' ≡ s → IsCatalogCause e told' s' mid new → IsCatalogCause e told s old new
+cause_on most told told' old mid new s s' DiskFault reads quiet same cause = risen_on old.faults mid.faults new.faults quiet cause
+cause_on most told told' old mid new s s' (Damaged page) reads quiet same cause = λ t.
     let P : Superblock → Type 0 = λ one. IsBadCatalog mid.image one page in
     let Q : Image → Type 0 = λ image. IsBadCatalog image s page in
     subst Q (reads.image t) (subst P same (cause (reads.told t)))
-cause_on most told told' old mid new s s' NoMemory reads same cause = tt
+cause_on most told told' old mid new s s' NoMemory reads quiet same cause = tt
 
 -- what was read before a page is of the pages as they are now
 pub told_now : (told told' : Type 0) (old new : View) (most : ℕ) (series : List StoredSeries) → ReadsMost most told told' old new → (told → AreAsTold old.image series) → told' → AreAsTold new.image series

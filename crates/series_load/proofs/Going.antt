@@ -216,29 +216,30 @@ unstarted total name book series o e result at is none some =
     no_ends None = tt
     no_ends (Some input) = tt
 
-risen_more : (old mid new : ℕ) → old ≤ mid → HasRisen mid new → HasRisen old new
-risen_more old mid new before risen = elim risen [ inl some ↦ inl (omega (arith, before, some)) | inr last ↦ inr last ]
+risen_more : (old mid new : ℕ) → mid ≡ old → HasRisen mid new → HasRisen old new
+risen_more old mid new same (inl risen) = inl (omega (arith, same, risen))
+risen_more old mid new same (inr last) = inr (omega (arith, same, last.0), last.1 ∙ same)
 
-cause_at : (told : Type 0) (e : LoadEnd) (total total' : ℕ) (old mid new : View) (reads reads' : ℕ) → old.faults ≤ mid.faults → total' ≡ total → IsSetCause e told total' mid new → IsLoadCause e told total old new reads reads'
-cause_at told UnknownSeries total total' old mid new reads reads' before same cause = tt
-cause_at told (BadLine at) total total' old mid new reads reads' before same cause = tt
-cause_at told (Refused at refusal) total total' old mid new reads reads' before same cause = tt
-cause_at told ReadFault total total' old mid new reads reads' before same cause = absurd cause
-cause_at told InputTooLong total total' old mid new reads reads' before same cause = tt
-cause_at told DiskFault total total' old mid new reads reads' before same cause = risen_more old.faults mid.faults new.faults before cause
-cause_at told (Damaged page) total total' old mid new reads reads' before same cause = (omega (arith, cause.0, same), cause.1)
-cause_at told NoMemory total total' old mid new reads reads' before same cause = tt
+cause_at : (told : Type 0) (e : LoadEnd) (total total' : ℕ) (old mid new : View) (reads reads' : ℕ) → mid.faults ≡ old.faults → total' ≡ total → IsSetCause e told total' mid new → IsLoadCause e told total old new reads reads'
+cause_at told UnknownSeries total total' old mid new reads reads' quiet same cause = tt
+cause_at told (BadLine at) total total' old mid new reads reads' quiet same cause = tt
+cause_at told (Refused at refusal) total total' old mid new reads reads' quiet same cause = tt
+cause_at told ReadFault total total' old mid new reads reads' quiet same cause = absurd cause
+cause_at told InputTooLong total total' old mid new reads reads' quiet same cause = tt
+cause_at told DiskFault total total' old mid new reads reads' quiet same cause = risen_more old.faults mid.faults new.faults quiet cause
+cause_at told (Damaged page) total total' old mid new reads reads' quiet same cause = (omega (arith, cause.0, same), cause.1)
+cause_at told NoMemory total total' old mid new reads reads' quiet same cause = tt
 
 -- why a call failed is why the load did
-pub cause_so : {T : Type 0} (told : Type 0) (result : Result T LoadEnd) (total total' : ℕ) (old mid new : View) (reads reads' : ℕ) → old.faults ≤ mid.faults → total' ≡ total → IfErr result (λ e. IsSetCause e told total' mid new) → IfErr result (λ e. IsLoadCause e told total old new reads reads')
-cause_so told (Ok v) total total' old mid new reads reads' before same cause = tt
-cause_so told (Err e) total total' old mid new reads reads' before same cause = cause_at told e total total' old mid new reads reads' before same cause
+pub cause_so : {T : Type 0} (told : Type 0) (result : Result T LoadEnd) (total total' : ℕ) (old mid new : View) (reads reads' : ℕ) → mid.faults ≡ old.faults → total' ≡ total → IfErr result (λ e. IsSetCause e told total' mid new) → IfErr result (λ e. IsLoadCause e told total old new reads reads')
+cause_so told (Ok v) total total' old mid new reads reads' quiet same cause = tt
+cause_so told (Err e) total total' old mid new reads reads' quiet same cause = cause_at told e total total' old mid new reads reads' quiet same cause
 
-pub cause_on : {T : Type 0} (told : Type 0) (result : Result T LoadEnd) (e : LoadEnd) (total total' : ℕ) (old mid new : View) (reads reads' : ℕ) → IsErrAnd result (λ x. x ≡ e) → old.faults ≤ mid.faults → total' ≡ total → IsSetCause e told total' mid new → IfErr result (λ x. IsLoadCause x told total old new reads reads')
-cause_on told (Ok v) e total total' old mid new reads reads' is before same cause = tt
-cause_on {T} told (Err x) e total total' old mid new reads reads' is before same cause =
+pub cause_on : {T : Type 0} (told : Type 0) (result : Result T LoadEnd) (e : LoadEnd) (total total' : ℕ) (old mid new : View) (reads reads' : ℕ) → IsErrAnd result (λ x. x ≡ e) → mid.faults ≡ old.faults → total' ≡ total → IsSetCause e told total' mid new → IfErr result (λ x. IsLoadCause x told total old new reads reads')
+cause_on told (Ok v) e total total' old mid new reads reads' is quiet same cause = tt
+cause_on {T} told (Err x) e total total' old mid new reads reads' is quiet same cause =
     let P : LoadEnd → Type 0 = λ y. IsLoadCause y told total old new reads reads' in
-    subst P (sym is) (cause_at told e total total' old mid new reads reads' before same cause)
+    subst P (sym is) (cause_at told e total total' old mid new reads reads' quiet same cause)
 
 pub sound_on : {T : Type 0} (result : Result T LoadEnd) (e : LoadEnd) (new : View) → IsErrAnd result (λ x. x ≡ e) → IsSoundFor e new → IfErr result (λ x. IsSoundFor x new)
 sound_on (Ok v) e new is sound = tt
@@ -249,12 +250,12 @@ no_value (Ok v) e P is = absurd is
 no_value (Err x) e P is = tt
 
 -- a fault of the lines
-pub fault_cause : {T : Type 0} (told : Type 0) (result : Result T LoadEnd) (f : LineFault) (total : ℕ) (old new : View) (reads mid reads' : ℕ) → IsErrAnd result (λ x. x ≡ end_of f) → reads ≤ mid → (f ≡ fault.ReadFault → HasRisen mid reads') → IfErr result (λ x. IsLoadCause x told total old new reads reads')
-fault_cause told (Ok v) f total old new reads mid reads' is before risen = tt
-fault_cause {T} told (Err x) fault.ReadFault total old new reads mid reads' is before risen =
+pub fault_cause : {T : Type 0} (told : Type 0) (result : Result T LoadEnd) (f : LineFault) (total : ℕ) (old new : View) (reads mid reads' : ℕ) → IsErrAnd result (λ x. x ≡ end_of f) → mid ≡ reads → (f ≡ fault.ReadFault → HasRisen mid reads') → IfErr result (λ x. IsLoadCause x told total old new reads reads')
+fault_cause told (Ok v) f total old new reads mid reads' is quiet risen = tt
+fault_cause {T} told (Err x) fault.ReadFault total old new reads mid reads' is quiet risen =
     let P : LoadEnd → Type 0 = λ y. IsLoadCause y told total old new reads reads' in
-    subst P (sym is) (risen_more reads mid reads' before (risen refl))
-fault_cause {T} told (Err x) fault.InputTooLong total old new reads mid reads' is before risen =
+    subst P (sym is) (risen_more reads mid reads' quiet (risen refl))
+fault_cause {T} told (Err x) fault.InputTooLong total old new reads mid reads' is quiet risen =
     let P : LoadEnd → Type 0 = λ y. IsLoadCause y told total old new reads reads' in
     subst P (sym is) tt
 

@@ -117,10 +117,10 @@ module _ {P : Type 0} {g : Ghosts P} where
       let Y : ℕ → Type 0 = λ n. AreShifted book x n d → IsChartAnswer book x n a b grid asked result in
       subst Y second (subst X first (answer total book (subst T (sym same) told) (subst B (sym same) stands)))
 
-  pub cause_later : (e : DerivedError) (old mid new : StorePair P g) → GoesPair old mid → IsCause (Causes mid new) e → IsCause (Causes old new) e
-  cause_later (derived.TooLarge time) old mid new going cause = tt
-  cause_later (derived.Node error) old mid new going cause = causes_later error old mid new going cause
-  cause_later derived.NoMemory old mid new going cause = tt
+  pub cause_later : (e : DerivedError) (old mid new : StorePair P g) → GoesPair old mid → (shown.view mid.store).faults ≡ (shown.view old.store).faults → IsCause (Causes mid new) e → IsCause (Causes old new) e
+  cause_later (derived.TooLarge time) old mid new going quiet cause = tt
+  cause_later (derived.Node error) old mid new going quiet cause = causes_later error old mid new going quiet cause
+  cause_later derived.NoMemory old mid new going quiet cause = tt
 
   pub of_pages : (e : DerivedError) (old new : StorePair P g) → shown.IsSound old.store → IsCause (Causes old new) e → IsCause IsOfPages e
   of_pages (derived.TooLarge time) old new sound cause = tt

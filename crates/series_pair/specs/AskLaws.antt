@@ -1,6 +1,7 @@
 -- Two series of a store as two trees: what asks and turns keep of them.
-use Rattle.std.proofs.Common.{◌≡◌, ◌∙◌, ℕ, ℤ, ◌<◌, Bool, false, true, List, length, Option, Some, refl, sym, ap, subst, inl, inr, arith}
+use Rattle.std.proofs.Common.{◌≡◌, ◌∙◌, ℕ, ℤ, ◌<◌, Bool, false, true, List, length, Option, Some, refl, sym, ap, subst, arith}
 use Rattle.std.specs.List.{slice_get}
+use Rattle.block_disk.specs.Counts.{HasRisen}
 use Rattle.block_disk.specs.View.{Image}
 use Rattle.gate_pages.specs.declared.pages.Pages.{Ghosts}
 use Rattle.om3_coeff.specs.View.{Agrees, HasCause, StaysSame}
@@ -157,16 +158,15 @@ module _ {P : Type 0} {g : Ghosts P} where
   asks_have_cause (Missing key) kept never = λ sound. never
   asks_have_cause (BadCoefficient key) kept never = λ sound. never
 
-  pub causes_later : (e : NodeError) (old mid new : StorePair P g) → GoesPair old mid → Causes mid new e → Causes old new e
-  causes_later DiskFault old mid new going cause = λ sound. elim (cause (going.looks.fit sound)) [
-    | inl risen ↦ inl (omega (arith, going.looks.faults, risen))
-    | inr full ↦ inr full
-  ]
-  causes_later (Damaged page) old mid new going cause = λ sound.
+  pub causes_later : (e : NodeError) (old mid new : StorePair P g) → GoesPair old mid → (shown.view mid.store).faults ≡ (shown.view old.store).faults → Causes mid new e → Causes old new e
+  causes_later DiskFault old mid new going quiet cause = λ sound.
+      let R : ℕ → Type 0 = λ n. HasRisen n (shown.view new.store).faults in
+      subst R quiet (cause (going.looks.fit sound))
+  causes_later (Damaged page) old mid new going quiet cause = λ sound.
       let is = cause (going.looks.fit sound) in
       let N : Superblock → Type 0 = λ s. IsBadPage (shown.IsTold new.store) s.total (shown.view new.store) page in (
         subst N going.looks.superblock is.0,
         λ total book told stands. is.1 total book (going.looks.told told) (stands_later old.store mid.store total book going.looks told stands),
       )
-  causes_later (Missing key) old mid new going cause = λ sound. cause (going.looks.fit sound)
-  causes_later (BadCoefficient key) old mid new going cause = λ sound. cause (going.looks.fit sound)
+  causes_later (Missing key) old mid new going quiet cause = λ sound. cause (going.looks.fit sound)
+  causes_later (BadCoefficient key) old mid new going quiet cause = λ sound. cause (going.looks.fit sound)

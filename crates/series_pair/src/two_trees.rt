@@ -94,5 +94,5 @@ impl<P: Pages> TwoTrees for StorePair<P> {
 
     ghost asks_cause = { λ old new error kept cause. asks_have_cause error kept cause };
 
-    ghost causes_behind = { λ old between new error going cause. causes_later error old between new going cause };
+    ghost causes_behind = { λ old between new error going quiet cause. causes_later error old between new going quiet cause };
 }

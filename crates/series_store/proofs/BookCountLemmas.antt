@@ -19,6 +19,7 @@ use Rattle.series_book.specs.declared.limits.TheConstants.{MOST_SLOTS}
 use Rattle.series_book.specs.declared.one_series.Series.{Series}
 use Rattle.series_catalog.specs.Catalogs.{AreAsTold}
 use Rattle.series_catalog.specs.declared.stored_series.StoredSeries.{StoredSeries}
+use Rattle.series_catalog.proofs.ReadLemmas.{risen_on}
 use Rattle.stored_book.specs.Records.{pages_of_tree, pages_of_trees}
 use Rattle.stored_book.specs.Standing.{IsStore}
 use Rattle.stored_book.proofs.PagesInUse.{in_use_is}
@@ -191,18 +192,15 @@ check_trees DiskFault told old new s items are long bad = bad
 check_trees (Damaged at) told old new s items are long bad = λ t. inl (told_bad old.image s items at (are t) long (bad t))
 check_trees NoMemory told old new s items are long bad = tt
 
-pub check_chain : (e : StoreError) (told told' : Type 0) (old mid new : View) (s s' : Superblock) → KeptWalking told told' old mid → s' ≡ s → IsChainCause e told' s' mid new → IsCheckCause e told s old new
-check_chain (Refused refusal) told told' old mid new s s' kept same bad = bad
-check_chain NotAStore told told' old mid new s s' kept same bad = bad
-check_chain DiskFault told told' old mid new s s' kept same bad = elim bad [
-  | inl risen ↦ inl (omega (arith, kept.faults, risen))
-  | inr last ↦ inr last
-]
-check_chain (Damaged at) told told' old mid new s s' kept same bad = λ t.
+pub check_chain : (e : StoreError) (told told' : Type 0) (old mid new : View) (s s' : Superblock) → KeptWalking told told' old mid → mid.faults ≡ old.faults → s' ≡ s → IsChainCause e told' s' mid new → IsCheckCause e told s old new
+check_chain (Refused refusal) told told' old mid new s s' kept quiet same bad = bad
+check_chain NotAStore told told' old mid new s s' kept quiet same bad = bad
+check_chain DiskFault told told' old mid new s s' kept quiet same bad = risen_on old.faults mid.faults new.faults quiet bad
+check_chain (Damaged at) told told' old mid new s s' kept quiet same bad = λ t.
     let I : Image → Type 0 = λ image. HasBadLink image s' s'.chain at in
     let S : Superblock → Type 0 = λ x. HasBadLink old.image x x.chain at in
     inr (subst S same (subst I (kept.image t) (bad (kept.told t))))
-check_chain NoMemory told told' old mid new s s' kept same bad = tt
+check_chain NoMemory told told' old mid new s s' kept quiet same bad = tt
 
 pub check_whole : (told told' : Type 0) (old mid : View) (s s' : Superblock) (items : List StoredSeries) → KeptWalking told told' old mid → s' ≡ s → (told → AreAsTold old.image items) → length items ≡ s.series → (told → AreSoundTrees old.image s.total items) → (told' → IsSoundChain mid.image s' s'.chain)
     → told → AreSound old.image s

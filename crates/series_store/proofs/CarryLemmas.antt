@@ -1,7 +1,6 @@
 -- What calls did, whatever the pages are.
-use Rattle.std.proofs.Common.{◌≡◌, ℕ, ◌<◌, ◌≤◌, ◌^◌, Result, Ok, Err, sym, ap, subst, arith, inl, inr}
+use Rattle.std.proofs.Common.{◌≡◌, ℕ, ◌<◌, ◌≤◌, ◌^◌, Result, Ok, Err, sym, ap, subst, arith}
 use Rattle.std.specs.Result.{IsErrAnd}
-use Rattle.block_disk.specs.Counts.{HasRisen}
 use Rattle.block_disk.specs.View.{Image, View}
 use Rattle.gate_pages.specs.Pages.{GoesOn}
 use Rattle.page_space.specs.declared.superblock.Superblock.{Superblock}
@@ -79,6 +78,3 @@ carried_read {most} {told} {told'} {old} {new} {under} {under'} {s} (Err cause) 
       total = ap (λ (one : Superblock). one.total) same;
       slots = tt;
     }
-
-pub risen_more : (old mid new : ℕ) → old ≤ mid → HasRisen mid new → HasRisen old new
-risen_more old mid new before risen = elim risen [ inl some ↦ inl (omega (arith, before, some)) | inr last ↦ inr last ]

@@ -10,6 +10,7 @@ use Rattle.page_space.specs.Layout.{IsSuperblock, Links, freed_page, without_hea
 use Rattle.page_space.specs.Spaces.{Stands}
 use Rattle.page_space.specs.Transactions.{left_by, OnlyFirst}
 use Rattle.path_repair.specs.Damage.{HasBadLink}
+use Rattle.series_catalog.proofs.ReadLemmas.{risen_on}
 use Rattle.series_store.specs.Counting.{Looks, IsSoundChain, NamesWithin, IsChainCause}
 use Rattle.series_store.specs.Opening.{IsOutside, space_error_of}
 use Rattle.series_store.proofs.LookLemmas.{looks_then}
@@ -119,20 +120,17 @@ pass_on told told' told'' old mid new under under' under'' s s' s'' txn txn' lef
     }
 
 -- why the next page wasn't taken
-pub pass_cause : (e : SpaceError) (told told' : Type 0) (old mid new under under' : View) (s s' : Superblock) (txn : Txn) (left below : ℕ) → IsPassing told told' old mid under under' s s' txn left → left ≡ suc below
+pub pass_cause : (e : SpaceError) (told told' : Type 0) (old mid new under under' : View) (s s' : Superblock) (txn : Txn) (left below : ℕ) → IsPassing told told' old mid under under' s s' txn left → mid.faults ≡ old.faults → left ≡ suc below
     → Refuses e told' (left_by txn mid.image) txn.superblock mid.faults new.faults → IsChainCause (space_error_of e) told s old new
-pass_cause NoStore told told' old mid new under under' s s' txn left below way is bad = bad
-pass_cause (Full needed have) told told' old mid new under under' s s' txn left below way is bad = tt
-pass_cause AtDisk told told' old mid new under under' s s' txn left below way is bad = elim bad.1 [
-  | inl risen ↦ inl (omega (arith, way.looks.kept.faults, risen))
-  | inr last ↦ inr last
-]
-pass_cause (AtPage page) told told' old mid new under under' s s' txn left below way is bad = λ t.
+pass_cause NoStore told told' old mid new under under' s s' txn left below way quiet is bad = bad
+pass_cause (Full needed have) told told' old mid new under under' s s' txn left below way quiet is bad = tt
+pass_cause AtDisk told told' old mid new under under' s s' txn left below way quiet is bad = risen_on old.faults mid.faults new.faults quiet bad.1
+pass_cause (AtPage page) told told' old mid new under under' s s' txn left below way quiet is bad = λ t.
     let L : ℕ → Type 0 = λ n. HasBadLink old.image txn.superblock n page in
     let B : List ℕ → Type 0 = λ bytes. (next : ℕ) → Links txn.superblock next bytes → ⊥ in
     let I : Image → Type 0 = λ image. (next : ℕ) → Links txn.superblock next (left_by txn image txn.superblock.head) → ⊥ in
     way.bad t page (subst L (sym is) (inl (bad.1.0, subst B (head_is told old txn.superblock txn txn.rules bad.0 way.same t) (subst I (way.looks.kept.image t) (bad.1.1 (way.looks.kept.told t))))))
-pass_cause AtMemory told told' old mid new under under' s s' txn left below way is bad = absurd bad
+pass_cause AtMemory told told' old mid new under under' s s' txn left below way quiet is bad = absurd bad
 
 -- where the pages stand, only for an outer cause
 pub pass_outside : (e : SpaceError) (told : Type 0) (image : Image) (s : Superblock) (old new : ℕ) → ((page : ℕ) → e ≢ AtPage page) → Refuses e told image s old new → IsOutside (space_error_of e)

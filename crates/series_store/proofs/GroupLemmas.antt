@@ -22,6 +22,7 @@ use Rattle.series_book.specs.declared.refusals.Refusal.TheVariants.{UnknownSerie
 use Rattle.series_book.specs.Edits.{Edited, apply}
 use Rattle.series_book.specs.EditLists.{after_edits, book_behind, edits_give, slots_behind}
 use Rattle.series_catalog.specs.declared.stored_series.StoredSeries.{StoredSeries}
+use Rattle.series_catalog.proofs.ReadLemmas.{risen_on}
 use Rattle.stored_book.specs.Standing.{StandsForBook}
 use Rattle.series_store.specs.Changing.{IsRefusedBy}
 use Rattle.series_store.specs.Groups.{AreDone, ChangeNone, HaveFewSlots, weight, weight_of, touch_of}
@@ -34,7 +35,6 @@ use Rattle.series_store.specs.declared.errors.StoreError.TheVariants.{Refused, N
 use Rattle.series_store.specs.declared.staged.Staged.{Staged}
 use Rattle.series_store.specs.declared.staged.Undo.{Undo}
 use Rattle.series_store.specs.declared.staged.Undo.TheVariants as undo
-use Rattle.series_store.proofs.CarryLemmas.{risen_more}
 use Rattle.series_store.proofs.CommitLemmas.{no_read, reads_leave as unchanged_by}
 use Rattle.series_store.proofs.StageLemmas.{catalog_as}
 use Rattle.series_store.proofs.TimeLemmas.{reads_leave}
@@ -352,16 +352,16 @@ failed_next_by told told' old new txn txn' image' is_changed total book edit res
 
 -- An edit is staged, and then the others.
 
-failure_after : (result : Result (Unit {0}) StoreError) (old mid new : ℕ) → old ≤ mid → IfErr result (λ e. IsFailure e mid new) → IfErr result (λ e. IsFailure e old new)
-failure_after (Ok done) old mid new less why = tt
-failure_after (Err e) old mid new less why = each e old mid new less why
+failure_after : (result : Result (Unit {0}) StoreError) (old mid new : ℕ) → mid ≡ old → IfErr result (λ e. IsFailure e mid new) → IfErr result (λ e. IsFailure e old new)
+failure_after (Ok done) old mid new quiet why = tt
+failure_after (Err e) old mid new quiet why = each e old mid new quiet why
   where
-    each : (e : StoreError) (old mid new : ℕ) → old ≤ mid → IsFailure e mid new → IsFailure e old new
-    each (Refused refusal) old mid new less why = why
-    each NotAStore old mid new less why = why
-    each DiskFault old mid new less why = risen_more old mid new less why
-    each (Damaged page) old mid new less why = tt
-    each NoMemory old mid new less why = tt
+    each : (e : StoreError) (old mid new : ℕ) → mid ≡ old → IsFailure e mid new → IsFailure e old new
+    each (Refused refusal) old mid new quiet why = why
+    each NotAStore old mid new quiet why = why
+    each DiskFault old mid new quiet why = risen_on old mid new quiet why
+    each (Damaged page) old mid new quiet why = tt
+    each NoMemory old mid new quiet why = tt
 
 pub unchanged_after : {R : Type 0} (result : Result R StoreError) (told told' : Type 0) (old mid new : View) → (told → told') → IsUnchanged told old mid → IfErr result (λ e. IsUnchangedFor e told' mid new) → IfErr result (λ e. IsUnchangedFor e told old new)
 unchanged_after {R} (Ok done) told told' old mid new on first same = tt
@@ -413,9 +413,9 @@ slots_after answer later first rest zero d within = first
 slots_after answer later first rest (suc k) d within = rest k d (omega (arith, within))
 
 pub stepped : (told told' told'' : Type 0) (old mid new under under' under'' : View) (s s' s'' : Superblock) (txn txn' : Txn) (items items1 items2 items' : List StoredSeries) (edit : Edit) (rest edits : List Edit) (u : Undo) (before middle answers : List (Result Outcome Refusal)) (result : Result (Unit {0}) StoreError) → edits ≡ edit ∷ rest
-    → IsNext told told' old mid under under' s s' txn txn' items items1 before middle (Ok u) → IsGrouping told' told'' mid new under' under'' s' s'' (length (held txn')) items1 items2 rest middle answers (drop (length middle) answers) result
+    → IsNext told told' old mid under under' s s' txn txn' items items1 before middle (Ok u) → mid.faults ≡ old.faults → IsGrouping told' told'' mid new under' under'' s' s'' (length (held txn')) items1 items2 rest middle answers (drop (length middle) answers) result
     → OnOk result (items' ≡ items2) → OnErr result (items' ≡ items) → IsGrouping told told'' old new under under'' s s'' (length (held txn)) items items' edits before answers (drop (length before) answers) result
-stepped told told' told'' old mid new under under' under'' s s' s'' txn txn' items items1 items2 items' edit rest edits u before middle answers result are next group on back =
+stepped told told' told'' old mid new under under' under'' s s' s'' txn txn' items items1 items2 items' edit rest edits u before middle answers result are next quiet group on back =
     let A : List (Result Outcome Refusal) → Type 0 = λ added. IsGrouping told told'' old new under under'' s s'' (length (held txn)) items items' edits before answers added result in
     subst A (sym (added_after before middle answers next.answer next.answers_are group.answers_are)) (record {
       moves = record {
@@ -429,7 +429,7 @@ stepped told told' told'' old mid new under under' under'' s s' s'' txn txn' ite
         writes = record { low = omega (arith, next.reads.writes, group.moves.writes.low); high = omega (arith, next.reads.writes, group.moves.writes.high) };
       };
       goes_on = goes_then under under' under'' next.over.goes_on group.goes_on;
-      failure = failure_after result old.faults mid.faults new.faults next.reads.faults group.failure;
+      failure = failure_after result old.faults mid.faults new.faults quiet group.failure;
       unchanged = unchanged_after result told told' old mid new next.reads.told (unchanged_by 96 told told' old mid next.reads) group.unchanged;
       sound = group.sound;
       image = err_so result (new.fit → told' → new.image ≡ mid.image) (new.fit → told → new.image ≡ old.image) (λ same. λ fit t. same fit (next.reads.told t) ∙ next.reads.image t) group.image;

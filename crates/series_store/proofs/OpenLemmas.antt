@@ -28,7 +28,7 @@ use Rattle.series_catalog.specs.Reading.{IsBadCatalog, IsCatalogCause, IsCatalog
 use Rattle.series_catalog.specs.declared.errors.CatalogError.{CatalogError}
 use Rattle.series_catalog.specs.declared.errors.CatalogError.TheVariants.{DiskFault as DiskCatalog, Damaged as BadPage, NoMemory as NoRoom}
 use Rattle.stored_book.proofs.EmptyLemmas.{first_book, first_over, empty_store}
-use Rattle.series_catalog.proofs.ReadLemmas.{risen_on, nothing}
+use Rattle.series_catalog.proofs.ReadLemmas.{nothing}
 use Rattle.stored_book.specs.Standing.{AreCatalog}
 use Rattle.page_space.specs.Layout.{empty_of}
 use Rattle.series_catalog.specs.Catalogs.{AreFit}
@@ -106,19 +106,6 @@ pub catalog_cause : (told : Type 0) (s : Superblock) (old new : View) (e : Catal
 catalog_cause told s old new DiskCatalog cause = cause
 catalog_cause told s old new (BadPage page) cause = cause
 catalog_cause told s old new NoRoom cause = tt
-
--- a bad page of the catalog, of the pages as they were before page 0 was read
-bad_then : (told told' : Type 0) (s : Superblock) (old mid : View) (page : ℕ) → ReadsMost 1 told told' old mid → (told' → IsBadCatalog mid.image s page) → told → IsBadCatalog old.image s page
-bad_then told told' s old mid page reads bad t =
-    let P : Image → Type 0 = λ image. IsBadCatalog image s page in
-    subst P (reads.image t) (bad (reads.told t))
-
-pub read_cause : (told told' : Type 0) (s : Superblock) (old mid new : View) (e : StoreError) → ReadsMost 1 told told' old mid → (told → Keeps old.size s (old.image 0)) → IsReadCause e told' s mid new → IsOpenCause e told old new
-read_cause told told' s old mid new (Refused refusal) reads keeps cause = cause
-read_cause told told' s old mid new NotAStore reads keeps cause = absurd cause
-read_cause told told' s old mid new DiskFault reads keeps cause = risen_on old.faults mid.faults new.faults reads.faults cause
-read_cause told told' s old mid new (Damaged page) reads keeps cause = λ t. inr (s, keeps t, bad_then told told' s old mid page reads cause t)
-read_cause told told' s old mid new NoMemory reads keeps cause = tt
 
 -- Where pages stand for a book, only the disk and the memory may fail.
 

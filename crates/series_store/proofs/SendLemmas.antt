@@ -5,7 +5,6 @@ use Rattle.std.specs.Result.{IsErrAnd}
 use Rattle.std.proofs.lemmas.Bool.{cases_lt}
 use Rattle.std.proofs.lemmas.Bool.Decides.{nat_tests}
 use Rattle.std.proofs.lemmas.List.{append_assoc, append-nil, take-append-drop}
-use Rattle.block_disk.specs.Counts.{HasRisen}
 use Rattle.block_disk.specs.Streams.{sent_after, PartSent}
 use Rattle.block_disk.specs.View.{Image, View, Now, Beside, sent_now, Passes}
 use Rattle.block_disk.proofs.Passing.{Between, passes_none, passes_weaker, sends_then_sends}
@@ -25,6 +24,7 @@ use Rattle.path_repair.specs.TreePages.{is_stored, page_count}
 use Rattle.path_repair.proofs.CountLemmas.{count_one}
 use Rattle.path_repair.proofs.ListLemmas.{width, child_end}
 use Rattle.path_repair.proofs.SumLemmas.{sum_suc, sum_none, sum_upto}
+use Rattle.series_catalog.proofs.ReadLemmas.{risen_on}
 use Rattle.stored_book.proofs.OneBook.{slot_key_span}
 use Rattle.tree_walk.specs.Trees.{top_of_page, IsTree}
 use Rattle.series_store.specs.Counting.{Looks, IsBadFor, IsPageCause}
@@ -387,12 +387,6 @@ page_send_cause (store.Damaged at) told old new total level below page top is so
 )
 page_send_cause store.NoMemory told old new total level below page top is some low bad = tt
 
-risen_later : (old mid new : ℕ) → old ≤ mid → HasRisen mid new → HasRisen old new
-risen_later old mid new more risen = elim risen [
-  | inl risen ↦ inl (omega (arith, more, risen))
-  | inr last ↦ inr last
-]
-
 -- and so is one that is unfit below a child
 unfit_child : (old mid : Image) (total total' level below page number child at : ℕ) (top part : Option Span) (bytes : List ℕ) (spans : ℕ → Option Span) → mid ≡ old → total' ≡ total → level ≡ suc below → page ≢ 0 → child < 128
     → number ≡ child_at bytes child → part ≡ spans (127 + child) → bytes ≡ old page → AreBelow top bytes spans → HasUnfitPage mid total' below number part at → HasUnfitPage old total level page top at
@@ -408,16 +402,16 @@ unfit_child old mid total total' level below page number child at top part bytes
 
 -- and so is why those below a child weren't
 pub child_send_cause : (e : SendError) (told told' : Type 0) (old mid new under under' : View) (s s' : Superblock) (level below page number child : ℕ) (top part : Option Span) (bytes : List ℕ) (spans : ℕ → Option Span) → Sends told told' old mid under under' s s'
-    → level ≡ suc below → page ≢ 0 → child < 128 → number ≡ child_at bytes child → part ≡ spans (127 + child) → (told → bytes ≡ old.image page) → AreBelow top bytes spans
+    → mid.faults ≡ old.faults → mid.beside.send_faults ≡ old.beside.send_faults → level ≡ suc below → page ≢ 0 → child < 128 → number ≡ child_at bytes child → part ≡ spans (127 + child) → (told → bytes ≡ old.image page) → AreBelow top bytes spans
     → IsSendCause e told' mid new s'.total below number part → IsSendCause e told old new s.total level page top
-child_send_cause SendFault told told' old mid new under under' s s' level below page number child top part bytes spans sends is some within is_child is_part read split bad = risen_later old.beside.send_faults mid.beside.send_faults new.beside.send_faults sends.send_faults bad
-child_send_cause DiskFault told told' old mid new under under' s s' level below page number child top part bytes spans sends is some within is_child is_part read split bad = risen_later old.faults mid.faults new.faults sends.faults bad
-child_send_cause (Damaged at) told told' old mid new under under' s s' level below page number child top part bytes spans sends is some within is_child is_part read split bad =
+child_send_cause SendFault told told' old mid new under under' s s' level below page number child top part bytes spans sends quiet quiet_sends is some within is_child is_part read split bad = risen_on old.beside.send_faults mid.beside.send_faults new.beside.send_faults quiet_sends bad
+child_send_cause DiskFault told told' old mid new under under' s s' level below page number child top part bytes spans sends quiet quiet_sends is some within is_child is_part read split bad = risen_on old.faults mid.faults new.faults quiet bad
+child_send_cause (Damaged at) told told' old mid new under under' s s' level below page number child top part bytes spans sends quiet quiet_sends is some within is_child is_part read split bad =
     let same : s'.total ≡ s.total = ap (λ (x : Superblock). x.total) sends.superblock in (
       omega (arith, bad.0, same),
       λ t. unfit_child old.image mid.image s.total s'.total level below page number child at top part bytes spans (sends.image t) same is some within is_child is_part (read t) split (bad.1 (sends.told t)),
     )
-child_send_cause NoMemory told told' old mid new under under' s s' level below page number child top part bytes spans sends is some within is_child is_part read split bad = tt
+child_send_cause NoMemory told told' old mid new under under' s s' level below page number child top part bytes spans sends quiet quiet_sends is some within is_child is_part read split bad = tt
 
 -- the ranges of a page's children follow one another
 first_child : (q p w : ℕ) → w ≡ 128 * p → q * w ≡ (128 * q + 0) * p

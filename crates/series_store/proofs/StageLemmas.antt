@@ -27,7 +27,7 @@ use Rattle.series_book.specs.declared.refusals.Refusal.{Refusal}
 use Rattle.series_book.specs.Edits.{Edited}
 use Rattle.series_catalog.specs.Catalogs.{entry_of, with_tree, AreFit, AreAsTold}
 use Rattle.series_catalog.specs.declared.stored_series.StoredSeries.{StoredSeries}
-use Rattle.series_catalog.proofs.ReadLemmas.{reads_one, reads_more}
+use Rattle.series_catalog.proofs.ReadLemmas.{reads_one, reads_more, risen_on}
 use Rattle.stored_book.proofs.FrameLemmas.{page_low, page_high, layout_later}
 use Rattle.stored_book.specs.Changing.{IsLater, IsRecordSet, KeepsRecords}
 use Rattle.stored_book.specs.Standing.{IsStore, StandsForBook, AreCatalog}
@@ -40,7 +40,7 @@ use Rattle.series_store.specs.declared.errors.StoreError.{StoreError}
 use Rattle.series_store.specs.declared.errors.StoreError.TheVariants.{DiskFault}
 use Rattle.series_store.specs.declared.staged.Staged.{Staged}
 use Rattle.series_store.specs.declared.staged.Undo.TheVariants as undo
-use Rattle.series_store.proofs.CarryLemmas.{NamesBelow, risen_more}
+use Rattle.series_store.proofs.CarryLemmas.{NamesBelow}
 use Rattle.series_store.proofs.CommitLemmas.{no_read}
 use Rattle.series_store.proofs.RecordLemmas.{entry_later, catalog_stays, fit_after, told_after, whole_after}
 use Rattle.series_store.proofs.StoreLemmas.{store_of}
@@ -140,11 +140,11 @@ staging_error {most} {puts} told told' old new under under' s s' txn txn' items 
       slots = tt;
     }
 
-fault_cause : (told : Type 0) (image : Image) (s : Superblock) (old mid new : ℕ) (result : Result Staged StoreError) → old ≤ mid → IfErr result (λ e. e ≡ DiskFault) → OnErr result (HasRisen mid new) → IfErr result (λ e. IsStageCause e told image s old new)
-fault_cause told image s old mid new (Ok staged) before is risen = tt
-fault_cause told image s old mid new (Err e) before is risen =
+fault_cause : (told : Type 0) (image : Image) (s : Superblock) (old mid new : ℕ) (result : Result Staged StoreError) → mid ≡ old → IfErr result (λ e. e ≡ DiskFault) → OnErr result (HasRisen mid new) → IfErr result (λ e. IsStageCause e told image s old new)
+fault_cause told image s old mid new (Ok staged) quiet is risen = tt
+fault_cause told image s old mid new (Err e) quiet is risen =
     let C : StoreError → Type 0 = λ x. IsStageCause x told image s old new in
-    subst C (sym is) (risen_more old mid new before risen)
+    subst C (sym is) (risen_on old mid new quiet risen)
 
 -- a record was written, or a call of the disk failed
 saved_answer : (P : Type 0) (result : Result Staged StoreError) → IfErr result (λ e. e ≡ DiskFault) → OnOk result P → IsAnswer result → P
@@ -161,16 +161,16 @@ few_slots n (Err e) few is = tt
 
 -- the tree was changed, and its record written
 pub staging_saved : {most puts : ℕ} (told told' told'' : Type 0) (old mid new under under' under'' : View) (s s' s'' : Superblock) (txn txn' txn'' : Txn) (items items' : List StoredSeries) (slots : ℕ) (result : Result Staged StoreError) → most ≤ 95 → puts ≤ 40 → slots ≤ MOST_SLOTS
-    → Moved most puts told told' old mid under under' s s' txn txn' → Reads told' told'' mid new → GoesOn under' under'' → s'' ≡ s' → txn''.superblock ≡ txn'.superblock → length (held txn'') ≤ length (held txn') + 1
+    → Moved most puts told told' old mid under under' s s' txn txn' → mid.faults ≡ old.faults → Reads told' told'' mid new → GoesOn under' under'' → s'' ≡ s' → txn''.superblock ≡ txn'.superblock → length (held txn'') ≤ length (held txn') + 1
     → IfErr result (λ e. e ≡ DiskFault) → OnErr result (HasRisen mid.faults new.faults) → OnErr result (items' ≡ items) → IfOk result (λ staged. (staged.undo ≢ undo.Nothing) × TakesBack staged.undo items' items)
     → OnOk result (IsWholeOf s''.total told'' (left_by txn'' new.image) txn''.superblock items') → IfOk result (λ staged. staged.outcome.slots ≡ slots) → IsStaging told told'' old new under under'' s s'' txn txn'' items items' result
-staging_saved {most} {puts} told told' told'' old mid new under under' under'' s s' s'' txn txn' txn'' items items' slots result few short fewer moved reads on same numbers len error risen kept back stands count =
+staging_saved {most} {puts} told told' told'' old mid new under under' under'' s s' s'' txn txn' txn'' items items' slots result few short fewer moved quiet reads on same numbers len error risen kept back stands count =
     let backs = saved_back (txn'' ≡ txn) items' items result back in
     record {
       reads = reads_more (most + 1) 96 told told'' old new (omega (arith, few)) (reads_one most (most + 1) told told' told'' old mid new refl moved.reads reads);
       over = stays_then s s' s'' under under' under'' moved.over (record { superblock = same; goes_on = on });
       total = ap (λ (s : Superblock). s.total) numbers ∙ moved.total;
-      cause = fault_cause told (left_by txn old.image) txn.superblock old.faults mid.faults new.faults result moved.reads.faults error risen;
+      cause = fault_cause told (left_by txn old.image) txn.superblock old.faults mid.faults new.faults result quiet error risen;
       kept = kept;
       back = backs.0;
       nothing = backs.1;

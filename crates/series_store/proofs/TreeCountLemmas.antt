@@ -24,6 +24,7 @@ use Rattle.stored_book.proofs.OneBook.{slot_key_span}
 use Rattle.tree_walk.specs.Holding.{KeptWalking}
 use Rattle.tree_walk.specs.Trees.{top_of_page, HoldsNodes, IsTree}
 use Rattle.series_book.specs.declared.limits.TheConstants.{MOST_SLOTS}
+use Rattle.series_catalog.proofs.ReadLemmas.{risen_on}
 use Rattle.series_store.specs.Counting.{values_below, Looks, IsBadFor, IsSlot, AreParts, HasNoSlot, HasBadPage, IsSoundPage, IsSoundTree, NamesWithin, IsPageCause, IsTreeCause}
 use Rattle.series_store.specs.declared.errors.StoreError.{StoreError}
 use Rattle.series_store.specs.declared.errors.StoreError.TheVariants.{Refused, NotAStore, DiskFault, Damaged, NoMemory}
@@ -69,19 +70,16 @@ bad_child old mid total total' slots level below index page number child at top 
     let A : List ℕ → Type 0 = λ b. AreBelow top b spans in
     subst P (sym is) (inr (some, spans, child, subst A read split, within, subst B read (subst S is_part (subst N is_child (subst T same_total (subst I same bad))))))
 
-pub child_cause : (e : StoreError) (told told' : Type 0) (old mid new : View) (total total' slots level below index here page number child : ℕ) (top part : Option Span) (bytes : List ℕ) (spans : ℕ → Option Span) → here ≡ 128 * index + child → KeptWalking told told' old mid → total' ≡ total
+pub child_cause : (e : StoreError) (told told' : Type 0) (old mid new : View) (total total' slots level below index here page number child : ℕ) (top part : Option Span) (bytes : List ℕ) (spans : ℕ → Option Span) → here ≡ 128 * index + child → KeptWalking told told' old mid → mid.faults ≡ old.faults → total' ≡ total
     → level ≡ suc below → page ≢ 0 → child < 128 → number ≡ child_at bytes child → part ≡ spans (127 + child) → (told → bytes ≡ old.image page) → AreBelow top bytes spans
     → IsTreeCause e told' mid new total' slots below here number part → IsTreeCause e told old new total slots level index page top
-child_cause (Refused refusal) told told' old mid new total total' slots level below index here page number child top part bytes spans at kept same is some within is_child is_part read split bad = bad
-child_cause NotAStore told told' old mid new total total' slots level below index here page number child top part bytes spans at kept same is some within is_child is_part read split bad = bad
-child_cause DiskFault told told' old mid new total total' slots level below index here page number child top part bytes spans at kept same is some within is_child is_part read split bad = elim bad [
-  | inl risen ↦ inl (omega (arith, kept.faults, risen))
-  | inr last ↦ inr last
-]
-child_cause (Damaged found) told told' old mid new total total' slots level below index here page number child top part bytes spans at kept same is some within is_child is_part read split bad = λ t.
+child_cause (Refused refusal) told told' old mid new total total' slots level below index here page number child top part bytes spans at kept quiet same is some within is_child is_part read split bad = bad
+child_cause NotAStore told told' old mid new total total' slots level below index here page number child top part bytes spans at kept quiet same is some within is_child is_part read split bad = bad
+child_cause DiskFault told told' old mid new total total' slots level below index here page number child top part bytes spans at kept quiet same is some within is_child is_part read split bad = risen_on old.faults mid.faults new.faults quiet bad
+child_cause (Damaged found) told told' old mid new total total' slots level below index here page number child top part bytes spans at kept quiet same is some within is_child is_part read split bad = λ t.
     let H : ℕ → Type 0 = λ i. HasBadPage mid.image total' slots below i number part found in
     bad_child old.image mid.image total total' slots level below index page number child found top part bytes spans (kept.image t) same is some within is_child is_part (read t) split (subst H at (bad (kept.told t)))
-child_cause NoMemory told told' old mid new total total' slots level below index here page number child top part bytes spans at kept same is some within is_child is_part read split bad = bad
+child_cause NoMemory told told' old mid new total total' slots level below index here page number child top part bytes spans at kept quiet same is some within is_child is_part read split bad = bad
 
 -- a slot of a list may hold what it does
 slot_of_list : (list : List (Option ℤ)) (slot : ℕ) (value : Option ℤ) → slot_at list slot ≡ value → IsSlot (length list) slot (span_of_slot value)

@@ -180,8 +180,8 @@ module _ (old mid new : View) (before now : Option (List ℕ)) (sends sends_now 
         subst P (pages honest) (bad.bad (opens.honest honest));
   }
 
-  checked : (end : Status) → ChecksStore (page_count old.size) mid new before now sends sends_now end → EndsCheck (page_count old.size) mid new before now sends sends_now end → CheckEnds old new before now sends sends_now end.code end.place
-  checked end s ends =
+  checked : mid.faults ≡ old.faults → (end : Status) → ChecksStore (page_count old.size) mid new before now sends sends_now end → EndsCheck (page_count old.size) mid new before now sends sends_now end → CheckEnds old new before now sends sends_now end.code end.place
+  checked quiet end s ends =
       let P : Status → Type 0 = λ e. CheckEnds old new before now sends sends_now e.code e.place in
       let crash = since_both s.crash s.goes_on in
       let holds : OfBook (page_count old.size) old (λ total book. HoldsBook (page_count old.size) total book new) = λ total book is. s.holds total book (held old mid opens total book is) in
@@ -194,19 +194,19 @@ module _ (old mid new : View) (before now : Option (List ℕ)) (sends sends_now 
             let sent : SendsCountsPart (page_count old.size) old before now = record { counts = part.1.1.counts; of_book = λ total book is. part.1.1.of_book total book (held old mid opens total book is); whole = whole_before part.1.1.counts part.1.1.whole; sent = part.1.1.sent } in
             subst P (sym part.0) (part_sent old new before now sends sends_now crash holds goes part.1.0 sent)
         | inr (inr (inl none)) ↦ subst P (sym none.0) (no_memory old new before now sends sends_now crash holds goes none.1)
-        | inr (inr (inr (inl fault))) ↦ subst P (sym fault.0) (faulted old new before now sends sends_now crash holds goes (risen_since old.faults mid.faults new.faults opens.faults fault.1.0) fault.1.1)
+        | inr (inr (inr (inl fault))) ↦ subst P (sym fault.0) (faulted old new before now sends sends_now crash holds goes (risen_since old.faults mid.faults new.faults quiet fault.1.0) fault.1.1)
         | inr (inr (inr (inr bad))) ↦
             subst P (sym bad.end_is)
             (found_bad old new before now sends sends_now crash holds goes (66 + bad.page) (inr (bad_before (66 + bad.page) bad.bad)) (λ total book is. bad.none total book (held old mid opens total book is)) bad.unsent)
       ]
 
 -- the same, where equals stand for equals
-pub ends_opened : (count : ℕ) (old mid new : View) (before mid_before now : Option (List ℕ)) (sends mid_sends sends_now : ℕ) (end : Status) → Opens (page_count old.size) old mid → count ≡ page_count old.size → (Honest old → book_pages count mid.image ≡ book_pages count old.image)
+pub ends_opened : (count : ℕ) (old mid new : View) (before mid_before now : Option (List ℕ)) (sends mid_sends sends_now : ℕ) (end : Status) → Opens (page_count old.size) old mid → mid.faults ≡ old.faults → count ≡ page_count old.size → (Honest old → book_pages count mid.image ≡ book_pages count old.image)
     → mid_before ≡ before → mid_sends ≡ sends → ChecksStore count mid new mid_before now mid_sends sends_now end → CheckEnds old new before now sends sends_now end.code end.place
-ends_opened count old mid new before mid_before now sends mid_sends sends_now end opens counted pages same same_sends s =
+ends_opened count old mid new before mid_before now sends mid_sends sends_now end opens quiet counted pages same same_sends s =
     let C : ℕ → Type 0 = λ c. ChecksStore c mid new mid_before now mid_sends sends_now end in
     let G : ℕ → Type 0 = λ c. Honest old → book_pages c mid.image ≡ book_pages c old.image in
     let B : Option (List ℕ) → Type 0 = λ b. CheckEnds old new b now mid_sends sends_now end.code end.place in
     let S : ℕ → Type 0 = λ n. CheckEnds old new before now n sends_now end.code end.place in
     let here = subst C counted s in
-    subst S same_sends (subst B same (checked old mid new mid_before now mid_sends sends_now opens (subst G counted pages) end here here.ends))
+    subst S same_sends (subst B same (checked old mid new mid_before now mid_sends sends_now opens (subst G counted pages) quiet end here here.ends))

@@ -192,15 +192,15 @@ leaves_on requests old mid new opens leaves = λ total book holds.
     since_both old mid new IsSo (since_opened IsSo old mid total book opens holds (λ image is. ahead_none requests count total book (sent_now old) image is))
     (subst P (opened_quiet old mid opens) (leaves total book (held old mid opens total book holds)))
 
-cause_on : (end : DemoEnd) (count : ℕ) (old mid new : View) → old.faults ≤ mid.faults → IsEndCause end count mid new → IsEndCause end count old new
-cause_on DiskFault count old mid new low is = risen_since old.faults mid.faults new.faults low is
-cause_on (Damaged page) count old mid new low is = is
-cause_on (Missing key) count old mid new low is = is
-cause_on (BadCoefficient key) count old mid new low is = is
-cause_on NoMemory count old mid new low is = tt
+cause_on : (end : DemoEnd) (count : ℕ) (old mid new : View) → mid.faults ≡ old.faults → IsEndCause end count mid new → IsEndCause end count old new
+cause_on DiskFault count old mid new same is = risen_since old.faults mid.faults new.faults same is
+cause_on (Damaged page) count old mid new same is = is
+cause_on (Missing key) count old mid new same is = is
+cause_on (BadCoefficient key) count old mid new same is = is
+cause_on NoMemory count old mid new same is = tt
 
-answered_on : (requests : List Request) (old mid new : View) (answer : Result Summary DemoEnd) → Opens (page_count old.size) old mid → Answered requests (page_count old.size) mid new answer → Answered requests (page_count old.size) old new answer
-answered_on requests old mid new (Ok summary) opens a = record {
+answered_on : (requests : List Request) (old mid new : View) (answer : Result Summary DemoEnd) → Opens (page_count old.size) old mid → mid.faults ≡ old.faults → Answered requests (page_count old.size) mid new answer → Answered requests (page_count old.size) old new answer
+answered_on requests old mid new (Ok summary) opens quiet a = record {
   done = λ total book holds. a.done total book (held old mid opens total book holds);
   stopped = tt;
   outside = tt;
@@ -212,11 +212,11 @@ answered_on requests old mid new (Ok summary) opens a = record {
   faults = omega (arith, opens.faults, a.faults);
   goes_on = goes_then old mid new (opened_goes old mid opens) a.goes_on;
 }
-answered_on requests old mid new (Err end) opens a = record {
+answered_on requests old mid new (Err end) opens quiet a = record {
   done = tt;
   stopped = λ other total book holds. a.stopped other total book (held old mid opens total book holds);
   outside = λ total book holds. a.outside total book (held old mid opens total book holds);
-  cause = cause_on end (page_count old.size) old mid new opens.faults a.cause;
+  cause = cause_on end (page_count old.size) old mid new quiet a.cause;
   numbered = a.numbered;
   crash = leaves_on requests old mid new opens a.crash;
   quiet = λ total book holds. a.quiet total book (held old mid opens total book holds) ∙ opened_quiet old mid opens;
@@ -225,8 +225,8 @@ answered_on requests old mid new (Err end) opens a = record {
   goes_on = goes_then old mid new (opened_goes old mid opens) a.goes_on;
 }
 
-pub answered_opened : (requests : List Request) (count : ℕ) (old mid new : View) (answer answer' : Result Summary DemoEnd) → count ≡ page_count old.size → answer ≡ answer' → Opens (page_count old.size) old mid → Answered requests count mid new answer → Answered requests (page_count old.size) old new answer'
-answered_opened requests count old mid new answer answer' counted same opens a =
+pub answered_opened : (requests : List Request) (count : ℕ) (old mid new : View) (answer answer' : Result Summary DemoEnd) → count ≡ page_count old.size → answer ≡ answer' → Opens (page_count old.size) old mid → mid.faults ≡ old.faults → Answered requests count mid new answer → Answered requests (page_count old.size) old new answer'
+answered_opened requests count old mid new answer answer' counted same opens quiet a =
     let C : ℕ → Type 0 = λ c. Answered requests c mid new answer in
     let A : Result Summary DemoEnd → Type 0 = λ x. Answered requests (page_count old.size) old new x in
-    subst A same (answered_on requests old mid new answer opens (subst C counted a))
+    subst A same (answered_on requests old mid new answer opens quiet (subst C counted a))

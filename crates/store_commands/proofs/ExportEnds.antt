@@ -249,9 +249,9 @@ tree_before count old mid place honest_then pages bad = record {
       subst P (pages honest) (bad.bad (honest_then honest));
 }
 
-pub ends_opened : (name : List ℕ) (window : Option Window) (count : ℕ) (old mid new : View) (before mid_before now : Option (List ℕ)) (sends mid_sends sends_now : ℕ) (end : Status) → Opens (page_count old.size) old mid → count ≡ page_count old.size
+pub ends_opened : (name : List ℕ) (window : Option Window) (count : ℕ) (old mid new : View) (before mid_before now : Option (List ℕ)) (sends mid_sends sends_now : ℕ) (end : Status) → Opens (page_count old.size) old mid → mid.faults ≡ old.faults → count ≡ page_count old.size
     → (Honest old → book_pages count mid.image ≡ book_pages count old.image) → mid_before ≡ before → mid_sends ≡ sends → ExportsStore name window count mid new mid_before now mid_sends sends_now end → ExportEnds name window old new before now sends sends_now end.code end.place
-ends_opened name window count old mid new before mid_before now sends mid_sends sends_now end opens counted pages same same_sends s =
+ends_opened name window count old mid new before mid_before now sends mid_sends sends_now end opens quiet counted pages same same_sends s =
     let C : ℕ → Type 0 = λ c. ExportsStore name window c mid new mid_before now mid_sends sends_now end in
     let G : ℕ → Type 0 = λ c. Honest old → book_pages c mid.image ≡ book_pages c old.image in
     let B : Option (List ℕ) → Type 0 = λ b. ExportEnds name window old new b now mid_sends sends_now end.code end.place in
@@ -265,7 +265,7 @@ ends_opened name window count old mid new before mid_before now sends mid_sends 
       done = λ is total book holds series named. e.done is total book (hold total book holds) series named;
       send = e.send;
       part = λ total book holds series named. e.part total book (hold total book holds) series named;
-      fault = λ is. risen_since old.faults mid.faults new.faults opens.faults (e.fault is);
+      fault = λ is. risen_since old.faults mid.faults new.faults quiet (e.fault is);
       damaged = λ is. inr (tree_before (page_count old.size) old mid end.place opens.honest pages_are (e.damaged is));
       undamaged = λ is total book holds. e.undamaged is total book (hold total book holds);
       small = λ is. absurd (codes.1 is);

@@ -1,5 +1,5 @@
 -- What is done over the pages of a disk, in the words of the disk.
-use Rattle.std.proofs.Common.{◌≡◌, ℕ, ◌≤◌, List, refl, sym, subst, arith}
+use Rattle.std.proofs.Common.{◌≡◌, ℕ, ◌≤◌, List, refl, sym, subst}
 use Rattle.block_disk.specs.View.{Image, View, Now, Honest, DiskKept, Passes}
 use Rattle.block_disk.proofs.Passing.{now_back}
 use Rattle.gate_pages.specs.GateLaws.{closed_readable, kept_told}

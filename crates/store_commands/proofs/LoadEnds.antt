@@ -40,7 +40,7 @@ use Rattle.store_commands.specs.Storing.{StopsAt, IsEndCause, Stores, end_status
 
 -- ---- the store is opened first
 
-module _ (name : List ℕ) (old mid new : View) (opens : Opens (page_count old.size) old mid) where
+module _ (name : List ℕ) (old mid new : View) (opens : Opens (page_count old.size) old mid) (same_faults : mid.faults ≡ old.faults) where
   of_series : (IsSo : ℕ → List Series → Series → Type 0) → OfSeries (page_count old.size) mid name IsSo → OfSeries (page_count old.size) old name IsSo
   of_series IsSo all = λ total book holds series named. all total book (held old mid opens total book holds) series named
 
@@ -64,7 +64,7 @@ module _ (name : List ℕ) (old mid new : View) (opens : Opens (page_count old.s
   cause_on (Refused at refusal) reads reads_now is = tt
   cause_on ReadFault reads reads_now is = is
   cause_on InputTooLong reads reads_now is = tt
-  cause_on DiskFault reads reads_now is = risen_since old.faults mid.faults new.faults opens.faults is
+  cause_on DiskFault reads reads_now is = risen_since old.faults mid.faults new.faults same_faults is
   cause_on (Damaged page) reads reads_now is = (λ total book holds. is.0 total book (held old mid opens total book holds), is.1)
   cause_on NoMemory reads reads_now is = tt
 
@@ -592,14 +592,14 @@ stopped_ends_so name old new left left' before now reads reads_now sends sends_n
     let P : Status → Type 0 = λ t. LoadEnds name old new left left' before now reads reads_now sends sends_now t.code t.place in
     subst P (sym is) (stopped_ends name old new left left' before now reads reads_now sends sends_now e s)
 
-pub stores_on : (name : List ℕ) (count : ℕ) (old start new : View) (left_start left left' before_start before now : Option (List ℕ)) (reads_start reads reads_now sends_start sends sends_now : ℕ) (answer told : Result ℕ LoadEnd) → count ≡ page_count old.size → answer ≡ told → Opens (page_count old.size) old start
+pub stores_on : (name : List ℕ) (count : ℕ) (old start new : View) (left_start left left' before_start before now : Option (List ℕ)) (reads_start reads reads_now sends_start sends sends_now : ℕ) (answer told : Result ℕ LoadEnd) → count ≡ page_count old.size → answer ≡ told → Opens (page_count old.size) old start → start.faults ≡ old.faults
     → left_start ≡ left → before_start ≡ before → reads_start ≡ reads → sends_start ≡ sends → Stores name count start new left_start left' before_start now reads_start reads_now sends_start sends_now answer
     → Stores name (page_count old.size) old new left left' before now reads reads_now sends sends_now told
-stores_on name count old start new left_start left left' before_start before now reads_start reads reads_now sends_start sends sends_now answer told counted is opens same_left same_sent same_reads same_sends s =
+stores_on name count old start new left_start left left' before_start before now reads_start reads reads_now sends_start sends sends_now answer told counted is opens same_faults same_left same_sent same_reads same_sends s =
     let C : ℕ → Type 0 = λ n. Stores name n start new left_start left' before_start now reads_start reads_now sends_start sends_now answer in
     let R : Result ℕ LoadEnd → Type 0 = λ r. Stores name (page_count old.size) start new left_start left' before_start now reads_start reads_now sends_start sends_now r in
     let L : Option (List ℕ) → Type 0 = λ l. Stores name (page_count old.size) start new l left' before_start now reads_start reads_now sends_start sends_now told in
     let B : Option (List ℕ) → Type 0 = λ b. Stores name (page_count old.size) start new left left' b now reads_start reads_now sends_start sends_now told in
     let D : ℕ → Type 0 = λ n. Stores name (page_count old.size) start new left left' before now n reads_now sends_start sends_now told in
     let S : ℕ → Type 0 = λ n. Stores name (page_count old.size) start new left left' before now reads reads_now n sends_now told in
-    stores_opened name old start new opens left left' before now reads reads_now sends sends_now told (subst S same_sends (subst D same_reads (subst B same_sent (subst L same_left (subst R is (subst C counted s))))))
+    stores_opened name old start new opens same_faults left left' before now reads reads_now sends sends_now told (subst S same_sends (subst D same_reads (subst B same_sent (subst L same_left (subst R is (subst C counted s))))))

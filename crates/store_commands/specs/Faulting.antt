@@ -1,9 +1,8 @@
 -- That a command counts the failed call that its status tells, and no other.
-use Rattle.std.proofs.Common.{◌≡◌, ◌≢◌, ◌∙◌, ℕ, Option, None, Some, sym, subst}
-use Rattle.block_disk.specs.Counts.{HasRisen}
-use Rattle.block_disk.specs.View.{View, DiskKept}
-use Rattle.chart_world.specs.Faults.{Fault, OfTake, OfSend, CountsFault}
-use Rattle.chart_world.specs.FaultLaws.{counts_none, counts_disk, counts_no_disk}
+use Rattle.std.proofs.Common.{◌≡◌, ◌≢◌, Option, sym, subst}
+use Rattle.block_disk.specs.View.{View}
+use Rattle.chart_world.specs.Faults.{Fault, CountsFault}
+use Rattle.chart_world.specs.FaultLaws.{counts_disk, counts_no_disk}
 use Rattle.disk_store.specs.Openings.{Prevents}
 use Rattle.disk_store.specs.declared.causes.OpeningCause.{OpeningCause}
 use Rattle.disk_store.specs.declared.causes.OpeningCause.TheVariants as opening
@@ -24,22 +23,3 @@ counts_unopened (opening.TooSmall size) old new beside prevents quiet = counts_n
 counts_unopened (opening.Damaged block) old new beside prevents quiet = counts_no_disk old new beside (quiet (λ is. cc))
 counts_unopened opening.DiskFault old new beside prevents quiet = counts_disk old new beside prevents
 counts_unopened opening.NoMemory old new beside prevents quiet = counts_no_disk old new beside (quiet (λ is. cc))
-
-module _ {W : Type 0} (view : W → View) (reads sends : W → ℕ) (beside_reads : (world : W) → (view world).beside.read_faults ≡ reads world) (beside_sends : (world : W) → (view world).beside.send_faults ≡ sends world) (old new : W) (kept : DiskKept (view old) (view new)) where
-  -- a take or a send that succeeds
-  pub counts_kept : reads new ≡ reads old → sends new ≡ sends old → CountsFault None (view old) (view new)
-  counts_kept read send = counts_none (view old) (view new) kept.faults (beside_reads new ∙ read ∙ sym (beside_reads old)) (beside_sends new ∙ send ∙ sym (beside_sends old))
-
-  -- a send that fails
-  pub counts_unsent : reads new ≡ reads old → HasRisen (sends old) (sends new) → CountsFault (Some OfSend) (view old) (view new)
-  counts_unsent read risen =
-      let P : ℕ → Type 0 = λ n. HasRisen n (view new).beside.send_faults in
-      let Q : ℕ → Type 0 = λ n. HasRisen (sends old) n in
-      (kept.faults, beside_reads new ∙ read ∙ sym (beside_reads old), subst P (sym (beside_sends old)) (subst Q (sym (beside_sends new)) risen))
-
-  -- a take that fails
-  pub counts_untaken : HasRisen (reads old) (reads new) → sends new ≡ sends old → CountsFault (Some OfTake) (view old) (view new)
-  counts_untaken risen send =
-      let P : ℕ → Type 0 = λ n. HasRisen n (view new).beside.read_faults in
-      let Q : ℕ → Type 0 = λ n. HasRisen (reads old) n in
-      (kept.faults, subst P (sym (beside_reads old)) (subst Q (sym (beside_reads new)) risen), beside_sends new ∙ send ∙ sym (beside_sends old))

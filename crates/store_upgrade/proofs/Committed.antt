@@ -16,10 +16,10 @@ use Rattle.store_upgrade.specs.Upgrading.{Looks, Upgrades, Prevents, IsPlace, St
 use Rattle.store_upgrade.proofs.Looking.{looks_one, looks_more, looks_then}
 use Rattle.store_upgrade.proofs.Magics.{old_by, old_is, current_upgraded, upgraded_behind}
 
--- the first count has risen where a later one has
-pub risen_on : (old mid new : ℕ) → old ≤ mid → HasRisen mid new → HasRisen old new
-risen_on old mid new less (inl risen) = inl (omega (arith, less, risen))
-risen_on old mid new less (inr most) = inr most
+-- the first count has risen where a later one, which is the same, has
+pub risen_on : (old mid new : ℕ) → mid ≡ old → HasRisen mid new → HasRisen old new
+risen_on old mid new same (inl risen) = inl (omega (arith, same, risen))
+risen_on old mid new same (inr last) = inr (omega (arith, same, last.0), last.1 ∙ same)
 
 apart : true ≡ false → ⊥
 apart same = absurd (cc)
@@ -107,13 +107,13 @@ module _ (told told' told'' : Type 0) (old mid near : View) (batch : List Entry)
   committed_current image below pages done t = done (looked.told t) ∙ put_is below pages t ∙ sym (current_upgraded old.image (magic t))
 
   -- why the catalog wasn't read
-  pub prevents : (cause : UpgradeError) → StopsFirst cause told' mid near → Prevents cause told old near
-  prevents (Damaged page) is = λ t.
+  pub prevents : mid.faults ≡ old.faults → (cause : UpgradeError) → StopsFirst cause told' mid near → Prevents cause told old near
+  prevents same (Damaged page) is = λ t.
       let K : Image → Type 0 = λ i. KeepsOldRules (i page) in
       let so = is.1 (reads.told t) in
       record { magic = magic t; place = is.0; before = catalog_old page t so.0; breaks = λ keeps. so.1 (subst K (sym (reads.image t)) keeps) }
-  prevents DiskFault is = risen_on old.faults mid.faults near.faults reads.faults is
-  prevents NoMemory is = tt
+  prevents same DiskFault is = risen_on old.faults mid.faults near.faults same is
+  prevents same NoMemory is = tt
 
   pub stops : (cause : UpgradeError) → Stops cause told told'' old near
   stops (Damaged page) = looked

@@ -3,3 +3,4 @@ pub mod Standing
 pub mod Changing
 pub mod Books
 pub mod Damage
+pub mod Laws

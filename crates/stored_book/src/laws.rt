@@ -1,24 +1,18 @@
 //! The laws.
-ghost use Rattle.std.specs.Prelude.{◌≡◌, ◌≢◌, ◌≤◌, ◌<◌, ◌+◌, ◌^◌, ◌++◌, ◌∷◌, [], ℕ, ℤ, List, Option, None, Some, length, slice_get};
+ghost use Rattle.std.specs.Prelude.{◌≡◌, ◌≤◌, ◌<◌, ◌^◌, [], ℕ, List};
 ghost use Rattle.block_disk.specs.View.{Image};
-ghost use Rattle.catalog_page.specs.Entries.{Entry};
 ghost use Rattle.gate_pages.specs.GatePages.{IsReadable};
 ghost use Rattle.page_space.specs.declared.superblock.Superblock.{Superblock};
 ghost use Rattle.page_space.specs.Firsts.{empty_over};
-ghost use Rattle.page_space.specs.Layout.{HasMagic, superblock_page, in_use, with_series, IsSmall};
-ghost use Rattle.path_repair.specs.Edited.{IsHeldTree, IsFullFor};
-ghost use Rattle.series_book.specs.declared.limits.TheConstants.{MOST_SLOTS};
+ghost use Rattle.page_space.specs.Layout.{HasMagic, superblock_page, in_use, IsSmall};
 ghost use Rattle.series_book.specs.declared.one_series.Series.{Series};
-ghost use Rattle.series_book.specs.Books.{IsBook};
-ghost use Rattle.series_book.specs.Edits.{with_slots};
 ghost use Rattle.series_book.specs.Pages.{pages_of};
 ghost use Rattle.empty_store.specs.Stores.{IsEmptyStore, IsNewStore};
 ghost use Rattle.store_upgrade.specs.Upgraded.{current};
-ghost use Rattle.tree_walk.specs.declared.tree.Tree.{Tree};
-ghost use Rattle.stored_book.specs.Records.{entry, tree_of, pages_of_others};
 ghost use Rattle.stored_book.specs.Books.{book_of};
-ghost use Rattle.stored_book.specs.Standing.{IsRecordOf, IsStore, PagesStand, StandsForBook, RecoversTo};
-ghost use Rattle.stored_book.specs.Changing.{IsSameImage, IsLater, IsTreeChanged, IsRecordSet, KeepsRecords, AddsRecord};
+ghost use Rattle.stored_book.specs.Standing.{IsStore, PagesStand, StandsForBook, RecoversTo};
+ghost use Rattle.stored_book.specs.Changing.{IsSameImage};
+ghost use Rattle.stored_book.specs.Laws.{SeriesHaveTheirTrees, ChangedSeriesStand, AddedSeriesStand, FullTreesAreFullBooks};
 
 /// Pages stand for one book alone, with one total.
 pub fn pages_stand_for_one_book()
@@ -70,29 +64,20 @@ pub fn same_pages_stand()
 
 /// Where pages stand for a book, each series has a tree, beside which the pages of the others are in use.
 pub fn series_have_their_trees()
-    ensures { (image : Image) (s : Superblock) (book : List Series) (id : ℕ) (series : Series) → IsStore image s book → slice_get book id ≡ Some series
-        → IsHeldTree s.total image s (tree_of (entry image id)) series.slots (pages_of_others image (length book) id) }
+    ensures { SeriesHaveTheirTrees }
 {}
 
 /// Where the tree of a series is changed and then its record, the pages stand for the book with the changed series.
 pub fn changed_series_stand()
-    ensures { (before mid after : Image) (s s' : Superblock) (book : List Series) (id : ℕ) (series : Series) (slots : List (Option ℤ)) (tree : Tree) (e : Entry)
-        → IsStore before s book → slice_get book id ≡ Some series → IsLater s s' → IsTreeChanged before mid (length book) id s' tree slots
-        → IsRecordOf series e → tree_of e ≡ tree → IsRecordSet mid after id e → KeepsRecords mid after id s'.fresh
-        → IsBook (with_slots book id series slots) → IsStore after s' (with_slots book id series slots) }
+    ensures { ChangedSeriesStand }
 {}
 
 /// Where page 0 counts a series more, and its record stands behind the others, the pages stand for the book with it.
 pub fn added_series_stand()
-    ensures { (before mid after : Image) (s : Superblock) (book : List Series) (series : Series) (e : Entry)
-        → IsStore before s book → length book < 512 → mid 0 ≡ superblock_page (with_series s (length book + 1)) → ((p : ℕ) → p ≢ 0 → mid p ≡ before p)
-        → IsRecordOf series e → series.slots ≡ [] → e.slots ≡ 0 → e.root ≡ 0 → e.span ≡ None → IsRecordSet mid after (length book) e → AddsRecord mid after (length book) s.fresh
-        → IsBook (book ++ series ∷ []) → IsStore after (with_series s (length book + 1)) (book ++ series ∷ []) }
+    ensures { AddedSeriesStand }
 {}
 
 /// Where a tree isn't changed for want of pages, the changed book needs so many.
 pub fn full_trees_are_full_books()
-    ensures { (image : Image) (s : Superblock) (book : List Series) (id : ℕ) (series : Series) (slots : List (Option ℤ)) (needed have : ℕ)
-        → IsStore image s book → slice_get book id ≡ Some series → length slots ≤ MOST_SLOTS → IsFullFor s.total (in_use s) series.slots slots needed have
-        → (pages_of (with_slots book id series slots) ≡ needed) × (have ≡ s.total) × (s.total < needed) }
+    ensures { FullTreesAreFullBooks }
 {}

@@ -244,9 +244,9 @@ root_bad told old new tree k levels (Damaged page) same node low cause =
 root_bad told old new tree k levels (Missing key) same node low cause = cause
 root_bad told old new tree k levels (BadCoefficient key) same node low cause = cause
 
-risen_since : (old mid new : ℕ) → old ≤ mid → HasRisen mid new → HasRisen old new
-risen_since old mid new low (inl more) = inl (omega (arith, low, more))
-risen_since old mid new low (inr last) = inr last
+risen_since : (old mid new : ℕ) → mid ≡ old → HasRisen mid new → HasRisen old new
+risen_since old mid new same (inl risen) = inl (omega (arith, same, risen))
+risen_since old mid new same (inr last) = inr (omega (arith, same, last.0), omega (arith, same, last.1))
 
 -- a page on the way and a bad one below it
 bad_here : (told told' : Type 0) (old mid : View) (tree : Tree) (levels : ℕ) (was is : Trail) (k : Key) (at page : ℕ) → levels ≡ page_levels tree.slots → at < levels - page_level k.level
@@ -308,9 +308,9 @@ bad_here told told' old mid tree levels was is k at page same deep way tells (in
 
 -- why a page on the way wasn't held
 pub way_bad : (told told' : Type 0) (old mid new : View) (tree : Tree) (levels : ℕ) (was is : Trail) (k : Key) (at : ℕ) (e : NodeError) → levels ≡ page_levels tree.slots → at < levels - page_level k.level
-    → IsOnWay told told' old mid tree levels was is k at → IsStepCause told' mid new is.pages.items k levels at e → IsCauseOf told old new tree k e
-way_bad told told' old mid new tree levels was is k at DiskFault same deep way cause = risen_since old.faults mid.faults new.faults way.kept.faults cause
-way_bad told told' old mid new tree levels was is k at (Damaged page) same deep way cause =
+    → IsOnWay told told' old mid tree levels was is k at → mid.faults ≡ old.faults → IsStepCause told' mid new is.pages.items k levels at e → IsCauseOf told old new tree k e
+way_bad told told' old mid new tree levels was is k at DiskFault same deep way quiet cause = risen_since old.faults mid.faults new.faults quiet cause
+way_bad told told' old mid new tree levels was is k at (Damaged page) same deep way quiet cause =
     (omega (arith, cause.0, way.kept.size), λ tells. bad_here told told' old mid tree levels was is k at page same deep way tells (cause.1 (way.kept.told tells)))
-way_bad told told' old mid new tree levels was is k at (Missing key) same deep way cause = cause
-way_bad told told' old mid new tree levels was is k at (BadCoefficient key) same deep way cause = cause
+way_bad told told' old mid new tree levels was is k at (Missing key) same deep way quiet cause = cause
+way_bad told told' old mid new tree levels was is k at (BadCoefficient key) same deep way quiet cause = cause

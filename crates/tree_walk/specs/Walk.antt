@@ -1,5 +1,5 @@
 -- What a space shows to the nodes of a tree on it.
-use Rattle.std.specs.Prelude.{ℕ, ◌≡◌}
+use Rattle.std.specs.Prelude.{ℕ}
 use Rattle.block_disk.specs.View.{View}
 use Rattle.gate_pages.specs.Pages.{Reads}
 use Rattle.gate_pages.specs.declared.pages.Pages.{Ghosts}

@@ -3,3 +3,4 @@ pub mod Flat
 pub mod Needed
 pub mod Wanted
 pub mod Listed
+pub mod Laws

@@ -1,22 +1,16 @@
 //! What follows from the definitions of needed and wanted keys and of their lists. The functions do
 //! nothing: their contracts are the laws.
 
-ghost use Rattle.std.specs.Prelude.{◌≡◌, ◌≢◌, ℕ, ℤ, ◌+◌, ◌*◌, ◌^◌, ◌<◌, ◌≤◌, ◌≤ℤ◌, ◌↔◌, List, length, All, AllPairs, Option, Some};
-ghost use Rattle.chart_grid.specs.declared.axis.Axis.{Axis};
-ghost use Rattle.chart_grid.specs.declared.grid.Grid.{Grid};
+ghost use Rattle.std.specs.Prelude.{◌≡◌, ◌≢◌, ℕ, ℤ, ◌≤◌, ◌≤ℤ◌, List, AllPairs, Option, Some};
 ghost use Rattle.om3_coeff.specs.declared.key.Key.{Key};
 ghost use Rattle.om3_coeff.specs.declared.coef.Coef.{Coef};
 ghost use Rattle.chart_grid.specs.Projection.{height as height_of};
 ghost use Rattle.om3_coeff.specs.declared.span.Span.{Span};
-ghost use Rattle.om3_coeff.specs.Keys.{height, top_key, IsAtOrAbove};
-ghost use Rattle.om3_coeff.specs.Spans.{AreSlots, span};
-ghost use Rattle.om3_coeff.specs.Coefs.{coef};
 ghost use Rattle.om3_coeff.specs.Known.{known, IsKnownClear};
 ghost use Rattle.view_keys.specs.Ranges.{IsInRange};
 ghost use Rattle.view_keys.specs.Flat.{IsFlat};
-ghost use Rattle.view_keys.specs.Needed.{IsNeeded};
-ghost use Rattle.view_keys.specs.Wanted.{Seen, IsWanted};
 ghost use Rattle.view_keys.specs.Listed.{AreInOrder};
+ghost use Rattle.view_keys.specs.Laws.{WantedKeysAreNeeded, WantedKeysShowTheirSpans, NeededKeysAreFew, WantedKeysAreFew, FlatKeysHoldFlatKeys};
 
 use chart_grid::laws::{borders_part_columns, columns_rise, heights_rise};
 use om3_coeff::laws::{
@@ -27,14 +21,8 @@ use om3_coeff::laws::{
 /// Where the root is the list's, and each key that is both needed and wanted is told with the list's
 /// coefficient, the wanted keys are the needed ones, and what is seen of each is the list's span.
 pub fn wanted_keys_are_needed()
-    ensures same { (list : List (Option ℤ)) (axis : Axis) (grid : Grid) (lo hi : ℤ) (seen : Seen) →
-        AreSlots list → length list ≤ 2 ^ 35 → axis.slots ≡ length list → seen.root ≡ span list (top_key (length list)) →
-        ((k : Key) → IsNeeded list axis grid lo hi k → IsWanted seen axis grid lo hi k → seen.told k ≡ Some (coef list k)) →
-        (k : Key) → IsWanted seen axis grid lo hi k ↔ IsNeeded list axis grid lo hi k }
-    ensures spans { (list : List (Option ℤ)) (axis : Axis) (grid : Grid) (lo hi : ℤ) (seen : Seen) →
-        AreSlots list → length list ≤ 2 ^ 35 → axis.slots ≡ length list → seen.root ≡ span list (top_key (length list)) →
-        ((k : Key) → IsNeeded list axis grid lo hi k → IsWanted seen axis grid lo hi k → seen.told k ≡ Some (coef list k)) →
-        (k : Key) → IsWanted seen axis grid lo hi k → known seen.root seen.told (height axis.slots) k ≡ Some (span list k) }
+    ensures same { WantedKeysAreNeeded }
+    ensures spans { WantedKeysShowTheirSpans }
 {
     columns_rise();
     heights_rise();
@@ -52,12 +40,8 @@ pub fn keys_in_order_are_distinct()
 /// A list of needed keys, or of wanted ones, in order has at most one key on each level for each border
 /// between columns, and two for each column.
 pub fn keys_of_a_view_are_few()
-    ensures needed { (list : List (Option ℤ)) (axis : Axis) (grid : Grid) (lo hi : ℤ) (entries : List (Key × Coef)) →
-        AreInOrder entries → All (λ e. IsNeeded list axis grid lo hi e.0) entries →
-        length entries ≤ (3 * grid.w + 1) * height (length list) }
-    ensures wanted { (seen : Seen) (axis : Axis) (grid : Grid) (lo hi : ℤ) (entries : List (Key × Coef)) →
-        AreInOrder entries → All (λ e. IsWanted seen axis grid lo hi e.0) entries →
-        length entries ≤ (3 * grid.w + 1) * height axis.slots }
+    ensures needed { NeededKeysAreFew }
+    ensures wanted { WantedKeysAreFew }
 {
     borders_part_columns();
     split_and_join_undo_each_other();
@@ -68,9 +52,7 @@ pub fn keys_of_a_view_are_few()
 pub fn flat_keys_hold_flat_keys()
     ensures value { (lo hi v : ℤ) (h : ℕ) (s : Span) → IsFlat lo hi h s → s.min ≤ℤ v → v ≤ℤ s.max →
         height_of v lo hi h ≡ height_of s.min lo hi h }
-    ensures below { (root : Option Span) (told : Key → Option Coef) (top : ℕ) (w k : Key) (lo hi : ℤ) (h : ℕ) (s t : Span) →
-        w.level ≤ top → IsAtOrAbove w k → known root told top w ≡ Some (Some t) → known root told top k ≡ Some (Some s) →
-        IsFlat lo hi h t → IsFlat lo hi h s }
+    ensures below { FlatKeysHoldFlatKeys }
 {
     heights_rise();
     split_and_join_undo_each_other();

@@ -28,7 +28,7 @@ returns-in-Ok-clause-serves g c =
     let beside = c.in-Ok.ensures.opens.beside_is in
     let w = g.met.W.World in
     serves_opened Spelled ⊥ (stored.pages c.in-Ok.store).count (view old) (view mid) (view new) (left mid) (left old) (left new) (sent mid) (sent old) (sent new)
-    (faults_of (reads mid) (reads new) (sends mid) (sends new)) (faults_of (reads old) (reads new) (sends old) (sends new)) c.serve_lines-answer.result.0 c.of_answering.result (λ start. refl) c.in-Ok.ensures.opens c.in-Ok.ensures.count
+    (faults_of (reads mid) (reads new) (sends mid) (sends new)) (faults_of (reads old) (reads new) (sends old) (sends new)) c.serve_lines-answer.result.0 c.of_answering.result (λ start. refl) c.in-Ok.ensures.opens c.in-Ok.ensures.quiet c.in-Ok.ensures.count
     (sym (w.beside_left mid) ∙ ap (λ (b : Beside). b.left) beside ∙ w.beside_left old)
     (sym (w.beside_sent mid) ∙ ap (λ (b : Beside). b.sent) beside ∙ w.beside_sent old)
     (same_faults (reads mid) (reads old) (reads new) (sends mid) (sends old) (sends new)

@@ -2,14 +2,13 @@ use Rattle.std.proofs.Common.{◌≡◌, ◌≢◌, true, false, None, Some, Res
 use Rattle.std.specs.Prelude.{is_err}
 use Rattle.block_disk.specs.Counts.{HasRisen}
 use Rattle.chart_world.specs.Faults.{OfSend, CountsFault, fault_in}
-use Rattle.chart_world.specs.FaultLaws.{counts_then}
+use Rattle.chart_world.specs.FaultLaws.{counts_then, counts_kept, counts_unsent}
 use Rattle.chart_service.proofs.Sending.{error_goes}
 use Rattle.chart_service.proofs.Ends.{error_is, on_err}
 use Rattle.chart_service.proofs.Faulting.{of_err, of_ok}
 use Rattle.chart_program.specs.declared.input.InputEnd.{InputEnd}
 use Rattle.chart_program.specs.declared.plot.PlotEnd.{PlotEnd}
 use Rattle.chart_program.specs.declared.plot.PlotEnd.TheVariants.{Input, SendFault}
-use Rattle.store_commands.specs.Faulting.{counts_kept, counts_unsent}
 use Rattle.chart_program.specs.declared.input.InputEnd.TheVariants as input
 use Rattle.chart_program.specs.Faulting.{plot_fault}
 use Rattle.chart_program.specs.Plotted.{EndsPlot}

@@ -1,6 +1,6 @@
-use Rattle.std.proofs.Common.{ℕ, ◌≡◌, ◌≤◌, ◌^◌, [], ◌∷◌, List, Option, None, Some, Ok, Err, IfNone, IfSome, IsTrue, Vec, Global, length, refl, ap, sym, subst, ◌∙◌, arith}
+use Rattle.std.proofs.Common.{◌≡◌, ◌≤◌, ◌^◌, [], ◌∷◌, List, Option, None, Some, Ok, Err, IfNone, IfSome, IsTrue, Vec, Global, length, refl, ap, sym, subst, ◌∙◌, arith}
 use Rattle.block_disk.specs.View.{Image}
-use Rattle.chart_world.specs.FaultLaws.{counts_then}
+use Rattle.chart_world.specs.FaultLaws.{counts_then, counts_kept, disk_stays}
 use Rattle.chart_world.specs.FrontLaws.{read_whole, same_line}
 use Rattle.chart_world.specs.Fronts.{Gives}
 use Rattle.chart_world.specs.Lines.{lines}
@@ -24,7 +24,7 @@ use Rattle.chart_service.specs.declared.failure.AnswerEnd.TheVariants.{Serve}
 use Rattle.chart_service.specs.declared.failure.ServeEnd.TheVariants.{NoMemory}
 use Rattle.chart_service.proofs.DiskKept.{serves_none, serves_then, serves_kept as serves_disk, risen_since}
 use Rattle.chart_service.proofs.Ends.{differ, end_is, err_is, error_is, on_err, fault_read, fault_unsent, fault_disk, fault_bad, reply_bad}
-use Rattle.chart_service.proofs.Faulting.{counts_lines, counts_taken, fault_goes}
+use Rattle.chart_service.proofs.Faulting.{count_stays, counts_lines, fault_goes}
 use Rattle.chart_service.proofs.GatherLemmas.{group_passed, spelled_length}
 use Rattle.chart_service.proofs.GroupReplies.{if_told}
 use Rattle.chart_service.proofs.Known.{known_kept}
@@ -64,8 +64,6 @@ lines-init g c =
       serves = serves_none (g.P.Pages.told pages) (view pages);
       goes_on = goes_none (g.P.Pages.under pages);
       total_is = refl;
-      read_faults = omega arith;
-      send_faults = omega arith;
     }
 
 pub returns-in_err-lines : goal.returns-in_err-lines
@@ -131,7 +129,7 @@ returns-in_err-next g c =
           inv.within (λ h. inv.stands_in.whole (no.not_ended (ap Err h))) (λ h. no.read_before (ap Err h)) (λ h. no.past_before (ap Err h)) (λ h. no.past (ap Err h)) no.left_on_err inv.counted no.total far);
       crash = λ total book told stands. lasts_take g.R.Reply.makes c.args.kept.now c.lines.kept o before (g.P.Streams.sent mid) total book own c.lines.service.sessions (view pages) (view mid) (view taken) c.lines.lines (g.P.Streams.left mid) (inv.far total book told stands) (g.met.P.Pages.rests mid inv.fit) (g.met.P.PageWorld.counts_sent pages) (g.met.P.PageWorld.counts_sent mid) (g.met.P.PageWorld.take_passes mid taken takes) (inv.lasts total book told stands);
       reads = λ total book told stands. read_all o total book own (view pages).reads c.lines.lines (g.P.Streams.left mid) (view taken).image c.next.new.from.sessions (view taken).reads (read_kept o total book own (view pages).reads c.lines.lines (g.P.Streams.left mid) (view mid).image (view taken).image c.lines.service.sessions c.next.new.from.sessions (view mid).reads (view taken).reads kept.image beside.sessions kept.reads (inv.reads total book told stands));
-      read = λ fault. risen_since (reads pages) (reads mid) (reads taken) c.lines.invariant.read_faults (c.in_err-next.ensures.read_fault (ap Err (fault_read c.in_err-next.field-0.0 (sym (error_is c.from_residual-in_err-next.result (Serve (end_of c.in_err-next.field-0.0)) c.from_residual-in_err-next.ensures.1) ∙ fault))));
+      read = λ fault. risen_since (reads pages) (reads mid) (reads taken) (count_stays view (λ counts. counts.take) reads g.met.P.PageWorld.beside_read_faults pages mid inv.faults) (c.in_err-next.ensures.read_fault (ap Err (fault_read c.in_err-next.field-0.0 (sym (error_is c.from_residual-in_err-next.result (Serve (end_of c.in_err-next.field-0.0)) c.from_residual-in_err-next.ensures.1) ∙ fault))));
       send = λ fault. fault_unsent c.in_err-next.field-0.0 (sym (error_is c.from_residual-in_err-next.result (Serve (end_of c.in_err-next.field-0.0)) c.from_residual-in_err-next.ensures.1) ∙ fault);
       disk = λ fault. fault_disk c.in_err-next.field-0.0 (sym (error_is c.from_residual-in_err-next.result (Serve (end_of c.in_err-next.field-0.0)) c.from_residual-in_err-next.ensures.1) ∙ fault);
       syncs = λ total book told stands. sync_all o total book (view pages).syncs (g.P.Streams.pieces pages) c.lines.lines (g.P.Streams.left mid) (view mid).image (view mid).syncs (g.P.Streams.pieces mid) (view taken).syncs (g.P.Streams.pieces taken) kept.syncs c.next.ensures.pieces (inv.syncs total book told stands);
@@ -164,7 +162,7 @@ returns-in-End g c =
     let takes = beside.store_is.pages_are in
     let kept = g.met.P.PageWorld.take_keeps mid taken takes in
     let told_in = g.P.Pages.told in
-    let quiet = counts_then None (view pages) (view mid) (view taken) inv.faults (counts_taken view g.P.Streams.read_faults g.P.Streams.send_faults g.met.P.PageWorld.beside_read_faults g.met.P.PageWorld.beside_send_faults mid taken kept (c.in_ok-next.ensures.quiet (λ is. cc)) c.next.ensures.send_faults) in
+    let quiet = counts_then None (view pages) (view mid) (view taken) inv.faults (counts_kept view g.P.Streams.read_faults g.P.Streams.send_faults g.met.P.PageWorld.beside_read_faults g.met.P.PageWorld.beside_send_faults mid taken kept (c.in_ok-next.ensures.quiet (λ is. cc)) c.next.ensures.send_faults) in
     record {
       done = λ total book told stands.
           let far = far_kept g.R.Reply.makes c.args.kept.now o total book own before c.lines.kept c.lines.lines (g.P.Streams.left mid) (g.P.Streams.sent mid) (g.P.Streams.sent taken) (view mid).image (view taken).image c.lines.service.sessions c.next.new.from.sessions kept.image beside.sessions c.next.ensures.sent (inv.far total book told stands) in
@@ -214,7 +212,7 @@ lines-preserved-in-Continue-branch-4 g c =
     } in
     let passed = one_passed c.lines.lines c.next.new.self (g.P.Streams.left mid) (g.P.Streams.left taken) None gives next.within in
     let few = few_lines None in
-    let quiet = counts_then None (view pages) (view mid) (view taken) inv.faults (counts_taken view g.P.Streams.read_faults g.P.Streams.send_faults g.met.P.PageWorld.beside_read_faults g.met.P.PageWorld.beside_send_faults mid taken kept (next.quiet (λ is. cc)) c.next.ensures.send_faults) in
+    let quiet = counts_then None (view pages) (view mid) (view taken) inv.faults (counts_kept view g.P.Streams.read_faults g.P.Streams.send_faults g.met.P.PageWorld.beside_read_faults g.met.P.PageWorld.beside_send_faults mid taken kept (next.quiet (λ is. cc)) c.next.ensures.send_faults) in
     record {
       usable = next.usable;
       counted = next.given;
@@ -244,8 +242,6 @@ lines-preserved-in-Continue-branch-4 g c =
       serves = serves_then (told_in pages) (told_in taken) (told_in new) (view pages) (view taken) (view new) (serves_then (told_in pages) (told_in mid) (told_in taken) (view pages) (view mid) (view taken) inv.serves (serves_disk (told_in mid) (told_in taken) (view mid) (view taken) kept (g.met.P.PageWorld.take_told mid taken takes) (g.met.P.PageWorld.take_was_told mid taken takes))) (serves_disk (told_in taken) (told_in new) (view taken) (view new) made.keeps.disk made.keeps.told made.keeps.was_told);
       goes_on = goes_then (g.P.Pages.under pages) (g.P.Pages.under taken) (g.P.Pages.under new) (goes_then (g.P.Pages.under pages) (g.P.Pages.under mid) (g.P.Pages.under taken) inv.goes_on (g.met.P.PageWorld.take_goes_on mid taken takes)) made.keeps.goes_on;
       total_is = made.total ∙ ap (λ (s : Superblock). s.total) beside.store_is.superblock ∙ inv.total_is;
-      read_faults = omega (arith, next.read_faults, inv.read_faults, made.read_faults);
-      send_faults = omega (arith, next.send_faults, inv.send_faults, made.send_faults);
     }
 
 pub returns-in_err-answer_long_line-in-TooLong : goal.returns-in_err-answer_long_line-in-TooLong
@@ -275,9 +271,8 @@ returns-in_err-answer_long_line-in-TooLong g c =
     let few = few_lines None in
     let told_in = g.P.Pages.told in
     let sends = g.P.Streams.send_faults in
-    let Low : ℕ → Type 0 = λ n. sends pages ≤ n in
     let it = c.answer_long_line.new.service in
-    let quiet = counts_then None (view pages) (view mid) (view taken) inv.faults (counts_taken view g.P.Streams.read_faults g.P.Streams.send_faults g.met.P.PageWorld.beside_read_faults g.met.P.PageWorld.beside_send_faults mid taken kept (next.quiet (λ is. cc)) c.next.ensures.send_faults) in
+    let quiet = counts_then None (view pages) (view mid) (view taken) inv.faults (counts_kept view g.P.Streams.read_faults g.P.Streams.send_faults g.met.P.PageWorld.beside_read_faults g.met.P.PageWorld.beside_send_faults mid taken kept (next.quiet (λ is. cc)) c.next.ensures.send_faults) in
     record {
       done = λ total book told stands. on_err c.from_residual-in_err-answer_long_line-in-TooLong.result _ _ c.from_residual-in_err-answer_long_line-in-TooLong.ensures.1;
       within = on_err c.from_residual-in_err-answer_long_line-in-TooLong.result _ _ c.from_residual-in_err-answer_long_line-in-TooLong.ensures.1;
@@ -296,7 +291,7 @@ returns-in_err-answer_long_line-in-TooLong g c =
           let told' = g.met.P.PageWorld.take_told mid taken takes (inv.serves.told told) in
           read_line_stops o total book own (view pages).reads c.lines.lines c.next.new.self (g.P.Streams.left mid) (g.P.Streams.left taken) None (view taken).reads (view new).reads gives (view taken).image c.next.new.from.sessions far made.keeps.disk.reads;
       read = λ fault. absurd (subst IsReplyEnd (end_is (sym (error_is c.from_residual-in_err-answer_long_line-in-TooLong.result c.in_err-answer_long_line-in-TooLong.field-0.0 c.from_residual-in_err-answer_long_line-in-TooLong.ensures.1) ∙ fault)) c.in_err-answer_long_line-in-TooLong.ensures.ends);
-      send = λ fault. risen_since (sends pages) (sends taken) (sends new) (subst Low (sym c.next.ensures.send_faults) c.lines.invariant.send_faults) (c.in_err-answer_long_line-in-TooLong.ensures.send (sym (error_is c.from_residual-in_err-answer_long_line-in-TooLong.result c.in_err-answer_long_line-in-TooLong.field-0.0 c.from_residual-in_err-answer_long_line-in-TooLong.ensures.1) ∙ fault));
+      send = λ fault. risen_since (sends pages) (sends taken) (sends new) (count_stays view (λ counts. counts.send) sends g.met.P.PageWorld.beside_send_faults pages taken quiet) (c.in_err-answer_long_line-in-TooLong.ensures.send (sym (error_is c.from_residual-in_err-answer_long_line-in-TooLong.result c.in_err-answer_long_line-in-TooLong.field-0.0 c.from_residual-in_err-answer_long_line-in-TooLong.ensures.1) ∙ fault));
       disk = λ fault. absurd (subst IsReplyEnd (end_is (sym (error_is c.from_residual-in_err-answer_long_line-in-TooLong.result c.in_err-answer_long_line-in-TooLong.field-0.0 c.from_residual-in_err-answer_long_line-in-TooLong.ensures.1) ∙ fault)) c.in_err-answer_long_line-in-TooLong.ensures.ends);
       syncs = λ total book told stands.
           sync_all o total book (view pages).syncs (g.P.Streams.pieces pages) c.lines.lines (g.P.Streams.left mid) (view mid).image (view mid).syncs (g.P.Streams.pieces mid) (view new).syncs (g.P.Streams.pieces new) (made.keeps.disk.syncs ∙ kept.syncs) (omega (arith, c.next.ensures.pieces, made.pieces)) (inv.syncs total book told stands);
@@ -350,7 +345,7 @@ lines-preserved g c =
     let few = few_lines (Some text) in
     let none : edit_of (Some text) ≡ [] = ap (λ t. edit_of (Some t)) (c.line.ensures.line ∙ ap (λ (x : Reading). x.line) same) ∙ subst (λ (x : Option (Vec Edit Global)). IfNone x (edit_of (Some m.line) ≡ [])) c.in-None.is c.in_ok-edits-in-Line.ensures.other in
     let idle = made.idle none in
-    let quiet = counts_then None (view pages) (view mid) (view taken) inv.faults (counts_taken view g.P.Streams.read_faults g.P.Streams.send_faults g.met.P.PageWorld.beside_read_faults g.met.P.PageWorld.beside_send_faults mid taken kept (next.quiet (λ is. cc)) c.next.ensures.send_faults) in
+    let quiet = counts_then None (view pages) (view mid) (view taken) inv.faults (counts_kept view g.P.Streams.read_faults g.P.Streams.send_faults g.met.P.PageWorld.beside_read_faults g.met.P.PageWorld.beside_send_faults mid taken kept (next.quiet (λ is. cc)) c.next.ensures.send_faults) in
     record {
       usable = c.in_ok-edits-in-Line.ensures.usable;
       counted = c.in_ok-edits-in-Line.ensures.counted;
@@ -381,8 +376,6 @@ lines-preserved g c =
       serves = serves_then (told_in pages) (told_in taken) (told_in new) (view pages) (view taken) (view new) (serves_then (told_in pages) (told_in mid) (told_in taken) (view pages) (view mid) (view taken) inv.serves (serves_disk (told_in mid) (told_in taken) (view mid) (view taken) kept (g.met.P.PageWorld.take_told mid taken takes) (g.met.P.PageWorld.take_was_told mid taken takes))) made.serves;
       goes_on = goes_then (g.P.Pages.under pages) (g.P.Pages.under taken) (g.P.Pages.under new) (goes_then (g.P.Pages.under pages) (g.P.Pages.under mid) (g.P.Pages.under taken) inv.goes_on (g.met.P.PageWorld.take_goes_on mid taken takes)) made.goes_on;
       total_is = made.total ∙ ap (λ (s : Superblock). s.total) beside.store_is.superblock ∙ inv.total_is;
-      read_faults = omega (arith, next.read_faults, inv.read_faults, made.read_faults);
-      send_faults = omega (arith, next.send_faults, inv.send_faults, made.send_faults);
     }
 
 pub returns-in_err-answer_line-in-None : goal.returns-in_err-answer_line-in-None
@@ -418,9 +411,8 @@ returns-in_err-answer_line-in-None g c =
     let idle = made.idle none in
     let told_in = g.P.Pages.told in
     let sends = g.P.Streams.send_faults in
-    let Low : ℕ → Type 0 = λ n. sends pages ≤ n in
     let it = c.answer_line.new.service in
-    let quiet = counts_then None (view pages) (view mid) (view taken) inv.faults (counts_taken view g.P.Streams.read_faults g.P.Streams.send_faults g.met.P.PageWorld.beside_read_faults g.met.P.PageWorld.beside_send_faults mid taken kept (next.quiet (λ is. cc)) c.next.ensures.send_faults) in
+    let quiet = counts_then None (view pages) (view mid) (view taken) inv.faults (counts_kept view g.P.Streams.read_faults g.P.Streams.send_faults g.met.P.PageWorld.beside_read_faults g.met.P.PageWorld.beside_send_faults mid taken kept (next.quiet (λ is. cc)) c.next.ensures.send_faults) in
     record {
       done = λ total book told stands. on_err c.from_residual-in_err-answer_line-in-None.result _ _ c.from_residual-in_err-answer_line-in-None.ensures.1;
       within = on_err c.from_residual-in_err-answer_line-in-None.result _ _ c.from_residual-in_err-answer_line-in-None.ensures.1;
@@ -439,8 +431,8 @@ returns-in_err-answer_line-in-None g c =
           let told' = g.met.P.PageWorld.take_told mid taken takes (inv.serves.told told) in
           read_line_stops o total book own (view pages).reads c.lines.lines r (g.P.Streams.left mid) (g.P.Streams.left taken) (Some text) (view taken).reads (view new).reads gives (view taken).image c.next.new.from.sessions far (made.reads total far.book told' far.stands);
       read = λ fault. absurd (c.in_err-answer_line-in-None.ensures.read (sym (error_is c.from_residual-in_err-answer_line-in-None.result c.in_err-answer_line-in-None.field-0.0 c.from_residual-in_err-answer_line-in-None.ensures.1) ∙ fault));
-      send = λ fault. risen_since (sends pages) (sends taken) (sends new) (subst Low (sym c.next.ensures.send_faults) c.lines.invariant.send_faults) (c.in_err-answer_line-in-None.ensures.send (sym (error_is c.from_residual-in_err-answer_line-in-None.result c.in_err-answer_line-in-None.field-0.0 c.from_residual-in_err-answer_line-in-None.ensures.1) ∙ fault));
-      disk = λ is. risen_since (view pages).faults (view taken).faults (view new).faults (omega (arith, inv.serves.faults, kept.faults)) (c.in_err-answer_line-in-None.ensures.disk (sym (error_is c.from_residual-in_err-answer_line-in-None.result c.in_err-answer_line-in-None.field-0.0 c.from_residual-in_err-answer_line-in-None.ensures.1) ∙ is));
+      send = λ fault. risen_since (sends pages) (sends taken) (sends new) (count_stays view (λ counts. counts.send) sends g.met.P.PageWorld.beside_send_faults pages taken quiet) (c.in_err-answer_line-in-None.ensures.send (sym (error_is c.from_residual-in_err-answer_line-in-None.result c.in_err-answer_line-in-None.field-0.0 c.from_residual-in_err-answer_line-in-None.ensures.1) ∙ fault));
+      disk = λ is. risen_since (view pages).faults (view taken).faults (view new).faults (disk_stays (view pages) (view taken) quiet) (c.in_err-answer_line-in-None.ensures.disk (sym (error_is c.from_residual-in_err-answer_line-in-None.result c.in_err-answer_line-in-None.field-0.0 c.from_residual-in_err-answer_line-in-None.ensures.1) ∙ is));
       syncs = λ total book told stands.
           sync_all o total book (view pages).syncs (g.P.Streams.pieces pages) c.lines.lines (g.P.Streams.left mid) (view mid).image (view mid).syncs (g.P.Streams.pieces mid) (view new).syncs (g.P.Streams.pieces new) (idle.syncs ∙ kept.syncs) (omega (arith, c.next.ensures.pieces, made.pieces)) (inv.syncs total book told stands);
       known = λ knows follows known.
@@ -496,7 +488,7 @@ lines-preserved-in-Some g c =
     let spells = both.1 in
     let few : length all ≤ most_ahead = omega (arith, most, spelled_length all edits spells) in
     let ends = subst (λ (e : List Edit). EndsGroup r e) (sym c.as_slice.ensures.value) (subst (λ (x : Option (Vec Edit Global)). IfSome x (λ edits. EndsGroup r edits.items)) c.in-Some.is c.in_ok-edits-in-Line.ensures.ends) in
-    let quiet = counts_then None (view pages) (view mid) (view taken) inv.faults (counts_taken view g.P.Streams.read_faults g.P.Streams.send_faults g.met.P.PageWorld.beside_read_faults g.met.P.PageWorld.beside_send_faults mid taken kept (next.quiet (λ is. cc)) c.next.ensures.send_faults) in
+    let quiet = counts_then None (view pages) (view mid) (view taken) inv.faults (counts_kept view g.P.Streams.read_faults g.P.Streams.send_faults g.met.P.PageWorld.beside_read_faults g.met.P.PageWorld.beside_send_faults mid taken kept (next.quiet (λ is. cc)) c.next.ensures.send_faults) in
     record {
       usable = c.in_ok-edits-in-Line.ensures.usable;
       counted = c.in_ok-edits-in-Line.ensures.counted;
@@ -528,8 +520,6 @@ lines-preserved-in-Some g c =
       serves = serves_then (told_in pages) (told_in taken) (told_in new) (view pages) (view taken) (view new) (serves_then (told_in pages) (told_in mid) (told_in taken) (view pages) (view mid) (view taken) inv.serves (serves_disk (told_in mid) (told_in taken) (view mid) (view taken) kept (g.met.P.PageWorld.take_told mid taken takes) (g.met.P.PageWorld.take_was_told mid taken takes))) made.serves;
       goes_on = goes_then (g.P.Pages.under pages) (g.P.Pages.under taken) (g.P.Pages.under new) (goes_then (g.P.Pages.under pages) (g.P.Pages.under mid) (g.P.Pages.under taken) inv.goes_on (g.met.P.PageWorld.take_goes_on mid taken takes)) made.goes_on;
       total_is = made.total ∙ ap (λ (s : Superblock). s.total) beside.store_is.superblock ∙ inv.total_is;
-      read_faults = omega (arith, next.read_faults, inv.read_faults, made.read_faults);
-      send_faults = omega (arith, next.send_faults, inv.send_faults, made.send_faults);
     }
 
 pub returns-in_err-answer_edits-in-Some : goal.returns-in_err-answer_edits-in-Some
@@ -567,9 +557,8 @@ returns-in_err-answer_edits-in-Some g c =
     let few : length all ≤ most_ahead = omega (arith, most, spelled_length all edits spells) in
     let told_in = g.P.Pages.told in
     let sends = g.P.Streams.send_faults in
-    let Low : ℕ → Type 0 = λ n. sends pages ≤ n in
     let it = c.answer_edits.new.service in
-    let quiet = counts_then None (view pages) (view mid) (view taken) inv.faults (counts_taken view g.P.Streams.read_faults g.P.Streams.send_faults g.met.P.PageWorld.beside_read_faults g.met.P.PageWorld.beside_send_faults mid taken kept (next.quiet (λ is. cc)) c.next.ensures.send_faults) in
+    let quiet = counts_then None (view pages) (view mid) (view taken) inv.faults (counts_kept view g.P.Streams.read_faults g.P.Streams.send_faults g.met.P.PageWorld.beside_read_faults g.met.P.PageWorld.beside_send_faults mid taken kept (next.quiet (λ is. cc)) c.next.ensures.send_faults) in
     record {
       done = λ total book told stands. on_err c.from_residual-in_err-answer_edits-in-Some.result _ _ c.from_residual-in_err-answer_edits-in-Some.ensures.1;
       within = on_err c.from_residual-in_err-answer_edits-in-Some.result _ _ c.from_residual-in_err-answer_edits-in-Some.ensures.1;
@@ -588,8 +577,8 @@ returns-in_err-answer_edits-in-Some g c =
           let told' = g.met.P.PageWorld.take_told mid taken takes (inv.serves.told told) in
           read_edits_stop o total book own (view pages).reads c.lines.lines r (g.P.Streams.left mid) (g.P.Streams.left taken) all (view taken).reads (view new).reads passed (view taken).image c.next.new.from.sessions edits far spells most (made.reads total far.book told' far.stands);
       read = λ fault. absurd (c.in_err-answer_edits-in-Some.ensures.read (sym (error_is c.from_residual-in_err-answer_edits-in-Some.result c.in_err-answer_edits-in-Some.field-0.0 c.from_residual-in_err-answer_edits-in-Some.ensures.1) ∙ fault));
-      send = λ fault. risen_since (sends pages) (sends taken) (sends new) (subst Low (sym c.next.ensures.send_faults) c.lines.invariant.send_faults) (c.in_err-answer_edits-in-Some.ensures.send (sym (error_is c.from_residual-in_err-answer_edits-in-Some.result c.in_err-answer_edits-in-Some.field-0.0 c.from_residual-in_err-answer_edits-in-Some.ensures.1) ∙ fault));
-      disk = λ is. risen_since (view pages).faults (view taken).faults (view new).faults (omega (arith, inv.serves.faults, kept.faults)) (c.in_err-answer_edits-in-Some.ensures.disk (sym (error_is c.from_residual-in_err-answer_edits-in-Some.result c.in_err-answer_edits-in-Some.field-0.0 c.from_residual-in_err-answer_edits-in-Some.ensures.1) ∙ is));
+      send = λ fault. risen_since (sends pages) (sends taken) (sends new) (count_stays view (λ counts. counts.send) sends g.met.P.PageWorld.beside_send_faults pages taken quiet) (c.in_err-answer_edits-in-Some.ensures.send (sym (error_is c.from_residual-in_err-answer_edits-in-Some.result c.in_err-answer_edits-in-Some.field-0.0 c.from_residual-in_err-answer_edits-in-Some.ensures.1) ∙ fault));
+      disk = λ is. risen_since (view pages).faults (view taken).faults (view new).faults (disk_stays (view pages) (view taken) quiet) (c.in_err-answer_edits-in-Some.ensures.disk (sym (error_is c.from_residual-in_err-answer_edits-in-Some.result c.in_err-answer_edits-in-Some.field-0.0 c.from_residual-in_err-answer_edits-in-Some.ensures.1) ∙ is));
       syncs = λ total book told stands.
           let told' = g.met.P.PageWorld.take_told mid taken takes (inv.serves.told told) in
           sync_stop o total book (view pages).syncs (g.P.Streams.pieces pages) c.lines.lines m r (g.P.Streams.left mid) (g.P.Streams.left taken) edits all (view mid).image (view mid).syncs (view new).syncs (g.P.Streams.pieces mid) (g.P.Streams.pieces new) gives group passed spells
@@ -628,7 +617,7 @@ returns-in_err-edits-in-Line g c =
     let told_in = g.P.Pages.told in
     let residual = c.from_residual-in_err-edits-in-Line.ensures.1 in
     let result = c.from_residual-in_err-edits-in-Line.result in
-    let quiet = counts_then None (view pages) (view mid) (view taken) inv.faults (counts_taken view g.P.Streams.read_faults g.P.Streams.send_faults g.met.P.PageWorld.beside_read_faults g.met.P.PageWorld.beside_send_faults mid taken kept (c.in_ok-next.ensures.quiet (λ is. cc)) c.next.ensures.send_faults) in
+    let quiet = counts_then None (view pages) (view mid) (view taken) inv.faults (counts_kept view g.P.Streams.read_faults g.P.Streams.send_faults g.met.P.PageWorld.beside_read_faults g.met.P.PageWorld.beside_send_faults mid taken kept (c.in_ok-next.ensures.quiet (λ is. cc)) c.next.ensures.send_faults) in
     record {
       done = λ total book told stands. on_err result _ _ residual;
       within = on_err result _ _ residual;

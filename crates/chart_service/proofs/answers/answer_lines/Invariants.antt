@@ -43,8 +43,6 @@ invariant-lines g l =
       serves : Serves (told first) (told pages) (view first) (view pages);
       goes_on : GoesOn (g.P.Pages.under first) (g.P.Pages.under pages);
       total_is : shown.total l.service ≡ shown.total l.initial.service;
-      read_faults : g.P.Streams.read_faults first ≤ g.P.Streams.read_faults pages;
-      send_faults : g.P.Streams.send_faults first ≤ g.P.Streams.send_faults pages;
     }
 
 abbrev pub decreases-lines : goal.decreases-lines

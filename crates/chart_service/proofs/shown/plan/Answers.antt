@@ -33,7 +33,7 @@ returns-in_err-plan-clause-refused g c =
     let P : PlanError → Type 0 = RefusesView (session_of c.args.number c.args.sessions.now) old new in
     error_so (λ (e : PlanError). e ≡ c.in_err-plan.field-0.0) P c.from_residual.result c.from_residual.ensures.1
     (λ e is. subst P (sym is)
-    (plan_refused (session_of c.args.number c.args.sessions.now) old mid new c.args.axis c.args.spec.now.grid _ _ c.in_err-plan.field-0.0 first c.shown_range.ensures.faults c.in_err-plan.ensures.refused))
+    (plan_refused (session_of c.args.number c.args.sessions.now) old mid new c.args.axis c.args.spec.now.grid _ _ c.in_err-plan.field-0.0 first c.in-Ok.ensures.quiet c.in_err-plan.ensures.refused))
 
 pub returns-in_err-plan-clause-counted : goal.returns-in_err-plan-clause-counted
 returns-in_err-plan-clause-counted g c = λ list agrees.

@@ -12,7 +12,7 @@ use Rattle.demo_workload.specs.Replying.{IsPartWay}
 use Rattle.demo_workload.proofs.Rounds.{few_requests}
 use Rattle.demo_workload.proofs.Replies.{starts, nothing_done, next_reaches, reaches_more, reached_part, reached_all, next_part, accepted_none, accepted_more}
 use Rattle.demo_workload.proofs.Knowing.{knows_none}
-use Rattle.demo_workload.proofs.Moved.{runs_none, runs_on, moments_more, given_some, given_none, ok_err, one_fewer}
+use Rattle.demo_workload.proofs.Moved.{runs_none, runs_on, moments_more, cause_on, given_some, given_none, ok_err, one_fewer}
 use Rattle.demo_workload.proofs.running.run_workload.Goals as goal
 
 pub returns-in_default-clause-left : goal.returns-in_default-clause-left
@@ -99,6 +99,11 @@ requests-preserved g c =
           c.requests.invariant.goes_on c.in-Ok-answered.ensures.goes_on;
       total = c.in-Ok-answered.ensures.total ∙ c.requests.invariant.total;
     }
+
+pub returns-in-Err-clause-cause : goal.returns-in-Err-clause-cause
+returns-in-Err-clause-cause g c =
+    let new = c.answer-answered.new.service in
+    cause_on c.in-Err.end c.requests.client (shown.IsTold new) (shown.view c.args.service.now) (shown.view c.requests.service) (shown.view new) c.requests.invariant.accepted c.requests.invariant.faults c.in-Err.ensures.cause
 
 pub returns-in-Err-clause-faults : goal.returns-in-Err-clause-faults
 returns-in-Err-clause-faults g c =

@@ -11,7 +11,7 @@ use Rattle.series_store.specs.Shown as shown
 use Rattle.derive_command.proofs.DoingLemmas.{causes_later, chart_cause, goes_further, goes_looks, goes_sends, request_drawn, request_refused, request_undrawn, sent_cause}
 use Rattle.derive_command.proofs.FaultLemmas.{end_fault}
 use Rattle.store_commands.specs.Faulting.{counts_told}
-use Rattle.store_commands.specs.Sides.{side_of}
+use Rattle.store_commands.specs.Sides.{AreBeside, side_of}
 use Rattle.derive_command.specs.Doing.{derive_fault, end_at}
 use Rattle.derive_command.specs.declared.derive_end.DeriveEnd.{DeriveEnd}
 use Rattle.derive_command.proofs.answering.answer_request.Goals as goal
@@ -81,11 +81,11 @@ returns-in-Ok-chart-clause-cause g c =
     let looks = c.chart_of_sum-chart.ensures.looks in
     let made = c.send_picture-answer.ensures in
     let pm = shown.pages mid in
-    causes_later (side first) (side mid) (side new) c.send_picture-answer.result
-    (goes_looks (side first) (side mid) (shown.numbers first) (shown.numbers mid) first.catalog mid.catalog
-    (record { reads_are = w.beside_read_faults (shown.pages first); sends_are = w.beside_send_faults (shown.pages first) })
-    (record { reads_are = w.beside_read_faults pm; sends_are = w.beside_send_faults pm })
-    (ap (λ (s : Superblock). s.total)) looks)
+    let was : AreBeside (shown.view first) (side first).read_faults (side first).send_faults = record { reads_are = w.beside_read_faults (shown.pages first); sends_are = w.beside_send_faults (shown.pages first) } in
+    let are : AreBeside (shown.view mid) (side mid).read_faults (side mid).send_faults = record { reads_are = w.beside_read_faults pm; sends_are = w.beside_send_faults pm } in
+    let P : Result Canvas SumError → Type 0 = λ r. CountsFault (fault_in sum_fault r) (shown.view first) (shown.view mid) in
+    causes_later (side first) (side mid) (side new) was are (subst P c.in-Ok-chart.is c.chart_of_sum-chart.ensures.faults) c.send_picture-answer.result
+    (goes_looks (side first) (side mid) (shown.numbers first) (shown.numbers mid) first.catalog mid.catalog was are (ap (λ (s : Superblock). s.total)) looks)
     (sent_cause (side mid) (side new) (picture c.in-Ok-chart.chart) (sent pm) (sent (shown.pages new)) c.send_picture-answer.result made.stops made.cause)
 
 pub returns-in-Ok-chart-clause-left : goal.returns-in-Ok-chart-clause-left

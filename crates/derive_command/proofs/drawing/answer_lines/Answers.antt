@@ -1,5 +1,6 @@
 use Rattle.std.proofs.Common.{◌≡◌, ◌∙◌, ℕ, List, Option, None, Some, Ok, Err, IsTrue, ◌^◌, length, refl, ap, sym, subst, arith}
-use Rattle.chart_world.specs.FaultLaws.{counts_then}
+use Rattle.chart_service.proofs.DiskKept.{risen_since}
+use Rattle.chart_world.specs.FaultLaws.{counts_then, counts_kept, takes_stay}
 use Rattle.chart_world.specs.Faults.{CountsFault, fault_in}
 use Rattle.chart_world.specs.FrontLaws.{gives_by, read_whole, same_line}
 use Rattle.chart_world.specs.Fronts.{Gives}
@@ -7,10 +8,9 @@ use Rattle.chart_world.specs.StandsLaws.{stands_beside, stands_first}
 use Rattle.chart_world.specs.Reading.{Reading, input_length, unread}
 use Rattle.page_space.specs.declared.superblock.Superblock.{Superblock}
 use Rattle.series_store.specs.Shown as shown
-use Rattle.derive_command.proofs.DoingLemmas.{cause_later, goes_further, goes_nowhere, goes_takes}
+use Rattle.derive_command.proofs.DoingLemmas.{cause_later, goes_further, goes_nowhere, goes_takes, line_fault_cause}
 use Rattle.derive_command.proofs.FaultLemmas.{line_failed}
 use Rattle.derive_command.proofs.EndLemmas.{Far, all_on, far_first, far_kept, far_line, fault_on, line_stops, long_on}
-use Rattle.store_commands.specs.Faulting.{counts_kept}
 use Rattle.store_commands.specs.Sides.{side_of}
 use Rattle.derive_command.specs.Doing.{DoesLine, derive_fault, end_of}
 use Rattle.derive_command.specs.Shown.{StopSo}
@@ -159,7 +159,23 @@ returns-in-Err-answer-clause-cause g c =
     let takes = beside.pages_are in
     let goes = goes_further (side c.args.store) (side c.lines.store) (side c.next.new.from) c.lines.invariant.goes (goes_takes (side c.lines.store) (side c.next.new.from) (w.take_keeps mid taken takes) (w.take_passes mid taken takes) (w.take_told mid taken takes) (w.take_was_told mid taken takes) (w.take_goes_on mid taken takes) (ap (λ (s : Superblock). s.total) beside.superblock) c.next.ensures.read_faults (omega (arith, c.next.ensures.send_faults))) in
     let D : _ → Type 0 = λ r. Rattle.std.specs.Prelude.IfErr {E = DeriveEnd} r (λ e. Rattle.derive_command.specs.Doing.IsCause e (side c.next.new.from) (side c.answer_line-answer.result.1)) in
-    cause_later (side c.args.store) (side c.next.new.from) (side c.answer_line-answer.result.1) c.in-Err-answer.end goes (subst D c.in-Err-answer.is c.answer_line-answer.ensures.cause)
+    let first = shown.pages c.args.store in
+    let view = g.P.Pages.view in
+    let quiet = counts_then None (view first) (view mid) (view taken) c.lines.invariant.faults (counts_kept view g.P.Streams.read_faults g.P.Streams.send_faults w.beside_read_faults w.beside_send_faults mid taken (w.take_keeps mid taken takes) (c.in-Ok.ensures.quiet (λ same. cc)) c.next.ensures.send_faults) in
+    cause_later (side c.args.store) (side c.next.new.from) (side c.answer_line-answer.result.1) (record { reads_are = w.beside_read_faults first; sends_are = w.beside_send_faults first })
+    (record { reads_are = w.beside_read_faults taken; sends_are = w.beside_send_faults taken }) quiet c.in-Err-answer.end goes (subst D c.in-Err-answer.is c.answer_line-answer.ensures.cause)
+
+pub returns-in-Err-clause-cause : goal.returns-in-Err-clause-cause
+returns-in-Err-clause-cause g c =
+    let view = g.P.Pages.view in
+    let reads = g.P.Streams.read_faults in
+    let side = side_of g.P.Streams in
+    let first = shown.pages c.args.store in
+    let mid = shown.pages c.lines.store in
+    let w = g.met.P.PageWorld in
+    let same = sym (w.beside_read_faults mid) ∙ takes_stay (view first) (view mid) c.lines.invariant.faults ∙ w.beside_read_faults first in
+    line_fault_cause (side c.args.store) (side c.next.new.from) c.in-Err.fault c.end_of.result c.end_of.ensures
+    (λ is. risen_since (reads first) (reads mid) (reads (shown.pages c.next.new.from)) same (c.in-Err.ensures.read_fault (ap Err is)))
 
 pub lines-preserved : goal.lines-preserved
 lines-preserved g c =

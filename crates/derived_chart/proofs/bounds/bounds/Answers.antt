@@ -21,7 +21,7 @@ returns-in_err-y-clause-goes g c = g.met.T.TwoTrees.goes_on _ _ _ c.in_ok-x.ensu
 pub returns-in_err-y-clause-cause : goal.returns-in_err-y-clause-cause
 returns-in_err-y-clause-cause g c =
     passed_on c.from_residual-in_err-y.result c.in_err-y.field-0.0 (g.T.TwoTrees.causes c.args.trees.now c.span_in-2.new.trees) c.from_residual-in_err-y.ensures.1
-    (g.met.T.TwoTrees.causes_behind _ _ _ _ (g.met.T.TwoTrees.goes_on _ _ _ c.in_ok-x.ensures.goes c.slots_of_second-count.ensures.goes) c.in_err-y.ensures.cause)
+    (g.met.T.TwoTrees.causes_behind _ _ _ _ (g.met.T.TwoTrees.goes_on _ _ _ c.in_ok-x.ensures.goes c.slots_of_second-count.ensures.goes) (c.slots_of_second-count.ensures.quiet ∙ c.in_ok-x.ensures.quiet) c.in_err-y.ensures.cause)
 
 pub returns-in_default-2-clause-between : goal.returns-in_default-2-clause-between
 returns-in_default-2-clause-between g c = λ xs ys sums trees are.

@@ -18,4 +18,4 @@ returns-clause-goes g c = g.met.T.TwoTrees.goes_on _ _ _ c.turn.ensures.goes (g.
 pub returns-clause-cause : goal.returns-clause-cause
 returns-clause-cause g c =
     IfErr-weaker c.range_span.result (HasCause (g.T.Nodes.view c.turn.new.self) (g.T.Nodes.view c.range_span.new.nodes)) (g.T.TwoTrees.causes c.args.trees.now c.range_span.new.nodes)
-    (λ e has. g.met.T.TwoTrees.causes_behind _ _ _ e c.turn.ensures.goes (g.met.T.TwoTrees.asks_cause _ _ e c.range_span.ensures.kept has)) c.range_span.ensures.cause
+    (λ e has. g.met.T.TwoTrees.causes_behind _ _ _ e c.turn.ensures.goes c.turn.ensures.quiet (g.met.T.TwoTrees.asks_cause _ _ e c.range_span.ensures.kept has)) c.range_span.ensures.cause

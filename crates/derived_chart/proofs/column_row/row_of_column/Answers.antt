@@ -1,4 +1,4 @@
-use Rattle.std.proofs.Common.{arith, false, subst}
+use Rattle.std.proofs.Common.{arith, false, subst, ◌∙◌}
 use Rattle.om3_coeff.specs.Walks.{IsFirstStored}
 use Rattle.derived_chart.proofs.SumLemmas.{passed_on}
 use Rattle.derived_chart.proofs.column_row.row_of_column.Goals as goal
@@ -41,14 +41,14 @@ returns-in_err-greatest-clause-goes g c = g.met.T.TwoTrees.goes_on _ _ _ c.in_ok
 pub returns-in_err-last-clause-cause : goal.returns-in_err-last-clause-cause
 returns-in_err-last-clause-cause g c =
     passed_on c.from_residual-in_err-last.result c.in_err-last.field-0.0 (g.T.TwoTrees.causes c.args.trees.now c.last_sum.new.trees) c.from_residual-in_err-last.ensures.1
-    (g.met.T.TwoTrees.causes_behind _ _ _ c.in_err-last.field-0.0 c.in_ok-first.ensures.goes c.in_err-last.ensures.cause)
+    (g.met.T.TwoTrees.causes_behind _ _ _ c.in_err-last.field-0.0 c.in_ok-first.ensures.goes c.in_ok-first.ensures.quiet c.in_err-last.ensures.cause)
 
 pub returns-in_err-greatest-clause-cause : goal.returns-in_err-greatest-clause-cause
 returns-in_err-greatest-clause-cause g c =
     passed_on c.from_residual-in_err-greatest.result c.in_err-greatest.field-0.0 (g.T.TwoTrees.causes c.args.trees.now c.best_sum-2.new.trees) c.from_residual-in_err-greatest.ensures.1
-    (g.met.T.TwoTrees.causes_behind _ _ _ c.in_err-greatest.field-0.0 (g.met.T.TwoTrees.goes_on _ _ _ c.in_ok-first.ensures.goes (g.met.T.TwoTrees.goes_on _ _ _ c.in_ok-last.ensures.goes c.in_ok-least.ensures.goes)) c.in_err-greatest.ensures.cause)
+    (g.met.T.TwoTrees.causes_behind _ _ _ c.in_err-greatest.field-0.0 (g.met.T.TwoTrees.goes_on _ _ _ c.in_ok-first.ensures.goes (g.met.T.TwoTrees.goes_on _ _ _ c.in_ok-last.ensures.goes c.in_ok-least.ensures.goes)) (c.in_ok-least.ensures.quiet ∙ c.in_ok-last.ensures.quiet ∙ c.in_ok-first.ensures.quiet) c.in_err-greatest.ensures.cause)
 
 pub returns-in_err-least-clause-cause : goal.returns-in_err-least-clause-cause
 returns-in_err-least-clause-cause g c =
     passed_on c.from_residual-in_err-least.result c.in_err-least.field-0.0 (g.T.TwoTrees.causes c.args.trees.now c.best_sum.new.trees) c.from_residual-in_err-least.ensures.1
-    (g.met.T.TwoTrees.causes_behind _ _ _ c.in_err-least.field-0.0 (g.met.T.TwoTrees.goes_on _ _ _ c.in_ok-first.ensures.goes c.in_ok-last.ensures.goes) c.in_err-least.ensures.cause)
+    (g.met.T.TwoTrees.causes_behind _ _ _ c.in_err-least.field-0.0 (g.met.T.TwoTrees.goes_on _ _ _ c.in_ok-first.ensures.goes c.in_ok-last.ensures.goes) (c.in_ok-last.ensures.quiet ∙ c.in_ok-first.ensures.quiet) c.in_err-least.ensures.cause)

@@ -1,4 +1,4 @@
-use Rattle.std.proofs.Common.{false, rules, arith, subst}
+use Rattle.std.proofs.Common.{false, rules, arith, subst, ◌∙◌}
 use Rattle.std.proofs.lemmas.Result.{IfOk-weaker, IfErr-weaker}
 use Rattle.derived_chart.specs.Searches.{IsEndOf}
 use Rattle.derived_chart.proofs.SumLemmas.{value_between, passed_on}
@@ -47,7 +47,7 @@ returns-in_err-found-clause-goes g t c = g.met.T.TwoTrees.goes_on _ _ _ c.in_ok-
 pub returns-in_err-found-clause-cause : goal.returns-in_err-found-clause-cause
 returns-in_err-found-clause-cause g t c =
     passed_on c.from_residual-in_err-found.result c.in_err-found.field-0.0 (g.T.TwoTrees.causes c.args.trees.now c.end_from.new.trees) c.from_residual-in_err-found.ensures.1
-    (g.met.T.TwoTrees.causes_behind _ _ _ c.in_err-found.field-0.0 c.in_ok-range.ensures.goes c.in_err-found.ensures.cause)
+    (g.met.T.TwoTrees.causes_behind _ _ _ c.in_err-found.field-0.0 c.in_ok-range.ensures.goes c.in_ok-range.ensures.quiet c.in_err-found.ensures.cause)
 
 pub returns-in-Some-2-clause-goes : goal.returns-in-Some-2-clause-goes
 returns-in-Some-2-clause-goes g t c = g.met.T.TwoTrees.goes_on _ _ _ c.in_ok-range.ensures.goes c.in_ok-found.ensures.goes
@@ -58,4 +58,4 @@ returns-in-None-clause-goes g t c = g.met.T.TwoTrees.goes_on _ _ _ c.in_ok-range
 pub returns-in-None-clause-cause : goal.returns-in-None-clause-cause
 returns-in-None-clause-cause g t c =
     IfErr-weaker c.end_from-in-None.result (g.T.TwoTrees.causes c.end_from.new.trees c.end_from-in-None.new.trees) (g.T.TwoTrees.causes c.args.trees.now c.end_from-in-None.new.trees)
-    (λ e. g.met.T.TwoTrees.causes_behind _ _ _ e (g.met.T.TwoTrees.goes_on _ _ _ c.in_ok-range.ensures.goes c.in_ok-found.ensures.goes)) c.end_from-in-None.ensures.cause
+    (λ e. g.met.T.TwoTrees.causes_behind _ _ _ e (g.met.T.TwoTrees.goes_on _ _ _ c.in_ok-range.ensures.goes c.in_ok-found.ensures.goes) (c.in_ok-found.ensures.quiet ∙ c.in_ok-range.ensures.quiet)) c.end_from-in-None.ensures.cause

@@ -51,7 +51,7 @@ pub returns-in_err-rows-clause-cause : goal.returns-in_err-rows-clause-cause
 returns-in_err-rows-clause-cause g c =
     passed_error c.from_residual-in_err-rows.result c.in_err-rows.field-0.0 (IsCause (g.T.TwoTrees.causes c.args.trees.now c.rows_of_columns.new.trees)) c.from_residual-in_err-rows.ensures.1
     (later_cause (g.T.TwoTrees.causes c.first_large_sum.new.trees c.rows_of_columns.new.trees) (g.T.TwoTrees.causes c.args.trees.now c.rows_of_columns.new.trees) c.in_err-rows.field-0.0
-    (λ n. g.met.T.TwoTrees.causes_behind _ _ _ n (g.met.T.TwoTrees.goes_on _ _ _ c.slots_of_first-slots.ensures.goes c.in_ok-large.ensures.goes)) c.in_err-rows.ensures.cause)
+    (λ n. g.met.T.TwoTrees.causes_behind _ _ _ n (g.met.T.TwoTrees.goes_on _ _ _ c.slots_of_first-slots.ensures.goes c.in_ok-large.ensures.goes) (c.in_ok-large.ensures.quiet ∙ c.slots_of_first-slots.ensures.quiet)) c.in_err-rows.ensures.cause)
 
 pub returns-clause-drawable : goal.returns-clause-drawable
 returns-clause-drawable g c = let P : List Row → Type 0 = λ rows. All (IsDrawable c.args.grid.w) rows in subst P (sym c.from_vec.ensures) c.in_ok-rows.ensures.shown.drawable
@@ -74,4 +74,4 @@ returns-in-Some-clause-goes g c = g.met.T.TwoTrees.goes_on _ _ _ c.slots_of_firs
 pub returns-in_err-large-clause-cause : goal.returns-in_err-large-clause-cause
 returns-in_err-large-clause-cause g c =
     passed_error c.from_residual.result (Node c.in_err-large.field-0.0) (IsCause (g.T.TwoTrees.causes c.args.trees.now c.first_large_sum.new.trees)) c.from_residual.ensures.1
-    (g.met.T.TwoTrees.causes_behind _ _ _ c.in_err-large.field-0.0 c.slots_of_first-slots.ensures.goes c.in_err-large.ensures.cause)
+    (g.met.T.TwoTrees.causes_behind _ _ _ c.in_err-large.field-0.0 c.slots_of_first-slots.ensures.goes c.slots_of_first-slots.ensures.quiet c.in_err-large.ensures.cause)

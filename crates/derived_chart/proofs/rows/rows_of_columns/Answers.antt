@@ -38,7 +38,7 @@ pub returns-in_err-add_column-clause-cause : goal.returns-in_err-add_column-clau
 returns-in_err-add_column-clause-cause g c =
     passed_error c.from_residual-in_err-add_column.result c.in_err-add_column.field-0.0 (IsRowCause (g.T.TwoTrees.causes c.args.trees.now c.add_column.new.trees)) c.from_residual-in_err-add_column.ensures.1
     (row_cause (g.T.TwoTrees.causes c.loop-column.trees c.add_column.new.trees) (g.T.TwoTrees.causes c.args.trees.now c.add_column.new.trees) c.in_err-add_column.field-0.0
-    (λ n. g.met.T.TwoTrees.causes_behind _ _ _ n c.loop-column.invariant.goes) c.in_err-add_column.ensures.cause)
+    (λ n. g.met.T.TwoTrees.causes_behind _ _ _ n c.loop-column.invariant.goes c.loop-column.invariant.quiet) c.in_err-add_column.ensures.cause)
 
 pub returns-clause-shown : goal.returns-clause-shown
 returns-clause-shown g c =

@@ -1,4 +1,4 @@
-use Rattle.std.proofs.Common.{rules, arith, false, ◌+◌, ◌-◌, ◌/◌}
+use Rattle.std.proofs.Common.{rules, arith, false, ◌+◌, ◌-◌, ◌/◌, ◌∙◌}
 use Rattle.std.proofs.lemmas.Result.{IfOk-weaker, IfErr-weaker}
 use Rattle.derived_chart.specs.Searches.{IsBestWith}
 use Rattle.derived_chart.proofs.BestLemmas.{best_worse, best_left, best_right}
@@ -39,7 +39,7 @@ returns-then-is_second_better-clause-goes g t c =
 pub returns-then-is_second_better-clause-cause : goal.returns-then-is_second_better-clause-cause
 returns-then-is_second_better-clause-cause g t c =
     IfErr-weaker c.best_from-then-is_second_better.result (g.T.TwoTrees.causes c.best_from.new.trees c.best_from-then-is_second_better.new.trees) (g.T.TwoTrees.causes c.args.trees.now c.best_from-then-is_second_better.new.trees)
-    (λ e. g.met.T.TwoTrees.causes_behind _ _ _ e (g.met.T.TwoTrees.goes_on _ _ _ c.in_ok-left.ensures.goes (g.met.T.TwoTrees.goes_on _ _ _ c.in_ok-right.ensures.goes c.in_ok-first.ensures.goes))) c.best_from-then-is_second_better.ensures.cause
+    (λ e. g.met.T.TwoTrees.causes_behind _ _ _ e (g.met.T.TwoTrees.goes_on _ _ _ c.in_ok-left.ensures.goes (g.met.T.TwoTrees.goes_on _ _ _ c.in_ok-right.ensures.goes c.in_ok-first.ensures.goes)) (c.in_ok-first.ensures.quiet ∙ c.in_ok-right.ensures.quiet ∙ c.in_ok-left.ensures.quiet)) c.best_from-then-is_second_better.ensures.cause
 
 pub best_from-requires-3 : goal.best_from-requires-3
 best_from-requires-3 g t c κs within =
@@ -71,7 +71,7 @@ returns-clause-goes g t c =
 pub returns-clause-cause : goal.returns-clause-cause
 returns-clause-cause g t c =
     IfErr-weaker c.best_from-3.result (g.T.TwoTrees.causes c.best_from-2.new.trees c.best_from-3.new.trees) (g.T.TwoTrees.causes c.args.trees.now c.best_from-3.new.trees)
-    (λ e. g.met.T.TwoTrees.causes_behind _ _ _ e (g.met.T.TwoTrees.goes_on _ _ _ c.in_ok-left.ensures.goes (g.met.T.TwoTrees.goes_on _ _ _ c.in_ok-right.ensures.goes c.in_ok-first-2.ensures.goes))) c.best_from-3.ensures.cause
+    (λ e. g.met.T.TwoTrees.causes_behind _ _ _ e (g.met.T.TwoTrees.goes_on _ _ _ c.in_ok-left.ensures.goes (g.met.T.TwoTrees.goes_on _ _ _ c.in_ok-right.ensures.goes c.in_ok-first-2.ensures.goes)) (c.in_ok-first-2.ensures.quiet ∙ c.in_ok-right.ensures.quiet ∙ c.in_ok-left.ensures.quiet)) c.best_from-3.ensures.cause
 
 pub bounds-requires-2-clause-within : goal.bounds-requires-2-clause-within
 bounds-requires-2-clause-within g t c = omega (arith, c.requires.within, g.met.T.TwoTrees.still_count false _ _ c.in_ok-left.ensures.goes)
@@ -82,7 +82,7 @@ returns-in_err-right-clause-goes g t c = g.met.T.TwoTrees.goes_on _ _ _ c.in_ok-
 pub returns-in_err-right-clause-cause : goal.returns-in_err-right-clause-cause
 returns-in_err-right-clause-cause g t c =
     passed_on c.from_residual-in_err-right.result c.in_err-right.field-0.0 (g.T.TwoTrees.causes c.args.trees.now c.bounds-2.new.trees) c.from_residual-in_err-right.ensures.1
-    (g.met.T.TwoTrees.causes_behind _ _ _ c.in_err-right.field-0.0 c.in_ok-left.ensures.goes c.in_err-right.ensures.cause)
+    (g.met.T.TwoTrees.causes_behind _ _ _ c.in_err-right.field-0.0 c.in_ok-left.ensures.goes c.in_ok-left.ensures.quiet c.in_err-right.ensures.cause)
 
 pub returns-in_err-first-clause-goes : goal.returns-in_err-first-clause-goes
 returns-in_err-first-clause-goes g t c = g.met.T.TwoTrees.goes_on _ _ _ c.in_ok-left.ensures.goes (g.met.T.TwoTrees.goes_on _ _ _ c.in_ok-right.ensures.goes c.in_err-first.ensures.goes)
@@ -90,7 +90,7 @@ returns-in_err-first-clause-goes g t c = g.met.T.TwoTrees.goes_on _ _ _ c.in_ok-
 pub returns-in_err-first-clause-cause : goal.returns-in_err-first-clause-cause
 returns-in_err-first-clause-cause g t c =
     passed_on c.from_residual-in_err-first.result c.in_err-first.field-0.0 (g.T.TwoTrees.causes c.args.trees.now c.best_from.new.trees) c.from_residual-in_err-first.ensures.1
-    (g.met.T.TwoTrees.causes_behind _ _ _ c.in_err-first.field-0.0 (g.met.T.TwoTrees.goes_on _ _ _ c.in_ok-left.ensures.goes c.in_ok-right.ensures.goes) c.in_err-first.ensures.cause)
+    (g.met.T.TwoTrees.causes_behind _ _ _ c.in_err-first.field-0.0 (g.met.T.TwoTrees.goes_on _ _ _ c.in_ok-left.ensures.goes c.in_ok-right.ensures.goes) (c.in_ok-right.ensures.quiet ∙ c.in_ok-left.ensures.quiet) c.in_err-first.ensures.cause)
 
 pub returns-in_err-first-2-clause-goes : goal.returns-in_err-first-2-clause-goes
 returns-in_err-first-2-clause-goes g t c = g.met.T.TwoTrees.goes_on _ _ _ c.in_ok-left.ensures.goes (g.met.T.TwoTrees.goes_on _ _ _ c.in_ok-right.ensures.goes c.in_err-first-2.ensures.goes)
@@ -98,4 +98,4 @@ returns-in_err-first-2-clause-goes g t c = g.met.T.TwoTrees.goes_on _ _ _ c.in_o
 pub returns-in_err-first-2-clause-cause : goal.returns-in_err-first-2-clause-cause
 returns-in_err-first-2-clause-cause g t c =
     passed_on c.from_residual-in_err-first-2.result c.in_err-first-2.field-0.0 (g.T.TwoTrees.causes c.args.trees.now c.best_from-2.new.trees) c.from_residual-in_err-first-2.ensures.1
-    (g.met.T.TwoTrees.causes_behind _ _ _ c.in_err-first-2.field-0.0 (g.met.T.TwoTrees.goes_on _ _ _ c.in_ok-left.ensures.goes c.in_ok-right.ensures.goes) c.in_err-first-2.ensures.cause)
+    (g.met.T.TwoTrees.causes_behind _ _ _ c.in_err-first-2.field-0.0 (g.met.T.TwoTrees.goes_on _ _ _ c.in_ok-left.ensures.goes c.in_ok-right.ensures.goes) (c.in_ok-right.ensures.quiet ∙ c.in_ok-left.ensures.quiet) c.in_err-first-2.ensures.cause)

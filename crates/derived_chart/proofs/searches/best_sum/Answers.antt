@@ -15,4 +15,4 @@ returns-clause-goes g c = g.met.T.TwoTrees.goes_on _ _ _ c.in_ok-range.ensures.g
 
 pub returns-clause-cause : goal.returns-clause-cause
 returns-clause-cause g c = IfErr-weaker c.best_from.result (g.T.TwoTrees.causes c.bounds.new.trees c.best_from.new.trees) (g.T.TwoTrees.causes c.args.trees.now c.best_from.new.trees)
-    (λ e. g.met.T.TwoTrees.causes_behind _ _ _ e c.in_ok-range.ensures.goes) c.best_from.ensures.cause
+    (λ e. g.met.T.TwoTrees.causes_behind _ _ _ e c.in_ok-range.ensures.goes c.in_ok-range.ensures.quiet) c.best_from.ensures.cause

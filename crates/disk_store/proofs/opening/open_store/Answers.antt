@@ -82,7 +82,7 @@ returns-in-Err-open-clause-cause g c =
     subst P (sym c.into_disk.ensures.disk) (subst Q (sym c.store_cause.ensures)
     (store_prevents c.in-Err-open.field-0.cause (page_count old.size) near.count back.count near.sound back.sound old (view near.disk) (view back.disk) (u.size ∙ e.count) refl e.large so_far.honest
     (same_near (page_count old.size) pages.count near.count pages.sound near.sound old (view pages.disk) (view near.disk) e.count e.moments e.moves e.pages u c.upgrade.ensures.goes_on c.in-Ok-upgrade.ensures.done)
-    so_far.faults c.in-Err-open.ensures.place c.in-Err-open.ensures.cause))
+    (c.in-Ok-upgrade.ensures.quiet ∙ e.quiet) c.in-Err-open.ensures.place c.in-Err-open.ensures.cause))
 
 pub returns-in-Err-open-clause-a_store : goal.returns-in-Err-open-clause-a_store
 returns-in-Err-open-clause-a_store g c = λ total book honest recovers.
@@ -139,7 +139,7 @@ returns-in-Err-upgrade-clause-cause g c =
     let P : g.row.D.Denot → Type 0 = λ disk. Prevents c.upgrade_cause.result old (view disk) in
     let Q : OpeningCause → Type 0 = λ cause. Prevents cause old (view near.disk) in
     subst P (sym c.into_disk-in-Err-upgrade.ensures.disk) (subst Q (sym c.upgrade_cause.ensures)
-    (upgrade_prevents c.in-Err-upgrade.cause (page_count old.size) pages.count near.count pages.sound near.sound old (view pages.disk) (view near.disk) e.count refl e.large e.moves.honest e.pages e.moves.faults c.in-Err-upgrade.ensures.place c.in-Err-upgrade.ensures.cause))
+    (upgrade_prevents c.in-Err-upgrade.cause (page_count old.size) pages.count near.count pages.sound near.sound old (view pages.disk) (view near.disk) e.count refl e.large e.moves.honest e.pages e.quiet c.in-Err-upgrade.ensures.place c.in-Err-upgrade.ensures.cause))
 
 pub returns-in-Err-upgrade-clause-a_store : goal.returns-in-Err-upgrade-clause-a_store
 returns-in-Err-upgrade-clause-a_store g c = λ total book honest recovers.

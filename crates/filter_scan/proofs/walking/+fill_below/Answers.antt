@@ -1,4 +1,4 @@
-use Rattle.std.proofs.Common.{rules, arith, refl, ◌≤◌}
+use Rattle.std.proofs.Common.{rules, arith, refl, ◌≤◌, ◌∙◌}
 use Rattle.om3_coeff.specs.Keys.{left_of, right_of}
 use Rattle.om3_coeff.specs.View.{Agrees, StaysSame, HasCause}
 use Rattle.om3_coeff.proofs.WalkLemmas.{key_small, go_to, ask_at, ask_left, still_agrees, both_below_at, right_follows_at}
@@ -100,7 +100,7 @@ returns-in_err-fill_below-in-Part-2-clause-cause g t c =
     (cause_before (g.N.Nodes.view c.args.nodes.now) (g.N.Nodes.view c.fill_below.new.nodes) (g.N.Nodes.view c.fill_below-in-Part.new.nodes) c.in_err-fill_below-in-Part-2.field-0.0
     (g.met.N.Nodes.keeps_same c.args.nodes.now c.fill_below.new.nodes
     (g.met.N.Nodes.keeps_on c.args.nodes.now c.ask.new.nodes c.fill_below.new.nodes c.in_ok-left-in-Part.ensures.kept c.in_ok-fill_below-in-Part.ensures.kept))
-    (omega (arith, c.in_ok-left-in-Part.ensures.faults, c.in_ok-fill_below-in-Part.ensures.faults)) c.in_err-fill_below-in-Part-2.ensures.cause)
+    (c.in_ok-fill_below-in-Part.ensures.quiet ∙ c.in_ok-left-in-Part.ensures.quiet) c.in_err-fill_below-in-Part-2.ensures.cause)
 
 pub returns-in_ok-fill_below-in-Part-2-clause-kept : goal.returns-in_ok-fill_below-in-Part-2-clause-kept
 returns-in_ok-fill_below-in-Part-2-clause-kept g t c =

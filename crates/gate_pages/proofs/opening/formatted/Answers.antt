@@ -1,5 +1,5 @@
 use Rattle.std.proofs.lemmas.Result.{err_from_is_err_and}
-use Rattle.std.proofs.Common.{inl, inr, arith}
+use Rattle.std.proofs.Common.{◌∙◌, inl, inr, arith}
 use Rattle.block_disk.specs.View.{Nowhere, At}
 use Rattle.gate_pages.proofs.Moving.{moves_then, moves_weaker, moves_among}
 use Rattle.gate_pages.proofs.opening.formatted.Goals as goal
@@ -18,8 +18,8 @@ returns-in-Err-clause-moves g c =
 
 pub returns-in-Err-clause-cause : goal.returns-in-Err-clause-cause
 returns-in-Err-clause-cause g c = elim c.in-Err.ensures.cause [
-  | inl risen ↦ inl (omega (arith, risen, c.pages_on.ensures.moves.faults))
-  | inr last ↦ inr last
+  | inl risen ↦ inl (omega (arith, risen, c.in_ok-count.ensures.quiet))
+  | inr last ↦ inr (omega (arith, last.0, c.in_ok-count.ensures.quiet), last.1 ∙ c.in_ok-count.ensures.quiet)
 ]
 
 pub returns-in_err-count-clause-moves : goal.returns-in_err-count-clause-moves

@@ -11,7 +11,7 @@ use Rattle.gate_pages.proofs.opening.opened.Goals as goal
 pub returns-in-Err-clause-cause : goal.returns-in-Err-clause-cause
 returns-in-Err-clause-cause g c =
     let view = g.D.Disk.view in
-    explains_back (view c.args.disk.now) (view c.pages_on.new.disk) (view c.recover.new.disk) c.pages_on.ensures.moves c.in-Err.cause c.in-Err.ensures.cause
+    explains_back (view c.args.disk.now) (view c.pages_on.new.disk) (view c.recover.new.disk) c.pages_on.ensures.moves c.in_ok-count.ensures.quiet c.in-Err.cause c.in-Err.ensures.cause
 
 pub returns-in-Err-clause-left : goal.returns-in-Err-clause-left
 returns-in-Err-clause-left g c =

@@ -27,7 +27,7 @@ returns-in-Ok-clause-ends g c =
     let new = c.serve_store-answer.result.1 in
     let beside = c.in-Ok.ensures.opens.beside_is in
     let w = g.met.W.World in
-    let s = served_on opened.count (view old) (view start) (view new) (left start) (left old) (left new) (sent start) (sent old) (sent new) (reads start) (reads old) (reads new) (sends start) (sends old) (sends new) c.serve_store-answer.result.0 c.in-Ok.ensures.count c.in-Ok.ensures.opens
+    let s = served_on opened.count (view old) (view start) (view new) (left start) (left old) (left new) (sent start) (sent old) (sent new) (reads start) (reads old) (reads new) (sends start) (sends old) (sends new) c.serve_store-answer.result.0 c.in-Ok.ensures.count c.in-Ok.ensures.opens c.in-Ok.ensures.quiet
     (sym (w.beside_left start) ∙ ap (λ (b : Beside). b.left) beside ∙ w.beside_left old)
     (sym (w.beside_sent start) ∙ ap (λ (b : Beside). b.sent) beside ∙ w.beside_sent old)
     (sym (w.beside_read_faults start) ∙ ap (λ (b : Beside). b.read_faults) beside ∙ w.beside_read_faults old)

@@ -13,9 +13,9 @@ use Rattle.live_command.proofs.RunLemmas.{Far, all_on, far_first, far_kept, far_
 use Rattle.live_command.specs.Doing.{held_by, side_of}
 use Rattle.live_command.specs.Shown.{StopSo, pages}
 use Rattle.chart_service.specs.Faulting.{serve_fault}
-use Rattle.chart_world.specs.FaultLaws.{counts_then}
+use Rattle.chart_world.specs.FaultLaws.{counts_then, counts_kept}
 use Rattle.chart_service.proofs.Faulting.{counts_lines}
-use Rattle.store_commands.specs.Faulting.{counts_kept, counts_told}
+use Rattle.store_commands.specs.Faulting.{counts_told}
 use Rattle.live_command.proofs.FaultLemmas.{same_fault}
 use Rattle.live_command.proofs.serving.answer_lines.Goals as goal
 
@@ -251,26 +251,15 @@ returns-in-Err-refuse_line-clause-goes g c =
 pub returns-in-Err-refuse_line-clause-cause : goal.returns-in-Err-refuse_line-clause-cause
 returns-in-Err-refuse_line-clause-cause g c =
     let view = g.P.Pages.view in
-    let left = g.P.Streams.left in
-    let sent = g.P.Streams.sent in
-    let start = c.args.live.now in
-    let first = pages start in
+    let first = pages c.args.live.now in
     let mid = pages c.lines.live in
     let taken = pages c.next.new.from in
-    let new = pages c.refuse_line.new.live in
     let w = g.met.P.PageWorld in
-    let inv = c.lines.invariant in
-    let e = c.in-Ok.ensures in
-    let beside = c.next.ensures.beside in
-    let takes = beside.changed.store_is.pages_are in
-    let kept = w.take_keeps mid taken takes in
-    let same = held_same _ _ _ _ _ _ beside.changed.sessions beside.followed_same beside.pending_same in
-    let line : Option (List ℕ) = None in
-    let gives : Gives c.lines.lines c.next.new.self (left mid) (left taken) line =
-    gives_by c.lines.lines c.next.new.self (left mid) (left taken) line (e.too_long (ap Ok c.in-TooLong.is)) e.rest inv.counted e.given e.total in
     let side = side_of g.P.Streams in
-    let goes = goes_further (side start) (side c.lines.live) (side c.next.new.from) inv.goes (goes_streams (side c.lines.live) (side c.next.new.from) kept (w.take_told mid taken takes) (w.take_was_told mid taken takes) (w.take_goes_on mid taken takes) c.next.ensures.read_faults (omega (arith, c.next.ensures.send_faults))) in
-    cause_later (side start) (side c.next.new.from) (side c.refuse_line.new.live) c.in-Err-refuse_line.end goes c.in-Err-refuse_line.ensures.cause
+    let kept = w.take_keeps mid taken c.next.ensures.beside.changed.store_is.pages_are in
+    let next = counts_kept view g.P.Streams.read_faults g.P.Streams.send_faults w.beside_read_faults w.beside_send_faults mid taken kept (c.in-Ok.ensures.quiet (λ is. cc)) c.next.ensures.send_faults in
+    cause_later (side c.args.live.now) (side c.next.new.from) (side c.refuse_line.new.live) c.in-Err-refuse_line.end (record { reads_are = w.beside_read_faults first; sends_are = w.beside_send_faults first }) (record { reads_are = w.beside_read_faults taken; sends_are = w.beside_send_faults taken })
+    (counts_then None (view first) (view mid) (view taken) c.lines.invariant.faults next) c.in-Err-refuse_line.ensures.cause
 
 pub lines-preserved : goal.lines-preserved
 lines-preserved g c =
@@ -413,27 +402,15 @@ returns-in-Err-answer_line-clause-goes g c =
 pub returns-in-Err-answer_line-clause-cause : goal.returns-in-Err-answer_line-clause-cause
 returns-in-Err-answer_line-clause-cause g c =
     let view = g.P.Pages.view in
-    let left = g.P.Streams.left in
-    let sent = g.P.Streams.sent in
-    let start = c.args.live.now in
-    let first = pages start in
+    let first = pages c.args.live.now in
     let mid = pages c.lines.live in
     let taken = pages c.next.new.from in
-    let new = pages c.answer_line.new.live in
     let w = g.met.P.PageWorld in
-    let inv = c.lines.invariant in
-    let e = c.in-Ok.ensures in
-    let beside = c.next.ensures.beside in
-    let takes = beside.changed.store_is.pages_are in
-    let kept = w.take_keeps mid taken takes in
-    let same = held_same _ _ _ _ _ _ beside.changed.sessions beside.followed_same beside.pending_same in
-    let text = c.line.result.now in
-    let gives : Gives c.lines.lines c.next.new.self (left mid) (left taken) (Some text) =
-    gives_by c.lines.lines c.next.new.self (left mid) (left taken) (Some text) (same_line _ _ text c.next.new.self.line c.line.ensures.line (e.line (ap Ok c.in-Line.is))) e.rest inv.counted e.given e.total in
-    let line : Option (List ℕ) = Some text in
     let side = side_of g.P.Streams in
-    let goes = goes_further (side start) (side c.lines.live) (side c.next.new.from) inv.goes (goes_streams (side c.lines.live) (side c.next.new.from) kept (w.take_told mid taken takes) (w.take_was_told mid taken takes) (w.take_goes_on mid taken takes) c.next.ensures.read_faults (omega (arith, c.next.ensures.send_faults))) in
-    cause_later (side start) (side c.next.new.from) (side c.answer_line.new.live) c.in-Err-answer_line.end goes c.in-Err-answer_line.ensures.cause
+    let kept = w.take_keeps mid taken c.next.ensures.beside.changed.store_is.pages_are in
+    let next = counts_kept view g.P.Streams.read_faults g.P.Streams.send_faults w.beside_read_faults w.beside_send_faults mid taken kept (c.in-Ok.ensures.quiet (λ is. cc)) c.next.ensures.send_faults in
+    cause_later (side c.args.live.now) (side c.next.new.from) (side c.answer_line.new.live) c.in-Err-answer_line.end (record { reads_are = w.beside_read_faults first; sends_are = w.beside_send_faults first }) (record { reads_are = w.beside_read_faults taken; sends_are = w.beside_send_faults taken })
+    (counts_then None (view first) (view mid) (view taken) c.lines.invariant.faults next) c.in-Err-answer_line.ensures.cause
 
 pub returns-in-Err-clause-reads : goal.returns-in-Err-clause-reads
 returns-in-Err-clause-reads g c = λ total book told stands.

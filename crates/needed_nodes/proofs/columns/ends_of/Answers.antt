@@ -76,7 +76,7 @@ pub returns-in_err-back-clause-cause : goal.returns-in_err-back-clause-cause
 returns-in_err-back-clause-cause g c =
     err_cause _ _ c.in_err-back.field-0.0 c.from_residual-in_err-back.ensures.1
     (cause_earlier (g.N.Nodes.view c.args.nodes.now) (g.N.Nodes.view c.follow-2.new.nodes) (g.N.Nodes.view c.follow-3.new.nodes) c.args.window.now c.in_err-back.field-0.0
-    (g.met.N.Nodes.keeps_same c.args.nodes.now c.follow-2.new.nodes c.in_ok-front.ensures.kept) c.in_ok-front.ensures.faults c.in_err-back.ensures.cause)
+    (g.met.N.Nodes.keeps_same c.args.nodes.now c.follow-2.new.nodes c.in_ok-front.ensures.kept) c.in_ok-front.ensures.quiet c.in_err-back.ensures.cause)
 
 pub returns-in_err-back-clause-reads : goal.returns-in_err-back-clause-reads
 returns-in_err-back-clause-reads g c =

@@ -70,7 +70,7 @@ pub returns-in_err-add_column-clause-cause : goal.returns-in_err-add_column-clau
 returns-in_err-add_column-clause-cause g c =
     err_cause _ _ c.in_err-add_column.field-0.0 c.from_residual.ensures.1
     (cause_earlier (g.N.Nodes.view c.args.nodes.now) (g.N.Nodes.view c.loop-column.nodes) (g.N.Nodes.view c.add_column.new.nodes) c.args.window.now c.in_err-add_column.field-0.0
-    (g.met.N.Nodes.keeps_same c.args.nodes.now c.loop-column.nodes c.loop-column.invariant.kept) c.loop-column.invariant.faults c.in_err-add_column.ensures.cause)
+    (g.met.N.Nodes.keeps_same c.args.nodes.now c.loop-column.nodes c.loop-column.invariant.kept) c.loop-column.invariant.quiet c.in_err-add_column.ensures.cause)
 
 pub loop-column-preserved : goal.loop-column-preserved
 loop-column-preserved g c = record {

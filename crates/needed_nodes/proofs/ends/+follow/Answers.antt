@@ -143,7 +143,7 @@ returns-in_err-front-clause-reads g t c =
 pub returns-in_err-front-clause-cause : goal.returns-in_err-front-clause-cause
 returns-in_err-front-clause-cause g t c =
     err_cause _ _ c.in_err-front.field-0.0 c.from_residual-in_err-front.ensures.1
-    (cause_earlier (g.N.Nodes.view c.args.nodes.now) (g.N.Nodes.view c.ask.new.nodes) (g.N.Nodes.view c.follow.new.nodes) c.args.window.now c.in_err-front.field-0.0 (g.met.N.Nodes.keeps_same c.args.nodes.now c.ask.new.nodes c.in_ok-node.ensures.kept) c.in_ok-node.ensures.faults c.in_err-front.ensures.cause)
+    (cause_earlier (g.N.Nodes.view c.args.nodes.now) (g.N.Nodes.view c.ask.new.nodes) (g.N.Nodes.view c.follow.new.nodes) c.args.window.now c.in_err-front.field-0.0 (g.met.N.Nodes.keeps_same c.args.nodes.now c.ask.new.nodes c.in_ok-node.ensures.kept) c.in_ok-node.ensures.quiet c.in_err-front.ensures.cause)
 
 pub returns-in_err-back-clause-few_reads : goal.returns-in_err-back-clause-few_reads
 returns-in_err-back-clause-few_reads g t c =
@@ -162,7 +162,7 @@ returns-in_err-back-clause-cause g t c =
     err_cause _ _ c.in_err-back.field-0.0 c.from_residual-in_err-back.ensures.1
     (cause_earlier (g.N.Nodes.view c.args.nodes.now) (g.N.Nodes.view c.follow.new.nodes) (g.N.Nodes.view c.follow-2.new.nodes) c.args.window.now c.in_err-back.field-0.0 (g.met.N.Nodes.keeps_same c.args.nodes.now c.follow.new.nodes
     (g.met.N.Nodes.keeps_on c.args.nodes.now c.ask.new.nodes c.follow.new.nodes c.in_ok-node.ensures.kept c.in_ok-front.ensures.kept))
-    (omega (arith, c.in_ok-node.ensures.faults, c.in_ok-front.ensures.faults)) c.in_err-back.ensures.cause)
+    (c.in_ok-front.ensures.quiet ∙ c.in_ok-node.ensures.quiet) c.in_err-back.ensures.cause)
 
 pub returns-clause-few_reads : goal.returns-clause-few_reads
 returns-clause-few_reads g t c =

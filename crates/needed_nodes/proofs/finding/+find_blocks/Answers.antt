@@ -1,4 +1,4 @@
-use Rattle.std.proofs.Common.{rules, ◌≤◌, arith}
+use Rattle.std.proofs.Common.{rules, ◌≤◌, ◌∙◌, arith}
 use Rattle.om3_coeff.specs.Keys.{left_of, right_of}
 use Rattle.om3_coeff.specs.View.{StaysSame}
 use Rattle.om3_coeff.proofs.WalkLemmas.{key_small, ask_at, ask_left, right_follows_at}
@@ -96,14 +96,14 @@ pub returns-in_err-find_blocks-in-Cut-clause-cause : goal.returns-in_err-find_bl
 returns-in_err-find_blocks-in-Cut-clause-cause g t c =
     err_cause _ _ c.in_err-find_blocks-in-Cut.field-0.0 c.from_residual-in_err-find_blocks-in-Cut.ensures.1
     (cause_earlier (g.N.Nodes.view c.args.nodes.now) (g.N.Nodes.view c.ask.new.nodes) (g.N.Nodes.view c.find_blocks.new.nodes) c.args.window.now c.in_err-find_blocks-in-Cut.field-0.0 (g.met.N.Nodes.keeps_same c.args.nodes.now c.ask.new.nodes c.in_ok-node-in-Cut.ensures.kept)
-    c.in_ok-node-in-Cut.ensures.faults c.in_err-find_blocks-in-Cut.ensures.cause)
+    c.in_ok-node-in-Cut.ensures.quiet c.in_err-find_blocks-in-Cut.ensures.cause)
 
 pub returns-in_err-find_blocks-in-Cut-2-clause-cause : goal.returns-in_err-find_blocks-in-Cut-2-clause-cause
 returns-in_err-find_blocks-in-Cut-2-clause-cause g t c =
     err_cause _ _ c.in_err-find_blocks-in-Cut-2.field-0.0 c.from_residual-in_err-find_blocks-in-Cut-2.ensures.1
     (cause_earlier (g.N.Nodes.view c.args.nodes.now) (g.N.Nodes.view c.find_blocks.new.nodes) (g.N.Nodes.view c.find_blocks-in-Cut.new.nodes) c.args.window.now c.in_err-find_blocks-in-Cut-2.field-0.0 (g.met.N.Nodes.keeps_same c.args.nodes.now c.find_blocks.new.nodes
     (g.met.N.Nodes.keeps_on c.args.nodes.now c.ask.new.nodes c.find_blocks.new.nodes c.in_ok-node-in-Cut.ensures.kept c.in_ok-find_blocks-in-Cut.ensures.kept))
-    (omega (arith, c.in_ok-node-in-Cut.ensures.faults, c.in_ok-find_blocks-in-Cut.ensures.faults)) c.in_err-find_blocks-in-Cut-2.ensures.cause)
+    (c.in_ok-find_blocks-in-Cut.ensures.quiet ∙ c.in_ok-node-in-Cut.ensures.quiet) c.in_err-find_blocks-in-Cut-2.ensures.cause)
 
 pub returns-in_err-node-in-Cut-clause-reads : goal.returns-in_err-node-in-Cut-clause-reads
 returns-in_err-node-in-Cut-clause-reads g t c =

@@ -77,5 +77,5 @@ pub returns-clause-cause : goal.returns-clause-cause
 returns-clause-cause g c =
     IfErr-weaker c.rows_of_columns.result _ _
     (λ e h. cause_earlier (g.N.Nodes.view c.args.nodes.now) (g.N.Nodes.view c.find_blocks.new.nodes) (g.N.Nodes.view c.rows_of_columns.new.nodes) c.args.window.now e
-    (g.met.N.Nodes.keeps_same c.args.nodes.now c.find_blocks.new.nodes c.in_ok-find_blocks.ensures.kept) c.in_ok-find_blocks.ensures.faults h)
+    (g.met.N.Nodes.keeps_same c.args.nodes.now c.find_blocks.new.nodes c.in_ok-find_blocks.ensures.kept) c.in_ok-find_blocks.ensures.quiet h)
     c.rows_of_columns.ensures.cause

@@ -1,4 +1,4 @@
-use Rattle.std.proofs.Common.{rules, arith, ℕ, ℤ, ◌≤◌, ◌+◌, subst, refl, inr}
+use Rattle.std.proofs.Common.{rules, arith, ℕ, ℤ, ◌≤◌, ◌+◌, ◌∙◌, subst, refl, inr}
 use Rattle.std.proofs.lemmas.Result.{IfOk-weaker, IfErr-weaker}
 use Rattle.std.specs.Prelude.{Option, IfSome, IfNone, IsSome, max, min}
 use Rattle.om3_coeff.specs.declared.key.Key.{Key}
@@ -165,7 +165,7 @@ pub returns-in_err-found-clause-cause : goal.returns-in_err-found-clause-cause
 returns-in_err-found-clause-cause g t c =
     let same = g.met.N.Nodes.keeps_same c.args.nodes.now c.ask.new.nodes c.in_ok-left.ensures.kept in
     passed_on c.from_residual-in_err-found.result c.in_err-found.field-0.0 (HasCause (g.N.Nodes.view c.args.nodes.now) (g.N.Nodes.view c.first_below.new.nodes)) c.from_residual-in_err-found.ensures.1
-    (later_cause (g.N.Nodes.view c.args.nodes.now) (g.N.Nodes.view c.ask.new.nodes) (g.N.Nodes.view c.first_below.new.nodes) c.in_err-found.field-0.0 same c.in_ok-left.ensures.faults c.in_err-found.ensures.cause)
+    (later_cause (g.N.Nodes.view c.args.nodes.now) (g.N.Nodes.view c.ask.new.nodes) (g.N.Nodes.view c.first_below.new.nodes) c.in_err-found.field-0.0 same c.in_ok-left.ensures.quiet c.in_err-found.ensures.cause)
 
 pub returns-in-Some-2-clause-kept : goal.returns-in-Some-2-clause-kept
 returns-in-Some-2-clause-kept g t c = g.met.N.Nodes.keeps_on c.args.nodes.now c.ask.new.nodes c.first_below.new.nodes c.in_ok-left.ensures.kept c.in_ok-found.ensures.kept
@@ -186,5 +186,5 @@ returns-in-None-clause-cause g t c =
     let same = g.met.N.Nodes.keeps_same c.args.nodes.now c.first_below.new.nodes
     (g.met.N.Nodes.keeps_on c.args.nodes.now c.ask.new.nodes c.first_below.new.nodes c.in_ok-left.ensures.kept c.in_ok-found.ensures.kept) in
     IfErr-weaker c.first_below-in-None.result (HasCause (g.N.Nodes.view c.first_below.new.nodes) (g.N.Nodes.view c.first_below-in-None.new.nodes)) (HasCause (g.N.Nodes.view c.args.nodes.now) (g.N.Nodes.view c.first_below-in-None.new.nodes))
-    (λ e. later_cause (g.N.Nodes.view c.args.nodes.now) (g.N.Nodes.view c.first_below.new.nodes) (g.N.Nodes.view c.first_below-in-None.new.nodes) e same (omega (arith, c.in_ok-left.ensures.faults, c.in_ok-found.ensures.faults)))
+    (λ e. later_cause (g.N.Nodes.view c.args.nodes.now) (g.N.Nodes.view c.first_below.new.nodes) (g.N.Nodes.view c.first_below-in-None.new.nodes) e same (c.in_ok-found.ensures.quiet ∙ c.in_ok-left.ensures.quiet))
     c.first_below-in-None.ensures.cause

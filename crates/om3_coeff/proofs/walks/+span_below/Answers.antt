@@ -122,7 +122,7 @@ pub returns-in_err-first-in-Cut-clause-cause : goal.returns-in_err-first-in-Cut-
 returns-in_err-first-in-Cut-clause-cause g t c =
     let same = g.met.N.Nodes.keeps_same c.args.nodes.now c.ask.new.nodes c.in_ok-left-in-Cut.ensures.kept in
     passed_on c.from_residual-in_err-first-in-Cut.result c.in_err-first-in-Cut.field-0.0 (HasCause (g.N.Nodes.view c.args.nodes.now) (g.N.Nodes.view c.span_below.new.nodes)) c.from_residual-in_err-first-in-Cut.ensures.1
-    (later_cause (g.N.Nodes.view c.args.nodes.now) (g.N.Nodes.view c.ask.new.nodes) (g.N.Nodes.view c.span_below.new.nodes) c.in_err-first-in-Cut.field-0.0 same c.in_ok-left-in-Cut.ensures.faults c.in_err-first-in-Cut.ensures.cause)
+    (later_cause (g.N.Nodes.view c.args.nodes.now) (g.N.Nodes.view c.ask.new.nodes) (g.N.Nodes.view c.span_below.new.nodes) c.in_err-first-in-Cut.field-0.0 same c.in_ok-left-in-Cut.ensures.quiet c.in_err-first-in-Cut.ensures.cause)
 
 pub returns-in_err-second-in-Cut-clause-kept : goal.returns-in_err-second-in-Cut-clause-kept
 returns-in_err-second-in-Cut-clause-kept g t c =
@@ -137,7 +137,7 @@ returns-in_err-second-in-Cut-clause-cause g t c =
     let same = g.met.N.Nodes.keeps_same c.args.nodes.now c.span_below.new.nodes
     (g.met.N.Nodes.keeps_on c.args.nodes.now c.ask.new.nodes c.span_below.new.nodes c.in_ok-left-in-Cut.ensures.kept c.in_ok-first-in-Cut.ensures.kept) in
     passed_on c.from_residual-in_err-second-in-Cut.result c.in_err-second-in-Cut.field-0.0 (HasCause (g.N.Nodes.view c.args.nodes.now) (g.N.Nodes.view c.span_below-in-Cut.new.nodes)) c.from_residual-in_err-second-in-Cut.ensures.1
-    (later_cause (g.N.Nodes.view c.args.nodes.now) (g.N.Nodes.view c.span_below.new.nodes) (g.N.Nodes.view c.span_below-in-Cut.new.nodes) c.in_err-second-in-Cut.field-0.0 same (omega (arith, c.in_ok-left-in-Cut.ensures.faults, c.in_ok-first-in-Cut.ensures.faults)) c.in_err-second-in-Cut.ensures.cause)
+    (later_cause (g.N.Nodes.view c.args.nodes.now) (g.N.Nodes.view c.span_below.new.nodes) (g.N.Nodes.view c.span_below-in-Cut.new.nodes) c.in_err-second-in-Cut.field-0.0 same (c.in_ok-first-in-Cut.ensures.quiet ∙ c.in_ok-left-in-Cut.ensures.quiet) c.in_err-second-in-Cut.ensures.cause)
 
 pub returns-in_ok-second-in-Cut-clause-kept : goal.returns-in_ok-second-in-Cut-clause-kept
 returns-in_ok-second-in-Cut-clause-kept g t c =

@@ -93,7 +93,7 @@ pub returns-then-slot-first-clause-cause : goal.returns-then-slot-first-clause-c
 returns-then-slot-first-clause-cause g t c =
     let same : StaysSame (g.N.Nodes.view c.args.nodes.now) (g.N.Nodes.view c.ask.new.nodes) = g.met.N.Nodes.keeps_same c.args.nodes.now c.ask.new.nodes c.in_ok-left.ensures.kept in
     IfErr-weaker c.value_below.result (HasCause (g.N.Nodes.view c.ask.new.nodes) (g.N.Nodes.view c.value_below.new.nodes)) (HasCause (g.N.Nodes.view c.args.nodes.now) (g.N.Nodes.view c.value_below.new.nodes))
-    (λ e. later_cause (g.N.Nodes.view c.args.nodes.now) (g.N.Nodes.view c.ask.new.nodes) (g.N.Nodes.view c.value_below.new.nodes) e same c.in_ok-left.ensures.faults) c.value_below.ensures.cause
+    (λ e. later_cause (g.N.Nodes.view c.args.nodes.now) (g.N.Nodes.view c.ask.new.nodes) (g.N.Nodes.view c.value_below.new.nodes) e same c.in_ok-left.ensures.quiet) c.value_below.ensures.cause
 
 pub returns-else-slot-first-clause-list : goal.returns-else-slot-first-clause-list
 returns-else-slot-first-clause-list g t c = λ list agrees.
@@ -110,4 +110,4 @@ pub returns-else-slot-first-clause-cause : goal.returns-else-slot-first-clause-c
 returns-else-slot-first-clause-cause g t c =
     let same : StaysSame (g.N.Nodes.view c.args.nodes.now) (g.N.Nodes.view c.ask.new.nodes) = g.met.N.Nodes.keeps_same c.args.nodes.now c.ask.new.nodes c.in_ok-left.ensures.kept in
     IfErr-weaker c.value_below-else-slot-first.result (HasCause (g.N.Nodes.view c.ask.new.nodes) (g.N.Nodes.view c.value_below-else-slot-first.new.nodes)) (HasCause (g.N.Nodes.view c.args.nodes.now) (g.N.Nodes.view c.value_below-else-slot-first.new.nodes))
-    (λ e. later_cause (g.N.Nodes.view c.args.nodes.now) (g.N.Nodes.view c.ask.new.nodes) (g.N.Nodes.view c.value_below-else-slot-first.new.nodes) e same c.in_ok-left.ensures.faults) c.value_below-else-slot-first.ensures.cause
+    (λ e. later_cause (g.N.Nodes.view c.args.nodes.now) (g.N.Nodes.view c.ask.new.nodes) (g.N.Nodes.view c.value_below-else-slot-first.new.nodes) e same c.in_ok-left.ensures.quiet) c.value_below-else-slot-first.ensures.cause

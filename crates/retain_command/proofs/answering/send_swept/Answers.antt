@@ -1,7 +1,7 @@
 use Rattle.std.proofs.Common.{length, arith}
+use Rattle.chart_world.specs.FaultLaws.{counts_kept, counts_unsent}
 use Rattle.series_store.specs.Shown as shown
 use Rattle.retain_command.specs.Answers.{swept_text}
-use Rattle.store_commands.specs.Faulting.{counts_kept, counts_unsent}
 use Rattle.retain_command.proofs.answering.send_swept.Goals as goal
 
 pub returns-in_default-clause-beside : goal.returns-in_default-clause-beside

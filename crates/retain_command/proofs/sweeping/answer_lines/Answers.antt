@@ -6,11 +6,11 @@ use Rattle.chart_world.specs.Reading.{Reading, input_length}
 use Rattle.chart_world.specs.declared.line_answer.LineFault.TheVariants as fault
 use Rattle.page_space.specs.declared.superblock.Superblock.{Superblock}
 use Rattle.series_store.specs.Shown as shown
-use Rattle.chart_world.specs.FaultLaws.{counts_then}
-use Rattle.store_commands.specs.Faulting.{counts_kept, counts_untaken}
+use Rattle.chart_service.proofs.DiskKept.{risen_since}
+use Rattle.chart_world.specs.FaultLaws.{counts_then, counts_kept, counts_untaken, takes_stay}
 use Rattle.retain_command.specs.Faults.{retain_fault}
 use Rattle.retain_command.proofs.Counting.{take_counts}
-use Rattle.retain_command.proofs.DoingLemmas.{cause_later, goes_further, goes_nowhere, goes_streams}
+use Rattle.retain_command.proofs.DoingLemmas.{cause_later, goes_further, goes_nowhere, goes_streams, line_fault_cause}
 use Rattle.retain_command.proofs.MomentLemmas.{all_on, far_first, far_kept, far_line, fault_on, lasts_on_first, lasts_on_line, lasts_on_take, line_stops, long_on}
 use Rattle.store_commands.specs.Sides.{side_of}
 use Rattle.retain_command.proofs.sweeping.answer_lines.Goals as goal
@@ -234,7 +234,23 @@ returns-in-Err-answer_line-clause-cause g c =
     let beside = c.next.ensures.beside in
     let takes = beside.pages_are in
     let goes = goes_further (side c.args.store.now) (side c.lines.store) (side c.next.new.from) c.lines.invariant.goes (goes_streams (side c.lines.store) (side c.next.new.from) (w.take_keeps mid taken takes) (w.take_told mid taken takes) (w.take_was_told mid taken takes) (w.take_goes_on mid taken takes) (ap (λ (s : Superblock). s.total) beside.superblock) c.next.ensures.read_faults (omega (arith, c.next.ensures.send_faults))) in
-    cause_later (side c.args.store.now) (side c.next.new.from) (side c.answer_line.new.store) c.in-Err-answer_line.end goes c.in-Err-answer_line.ensures.cause
+    let first = shown.pages c.args.store.now in
+    let view = g.P.Pages.view in
+    let quiet = counts_then None (view first) (view mid) (view taken) c.lines.invariant.quiet (counts_kept view g.P.Streams.read_faults g.P.Streams.send_faults w.beside_read_faults w.beside_send_faults mid taken (w.take_keeps mid taken takes) (c.in-Ok.ensures.quiet (λ no. cc)) c.next.ensures.send_faults) in
+    cause_later (side c.args.store.now) (side c.next.new.from) (side c.answer_line.new.store) (record { reads_are = w.beside_read_faults first; sends_are = w.beside_send_faults first })
+    (record { reads_are = w.beside_read_faults taken; sends_are = w.beside_send_faults taken }) quiet c.in-Err-answer_line.end goes c.in-Err-answer_line.ensures.cause
+
+pub returns-in-Err-clause-cause : goal.returns-in-Err-clause-cause
+returns-in-Err-clause-cause g c =
+    let view = g.P.Pages.view in
+    let reads = g.P.Streams.read_faults in
+    let side = side_of g.P.Streams in
+    let first = shown.pages c.args.store.now in
+    let mid = shown.pages c.lines.store in
+    let w = g.met.P.PageWorld in
+    let same = sym (w.beside_read_faults mid) ∙ takes_stay (view first) (view mid) c.lines.invariant.quiet ∙ w.beside_read_faults first in
+    line_fault_cause (side c.args.store.now) (side c.next.new.from) c.in-Err.fault c.end_of.result c.end_of.ensures
+    (λ is. risen_since (reads first) (reads mid) (reads (shown.pages c.next.new.from)) same (c.in-Err.ensures.read_fault (ap Err is)))
 
 pub returns-in-Err-clause-faults : goal.returns-in-Err-clause-faults
 returns-in-Err-clause-faults g c =

@@ -50,7 +50,7 @@ returns-in_err-read_page-clause-cause g c =
     let P : CatalogError → Type 0 = λ x. IsCatalogCause x (shown.IsTold c.loop-page.space) (shown.numbers c.loop-page.space) (shown.view c.loop-page.space) (shown.view c.read_page.new.space) in
     let Q : CatalogError → Type 0 = λ x. IsCatalogCause x (shown.IsTold c.args.space.now) (shown.numbers c.args.space.now) (shown.view c.args.space.now) (shown.view c.read_page.new.space) in
     error_so _ Q c.from_residual.result c.from_residual.ensures.1
-    (λ e is. cause_on (c.loop-page.page - 1) (shown.IsTold c.args.space.now) (shown.IsTold c.loop-page.space) (shown.view c.args.space.now) (shown.view c.loop-page.space) (shown.view c.read_page.new.space) (shown.numbers c.args.space.now) (shown.numbers c.loop-page.space) e c.loop-page.invariant.reads c.loop-page.invariant.superblock (subst P (sym is) c.in_err-read_page.ensures.cause))
+    (λ e is. cause_on (c.loop-page.page - 1) (shown.IsTold c.args.space.now) (shown.IsTold c.loop-page.space) (shown.view c.args.space.now) (shown.view c.loop-page.space) (shown.view c.read_page.new.space) (shown.numbers c.args.space.now) (shown.numbers c.loop-page.space) e c.loop-page.invariant.reads c.loop-page.invariant.same c.loop-page.invariant.superblock (subst P (sym is) c.in_err-read_page.ensures.cause))
 
 pub returns-in_err-read_page-clause-reads : goal.returns-in_err-read_page-clause-reads
 returns-in_err-read_page-clause-reads g c =

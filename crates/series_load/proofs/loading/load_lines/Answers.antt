@@ -4,7 +4,7 @@ use Rattle.series_catalog.specs.declared.catalog.Catalog.{Catalog}
 use Rattle.chart_world.specs.Reading.{Reading, unread, input_length}
 use Rattle.series_load.specs.Steps.{end_of}
 use Rattle.chart_world.specs.Faults.{fault_in}
-use Rattle.chart_world.specs.FaultLaws.{counts_none, counts_then}
+use Rattle.chart_world.specs.FaultLaws.{counts_none, counts_then, disk_stays, takes_stay}
 use Rattle.chart_world.specs.FrontLaws.{same_line}
 use Rattle.chart_world.specs.StandsLaws.{stands_beside, stands_first}
 use Rattle.chart_world.specs.declared.line_answer.LineFault.TheVariants as fault
@@ -64,7 +64,8 @@ returns-in_err-next-clause-goes g c = (goes_further (side_of g.P.Streams c.args.
 
 pub returns-in_err-next-clause-cause : goal.returns-in_err-next-clause-cause
 returns-in_err-next-clause-cause g c = fault_cause (shown.IsTold c.next.new.from) c.from_residual.result c.in_err-next.field-0.0 (shown.total c.args.store.now) (shown.view c.args.store.now) (shown.view c.next.new.from) (g.P.Streams.read_faults (shown.pages c.args.store.now)) (g.P.Streams.read_faults (shown.pages c.lines.store)) (g.P.Streams.read_faults (shown.pages c.next.new.from)) c.from_residual.ensures.1
-    c.lines.invariant.goes.reads (λ h. c.in_err-next.ensures.read_fault (ap Err h))
+    (sym (g.met.P.PageWorld.beside_read_faults (shown.pages c.lines.store)) ∙ takes_stay (shown.view c.args.store.now) (shown.view c.lines.store) c.lines.invariant.quiet ∙ g.met.P.PageWorld.beside_read_faults (shown.pages c.args.store.now))
+    (λ h. c.in_err-next.ensures.read_fault (ap Err h))
 
 pub returns-in_err-next-clause-faults : goal.returns-in_err-next-clause-faults
 returns-in_err-next-clause-faults g c =
@@ -105,8 +106,7 @@ returns-in-End-clause-goes g c = (goes_further (side_of g.P.Streams c.args.store
     (ap (λ (s : Superblock). s.total) c.next.ensures.beside.superblock) (ap (λ (k : Catalog). length (series_in k)) c.next.ensures.beside.catalog) c.next.ensures.sent c.next.ensures.read_faults c.next.ensures.send_faults c.next.ensures.pieces)) (goes_call (side_of g.P.Streams c.next.new.from) (side_of g.P.Streams c.finish.new.store) (record { left_is = g.met.P.PageWorld.beside_left (shown.pages c.next.new.from); sent_is = g.met.P.PageWorld.beside_sent (shown.pages c.next.new.from); reads_are = g.met.P.PageWorld.beside_read_faults (shown.pages c.next.new.from); sends_are = g.met.P.PageWorld.beside_send_faults (shown.pages c.next.new.from); pieces_are = g.met.P.PageWorld.beside_pieces (shown.pages c.next.new.from) }) (record { left_is = g.met.P.PageWorld.beside_left (shown.pages c.finish.new.store); sent_is = g.met.P.PageWorld.beside_sent (shown.pages c.finish.new.store); reads_are = g.met.P.PageWorld.beside_read_faults (shown.pages c.finish.new.store); sends_are = g.met.P.PageWorld.beside_send_faults (shown.pages c.finish.new.store); pieces_are = g.met.P.PageWorld.beside_pieces (shown.pages c.finish.new.store) }) c.finish.ensures.carries))
 
 pub returns-in-End-clause-cause : goal.returns-in-End-clause-cause
-returns-in-End-clause-cause g c = cause_so (shown.IsTold c.finish.new.store) c.finish.result (shown.total c.args.store.now) (shown.total c.next.new.from) (shown.view c.args.store.now) (shown.view c.next.new.from) (shown.view c.finish.new.store) (g.P.Streams.read_faults (shown.pages c.args.store.now)) (g.P.Streams.read_faults (shown.pages c.finish.new.store)) (goes_further (side_of g.P.Streams c.args.store.now) (side_of g.P.Streams c.lines.store) (side_of g.P.Streams c.next.new.from) c.lines.invariant.goes (goes_take (side_of g.P.Streams c.lines.store) (side_of g.P.Streams c.next.new.from) (g.met.P.PageWorld.take_keeps (shown.pages c.lines.store) (shown.pages c.next.new.from) c.next.ensures.beside.pages_are) (g.met.P.PageWorld.take_told (shown.pages c.lines.store) (shown.pages c.next.new.from) c.next.ensures.beside.pages_are) (g.met.P.PageWorld.take_was_told (shown.pages c.lines.store) (shown.pages c.next.new.from) c.next.ensures.beside.pages_are) (g.met.P.PageWorld.take_goes_on (shown.pages c.lines.store) (shown.pages c.next.new.from) c.next.ensures.beside.pages_are)
-    (ap (λ (s : Superblock). s.total) c.next.ensures.beside.superblock) (ap (λ (k : Catalog). length (series_in k)) c.next.ensures.beside.catalog) c.next.ensures.sent c.next.ensures.read_faults c.next.ensures.send_faults c.next.ensures.pieces)).faults (goes_further (side_of g.P.Streams c.args.store.now) (side_of g.P.Streams c.lines.store) (side_of g.P.Streams c.next.new.from) c.lines.invariant.goes (goes_take (side_of g.P.Streams c.lines.store) (side_of g.P.Streams c.next.new.from) (g.met.P.PageWorld.take_keeps (shown.pages c.lines.store) (shown.pages c.next.new.from) c.next.ensures.beside.pages_are) (g.met.P.PageWorld.take_told (shown.pages c.lines.store) (shown.pages c.next.new.from) c.next.ensures.beside.pages_are) (g.met.P.PageWorld.take_was_told (shown.pages c.lines.store) (shown.pages c.next.new.from) c.next.ensures.beside.pages_are) (g.met.P.PageWorld.take_goes_on (shown.pages c.lines.store) (shown.pages c.next.new.from) c.next.ensures.beside.pages_are)
+returns-in-End-clause-cause g c = cause_so (shown.IsTold c.finish.new.store) c.finish.result (shown.total c.args.store.now) (shown.total c.next.new.from) (shown.view c.args.store.now) (shown.view c.next.new.from) (shown.view c.finish.new.store) (g.P.Streams.read_faults (shown.pages c.args.store.now)) (g.P.Streams.read_faults (shown.pages c.finish.new.store)) ((g.met.P.PageWorld.take_keeps (shown.pages c.lines.store) (shown.pages c.next.new.from) c.next.ensures.beside.pages_are).faults ∙ disk_stays (shown.view c.args.store.now) (shown.view c.lines.store) c.lines.invariant.quiet) (goes_further (side_of g.P.Streams c.args.store.now) (side_of g.P.Streams c.lines.store) (side_of g.P.Streams c.next.new.from) c.lines.invariant.goes (goes_take (side_of g.P.Streams c.lines.store) (side_of g.P.Streams c.next.new.from) (g.met.P.PageWorld.take_keeps (shown.pages c.lines.store) (shown.pages c.next.new.from) c.next.ensures.beside.pages_are) (g.met.P.PageWorld.take_told (shown.pages c.lines.store) (shown.pages c.next.new.from) c.next.ensures.beside.pages_are) (g.met.P.PageWorld.take_was_told (shown.pages c.lines.store) (shown.pages c.next.new.from) c.next.ensures.beside.pages_are) (g.met.P.PageWorld.take_goes_on (shown.pages c.lines.store) (shown.pages c.next.new.from) c.next.ensures.beside.pages_are)
     (ap (λ (s : Superblock). s.total) c.next.ensures.beside.superblock) (ap (λ (k : Catalog). length (series_in k)) c.next.ensures.beside.catalog) c.next.ensures.sent c.next.ensures.read_faults c.next.ensures.send_faults c.next.ensures.pieces)).total_is c.finish.ensures.cause
 
 pub returns-in-End-clause-faults : goal.returns-in-End-clause-faults
@@ -152,8 +152,7 @@ returns-in-TooLong-clause-goes g c = (goes_further (side_of g.P.Streams c.args.s
     (ap (λ (s : Superblock). s.total) c.next.ensures.beside.superblock) (ap (λ (k : Catalog). length (series_in k)) c.next.ensures.beside.catalog) c.next.ensures.sent c.next.ensures.read_faults c.next.ensures.send_faults c.next.ensures.pieces)) (goes_call (side_of g.P.Streams c.next.new.from) (side_of g.P.Streams c.stop.new.store) (record { left_is = g.met.P.PageWorld.beside_left (shown.pages c.next.new.from); sent_is = g.met.P.PageWorld.beside_sent (shown.pages c.next.new.from); reads_are = g.met.P.PageWorld.beside_read_faults (shown.pages c.next.new.from); sends_are = g.met.P.PageWorld.beside_send_faults (shown.pages c.next.new.from); pieces_are = g.met.P.PageWorld.beside_pieces (shown.pages c.next.new.from) }) (record { left_is = g.met.P.PageWorld.beside_left (shown.pages c.stop.new.store); sent_is = g.met.P.PageWorld.beside_sent (shown.pages c.stop.new.store); reads_are = g.met.P.PageWorld.beside_read_faults (shown.pages c.stop.new.store); sends_are = g.met.P.PageWorld.beside_send_faults (shown.pages c.stop.new.store); pieces_are = g.met.P.PageWorld.beside_pieces (shown.pages c.stop.new.store) }) c.stop.ensures.carries))
 
 pub returns-in-TooLong-clause-cause : goal.returns-in-TooLong-clause-cause
-returns-in-TooLong-clause-cause g c = cause_so {T = ℕ} (shown.IsTold c.stop.new.store) (Err c.stop.result) (shown.total c.args.store.now) (shown.total c.next.new.from) (shown.view c.args.store.now) (shown.view c.next.new.from) (shown.view c.stop.new.store) (g.P.Streams.read_faults (shown.pages c.args.store.now)) (g.P.Streams.read_faults (shown.pages c.stop.new.store)) (goes_further (side_of g.P.Streams c.args.store.now) (side_of g.P.Streams c.lines.store) (side_of g.P.Streams c.next.new.from) c.lines.invariant.goes (goes_take (side_of g.P.Streams c.lines.store) (side_of g.P.Streams c.next.new.from) (g.met.P.PageWorld.take_keeps (shown.pages c.lines.store) (shown.pages c.next.new.from) c.next.ensures.beside.pages_are) (g.met.P.PageWorld.take_told (shown.pages c.lines.store) (shown.pages c.next.new.from) c.next.ensures.beside.pages_are) (g.met.P.PageWorld.take_was_told (shown.pages c.lines.store) (shown.pages c.next.new.from) c.next.ensures.beside.pages_are) (g.met.P.PageWorld.take_goes_on (shown.pages c.lines.store) (shown.pages c.next.new.from) c.next.ensures.beside.pages_are)
-    (ap (λ (s : Superblock). s.total) c.next.ensures.beside.superblock) (ap (λ (k : Catalog). length (series_in k)) c.next.ensures.beside.catalog) c.next.ensures.sent c.next.ensures.read_faults c.next.ensures.send_faults c.next.ensures.pieces)).faults (goes_further (side_of g.P.Streams c.args.store.now) (side_of g.P.Streams c.lines.store) (side_of g.P.Streams c.next.new.from) c.lines.invariant.goes (goes_take (side_of g.P.Streams c.lines.store) (side_of g.P.Streams c.next.new.from) (g.met.P.PageWorld.take_keeps (shown.pages c.lines.store) (shown.pages c.next.new.from) c.next.ensures.beside.pages_are) (g.met.P.PageWorld.take_told (shown.pages c.lines.store) (shown.pages c.next.new.from) c.next.ensures.beside.pages_are) (g.met.P.PageWorld.take_was_told (shown.pages c.lines.store) (shown.pages c.next.new.from) c.next.ensures.beside.pages_are) (g.met.P.PageWorld.take_goes_on (shown.pages c.lines.store) (shown.pages c.next.new.from) c.next.ensures.beside.pages_are)
+returns-in-TooLong-clause-cause g c = cause_so {T = ℕ} (shown.IsTold c.stop.new.store) (Err c.stop.result) (shown.total c.args.store.now) (shown.total c.next.new.from) (shown.view c.args.store.now) (shown.view c.next.new.from) (shown.view c.stop.new.store) (g.P.Streams.read_faults (shown.pages c.args.store.now)) (g.P.Streams.read_faults (shown.pages c.stop.new.store)) ((g.met.P.PageWorld.take_keeps (shown.pages c.lines.store) (shown.pages c.next.new.from) c.next.ensures.beside.pages_are).faults ∙ disk_stays (shown.view c.args.store.now) (shown.view c.lines.store) c.lines.invariant.quiet) (goes_further (side_of g.P.Streams c.args.store.now) (side_of g.P.Streams c.lines.store) (side_of g.P.Streams c.next.new.from) c.lines.invariant.goes (goes_take (side_of g.P.Streams c.lines.store) (side_of g.P.Streams c.next.new.from) (g.met.P.PageWorld.take_keeps (shown.pages c.lines.store) (shown.pages c.next.new.from) c.next.ensures.beside.pages_are) (g.met.P.PageWorld.take_told (shown.pages c.lines.store) (shown.pages c.next.new.from) c.next.ensures.beside.pages_are) (g.met.P.PageWorld.take_was_told (shown.pages c.lines.store) (shown.pages c.next.new.from) c.next.ensures.beside.pages_are) (g.met.P.PageWorld.take_goes_on (shown.pages c.lines.store) (shown.pages c.next.new.from) c.next.ensures.beside.pages_are)
     (ap (λ (s : Superblock). s.total) c.next.ensures.beside.superblock) (ap (λ (k : Catalog). length (series_in k)) c.next.ensures.beside.catalog) c.next.ensures.sent c.next.ensures.read_faults c.next.ensures.send_faults c.next.ensures.pieces)).total_is c.stop.ensures.cause
 
 pub returns-in-TooLong-clause-faults : goal.returns-in-TooLong-clause-faults
@@ -245,8 +244,7 @@ returns-in_err-take_line-in-Line-clause-goes g c = (goes_further (side_of g.P.St
 
 pub returns-in_err-take_line-in-Line-clause-cause : goal.returns-in_err-take_line-in-Line-clause-cause
 returns-in_err-take_line-in-Line-clause-cause g c = cause_on (shown.IsTold c.take_line.new.store) c.from_residual-in_err-take_line-in-Line.result c.in_err-take_line-in-Line.field-0.0 (shown.total c.args.store.now) (shown.total c.next.new.from) (shown.view c.args.store.now) (shown.view c.next.new.from) (shown.view c.take_line.new.store) (g.P.Streams.read_faults (shown.pages c.args.store.now)) (g.P.Streams.read_faults (shown.pages c.take_line.new.store)) c.from_residual-in_err-take_line-in-Line.ensures.1
-    (goes_further (side_of g.P.Streams c.args.store.now) (side_of g.P.Streams c.lines.store) (side_of g.P.Streams c.next.new.from) c.lines.invariant.goes (goes_take (side_of g.P.Streams c.lines.store) (side_of g.P.Streams c.next.new.from) (g.met.P.PageWorld.take_keeps (shown.pages c.lines.store) (shown.pages c.next.new.from) c.next.ensures.beside.pages_are) (g.met.P.PageWorld.take_told (shown.pages c.lines.store) (shown.pages c.next.new.from) c.next.ensures.beside.pages_are) (g.met.P.PageWorld.take_was_told (shown.pages c.lines.store) (shown.pages c.next.new.from) c.next.ensures.beside.pages_are) (g.met.P.PageWorld.take_goes_on (shown.pages c.lines.store) (shown.pages c.next.new.from) c.next.ensures.beside.pages_are)
-    (ap (λ (s : Superblock). s.total) c.next.ensures.beside.superblock) (ap (λ (k : Catalog). length (series_in k)) c.next.ensures.beside.catalog) c.next.ensures.sent c.next.ensures.read_faults c.next.ensures.send_faults c.next.ensures.pieces)).faults (goes_further (side_of g.P.Streams c.args.store.now) (side_of g.P.Streams c.lines.store) (side_of g.P.Streams c.next.new.from) c.lines.invariant.goes (goes_take (side_of g.P.Streams c.lines.store) (side_of g.P.Streams c.next.new.from) (g.met.P.PageWorld.take_keeps (shown.pages c.lines.store) (shown.pages c.next.new.from) c.next.ensures.beside.pages_are) (g.met.P.PageWorld.take_told (shown.pages c.lines.store) (shown.pages c.next.new.from) c.next.ensures.beside.pages_are) (g.met.P.PageWorld.take_was_told (shown.pages c.lines.store) (shown.pages c.next.new.from) c.next.ensures.beside.pages_are) (g.met.P.PageWorld.take_goes_on (shown.pages c.lines.store) (shown.pages c.next.new.from) c.next.ensures.beside.pages_are)
+    ((g.met.P.PageWorld.take_keeps (shown.pages c.lines.store) (shown.pages c.next.new.from) c.next.ensures.beside.pages_are).faults ∙ disk_stays (shown.view c.args.store.now) (shown.view c.lines.store) c.lines.invariant.quiet) (goes_further (side_of g.P.Streams c.args.store.now) (side_of g.P.Streams c.lines.store) (side_of g.P.Streams c.next.new.from) c.lines.invariant.goes (goes_take (side_of g.P.Streams c.lines.store) (side_of g.P.Streams c.next.new.from) (g.met.P.PageWorld.take_keeps (shown.pages c.lines.store) (shown.pages c.next.new.from) c.next.ensures.beside.pages_are) (g.met.P.PageWorld.take_told (shown.pages c.lines.store) (shown.pages c.next.new.from) c.next.ensures.beside.pages_are) (g.met.P.PageWorld.take_was_told (shown.pages c.lines.store) (shown.pages c.next.new.from) c.next.ensures.beside.pages_are) (g.met.P.PageWorld.take_goes_on (shown.pages c.lines.store) (shown.pages c.next.new.from) c.next.ensures.beside.pages_are)
     (ap (λ (s : Superblock). s.total) c.next.ensures.beside.superblock) (ap (λ (k : Catalog). length (series_in k)) c.next.ensures.beside.catalog) c.next.ensures.sent c.next.ensures.read_faults c.next.ensures.send_faults c.next.ensures.pieces)).total_is c.in_err-take_line-in-Line.ensures.cause
 
 pub returns-in_err-take_line-in-Line-clause-faults : goal.returns-in_err-take_line-in-Line-clause-faults

@@ -19,7 +19,7 @@ returns-in-Err-clause-answer g c = λ total book told stands on.
     let are = still_are_pair c.first_axis-axis.ensures.goes (pair_is old total book c.args.sum.shift on c.requires.sound told stands) in
     let of = samples_are book old.x old.y c.args.sum c.args.grid axis on (λ x y xs ys. c.kept_sums_are_the_samples.ensures c.args.grid x y c.args.sum xs ys) c.first_axis-axis.ensures.step
     (c.first_axis-axis.ensures.axis total book on.one told stands on.first) in
-    let cause = cause_later c.in-Err.error old c.first_axis-axis.new.pair c.derived_rows.new.trees c.first_axis-axis.ensures.goes c.in-Err.ensures.cause in
+    let cause = cause_later c.in-Err.error old c.first_axis-axis.new.pair c.derived_rows.new.trees c.first_axis-axis.ensures.goes c.first_axis-axis.ensures.quiet c.in-Err.ensures.cause in
     let E : SumError → Type 0 = λ e. IsChartAnswer book old.x old.y c.args.sum.a c.args.sum.b c.args.grid c.args.range (Err e) in
     subst E (sym c.error_of.ensures)
     (error_answer c.in-Err.error old c.derived_rows.new.trees total book old.x old.y c.args.sum.a c.args.sum.b c.args.grid c.args.range samples c.requires.sound told stands cause of (c.in-Err.ensures.rows on.one.slots on.other.slots are))
@@ -47,7 +47,7 @@ returns-in-Err-clause-faults g c =
     let old = c.args.pair.now in
     let axis = c.first_axis-axis.ensures in
     let going = pair_goes_on axis.goes c.derived_rows.ensures.goes in
-    let cause = cause_later c.in-Err.error old c.first_axis-axis.new.pair c.derived_rows.new.trees axis.goes c.in-Err.ensures.cause in
+    let cause = cause_later c.in-Err.error old c.first_axis-axis.new.pair c.derived_rows.new.trees axis.goes axis.quiet c.in-Err.ensures.cause in
     let E : SumError → Type 0 = λ e. CountsFault (sum_fault e) (shown.view old.store) (shown.view c.derived_rows.new.trees.store) in
     subst E (sym c.error_of.ensures) (error_faults c.in-Err.error old c.derived_rows.new.trees c.requires.sound going cause (λ other. c.in-Err.ensures.quiet_err other ∙ axis.quiet))
 

@@ -22,7 +22,7 @@ returns-in-Err-clause-cause g c =
     let is : c.fresh.result - c.used.result - c.loop.counter ≡ suc (c.fresh.result - c.used.result - (c.loop.counter + 1)) = omega (arith, c.loop-test.true) in
     let U : StoreError → Type 0 = λ e. IsChainCause e (g.P.Pages.told c.args.space.now.pages) c.args.space.now.superblock (g.P.Pages.view c.args.space.now.pages) (g.P.Pages.view c.alloc.new.self.pages) in
     subst U (sym c.space_error.ensures) (pass_cause c.in-Err.error (g.P.Pages.told c.args.space.now.pages) (g.P.Pages.told c.loop.space.pages) (g.P.Pages.view c.args.space.now.pages) (g.P.Pages.view c.loop.space.pages) (g.P.Pages.view c.alloc.new.self.pages) (g.P.Pages.under c.args.space.now.pages) (g.P.Pages.under c.loop.space.pages) c.args.space.now.superblock c.loop.space.superblock c.loop.txn (c.fresh.result - c.used.result - c.loop.counter) (c.fresh.result - c.used.result - (c.loop.counter + 1))
-    c.loop.invariant.0 is c.in-Err.ensures.cause)
+    c.loop.invariant.0 c.loop.invariant.1 is c.in-Err.ensures.cause)
 
 pub returns-in-Err-clause-stands : goal.returns-in-Err-clause-stands
 returns-in-Err-clause-stands g c = λ count taken freed told standing.

@@ -134,7 +134,7 @@ returns-in_err-more-clause-cause g t c =
     let U : StoreError → Type 0 = λ e. IsTreeCause e (g.P.Pages.told c.args.space.now.pages) (g.P.Pages.view c.args.space.now.pages) (g.P.Pages.view c.count_values.new.space.pages) c.args.space.now.superblock.total c.args.slots c.args.level c.args.index c.args.page c.args.top in
     error_so _ U c.from_residual-in_err-more.result c.from_residual-in_err-more.ensures.1
     (λ e same. subst U (sym same) (child_cause c.in_err-more.field-0.0 (g.P.Pages.told c.args.space.now.pages) (g.P.Pages.told c.loop-child.space.pages) (g.P.Pages.view c.args.space.now.pages) (g.P.Pages.view c.loop-child.space.pages) (g.P.Pages.view c.count_values.new.space.pages) c.args.space.now.superblock.total c.loop-child.space.superblock.total c.args.slots c.args.level (c.args.level - 1) c.args.index c.part_of.result c.args.page c.child_of-under.result c.loop-child.child c.args.top c.leaf-part.result c.read_page.new.bytes (span_at c.read_page.new.spans)
-    c.part_of.ensures way.looks.kept (ap (λ (s : Superblock). s.total) way.looks.over.superblock) is some c.loop-child-test.true c.child_of-under.ensures c.leaf-part.ensures.span c.in_ok-read_page.ensures.bytes split c.in_err-more.ensures.cause))
+    c.part_of.ensures way.looks.kept c.loop-child.invariant.1 (ap (λ (s : Superblock). s.total) way.looks.over.superblock) is some c.loop-child-test.true c.child_of-under.ensures c.leaf-part.ensures.span c.in_ok-read_page.ensures.bytes split c.in_err-more.ensures.cause))
 
 pub returns-in_err-more-clause-stands : goal.returns-in_err-more-clause-stands
 returns-in_err-more-clause-stands g t c = λ list told slots long tree top.

@@ -108,7 +108,7 @@ returns-in-Ok-clause-groups g t c =
     let new = c.commit_all.new in
     stepped (told old.pages) (told next.space.pages) (told new.space.pages) (view old.pages) (view next.space.pages) (view new.space.pages) (under old.pages) (under next.space.pages) (under new.space.pages) old.superblock next.space.superblock new.space.superblock c.args.txn next.txn
     c.args.catalog.now.series.items next.catalog.series.items new.catalog.series.items new.catalog.series.items c.in-Some.edit.now c.in-Some.rest.now c.args.edits.now c.in_ok-undo.undo c.args.answers.now.items next.answers.items new.answers.items (Ok tt) c.in-Some.ensures.cases.0
-    c.in_ok-undo.ensures.next c.in-Ok.ensures.groups refl tt
+    c.in_ok-undo.ensures.next c.in_ok-undo.ensures.quiet c.in-Ok.ensures.groups refl tt
 
 pub returns-in-Ok-clause-grouped : goal.returns-in-Ok-clause-grouped
 returns-in-Ok-clause-grouped g t c = λ total book told stands clean.
@@ -137,7 +137,7 @@ returns-in-Err-clause-groups g t c =
     let T : List StoredSeries → Type 0 = λ now. TakesBack c.in_ok-undo.undo now items in
     stepped (told old.pages) (told next.space.pages) (told new.space.pages) (view old.pages) (view next.space.pages) (view new.space.pages) (under old.pages) (under next.space.pages) (under new.space.pages) old.superblock next.space.superblock new.space.superblock c.args.txn next.txn
     items next.catalog.series.items new.catalog.series.items c.apply.new.catalog.series.items c.in-Some.edit.now c.in-Some.rest.now c.args.edits.now c.in_ok-undo.undo c.args.answers.now.items next.answers.items new.answers.items (Err c.in-Err.cause) c.in-Some.ensures.cases.0
-    c.in_ok-undo.ensures.next c.in-Err.ensures.groups tt (c.apply.ensures items (subst T (sym c.in-Err.ensures.groups.kept) c.in_ok-undo.ensures.next.back))
+    c.in_ok-undo.ensures.next c.in_ok-undo.ensures.quiet c.in-Err.ensures.groups tt (c.apply.ensures items (subst T (sym c.in-Err.ensures.groups.kept) c.in_ok-undo.ensures.next.back))
 
 pub returns-in-Err-clause-grouped : goal.returns-in-Err-clause-grouped
 returns-in-Err-clause-grouped g t c = λ total book told stands clean.

@@ -123,7 +123,7 @@ returns-clause-carried g c =
     let new = c.save.new.space in
     staging_saved (told old.pages) (told mid.pages) (told new.pages) (view old.pages) (view mid.pages) (view new.pages) (under old.pages) (under mid.pages) (under new.pages) old.superblock mid.superblock new.superblock txn changed c.save.new.txn
     items c.save.new.catalog.series.items c.in_ok-tree.tree.slots c.save.result (omega (arith, puts, five)) (omega (arith, puts, five)) (omega (arith, c.in_ok-tree.ensures.tree.slots_are, fewer, c.requires.within))
-    c.put_run.ensures.moved c.save.ensures.reads c.save.ensures.goes_on c.save.ensures.space c.save.ensures.superblock c.save.ensures.len c.save.ensures.error c.save.ensures.cause c.save.ensures.kept c.save.ensures.back
+    c.put_run.ensures.moved c.in_ok-tree.ensures.quiet c.save.ensures.reads c.save.ensures.goes_on c.save.ensures.space c.save.ensures.superblock c.save.ensures.len c.save.ensures.error c.save.ensures.cause c.save.ensures.kept c.save.ensures.back
     c.save.ensures.staged c.save.ensures.slots
 
 pub returns-in_err-tree-clause-answered : goal.returns-in_err-tree-clause-answered

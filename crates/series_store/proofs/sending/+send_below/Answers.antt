@@ -118,7 +118,7 @@ returns-in_err-send_below-clause-cause g t c =
     let U : SendError → Type 0 = λ e. IsSendCause e (g.P.Pages.told c.args.space.now.pages) (g.P.Pages.view c.args.space.now.pages) (g.P.Pages.view c.send_below.new.space.pages) c.args.space.now.superblock.total c.args.level c.args.page c.args.top in
     error_so _ U c.from_residual-in_err-send_below.result c.from_residual-in_err-send_below.ensures.1
     (λ e same. subst U (sym same) (child_send_cause c.in_err-send_below.field-0.0 (g.P.Pages.told c.args.space.now.pages) (g.P.Pages.told c.loop-child.space.pages) (g.P.Pages.view c.args.space.now.pages) (g.P.Pages.view c.loop-child.space.pages) (g.P.Pages.view c.send_below.new.space.pages) (g.P.Pages.under c.args.space.now.pages) (g.P.Pages.under c.loop-child.space.pages) c.args.space.now.superblock c.loop-child.space.superblock c.args.level (c.args.level - 1) c.args.page c.child_of-under.result c.loop-child.child c.args.top c.leaf-part.result c.read_page.new.bytes (span_at c.read_page.new.spans)
-    c.loop-child.invariant.0.sends is some c.loop-child-test.true c.child_of-under.ensures c.leaf-part.ensures.span c.in_ok-read_page.ensures.bytes split c.in_err-send_below.ensures.cause))
+    c.loop-child.invariant.0.sends c.loop-child.invariant.1 c.loop-child.invariant.2 is some c.loop-child-test.true c.child_of-under.ensures c.leaf-part.ensures.span c.in_ok-read_page.ensures.bytes split c.in_err-send_below.ensures.cause))
 
 pub returns-in_err-send_below-clause-part : goal.returns-in_err-send_below-clause-part
 returns-in_err-send_below-clause-part g t c = λ list told slots tree top.

@@ -36,7 +36,7 @@ returns-in-Ok-answer-clause-ends g c =
     let new = c.send_text.result.1 in
     let summary = c.in-Ok-answer.summary in
     let w = g.met.W.World in
-    let a = answered_opened (workload c.args.seed c.args.rounds) opened.count (view old) (view opened.disk) (view mid) c.answer_store-answer.result.0 (Ok summary) c.in-Ok.ensures.count c.in-Ok-answer.is c.in-Ok.ensures.opens c.answer_store-answer.ensures.answered in
+    let a = answered_opened (workload c.args.seed c.args.rounds) opened.count (view old) (view opened.disk) (view mid) c.answer_store-answer.result.0 (Ok summary) c.in-Ok.ensures.count c.in-Ok-answer.is c.in-Ok.ensures.opens c.in-Ok.ensures.quiet c.answer_store-answer.ensures.answered in
     sent_ends c.args.seed c.args.rounds (view old) (view mid) (view new) (sent old) (sent mid) (sent new) (sends old) (sends mid) (sends new) c.send_text.result.0 summary a
     (sym (w.beside_sent mid) ∙ ap (λ (b : Beside). b.sent) a.beside ∙ w.beside_sent old)
     (sym (w.beside_send_faults mid) ∙ ap (λ (b : Beside). b.send_faults) a.beside ∙ w.beside_send_faults old)
@@ -52,7 +52,7 @@ returns-in-Err-answer-clause-ends g c =
     let new = c.answer_store-answer.result.1 in
     let end = c.in-Err-answer.end in
     let w = g.met.W.World in
-    let a = answered_opened (workload c.args.seed c.args.rounds) opened.count (view old) (view opened.disk) (view new) c.answer_store-answer.result.0 (Err end) c.in-Ok.ensures.count c.in-Err-answer.is c.in-Ok.ensures.opens c.answer_store-answer.ensures.answered in
+    let a = answered_opened (workload c.args.seed c.args.rounds) opened.count (view old) (view opened.disk) (view new) c.answer_store-answer.result.0 (Err end) c.in-Ok.ensures.count c.in-Err-answer.is c.in-Ok.ensures.opens c.in-Ok.ensures.quiet c.answer_store-answer.ensures.answered in
     stopped_ends_so c.args.seed c.args.rounds (view old) (view new) (sent old) (sent new) (sends old) (sends new) end c.end_status.result c.end_status.ensures a
     (sym (w.beside_sent new) ∙ ap (λ (b : Beside). b.sent) a.beside ∙ w.beside_sent old)
 
@@ -105,7 +105,7 @@ returns-in-Ok-answer-clause-holds g c = λ other.
     let opened = shown.pages c.in-Ok.store in
     let mid = c.answer_store-answer.result.1 in
     let requests = workload c.args.seed c.args.rounds in
-    let a = answered_opened requests opened.count (view old) (view opened.disk) (view mid) c.answer_store-answer.result.0 (Ok c.in-Ok-answer.summary) c.in-Ok.ensures.count c.in-Ok-answer.is c.in-Ok.ensures.opens c.answer_store-answer.ensures.answered in
+    let a = answered_opened requests opened.count (view old) (view opened.disk) (view mid) c.answer_store-answer.result.0 (Ok c.in-Ok-answer.summary) c.in-Ok.ensures.count c.in-Ok-answer.is c.in-Ok.ensures.opens c.in-Ok.ensures.quiet c.answer_store-answer.ensures.answered in
     let new = c.send_text.result.1 in
     let text = c.send_text.ensures.sends (summary_line c.in-Ok-answer.summary) c.line.ensures in
     again_sent (page_count (view old).size) (view old) (view mid) (view new) (λ count. (sent_now (view mid) ≤ count) × (count ≤ sent_now (view new))) text.kept text.time
@@ -118,7 +118,7 @@ returns-in-Err-answer-clause-holds g c = λ other.
     let opened = shown.pages c.in-Ok.store in
     let mid = c.answer_store-answer.result.1 in
     let requests = workload c.args.seed c.args.rounds in
-    let a = answered_opened requests opened.count (view old) (view opened.disk) (view mid) c.answer_store-answer.result.0 (Err c.in-Err-answer.end) c.in-Ok.ensures.count c.in-Err-answer.is c.in-Ok.ensures.opens c.answer_store-answer.ensures.answered in
+    let a = answered_opened requests opened.count (view old) (view opened.disk) (view mid) c.answer_store-answer.result.0 (Err c.in-Err-answer.end) c.in-Ok.ensures.count c.in-Err-answer.is c.in-Ok.ensures.opens c.in-Ok.ensures.quiet c.answer_store-answer.ensures.answered in
     let end = c.in-Err-answer.end in
     again_answered requests (page_count (view old).size) (view old) (view mid) (Err end)
     (λ is. let same : end ≡ demo_end.DiskFault = cc in other (ap (λ (s : Status). s.code) c.end_status.ensures ∙ ap (λ (e : DemoEnd). (end_status e).code) same)) a

@@ -23,7 +23,7 @@ returns-in-Ok-clause-ends g c =
     let e = c.in-Ok.ensures in
     let beside = e.opens.beside_is in
     let w = g.met.W.World in
-    ends_opened c.args.name.now c.args.window pages.count (view old) (view mid) (view new) (sent old) (sent mid) (sent new) (sends old) (sends mid) (sends new) c.export_opened.result.0 e.opens e.count (opened_book pages.count (view old) (view mid) e.pages)
+    ends_opened c.args.name.now c.args.window pages.count (view old) (view mid) (view new) (sent old) (sent mid) (sent new) (sends old) (sends mid) (sends new) c.export_opened.result.0 e.opens e.quiet e.count (opened_book pages.count (view old) (view mid) e.pages)
     (sym (w.beside_sent mid) ∙ ap (λ (b : Beside). b.sent) beside ∙ w.beside_sent old)
     (sym (w.beside_send_faults mid) ∙ ap (λ (b : Beside). b.send_faults) beside ∙ w.beside_send_faults old)
     c.export_opened.ensures.exports

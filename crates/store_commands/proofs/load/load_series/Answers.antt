@@ -36,7 +36,7 @@ returns-in-Ok-answer-clause-ends g c =
     let new = c.send_text.result.1 in
     let beside = c.in-Ok.ensures.opens.beside_is in
     let w = g.met.W.World in
-    let s = stores_on name opened.count (view old) (view start) (view mid) (left start) (left old) (left mid) (sent start) (sent old) (sent mid) (reads start) (reads old) (reads mid) (sends start) (sends old) (sends mid) c.load_store-answer.result.0 (Ok c.in-Ok-answer.readings) c.in-Ok.ensures.count c.in-Ok-answer.is c.in-Ok.ensures.opens
+    let s = stores_on name opened.count (view old) (view start) (view mid) (left start) (left old) (left mid) (sent start) (sent old) (sent mid) (reads start) (reads old) (reads mid) (sends start) (sends old) (sends mid) c.load_store-answer.result.0 (Ok c.in-Ok-answer.readings) c.in-Ok.ensures.count c.in-Ok-answer.is c.in-Ok.ensures.opens c.in-Ok.ensures.quiet
     (sym (w.beside_left start) ∙ ap (λ (b : Beside). b.left) beside ∙ w.beside_left old)
     (sym (w.beside_sent start) ∙ ap (λ (b : Beside). b.sent) beside ∙ w.beside_sent old)
     (sym (w.beside_read_faults start) ∙ ap (λ (b : Beside). b.read_faults) beside ∙ w.beside_read_faults old)
@@ -58,7 +58,7 @@ returns-in-Err-answer-clause-ends g c =
     let new = c.load_store-answer.result.1 in
     let beside = c.in-Ok.ensures.opens.beside_is in
     let w = g.met.W.World in
-    let s = stores_on name opened.count (view old) (view start) (view new) (left start) (left old) (left new) (sent start) (sent old) (sent new) (reads start) (reads old) (reads new) (sends start) (sends old) (sends new) c.load_store-answer.result.0 (Err c.in-Err-answer.end) c.in-Ok.ensures.count c.in-Err-answer.is c.in-Ok.ensures.opens
+    let s = stores_on name opened.count (view old) (view start) (view new) (left start) (left old) (left new) (sent start) (sent old) (sent new) (reads start) (reads old) (reads new) (sends start) (sends old) (sends new) c.load_store-answer.result.0 (Err c.in-Err-answer.end) c.in-Ok.ensures.count c.in-Err-answer.is c.in-Ok.ensures.opens c.in-Ok.ensures.quiet
     (sym (w.beside_left start) ∙ ap (λ (b : Beside). b.left) beside ∙ w.beside_left old)
     (sym (w.beside_sent start) ∙ ap (λ (b : Beside). b.sent) beside ∙ w.beside_sent old)
     (sym (w.beside_read_faults start) ∙ ap (λ (b : Beside). b.read_faults) beside ∙ w.beside_read_faults old)
@@ -103,7 +103,7 @@ returns-in-Ok-answer-clause-holds g c = λ other.
     let mid = c.load_store-answer.result.1 in
     let beside = c.in-Ok.ensures.opens.beside_is in
     let w = g.met.W.World in
-    let s = stores_on name opened.count (view old) (view start) (view mid) (left start) (left old) (left mid) (sent start) (sent old) (sent mid) (reads start) (reads old) (reads mid) (sends start) (sends old) (sends mid) c.load_store-answer.result.0 (Ok c.in-Ok-answer.readings) c.in-Ok.ensures.count c.in-Ok-answer.is c.in-Ok.ensures.opens
+    let s = stores_on name opened.count (view old) (view start) (view mid) (left start) (left old) (left mid) (sent start) (sent old) (sent mid) (reads start) (reads old) (reads mid) (sends start) (sends old) (sends mid) c.load_store-answer.result.0 (Ok c.in-Ok-answer.readings) c.in-Ok.ensures.count c.in-Ok-answer.is c.in-Ok.ensures.opens c.in-Ok.ensures.quiet
     (sym (w.beside_left start) ∙ ap (λ (b : Beside). b.left) beside ∙ w.beside_left old)
     (sym (w.beside_sent start) ∙ ap (λ (b : Beside). b.sent) beside ∙ w.beside_sent old)
     (sym (w.beside_read_faults start) ∙ ap (λ (b : Beside). b.read_faults) beside ∙ w.beside_read_faults old)
@@ -128,7 +128,7 @@ returns-in-Err-answer-clause-holds g c = λ other.
     let mid = c.load_store-answer.result.1 in
     let beside = c.in-Ok.ensures.opens.beside_is in
     let w = g.met.W.World in
-    let s = stores_on name opened.count (view old) (view start) (view mid) (left start) (left old) (left mid) (sent start) (sent old) (sent mid) (reads start) (reads old) (reads mid) (sends start) (sends old) (sends mid) c.load_store-answer.result.0 (Err c.in-Err-answer.end) c.in-Ok.ensures.count c.in-Err-answer.is c.in-Ok.ensures.opens
+    let s = stores_on name opened.count (view old) (view start) (view mid) (left start) (left old) (left mid) (sent start) (sent old) (sent mid) (reads start) (reads old) (reads mid) (sends start) (sends old) (sends mid) c.load_store-answer.result.0 (Err c.in-Err-answer.end) c.in-Ok.ensures.count c.in-Err-answer.is c.in-Ok.ensures.opens c.in-Ok.ensures.quiet
     (sym (w.beside_left start) ∙ ap (λ (b : Beside). b.left) beside ∙ w.beside_left old)
     (sym (w.beside_sent start) ∙ ap (λ (b : Beside). b.sent) beside ∙ w.beside_sent old)
     (sym (w.beside_read_faults start) ∙ ap (λ (b : Beside). b.read_faults) beside ∙ w.beside_read_faults old)

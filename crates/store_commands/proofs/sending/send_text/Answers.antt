@@ -1,6 +1,6 @@
 use Rattle.std.proofs.Common.{refl}
-use Rattle.chart_world.specs.FaultLaws.{counts_none}
-use Rattle.store_commands.specs.Faulting.{counts_as, counts_kept, counts_unsent}
+use Rattle.chart_world.specs.FaultLaws.{counts_none, counts_kept, counts_unsent}
+use Rattle.store_commands.specs.Faulting.{counts_as}
 use Rattle.store_commands.specs.Status.{status}
 use Rattle.store_commands.proofs.sending.send_text.Goals as goal
 

@@ -101,7 +101,7 @@ returns-in-Ok-new_pages-clause-cause g c =
     let mid = (view c.read_first.new.pages).faults in
     let near = (view c.new_pages.new.pages).faults in
     let new = (view c.commit.new.self).faults in
-    risen_on old mid new c.read_first.ensures.reads.faults (risen_on mid near new c.new_pages.ensures.looks.faults c.in-Err-commit.ensures.cause)
+    risen_on old mid new c.in-Ok.ensures.quiet (risen_on mid near new c.in-Ok-new_pages.ensures.quiet c.in-Err-commit.ensures.cause)
 
 pub returns-in-Ok-new_pages-clause-upgrades : goal.returns-in-Ok-new_pages-clause-upgrades
 returns-in-Ok-new_pages-clause-upgrades g c =
@@ -138,7 +138,7 @@ returns-clause-cause g c =
     let mid = c.read_first.new.pages in
     let near = c.new_pages.new.pages in
     let magic = read_old (told old) c.read_first.new.page (view old).image c.in-Ok.is_old c.in-Ok.ensures.page c.in-Ok.ensures.old c.if-not-is_old.false in
-    prevents (told old) (told mid) (told near) (view old) (view mid) (view near) [] magic c.read_first.ensures.reads c.new_pages.ensures.looks c.in-Err.cause c.in-Err.ensures.cause
+    prevents (told old) (told mid) (told near) (view old) (view mid) (view near) [] magic c.read_first.ensures.reads c.new_pages.ensures.looks c.in-Ok.ensures.quiet c.in-Err.cause c.in-Err.ensures.cause
 
 pub returns-clause-place : goal.returns-clause-place
 returns-clause-place g c =

@@ -100,7 +100,7 @@ returns-in_err-step-clause-cause g c =
     let C : NodeError → Type 0 = λ e. IsStepCause (shown.IsTold c.loop-above.space) (walk.pages c.loop-above.space) (walk.pages c.step.new.space) trail.pages.items c.args.key c.from-levels.result c.loop-above.above e in
     error_so _ _ c.from_residual-in_err-step.result c.from_residual-in_err-step.ensures.1
     (λ e is. way_bad (shown.IsTold c.args.space.now) (shown.IsTold c.loop-above.space) (walk.pages c.args.space.now) (walk.pages c.loop-above.space) (walk.pages c.step.new.space) c.args.tree c.from-levels.result c.args.trail.now trail c.args.key c.loop-above.above e levels
-    (omega (arith, own, c.loop-above-test.true)) c.loop-above.invariant.way (subst C (sym is) c.in_err-step.ensures.cause))
+    (omega (arith, own, c.loop-above-test.true)) c.loop-above.invariant.way c.loop-above.invariant.same (subst C (sym is) c.in_err-step.ensures.cause))
 
 pub returns-clause-kept : goal.returns-clause-kept
 returns-clause-kept g c = c.loop-above.invariant.way.kept

@@ -143,7 +143,7 @@ returns-in_err-edit_some-clause-faults g c =
     let no = c.in_err-edit_some.ensures in
     let e = c.in_err-edit_some.field-0.0 in
     fault_goes step_fault c.from_residual.result e first new c.from_residual.ensures.1
-    (counts_error e first new (c.edit_some.ensures.moves.beside ∙ inv.moves.beside) (λ is. risen_since first.faults mid.faults new.faults inv.moves.faults (no.disk (ap Err is))) (λ other. no.quiet_err other ∙ inv.quiet))
+    (counts_error e first new (c.edit_some.ensures.moves.beside ∙ inv.moves.beside) (λ is. risen_since first.faults mid.faults new.faults inv.quiet (no.disk (ap Err is))) (λ other. no.quiet_err other ∙ inv.quiet))
 
 pub returns-clause-faults : goal.returns-clause-faults
 returns-clause-faults g c =

@@ -1,5 +1,5 @@
 use Rattle.std.proofs.Common.{◌≡◌, ◌≤◌, ◌⊎◌, ◌+◌, ◌-◌, ◌^◌}
-use Rattle.block_disk.specs.Counts.{HasRisen}
+use Rattle.block_disk.specs.Counts.{HasGrown}
 use Rattle.chart_world.specs.Feed.{pending_of, given_of}
 use Rattle.chart_world.specs.Reading.{in_front_of, input_length}
 use Rattle.chart_world.proofs.Gathering.{Partway}
@@ -18,7 +18,7 @@ invariant-loop-self g l =
       read_faults : streams.read_faults l.fn.from ≤ streams.read_faults l.from;
       quiet : streams.read_faults l.from ≡ streams.read_faults l.fn.from;
       pieces : streams.pieces l.fn.from ≤ streams.pieces l.from;
-      took : ((l.length ≡ 0) × (pending_of l.self ≡ pending_of l.fn.self)) ⊎ HasRisen (streams.pieces l.fn.from) (streams.pieces l.from);
+      took : ((l.length ≡ 0) × (pending_of l.self ≡ pending_of l.fn.self)) ⊎ HasGrown (streams.pieces l.fn.from) (streams.pieces l.from);
       beside : streams.takes l.fn.from l.from;
     }
 

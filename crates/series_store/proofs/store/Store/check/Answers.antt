@@ -87,7 +87,7 @@ returns-in_err-pass_chain-clause-cause g c =
     let looks = c.count_trees.ensures.looks in
     let U : StoreError → Type 0 = λ e. IsCheckCause e (g.P.Pages.told c.args.self.now.space.pages) c.args.self.now.space.superblock (g.P.Pages.view c.args.self.now.space.pages) (g.P.Pages.view c.pass_chain.new.space.pages) in
     error_so _ U c.from_residual-in_err-pass_chain.result c.from_residual-in_err-pass_chain.ensures.1
-    (λ e same. subst U (sym same) (check_chain c.in_err-pass_chain.field-0.0 (g.P.Pages.told c.args.self.now.space.pages) (g.P.Pages.told c.count_trees.new.space.pages) (g.P.Pages.view c.args.self.now.space.pages) (g.P.Pages.view c.count_trees.new.space.pages) (g.P.Pages.view c.pass_chain.new.space.pages) c.args.self.now.space.superblock c.count_trees.new.space.superblock looks.kept looks.over.superblock c.in_err-pass_chain.ensures.cause))
+    (λ e same. subst U (sym same) (check_chain c.in_err-pass_chain.field-0.0 (g.P.Pages.told c.args.self.now.space.pages) (g.P.Pages.told c.count_trees.new.space.pages) (g.P.Pages.view c.args.self.now.space.pages) (g.P.Pages.view c.count_trees.new.space.pages) (g.P.Pages.view c.pass_chain.new.space.pages) c.args.self.now.space.superblock c.count_trees.new.space.superblock looks.kept c.in_ok-values.ensures.quiet looks.over.superblock c.in_err-pass_chain.ensures.cause))
 
 pub returns-in_err-pass_chain-clause-looks : goal.returns-in_err-pass_chain-clause-looks
 returns-in_err-pass_chain-clause-looks g c =
