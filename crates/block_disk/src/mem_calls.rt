@@ -1,5 +1,5 @@
 //! The calls of a disk in memory.
-ghost use Rattle.std.specs.Prelude.{◌≡◌, ◌≤◌, ◌⊎◌, ◌++◌, ◌∷◌, [], ◌*◌, ◌+◌, ◌/◌, ◌%◌, length, take, drop, IsErr, IsTrue, Contains, ◌↔◌, OnOk, OnErr, IfOk};
+ghost use Rattle.std.specs.Prelude.{◌≡◌, ◌≤◌, ◌++◌, ◌∷◌, [], ◌*◌, ◌+◌, length, IsErr, IsTrue, Contains, ◌↔◌, OnOk, OnErr};
 ghost use Rattle.block_disk.specs.Blocks.{block_size, IsBlock};
 ghost use Rattle.block_disk.specs.Counts.{HasRisen, counted};
 ghost use Rattle.block_disk.specs.MemDisk.{mem_view, blocks_of, put, replaced};

@@ -1,7 +1,7 @@
 //! Two trees.
-ghost use Rattle.std.specs.Prelude.{◌≡◌, ℕ, ℤ, Bool, true, false, List, Option, length};
+ghost use Rattle.std.specs.Prelude.{◌≡◌, ℕ, ℤ, Bool, List, Option};
 ghost use Rattle.om3_coeff.specs.declared.errors.NodeError.{NodeError};
-ghost use Rattle.om3_coeff.specs.View.{NodesView, Agrees, HasCause};
+ghost use Rattle.om3_coeff.specs.View.{Agrees, HasCause};
 ghost use Rattle.derived_chart.specs.Sums.{one_of};
 
 use om3_coeff::Nodes;

@@ -1,5 +1,5 @@
 -- What nodes mean: their slots, the root's span, the coefficients that they tell, and what asks cost.
-use Rattle.std.specs.Prelude.{ℕ, ℤ, ◌≡◌, ◌+◌, ◌^◌, ◌<◌, ◌≤◌, ◌-◌, ◌⊎◌, List, length, Option, Some, IsSome}
+use Rattle.std.specs.Prelude.{ℕ, ℤ, ◌≡◌, ◌+◌, ◌^◌, ◌≤◌, ◌-◌, ◌⊎◌, List, length, Option, Some, IsSome}
 use Rattle.om3_coeff.specs.declared.key.Key.{Key}
 use Rattle.om3_coeff.specs.declared.span.Span.{Span}
 use Rattle.om3_coeff.specs.declared.coef.Coef.{Coef}

@@ -4,7 +4,7 @@ use Rattle.std.specs.Prelude.{OnOk, IfErr}
 use Rattle.std.proofs.lemmas.List.{take_all}
 use Rattle.block_disk.specs.Counts.{HasRisen}
 use Rattle.block_disk.specs.Streams.{sent_after}
-use Rattle.block_disk.specs.View.{Image, View, Beside, DiskKept, Now, Only, Passes, sent_now}
+use Rattle.block_disk.specs.View.{Image, View, DiskKept, Now, Only, Passes, sent_now}
 use Rattle.chart_service.specs.MomentLaws.{through_none, through_by, through_so, through_then}
 use Rattle.chart_service.specs.Moments.{Through}
 use Rattle.chart_service.proofs.DiskKept.{risen_since}
@@ -19,7 +19,6 @@ use Rattle.series_book.specs.declared.one_series.Series.{Series}
 use Rattle.series_book.specs.EditLists.{after_edits}
 use Rattle.stored_book.specs.Standing.{StandsForBook}
 use Rattle.retention.specs.Drops.{book_swept}
-use Rattle.retention.specs.Moving.{Carries}
 use Rattle.retention.specs.Sweeping.{IsAfterSome, IsSwept, StopsSo}
 use Rattle.retention.specs.Sweeps.{NamesNone, sweeps}
 use Rattle.retention.specs.declared.rule.Rule.{Rule}
@@ -210,19 +209,6 @@ goes_further old mid new first second = record {
   total_is = second.total_is ∙ first.total_is;
   reads = omega (arith, first.reads, second.reads);
   sends = omega (arith, first.sends, second.sends);
-}
-
--- a sweep
-pub goes_call : (old new : Side) (count count' : ℕ) → AreBeside old.view old.read_faults old.send_faults → AreBeside new.view new.read_faults new.send_faults → Carries old.told new.told old.view new.view old.under new.under old.total new.total count count' → Goes old new
-goes_call old new count count' was are carries = record {
-  is_told = carries.told;
-  was_told = carries.was_told;
-  size = carries.size;
-  faults = carries.faults;
-  goes_on = carries.goes_on;
-  total_is = carries.total_is;
-  reads = omega (arith, sym are.reads_are ∙ ap (λ (b : Beside). b.read_faults) carries.beside ∙ was.reads_are);
-  sends = omega (arith, sym are.sends_are ∙ ap (λ (b : Beside). b.send_faults) carries.beside ∙ was.sends_are);
 }
 
 -- takes and sends

@@ -1,5 +1,5 @@
 -- What a space shows to the nodes of a tree on it.
-use Rattle.std.specs.Prelude.{ℕ}
+use Rattle.std.specs.Prelude.{ℕ, ℤ, List, Option}
 use Rattle.block_disk.specs.View.{View}
 use Rattle.gate_pages.specs.Pages.{Reads}
 use Rattle.gate_pages.specs.declared.pages.Pages.{Ghosts}
@@ -15,6 +15,7 @@ use Rattle.tree_walk.specs.declared.tree.Tree.{Tree}
 use Rattle.tree_walk.specs.Holding.{IsHoldCause, IsStepCause, IsCauseOf, KeptWalking}
 use Rattle.tree_walk.specs.PagedNodes.{Ground, IsTrail, IsFit, IsSeen, IsWayError, Keeps, ground, paged_view}
 use Rattle.tree_walk.specs.SpaceViews.{space_view, StaysOn}
+use Rattle.tree_walk.specs.Trees as trees
 use Rattle.tree_walk.specs.Trails.{IsHeld, AreHeld}
 
 module _ {P : Type 0} {g : Ghosts P} where
@@ -37,6 +38,14 @@ module _ {P : Type 0} {g : Ghosts P} where
   -- the trail is one of this tree over these pages
   abbrev pub HasTrail : Space P g → Tree → Trail → Type 0
   HasTrail it tree trail = IsTrail (shown.IsTold it) (pages it) tree trail
+
+  -- its pages stand with the tree for the list
+  abbrev pub StandsFor : Space P g → Tree → List (Option ℤ) → Type 0
+  StandsFor it tree list = trees.StandsFor (shown.image it) (shown.total it) tree list
+
+  -- where its pages are sound and the trail is one of this tree over them, the nodes of the tree may be asked
+  abbrev pub MayBeAskedWhereSound : Space P g → Tree → Trail → Type 0
+  MayBeAskedWhereSound it tree trail = shown.IsSound it → HasTrail it tree trail → MayBeAsked it tree trail
 
   -- where the pages tell their coefficients, the key has this span by those above it
   abbrev pub HasSpan : Space P g → Tree → Key → Span → Type 0

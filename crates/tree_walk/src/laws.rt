@@ -18,11 +18,10 @@ use page_space::Space;
 /// Where the pages of a space tell what they are, and stand with a tree for a list, the nodes over them
 /// agree with the list. They are fit where the pages are sound and the trail is theirs.
 pub fn standing_pages_agree<P: Pages>(nodes: &PagedNodes<P>)
-    ensures agrees { (list : List (Option ℤ)) → shown.IsTold nodes.now.space → StandsFor (shown.image nodes.now.space) (shown.total nodes.now.space) nodes.now.tree list
+    ensures agrees { (list : List (Option ℤ)) → shown.IsTold nodes.now.space → walk.StandsFor nodes.now.space nodes.now.tree list
         → Agrees (walk.nodes nodes.now.space nodes.now.tree nodes.now.trail) list }
-    ensures fit { (list : List (Option ℤ)) → shown.IsSound nodes.now.space → StandsFor (shown.image nodes.now.space) (shown.total nodes.now.space) nodes.now.tree list
-        → walk.HasTrail nodes.now.space nodes.now.tree nodes.now.trail
-        → (walk.nodes nodes.now.space nodes.now.tree nodes.now.trail).fit }
+    ensures fit { (list : List (Option ℤ)) → walk.StandsFor nodes.now.space nodes.now.tree list
+        → walk.MayBeAskedWhereSound nodes.now.space nodes.now.tree nodes.now.trail }
 {
     let _total = nodes.space.total();
 }

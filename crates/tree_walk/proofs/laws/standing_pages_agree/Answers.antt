@@ -10,7 +10,7 @@ returns-clause-agrees g c = λ list told stands.
     standing_agrees (walk.under nodes.space nodes.tree) nodes.trail list told stands
 
 pub returns-clause-fit : goal.returns-clause-fit
-returns-clause-fit g c = λ list fit stands trail.
+returns-clause-fit g c = λ list stands fit trail.
     let nodes = c.args.nodes.now in
     let some : 0 < shown.total nodes.space = omega (arith, c.total-total.ensures.total, c.total-total.ensures.within.0) in
     standing_fit (shown.IsTold nodes.space) (walk.pages nodes.space) nodes.tree nodes.trail list fit some stands trail
