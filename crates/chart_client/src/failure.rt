@@ -1,7 +1,7 @@
 use om3_coeff::Key;
 
 /// A key whose coefficient can't be used.
-#[derive(Clone, Copy, Debug)]
+#[derive(Clone, Copy)]
 pub(crate) struct Failure {
     pub(crate) key: Key,
     /// Whether there is no coefficient; else it doesn't fit the key's span.

@@ -16,14 +16,14 @@ use view_keys::is_flat;
 use view_keys::laws::seen_keys_have_an_open_slot;
 
 /// The side from which a search begins.
-#[derive(Clone, Copy, Debug)]
+#[derive(Clone, Copy)]
 pub(crate) enum Side {
     First,
     Last,
 }
 
 /// The end of a search for a slot that isn't known to hold nothing.
-#[derive(Clone, Copy, Debug)]
+#[derive(Clone, Copy)]
 pub(crate) enum End {
     /// All slots are known to hold nothing.
     Nowhere,

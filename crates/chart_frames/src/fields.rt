@@ -8,7 +8,7 @@ ghost use Rattle.chart_frames.specs.Spelled.{signed_bytes};
 use byteorder::{BigEndian, ByteOrder};
 
 /// Why a field was not read.
-#[derive(Clone, Copy, Debug, PartialEq, Eq)]
+#[derive(Clone, Copy, PartialEq, Eq)]
 pub enum Stop {
     /// It lacks bytes.
     More,

@@ -22,7 +22,7 @@ use plain_chart::ValueRange;
 use zoom_session::{PlanError, RangeSpec, Sessions, ViewPlan, ViewSpec};
 
 /// What a view's frame tells of its series, and the range of values that it shows.
-#[derive(Clone, Copy, Debug)]
+#[derive(Clone, Copy)]
 pub(crate) struct Told {
     pub(crate) axis: Axis,
     /// The span of all slots.

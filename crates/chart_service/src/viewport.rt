@@ -1,6 +1,6 @@
 /// The window from `t0` to `t1` and the canvas of `w` by `h` pixels that a view asks for, in range
 /// or not.
-#[derive(Clone, Copy, Debug)]
+#[derive(Clone, Copy)]
 pub(crate) struct Viewport {
     pub(crate) w: u64,
     pub(crate) h: u64,

@@ -3,7 +3,7 @@
 use thiserror::Error;
 
 /// The next line, or the end of the input.
-#[derive(Clone, Copy, Debug, PartialEq, Eq)]
+#[derive(Clone, Copy, PartialEq, Eq)]
 pub enum LineAnswer {
     /// A line of at most 8,192 bytes, which `Lines::line` gives.
     Line,

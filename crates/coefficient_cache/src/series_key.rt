@@ -5,7 +5,7 @@ use om3_coeff::Key;
 
 /// A key of one of the series, for which a list holds a coefficient. It has the fields of the key in
 /// the tree of that series, since a pair then takes 16 bytes less.
-#[derive(Clone, Copy, Debug, PartialEq, Eq, Hash)]
+#[derive(Clone, Copy, PartialEq, Eq, Hash)]
 pub struct SeriesKey {
     /// The number of the series.
     pub series: u16,

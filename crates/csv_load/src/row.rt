@@ -2,7 +2,7 @@ use std::alloc::{AllocError, AllocFailed};
 use thiserror::Error;
 
 /// What a line says. Its numbers have at most 19 digits.
-#[derive(Clone, Copy, Debug, PartialEq, Eq)]
+#[derive(Clone, Copy, PartialEq, Eq)]
 pub enum Row {
     /// A reading: the time as the line has it, and the value that it has, times 10^scale.
     Point { time: i128, value: i128 },

@@ -8,7 +8,7 @@ use std::alloc::Global;
 const VALUES: u32 = 256;
 
 /// Where the draws of a workload stand: the generator's state, and the last value.
-#[derive(Clone, Copy, Debug, PartialEq, Eq)]
+#[derive(Clone, Copy, PartialEq, Eq)]
 pub(crate) struct Walk {
     pub(crate) state: u64,
     pub(crate) value: i64,

@@ -12,7 +12,7 @@ use request_lines::Request;
 use std::alloc::Global;
 
 /// The kind of the next request.
-#[derive(Clone, Copy, Debug, PartialEq, Eq)]
+#[derive(Clone, Copy, PartialEq, Eq)]
 pub(crate) enum Stage {
     Create,
     Open,
@@ -22,7 +22,7 @@ pub(crate) enum Stage {
 }
 
 /// What a workload has still to give.
-#[derive(Clone, Copy, Debug, PartialEq, Eq)]
+#[derive(Clone, Copy, PartialEq, Eq)]
 pub(crate) struct Plan {
     pub(crate) walk: Walk,
     pub(crate) stage: Stage,

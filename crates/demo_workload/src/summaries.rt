@@ -9,7 +9,7 @@ use line_raster::Bitmap;
 use std::alloc::Global;
 
 /// What the replies to requests are in all.
-#[derive(Clone, Copy, Debug, PartialEq, Eq)]
+#[derive(Clone, Copy, PartialEq, Eq)]
 pub struct Summary {
     /// The requests.
     pub requests: u64,

@@ -4,7 +4,7 @@ use derived_chart::Sum;
 use plain_chart::ValueRange;
 
 /// What a request asks for.
-#[derive(Clone, Copy, Debug)]
+#[derive(Clone, Copy)]
 pub(crate) struct Asked {
     /// The id of the first series.
     pub(crate) x: u16,

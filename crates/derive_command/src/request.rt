@@ -3,7 +3,7 @@ use request_lines::RangeWord;
 use series_book::Name;
 
 /// A chart of `a * x + b * y` of two stored series x and y.
-#[derive(Debug, Drop)]
+#[derive(Drop)]
 pub struct Request {
     /// The name of x.
     pub first: Name,

@@ -16,7 +16,7 @@ pub(crate) struct Words<'a> {
 }
 
 /// The factors, the sides of the canvas, the ends of the window and the range of values.
-#[derive(Clone, Copy, Debug)]
+#[derive(Clone, Copy)]
 pub(crate) struct Numbers {
     pub(crate) a: i64,
     pub(crate) b: i64,

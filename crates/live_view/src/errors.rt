@@ -7,7 +7,7 @@ use thiserror::Error;
 pub struct NoMemory;
 
 /// Why a line wasn't answered, or a push wasn't made.
-#[derive(Debug, Drop)]
+#[derive(Drop)]
 pub enum LiveFault<F> {
     /// What the stepper answered.
     Stepper(F),

@@ -10,7 +10,7 @@ use series_book::{Edit, Name};
 use std::alloc::Global;
 
 /// What a line means for those that follow.
-#[derive(Debug, Drop)]
+#[derive(Drop)]
 pub enum Meaning {
     /// A view, which ends the following of its session.
     View,

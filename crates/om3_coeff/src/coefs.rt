@@ -5,7 +5,7 @@ use crate::key::Key;
 use std::marker::Model;
 
 /// A list of keys with their coefficients.
-#[derive(Debug, Drop)]
+#[derive(Drop)]
 pub struct Coefs {
     items: Vec<(Key, Coef)>,
 }

@@ -1,5 +1,5 @@
 /// A stored value and its time.
-#[derive(Clone, Copy, Debug)]
+#[derive(Clone, Copy)]
 pub struct Sample {
     pub time: i64,
     pub value: i64,

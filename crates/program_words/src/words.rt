@@ -16,7 +16,7 @@ use whole_number::limits::GREATEST_TIME;
 use whole_number::{integer, natural};
 
 /// What the words of the command line ask for.
-#[derive(Debug, Drop)]
+#[derive(Drop)]
 pub enum Command {
     /// A picture of the input's numbers, `w` columns wide and `h` rows high, each 1 to 4,096.
     Plot { w: u16, h: u16 },
@@ -49,7 +49,7 @@ pub enum Command {
 }
 
 /// Why the words aren't taken for a command.
-#[derive(Clone, Copy, Debug, PartialEq, Eq)]
+#[derive(Clone, Copy, PartialEq, Eq)]
 pub enum WordsEnd {
     /// They aren't one: the index of the first wrong word among the command and its operands, and their
     /// number where one is missing.

@@ -3,7 +3,7 @@ use crate::ranges::RangeWord;
 use series_book::{Edit, Name};
 
 /// What a line asks for.
-#[derive(Debug, Drop)]
+#[derive(Drop)]
 pub enum Request {
     /// A change of the book.
     Edit(Edit),

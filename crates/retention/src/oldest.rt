@@ -5,7 +5,7 @@ ghost use Rattle.series_book.specs.declared.limits.TheConstants.{MOST_SLOTS};
 use series_book::Axis;
 
 /// The first stored slot of a series, by its id, with the times of its slots.
-#[derive(Clone, Copy, Debug)]
+#[derive(Clone, Copy)]
 pub(crate) struct Oldest {
     pub(crate) id: u16,
     pub(crate) axis: Axis,

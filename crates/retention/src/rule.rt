@@ -2,7 +2,7 @@
 use series_book::Name;
 
 /// A rule by which old slots are dropped.
-#[derive(Debug, Drop)]
+#[derive(Drop)]
 pub enum Rule {
     /// The slots of a series that stand before a time.
     Before { name: Name, time: i128 },

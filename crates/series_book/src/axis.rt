@@ -1,5 +1,5 @@
 /// Where the slots of a series stand in time, and how many there are.
-#[derive(Clone, Copy, Debug, PartialEq, Eq)]
+#[derive(Clone, Copy, PartialEq, Eq)]
 pub struct Axis {
     /// The time of slot 0.
     pub start: i64,

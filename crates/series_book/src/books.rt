@@ -13,7 +13,7 @@ use std::alloc::Global;
 use std::marker::Model;
 
 /// A list of series, no two of one name. The place of a series in it is the id of the series.
-#[derive(Debug, Drop)]
+#[derive(Drop)]
 pub struct Book {
     series: Vec<Series>,
 }

@@ -6,7 +6,7 @@ use crate::names::Name;
 use crate::value_list::Values;
 
 /// A change of a book.
-#[derive(Debug, Drop)]
+#[derive(Drop)]
 pub enum Edit {
     /// Adds an empty series at the end of the book.
     Create {

@@ -20,7 +20,7 @@ use std::marker::Model;
 
 /// A book that is held as plain lists, and the number of pages that it may take. It is the plain
 /// program to which a store of pages is compared.
-#[derive(Debug, Drop)]
+#[derive(Drop)]
 pub struct ListBook {
     alloc: Global,
     book: Book,

@@ -9,7 +9,7 @@ use std::alloc::Global;
 
 /// A series. Slot i stands at the time `start + i * step`; a whole number v in it means
 /// `v / 10^scale`.
-#[derive(Debug, Drop)]
+#[derive(Drop)]
 pub struct Series {
     pub name: Name,
     pub start: i64,

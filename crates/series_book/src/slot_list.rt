@@ -7,7 +7,7 @@ use std::marker::Model;
 
 /// The slots of a series, from its start on: each holds a whole number or is missing. They are seen
 /// as the list of the slots.
-#[derive(Debug, Drop)]
+#[derive(Drop)]
 pub struct Slots {
     items: Vec<Option<i64>>,
 }

@@ -7,7 +7,7 @@ use std::marker::Model;
 
 /// The values that an edit brings: each is a whole number or missing. They are seen as the list of
 /// the values. They may be larger than what a slot holds, and an edit refuses those that are.
-#[derive(Debug, Drop)]
+#[derive(Drop)]
 pub struct Values {
     items: Vec<Option<i128>>,
 }

@@ -10,7 +10,7 @@ use std::alloc::Global;
 use tree_walk::Tree;
 
 /// The series of a store, in the order of their ids.
-#[derive(Debug, Drop)]
+#[derive(Drop)]
 pub struct Catalog {
     pub(crate) series: Vec<StoredSeries>,
     ghost few: { length series.items ≤ 512 },

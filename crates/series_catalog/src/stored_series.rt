@@ -10,7 +10,7 @@ use tree_walk::Tree;
 
 /// A series, whose slots are in a tree on pages. Slot i stands at the time `start + i * step`; a whole
 /// number v in it means `v / 10^scale`.
-#[derive(Debug, Drop)]
+#[derive(Drop)]
 pub struct StoredSeries {
     pub name: Name,
     pub start: i64,

@@ -10,7 +10,7 @@ use gate_pages::Pages;
 use series_book::{Axis, Name};
 
 /// A series by its name, with the axis of its slots and its scale.
-#[derive(Debug, Drop)]
+#[derive(Drop)]
 pub struct NamedSeries<'a> {
     pub name: &'a Name,
     pub axis: Axis,

@@ -3,7 +3,7 @@ use series_book::Outcome;
 use tree_walk::Tree;
 
 /// How a catalog is put back to what it was before an edit.
-#[derive(Clone, Copy, Debug)]
+#[derive(Clone, Copy)]
 pub(crate) enum Undo {
     /// The edit changed nothing.
     Nothing,
@@ -14,7 +14,7 @@ pub(crate) enum Undo {
 }
 
 /// An edit that is staged: what it answers, and how the catalog is put back.
-#[derive(Clone, Copy, Debug)]
+#[derive(Clone, Copy)]
 pub(crate) struct Staged {
     pub(crate) outcome: Outcome,
     pub(crate) undo: Undo,

@@ -2,7 +2,7 @@ ghost use Rattle.std.specs.Prelude.{◌≡◌};
 ghost use Rattle.value_filter.specs.Boxes.{negated, both_of, either_of};
 
 /// What a filter says of a box of times and values.
-#[derive(Clone, Copy, Debug, PartialEq, Eq)]
+#[derive(Clone, Copy, PartialEq, Eq)]
 pub enum BoxAnswer {
     /// It holds at every whole time and value of the box.
     All,

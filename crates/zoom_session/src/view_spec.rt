@@ -5,7 +5,7 @@ use chart_grid::Grid;
 use value_filter::Filter;
 
 /// The range of values that a view shows.
-#[derive(Clone, Copy, Debug, PartialEq, Eq)]
+#[derive(Clone, Copy, PartialEq, Eq)]
 pub enum RangeSpec {
     /// From the least to the greatest value that the view keeps.
     Auto,
