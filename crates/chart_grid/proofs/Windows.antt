@@ -1,4 +1,5 @@
-use Rattle.std.proofs.Common.{ℕ, ℤ, ◌≡◌, ◌↔◌, subst₂, Result, IfOk, IsOk, Err}
+use Rattle.std.proofs.Common.{ℕ, ℤ, ◌≡◌, ◌↔◌, subst₂, inl, inr, Result, IfOk, IsOk, Err, arith}
+use Rattle.std.proofs.lemmas.Int.{ints}
 use Rattle.chart_grid.specs.Limits.{IsWindow, IsBadWindow}
 use Rattle.chart_grid.specs.Projection.{ShowsWindow, HasCanvas}
 use Rattle.chart_grid.specs.declared.grid.Grid.{Grid}
@@ -20,3 +21,9 @@ pub refused_at : (r : Result Grid GridError) (a b s t : ℤ) → s ≡ a → t �
 refused_at r a b s t e f =
     let P : ℤ → ℤ → Type 0 = λ x y. (r ≡ Err BadWindow) ↔ IsBadWindow x y in
     subst₂ P e f
+
+-- a window isn't a bad one
+pub no_bad_window : (a b : ℤ) → IsWindow a b → IsBadWindow a b → ⊥
+no_bad_window a b window (inl order) = omega (arith, ints, window.rising, order)
+no_bad_window a b window (inr (inl far)) = omega (arith, window.from_size, far)
+no_bad_window a b window (inr (inr far)) = omega (arith, window.to_size, far)

@@ -24,6 +24,7 @@ pub mod Filtered
 pub mod Told
 pub mod Editing
 pub mod Together
+pub mod GroupEnds
 pub mod GatherLemmas
 pub mod GroupReplies
 pub mod Keeping
@@ -31,6 +32,7 @@ pub mod Lasts
 pub mod Showing
 pub mod Openings
 pub mod Others
+pub mod PagesKept
 pub mod Standing
 pub mod OneReply
 pub mod SyncLemmas

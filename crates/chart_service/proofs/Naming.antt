@@ -137,7 +137,8 @@ each_behind : (P : Frame → Type 0) (front behind : List Frame) → Each P (fro
 each_behind P [] behind all = all
 each_behind P (f ∷ fs) behind all = each_behind P fs behind all.1
 
-edit_known : (frame : Frame) (a : ℕ → Bool) → IsEditReply frame → NamesKnown frame a
+-- what tells of an edit names no session
+pub edit_known : (frame : Frame) (a : ℕ → Bool) → IsEditReply frame → NamesKnown frame a
 edit_known (Done slots) a is = tt
 edit_known (Refused number x y) a is = tt
 edit_known (Opened session cache) a is = absurd is

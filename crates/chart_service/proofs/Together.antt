@@ -223,7 +223,7 @@ does_some (Ok t) total book edits answers slice before now image same within man
 }
 does_some (Err e) total book edits answers slice before now image same within many done is = tt
 
-frames_length : (answers : List (Result Outcome Refusal)) → length (frames_of (map answer_of answers)) ≡ length answers
+pub frames_length : (answers : List (Result Outcome Refusal)) → length (frames_of (map answer_of answers)) ≡ length answers
 frames_length answers = length-map (map answer_of answers) frame_of ∙ length-map answers answer_of
 
 pub few_read : {T E : Type 0} (r : Result T E) (answers slice : List (Result Outcome Refusal)) (before now : List Frame) (old new : ℕ) → slice ≡ answers → new ≤ old + 96 * length answers → OnOk r (now ≡ before ++ frames_of (map answer_of slice)) → OnOk r (new + 96 * length before ≤ old + 96 * length now)

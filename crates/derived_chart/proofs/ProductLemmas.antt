@@ -1,9 +1,10 @@
 -- Products of numbers of which one is at most the other.
-use Rattle.std.proofs.Common.{◌≡◌, ℕ, ℤ, pos, negsuc, zero, suc, ◌≤◌, ◌^◌, ◌*ℤ◌, ◌≤ℤ◌, ◌<ℤ◌, arith, ap, sym, ◌∙◌, subst}
+use Rattle.std.proofs.Common.{◌≡◌, ℕ, ℤ, pos, negsuc, zero, suc, ◌≤◌, ◌^◌, ◌*ℤ◌, ◌<◌, ◌≤ℤ◌, ◌<ℤ◌, arith, ap, ap₂, sym, ◌∙◌, subst}
 use Rattle.std.specs.Prelude.{unsigned_abs}
 use Rattle.std.proofs.Math.IntN.{suc_ℤ-*ℤ, pred_ℤ-*ℤ, zero-*ℤ}
 use Rattle.std.proofs.Common.{to_z, of_z, w64}
 use mir.Syntax.{w128}
+use Rattle.std.specs.Int.RustNames.{FitsSigned}
 use Rattle.std.proofs.lemmas.Int.{ints, unsigned_abs-mul, to_z-of_z, fits_signed_from_abs}
 use Rattle.std.proofs.lemmas.Nat.{mul-le}
 use Rattle.om3_coeff.specs.declared.span.Span.{Span}
@@ -57,3 +58,18 @@ given_back a s lo hi small large are =
     let P : ℤ → Type 0 = λ z. AreProducts a s (z, hi) in
     let Q : ℤ → Type 0 = λ z. AreProducts a s (to_z w128 (of_z w128 lo), z) in
     subst Q (sym other) (subst P (sym one) are)
+
+-- a number as the code holds it with more bits
+pub wide : (z u : ℤ) → unsigned_abs z < 2 ^ 127 → u ≡ z → to_z w128 (of_z w128 u) ≡ z
+wide z u small is = ap (λ y. to_z w128 (of_z w128 y)) is ∙ to_z-of_z w128 z (fits_signed_from_abs w128 z (omega (arith, small)))
+
+pub fits_wide : (z u : ℤ) → unsigned_abs z < 2 ^ 127 → u ≡ z → FitsSigned w128 u
+fits_wide z u small is = subst (FitsSigned w128) (sym is) (fits_signed_from_abs w128 z (omega (arith, small)))
+
+-- the product that the code computes with them
+pub wide_product : (a x u v : ℤ) → unsigned_abs a ≤ 10 ^ 9 → unsigned_abs x ≤ 10 ^ 18 → u ≡ to_z w64 (of_z w64 a) → v ≡ to_z w64 (of_z w64 x)
+    → (to_z w128 (of_z w128 u) *ℤ to_z w128 (of_z w128 v)) ≡ (a *ℤ x)
+wide_product a x u v factor value first second =
+    let one : u ≡ a = first ∙ to_z-of_z w64 a (fits_signed_from_abs w64 a (omega (arith, factor))) in
+    let other : v ≡ x = second ∙ to_z-of_z w64 x (fits_signed_from_abs w64 x (omega (arith, value))) in
+    ap₂ (λ y z. y *ℤ z) (wide a u (omega (arith, factor)) one) (wide x v (omega (arith, value)) other)

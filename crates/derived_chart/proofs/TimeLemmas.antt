@@ -1,10 +1,13 @@
 -- Slots of a window, and series on one grid.
-use Rattle.std.proofs.Common.{◌≡◌, ℕ, ℤ, pos, ◌*◌, ◌/◌, ◌%◌, ◌<◌, ◌≤◌, ◌*ℤ◌, ◌<ℤ◌, ◌≢◌, inl, inr, arith, sym, ◌∙◌, ap, subst}
+use Rattle.std.proofs.Common.{◌≡◌, ℕ, ℤ, pos, negsuc, ◌*◌, ◌/◌, ◌%◌, ◌<◌, ◌≤◌, ◌*ℤ◌, ◌<ℤ◌, ◌≢◌, inl, inr, arith, sym, ◌∙◌, ap, ap₂, subst, ◌^◌, ◌+ℤ◌}
+use mir.Syntax.{w128}
+use Rattle.std.specs.Int.RustNames.{FitsSigned}
+use Rattle.derived_chart.proofs.ProductLemmas.{wide, fits_wide}
 use Rattle.std.specs.Prelude.{unsigned_abs, ◌-ℤ◌, neg_ℤ}
 use Rattle.std.proofs.lemmas.Bool.{cases_lt}
 use Rattle.std.proofs.lemmas.Int.{ints, unsigned_abs-mul, to_z-of_z, fits_signed_from_abs}
 use Rattle.std.proofs.Math.Nat.{mul-mod_left}
-use Rattle.std.proofs.lemmas.Nat.{div-add-mod'}
+use Rattle.std.proofs.lemmas.Nat.{div-add-mod', mul-le}
 use Rattle.std.proofs.Common.{to_z, of_z, w64}
 use Rattle.whole_number.specs.Range.{IsValue}
 use Rattle.chart_grid.specs.declared.axis.Axis.{Axis}
@@ -56,3 +59,40 @@ later_shift x y gap step d first second is steps same even less d_is =
       step = steps;
       start = omega (arith, ints, apart, before, scaled, neg_times (gap / step) x.step, ap (λ z. z *ℤ pos x.step) d_is);
     }
+
+-- the time of a slot, as the code computes it with more bits
+pos_times : (k n : ℕ) → (pos k *ℤ pos n) ≡ pos (k * n)
+pos_times k n = grind (arith, ints)
+
+far_small : (i n : ℕ) → i < 2 ^ 64 → n < 2 ^ 32 → i * n ≤ 2 ^ 96
+far_small i n slot step = omega (arith, mul-le i n (2 ^ 64) (2 ^ 32) (omega (arith, slot)) (omega (arith, step)))
+
+far_product : (i n : ℕ) (u v : ℤ) → i < 2 ^ 64 → n < 2 ^ 32 → u ≡ pos i → v ≡ pos n → (to_z w128 (of_z w128 u) *ℤ to_z w128 (of_z w128 v)) ≡ pos (i * n)
+far_product i n u v slot step first second =
+    ap₂ (λ y z. y *ℤ z) (wide (pos i) u (omega (arith, slot)) first) (wide (pos n) v (omega (arith, step)) second) ∙ pos_times i n
+
+pub far_product_fits : (i n : ℕ) (u v : ℤ) → i < 2 ^ 64 → n < 2 ^ 32 → u ≡ pos i → v ≡ pos n → FitsSigned w128 (to_z w128 (of_z w128 u) *ℤ to_z w128 (of_z w128 v))
+far_product_fits i n u v slot step first second = fits_wide (pos (i * n)) _ (omega (arith, far_small i n slot step)) (far_product i n u v slot step first second)
+
+start_small : (z : ℤ) → FitsSigned w64 z → unsigned_abs z ≤ 2 ^ 63
+start_small (pos n) fits = omega (arith, fits.sfits)
+start_small (negsuc n) fits = omega (arith, fits.sfits)
+
+time_small : (z : ℤ) (m : ℕ) → unsigned_abs z ≤ 2 ^ 63 → m ≤ 2 ^ 96 → unsigned_abs (z +ℤ pos m) < 2 ^ 127
+time_small z m small few = omega (arith, ints, small, few)
+
+far_sum : (a : Axis) (i : ℕ) (r u v : ℤ) → FitsSigned w64 a.start → i < 2 ^ 64 → a.step < 2 ^ 32 → r ≡ to_z w64 (of_z w64 a.start) → u ≡ pos i → v ≡ pos a.step
+    → (to_z w128 (of_z w128 r) +ℤ to_z w128 (of_z w128 (to_z w128 (of_z w128 u) *ℤ to_z w128 (of_z w128 v)))) ≡ slot_time a i
+far_sum a i r u v start slot step is first second =
+    ap₂ (λ y z. y +ℤ z) (wide a.start r (omega (arith, start_small a.start start)) (is ∙ to_z-of_z w64 a.start start))
+    (wide (pos (i * a.step)) _ (omega (arith, far_small i a.step slot step)) (far_product i a.step u v slot step first second))
+
+pub far_sum_fits : (a : Axis) (i : ℕ) (r u v : ℤ) → FitsSigned w64 a.start → i < 2 ^ 64 → a.step < 2 ^ 32 → r ≡ to_z w64 (of_z w64 a.start) → u ≡ pos i → v ≡ pos a.step
+    → FitsSigned w128 (to_z w128 (of_z w128 r) +ℤ to_z w128 (of_z w128 (to_z w128 (of_z w128 u) *ℤ to_z w128 (of_z w128 v))))
+far_sum_fits a i r u v start slot step is first second =
+    fits_wide (slot_time a i) _ (time_small a.start (i * a.step) (start_small a.start start) (far_small i a.step slot step)) (far_sum a i r u v start slot step is first second)
+
+pub far_sum_is : (a : Axis) (i : ℕ) (r u v : ℤ) → FitsSigned w64 a.start → i < 2 ^ 64 → a.step < 2 ^ 32 → r ≡ to_z w64 (of_z w64 a.start) → u ≡ pos i → v ≡ pos a.step
+    → to_z w128 (of_z w128 (to_z w128 (of_z w128 r) +ℤ to_z w128 (of_z w128 (to_z w128 (of_z w128 u) *ℤ to_z w128 (of_z w128 v))))) ≡ slot_time a i
+far_sum_is a i r u v start slot step is first second =
+    wide (slot_time a i) _ (time_small a.start (i * a.step) (start_small a.start start) (far_small i a.step slot step)) (far_sum a i r u v start slot step is first second)

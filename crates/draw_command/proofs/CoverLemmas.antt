@@ -69,6 +69,10 @@ covers_start every view h now = record { covers = []; first = first_none every v
 pub covers_begun : (every : ℕ) (view : ViewFrame) (h : List Holding) (taken : ℕ) (now : Option (List ℕ)) → taken ≡ 0 → CoversSoFar every view h taken now now
 covers_begun every view h taken now is = let P : ℕ → Type 0 = λ n. CoversSoFar every view h n now now in subst P (sym is) (covers_start every view h now)
 
+-- what a view is begun with
+pub begun_so : (p : Taking) (view : ViewFrame) (h : List Holding) (taken : ℕ) → p ≡ record { view = view; holdings = h; taken = taken } → (p.view ≡ view) × (p.holdings ≡ h) × (p.taken ≡ taken)
+begun_so p view h taken is = (ap (λ (p : Taking). p.view) is, ap (λ (p : Taking). p.holdings) is, ap (λ (p : Taking). p.taken) is)
+
 -- the cover of a view that is under way
 pub cover_of : (p : Taking) (view : ViewFrame) (h : List Holding) (next : Canvas) → p.view ≡ view → p.holdings ≡ h → DrawsCover p next → DrawsCover (record { view = view; holdings = h; taken = p.taken }) next
 cover_of p view h next view_is holdings_is draws =

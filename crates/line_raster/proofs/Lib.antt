@@ -7,3 +7,4 @@ pub mod RasterLemmas
 pub mod IdealLemmas
 pub mod EndLemmas
 pub mod FlatLemmas
+pub mod OnLemmas

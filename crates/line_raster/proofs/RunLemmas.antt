@@ -1,10 +1,11 @@
-use Rattle.std.proofs.Common.{◌≡◌, ℕ, ◌+◌, ◌*◌, ◌<◌, ◌≤◌, ◌∙◌, inl, inr, arith, subst}
+use Rattle.std.proofs.Common.{◌≡◌, ℕ, pos, ◌+◌, ◌*◌, ◌<◌, ◌≤◌, ◌∙◌, inl, inr, arith, subst}
 use Rattle.std.proofs.lemmas.Bool.{cases_lt}
 use Rattle.std.proofs.lemmas.Nat.{div_below, le-div}
 use Rattle.std.proofs.Math.Nat.{mul-le-mul_left, mul-le-mul_right}
 use Rattle.line_raster.specs.declared.position.Point.{Point}
 use Rattle.line_raster.specs.Canvas.{Canvas}
-use Rattle.line_raster.specs.Segment.{rows, columns, share}
+use Rattle.line_raster.specs.Segment.{rows, columns, share, InRow}
+use Rattle.line_raster.proofs.Drawn.{no_column}
 use Rattle.line_raster.proofs.SegmentLemmas.{share-le}
 use Rattle.line_raster.specs.Run.{IsCut, IsBalanced, IsDrawnTo}
 
@@ -47,6 +48,14 @@ balanced_more rows rows' columns columns' k cut error cut' error' whole rest is_
 -- all rows are those of all columns
 pub cut_all : (most distance cut : ℕ) → 0 < most → cut ≡ most + 1 → IsCut most distance cut (distance + 1)
 cut_all most distance cut some e m reached = ((λ h. omega (arith, share-le most distance m some reached)), (λ h. omega (arith, reached, e)))
+
+-- no column is drawn yet
+pub drawn_none : (p q : Point) (k : ℕ) (c : Canvas) → k ≡ 0 → IsDrawnTo p q k 0 c c
+drawn_none p q k c none = record {
+  drawn = no_column (λ a b. InRow p q a (pos b)) (p.x + k) c (λ x y h. omega (arith, h.column, none));
+  cut = λ n reached. ((λ h. absurd (omega (arith, h))), (λ h. absurd (omega (arith, h, none))));
+  bound = omega arith;
+}
 
 -- a drawn part under other names
 pub record IsRunning (p q : Point) (k first end error : ℕ) (old new : Canvas) : Type 0 where

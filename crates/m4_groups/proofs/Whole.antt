@@ -1,6 +1,7 @@
 -- Rows whose heights are those of some points draw the raster of these points.
-use Rattle.std.proofs.Common.{ℕ, ℤ, suc, pos, ◌≡◌, ◌⊎◌, ◌↔◌, inl, inr, refl, ap, sym, ◌∙◌, subst, List, [], ◌∷◌, map, take, slice_get, option_map, Some}
+use Rattle.std.proofs.Common.{ℕ, ℤ, suc, pos, ◌≡◌, ◌⊎◌, ◌↔◌, ◌≤◌, inl, inr, refl, ap, sym, arith, length, ◌∙◌, subst, List, [], ◌∷◌, map, take, slice_get, option_map, Some}
 use Rattle.std.proofs.lemmas.Option.{slice_get-map}
+use Rattle.std.proofs.lemmas.List.{take_all, length-map}
 use Rattle.chart_grid.specs.declared.grid.Grid.{Grid}
 use Rattle.chart_grid.specs.Projection.{height, column}
 use Rattle.chart_grid.proofs.Heights.{height-rising}
@@ -18,7 +19,7 @@ use Rattle.m4_groups.proofs.Monotone.{point_with, rows_kept}
 use Rattle.m4_groups.proofs.DrawnRows.{drawn_along}
 use Rattle.m4_groups.proofs.Along.{raster_along}
 use Rattle.m4_groups.proofs.Gathering.{rows-folded}
-use Rattle.m4_groups.proofs.Painted.{both, alike, next_drawn}
+use Rattle.m4_groups.proofs.Painted.{both, alike, first_drawn, next_drawn}
 
 spot_pixels : (g : Grid) (lo hi : ℤ) (points : List (ℤ × ℤ)) → map (point_with (λ v. height v lo hi g.h)) (spots g points) ≡ pixels g lo hi points
 spot_pixels g lo hi [] = refl
@@ -76,3 +77,15 @@ next_painted lo hi h rows j i n q r old now mid new ei en eq er drawn joined fil
     (λ x y. regroup (done x y) (join x y) (column x y) (Drawn (take (suc (suc j)) hs) x (pos y))
     (next_drawn hs j s t x (pos y) here next))
     all)
+
+-- the first row is drawn: its column
+pub first_painted : (lo hi : ℤ) (h : ℕ) (rows : List Row) (r : Row) (old new : Canvas) → slice_get rows 0 ≡ Some r → (let s : Row = row_height lo hi h r in Adds (λ x y. InFill s.column s.least s.greatest x (pos y)) old new) → Adds (λ x y. Drawn (take 1 (row_heights lo hi h rows)) x (pos y)) old new
+first_painted lo hi h rows r old new er filled =
+    let first : slice_get (row_heights lo hi h rows) 0 ≡ Some (row_height lo hi h r) = slice_get-map (row_height lo hi h) rows 0 ∙ ap (option_map (row_height lo hi h)) er in
+    alike _ _ old new (λ x y. first_drawn (row_heights lo hi h rows) (row_height lo hi h r) x (pos y) first) filled
+
+-- all rows are drawn
+pub all_painted : (lo hi : ℤ) (h : ℕ) (rows : List Row) (n : ℕ) (old new : Canvas) → length rows ≤ n → Adds (λ x y. Drawn (take n (row_heights lo hi h rows)) x (pos y)) old new → Adds (λ x y. Drawn (row_heights lo hi h rows) x (pos y)) old new
+all_painted lo hi h rows n old new all drawn =
+    let P : List Row → Type 0 = λ l. Adds (λ x y. Drawn l x (pos y)) old new in
+    subst P (take_all n (row_heights lo hi h rows) (omega (arith, all, length-map rows (row_height lo hi h)))) drawn

@@ -1,4 +1,4 @@
-use Rattle.std.proofs.Common.{ℕ, ℤ, ◌≡◌, ◌+◌, ◌-◌, ◌*◌, ◌^◌, ◌<◌, ◌≤◌, min, max, List, refl, sym, ◌∙◌, ap, subst, subst₂, arith}
+use Rattle.std.proofs.Common.{ℕ, ℤ, ◌≡◌, ◌+◌, ◌-◌, ◌*◌, ◌^◌, ◌<◌, ◌≤◌, min, max, inl, inr, List, refl, sym, ◌∙◌, ap, subst, subst₂, arith}
 use Rattle.std.proofs.lemmas.Nat.{pow_pos}
 use Rattle.std.proofs.lemmas.Bool.Decides.{nat_tests}
 use Rattle.std.specs.Int.{w64, cast_signed, cast_unsigned}
@@ -15,7 +15,7 @@ use Rattle.om3_coeff.specs.Walks.{IsPlace, IsReached, IsFirstStored, IsLastStore
 use Rattle.om3_coeff.proofs.ExtremeLemmas.{span_over_is, none-clear}
 use Rattle.om3_coeff.proofs.KeyLemmas.{by_lt, left_first, right_end, left_some, right_some, height_covers}
 use Rattle.om3_coeff.proofs.KnownLemmas.{reached_span}
-use Rattle.om3_coeff.proofs.WalkLemmas.{same_value, slot_range, cut_counts, list_none, top_first, top_end, top_reads}
+use Rattle.om3_coeff.proofs.WalkLemmas.{same_value, slot_range, cut_counts, list_none, list_outside, top_first, top_end, top_reads}
 
 -- two facts of what a call answered
 pub ok_both : {X Y : Type 0} (r : Result X Y) (P Q R : X → Type 0) → ((x : X) → P x → Q x → R x) → IfOk r P → IfOk r Q → IfOk r R
@@ -36,6 +36,13 @@ pub clear_none : (view : NodesView) (list : List (Option ℤ)) (k : Key) (s : Op
     → IsClear list (max a (first_slot k)) (min b (end_slot k))
 clear_none view list k s a b agrees reached none =
     none-clear list (max a (first_slot k)) (min b (end_slot k)) (sym (list_none view list k s a b agrees reached none))
+
+pub clear_outside : (list : List (Option ℤ)) (a b : ℕ) (k : Key) → IsPlace a b k Outside → IsClear list (max a (first_slot k)) (min b (end_slot k))
+clear_outside list a b k place = none-clear list (max a (first_slot k)) (min b (end_slot k)) (sym (list_outside list a b k place))
+
+pub not_within : (a b : ℕ) (k : Key) → IsPlace a b k Outside → a ≤ first_slot k → end_slot k ≤ b → ⊥
+not_within a b k (inl before) from to = omega (arith, before, from, to, has_slots k)
+not_within a b k (inr behind) from to = omega (arith, behind, from, to, has_slots k)
 
 -- a slot with a value
 pub record IsHere (a b : ℕ) (k : Key) : Type 0 where

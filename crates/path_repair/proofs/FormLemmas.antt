@@ -9,7 +9,9 @@ use Rattle.block_disk.specs.Blocks.{IsBlock}
 use Rattle.om3_coeff.specs.declared.span.Span.{Span}
 use Rattle.om3_coeff.specs.Spans.{span}
 use Rattle.node_page.specs.Fields.{level_at, child_at, flag_at}
-use Rattle.node_page.specs.Layout.{KeepsLayout, IsKind}
+use Rattle.node_page.specs.Layout.{KeepsLayout, IsKind, IsFirstBad}
+use Rattle.node_page.specs.declared.errors.BadPage.{BadPage}
+use Rattle.node_page.specs.declared.errors.BadPage.TheVariants.{Kind, Level, Reserved, Flags, Differences, Children}
 use Rattle.node_page.proofs.Blank.{IsBlank, flag_blank, child_blank}
 use Rattle.tree_walk.specs.Trees.{top_of_page}
 use Rattle.page_spans.specs.Lists.{AreLeavesOf}
@@ -103,3 +105,12 @@ ok_no_err (Err error) P is = grind (arith, is)
 pub not_err : {T E : Type 0} (r : Result T E) (P : Type 0) → OnOk r P → false ≡ is_err r → P
 not_err (Ok value) P holds is = holds
 not_err (Err error) P holds is = absurd (grind (arith, is))
+
+-- a page whose field breaks its rule
+pub unkept : (field : BadPage) (page : List ℕ) → IsFirstBad field page → KeepsLayout page → ⊥
+unkept Kind page bad keeps = bad keeps.kind
+unkept Level page bad keeps = bad.1 keeps.level
+unkept Reserved page bad keeps = bad.2 keeps.reserved
+unkept Flags page bad keeps = bad.3 keeps.flags
+unkept Differences page bad keeps = bad.4 keeps.differences
+unkept Children page bad keeps = bad.5 keeps.children

@@ -14,6 +14,7 @@ pub mod EditLemmas
 pub mod KeepLemmas
 pub mod TouchLemmas
 pub mod ReadLemmas
+pub mod SpaceLemmas
 pub mod SpareLemmas
 pub mod CallLemmas
 pub mod DamageLemmas

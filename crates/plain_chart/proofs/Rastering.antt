@@ -56,6 +56,15 @@ end_dot p q order no_columns none x y at =
       row = at.row ∙ no_rows p.y q.y none;
     })
 
+-- the segment from a point to itself is the point
+pub on_itself : (p : Point) (x : ℕ) (y : ℤ) → On p p x y ↔ IsAt p x y
+on_itself p x y = (λ on. there on, λ at. inl (record { no_columns = omega arith; no_rows = omega (arith, ints); column = at.column; row = at.row }))
+  where
+    there : On p p x y → IsAt p x y
+    there (inl dot) = record { column = dot.column; row = dot.row }
+    there (inr (inl wide)) = absurd (omega (arith, wide.some))
+    there (inr (inr high)) = absurd (omega (arith, ints, high.high))
+
 -- the last point of a segment lies on it
 pub on_end : (p q : Point) → p.x ≤ q.x → (x : ℕ) (y : ℤ) → IsAt q x y → On p q x y
 on_end p q order x y at =

@@ -1,3 +1,4 @@
+pub mod Behind
 pub mod LastDigits
 pub mod ReadBack
 pub mod Words

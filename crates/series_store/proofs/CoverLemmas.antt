@@ -1,5 +1,5 @@
 -- What a group of edits did, of a store.
-use Rattle.std.proofs.Common.{◌≡◌, ℕ, false, List, take, Result, Ok, Err, Vec, refl, sym, subst, arith, inl, inr}
+use Rattle.std.proofs.Common.{◌≡◌, ◌<◌, ℕ, false, List, [], length, take, Result, Ok, Err, Vec, refl, sym, subst, arith, inl, inr}
 use Rattle.std.specs.Result.{IsErrAnd}
 use Rattle.block_disk.specs.View.{Image, View, Passes}
 use Rattle.block_disk.proofs.Passing.{passes_none, passes_weaker}
@@ -12,12 +12,12 @@ use Rattle.series_book.specs.declared.refusals.Refusal.{Refusal}
 use Rattle.series_book.specs.EditLists.{after_edits}
 use Rattle.series_catalog.specs.declared.stored_series.StoredSeries.{StoredSeries}
 use Rattle.stored_book.specs.Standing.{StandsForBook}
-use Rattle.series_store.specs.Groups.{IsNoneOrAll}
-use Rattle.series_store.specs.Grouping.{IsDamage, IsGroupAnswered, IsGroupedBy, IsGrouping, IsSameOr}
+use Rattle.series_store.specs.Groups.{IsGroupCause, IsNoneOrAll}
+use Rattle.series_store.specs.Grouping.{DidGroup, IsDamage, IsFailure, IsGroupAnswered, IsGroupedBy, IsGrouping, IsSameOr}
 use Rattle.series_store.specs.Opening.{IsOutside}
 use Rattle.series_store.specs.Staging.{IsCatalogOf}
 use Rattle.series_store.specs.declared.errors.StoreError.{StoreError}
-use Rattle.series_store.specs.declared.errors.StoreError.TheVariants.{NoMemory}
+use Rattle.series_store.specs.declared.errors.StoreError.TheVariants.{Refused, NotAStore, DiskFault, Damaged, NoMemory}
 use Rattle.series_store.proofs.StageLemmas.{catalog_as}
 
 pub answered_starved : {Z : Type 0} (total : ℕ) (book : List Series) (edits : List Edit) (at : View) (result : Result (Vec (Result Outcome Refusal) Z) StoreError) → IsErrAnd result (λ e. e ≡ NoMemory) → IsGroupAnswered total book edits at at result
@@ -33,9 +33,42 @@ answered_starved {Z} total book edits at (Err e) is = record {
   idle = tt;
 }
 
--- one edit did it
-
 -- a group did it
+
+pub did_all : {Z : Type 0} (told told' : Type 0) (old new under under' : View) (s s' : Superblock) (items items' : List StoredSeries) (edits : List Edit) (answers : Vec (Result Outcome Refusal) Z) → 0 < length edits → IsGrouping told told' old new under under' s s' 1 items items' edits [] answers.items answers.items (Ok tt) → DidGroup told told' old new under under' s s' items items' edits (Ok answers)
+did_all {Z} told told' old new under under' s s' items items' edits answers some all = record {
+  covered = (all.some some (omega arith), all.within);
+  moves = all.moves;
+  goes_on = all.goes_on;
+  cause = tt;
+  unchanged = tt;
+  sound = all.sound;
+  total = all.total;
+  slots = all.slots;
+  more = all.more;
+}
+
+-- a group failed, and no page was damaged
+
+cause_of_failure : (e : StoreError) (told : Type 0) (s : Superblock) (old new : View) → (IsDamage e → ⊥) → IsFailure e old.faults new.faults → IsGroupCause e told s old new
+cause_of_failure (Refused refusal) told s old new other failure = failure
+cause_of_failure NotAStore told s old new other failure = failure
+cause_of_failure DiskFault told s old new other failure = failure
+cause_of_failure (Damaged page) told s old new other failure = absurd (other tt)
+cause_of_failure NoMemory told s old new other failure = tt
+
+pub did_fail : {Z : Type 0} (told told' : Type 0) (old new under under' : View) (s s' : Superblock) (items items' : List StoredSeries) (edits : List Edit) (answers : List (Result Outcome Refusal)) (e : StoreError) → (IsDamage e → ⊥) → IsGrouping told told' old new under under' s s' 1 items items' edits [] answers answers (Err e) → DidGroup {Z = Z} told told' old new under under' s s' items items' edits (Err e)
+did_fail {Z} told told' old new under under' s s' items items' edits answers e other group = record {
+  covered = tt;
+  moves = group.moves;
+  goes_on = group.goes_on;
+  cause = cause_of_failure e told s old new other group.failure;
+  unchanged = group.unchanged;
+  sound = tt;
+  total = group.total;
+  slots = tt;
+  more = group.more;
+}
 
 same_or : (total : ℕ) (book : List Series) (edits : List Edit) (covered : ℕ) (old new : View) → StandsForBook old.image total book → Passes old new (IsSameOr old.image total (after_edits total book (take covered edits))) (Quiet old) → Passes old new (IsNoneOrAll total book edits covered) (Quiet old)
 same_or total book edits covered old new stands time =

@@ -283,6 +283,14 @@ pub value_cause_by : (r : Result (Unit {0}) SendError) (told : Type 0) (old new 
 value_cause_by (Ok done) told old new total level page top cause = tt
 value_cause_by (Err e) told old new total level page top cause = value_cause e told old new total level page top cause
 
+-- the same behind a call at which no send failed
+pub text_cause_then : (r : Result (Unit {0}) SendError) (told : Type 0) (old mid new : View) (total level page : ℕ) (top : Option Span) → mid.beside.send_faults ≡ old.beside.send_faults → IfErr r (λ e. IsTextCause e mid new) → IfErr r (λ e. IsSendCause e told old new total level page top)
+text_cause_then (Ok done) told old mid new total level page top quiet cause = tt
+text_cause_then (Err SendFault) told old mid new total level page top quiet cause = risen_on old.beside.send_faults mid.beside.send_faults new.beside.send_faults quiet cause
+text_cause_then (Err DiskFault) told old mid new total level page top quiet cause = absurd cause
+text_cause_then (Err (Damaged at)) told old mid new total level page top quiet cause = absurd cause
+text_cause_then (Err NoMemory) told old mid new total level page top quiet cause = tt
+
 -- the same where the stream tells what was sent
 pub given_part_on : (text waiting piece : List ℕ) (before mid mid' now now' : Option (List ℕ)) → piece ≡ waiting → mid ≡ mid' → now ≡ now' → IsGiven text before mid waiting → PartSent piece mid' now' → (rest : List ℕ) × IsGiven text before now rest
 given_part_on text waiting piece before mid mid' now now' all same same' given part =

@@ -1,6 +1,6 @@
 -- What a plan of the session of a number is, from what the plan of its keys is.
-use Rattle.std.proofs.Common.{◌≡◌, ℕ, ℤ, List, Option, Some, subst, sym}
-use Rattle.std.specs.Prelude.{All, Result, Ok, Err, IfOk, IfErr}
+use Rattle.std.proofs.Common.{◌≡◌, ℕ, ℤ, List, get_or, Option, Some, subst, sym}
+use Rattle.std.specs.Prelude.{All, Result, Ok, Err, IfOk, IfErr, OnOk}
 use Rattle.chart_grid.specs.declared.axis.Axis.{Axis}
 use Rattle.chart_grid.specs.declared.grid.Grid.{Grid}
 use Rattle.om3_coeff.specs.declared.key.Key.{Key}
@@ -11,11 +11,35 @@ use Rattle.needed_nodes.specs.Answers.{IsEntry, IsCauseFor}
 use Rattle.needed_nodes.specs.declared.scan_of.ScanOf.{ScanOf}
 use Rattle.needed_nodes.specs.declared.scan_of.ScanOf.TheVariants as scan
 use Rattle.zoom_session.specs.Planned.{Plan}
+use Rattle.zoom_session.specs.Places.{IsPlaceOf}
 use Rattle.zoom_session.specs.Plans.{AreNeeded, IsPlan, PlansIn, HasEntries, IsTooLarge, RefusesPlan, CountsNeeded, plan_error_of}
+use Rattle.zoom_session.specs.Sessions.{session_of}
 use Rattle.zoom_session.specs.declared.session.Session.{Session}
 use Rattle.zoom_session.specs.declared.errors.PlanError.{PlanError}
 use Rattle.zoom_session.specs.declared.errors.PlanError.TheVariants.{TooLarge, Node, NoMemory}
 use Rattle.zoom_session.proofs.Ordered.{entries_so}
+
+-- the session at the place of the number
+pub session_found : (number place : ℕ) (items ss : List Session) (s : Session) → IsPlaceOf number ss place → items ≡ ss → s ≡ get_or items place s → session_of number ss ≡ Some s
+session_found number place items ss s at same is = let e = at.session s in cc
+
+-- what holds of the keys holds of what the plan needs
+pub of_needed : (Q : List (Key × Coef) → Type 0) (keys : List (Key × Coef)) (r : Result Plan PlanError) → IfOk r (λ plan. plan.needed ≡ keys) → Q keys → IfOk r (λ plan. Q plan.needed)
+of_needed Q keys (Ok plan) same holds = subst Q (sym same) holds
+of_needed Q keys (Err error) same holds = tt
+
+-- what holds over a range holds over an equal one
+pub range_at : (P : ℤ → ℤ → Type 0) (a b lo hi : ℤ) → a ≡ lo → b ≡ hi → P a b → P lo hi
+range_at P a b lo hi low high holds = subst (P lo) high (subst (λ l. P l b) low holds)
+
+-- what holds in any case
+pub always_ok : {T E P : Type 0} (r : Result T E) → P → OnOk r P
+always_ok (Ok v) holds = holds
+always_ok (Err e) holds = tt
+
+pub always_err : {T E : Type 0} {Q : E → Type 0} (r : Result T E) → ((e : E) → Q e) → IfErr r Q
+always_err (Ok v) holds = tt
+always_err (Err e) holds = holds e
 
 pub plans_in : (o : Option Session) (s : Session) (series : ℕ) (r : Result Plan PlanError) → o ≡ Some s → IfOk r (IsPlan s series) → IfOk r (PlansIn o series)
 plans_in o s series r same planned = subst (λ o. IfOk r (PlansIn o series)) (sym same) planned

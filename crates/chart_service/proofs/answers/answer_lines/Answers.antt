@@ -1,4 +1,4 @@
-use Rattle.std.proofs.Common.{◌≡◌, ◌≤◌, ◌^◌, [], ◌∷◌, List, Option, None, Some, Ok, Err, IfNone, IfSome, IsTrue, Vec, Global, length, refl, ap, sym, subst, ◌∙◌, arith}
+use Rattle.std.proofs.Common.{◌≡◌, ℕ, ◌-◌, ◌<◌, ◌≤◌, ◌^◌, [], ◌∷◌, List, Option, None, Some, Ok, Err, IfNone, IfSome, IsTrue, Vec, Global, length, refl, ap, sym, subst, ◌∙◌, arith}
 use Rattle.block_disk.specs.View.{Image}
 use Rattle.chart_world.specs.FaultLaws.{counts_then, counts_kept, disk_stays}
 use Rattle.chart_world.specs.FrontLaws.{read_whole, same_line}
@@ -36,6 +36,10 @@ use Rattle.chart_service.proofs.TurnLemmas.{one_turn, edits_turn, read_first, re
 use Rattle.chart_service.proofs.Sending.{error_goes}
 use Rattle.chart_service.proofs.Stands.{far_first, far_kept, far_line, all_done, ends_same, no_memory_first, ends_lines, ends_line, lasts_first, lasts_take, lasts_line}
 use Rattle.chart_service.proofs.answers.answer_lines.Goals as goal
+
+-- what is left of the 2^32 bytes falls
+nearer : (old new : ℕ) → old < new → new ≤ 2 ^ 32 → 2 ^ 32 - new < 2 ^ 32 - old
+nearer old new passes within = omega (arith, passes, within)
 
 pub lines-init : goal.lines-init
 lines-init g c =
@@ -656,3 +660,24 @@ answer_edits-requires-clause-sound g c =
 pub answer_line-requires-clause-sound : goal.answer_line-requires-clause-sound
 answer_line-requires-clause-sound g c =
     (g.met.P.PageWorld.take_keeps (shown.pages c.lines.service) (shown.pages c.next.new.from) c.next.ensures.beside.store_is.pages_are).fit c.lines.invariant.fit
+
+pub answer_line-requires-clause-short : goal.answer_line-requires-clause-short
+answer_line-requires-clause-short g c = c.line.ensures.short
+
+pub edits_ready-requires-clause-counted : goal.edits_ready-requires-clause-counted
+edits_ready-requires-clause-counted g c = c.in_ok-next.ensures.given
+
+pub edits_ready-requires-clause-within : goal.edits_ready-requires-clause-within
+edits_ready-requires-clause-within g c = c.in_ok-next.ensures.within
+
+pub lines-smaller : goal.lines-smaller
+lines-smaller g c =
+    let m = c.next.new.self in
+    let r = c.edits_ready.new.lines in
+    let ready = c.in_ok-edits-in-Line.ensures in
+    let same : r ≡ m = subst (λ (o : Option (Vec Edit Global)). IfNone o (r ≡ m)) c.in-None.is ready.none in
+    nearer c.lines.lines.given r.given (subst (λ (x : Reading). c.lines.lines.given < x.given) (sym same) (c.in_ok-next.ensures.passes (ap Ok c.in-Line.is))) ready.within
+
+pub lines-smaller-in-Continue-branch-4 : goal.lines-smaller-in-Continue-branch-4
+lines-smaller-in-Continue-branch-4 g c =
+    nearer c.lines.lines.given c.next.new.self.given (c.in_ok-next.ensures.passes_too_long (ap Ok c.in-TooLong.is)) c.in_ok-next.ensures.within

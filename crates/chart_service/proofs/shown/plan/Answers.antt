@@ -1,11 +1,13 @@
-use Rattle.std.proofs.Common.{◌≡◌, ◌∙◌, w64, sym, subst, rules}
+use Rattle.std.proofs.Common.{◌≡◌, ◌≢◌, ◌∙◌, w64, ap, sym, subst, rules, arith}
 use Rattle.std.proofs.lemmas.Int.{to_z-of_z}
+use Rattle.om3_coeff.specs.declared.errors.NodeError.TheVariants.{DiskFault}
 use Rattle.om3_coeff.specs.View.{NodesView, StaysSame}
 use Rattle.om3_coeff.proofs.WalkLemmas.{still_agrees}
 use Rattle.tree_walk.proofs.StepLemmas.{error_so}
 use Rattle.zoom_session.specs.Plans.{AreNeeded, CountsNeeded}
 use Rattle.zoom_session.specs.Sessions.{session_of}
 use Rattle.zoom_session.specs.declared.errors.PlanError.{PlanError}
+use Rattle.zoom_session.specs.declared.errors.PlanError.TheVariants.{Node}
 use Rattle.chart_service.specs.Planning.{RefusesView, CountsOver}
 use Rattle.chart_service.proofs.Told.{tells_so}
 use Rattle.chart_service.proofs.Ranged.{range_refused, plan_refused, plan_counts, range_at, order_back}
@@ -72,3 +74,46 @@ returns-clause-told g c = λ list agrees.
     (g.met.N.Nodes.keeps_on c.args.nodes.now c.shown_range.new.nodes c.plan_view.new.nodes c.shown_range.ensures.kept c.plan_view.ensures.kept) in
     tells_so c.spans_add_up.ensures.all (g.N.Nodes.view c.args.nodes.now) (g.N.Nodes.view c.plan_view.new.nodes) list c.args.axis c.args.spec.now c.root-root.result c.in-Ok.range agrees all
     c.root-root.ensures.root (c.in-Ok.ensures.shown list agrees)
+
+pub returns-in-Err-clause-quiet_err : goal.returns-in-Err-clause-quiet_err
+returns-in-Err-clause-quiet_err g c = λ other. c.in-Err.ensures.quiet_err (λ is. other (ap Node is))
+
+pub returns-in-Err-clause-reads : goal.returns-in-Err-clause-reads
+returns-in-Err-clause-reads g c = omega (arith, c.shown_range.ensures.reads)
+
+pub returns-in-Err-clause-fit : goal.returns-in-Err-clause-fit
+returns-in-Err-clause-fit g c = c.shown_range.ensures.fit
+
+pub returns-in_err-plan-clause-reads : goal.returns-in_err-plan-clause-reads
+returns-in_err-plan-clause-reads g c = omega (arith, c.shown_range.ensures.reads, c.plan_view.ensures.reads)
+
+pub returns-in_err-plan-clause-quiet_err : goal.returns-in_err-plan-clause-quiet_err
+returns-in_err-plan-clause-quiet_err g c =
+    let P : PlanError → Type 0 = λ e. e ≢ Node DiskFault → (g.N.Nodes.view c.plan_view.new.nodes).faults ≡ (g.N.Nodes.view c.args.nodes.now).faults in
+    error_so (λ (e : PlanError). e ≡ c.in_err-plan.field-0.0) P c.from_residual.result c.from_residual.ensures.1
+    (λ e is. subst P (sym is) (λ other. c.in_err-plan.ensures.quiet_err other ∙ c.in-Ok.ensures.quiet))
+
+pub returns-clause-planned : goal.returns-clause-planned
+returns-clause-planned g c = c.in_ok-plan.ensures.planned
+
+pub returns-clause-bounds : goal.returns-clause-bounds
+returns-clause-bounds g c = c.in_ok-plan.ensures.bounds
+
+pub returns-clause-entries : goal.returns-clause-entries
+returns-clause-entries g c = c.in_ok-plan.ensures.entries
+
+pub returns-clause-in_frame : goal.returns-clause-in_frame
+returns-clause-in_frame g c = record { root = c.root-root.ensures.proper c.plan_view.ensures.fit; range = c.in-Ok.ensures.in_frame }
+
+pub returns-clause-reads : goal.returns-clause-reads
+returns-clause-reads g c = omega (arith, c.shown_range.ensures.reads, c.plan_view.ensures.reads)
+
+pub returns-clause-quiet : goal.returns-clause-quiet
+returns-clause-quiet g c = c.in_ok-plan.ensures.quiet ∙ c.in-Ok.ensures.quiet
+
+pub returns-clause-root : goal.returns-clause-root
+returns-clause-root g c =
+    let all : StaysSame (g.N.Nodes.view c.args.nodes.now) (g.N.Nodes.view c.plan_view.new.nodes) =
+    g.met.N.Nodes.keeps_same c.args.nodes.now c.plan_view.new.nodes
+    (g.met.N.Nodes.keeps_on c.args.nodes.now c.shown_range.new.nodes c.plan_view.new.nodes c.shown_range.ensures.kept c.plan_view.ensures.kept) in
+    c.root-root.ensures.root ∙ all.root

@@ -1,5 +1,5 @@
-use Rattle.std.proofs.Common.{sym, ◌∙◌, subst}
-use Rattle.om3_coeff.specs.Spans.{IsClear}
+use Rattle.std.proofs.Common.{true, arith, sym, ◌∙◌, subst}
+use Rattle.om3_coeff.specs.Spans.{IsClear, IsProperIfAny}
 use Rattle.derived_chart.proofs.SumLemmas.{first_clear, second_clear, between, here, beside_as, passed_on}
 use Rattle.derived_chart.proofs.ProductLemmas.{products_as}
 use Rattle.derived_chart.proofs.bounds.bounds.Goals as goal
@@ -54,3 +54,18 @@ returns-clause-one g c = λ xs ys sums trees are single.
 
 pub returns-clause-goes : goal.returns-clause-goes
 returns-clause-goes g c = g.met.T.TwoTrees.goes_on _ _ _ c.in_ok-x.ensures.goes (g.met.T.TwoTrees.goes_on _ _ _ c.slots_of_second-count.ensures.goes c.in_ok-y.ensures.goes)
+
+pub products-first-requires-clause-proper : goal.products-first-requires-clause-proper
+products-first-requires-clause-proper g c = subst IsProperIfAny c.in-Some.is c.in_ok-x.ensures.proper
+
+pub products-second-requires-clause-proper : goal.products-second-requires-clause-proper
+products-second-requires-clause-proper g c = subst IsProperIfAny c.in-Some-2.is c.in_ok-y.ensures.proper
+
+pub both-requires-clause-first : goal.both-requires-clause-first
+both-requires-clause-first g c = c.products-first.ensures.small
+
+pub both-requires-clause-second : goal.both-requires-clause-second
+both-requires-clause-second g c = c.products-second.ensures.small
+
+pub span_in-requires-2-clause-within : goal.span_in-requires-2-clause-within
+span_in-requires-2-clause-within g c = omega (arith, c.beside-from.ensures.within, c.slots_of_second-count.ensures.count, g.met.T.TwoTrees.still_count true _ _ c.slots_of_second-count.ensures.goes)

@@ -52,3 +52,12 @@ pub returns-in_err-least-clause-cause : goal.returns-in_err-least-clause-cause
 returns-in_err-least-clause-cause g c =
     passed_on c.from_residual-in_err-least.result c.in_err-least.field-0.0 (g.T.TwoTrees.causes c.args.trees.now c.best_sum.new.trees) c.from_residual-in_err-least.ensures.1
     (g.met.T.TwoTrees.causes_behind _ _ _ c.in_err-least.field-0.0 (g.met.T.TwoTrees.goes_on _ _ _ c.in_ok-first.ensures.goes c.in_ok-last.ensures.goes) (c.in_ok-last.ensures.quiet ∙ c.in_ok-first.ensures.quiet) c.in_err-least.ensures.cause)
+
+pub returns-in_default-clause-row : goal.returns-in_default-clause-row
+returns-in_default-clause-row g c = λ xs ys sums trees are small. subst (IsFirstStored sums c.args.p c.args.q) c.in_default.is (c.in_ok-first.ensures.first xs ys sums trees are)
+
+pub returns-clause-column : goal.returns-clause-column
+returns-clause-column g c = c.row_of.ensures.column
+
+pub returns-clause-drawable : goal.returns-clause-drawable
+returns-clause-drawable g c = c.row_of.ensures.drawable

@@ -1,8 +1,9 @@
-use Rattle.std.proofs.Common.{false, rules, arith, subst, ◌∙◌}
+use Rattle.std.proofs.Common.{false, rules, arith, subst, ◌+◌, ◌≡◌, ◌∙◌}
 use Rattle.std.proofs.lemmas.Result.{IfOk-weaker, IfErr-weaker}
+use Rattle.derived_chart.specs.Bounds.{AreBetween, IsValueOf}
 use Rattle.derived_chart.specs.Searches.{IsEndOf}
 use Rattle.derived_chart.proofs.SumLemmas.{value_between, passed_on}
-use Rattle.derived_chart.proofs.EndLemmas.{none_large, end_near, end_far}
+use Rattle.derived_chart.proofs.EndLemmas.{none_empty, none_clear, none_large, one_end, end_near, end_far}
 use Rattle.derived_chart.proofs.ends.+end_from.Goals as goal
 
 pub returns-then-are_in_limits-clause-end : goal.returns-then-are_in_limits-clause-end
@@ -59,3 +60,16 @@ pub returns-in-None-clause-cause : goal.returns-in-None-clause-cause
 returns-in-None-clause-cause g t c =
     IfErr-weaker c.end_from-in-None.result (g.T.TwoTrees.causes c.end_from.new.trees c.end_from-in-None.new.trees) (g.T.TwoTrees.causes c.args.trees.now c.end_from-in-None.new.trees)
     (λ e. g.met.T.TwoTrees.causes_behind _ _ _ e (g.met.T.TwoTrees.goes_on _ _ _ c.in_ok-range.ensures.goes c.in_ok-found.ensures.goes) (c.in_ok-found.ensures.quiet ∙ c.in_ok-range.ensures.quiet)) c.end_from-in-None.ensures.cause
+
+pub returns-then-p-q-clause-end : goal.returns-then-p-q-clause-end
+returns-then-p-q-clause-end g t c = λ xs ys sums trees are. none_empty c.args.large sums c.args.p c.args.q c.if-p-q.true
+
+pub returns-in_default-clause-end : goal.returns-in_default-clause-end
+returns-in_default-clause-end g t c = λ xs ys sums trees are.
+    none_clear c.args.large sums c.args.p c.args.q (subst (AreBetween sums c.args.p c.args.q) c.in_default.is (c.in_ok-range.ensures.between xs ys sums trees are))
+
+pub returns-then-q-p-eq1-clause-end : goal.returns-then-q-p-eq1-clause-end
+returns-then-q-p-eq1-clause-end g t c = λ xs ys sums trees are.
+    let single : c.args.q ≡ c.args.p + 1 = omega arith in
+    one_end c.args.side c.args.large sums c.args.p c.args.q c.in-Some.range c.one_found.result single
+    (subst (IsValueOf sums c.args.p) c.in-Some.is (c.in_ok-range.ensures.one xs ys sums trees are single)).0 c.one_found.ensures

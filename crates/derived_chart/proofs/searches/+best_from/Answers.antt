@@ -1,7 +1,7 @@
 use Rattle.std.proofs.Common.{rules, arith, false, ◌+◌, ◌-◌, ◌/◌, ◌∙◌}
 use Rattle.std.proofs.lemmas.Result.{IfOk-weaker, IfErr-weaker}
 use Rattle.derived_chart.specs.Searches.{IsBestWith}
-use Rattle.derived_chart.proofs.BestLemmas.{best_worse, best_left, best_right}
+use Rattle.derived_chart.proofs.BestLemmas.{best_none, best_worse, best_left, best_right}
 use Rattle.derived_chart.proofs.SumLemmas.{passed_on}
 use Rattle.derived_chart.proofs.searches.+best_from.Goals as goal
 
@@ -99,3 +99,32 @@ pub returns-in_err-first-2-clause-cause : goal.returns-in_err-first-2-clause-cau
 returns-in_err-first-2-clause-cause g t c =
     passed_on c.from_residual-in_err-first-2.result c.in_err-first-2.field-0.0 (g.T.TwoTrees.causes c.args.trees.now c.best_from-2.new.trees) c.from_residual-in_err-first-2.ensures.1
     (g.met.T.TwoTrees.causes_behind _ _ _ c.in_err-first-2.field-0.0 (g.met.T.TwoTrees.goes_on _ _ _ c.in_ok-left.ensures.goes c.in_ok-right.ensures.goes) (c.in_ok-right.ensures.quiet ∙ c.in_ok-left.ensures.quiet) c.in_err-first-2.ensures.cause)
+
+pub returns-in_default-clause-best : goal.returns-in_default-clause-best
+returns-in_default-clause-best g t c = λ xs ys sums trees are range.
+    best_none c.args.best sums c.args.p c.args.q c.args.found.now c.args.range.now c.in_default.is range
+
+pub returns-then-are_few-clause-best : goal.returns-then-are_few-clause-best
+returns-then-are_few-clause-best g t c = λ xs ys sums trees are range. c.best_of_few.ensures.best xs ys sums trees are
+
+pub best_from-requires : goal.best_from-requires
+best_from-requires g t c κs within =
+    let one = g.met.T.TwoTrees.still_count false _ _ c.in_ok-left.ensures.goes in
+    let two = g.met.T.TwoTrees.still_count false _ _ c.in_ok-right.ensures.goes in (
+      omega (arith, c.requires.some, c.are_few.ensures.no c.if-are_few.false),
+      (
+        search rules,
+        (c.in_ok-right.ensures.fit, (omega (arith, c.requires.some, c.are_few.ensures.no c.if-are_few.false), (omega (arith, c.requires.within, one, two), (c.requires.few, c.requires.small)))),
+      ),
+    )
+
+pub best_from-requires-2 : goal.best_from-requires-2
+best_from-requires-2 g t c κs within =
+    let one = g.met.T.TwoTrees.still_count false _ _ c.in_ok-left.ensures.goes in
+    let two = g.met.T.TwoTrees.still_count false _ _ c.in_ok-right.ensures.goes in (
+      omega (arith, c.requires.some, c.are_few.ensures.no c.if-are_few.false),
+      (
+        search rules,
+        (c.in_ok-right.ensures.fit, (omega (arith, c.requires.some, c.are_few.ensures.no c.if-are_few.false), (omega (arith, c.requires.some, c.requires.within, one, two), (omega (arith, c.requires.some, c.requires.few), c.requires.small)))),
+      ),
+    )

@@ -1,10 +1,13 @@
-use Rattle.std.proofs.Common.{rules, arith, ◌≤◌}
+use Rattle.std.proofs.Common.{rules, arith, ◌≤◌, ◌∙◌}
+use Rattle.std.proofs.lemmas.Int.{ints}
+use Rattle.std.proofs.lemmas.Result.{IfErr-weaker}
 use Rattle.om3_coeff.specs.Keys.{left_of, right_of}
-use Rattle.om3_coeff.specs.View.{Agrees, StaysSame}
+use Rattle.om3_coeff.specs.View.{Agrees, HasCause, StaysSame}
 use Rattle.om3_coeff.proofs.WalkLemmas.{key_small, go_to, still_agrees}
+use Rattle.om3_coeff.proofs.CauseLemmas.{passed_on, later_cause}
 use Rattle.om3_coeff.specs.Keys.{end_slot}
 use Rattle.derived_chart.specs.Slots.{AreReadBelow}
-use Rattle.derived_chart.proofs.SlotLemmas.{read_missing, read_apart, read_here, here_values, read_left, read_middle, read_right, on_ok}
+use Rattle.derived_chart.proofs.SlotLemmas.{read_missing, read_apart, slot_end, slot_first, read_here, here_values, read_left, read_middle, read_right, on_ok}
 use Rattle.derived_chart.proofs.slots.+read_below.Goals as goal
 
 pub returns-in_default-clause-list : goal.returns-in_default-clause-list
@@ -84,3 +87,43 @@ returns-clause-list g t c = λ list agrees read.
     (read_middle list c.args.base.now c.args.count c.args.key c.left.result c.right.result c.read_below.new.slots c.left.ensures c.right.ensures
     (c.in_ok-read_below.ensures.list list then
     (read_left list c.args.base.now c.args.count c.args.key c.left.result c.args.slots.now low c.left.ensures read))))
+
+pub put-requires-clause-low : goal.put-requires-clause-low
+put-requires-clause-low g t c = omega (arith, ints, slot_end c.args.key (omega (arith, c.if-key-eq0.true)), (c.is_apart.ensures.no c.if-is_apart.false).0)
+
+pub put-requires-clause-high : goal.put-requires-clause-high
+put-requires-clause-high g t c = omega (arith, ints, slot_first c.args.key (omega (arith, c.if-key-eq0.true)), (c.is_apart.ensures.no c.if-is_apart.false).1)
+
+pub returns-in_err-read_below-clause-kept : goal.returns-in_err-read_below-clause-kept
+returns-in_err-read_below-clause-kept g t c = g.met.N.Nodes.keeps_on c.args.nodes.now c.ask.new.nodes c.read_below.new.nodes c.in_ok-left.ensures.kept c.in_err-read_below.ensures.kept
+
+pub returns-in_err-read_below-clause-faults : goal.returns-in_err-read_below-clause-faults
+returns-in_err-read_below-clause-faults g t c = omega (arith, c.in_ok-left.ensures.faults, c.in_err-read_below.ensures.faults)
+
+pub returns-in_err-read_below-clause-cause : goal.returns-in_err-read_below-clause-cause
+returns-in_err-read_below-clause-cause g t c =
+    let same = g.met.N.Nodes.keeps_same c.args.nodes.now c.ask.new.nodes c.in_ok-left.ensures.kept in
+    passed_on c.from_residual-in_err-read_below.result c.in_err-read_below.field-0.0 (HasCause (g.N.Nodes.view c.args.nodes.now) (g.N.Nodes.view c.read_below.new.nodes)) c.from_residual-in_err-read_below.ensures.1
+    (later_cause (g.N.Nodes.view c.args.nodes.now) (g.N.Nodes.view c.ask.new.nodes) (g.N.Nodes.view c.read_below.new.nodes) c.in_err-read_below.field-0.0 same c.in_ok-left.ensures.quiet c.in_err-read_below.ensures.cause)
+
+pub returns-clause-values : goal.returns-clause-values
+returns-clause-values g t c = λ has. c.read_below-2.ensures.values (c.in_ok-read_below.ensures.values has)
+
+pub returns-clause-room : goal.returns-clause-room
+returns-clause-room g t c = c.read_below-2.ensures.room ∙ c.in_ok-read_below.ensures.room
+
+pub returns-clause-kept : goal.returns-clause-kept
+returns-clause-kept g t c =
+    g.met.N.Nodes.keeps_on c.args.nodes.now c.read_below.new.nodes c.read_below-2.new.nodes
+    (g.met.N.Nodes.keeps_on c.args.nodes.now c.ask.new.nodes c.read_below.new.nodes c.in_ok-left.ensures.kept c.in_ok-read_below.ensures.kept) c.read_below-2.ensures.kept
+
+pub returns-clause-faults : goal.returns-clause-faults
+returns-clause-faults g t c = omega (arith, c.in_ok-left.ensures.faults, c.in_ok-read_below.ensures.faults, c.read_below-2.ensures.faults)
+
+pub returns-clause-cause : goal.returns-clause-cause
+returns-clause-cause g t c =
+    let same = g.met.N.Nodes.keeps_same c.args.nodes.now c.read_below.new.nodes
+    (g.met.N.Nodes.keeps_on c.args.nodes.now c.ask.new.nodes c.read_below.new.nodes c.in_ok-left.ensures.kept c.in_ok-read_below.ensures.kept) in
+    IfErr-weaker c.read_below-2.result (HasCause (g.N.Nodes.view c.read_below.new.nodes) (g.N.Nodes.view c.read_below-2.new.nodes)) (HasCause (g.N.Nodes.view c.args.nodes.now) (g.N.Nodes.view c.read_below-2.new.nodes))
+    (λ e. later_cause (g.N.Nodes.view c.args.nodes.now) (g.N.Nodes.view c.read_below.new.nodes) (g.N.Nodes.view c.read_below-2.new.nodes) e same (c.in_ok-read_below.ensures.quiet ∙ c.in_ok-left.ensures.quiet))
+    c.read_below-2.ensures.cause

@@ -1,7 +1,7 @@
 use Rattle.std.proofs.Common.{refl, sym, subst, ◌∙◌}
 use Rattle.draw_command.specs.declared.draw_end.DrawEnd.{DrawEnd}
 use Rattle.draw_command.specs.Draws.{FramesStop}
-use Rattle.draw_command.proofs.Errors.{error_so}
+use Rattle.draw_command.proofs.Errors.{done_is_no_err, error_so}
 use Rattle.draw_command.proofs.DiskKept.{stays_none, stays_then}
 use Rattle.draw_command.proofs.DrawnFrames.{drawn_none, drawn_frame, frame_stops, takes_so, shorter}
 use Rattle.draw_command.proofs.drawing.draw_frames.Goals as goal
@@ -30,7 +30,7 @@ frames-preserved-in_ok-draw_frame-in-Some g c =
     record {
       drawn = drawn_frame c.args.every c.args.decoder.now c.frames.decoder c.next.new.self c.in-Some.frame c.args.client.now c.frames.client c.draw_frame.new.client
           (sent c.args.streams.now) (sent c.frames.streams) (sent c.draw_frame.new.streams) takes made.done inv.drawn;
-      send_faults = made.quiet_sends (λ is. cc) ∙ inv.send_faults;
+      send_faults = made.quiet_sends (done_is_no_err _ _) ∙ inv.send_faults;
       left = made.left ∙ inv.left;
       read_faults = made.read_faults ∙ inv.read_faults;
       disk = stays_then (view c.args.streams.now) (view c.frames.streams) (view c.draw_frame.new.streams) inv.disk made.disk;
@@ -51,7 +51,7 @@ frames-preserved-in_ok-draw_frame-in-Some-2 g c =
     record {
       drawn = drawn_frame c.args.every c.args.decoder.now c.frames.decoder c.next.new.self c.in-Some.frame c.args.client.now c.frames.client c.draw_frame.new.client
           (sent c.args.streams.now) (sent c.frames.streams) (sent c.draw_frame.new.streams) takes made.done inv.drawn;
-      send_faults = made.quiet_sends (λ is. cc) ∙ inv.send_faults;
+      send_faults = made.quiet_sends (done_is_no_err _ _) ∙ inv.send_faults;
       left = made.left ∙ inv.left;
       read_faults = made.read_faults ∙ inv.read_faults;
       disk = stays_then (view c.args.streams.now) (view c.frames.streams) (view c.draw_frame.new.streams) inv.disk made.disk;
@@ -72,7 +72,7 @@ frames-preserved g c =
     record {
       drawn = drawn_frame c.args.every c.args.decoder.now c.frames.decoder c.next.new.self c.in-Some.frame c.args.client.now c.frames.client c.draw_frame.new.client
           (sent c.args.streams.now) (sent c.frames.streams) (sent c.draw_frame.new.streams) takes made.done inv.drawn;
-      send_faults = made.quiet_sends (λ is. cc) ∙ inv.send_faults;
+      send_faults = made.quiet_sends (done_is_no_err _ _) ∙ inv.send_faults;
       left = made.left ∙ inv.left;
       read_faults = made.read_faults ∙ inv.read_faults;
       disk = stays_then (view c.args.streams.now) (view c.frames.streams) (view c.draw_frame.new.streams) inv.disk made.disk;

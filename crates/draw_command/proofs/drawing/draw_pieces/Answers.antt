@@ -3,7 +3,7 @@ use Rattle.std.proofs.lemmas.List.{length-take}
 use Rattle.draw_command.specs.declared.draw_end.DrawEnd.{DrawEnd}
 use Rattle.draw_command.specs.Draws.{EndsDraw}
 use Rattle.draw_command.proofs.DiskKept.{stays_none, stays_taken, stays_then}
-use Rattle.draw_command.proofs.Errors.{error_so, if_err, on_ok}
+use Rattle.draw_command.proofs.Errors.{done_is_no_err, error_so, if_err, on_ok}
 use Rattle.draw_command.proofs.DrawnFrames.{drawn_start, start_partial, start_counted, read_all, cut_so, stopped_so, within_so, drawn_piece, drawn_sent, counted_more}
 use Rattle.draw_command.proofs.drawing.draw_pieces.Goals as goal
 
@@ -96,8 +96,8 @@ pieces-preserved g c =
       drawn = drawn_piece c.args.every o (left c.pieces.streams) (left c.draw_piece.new.streams) c.min-fits.result c.in_ok-count.count
           c.take_piece.new.buffer (take c.min-fits.result c.take_piece.new.buffer) c.pieces.decoder c.draw_piece.new.decoder c.pieces.client c.draw_piece.new.client
           before (sent c.take_piece.new.streams) (sent c.draw_piece.new.streams) taken.given (made.left ∙ taken.left) all refl made.done.0 drawn;
-      read_faults = made.read_faults ∙ taken.quiet_reads (λ is. cc) ∙ inv.read_faults;
-      send_faults = made.quiet_sends (λ is. cc) ∙ taken.send_faults ∙ inv.send_faults;
+      read_faults = made.read_faults ∙ taken.quiet_reads (done_is_no_err _ _) ∙ inv.read_faults;
+      send_faults = made.quiet_sends (done_is_no_err _ _) ∙ taken.send_faults ∙ inv.send_faults;
       disk = stays_then (view c.args.streams.now) (view c.take_piece.new.streams) (view c.draw_piece.new.streams)
           (stays_then (view c.args.streams.now) (view c.pieces.streams) (view c.take_piece.new.streams) inv.disk
           (stays_taken (view c.pieces.streams) (view c.take_piece.new.streams) (g.met.S.World.take_keeps c.pieces.streams c.take_piece.new.streams taken.beside) (g.met.S.World.take_passes c.pieces.streams c.take_piece.new.streams taken.beside))) made.disk;

@@ -1,4 +1,5 @@
 use Rattle.std.proofs.Common.{rules, arith, refl, ◌≤◌, ◌∙◌}
+use Rattle.std.proofs.Math.Nat.{le_trans}
 use Rattle.om3_coeff.specs.Keys.{left_of, right_of}
 use Rattle.om3_coeff.specs.View.{Agrees, StaysSame, HasCause}
 use Rattle.om3_coeff.proofs.WalkLemmas.{key_small, go_to, ask_at, ask_left, still_agrees, both_below_at, right_follows_at}
@@ -156,3 +157,58 @@ pub returns-in_ok-fill_below-in-Part-2-clause-reads : goal.returns-in_ok-fill_be
 returns-in_ok-fill_below-in-Part-2-clause-reads g t c =
     reads_both c.args.scan.now c.args.key c.left.result c.right.result _ _ _ _ (omega (arith, c.if-key-eq0.false)) c.in-Part.ensures c.left.ensures c.right.ensures
     (c.in_ok-left-in-Part.ensures.one_read c.requires.follows) c.in_ok-fill_below-in-Part.ensures.reads c.in_ok-fill_below-in-Part-2.ensures.reads
+
+pub returns-in_err-row-in-Everything-clause-cause : goal.returns-in_err-row-in-Everything-clause-cause
+returns-in_err-row-in-Everything-clause-cause g t c =
+    err_cause _ _ c.in_err-row-in-Everything.field-0.0 c.from_residual.ensures.1 c.in_err-row-in-Everything.ensures.cause
+
+pub returns-in_err-row-in-Everything-clause-quiet_err : goal.returns-in_err-row-in-Everything-clause-quiet_err
+returns-in_err-row-in-Everything-clause-quiet_err g t c =
+    err_cause _ _ c.in_err-row-in-Everything.field-0.0 c.from_residual.ensures.1 c.in_err-row-in-Everything.ensures.quiet_err
+
+pub returns-in_err-left-in-Part-clause-cause : goal.returns-in_err-left-in-Part-clause-cause
+returns-in_err-left-in-Part-clause-cause g t c =
+    err_cause _ _ c.in_err-left-in-Part.field-0.0 c.from_residual-in_err-left-in-Part.ensures.1 c.in_err-left-in-Part.ensures.cause
+
+pub returns-in_err-left-in-Part-clause-quiet_err : goal.returns-in_err-left-in-Part-clause-quiet_err
+returns-in_err-left-in-Part-clause-quiet_err g t c =
+    err_cause _ _ c.in_err-left-in-Part.field-0.0 c.from_residual-in_err-left-in-Part.ensures.1 c.in_err-left-in-Part.ensures.quiet_err
+
+pub returns-in_err-fill_below-in-Part-clause-kept : goal.returns-in_err-fill_below-in-Part-clause-kept
+returns-in_err-fill_below-in-Part-clause-kept g t c =
+    g.met.N.Nodes.keeps_on c.args.nodes.now c.ask.new.nodes c.fill_below.new.nodes c.in_ok-left-in-Part.ensures.kept c.in_err-fill_below-in-Part.ensures.kept
+
+pub returns-in_err-fill_below-in-Part-clause-faults : goal.returns-in_err-fill_below-in-Part-clause-faults
+returns-in_err-fill_below-in-Part-clause-faults g t c =
+    le_trans c.in_ok-left-in-Part.ensures.faults c.in_err-fill_below-in-Part.ensures.faults
+
+pub returns-in_err-fill_below-in-Part-clause-cause : goal.returns-in_err-fill_below-in-Part-clause-cause
+returns-in_err-fill_below-in-Part-clause-cause g t c =
+    err_cause _ _ c.in_err-fill_below-in-Part.field-0.0 c.from_residual-in_err-fill_below-in-Part.ensures.1
+    (cause_before (g.N.Nodes.view c.args.nodes.now) (g.N.Nodes.view c.ask.new.nodes) (g.N.Nodes.view c.fill_below.new.nodes) c.in_err-fill_below-in-Part.field-0.0
+    (g.met.N.Nodes.keeps_same c.args.nodes.now c.ask.new.nodes c.in_ok-left-in-Part.ensures.kept) c.in_ok-left-in-Part.ensures.quiet c.in_err-fill_below-in-Part.ensures.cause)
+
+pub returns-in_err-fill_below-in-Part-clause-quiet_err : goal.returns-in_err-fill_below-in-Part-clause-quiet_err
+returns-in_err-fill_below-in-Part-clause-quiet_err g t c =
+    err_cause _ _ c.in_err-fill_below-in-Part.field-0.0 c.from_residual-in_err-fill_below-in-Part.ensures.1
+    (λ ne. c.in_err-fill_below-in-Part.ensures.quiet_err ne ∙ c.in_ok-left-in-Part.ensures.quiet)
+
+pub returns-in_err-fill_below-in-Part-2-clause-faults : goal.returns-in_err-fill_below-in-Part-2-clause-faults
+returns-in_err-fill_below-in-Part-2-clause-faults g t c =
+    le_trans c.in_ok-left-in-Part.ensures.faults (le_trans c.in_ok-fill_below-in-Part.ensures.faults c.in_err-fill_below-in-Part-2.ensures.faults)
+
+pub returns-in_err-fill_below-in-Part-2-clause-quiet_err : goal.returns-in_err-fill_below-in-Part-2-clause-quiet_err
+returns-in_err-fill_below-in-Part-2-clause-quiet_err g t c =
+    err_cause _ _ c.in_err-fill_below-in-Part-2.field-0.0 c.from_residual-in_err-fill_below-in-Part-2.ensures.1
+    (λ ne. c.in_err-fill_below-in-Part-2.ensures.quiet_err ne ∙ (c.in_ok-fill_below-in-Part.ensures.quiet ∙ c.in_ok-left-in-Part.ensures.quiet))
+
+pub returns-in_ok-fill_below-in-Part-2-clause-faults : goal.returns-in_ok-fill_below-in-Part-2-clause-faults
+returns-in_ok-fill_below-in-Part-2-clause-faults g t c =
+    le_trans c.in_ok-left-in-Part.ensures.faults (le_trans c.in_ok-fill_below-in-Part.ensures.faults c.in_ok-fill_below-in-Part-2.ensures.faults)
+
+pub returns-in_ok-fill_below-in-Part-2-clause-quiet : goal.returns-in_ok-fill_below-in-Part-2-clause-quiet
+returns-in_ok-fill_below-in-Part-2-clause-quiet g t c =
+    c.in_ok-fill_below-in-Part-2.ensures.quiet ∙ (c.in_ok-fill_below-in-Part.ensures.quiet ∙ c.in_ok-left-in-Part.ensures.quiet)
+
+pub returns-in_ok-fill_below-in-Part-2-clause-shown : goal.returns-in_ok-fill_below-in-Part-2-clause-shown
+returns-in_ok-fill_below-in-Part-2-clause-shown g t c = λ h. c.in_ok-fill_below-in-Part-2.ensures.shown (c.in_ok-fill_below-in-Part.ensures.shown h)

@@ -1,5 +1,5 @@
 use Rattle.std.proofs.lemmas.Result.{err_from_is_err_and}
-use Rattle.std.proofs.Common.{◌∙◌, inl, inr, arith}
+use Rattle.std.proofs.Common.{refl, ◌∙◌, inl, inr, arith}
 use Rattle.block_disk.specs.View.{Nowhere, At}
 use Rattle.gate_pages.proofs.Moving.{moves_then, moves_weaker, moves_among}
 use Rattle.gate_pages.proofs.opening.formatted.Goals as goal
@@ -34,3 +34,33 @@ pub returns-in_err-count-clause-quiet_err : goal.returns-in_err-count-clause-qui
 returns-in_err-count-clause-quiet_err g c =
     let p = err_from_is_err_and c.from_residual-in_err-count.result c.from_residual-in_err-count.ensures.1 in
     rw (p.1, p.2) c.in_err-count.ensures.quiet_err
+
+pub returns-in_err-buffer-clause-cause : goal.returns-in_err-buffer-clause-cause
+returns-in_err-buffer-clause-cause g c =
+    let p = err_from_is_err_and c.from_residual.result c.from_residual.ensures.1 in
+    rw (p.1, p.2) tt
+
+pub returns-in_err-buffer-clause-left : goal.returns-in_err-buffer-clause-left
+returns-in_err-buffer-clause-left g c =
+    let p = err_from_is_err_and c.from_residual.result c.from_residual.ensures.1 in
+    rw (p.1, p.2) tt
+
+pub returns-in_err-buffer-clause-quiet_err : goal.returns-in_err-buffer-clause-quiet_err
+returns-in_err-buffer-clause-quiet_err g c =
+    let p = err_from_is_err_and c.from_residual.result c.from_residual.ensures.1 in
+    rw (p.1, p.2) (λ _. refl)
+
+pub returns-in_err-buffer-clause-no_memory : goal.returns-in_err-buffer-clause-no_memory
+returns-in_err-buffer-clause-no_memory g c =
+    let p = err_from_is_err_and c.from_residual.result c.from_residual.ensures.1 in
+    rw (p.1, p.2) (λ _. refl)
+
+pub returns-in_err-count-clause-cause : goal.returns-in_err-count-clause-cause
+returns-in_err-count-clause-cause g c =
+    let p = err_from_is_err_and c.from_residual-in_err-count.result c.from_residual-in_err-count.ensures.1 in
+    rw (p.1, p.2) c.in_err-count.ensures.cause
+
+pub returns-in_err-count-clause-left : goal.returns-in_err-count-clause-left
+returns-in_err-count-clause-left g c =
+    let p = err_from_is_err_and c.from_residual-in_err-count.result c.from_residual-in_err-count.ensures.1 in
+    rw (p.1, p.2) c.in_err-count.ensures.left

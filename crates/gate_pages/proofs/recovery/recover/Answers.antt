@@ -1,4 +1,5 @@
-use Rattle.std.proofs.Common.{◌≡◌, ◌∙◌, ◌≤◌, ◌+◌, ℕ, List, length, Some, ap, sym, subst, arith, option_map, Option, IfSome, IsTrue}
+use Rattle.std.proofs.Common.{refl, ◌≡◌, ◌∙◌, ◌≤◌, ◌+◌, ℕ, List, length, Some, ap, sym, subst, arith, option_map, Option, IfSome, IsTrue}
+use Rattle.std.proofs.lemmas.Result.{err_from_is_err_and}
 use Rattle.arrayvec.specs.ArrayVec.{ArrayVec}
 use Rattle.block_disk.specs.View.{View, Honest, Moves, Nowhere}
 use Rattle.block_disk.proofs.Passing.{passes_weaker}
@@ -211,3 +212,78 @@ returns-clause-moves g c =
     let few : length c.in-Some.numbers.items ≤ 64 = subst F c.in-Some.is c.directory.ensures.few in
     let same = ap (λ (ns : List ℕ). length ns) c.as_slice.ensures.value in
     replay_moves (length c.as_slice.result.now) view0 view3 (view c.replay.new.disk) (omega (arith, few, same)) quiet3 c.replay.ensures.moves
+
+pub returns-in_err-sync-clause-left : goal.returns-in_err-sync-clause-left
+returns-in_err-sync-clause-left g c =
+    let err = err_from_is_err_and c.from_residual.result c.from_residual.ensures.1 in
+    rw (err.1, err.2) tt
+
+pub returns-in_err-sync-clause-quiet_err : goal.returns-in_err-sync-clause-quiet_err
+returns-in_err-sync-clause-quiet_err g c =
+    let err = err_from_is_err_and c.from_residual.result c.from_residual.ensures.1 in
+    rw (err.1, err.2) (λ no. absurd (no refl))
+
+pub returns-in_err-sync-clause-no_memory : goal.returns-in_err-sync-clause-no_memory
+returns-in_err-sync-clause-no_memory g c =
+    let err = err_from_is_err_and c.from_residual.result c.from_residual.ensures.1 in
+    rw (err.1, err.2) (λ is. absurd (cc (is)))
+
+pub returns-in_err-read_block-clause-left : goal.returns-in_err-read_block-clause-left
+returns-in_err-read_block-clause-left g c =
+    let err = err_from_is_err_and c.from_residual-in_err-read_block.result c.from_residual-in_err-read_block.ensures.1 in
+    rw (err.1, err.2) tt
+
+pub returns-in_err-read_block-clause-quiet_err : goal.returns-in_err-read_block-clause-quiet_err
+returns-in_err-read_block-clause-quiet_err g c =
+    let err = err_from_is_err_and c.from_residual-in_err-read_block.result c.from_residual-in_err-read_block.ensures.1 in
+    rw (err.1, err.2) (λ no. absurd (no refl))
+
+pub returns-in_err-read_block-clause-no_memory : goal.returns-in_err-read_block-clause-no_memory
+returns-in_err-read_block-clause-no_memory g c =
+    let err = err_from_is_err_and c.from_residual-in_err-read_block.result c.from_residual-in_err-read_block.ensures.1 in
+    rw (err.1, err.2) (λ is. absurd (cc (is)))
+
+pub returns-in_err-read_block-2-clause-left : goal.returns-in_err-read_block-2-clause-left
+returns-in_err-read_block-2-clause-left g c =
+    let err = err_from_is_err_and c.from_residual-in_err-read_block-2.result c.from_residual-in_err-read_block-2.ensures.1 in
+    rw (err.1, err.2) tt
+
+pub returns-in_err-read_block-2-clause-quiet_err : goal.returns-in_err-read_block-2-clause-quiet_err
+returns-in_err-read_block-2-clause-quiet_err g c =
+    let err = err_from_is_err_and c.from_residual-in_err-read_block-2.result c.from_residual-in_err-read_block-2.ensures.1 in
+    rw (err.1, err.2) (λ no. absurd (no refl))
+
+pub returns-in_err-read_block-2-clause-no_memory : goal.returns-in_err-read_block-2-clause-no_memory
+returns-in_err-read_block-2-clause-no_memory g c =
+    let err = err_from_is_err_and c.from_residual-in_err-read_block-2.result c.from_residual-in_err-read_block-2.ensures.1 in
+    rw (err.1, err.2) (λ is. absurd (cc (is)))
+
+pub returns-in_err-replay-clause-left : goal.returns-in_err-replay-clause-left
+returns-in_err-replay-clause-left g c =
+    let err = err_from_is_err_and c.from_residual-in_err-replay.result c.from_residual-in_err-replay.ensures.1 in
+    rw (err.1, err.2) tt
+
+pub returns-in_err-replay-clause-quiet_err : goal.returns-in_err-replay-clause-quiet_err
+returns-in_err-replay-clause-quiet_err g c =
+    let err = err_from_is_err_and c.from_residual-in_err-replay.result c.from_residual-in_err-replay.ensures.1 in
+    rw (err.1, err.2) (λ no. absurd (no refl))
+
+pub returns-in_err-replay-clause-no_memory : goal.returns-in_err-replay-clause-no_memory
+returns-in_err-replay-clause-no_memory g c =
+    let err = err_from_is_err_and c.from_residual-in_err-replay.result c.from_residual-in_err-replay.ensures.1 in
+    rw (err.1, err.2) (λ is. absurd (cc (is)))
+
+pub returns-in_err-read_block-clause-unwritten : goal.returns-in_err-read_block-clause-unwritten
+returns-in_err-read_block-clause-unwritten g c _ =
+    let view = g.D.Disk.view in
+    moves_then Nowhere 0 1 0 1 0 0 (view c.args.disk.now) (view c.sync.new.self) (view c.read_block.new.self) c.sync.ensures.moves c.read_block.ensures.moves
+
+pub returns-then-buffer-ne-OPEN-clause-unwritten : goal.returns-then-buffer-ne-OPEN-clause-unwritten
+returns-then-buffer-ne-OPEN-clause-unwritten g c _ =
+    let view = g.D.Disk.view in
+    moves_then Nowhere 0 1 0 1 0 0 (view c.args.disk.now) (view c.sync.new.self) (view c.read_block.new.self) c.sync.ensures.moves c.read_block.ensures.moves
+
+pub returns-in_err-sync-clause-unwritten : goal.returns-in_err-sync-clause-unwritten
+returns-in_err-sync-clause-unwritten g c _ =
+    let view = g.D.Disk.view in
+    moves_weaker Nowhere Nowhere 0 1 0 1 1 0 (view c.args.disk.now) (view c.sync.new.self) (λ number is. is) (omega arith) (omega arith) (omega arith) c.sync.ensures.moves

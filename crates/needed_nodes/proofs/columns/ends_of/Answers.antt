@@ -1,4 +1,5 @@
 use Rattle.std.proofs.Common.{refl, ◌∙◌, ap, arith}
+use Rattle.std.proofs.Math.Nat.{le_trans}
 use Rattle.std.proofs.lemmas.Result.{IfOk-weaker}
 use Rattle.om3_coeff.specs.Keys.{page_levels}
 use Rattle.om3_coeff.specs.View.{StaysSame}
@@ -102,3 +103,31 @@ returns-clause-found g c =
     (two_blocks c.args.window.now _ c.args.column c.args.blocks c.requires.held (omega (arith, c.if-first.false, c.first.ensures, c.first-2.ensures)))
     c.requires.ends (g.met.N.Nodes.keeps_same c.args.nodes.now c.follow-2.new.nodes c.in_ok-front.ensures.kept)
     c.in_ok-front.ensures.found c.in_ok-back.ensures.found refl refl
+
+pub returns-in_err-front-clause-quiet_err : goal.returns-in_err-front-clause-quiet_err
+returns-in_err-front-clause-quiet_err g c =
+    err_cause _ _ c.in_err-front.field-0.0 c.from_residual.ensures.1 c.in_err-front.ensures.quiet_err
+
+pub returns-in_err-back-clause-quiet_err : goal.returns-in_err-back-clause-quiet_err
+returns-in_err-back-clause-quiet_err g c =
+    err_cause _ _ c.in_err-back.field-0.0 c.from_residual-in_err-back.ensures.1 (λ ne. c.in_err-back.ensures.quiet_err ne ∙ c.in_ok-front.ensures.quiet)
+
+pub returns-clause-quiet : goal.returns-clause-quiet
+returns-clause-quiet g c =
+    c.in_ok-back.ensures.quiet ∙ c.in_ok-front.ensures.quiet
+
+pub returns-in_err-back-clause-kept : goal.returns-in_err-back-clause-kept
+returns-in_err-back-clause-kept g c =
+    g.met.N.Nodes.keeps_on c.args.nodes.now c.follow-2.new.nodes c.follow-3.new.nodes c.in_ok-front.ensures.kept c.in_err-back.ensures.kept
+
+pub returns-in_err-back-clause-faults : goal.returns-in_err-back-clause-faults
+returns-in_err-back-clause-faults g c =
+    le_trans c.in_ok-front.ensures.faults c.in_err-back.ensures.faults
+
+pub returns-clause-kept : goal.returns-clause-kept
+returns-clause-kept g c =
+    g.met.N.Nodes.keeps_on c.args.nodes.now c.follow-2.new.nodes c.follow-3.new.nodes c.in_ok-front.ensures.kept c.in_ok-back.ensures.kept
+
+pub returns-clause-faults : goal.returns-clause-faults
+returns-clause-faults g c =
+    le_trans c.in_ok-front.ensures.faults c.in_ok-back.ensures.faults

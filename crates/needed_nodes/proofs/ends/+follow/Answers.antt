@@ -1,4 +1,5 @@
 use Rattle.std.proofs.Common.{Bool, true, false, ◌≡◌, rules, ◌≤◌, ◌∙◌, ap, w64, arith}
+use Rattle.std.proofs.Math.Nat.{le_trans, le-add_right}
 use Rattle.std.proofs.lemmas.Int.{to_z-of_z}
 use Rattle.om3_coeff.specs.Keys.{left_of, right_of}
 use Rattle.om3_coeff.specs.View.{StaysSame}
@@ -195,3 +196,64 @@ pub returns-clause-kept : goal.returns-clause-kept
 returns-clause-kept g t c =
     g.met.N.Nodes.keeps_on c.args.nodes.now c.follow.new.nodes c.follow-2.new.nodes
     (g.met.N.Nodes.keeps_on c.args.nodes.now c.ask.new.nodes c.follow.new.nodes c.in_ok-node.ensures.kept c.in_ok-front.ensures.kept) c.in_ok-back.ensures.kept
+
+pub returns-in_err-node-clause-quiet_err : goal.returns-in_err-node-clause-quiet_err
+returns-in_err-node-clause-quiet_err g t c =
+    err_cause _ _ (Node c.in_err-node.field-0.0) c.from_residual.ensures.1 (λ ne. c.in_err-node.ensures.quiet_err (λ same. ne (ap Node same)))
+
+pub returns-in_err-push-clause-quiet_err : goal.returns-in_err-push-clause-quiet_err
+returns-in_err-push-clause-quiet_err g t c =
+    err_cause _ _ NoMemory c.from_residual-in_err-push.ensures.1 (λ _. c.in_ok-node.ensures.quiet)
+
+pub returns-in_err-front-clause-quiet_err : goal.returns-in_err-front-clause-quiet_err
+returns-in_err-front-clause-quiet_err g t c =
+    err_cause _ _ c.in_err-front.field-0.0 c.from_residual-in_err-front.ensures.1 (λ ne. c.in_err-front.ensures.quiet_err ne ∙ c.in_ok-node.ensures.quiet)
+
+pub returns-in_err-back-clause-quiet_err : goal.returns-in_err-back-clause-quiet_err
+returns-in_err-back-clause-quiet_err g t c =
+    err_cause _ _ c.in_err-back.field-0.0 c.from_residual-in_err-back.ensures.1
+    (λ ne. c.in_err-back.ensures.quiet_err ne ∙ (c.in_ok-front.ensures.quiet ∙ c.in_ok-node.ensures.quiet))
+
+pub returns-clause-quiet : goal.returns-clause-quiet
+returns-clause-quiet g t c =
+    c.in_ok-back.ensures.quiet ∙ (c.in_ok-front.ensures.quiet ∙ c.in_ok-node.ensures.quiet)
+
+pub returns-in_err-front-clause-kept : goal.returns-in_err-front-clause-kept
+returns-in_err-front-clause-kept g t c =
+    g.met.N.Nodes.keeps_on c.args.nodes.now c.ask.new.nodes c.follow.new.nodes c.in_ok-node.ensures.kept c.in_err-front.ensures.kept
+
+pub returns-in_err-front-clause-faults : goal.returns-in_err-front-clause-faults
+returns-in_err-front-clause-faults g t c =
+    le_trans c.in_ok-node.ensures.faults c.in_err-front.ensures.faults
+
+pub returns-in_err-back-clause-faults : goal.returns-in_err-back-clause-faults
+returns-in_err-back-clause-faults g t c =
+    le_trans c.in_ok-node.ensures.faults (le_trans c.in_ok-front.ensures.faults c.in_err-back.ensures.faults)
+
+pub returns-clause-faults : goal.returns-clause-faults
+returns-clause-faults g t c =
+    le_trans c.in_ok-node.ensures.faults (le_trans c.in_ok-front.ensures.faults c.in_ok-back.ensures.faults)
+
+pub returns-in_default-clause-few_reads : goal.returns-in_default-clause-few_reads
+returns-in_default-clause-few_reads g t c = λ may. le-add_right _ _
+
+pub returns-in_default-clause-reads : goal.returns-in_default-clause-reads
+returns-in_default-clause-reads g t c = le_trans (le-add_right _ _) (le-add_right _ _)
+
+pub returns-then-is_nothing-clause-few_reads : goal.returns-then-is_nothing-clause-few_reads
+returns-then-is_nothing-clause-few_reads g t c = λ may. le-add_right _ _
+
+pub returns-then-is_nothing-clause-reads : goal.returns-then-is_nothing-clause-reads
+returns-then-is_nothing-clause-reads g t c = le_trans (le-add_right _ _) (le-add_right _ _)
+
+pub returns-then-key-eq0-clause-few_reads : goal.returns-then-key-eq0-clause-few_reads
+returns-then-key-eq0-clause-few_reads g t c = λ may. le-add_right _ _
+
+pub returns-then-key-eq0-clause-reads : goal.returns-then-key-eq0-clause-reads
+returns-then-key-eq0-clause-reads g t c = le_trans (le-add_right _ _) (le-add_right _ _)
+
+pub returns-then-is_flat-clause-few_reads : goal.returns-then-is_flat-clause-few_reads
+returns-then-is_flat-clause-few_reads g t c = λ may. le-add_right _ _
+
+pub returns-then-is_flat-clause-reads : goal.returns-then-is_flat-clause-reads
+returns-then-is_flat-clause-reads g t c = le_trans (le-add_right _ _) (le-add_right _ _)

@@ -1,4 +1,5 @@
-use Rattle.std.proofs.Common.{rules, ◌≤◌, ◌∙◌, arith}
+use Rattle.std.proofs.Common.{rules, ◌≤◌, ◌∙◌, ap, arith}
+use Rattle.std.proofs.Math.Nat.{le_trans, le-add_right}
 use Rattle.om3_coeff.specs.Keys.{left_of, right_of}
 use Rattle.om3_coeff.specs.View.{StaysSame}
 use Rattle.om3_coeff.proofs.WalkLemmas.{key_small, ask_at, ask_left, right_follows_at}
@@ -136,3 +137,61 @@ returns-in_ok-find_blocks-in-Cut-2-clause-found g t c =
     (g.met.N.Nodes.keeps_same c.args.nodes.now c.ask.new.nodes c.in_ok-node-in-Cut.ensures.kept) c.in_ok-find_blocks-in-Cut.ensures.found
     (g.met.N.Nodes.keeps_same c.args.nodes.now c.find_blocks.new.nodes
     (g.met.N.Nodes.keeps_on c.args.nodes.now c.ask.new.nodes c.find_blocks.new.nodes c.in_ok-node-in-Cut.ensures.kept c.in_ok-find_blocks-in-Cut.ensures.kept)) c.in_ok-find_blocks-in-Cut-2.ensures.found
+
+pub returns-in_err-node-in-Cut-clause-quiet_err : goal.returns-in_err-node-in-Cut-clause-quiet_err
+returns-in_err-node-in-Cut-clause-quiet_err g t c =
+    err_cause _ _ (Node c.in_err-node-in-Cut.field-0.0) c.from_residual.ensures.1
+    (λ ne. c.in_err-node-in-Cut.ensures.quiet_err (λ same. ne (ap Node same)))
+
+pub returns-in_err-push-in-Cut-clause-quiet_err : goal.returns-in_err-push-in-Cut-clause-quiet_err
+returns-in_err-push-in-Cut-clause-quiet_err g t c =
+    err_cause _ _ NoMemory c.from_residual-in_err-push-in-Cut.ensures.1 (λ _. c.in_ok-node-in-Cut.ensures.quiet)
+
+pub returns-in_err-find_blocks-in-Cut-clause-quiet_err : goal.returns-in_err-find_blocks-in-Cut-clause-quiet_err
+returns-in_err-find_blocks-in-Cut-clause-quiet_err g t c =
+    err_cause _ _ c.in_err-find_blocks-in-Cut.field-0.0 c.from_residual-in_err-find_blocks-in-Cut.ensures.1
+    (λ ne. c.in_err-find_blocks-in-Cut.ensures.quiet_err ne ∙ c.in_ok-node-in-Cut.ensures.quiet)
+
+pub returns-in_err-find_blocks-in-Cut-2-clause-quiet_err : goal.returns-in_err-find_blocks-in-Cut-2-clause-quiet_err
+returns-in_err-find_blocks-in-Cut-2-clause-quiet_err g t c =
+    err_cause _ _ c.in_err-find_blocks-in-Cut-2.field-0.0 c.from_residual-in_err-find_blocks-in-Cut-2.ensures.1
+    (λ ne. c.in_err-find_blocks-in-Cut-2.ensures.quiet_err ne ∙ (c.in_ok-find_blocks-in-Cut.ensures.quiet ∙ c.in_ok-node-in-Cut.ensures.quiet))
+
+pub returns-in_ok-find_blocks-in-Cut-2-clause-quiet : goal.returns-in_ok-find_blocks-in-Cut-2-clause-quiet
+returns-in_ok-find_blocks-in-Cut-2-clause-quiet g t c =
+    c.in_ok-find_blocks-in-Cut-2.ensures.quiet ∙ (c.in_ok-find_blocks-in-Cut.ensures.quiet ∙ c.in_ok-node-in-Cut.ensures.quiet)
+
+pub returns-in_err-find_blocks-in-Cut-clause-kept : goal.returns-in_err-find_blocks-in-Cut-clause-kept
+returns-in_err-find_blocks-in-Cut-clause-kept g t c =
+    g.met.N.Nodes.keeps_on c.args.nodes.now c.ask.new.nodes c.find_blocks.new.nodes c.in_ok-node-in-Cut.ensures.kept c.in_err-find_blocks-in-Cut.ensures.kept
+
+pub returns-in_err-find_blocks-in-Cut-2-clause-kept : goal.returns-in_err-find_blocks-in-Cut-2-clause-kept
+returns-in_err-find_blocks-in-Cut-2-clause-kept g t c =
+    g.met.N.Nodes.keeps_on c.args.nodes.now c.find_blocks.new.nodes c.find_blocks-in-Cut.new.nodes
+    (g.met.N.Nodes.keeps_on c.args.nodes.now c.ask.new.nodes c.find_blocks.new.nodes c.in_ok-node-in-Cut.ensures.kept c.in_ok-find_blocks-in-Cut.ensures.kept) c.in_err-find_blocks-in-Cut-2.ensures.kept
+
+pub returns-in_err-find_blocks-in-Cut-2-clause-faults : goal.returns-in_err-find_blocks-in-Cut-2-clause-faults
+returns-in_err-find_blocks-in-Cut-2-clause-faults g t c =
+    le_trans c.in_ok-node-in-Cut.ensures.faults (le_trans c.in_ok-find_blocks-in-Cut.ensures.faults c.in_err-find_blocks-in-Cut-2.ensures.faults)
+
+pub returns-in_ok-find_blocks-in-Cut-2-clause-kept : goal.returns-in_ok-find_blocks-in-Cut-2-clause-kept
+returns-in_ok-find_blocks-in-Cut-2-clause-kept g t c =
+    g.met.N.Nodes.keeps_on c.args.nodes.now c.find_blocks.new.nodes c.find_blocks-in-Cut.new.nodes
+    (g.met.N.Nodes.keeps_on c.args.nodes.now c.ask.new.nodes c.find_blocks.new.nodes c.in_ok-node-in-Cut.ensures.kept c.in_ok-find_blocks-in-Cut.ensures.kept) c.in_ok-find_blocks-in-Cut-2.ensures.kept
+
+pub returns-in_ok-find_blocks-in-Cut-2-clause-faults : goal.returns-in_ok-find_blocks-in-Cut-2-clause-faults
+returns-in_ok-find_blocks-in-Cut-2-clause-faults g t c =
+    le_trans c.in_ok-node-in-Cut.ensures.faults (le_trans c.in_ok-find_blocks-in-Cut.ensures.faults c.in_ok-find_blocks-in-Cut-2.ensures.faults)
+
+pub returns-in_err-find_blocks-in-Cut-clause-faults : goal.returns-in_err-find_blocks-in-Cut-clause-faults
+returns-in_err-find_blocks-in-Cut-clause-faults g t c =
+    le_trans c.in_ok-node-in-Cut.ensures.faults c.in_err-find_blocks-in-Cut.ensures.faults
+
+pub returns-in_default-clause-reads : goal.returns-in_default-clause-reads
+returns-in_default-clause-reads g t c = le-add_right _ _
+
+pub returns-in-Outside-clause-reads : goal.returns-in-Outside-clause-reads
+returns-in-Outside-clause-reads g t c = le-add_right _ _
+
+pub returns-in-Within-clause-reads : goal.returns-in-Within-clause-reads
+returns-in-Within-clause-reads g t c = le-add_right _ _

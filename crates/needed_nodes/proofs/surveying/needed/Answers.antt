@@ -1,4 +1,4 @@
-use Rattle.std.proofs.Common.{◌≤◌, List, length, sym, subst, w64, rules, arith}
+use Rattle.std.proofs.Common.{◌≤◌, List, SFits, length, sym, subst, w64, rules, arith}
 use Rattle.std.proofs.lemmas.Int.{to_z-of_z}
 use Rattle.std.specs.Prelude.{Some, All}
 use Rattle.om3_coeff.specs.declared.key.Key.{Key}
@@ -8,6 +8,7 @@ use Rattle.view_keys.specs.Needed.{IsNeeded}
 use Rattle.view_keys.specs.Wanted.{IsWanted}
 use Rattle.view_keys.specs.Listed.{IsListOf}
 use Rattle.needed_nodes.specs.Answers.{seen_of, IsEntry, most_needed}
+use Rattle.needed_nodes.proofs.StepLaws.{err_cause}
 use Rattle.needed_nodes.proofs.ExploreLaws.{explores_at, small_keys, sorted_list, sorted_few, sorted_entries}
 use Rattle.needed_nodes.proofs.surveying.needed.Goals as goal
 
@@ -50,3 +51,12 @@ explore-requires g c = grind arith
 
 pub returns-in_err-sort_keys : goal.returns-in_err-sort_keys
 returns-in_err-sort_keys g c = grind arith
+
+pub returns-in_err-explored-clause-cause : goal.returns-in_err-explored-clause-cause
+returns-in_err-explored-clause-cause g c =
+    let lo_fits : SFits w64 c.args.lo = c.ranges.lo in
+    let hi_fits : SFits w64 c.args.hi = c.ranges.hi in
+    err_cause _ _ c.in_err-explored.field-0.0 c.from_residual.ensures.1 (simp to_z-of_z at c.in_err-explored.ensures.cause)
+
+pub returns-in_err-explored-clause-quiet_err : goal.returns-in_err-explored-clause-quiet_err
+returns-in_err-explored-clause-quiet_err g c = err_cause _ _ c.in_err-explored.field-0.0 c.from_residual.ensures.1 c.in_err-explored.ensures.quiet_err

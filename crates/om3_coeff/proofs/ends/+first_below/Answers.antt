@@ -2,12 +2,13 @@ use Rattle.std.proofs.Common.{rules, arith, ℕ, ℤ, ◌≤◌, ◌+◌, ◌∙
 use Rattle.std.proofs.lemmas.Result.{IfOk-weaker, IfErr-weaker}
 use Rattle.std.specs.Prelude.{Option, IfSome, IfNone, IsSome, max, min}
 use Rattle.om3_coeff.specs.declared.key.Key.{Key}
+use Rattle.om3_coeff.specs.declared.span.Span.{Span}
 use Rattle.om3_coeff.specs.Keys.{first_slot, end_slot, left_of, right_of}
 use Rattle.om3_coeff.specs.View.{Agrees, HasCause, StaysSame}
-use Rattle.om3_coeff.specs.Walks.{IsFirstStored, IsSlotIn, StaysBelow, most_cut}
+use Rattle.om3_coeff.specs.Walks.{IsFirstStored, IsReached, IsSlotIn, StaysBelow, most_cut}
 use Rattle.om3_coeff.proofs.WalkLemmas.{key_small, go_to, ask_at, ask_left, after_left, still_agrees, both_below_at, right_follows_at}
 use Rattle.om3_coeff.proofs.CauseLemmas.{passed_on, later_cause}
-use Rattle.om3_coeff.proofs.EndLemmas.{are_halves, ok_both, clear_none, is_here, first_here, slot_here, first_in_left, slot_in_left, slots_in_right, first_after_left, found_right, if_none, reads_left, reads_then_right, none_reads}
+use Rattle.om3_coeff.proofs.EndLemmas.{are_halves, ok_both, clear_none, clear_outside, not_within, is_here, first_here, slot_here, first_in_left, slot_in_left, slots_in_right, first_after_left, found_right, if_none, reads_left, reads_then_right, none_reads}
 use Rattle.om3_coeff.proofs.ends.+first_below.Goals as goal
 
 pub returns-in_default-clause-list : goal.returns-in_default-clause-list
@@ -188,3 +189,19 @@ returns-in-None-clause-cause g t c =
     IfErr-weaker c.first_below-in-None.result (HasCause (g.N.Nodes.view c.first_below.new.nodes) (g.N.Nodes.view c.first_below-in-None.new.nodes)) (HasCause (g.N.Nodes.view c.args.nodes.now) (g.N.Nodes.view c.first_below-in-None.new.nodes))
     (λ e. later_cause (g.N.Nodes.view c.args.nodes.now) (g.N.Nodes.view c.first_below.new.nodes) (g.N.Nodes.view c.first_below-in-None.new.nodes) e same (c.in_ok-found.ensures.quiet ∙ c.in_ok-left.ensures.quiet))
     c.first_below-in-None.ensures.cause
+
+pub returns-in-Outside-clause-list : goal.returns-in-Outside-clause-list
+returns-in-Outside-clause-list g t c = λ list agrees. clear_outside list c.args.a c.args.b c.args.key c.in-Outside.ensures
+
+pub returns-in-Outside-clause-some : goal.returns-in-Outside-clause-some
+returns-in-Outside-clause-some g t c = λ some from to. absurd (not_within c.args.a c.args.b c.args.key c.in-Outside.ensures from to)
+
+pub ask-requires-clause-key : goal.ask-requires-clause-key
+ask-requires-clause-key g t c = record { low = omega (arith, c.if-key-eq0.false); high = c.requires.reached.key.high; within = c.requires.reached.key.within }
+
+pub ask-requires-clause-reached : goal.ask-requires-clause-reached
+ask-requires-clause-reached g t c =
+    let P : Option Span → Type 0 = λ span. IsReached (g.N.Nodes.view c.args.nodes.now) c.args.key span in subst P c.in-Some.is c.requires.reached
+
+pub returns-in_err-left-clause-reads : goal.returns-in_err-left-clause-reads
+returns-in_err-left-clause-reads g t c = omega (arith, c.in_err-left.ensures.one_read c.requires.follows, c.if-key-eq0.false)

@@ -4,6 +4,7 @@ use Rattle.om3_coeff.specs.declared.span.Span.{Span}
 use Rattle.om3_coeff.specs.Keys.{left_of, right_of}
 use Rattle.om3_coeff.specs.Spans.{IsProperIfAny}
 use Rattle.om3_coeff.specs.View.{Agrees, HasCause, StaysSame}
+use Rattle.om3_coeff.specs.Walks.{IsReached}
 use Rattle.om3_coeff.proofs.CoefLemmas.{hull-proper}
 use Rattle.om3_coeff.proofs.WalkLemmas.{key_small, go_to, ask_at, ask_left, still_agrees, cut_low, cut_reads, cut_reads_once, cut_reads_twice, list_none, list_outside, list_within, list_cut, both_below_at, right_follows_at}
 use Rattle.om3_coeff.proofs.CauseLemmas.{passed_on, later_cause}
@@ -146,3 +147,13 @@ returns-in_ok-second-in-Cut-clause-kept g t c =
 
 pub returns-in_ok-second-in-Cut-clause-faults : goal.returns-in_ok-second-in-Cut-clause-faults
 returns-in_ok-second-in-Cut-clause-faults g t c = omega (arith, c.in_ok-left-in-Cut.ensures.faults, c.in_ok-first-in-Cut.ensures.faults, c.in_ok-second-in-Cut.ensures.faults)
+
+pub ask-requires-clause-key : goal.ask-requires-clause-key
+ask-requires-clause-key g t c = record { low = cut_low c.args.a c.args.b c.args.key c.in-Cut.ensures; high = c.requires.reached.key.high; within = c.requires.reached.key.within }
+
+pub ask-requires-clause-reached : goal.ask-requires-clause-reached
+ask-requires-clause-reached g t c =
+    let P : Option Span → Type 0 = λ span. IsReached (g.N.Nodes.view c.args.nodes.now) c.args.key span in subst P c.in-Some.is c.requires.reached
+
+pub returns-in-Within-clause-proper : goal.returns-in-Within-clause-proper
+returns-in-Within-clause-proper g t c = subst IsProperIfAny c.in-Some.is c.requires.reached.proper

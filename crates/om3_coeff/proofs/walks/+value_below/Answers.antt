@@ -111,3 +111,10 @@ returns-else-slot-first-clause-cause g t c =
     let same : StaysSame (g.N.Nodes.view c.args.nodes.now) (g.N.Nodes.view c.ask.new.nodes) = g.met.N.Nodes.keeps_same c.args.nodes.now c.ask.new.nodes c.in_ok-left.ensures.kept in
     IfErr-weaker c.value_below-else-slot-first.result (HasCause (g.N.Nodes.view c.ask.new.nodes) (g.N.Nodes.view c.value_below-else-slot-first.new.nodes)) (HasCause (g.N.Nodes.view c.args.nodes.now) (g.N.Nodes.view c.value_below-else-slot-first.new.nodes))
     (λ e. later_cause (g.N.Nodes.view c.args.nodes.now) (g.N.Nodes.view c.ask.new.nodes) (g.N.Nodes.view c.value_below-else-slot-first.new.nodes) e same c.in_ok-left.ensures.quiet) c.value_below-else-slot-first.ensures.cause
+
+pub ask-requires-clause-key : goal.ask-requires-clause-key
+ask-requires-clause-key g t c = record { low = omega (arith, c.if-key-eq0.false); high = c.requires.reached.key.high; within = c.requires.reached.key.within }
+
+pub ask-requires-clause-reached : goal.ask-requires-clause-reached
+ask-requires-clause-reached g t c =
+    let P : Option Span → Type 0 = λ span. IsReached (g.N.Nodes.view c.args.nodes.now) c.args.key span in subst P c.in-Some.is c.requires.reached

@@ -1,4 +1,4 @@
-use Rattle.std.proofs.Common.{◌≡◌, ◌≤◌, ◌+◌, ◌^◌, ℕ, length, refl, sym, ap, subst, arith, ◌∙◌}
+use Rattle.std.proofs.Common.{◌≡◌, ◌≤◌, ◌+◌, ◌^◌, ℕ, length, refl, sym, ap, subst, arith, inl, ◌∙◌}
 use Rattle.om3_coeff.specs.Keys.{page_levels, first_slot, end_slot}
 use Rattle.om3_coeff.proofs.KeyLemmas.{height_covers}
 use Rattle.path_repair.specs.Changes.{AreSame}
@@ -10,7 +10,7 @@ use Rattle.tree_walk.proofs.StepLemmas.{error_so}
 use Rattle.tree_walk.specs.Trees.{top_of_page}
 use Rattle.path_repair.specs.Costs.{touch}
 use Rattle.path_repair.specs.TreePages.{tree_pages, low, page_count, IsRooted}
-use Rattle.path_repair.specs.Standing.{IsPlaced, IsRepaired}
+use Rattle.path_repair.specs.Standing.{IsCause, IsPlaced, IsRepaired}
 use Rattle.path_repair.specs.declared.errors.RepairError.{RepairError}
 use Rattle.path_repair.specs.Damage.{IsDamage}
 use Rattle.path_repair.specs.Keeping.{count_most, root_level}
@@ -20,6 +20,7 @@ use Rattle.path_repair.proofs.DamageLemmas.{root_top, unfit_damage}
 use Rattle.path_repair.proofs.StoredLemmas.{stored_first, stored_call, apart_call}
 use Rattle.path_repair.proofs.EditLemmas.{levels_more, top_small, root_for, lists_of, placed_for, edited_for, full_for, disk_error}
 use Rattle.path_repair.proofs.MoveLemmas.{moved_then, moved_more, told_on}
+use Rattle.path_repair.specs.Repairs as repairs
 use Rattle.page_space.specs.Shown as shown
 use Rattle.path_repair.proofs.calls.fill.Goals as goal
 
@@ -258,3 +259,47 @@ returns-clause-idle g c = λ unchanged base count list list' others told holds e
     let told' = told_on (count_most c.args.tree.root c.args.slots.first c.args.slots.end c.page_levels-height.result c.page_levels-level.result 0) (shown.IsTold c.args.space.now) (shown.IsTold c.new_pages.new.space) (shown.view c.args.space.now) (shown.view c.new_pages.new.space) base c.new_pages.ensures.moved.reads told in
     let few : c.args.len ≤ c.args.tree.slots = omega (arith, edited.length_is, ap (λ l. length l) equal, holds.is_tree.slots) in
     c.in_ok-next.ensures.idle unchanged base count list list' others told' lists placed (omega (arith, height_is, level_is, levels_more c.args.len c.args.tree.slots few)) equal
+
+pub returns-in_err-more-clause-cause : goal.returns-in_err-more-clause-cause
+returns-in_err-more-clause-cause g c =
+    let E : RepairError → Type 0 = λ e. repairs.Explains e c.args.space.now c.new_pages.new.space in
+    error_so _ E c.from_residual.result c.from_residual.ensures.1 (λ e same. subst E (sym same) c.in_err-more.ensures.cause)
+
+pub returns-in_err-more-clause-quiet_err : goal.returns-in_err-more-clause-quiet_err
+returns-in_err-more-clause-quiet_err g c =
+    error_so _ _ c.from_residual.result c.from_residual.ensures.1 (λ e same other. c.in_err-more.ensures.quiet_err (λ is. other (same ∙ is)))
+
+pub returns-then-needed-have-clause-cause : goal.returns-then-needed-have-clause-cause
+returns-then-needed-have-clause-cause g c =
+    let have_is : c.from-have.result ≡ shown.total c.args.space.now = c.from-have.ensures ∙ c.total.ensures.total ∙ ap (λ (s : Superblock). s.total) c.new_pages.ensures.moved.over.superblock in
+    (have_is, omega (arith, have_is, c.if-needed-have.true))
+
+pub returns-in_err-next-clause-cause : goal.returns-in_err-next-clause-cause
+returns-in_err-next-clause-cause g c =
+    let T : ℕ → Type 0 = λ total. IsCause total c.in_err-next.field-0.0 (shown.view c.new_pages.new.space).faults (shown.view c.repair.new.space).faults in
+    let F : ℕ → Type 0 = λ faults. IsCause (shown.total c.args.space.now) c.in_err-next.field-0.0 faults (shown.view c.repair.new.space).faults in
+    let E : RepairError → Type 0 = λ e. repairs.Explains e c.args.space.now c.repair.new.space in
+    error_so _ E c.from_residual-in_err-next.result c.from_residual-in_err-next.ensures.1
+    (λ e same. subst E (sym same) (subst F c.in_ok-more.ensures.quiet (subst T (ap (λ (s : Superblock). s.total) c.new_pages.ensures.moved.over.superblock) c.in_err-next.ensures.cause)))
+
+pub returns-in_err-next-clause-quiet_err : goal.returns-in_err-next-clause-quiet_err
+returns-in_err-next-clause-quiet_err g c =
+    error_so _ _ c.from_residual-in_err-next.result c.from_residual-in_err-next.ensures.1
+    (λ e same other. c.in_err-next.ensures.quiet_err (λ is. other (same ∙ is)) ∙ c.in_ok-more.ensures.quiet)
+
+pub returns-clause-quiet : goal.returns-clause-quiet
+returns-clause-quiet g c = c.in_ok-next.ensures.quiet ∙ c.in_ok-more.ensures.quiet
+
+pub returns-in_err-more-clause-catalog : goal.returns-in_err-more-clause-catalog
+returns-in_err-more-clause-catalog g c = λ base told p some low other. refl
+
+pub returns-then-needed-have-clause-catalog : goal.returns-then-needed-have-clause-catalog
+returns-then-needed-have-clause-catalog g c = λ base told p some low other. refl
+
+pub returns-in_err-next-clause-catalog : goal.returns-in_err-next-clause-catalog
+returns-in_err-next-clause-catalog g c = λ base told p some low other.
+    c.repair.ensures.spares base (told_on (count_most c.args.tree.root c.args.slots.first c.args.slots.end c.page_levels-height.result c.page_levels-level.result 0) (shown.IsTold c.args.space.now) (shown.IsTold c.new_pages.new.space) (shown.view c.args.space.now) (shown.view c.new_pages.new.space) base c.new_pages.ensures.moved.reads told) p some (inl (low, other))
+
+pub returns-clause-catalog : goal.returns-clause-catalog
+returns-clause-catalog g c = λ base told p some low other.
+    c.repair.ensures.spares base (told_on (count_most c.args.tree.root c.args.slots.first c.args.slots.end c.page_levels-height.result c.page_levels-level.result 0) (shown.IsTold c.args.space.now) (shown.IsTold c.new_pages.new.space) (shown.view c.args.space.now) (shown.view c.new_pages.new.space) base c.new_pages.ensures.moved.reads told) p some (inl (low, other))

@@ -1,11 +1,13 @@
-use Rattle.std.proofs.Common.{rules, Some, cond, unwrap_or, ap, refl, arith, ◌∙◌}
+use Rattle.std.proofs.Common.{Some, is_some, length, cond, unwrap_or, ap, refl, sym, subst, arith, ◌∙◌}
 use Rattle.std.proofs.lemmas.Bool.{ne_eqb, eq-eqb}
 use Rattle.page_space.specs.declared.superblock.Superblock.{Superblock}
-use Rattle.page_space.specs.Transactions.{left_by, held_page}
+use Rattle.page_space.specs.Transactions.{left_by, held, held_page}
 use Rattle.page_spans.specs.Heaps.{span_at}
 use Rattle.path_repair.proofs.CountLemmas.{none_of}
 use Rattle.path_repair.proofs.CloseLemmas.{close_none_at, close_some_at, free_numbers}
 use Rattle.path_repair.proofs.ApartLemmas.{apart_free, apart_put}
+use Rattle.path_repair.proofs.SpaceLemmas.{moved_put, one_at_most}
+use Rattle.path_repair.specs.Repairs as repairs
 use Rattle.page_space.specs.Shown as shown
 use Rattle.path_repair.proofs.closing.close_page.Goals as goal
 
@@ -25,14 +27,14 @@ returns-clause-repaired g c = λ base before count list list' others below is sl
 pub returns-then-is_none-clause-moved : goal.returns-then-is_none-clause-moved
 returns-then-is_none-clause-moved g c =
     let numbers = free_numbers c.args.txn.now c.free.new.txn c.args.number c.free.ensures.nothing c.free.ensures.superblock in
-    record {
-      reads = search rules;
-      over = search rules;
-      total = c.free.ensures.same_total;
-      series = numbers.0;
-      fresh = omega (arith, numbers.1);
-      held = search rules;
-    }
+    subst (λ space. repairs.Moves 0 1 c.args.space.now space c.args.txn.now c.free.new.txn) (sym c.free.ensures.same)
+    (moved_put (shown.IsTold c.args.space.now) (shown.view c.args.space.now) (shown.under c.args.space.now) (shown.numbers c.args.space.now) c.args.txn.now c.free.new.txn c.free.ensures.same_total numbers.0 (omega (arith, numbers.1)) (one_at_most _ _ _ c.free.ensures.len))
+
+pub returns-clause-moved : goal.returns-clause-moved
+returns-clause-moved g c =
+    let same = c.put.ensures.superblock in
+    subst (λ space. repairs.Moves 0 1 c.args.space.now space c.args.txn.now c.put.new.txn) (sym c.put.ensures.same)
+    (moved_put (shown.IsTold c.args.space.now) (shown.view c.args.space.now) (shown.under c.args.space.now) (shown.numbers c.args.space.now) c.args.txn.now c.put.new.txn (ap (λ (s : Superblock). s.total) same) (ap (λ (s : Superblock). s.series) same) (omega (arith, ap (λ (s : Superblock). s.fresh) same)) (one_at_most (is_some (held_page c.args.txn.now c.args.number)) (length (held c.args.txn.now)) (length (held c.put.new.txn)) (omega (arith, c.put.ensures.len))))
 
 pub returns-then-is_none-clause-apart : goal.returns-then-is_none-clause-apart
 returns-then-is_none-clause-apart g c = λ fits base stored from mine kept apart.

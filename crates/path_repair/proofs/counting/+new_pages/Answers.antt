@@ -11,6 +11,8 @@ use Rattle.path_repair.specs.Damage.{IsUnfitBelow}
 use Rattle.path_repair.specs.Keeping.{look_most, count_most, root_level}
 use Rattle.path_repair.proofs.DamageLemmas.{unfit_up}
 use Rattle.path_repair.proofs.ReadLemmas.{counted_below, look_less, look_children}
+use Rattle.path_repair.specs.Standing.{IsCause}
+use Rattle.path_repair.specs.Repairs as repairs
 use Rattle.page_space.specs.Shown as shown
 use Rattle.path_repair.proofs.counting.+new_pages.Goals as goal
 
@@ -178,3 +180,30 @@ returns-in_err-more-clause-quiet_err g t c =
 
 pub returns-clause-quiet : goal.returns-clause-quiet
 returns-clause-quiet g t c = c.loop-child.invariant.1
+
+pub returns-then-at-eq0-clause-moved : goal.returns-then-at-eq0-clause-moved
+returns-then-at-eq0-clause-moved g t c =
+    let most = count_most c.args.page c.args.slots.first c.args.slots.end c.args.at.height c.args.at.level c.args.at.index in
+    moved_more 0 most 0 0 (shown.IsTold c.args.space.now) (shown.IsTold c.args.space.now) (shown.view c.args.space.now) (shown.view c.args.space.now) (shown.under c.args.space.now) (shown.under c.args.space.now) (shown.numbers c.args.space.now) (shown.numbers c.args.space.now) c.args.txn.now c.args.txn.now (omega arith) (omega arith) (moved_none (shown.IsTold c.args.space.now) (shown.view c.args.space.now) (shown.under c.args.space.now) (shown.numbers c.args.space.now) c.args.txn.now)
+
+pub returns-then-is_settled-clause-moved : goal.returns-then-is_settled-clause-moved
+returns-then-is_settled-clause-moved g t c =
+    let most = count_most c.args.page c.args.slots.first c.args.slots.end c.args.at.height c.args.at.level c.args.at.index in
+    moved_more 0 most 0 0 (shown.IsTold c.args.space.now) (shown.IsTold c.args.space.now) (shown.view c.args.space.now) (shown.view c.args.space.now) (shown.under c.args.space.now) (shown.under c.args.space.now) (shown.numbers c.args.space.now) (shown.numbers c.args.space.now) c.args.txn.now c.args.txn.now (omega arith) (omega arith) (moved_none (shown.IsTold c.args.space.now) (shown.view c.args.space.now) (shown.under c.args.space.now) (shown.numbers c.args.space.now) c.args.txn.now)
+
+pub returns-in_err-pages-clause-cause : goal.returns-in_err-pages-clause-cause
+returns-in_err-pages-clause-cause g t c =
+    let E : RepairError → Type 0 = λ e. repairs.Explains e c.args.space.now c.look.new.space in
+    error_so _ E c.from_residual.result c.from_residual.ensures.1 (λ e same. subst E (sym same) c.in_err-pages.ensures.cause)
+
+pub returns-in_err-pages-clause-quiet_err : goal.returns-in_err-pages-clause-quiet_err
+returns-in_err-pages-clause-quiet_err g t c =
+    error_so _ _ c.from_residual.result c.from_residual.ensures.1 (λ e same other. c.in_err-pages.ensures.quiet_err (λ is. other (same ∙ is)))
+
+pub returns-in_err-more-clause-cause : goal.returns-in_err-more-clause-cause
+returns-in_err-more-clause-cause g t c =
+    let T : ℕ → Type 0 = λ total. IsCause total c.in_err-more.field-0.0 (shown.view c.loop-child.space).faults (shown.view c.new_pages.new.space).faults in
+    let F : ℕ → Type 0 = λ faults. IsCause (shown.total c.args.space.now) c.in_err-more.field-0.0 faults (shown.view c.new_pages.new.space).faults in
+    let E : RepairError → Type 0 = λ e. repairs.Explains e c.args.space.now c.new_pages.new.space in
+    error_so _ E c.from_residual-in_err-more.result c.from_residual-in_err-more.ensures.1
+    (λ e same. subst E (sym same) (subst F c.loop-child.invariant.1 (subst T (ap (λ (s : Superblock). s.total) c.loop-child.invariant.0.moved.over.superblock) c.in_err-more.ensures.cause)))

@@ -7,7 +7,7 @@ use Rattle.path_repair.proofs.counting.look.Goals.{else-page-ne0-via-then-page-n
 use Rattle.path_repair.specs.declared.errors.RepairError.{RepairError}
 use Rattle.path_repair.specs.Damage.{IsUnfitBelow}
 use Rattle.path_repair.specs.Keeping.{look_most, root_level}
-use Rattle.path_repair.proofs.MoveLemmas.{moved_more}
+use Rattle.path_repair.proofs.MoveLemmas.{moved_more, moved_none}
 use Rattle.path_repair.proofs.DamageLemmas.{unfit_here}
 use Rattle.path_repair.proofs.ReadLemmas.{look_page}
 use Rattle.page_space.specs.Shown as shown
@@ -49,3 +49,19 @@ returns-in_err-read_bytes-clause-unfit g c = λ base below told is.
 
 pub returns-then-not-is_new_root-clause-as_told : goal.returns-then-not-is_new_root-clause-as_told
 returns-then-not-is_new_root-clause-as_told g c = λ base told some old. c.in_ok-read_bytes.ensures.bytes base told
+
+pub returns-clause-moved : goal.returns-clause-moved
+returns-clause-moved g c =
+    moved_more 0 (look_most c.args.at.height c.args.at.level c.args.at.index c.args.page) 0 0 (shown.IsTold c.args.space.now) (shown.IsTold c.args.space.now) (shown.view c.args.space.now) (shown.view c.args.space.now) (shown.under c.args.space.now) (shown.under c.args.space.now) (shown.numbers c.args.space.now) (shown.numbers c.args.space.now) c.args.txn.now c.args.txn.now (omega arith) (omega arith) (moved_none (shown.IsTold c.args.space.now) (shown.view c.args.space.now) (shown.under c.args.space.now) (shown.numbers c.args.space.now) c.args.txn.now)
+
+pub returns-then-not-is_new_root-clause-opened : goal.returns-then-not-is_new_root-clause-opened
+returns-then-not-is_new_root-clause-opened g c =
+    inl (record { some = c.if-page-ne0.true; old = sym c.if-not-is_new_root.ensures; keeps = c.in_ok-read_bytes.ensures.keeps; level_is = c.in_ok-read_bytes.ensures.form.level_is })
+
+pub returns-clause-opened : goal.returns-clause-opened
+returns-clause-opened g c =
+    let new : (c.args.page ≡ 0) ⊎ (is_new_root c.args.at.height c.args.at.level c.args.at.index ≡ true) = elim c.else-page-ne0.branch [
+      | else-page-ne0-via-then-page-ne0+else-not-is_new_root w ↦ inr (sym w.if-not-is_new_root.ensures)
+      | else-page-ne0-via-else-page-ne0 w ↦ inl w.if-page-ne0.false
+    ] in
+    inr (record { why = new; first = c.start_bytes.ensures.first; none = c.start_bytes.ensures.none })

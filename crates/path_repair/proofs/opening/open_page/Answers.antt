@@ -87,3 +87,27 @@ returns-clause-apart g c = λ below is base fits stored from mine kept told apar
     apart_new stored (left_by c.take.new.txn base) from c.take.new.txn.superblock c.args.at.height c.args.at.level below c.args.at.index c.args.root.page c.in_ok-number.number c.start.new.bytes mine kept
     is (record { why = new; first = c.start.ensures.first; none = c.start.ensures.none })
     (c.in_ok-number.ensures.apart base fits stored from mine (and_tree fits stored c.args.at.height c.args.at.level c.args.at.index c.args.root.page kept) told apart)
+
+pub returns-in_err-read_page-clause-moved : goal.returns-in_err-read_page-clause-moved
+returns-in_err-read_page-clause-moved g c = c.read_page.ensures.moved
+
+pub returns-then-not-is_new_root-clause-moved : goal.returns-then-not-is_new_root-clause-moved
+returns-then-not-is_new_root-clause-moved g c = c.read_page.ensures.moved
+
+pub returns-in_err-number-clause-moved : goal.returns-in_err-number-clause-moved
+returns-in_err-number-clause-moved g c = c.take.ensures.moved
+
+pub returns-clause-moved : goal.returns-clause-moved
+returns-clause-moved g c = c.take.ensures.moved
+
+pub returns-then-not-is_new_root-clause-opened : goal.returns-then-not-is_new_root-clause-opened
+returns-then-not-is_new_root-clause-opened g c =
+    inl (record { some = c.if-root-ne0.true; old = sym c.if-not-is_new_root.ensures; keeps = c.in_ok-read_page.ensures.keeps; level_is = c.in_ok-read_page.ensures.form.level_is }, c.in_ok-read_page.ensures.below)
+
+pub returns-clause-opened : goal.returns-clause-opened
+returns-clause-opened g c =
+    let new : (c.args.root.page ≡ 0) ⊎ (is_new_root c.args.at.height c.args.at.level c.args.at.index ≡ true) = elim c.else-root-ne0.branch [
+      | else-root-ne0-via-then-root-ne0+else-not-is_new_root w ↦ inr (sym w.if-not-is_new_root.ensures)
+      | else-root-ne0-via-else-root-ne0 w ↦ inl w.if-root-ne0.false
+    ] in
+    inr (record { why = new; first = c.start.ensures.first; none = c.start.ensures.none }, c.start.ensures.top)

@@ -10,6 +10,7 @@ use Rattle.path_repair.specs.Apart.{StandsApart, and_page}
 use Rattle.path_repair.proofs.ApartLemmas.{apart_taken, apart_broken}
 use Rattle.path_repair.specs.Keeping.{IsOwn}
 use Rattle.path_repair.proofs.KeepLemmas.{taken_own}
+use Rattle.path_repair.proofs.SpaceLemmas.{moved_read, moved_take}
 use Rattle.page_space.specs.Shown as shown
 use Rattle.path_repair.proofs.opening.take.Goals as goal
 
@@ -52,3 +53,19 @@ returns-in-Err-Damaged-clause-broken g c = λ base fits stored from mine kept to
     let P : SpaceError → Type 0 = λ e. Refuses e (shown.IsTold c.args.space.now) (left_by c.args.txn.now (shown.image c.args.space.now)) c.args.txn.now.superblock (shown.view c.args.space.now).faults (shown.view c.alloc.new.self).faults in
     let refused : P (Damaged c.in-Err-Damaged.page) = subst P c.in-Err-Damaged.field-0-is c.in-Err-Damaged.ensures.cause in
     apart_broken (shown.IsTold c.args.space.now) stored (left_by c.args.txn.now (shown.image c.args.space.now)) from c.args.txn.now.superblock c.in-Err-Damaged.page mine kept (shown.view c.args.space.now).faults (shown.view c.alloc.new.self).faults told.are_told refused (subst before (sym told.are) apart)
+
+pub returns-in-Ok-clause-moved : goal.returns-in-Ok-clause-moved
+returns-in-Ok-clause-moved g c =
+    moved_take (shown.IsTold c.args.space.now) (shown.IsTold c.alloc.new.self) (shown.view c.args.space.now) (shown.view c.alloc.new.self) (shown.under c.args.space.now) (shown.under c.alloc.new.self) (shown.numbers c.args.space.now) (shown.numbers c.alloc.new.self) c.args.txn.now c.alloc.new.txn (shown.left c.args.space.now c.args.txn.now) c.in-Ok.page c.alloc.ensures.reads c.alloc.ensures.goes_on c.alloc.ensures.superblock c.alloc.ensures.pages c.in-Ok.ensures.takes
+
+pub returns-in-Err-Full-clause-moved : goal.returns-in-Err-Full-clause-moved
+returns-in-Err-Full-clause-moved g c =
+    moved_read (shown.IsTold c.args.space.now) (shown.IsTold c.alloc.new.self) (shown.view c.args.space.now) (shown.view c.alloc.new.self) (shown.under c.args.space.now) (shown.under c.alloc.new.self) (shown.numbers c.args.space.now) (shown.numbers c.alloc.new.self) c.args.txn.now c.alloc.new.txn c.alloc.ensures.reads c.alloc.ensures.goes_on c.alloc.ensures.superblock c.in-Err-Full.ensures.same
+
+pub returns-in-Err-DiskFault-clause-moved : goal.returns-in-Err-DiskFault-clause-moved
+returns-in-Err-DiskFault-clause-moved g c =
+    moved_read (shown.IsTold c.args.space.now) (shown.IsTold c.alloc.new.self) (shown.view c.args.space.now) (shown.view c.alloc.new.self) (shown.under c.args.space.now) (shown.under c.alloc.new.self) (shown.numbers c.args.space.now) (shown.numbers c.alloc.new.self) c.args.txn.now c.alloc.new.txn c.alloc.ensures.reads c.alloc.ensures.goes_on c.alloc.ensures.superblock c.in-Err-DiskFault.ensures.same
+
+pub returns-in-Err-Damaged-clause-moved : goal.returns-in-Err-Damaged-clause-moved
+returns-in-Err-Damaged-clause-moved g c =
+    moved_read (shown.IsTold c.args.space.now) (shown.IsTold c.alloc.new.self) (shown.view c.args.space.now) (shown.view c.alloc.new.self) (shown.under c.args.space.now) (shown.under c.alloc.new.self) (shown.numbers c.args.space.now) (shown.numbers c.alloc.new.self) c.args.txn.now c.alloc.new.txn c.alloc.ensures.reads c.alloc.ensures.goes_on c.alloc.ensures.superblock c.in-Err-Damaged.ensures.same

@@ -3,7 +3,7 @@ use Rattle.node_page.specs.Fields.{level_at, child_at, coef_at}
 use Rattle.tree_walk.specs.Paths.{NamesBeyond}
 use Rattle.page_spans.specs.Heaps.{span_at, IsSplit}
 use Rattle.page_spans.specs.Lists.{AreNodesOf}
-use Rattle.path_repair.proofs.FormLemmas.{kept_form, tops_of, never_err, not_err}
+use Rattle.path_repair.proofs.FormLemmas.{kept_form, tops_of, never_err, not_err, unkept}
 use Rattle.path_repair.proofs.reading.spread.Goals.{then-level-via-then-level, then-level-via-else-level+then-not-names_within}
 use Rattle.path_repair.proofs.reading.spread.Goals as goal
 
@@ -45,3 +45,9 @@ returns-clause-below c =
       top_is = c.spread.ensures.top ∙ sym c.in-Some.is;
       split = subst P c.in-Ok.ensures.bytes (not_err c.spread.result (P c.in-Ok.page.bytes.now) c.spread.ensures.splits c.if-is_err.ensures.value);
     }
+
+pub returns-in_default-new-clause-sound : goal.returns-in_default-new-clause-sound
+returns-in_default-new-clause-sound c = λ list below index is slots holds top some children. absurd (unkept c.in_default-new.field-0 c.args.bytes.now c.in_default-new.ensures.bad holds.keeps)
+
+pub returns-in_default-new-clause-bad : goal.returns-in_default-new-clause-bad
+returns-in_default-new-clause-bad c = inl (inl (inl (unkept c.in_default-new.field-0 c.args.bytes.now c.in_default-new.ensures.bad)))

@@ -6,7 +6,7 @@ use Rattle.node_page.specs.Fields.{child_at}
 use Rattle.page_spans.specs.Heaps.{span_at}
 use Rattle.tree_walk.proofs.StepLemmas.{error_so}
 use Rattle.path_repair.specs.Costs.{touch}
-use Rattle.path_repair.specs.Standing.{IsPartWay, IsRepaired}
+use Rattle.path_repair.specs.Standing.{IsCause, IsPartWay, IsRepaired}
 use Rattle.path_repair.proofs.StayLemmas.{settled_at, slot_repaired_at, apart_repaired, untouched as untouched_range}
 use Rattle.path_repair.proofs.StillLemmas.{settled_same, slot_same, slot_idle, still_start, still_on, still_same, still_repaired, moved_still}
 use Rattle.path_repair.proofs.MoveLemmas.{moved_more, moved_none, told_on, touch_level, child_small}
@@ -14,12 +14,13 @@ use Rattle.path_repair.proofs.PartLemmas.{rest}
 use Rattle.path_repair.proofs.RepairLemmas.{way_start, way_child, way_on, way_moved, way_room, way_end, way_last, gives, passed_below}
 use Rattle.path_repair.specs.declared.errors.RepairError.{RepairError}
 use Rattle.path_repair.specs.Damage.{IsDamage}
-use Rattle.path_repair.specs.Keeping.{root_level}
+use Rattle.path_repair.specs.Keeping.{Spares, root_level}
 use Rattle.path_repair.specs.Apart.{StandsApart, NamesDamaged, and_page, and_children}
 use Rattle.path_repair.proofs.ApartLemmas.{apart_settled}
 use Rattle.path_repair.proofs.StoredLemmas.{apart_child, apart_end, stored_up}
 use Rattle.path_repair.proofs.KeepLemmas.{spares_up}
 use Rattle.path_repair.proofs.SpareLemmas.{first_spares, none_spares, spare_start, spare_child, spare_on, spare_damage, spare_end, new_root}
+use Rattle.path_repair.specs.Repairs as repairs
 use Rattle.page_space.specs.Shown as shown
 use Rattle.path_repair.proofs.repairing.+repair.Goals as goal
 
@@ -345,3 +346,38 @@ returns-in_err-next-clause-quiet_err g t c =
 
 pub returns-clause-quiet : goal.returns-clause-quiet
 returns-clause-quiet g t c = ap (λ s. (shown.view s).faults) c.close_page.ensures.same ∙ c.loop-child.invariant.1.1.1.1
+
+pub returns-then-at-eq0-clause-moved : goal.returns-then-at-eq0-clause-moved
+returns-then-at-eq0-clause-moved g t c =
+    let cost = touch c.args.slots.first c.args.slots.end c.args.at.height c.args.at.level c.args.at.index in
+    moved_more 0 cost 0 cost (shown.IsTold c.args.space.now) (shown.IsTold c.args.space.now) (shown.view c.args.space.now) (shown.view c.args.space.now) (shown.under c.args.space.now) (shown.under c.args.space.now) (shown.numbers c.args.space.now) (shown.numbers c.args.space.now) c.args.txn.now c.args.txn.now (omega arith) (omega arith) (moved_none (shown.IsTold c.args.space.now) (shown.view c.args.space.now) (shown.under c.args.space.now) (shown.numbers c.args.space.now) c.args.txn.now)
+
+pub returns-then-is_settled-clause-moved : goal.returns-then-is_settled-clause-moved
+returns-then-is_settled-clause-moved g t c =
+    let cost = touch c.args.slots.first c.args.slots.end c.args.at.height c.args.at.level c.args.at.index in
+    moved_more 0 cost 0 cost (shown.IsTold c.args.space.now) (shown.IsTold c.args.space.now) (shown.view c.args.space.now) (shown.view c.args.space.now) (shown.under c.args.space.now) (shown.under c.args.space.now) (shown.numbers c.args.space.now) (shown.numbers c.args.space.now) c.args.txn.now c.args.txn.now (omega arith) (omega arith) (moved_none (shown.IsTold c.args.space.now) (shown.view c.args.space.now) (shown.under c.args.space.now) (shown.numbers c.args.space.now) c.args.txn.now)
+
+pub returns-in_err-number-clause-cause : goal.returns-in_err-number-clause-cause
+returns-in_err-number-clause-cause g t c =
+    let E : RepairError → Type 0 = λ e. repairs.Explains e c.args.space.now c.open_page.new.space in
+    error_so _ E c.from_residual.result c.from_residual.ensures.1 (λ e same. subst E (sym same) c.in_err-number.ensures.cause)
+
+pub returns-in_err-number-clause-quiet_err : goal.returns-in_err-number-clause-quiet_err
+returns-in_err-number-clause-quiet_err g t c =
+    error_so _ _ c.from_residual.result c.from_residual.ensures.1 (λ e same other. c.in_err-number.ensures.quiet_err (λ is. other (same ∙ is)))
+
+pub returns-in_err-next-clause-cause : goal.returns-in_err-next-clause-cause
+returns-in_err-next-clause-cause g t c =
+    let T : ℕ → Type 0 = λ total. IsCause total c.in_err-next.field-0.0 (shown.view c.loop-child.space).faults (shown.view c.repair.new.space).faults in
+    let F : ℕ → Type 0 = λ faults. IsCause (shown.total c.args.space.now) c.in_err-next.field-0.0 faults (shown.view c.repair.new.space).faults in
+    let E : RepairError → Type 0 = λ e. repairs.Explains e c.args.space.now c.repair.new.space in
+    error_so _ E c.from_residual-in_err-next.result c.from_residual-in_err-next.ensures.1
+    (λ e same. subst E (sym same) (subst F c.loop-child.invariant.1.1.1.1 (subst T (ap (λ (s : Superblock). s.total) c.loop-child.invariant.0.moved.over.superblock) c.in_err-next.ensures.cause)))
+
+pub returns-then-not-is_changed-clause-quiet : goal.returns-then-not-is_changed-clause-quiet
+returns-then-not-is_changed-clause-quiet g t c = c.loop-child.invariant.1.1.1.1
+
+pub returns-then-not-is_changed-clause-spares : goal.returns-then-not-is_changed-clause-spares
+returns-then-not-is_changed-clause-spares g t c = λ base at.
+    let P : Txn → Type 0 = λ txn. Spares c.args.at.level c.args.txn.now.superblock.fresh txn.superblock.fresh (left_by c.args.txn.now base) (left_by txn base) in
+    subst P (sym (c.loop-child.invariant.1.1.1.0.kept c.if-not-is_changed.true)) (none_spares c.args.txn.now base c.args.at.level)

@@ -15,7 +15,7 @@ use Rattle.series_store.specs.Sending.{said, first_said, IsGiven, GivesBy, IsSen
 use Rattle.series_store.specs.declared.send_errors.SendError.{SendError}
 use Rattle.series_store.proofs.AskLemmas.{start_same}
 use Rattle.series_store.proofs.TreeCountLemmas.{is_there, child_matched, nodes_of, children_below}
-use Rattle.series_store.proofs.SendLemmas.{is_said, slot_there, by_as, part_silent, said_none, said_silent, part_order, part_value, no_damage_by, value_cause_by, page_send_cause, child_send_cause, sends_then, send_start, send_on, child_range, stops_by, none_by, send_end, error_is}
+use Rattle.series_store.proofs.SendLemmas.{is_said, slot_there, by_as, part_silent, said_none, said_silent, part_order, part_value, no_damage_by, value_cause_by, page_send_cause, child_send_cause, sends_looks, sends_none, sends_then, send_start, send_on, child_range, stops_by, none_by, send_end, error_is}
 use Rattle.series_store.proofs.sending.+send_below.Goals as goal
 
 pub returns-in_default-clause-part : goal.returns-in_default-clause-part
@@ -170,3 +170,24 @@ returns-in_err-send_below-clause-quiet_sends g t c = λ other.
 
 pub returns-clause-quiet_sends : goal.returns-clause-quiet_sends
 returns-clause-quiet_sends g t c = λ other. c.loop-child.invariant.2
+
+pub returns-in_default-clause-sends : goal.returns-in_default-clause-sends
+returns-in_default-clause-sends g t c = sends_none _ _ _ _
+
+pub returns-then-not-may_say-clause-sends : goal.returns-then-not-may_say-clause-sends
+returns-then-not-may_say-clause-sends g t c = sends_none _ _ _ _
+
+pub returns-in_err-read_page-clause-sends : goal.returns-in_err-read_page-clause-sends
+returns-in_err-read_page-clause-sends g t c = sends_looks _ _ _ _ _ _ _ _ c.read_page.ensures.looks
+
+pub returns-then-level-eq0-clause-sends : goal.returns-then-level-eq0-clause-sends
+returns-then-level-eq0-clause-sends g t c = c.send_value.ensures.sends
+
+pub returns-then-level-eq0-clause-quiet_sends : goal.returns-then-level-eq0-clause-quiet_sends
+returns-then-level-eq0-clause-quiet_sends g t c = c.send_value.ensures.quiet_sends
+
+pub returns-clause-sends : goal.returns-clause-sends
+returns-clause-sends g t c = c.loop-child.invariant.0.sends
+
+pub returns-clause-few : goal.returns-clause-few
+returns-clause-few g t c = c.loop-child.invariant.0.few

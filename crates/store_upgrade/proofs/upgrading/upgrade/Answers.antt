@@ -1,9 +1,40 @@
-use Rattle.std.proofs.Common.{◌≡◌, [], sym, ap, ◌∙◌}
+use Rattle.std.proofs.Common.{◌≡◌, [], sym, ap, ◌∙◌, arith}
 use Rattle.gate_pages.specs.Entries.{entries}
-use Rattle.gate_pages.specs.GateLaws.{goes_then}
+use Rattle.gate_pages.specs.GateLaws.{goes_none, goes_then}
 use Rattle.store_upgrade.proofs.Committed.{risen_on, read_old, read_new, upgrades_looked, looks_17, looked, old_store, upgrades_committed, committed_current, prevents, stops, places}
+use Rattle.store_upgrade.proofs.Looking.{looks_none, looks_more}
 use Rattle.store_upgrade.proofs.Magics.{current_same}
 use Rattle.store_upgrade.proofs.upgrading.upgrade.Goals as goal
+
+pub returns-in_err-block-clause-upgrades : goal.returns-in_err-block-clause-upgrades
+returns-in_err-block-clause-upgrades g c =
+    let view = g.P.Pages.view c.args.pages.now in
+    let told = g.P.Pages.told c.args.pages.now in
+    upgrades_looked told told view view (g.met.P.Pages.rests c.args.pages.now c.requires.sound) (looks_more 0 17 told told view view (omega arith) (looks_none told view))
+
+pub returns-in_err-block-clause-goes_on : goal.returns-in_err-block-clause-goes_on
+returns-in_err-block-clause-goes_on g c = goes_none (g.P.Pages.under c.args.pages.now)
+
+pub returns-in_default-clause-goes_on : goal.returns-in_default-clause-goes_on
+returns-in_default-clause-goes_on g c = c.read_first.ensures.goes_on
+
+pub returns-in_default-clause-unwritten : goal.returns-in_default-clause-unwritten
+returns-in_default-clause-unwritten g c = λ t lacks. c.read_first.ensures.reads
+
+pub returns-then-not-is_old-clause-goes_on : goal.returns-then-not-is_old-clause-goes_on
+returns-then-not-is_old-clause-goes_on g c = c.read_first.ensures.goes_on
+
+pub returns-then-not-is_old-clause-unwritten : goal.returns-then-not-is_old-clause-unwritten
+returns-then-not-is_old-clause-unwritten g c = λ t lacks. c.read_first.ensures.reads
+
+pub returns-then-not-is_old-clause-sound : goal.returns-then-not-is_old-clause-sound
+returns-then-not-is_old-clause-sound g c = c.read_first.ensures.reads.fit c.requires.sound
+
+pub returns-in-Ok-commit-clause-sound : goal.returns-in-Ok-commit-clause-sound
+returns-in-Ok-commit-clause-sound g c = c.in-Ok-commit.ensures.sound
+
+pub returns-in-Ok-new_pages-clause-stops : goal.returns-in-Ok-new_pages-clause-stops
+returns-in-Ok-new_pages-clause-stops g c = λ fit. absurd (c.in-Err-commit.ensures.unsound fit)
 
 pub returns-in_default-clause-upgrades : goal.returns-in_default-clause-upgrades
 returns-in_default-clause-upgrades g c =

@@ -1,13 +1,90 @@
-use Rattle.std.proofs.Common.{◌<◌, ◌∙◌, ℕ, List, length, sym, subst, arith}
+use Rattle.std.proofs.Common.{◌≡◌, ◌<◌, ◌∙◌, ℕ, List, Option, None, length, refl, sym, subst, arith}
+use Rattle.block_disk.specs.View.{View}
+use Rattle.om3_coeff.specs.declared.key.Key.{Key}
 use Rattle.om3_coeff.specs.declared.errors.NodeError.{NodeError}
 use Rattle.node_page.specs.Layout.{KeepsLayout}
-use Rattle.tree_walk.specs.Holding.{IsCauseOf}
+use Rattle.tree_walk.specs.declared.tree.Tree.{Tree}
+use Rattle.tree_walk.specs.declared.trail.Trail.{Trail}
+use Rattle.tree_walk.specs.Holding.{IsCauseOf, KeptWalking}
+use Rattle.tree_walk.specs.PagedNodes.{Ground, IsFit, IsTrail, Keeps}
+use Rattle.tree_walk.specs.SpaceViews.{StaysOn}
+use Rattle.tree_walk.specs.Trails.{LeadsToAny}
 use Rattle.tree_walk.proofs.TrailLemmas.{number_is, bytes_are}
 use Rattle.tree_walk.proofs.StepLemmas.{error_so}
 use Rattle.tree_walk.proofs.AskLemmas.{end_keeps, end_coef, end_told, end_bad, end_way, path_cause, path_way, asked_reads, splits_none}
 use Rattle.tree_walk.specs.Walk as walk
 use Rattle.page_space.specs.Shown as shown
 use Rattle.tree_walk.proofs.asking.coef_at.Goals as goal
+
+-- what the way keeps, an ask keeps
+way_keeps : (old new : Ground) → KeptWalking old.told new.told old.view new.view → StaysOn old.superblock new.superblock old.under new.under → new.count ≡ old.count → new.tree ≡ old.tree → Keeps old new
+way_keeps old new kept over count tree = record {
+  tree = tree;
+  superblock = over.superblock;
+  goes_on = over.goes_on;
+  time = kept.time;
+  told = kept.told;
+  was_told = kept.was_told;
+  image = kept.image;
+  size = kept.size;
+  count = count;
+  beside = kept.beside;
+  fit = kept.fit;
+  syncs = kept.syncs;
+  writes = kept.writes;
+}
+
+-- the nodes may be asked again, with another trail
+fit_still : (told told' : Type 0) (old new : View) (tree : Tree) (trail trail' : Trail) → KeptWalking told told' old new → IsFit told old tree trail → IsTrail told' new tree trail' → IsFit told' new tree trail'
+fit_still told told' old new tree trail trail' kept fit is = record {
+  sound = kept.fit fit.sound;
+  few = fit.few;
+  root = omega (arith, fit.root, kept.size);
+  proper = fit.proper;
+  trail_is = is;
+}
+
+leads_none : (tree : Tree) (trail : Trail) (asked : Option Key) → asked ≡ None → LeadsToAny tree trail.pages.items trail.len asked
+leads_none tree trail asked is = subst (λ (a : Option Key). LeadsToAny tree trail.pages.items trail.len a) (sym is) tt
+
+pub returns-in_err-depth-clause-fit : goal.returns-in_err-depth-clause-fit
+returns-in_err-depth-clause-fit g c =
+    let trail = c.descend.new.trail in
+    fit_still (shown.IsTold c.args.space.now) (shown.IsTold c.descend.new.space) (walk.pages c.args.space.now) (walk.pages c.descend.new.space) c.args.tree c.args.trail.now trail c.descend.ensures.kept c.requires.fit
+    (record { held = c.descend.ensures.held; leads = leads_none c.args.tree trail trail.asked c.descend.ensures.asked })
+
+pub returns-then-is_err-clause-fit : goal.returns-then-is_err-clause-fit
+returns-then-is_err-clause-fit g c =
+    let trail = c.descend.new.trail in
+    fit_still (shown.IsTold c.args.space.now) (shown.IsTold c.descend.new.space) (walk.pages c.args.space.now) (walk.pages c.descend.new.space) c.args.tree c.args.trail.now trail c.descend.ensures.kept c.requires.fit
+    (record { held = c.descend.ensures.held; leads = leads_none c.args.tree trail trail.asked c.descend.ensures.asked })
+
+pub returns-in_err-depth-clause-kept : goal.returns-in_err-depth-clause-kept
+returns-in_err-depth-clause-kept g c = way_keeps (walk.under c.args.space.now c.args.tree) (walk.under c.descend.new.space c.args.tree) c.descend.ensures.kept c.descend.ensures.over c.descend.ensures.count refl
+
+pub returns-in_err-depth-clause-faults : goal.returns-in_err-depth-clause-faults
+returns-in_err-depth-clause-faults g c = c.descend.ensures.kept.faults
+
+pub returns-in_err-depth-clause-reads : goal.returns-in_err-depth-clause-reads
+returns-in_err-depth-clause-reads g c = c.descend.ensures.reads
+
+pub returns-then-is_err-clause-kept : goal.returns-then-is_err-clause-kept
+returns-then-is_err-clause-kept g c = way_keeps (walk.under c.args.space.now c.args.tree) (walk.under c.descend.new.space c.args.tree) c.descend.ensures.kept c.descend.ensures.over c.descend.ensures.count refl
+
+pub returns-then-is_err-clause-faults : goal.returns-then-is_err-clause-faults
+returns-then-is_err-clause-faults g c = c.descend.ensures.kept.faults
+
+pub returns-then-is_err-clause-reads : goal.returns-then-is_err-clause-reads
+returns-then-is_err-clause-reads g c = c.descend.ensures.reads
+
+pub returns-clause-kept : goal.returns-clause-kept
+returns-clause-kept g c = way_keeps (walk.under c.args.space.now c.args.tree) (walk.under c.descend.new.space c.args.tree) c.descend.ensures.kept c.descend.ensures.over c.descend.ensures.count refl
+
+pub returns-clause-faults : goal.returns-clause-faults
+returns-clause-faults g c = c.descend.ensures.kept.faults
+
+pub returns-clause-reads : goal.returns-clause-reads
+returns-clause-reads g c = c.descend.ensures.reads
 
 pub returns-in_err-depth-clause-cause : goal.returns-in_err-depth-clause-cause
 returns-in_err-depth-clause-cause g c =

@@ -17,6 +17,38 @@ overflow_sub-depth g c =
     let own : c.from.result ≡ page_level c.args.key.level = c.from.ensures ∙ c.page_level.ensures.level in
     omega (arith, levels, own, level_few c.args.key.level (page_levels c.args.tree.slots) c.requires.key.high)
 
+pub returns-in_err-hold-clause-kept : goal.returns-in_err-hold-clause-kept
+returns-in_err-hold-clause-kept g c =
+    read_keeps (shown.IsTold c.args.space.now) (shown.IsTold c.hold.new.space) (walk.pages c.args.space.now) (walk.pages c.hold.new.space) c.hold.ensures.reads
+
+pub returns-in_err-hold-clause-over : goal.returns-in_err-hold-clause-over
+returns-in_err-hold-clause-over g c = c.hold.ensures.over
+
+pub returns-in_err-hold-clause-count : goal.returns-in_err-hold-clause-count
+returns-in_err-hold-clause-count g c = c.hold.ensures.count
+
+pub returns-in_err-hold-clause-held : goal.returns-in_err-hold-clause-held
+returns-in_err-hold-clause-held g c =
+    let levels : c.from-levels.result ≡ page_levels c.args.tree.slots = c.from-levels.ensures ∙ c.page_levels.ensures.levels in
+    held_by (shown.IsTold c.hold.new.space) (walk.pages c.hold.new.space).image (walk.pages c.hold.new.space).size c.from-levels.result (page_levels c.args.tree.slots) c.hold.new.trail.pages.items c.hold.new.trail.len levels c.hold.ensures.held
+
+pub returns-in_err-hold-clause-one_read : goal.returns-in_err-hold-clause-one_read
+returns-in_err-hold-clause-one_read g c = λ last leads follows. c.hold.ensures.reads.reads.high
+
+pub returns-in_err-hold-clause-top_read : goal.returns-in_err-hold-clause-top_read
+returns-in_err-hold-clause-top_read g c = λ top. c.hold.ensures.reads.reads.high
+
+pub returns-in_err-hold-clause-reads : goal.returns-in_err-hold-clause-reads
+returns-in_err-hold-clause-reads g c =
+    let levels : c.from-levels.result ≡ page_levels c.args.tree.slots = c.from-levels.ensures ∙ c.page_levels.ensures.levels in
+    omega (arith, levels, c.from-levels.ensures, c.page_levels.ensures.some, c.hold.ensures.reads.reads.high)
+
+pub returns-in_err-step-clause-count : goal.returns-in_err-step-clause-count
+returns-in_err-step-clause-count g c = c.step.ensures.count ∙ c.loop-above.invariant.count
+
+pub returns-clause-count : goal.returns-clause-count
+returns-clause-count g c = c.loop-above.invariant.count
+
 pub returns-in_err-hold-clause-cause : goal.returns-in_err-hold-clause-cause
 returns-in_err-hold-clause-cause g c =
     let levels : c.from-levels.result ≡ page_levels c.args.tree.slots = c.from-levels.ensures ∙ c.page_levels.ensures.levels in

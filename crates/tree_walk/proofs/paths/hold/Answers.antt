@@ -1,9 +1,38 @@
-use Rattle.std.proofs.Common.{◌∙◌, arith}
+use Rattle.std.proofs.Common.{◌∙◌, refl, arith}
+use Rattle.gate_pages.specs.GateLaws.{goes_none}
+use Rattle.tree_walk.proofs.SpaceLemmas.{reads_none}
 use Rattle.tree_walk.proofs.TrailLemmas.{number_set}
 use Rattle.tree_walk.proofs.HoldLemmas.{same_above, held_above, held_with}
 use Rattle.tree_walk.specs.Walk as walk
 use Rattle.page_space.specs.Shown as shown
 use Rattle.tree_walk.proofs.paths.hold.Goals as goal
+
+pub returns-then-holds-clause-reads : goal.returns-then-holds-clause-reads
+returns-then-holds-clause-reads g c = reads_none (shown.IsTold c.args.space.now) (walk.pages c.args.space.now)
+
+pub returns-then-holds-clause-over : goal.returns-then-holds-clause-over
+returns-then-holds-clause-over g c = record { superblock = refl; goes_on = goes_none (shown.under c.args.space.now) }
+
+pub returns-then-holds-clause-held : goal.returns-then-holds-clause-held
+returns-then-holds-clause-held g c = c.requires.held
+
+pub returns-in_err-read_page-clause-reads : goal.returns-in_err-read_page-clause-reads
+returns-in_err-read_page-clause-reads g c = c.read_page.ensures.reads
+
+pub returns-in_err-read_page-clause-over : goal.returns-in_err-read_page-clause-over
+returns-in_err-read_page-clause-over g c = c.read_page.ensures.over
+
+pub returns-in_err-read_page-clause-count : goal.returns-in_err-read_page-clause-count
+returns-in_err-read_page-clause-count g c = c.read_page.ensures.count
+
+pub returns-clause-reads : goal.returns-clause-reads
+returns-clause-reads g c = c.read_page.ensures.reads
+
+pub returns-clause-over : goal.returns-clause-over
+returns-clause-over g c = c.read_page.ensures.over
+
+pub returns-clause-count : goal.returns-clause-count
+returns-clause-count g c = c.read_page.ensures.count
 
 pub returns-in_err-read_page-clause-held : goal.returns-in_err-read_page-clause-held
 returns-in_err-read_page-clause-held g c =

@@ -1,6 +1,8 @@
-use Rattle.std.proofs.Common.{◌<◌, ◌∙◌, List, ℕ, length, subst, arith}
+use Rattle.std.proofs.Common.{◌<◌, ◌∙◌, List, ℕ, length, refl, subst, arith}
 use Rattle.std.proofs.lemmas.Result.{on_ok_weaker, IfErr-weaker}
+use Rattle.gate_pages.specs.GateLaws.{goes_none}
 use Rattle.node_page.specs.Layout.{KeepsLayout}
+use Rattle.tree_walk.proofs.SpaceLemmas.{reads_none}
 use Rattle.tree_walk.proofs.TrailLemmas.{number_is, bytes_are}
 use Rattle.tree_walk.proofs.StepLemmas.{error_so, next_is, step_none, step_bad, linked_hit, hit_linked}
 use Rattle.tree_walk.specs.Walk as walk
@@ -13,6 +15,33 @@ next_page-requires-clause-keeps g c =
     let P : List ℕ → Type 0 = λ b. KeepsLayout b in
     subst P (bytes_are trail.pages.items c.args.depth c.index.result.now (omega (arith, trail.room, trail.few, c.requires.reached)) c.index.ensures)
     (c.requires.held c.args.depth c.requires.reached).keeps
+
+pub returns-in_err-number-clause-reads : goal.returns-in_err-number-clause-reads
+returns-in_err-number-clause-reads g c = reads_none (shown.IsTold c.args.space.now) (walk.pages c.args.space.now)
+
+pub returns-in_err-number-clause-over : goal.returns-in_err-number-clause-over
+returns-in_err-number-clause-over g c = record { superblock = refl; goes_on = goes_none (shown.under c.args.space.now) }
+
+pub returns-in_err-number-clause-held : goal.returns-in_err-number-clause-held
+returns-in_err-number-clause-held g c = c.requires.held
+
+pub returns-clause-reads : goal.returns-clause-reads
+returns-clause-reads g c = c.hold.ensures.reads
+
+pub returns-clause-over : goal.returns-clause-over
+returns-clause-over g c = c.hold.ensures.over
+
+pub returns-clause-count : goal.returns-clause-count
+returns-clause-count g c = c.hold.ensures.count
+
+pub returns-clause-held : goal.returns-clause-held
+returns-clause-held g c = c.hold.ensures.held
+
+pub returns-clause-above : goal.returns-clause-above
+returns-clause-above g c = c.hold.ensures.above
+
+pub returns-clause-asked : goal.returns-clause-asked
+returns-clause-asked g c = c.hold.ensures.asked
 
 pub returns-in_err-number-clause-cause : goal.returns-in_err-number-clause-cause
 returns-in_err-number-clause-cause g c =

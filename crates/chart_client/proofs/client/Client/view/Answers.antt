@@ -1,4 +1,9 @@
-use Rattle.std.proofs.Common.{◌≡◌, ◌<◌, refl, sym, ◌∙◌, ap, subst, List, length, SFits, w64, rules}
+use Rattle.std.proofs.Common.{◌≡◌, ◌<◌, ℕ, refl, sym, ◌∙◌, ap, subst, List, length, SFits, to_z, of_z, w64, rules}
+use Rattle.std.specs.Prelude.{All}
+use Rattle.std.proofs.lemmas.Result.{IfOk-from_err}
+use Rattle.m4_groups.specs.Heights.{IsDrawable}
+use Rattle.chart_frames.specs.Frames.{IsRange}
+use Rattle.chart_client.proofs.Found.{range_at}
 use Rattle.std.proofs.Math.ListN.{set}
 use Rattle.std.proofs.lemmas.Int.{to_z-of_z}
 use Rattle.om3_coeff.specs.declared.key.Key.{Key}
@@ -70,3 +75,34 @@ returns-clause-accepted c =
     (subst (λ (h : Holding). IsDrawn c.args.view.now h.cache c.grid_of-grid.result es c.in_ok-findings.findings.rows c.in_ok-bitmap.bitmap) same drawn)
     renewed_is
     (ap (λ (hs : List Holding). set hs c.in-Some.place (record { number = held.number; cache = c.renew.new.self })) c.self.view_is)
+
+pub picture_of-requires : goal.picture_of-requires
+picture_of-requires c =
+    let low_fits : SFits w64 c.args.view.now.lo = search rules in
+    let high_fits : SFits w64 c.args.view.now.hi = search rules in
+    let low : c.args.view.now.lo ≡ to_z w64 (of_z w64 c.args.view.now.lo) = sym (to_z-of_z w64 c.args.view.now.lo low_fits) in
+    let high : c.args.view.now.hi ≡ to_z w64 (of_z w64 c.args.view.now.hi) = sym (to_z-of_z w64 c.args.view.now.hi high_fits) in
+    let range : IsRange (to_z w64 (of_z w64 c.args.view.now.lo)) (to_z w64 (of_z w64 c.args.view.now.hi)) = range_at IsRange c.args.view.now.lo c.args.view.now.hi _ _ low high c.requires.head.source.range in
+    record {
+      some_columns = c.requires.head.place.width.low;
+      columns = c.requires.head.place.width.high;
+      some_rows = c.requires.head.place.height.low;
+      high = c.requires.head.place.height.high;
+      range = range.ordered;
+      low_end = range.low;
+      high_end = range.high;
+      rising = c.in_ok-findings.ensures.rising;
+      drawable = subst (λ (w : ℕ). All (IsDrawable w) c.in_ok-findings.findings.rows) c.grid_of-grid.ensures.canvas.columns c.in_ok-findings.ensures.drawable;
+    }
+
+pub returns-in_err-findings-clause-accepted : goal.returns-in_err-findings-clause-accepted
+returns-in_err-findings-clause-accepted c = IfOk-from_err c.from_residual.result _ c.from_residual.ensures.0
+
+pub returns-in_err-bitmap-clause-accepted : goal.returns-in_err-bitmap-clause-accepted
+returns-in_err-bitmap-clause-accepted c = IfOk-from_err c.from_residual-in_err-bitmap.result _ c.from_residual-in_err-bitmap.ensures.0
+
+pub returns-clause-rejected : goal.returns-clause-rejected
+returns-clause-rejected c = tt
+
+pub returns-clause-kept : goal.returns-clause-kept
+returns-clause-kept c = tt

@@ -1,8 +1,9 @@
-use Rattle.std.proofs.Common.{subst}
+use Rattle.std.proofs.Common.{subst, arith}
 use Rattle.series_store.specs.Results.{IsRefusedWith, IsUnchangedFor}
 use Rattle.series_store.specs.declared.errors.StoreError.{StoreError}
 use Rattle.chart_service.specs.Shown as shown
 use Rattle.series_store.specs.Shown as stored
+use Rattle.chart_service.proofs.GroupEnds.{edit_steps}
 use Rattle.chart_service.proofs.EditLemmas.{edit_done, edit_refused, edit_moments}
 use Rattle.chart_service.proofs.service.Service.edit.Goals as goal
 
@@ -64,3 +65,33 @@ returns-in-Err-Damaged-clause-same_book g c = λ total book told stands keeps. c
 
 pub returns-in-Err-NoMemory-clause-same_book : goal.returns-in-Err-NoMemory-clause-same_book
 returns-in-Err-NoMemory-clause-same_book g c = λ total book told stands keeps. c.edit.ensures.same_book total book told stands keeps
+
+pub returns-in-Ok-clause-steps : goal.returns-in-Ok-clause-steps
+returns-in-Ok-clause-steps g c = edit_steps (g.P.Pages.told (shown.pages c.args.self.now)) (g.P.Pages.told (stored.pages c.edit.new.self)) (g.P.Pages.view (shown.pages c.args.self.now)) (g.P.Pages.view (stored.pages c.edit.new.self)) c.edit.ensures.moves
+
+pub returns-in-Ok-clause-reads : goal.returns-in-Ok-clause-reads
+returns-in-Ok-clause-reads g c = omega (arith, c.edit.ensures.moves.reads)
+
+pub returns-in-Err-Refused-clause-steps : goal.returns-in-Err-Refused-clause-steps
+returns-in-Err-Refused-clause-steps g c = edit_steps (g.P.Pages.told (shown.pages c.args.self.now)) (g.P.Pages.told (stored.pages c.edit.new.self)) (g.P.Pages.view (shown.pages c.args.self.now)) (g.P.Pages.view (stored.pages c.edit.new.self)) c.edit.ensures.moves
+
+pub returns-in-Err-Refused-clause-reads : goal.returns-in-Err-Refused-clause-reads
+returns-in-Err-Refused-clause-reads g c = omega (arith, c.edit.ensures.moves.reads)
+
+pub returns-in-Err-DiskFault-clause-steps : goal.returns-in-Err-DiskFault-clause-steps
+returns-in-Err-DiskFault-clause-steps g c = edit_steps (g.P.Pages.told (shown.pages c.args.self.now)) (g.P.Pages.told (stored.pages c.edit.new.self)) (g.P.Pages.view (shown.pages c.args.self.now)) (g.P.Pages.view (stored.pages c.edit.new.self)) c.edit.ensures.moves
+
+pub returns-in-Err-DiskFault-clause-reads : goal.returns-in-Err-DiskFault-clause-reads
+returns-in-Err-DiskFault-clause-reads g c = omega (arith, c.edit.ensures.moves.reads)
+
+pub returns-in-Err-Damaged-clause-steps : goal.returns-in-Err-Damaged-clause-steps
+returns-in-Err-Damaged-clause-steps g c = edit_steps (g.P.Pages.told (shown.pages c.args.self.now)) (g.P.Pages.told (stored.pages c.edit.new.self)) (g.P.Pages.view (shown.pages c.args.self.now)) (g.P.Pages.view (stored.pages c.edit.new.self)) c.edit.ensures.moves
+
+pub returns-in-Err-Damaged-clause-reads : goal.returns-in-Err-Damaged-clause-reads
+returns-in-Err-Damaged-clause-reads g c = omega (arith, c.edit.ensures.moves.reads)
+
+pub returns-in-Err-NoMemory-clause-steps : goal.returns-in-Err-NoMemory-clause-steps
+returns-in-Err-NoMemory-clause-steps g c = edit_steps (g.P.Pages.told (shown.pages c.args.self.now)) (g.P.Pages.told (stored.pages c.edit.new.self)) (g.P.Pages.view (shown.pages c.args.self.now)) (g.P.Pages.view (stored.pages c.edit.new.self)) c.edit.ensures.moves
+
+pub returns-in-Err-NoMemory-clause-reads : goal.returns-in-Err-NoMemory-clause-reads
+returns-in-Err-NoMemory-clause-reads g c = omega (arith, c.edit.ensures.moves.reads)

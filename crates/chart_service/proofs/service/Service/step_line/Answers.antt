@@ -1,7 +1,10 @@
-use Rattle.std.proofs.Common.{◌≡◌, ◌≤◌, length, Ok, Err, subst, arith}
+use Rattle.std.proofs.Common.{◌≡◌, ◌≤◌, ℕ, List, Option, Result, length, Ok, Err, IfErr, sym, subst, arith}
+use Rattle.request_lines.specs.declared.requests.Request.{Request}
 use Rattle.request_lines.specs.declared.line_errors.LineError.{LineError}
 use Rattle.request_lines.specs.Requests.{read_line, ReadsAs}
+use Rattle.chart_service.specs.Stepping.{IsLineCause, IsReadCause}
 use Rattle.chart_service.specs.Shown as shown
+use Rattle.series_store.specs.Shown as stored
 use Rattle.chart_service.specs.Replies.{line_text}
 use Rattle.chart_service.proofs.TurnLemmas.{line_none, line_reads}
 use Rattle.chart_service.proofs.LineLemmas.{long_line}
@@ -58,3 +61,15 @@ returns-in-Ok-clause-idle g c = λ none.
     let short : length c.args.line.now ≤ 8192 = omega arith in
     let is : read_line c.args.line.now ≡ Ok c.in-Ok.request = c.in-Ok.ensures.reading in
     c.step.ensures.idle (no_edit c.args.line.now c.in-Ok.request (text_is c.args.line.now short) is none)
+
+pub returns-in-Ok-clause-cause : goal.returns-in-Ok-clause-cause
+returns-in-Ok-clause-cause g c =
+    let short : length c.args.line.now ≤ 8192 = omega arith in
+    let is : read_line c.args.line.now ≡ Ok c.in-Ok.request = c.in-Ok.ensures.reading in
+    let store = c.args.self.now.store in
+    let told = g.P.Pages.told (stored.pages store) in
+    let old = g.P.Pages.view (stored.pages store) in
+    let new = g.P.Pages.view (stored.pages c.step.new.self.store) in
+    let L : Option (List ℕ) → Type 0 = λ line. IfErr c.step.result (λ e. IsLineCause line e told (stored.catalog store) (stored.numbers store) old new) in
+    let R : Result Request ℕ → Type 0 = λ read. IfErr c.step.result (λ e. IsReadCause read e told (stored.catalog store) (stored.numbers store) old new) in
+    subst L (sym (text_is c.args.line.now short)) (subst R (sym is) c.step.ensures.cause)

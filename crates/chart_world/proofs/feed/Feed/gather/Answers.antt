@@ -1,14 +1,19 @@
-use Rattle.std.proofs.Common.{◌≡◌, ◌∙◌, ◌+◌, ◌-◌, ◌^◌, ◌≤◌, ◌<◌, ◌++◌, [], length, take, ap, sym, inl, inr, arith, rules}
+use Rattle.std.proofs.Common.{ℕ, List, Option, None, Some, IfSome, ◌≡◌, ◌∙◌, ◌+◌, ◌-◌, ◌^◌, ◌≤◌, ◌<◌, ◌++◌, [], length, take, ap, sym, subst, inl, inr, arith, rules}
 use Rattle.std.specs.List.{position_or_len}
 use Rattle.block_disk.specs.Streams.{left_after}
 use Rattle.chart_world.specs.Lines.{is_line_feed}
 use Rattle.chart_world.specs.Feed.{pending_of, given_of}
-use Rattle.chart_world.specs.Reading.{in_front_of}
+use Rattle.chart_world.specs.Reading.{in_front_of, IsNone}
 use Rattle.chart_world.proofs.Pending.{pending_full, pending_from, pending_piece}
 use Rattle.chart_world.proofs.Gathering.{found, found_feed, found_rest, none_there, none_yet, left_is, pass_all, ended, ended_rest, none_left, refill_step, input_step, nothing_left, counted_rises}
 use Rattle.chart_world.proofs.NextLine.{early_contains}
 use Rattle.chart_world.proofs.feed.Feed.gather.Goals.{else-before-len-via-then-before-len+else-given-before-lt-LIMIT, else-before-len-via-else-before-len}
 use Rattle.chart_world.proofs.feed.Feed.gather.Goals as goal
+
+-- behind a take that gave nothing there is still nothing
+still_none : (left left' : Option (List ℕ)) → IfSome left (λ l. l ≡ []) → left' ≡ left_after 0 left → IsNone left'
+still_none None left' none is = subst IsNone (sym is) tt
+still_none (Some rest) left' none is = subst IsNone (sym is) none
 
 pub returns-then-given-before-lt-LIMIT-clause-line : goal.returns-then-given-before-lt-LIMIT-clause-line
 returns-then-given-before-lt-LIMIT-clause-line g c =
@@ -210,3 +215,109 @@ returns-then-length-eq0-clause-none g c _ =
     let full = pending_full at.bytes.items at.start at.end at.ordered (omega (arith, at.within, at.sized, at.bytes.ok)) in
     let none = none_left (streams.left c.loop-self.from) c.in-Ok.count c.refill.new.self.bytes.items c.if-count-eq0.true c.in-Ok.ensures.given in
     none_there told (streams.left c.loop-self.from) c.loop-self.length at.spill.items (pending_of at) (omega (arith, c.if-length-eq0.true)) (omega (arith, full, c.len-in-loop-self.ensures, c.len-in-loop-self-2.ensures, c.if-length-eq0.true)) none c.loop-self.invariant.partway
+
+pub returns-then-given-before-lt-LIMIT-clause-begun : goal.returns-then-given-before-lt-LIMIT-clause-begun
+returns-then-given-before-lt-LIMIT-clause-begun g c _ = c.if-self.false
+
+pub returns-then-given-before-lt-LIMIT-clause-ended : goal.returns-then-given-before-lt-LIMIT-clause-ended
+returns-then-given-before-lt-LIMIT-clause-ended g c is = absurd (omega (arith, c.loop-self.self.passed (sym c.keep.ensures.ended ∙ sym c.pass.ensures.ended ∙ is), c.if-before-len.true, c.len.ensures))
+
+pub returns-then-given-before-lt-LIMIT-clause-passes : goal.returns-then-given-before-lt-LIMIT-clause-passes
+returns-then-given-before-lt-LIMIT-clause-passes g c =
+    let at = c.loop-self.self in
+    let given : given_of c.pass.new.self ≡ given_of c.args.self.now + c.loop-self.length + c.line_feed-before.result + 1 =
+    omega (arith, c.pass.ensures.start, c.pass.ensures.end, c.pass.ensures.taken, c.keep.ensures.start, c.keep.ensures.end, c.keep.ensures.taken, c.loop-self.invariant.given, at.counted, c.if-before-len.true, c.len.ensures) in
+    (omega (arith, given), omega (arith, given))
+
+pub returns-then-given-before-lt-LIMIT-clause-within : goal.returns-then-given-before-lt-LIMIT-clause-within
+returns-then-given-before-lt-LIMIT-clause-within g c = omega (arith, c.pass.ensures.start, c.pass.ensures.end, c.pass.ensures.taken, c.keep.ensures.start, c.keep.ensures.end, c.keep.ensures.taken, c.given.ensures, c.if-given-before-lt-LIMIT.true)
+
+pub returns-then-given-before-lt-LIMIT-clause-quiet : goal.returns-then-given-before-lt-LIMIT-clause-quiet
+returns-then-given-before-lt-LIMIT-clause-quiet g c _ = c.loop-self.invariant.quiet
+
+pub returns-then-given-before-lt-LIMIT-clause-total : goal.returns-then-given-before-lt-LIMIT-clause-total
+returns-then-given-before-lt-LIMIT-clause-total g c = rw (c.pass.ensures.taken, c.keep.ensures.taken) c.loop-self.invariant.total
+
+pub returns-then-given-before-lt-LIMIT-clause-forward : goal.returns-then-given-before-lt-LIMIT-clause-forward
+returns-then-given-before-lt-LIMIT-clause-forward g c = rw (c.pass.ensures.taken, c.keep.ensures.taken) c.loop-self.invariant.forward
+
+pub returns-then-self-gt-LIMIT-clause-quiet : goal.returns-then-self-gt-LIMIT-clause-quiet
+returns-then-self-gt-LIMIT-clause-quiet g c _ = c.loop-self.invariant.quiet
+
+pub returns-then-self-gt-LIMIT-clause-past : goal.returns-then-self-gt-LIMIT-clause-past
+returns-then-self-gt-LIMIT-clause-past g c _ = c.if-self-gt-LIMIT.true
+
+pub returns-in_default-clause-not_ended : goal.returns-in_default-clause-not_ended
+returns-in_default-clause-not_ended g c _ = c.if-self.false
+
+pub returns-in_default-clause-read_fault : goal.returns-in_default-clause-read_fault
+returns-in_default-clause-read_fault g c _ = rw c.loop-self.invariant.quiet at c.in_default.ensures.cause
+
+pub returns-in_default-clause-read_within : goal.returns-in_default-clause-read_within
+returns-in_default-clause-read_within g c _ = omega (arith, c.in_default.ensures.taken_on_err, c.keep-in-loop-self.ensures.taken, c.if-self-gt-LIMIT.false)
+
+pub returns-in_default-clause-total : goal.returns-in_default-clause-total
+returns-in_default-clause-total g c = cc (c.in_default.ensures.taken_on_err, c.in_default.ensures.left_on_err, c.keep-in-loop-self.ensures.taken, c.loop-self.invariant.total)
+
+pub returns-in_default-clause-forward : goal.returns-in_default-clause-forward
+returns-in_default-clause-forward g c = omega (arith, c.loop-self.invariant.forward, c.in_default.ensures.taken_on_err, c.keep-in-loop-self.ensures.taken)
+
+pub returns-then-length-eq0-clause-begun : goal.returns-then-length-eq0-clause-begun
+returns-then-length-eq0-clause-begun g c _ = c.if-self.false
+
+pub returns-then-length-eq0-clause-quiet : goal.returns-then-length-eq0-clause-quiet
+returns-then-length-eq0-clause-quiet g c _ = c.in-Ok.ensures.quiet ∙ c.loop-self.invariant.quiet
+
+pub returns-then-length-eq0-clause-ended : goal.returns-then-length-eq0-clause-ended
+returns-then-length-eq0-clause-ended g c _ =
+    let streams = g.S.Streams in
+    let none = none_left (streams.left c.loop-self.from) c.in-Ok.count c.refill.new.self.bytes.items c.if-count-eq0.true c.in-Ok.ensures.given in
+    still_none (streams.left c.loop-self.from) (streams.left c.refill.new.from) none (c.in-Ok.ensures.left ∙ ap (λ n. left_after n (streams.left c.loop-self.from)) c.if-count-eq0.true)
+
+pub returns-then-length-eq0-clause-total : goal.returns-then-length-eq0-clause-total
+returns-then-length-eq0-clause-total g c =
+    let streams = g.S.Streams in
+    input_step (streams.left c.loop-self.from) (streams.left c.refill.new.from) c.in-Ok.count c.loop-self.self.taken c.refill.new.self.taken c.refill.new.self.bytes.items c.in-Ok.ensures.given c.in-Ok.ensures.left (c.in-Ok.ensures.taken ∙ ap (λ n. n + c.in-Ok.count) c.keep-in-loop-self.ensures.taken)
+    ∙ c.loop-self.invariant.total
+
+pub returns-then-length-eq0-clause-forward : goal.returns-then-length-eq0-clause-forward
+returns-then-length-eq0-clause-forward g c = omega (arith, c.loop-self.invariant.forward, c.in-Ok.ensures.taken, c.keep-in-loop-self.ensures.taken)
+
+pub returns-then-length-eq0-clause-within : goal.returns-then-length-eq0-clause-within
+returns-then-length-eq0-clause-within g c = omega (arith, c.in-Ok.ensures.taken, c.keep-in-loop-self.ensures.taken, c.if-count-eq0.true, c.if-self-gt-LIMIT.false)
+
+pub returns-else-length-eq0-clause-begun : goal.returns-else-length-eq0-clause-begun
+returns-else-length-eq0-clause-begun g c _ = c.if-self.false
+
+pub returns-else-length-eq0-clause-quiet : goal.returns-else-length-eq0-clause-quiet
+returns-else-length-eq0-clause-quiet g c _ = c.in-Ok.ensures.quiet ∙ c.loop-self.invariant.quiet
+
+pub returns-else-length-eq0-clause-ended : goal.returns-else-length-eq0-clause-ended
+returns-else-length-eq0-clause-ended g c _ =
+    let streams = g.S.Streams in
+    let none = none_left (streams.left c.loop-self.from) c.in-Ok.count c.refill.new.self.bytes.items c.if-count-eq0.true c.in-Ok.ensures.given in
+    still_none (streams.left c.loop-self.from) (streams.left c.refill.new.from) none (c.in-Ok.ensures.left ∙ ap (λ n. left_after n (streams.left c.loop-self.from)) c.if-count-eq0.true)
+
+pub returns-else-length-eq0-clause-total : goal.returns-else-length-eq0-clause-total
+returns-else-length-eq0-clause-total g c =
+    let streams = g.S.Streams in
+    input_step (streams.left c.loop-self.from) (streams.left c.refill.new.from) c.in-Ok.count c.loop-self.self.taken c.refill.new.self.taken c.refill.new.self.bytes.items c.in-Ok.ensures.given c.in-Ok.ensures.left (c.in-Ok.ensures.taken ∙ ap (λ n. n + c.in-Ok.count) c.keep-in-loop-self.ensures.taken)
+    ∙ c.loop-self.invariant.total
+
+pub returns-else-length-eq0-clause-forward : goal.returns-else-length-eq0-clause-forward
+returns-else-length-eq0-clause-forward g c = omega (arith, c.loop-self.invariant.forward, c.in-Ok.ensures.taken, c.keep-in-loop-self.ensures.taken)
+
+pub returns-else-length-eq0-clause-within : goal.returns-else-length-eq0-clause-within
+returns-else-length-eq0-clause-within g c = omega (arith, c.in-Ok.ensures.taken, c.keep-in-loop-self.ensures.taken, c.if-count-eq0.true, c.if-self-gt-LIMIT.false)
+
+pub returns-then-length-eq0-clause-found : goal.returns-then-length-eq0-clause-found
+returns-then-length-eq0-clause-found g c _ = c.in-Ok.ensures.ended_nothing c.if-count-eq0.true
+
+pub returns-then-length-eq0-clause-passes_none : goal.returns-then-length-eq0-clause-passes_none
+returns-then-length-eq0-clause-passes_none g c _ = omega (arith, c.in-Ok.ensures.taken, c.in-Ok.ensures.start, c.in-Ok.ensures.end, c.keep-in-loop-self.ensures.taken, c.loop-self.invariant.given, c.len-in-loop-self.ensures, c.loop-self.self.counted, c.if-count-eq0.true, c.if-length-eq0.true)
+
+pub returns-else-length-eq0-clause-passes : goal.returns-else-length-eq0-clause-passes
+returns-else-length-eq0-clause-passes g c =
+    let given : given_of c.refill.new.self ≡ given_of c.args.self.now + (c.loop-self.length + c.len-in-loop-self.result) =
+    omega (arith, c.in-Ok.ensures.taken, c.in-Ok.ensures.start, c.in-Ok.ensures.end, c.keep-in-loop-self.ensures.taken, c.loop-self.invariant.given, c.len-in-loop-self.ensures, c.loop-self.self.counted, c.if-count-eq0.true) in
+    (omega (arith, given, c.if-length-eq0.false), omega (arith, given))

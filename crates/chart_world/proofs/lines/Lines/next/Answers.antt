@@ -1,4 +1,4 @@
-use Rattle.std.proofs.Common.{ℕ, IfSome, List, Option, sym, true, false, ◌≡◌, ◌+◌, ◌-◌, ◌∙◌, [], Some, None, Ok, length, take, drop, ap, arith, length-drop}
+use Rattle.std.proofs.Common.{ℕ, IfSome, List, Option, sym, true, false, ◌≡◌, ◌+◌, ◌-◌, ◌∙◌, [], Some, None, Ok, length, take, drop, ap, arith, length-drop, refl}
 use Rattle.chart_world.specs.Feed.{pending_of, Gathered}
 use Rattle.chart_world.specs.Reading.{Reading, HasFeed, HasLine, Took, told_lines, with_first, unread, in_front_of, behind_first, input_length}
 use Rattle.chart_world.specs.Fronts.{StandsIn}
@@ -33,7 +33,7 @@ returns-in-Some g c =
       too_long = grind (arith, counted, rest, some, none);
       end = grind (arith, counted, rest, some, none);
       rest = rest;
-      given = grind (arith, counted, rest, some, none);
+      given = counted;
       passes = grind (arith, counted, rest, some, none);
       passes_too_long = grind (arith, counted, rest, some, none);
       passes_end = grind (arith, counted, rest, some, none);
@@ -41,29 +41,29 @@ returns-in-Some g c =
       offset = grind (arith, counted, rest, some, none);
       offset_too_long = grind (arith, counted, rest, some, none);
       offset_end = grind (arith, counted, rest, some, none);
-      offset_fault = grind (arith, counted, rest, some, none);
+      offset_fault = tt;
       no_line = grind (arith, counted, rest, some, none);
-      read_fault = grind (arith, counted, rest, some, none);
-      read_before = grind (arith, counted, rest, some, none);
-      read_within = grind (arith, counted, rest, some, none);
-      past = grind (arith, counted, rest, some, none);
-      past_before = grind (arith, counted, rest, some, none);
-      left_on_err = grind (arith, counted, rest, some, none);
+      read_fault = λ is. absurd (cc (is));
+      read_before = λ is. absurd (cc (is));
+      read_within = λ is. absurd (cc (is));
+      past = λ is. absurd (cc (is));
+      past_before = λ is. absurd (cc (is));
+      left_on_err = tt;
       feed = λ _. feed;
-      not_ended = grind (arith, counted, rest, some, none);
+      not_ended = λ is. absurd (cc (is));
       stands = stands;
-      usable = grind (arith, counted, rest, some, none);
-      unusable = grind (arith, counted, rest, some, none);
+      usable = c.give_pending.ensures.usable;
+      unusable = tt;
       total = grind (arith, counted, rest, some, none);
       forward = grind (arith, counted, rest, some, none);
-      waits = grind (arith, counted, rest, some, none);
-      sent = grind (arith, counted, rest, some, none);
-      send_faults = grind (arith, counted, rest, some, none);
-      read_faults = grind (arith, counted, rest, some, none);
-      quiet = grind (arith, counted, rest, some, none);
-      pieces = grind (arith, counted, rest, some, none);
+      waits = λ _. refl;
+      sent = refl;
+      send_faults = refl;
+      read_faults = omega arith;
+      quiet = λ _. refl;
+      pieces = omega arith;
       took = grind (arith, counted, rest, some, none);
-      beside = grind (arith, counted, rest, some, none);
+      beside = g.met.S.Streams.takes_none _;
     }
 
 pub returns-in-Ok-None : goal.returns-in-Ok-None
@@ -88,41 +88,41 @@ returns-in-Ok-None g c =
     let found : at.ended ≡ true = c.gather.ensures.found (c.in-Ok-None.is ∙ ap Ok c.in-Ok-None.field-0-is) in
     let off : at.ended ≡ false → ⊥ = λ is. cc (found, is) in
     record {
-      line = grind (arith, full, none);
-      too_long = grind (arith, full, none);
-      end = grind (arith, full, none);
+      line = λ is. absurd (cc (is));
+      too_long = λ is. absurd (cc (is));
+      end = λ _. none;
       rest = rest;
-      given = grind (arith, full, none);
-      passes = grind (arith, full, none);
-      passes_too_long = grind (arith, full, none);
+      given = counted;
+      passes = λ is. absurd (cc (is));
+      passes_too_long = λ is. absurd (cc (is));
       passes_end = grind (arith, full, none);
       within = grind (arith, full, none);
-      offset = grind (arith, full, none);
-      offset_too_long = grind (arith, full, none);
+      offset = λ is. absurd (cc (is));
+      offset_too_long = λ is. absurd (cc (is));
       offset_end = grind (arith, full, none);
-      offset_fault = grind (arith, full, none);
+      offset_fault = tt;
       no_line = grind (arith, full, none);
-      read_fault = grind (arith, full, none);
-      read_before = grind (arith, full, none);
-      read_within = grind (arith, full, none);
-      past = grind (arith, full, none);
-      past_before = grind (arith, full, none);
-      left_on_err = grind (arith, full, none);
+      read_fault = λ is. absurd (cc (is));
+      read_before = λ is. absurd (cc (is));
+      read_within = λ is. absurd (cc (is));
+      past = λ is. absurd (cc (is));
+      past_before = λ is. absurd (cc (is));
+      left_on_err = tt;
       feed = λ is. absurd (off is);
-      not_ended = grind (arith, full, none);
+      not_ended = λ is. absurd (cc (is));
       stands = λ input stands. stands_next input left later old _ rest whole counted total (λ is. absurd (off is)) (λ is. absurd (off is)) c.in-Ok-None.ensures.ended stands;
       usable = grind (arith, full, none);
-      unusable = grind (arith, full, none);
-      total = grind (arith, full, none);
+      unusable = tt;
+      total = total;
       forward = grind (arith, full, none);
       waits = grind (arith, full, none);
-      sent = grind (arith, full, none);
-      send_faults = grind (arith, full, none);
-      read_faults = grind (arith, full, none);
+      sent = c.gather.ensures.sent;
+      send_faults = c.gather.ensures.send_faults;
+      read_faults = c.gather.ensures.read_faults;
       quiet = grind (arith, full, none);
-      pieces = grind (arith, full, none);
+      pieces = c.gather.ensures.pieces;
       took = grind (arith, full, none);
-      beside = grind (arith, full, none);
+      beside = c.gather.ensures.beside;
     }
 
 pub returns-in-Err : goal.returns-in-Err

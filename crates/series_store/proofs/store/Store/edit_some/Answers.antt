@@ -1,5 +1,5 @@
 use Rattle.std.proofs.Common.{refl}
-use Rattle.series_store.proofs.CoverLemmas.{answered_all, answered_fail, answered_starved, damage_not_outside}
+use Rattle.series_store.proofs.CoverLemmas.{answered_all, answered_fail, answered_starved, damage_not_outside, did_all, did_fail}
 use Rattle.series_store.proofs.store.Store.edit_some.Goals as goal
 
 pub returns-in_err-answers-clause-answered : goal.returns-in_err-answers-clause-answered
@@ -17,3 +17,9 @@ returns-in-Ok-clause-answered g c = λ total book told stands.
 pub returns-else-is_damage-clause-answered : goal.returns-else-is_damage-clause-answered
 returns-else-is_damage-clause-answered g c = λ total book told stands.
     answered_fail total book c.args.edits.now c.commit_group.new.answers.items (g.P.Pages.view c.args.self.now.space.pages) (g.P.Pages.view c.commit_group.new.self.space.pages) c.in-Err.cause stands (c.in-Err.ensures.grouped total book told stands)
+
+pub returns-in-Ok-clause-did : goal.returns-in-Ok-clause-did
+returns-in-Ok-clause-did g c = did_all _ _ _ _ _ _ _ _ _ _ _ c.commit_group.new.answers c.requires.some c.in-Ok.ensures.groups
+
+pub returns-else-is_damage-clause-did : goal.returns-else-is_damage-clause-did
+returns-else-is_damage-clause-did g c = did_fail _ _ _ _ _ _ _ _ _ _ _ _ c.in-Err.cause (c.if-is_damage.ensures.other refl) c.in-Err.ensures.groups

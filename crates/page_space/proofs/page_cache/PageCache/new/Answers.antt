@@ -1,0 +1,16 @@
+-- Where no place holds a page, no page is held.
+use Rattle.std.proofs.Common.{◌≡◌, ◌∙◌, ℕ, ◌<◌, List, Option, None, get_or, ap, rules}
+use Rattle.std.specs.Prelude.{replicate}
+use Rattle.std.proofs.lemmas.List.{get_or-replicate}
+use Rattle.page_space.specs.Copies.{place, copy_at, copies_at}
+use Rattle.page_space.specs.declared.page_cache.Kept.{Kept}
+use Rattle.page_space.proofs.Caching.{place_below}
+use Rattle.page_space.proofs.page_cache.PageCache.new.Goals as goal
+
+none_held : (places : List (Option Kept)) (bytes : List ℕ) (n p : ℕ) → places ≡ replicate n None → place p < n → copies_at places bytes p ≡ None
+none_held places bytes n p empty below =
+    ap (λ l. copy_at (get_or l (place p) None) bytes p) empty
+    ∙ ap (λ o. copy_at o bytes p) (get_or-replicate n (place p) None None below)
+
+pub returns : goal.returns
+returns c p = none_held c.in_ok-places.places.items c.in_ok-bytes.bytes.items 1024 p (c.in_ok-places.ensures.items_if_clones_equal (λ y same. search rules)) (place_below p)
