@@ -6,6 +6,7 @@ use Rattle.block_disk.specs.declared.back.Back.{Back}
 use Rattle.block_disk.specs.declared.disk.Disk.{Ghosts}
 use Rattle.gate_pages.specs.declared.gate_pages.GatePages.{GatePages}
 use Rattle.gate_pages.specs.Journal.{page_count}
+use Rattle.gate_pages.specs.Shown as shown
 use Rattle.page_space.specs.Layout.{HasMagic}
 use Rattle.store_upgrade.specs.Upgraded.{current}
 use Rattle.empty_store.specs.Stores.{HasStore}
@@ -19,8 +20,8 @@ given (Err back) = back.value
 
 -- the disk of pages, given or handed back
 abbrev pub lowered : {D : Type 0} {disk : Ghosts D} → Result (GatePages D disk) (Back (GatePages D disk) InitCause) → Result D (Back D InitCause)
-lowered (Ok pages) = Ok pages.disk
-lowered (Err back) = Err (record { value = back.value.disk; cause = back.cause })
+lowered (Ok pages) = Ok (shown.disk pages)
+lowered (Err back) = Err (record { value = shown.disk back.value; cause = back.cause })
 
 -- when each cause comes
 abbrev pub Prevents : InitCause → View → View → Type 0

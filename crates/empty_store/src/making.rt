@@ -1,8 +1,9 @@
 //! A store is made on a disk.
-ghost use Rattle.std.specs.Prelude.{◌≡◌, ◌≢◌, ◌≤◌, IfOk, IfErr, IsTrue};
+ghost use Rattle.std.specs.Prelude.{◌≡◌, ◌≢◌, ◌≤◌, IfOk, IfErr};
 ghost use Rattle.block_disk.specs.View.{View, Now, Honest, Only};
 ghost use Rattle.gate_pages.specs.GatePages.{IsBrokenNow, IsClosed};
 ghost use Rattle.gate_pages.specs.Journal.{page_count};
+ghost use Rattle.gate_pages.specs.Shown.{AreSound};
 ghost use Rattle.empty_store.specs.Causes.{Prevents, given, lowered};
 ghost use Rattle.empty_store.specs.Kept.{LeavesOld};
 ghost use Rattle.empty_store.specs.Stores.{HasStore, IsNewStore, KeepsPages, LeavesNew};
@@ -89,7 +90,7 @@ fn on_disk<D: Disk>(
     made: Result<GatePages<D>, Back<GatePages<D>, InitCause>>,
 ) -> Result<D, Back<D, InitCause>>
     ensures disk { result ≡ lowered made }
-    ensures rests { IfOk result (λ disk. IsTrue (given made).sound → IsClosed (D.view disk)) }
+    ensures rests { IfOk result (λ disk. AreSound (given made) → IsClosed (D.view disk)) }
 {
     match made {
         Ok(pages) => Ok(pages.into_disk()),

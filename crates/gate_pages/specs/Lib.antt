@@ -5,6 +5,7 @@ pub mod Journal
 pub mod Pages
 pub mod ListPages
 pub mod GatePages
+pub mod Shown
 pub mod GateLaws
 pub mod Steps
 pub mod Openings

@@ -14,7 +14,11 @@ use Rattle.page_space.specs.Spaces.{Stands}
 use Rattle.page_space.specs.Transactions.{held, left_by}
 
 module _ {P : Type 0} {g : Ghosts P} where
-  -- what its pages mean
+  -- its pages
+  abbrev pub pages : Space P g → P
+  pages it = it.pages
+
+  -- what they mean
   abbrev pub view : Space P g → View
   view it = g.view it.pages
 

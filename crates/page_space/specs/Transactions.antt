@@ -3,6 +3,7 @@ use Rattle.std.specs.Prelude.{ℕ, ◌≡◌, ◌<◌, ◌⊎◌, IsTrue, is_som
 use Rattle.block_disk.specs.View.{Image}
 use Rattle.gate_pages.specs.Batch.{Entry, page_in, put_all}
 use Rattle.gate_pages.specs.Entries.{entries}
+use Rattle.page_space.specs.declared.superblock.Superblock.{Superblock}
 use Rattle.page_space.specs.declared.txn.Txn.{Txn}
 
 -- the pages that it holds
@@ -15,6 +16,10 @@ held_page txn p = page_in (entries txn.batch) p
 -- the pages as it would leave them
 abbrev pub left_by : Txn → Image → Image
 left_by txn image = put_all (entries txn.batch) image
+
+-- what page 0 would tell
+abbrev pub told_by : Txn → Superblock
+told_by txn = txn.superblock
 
 -- one more page may be held, of this number
 abbrev pub HasRoom : Txn → ℕ → Type 0

@@ -7,7 +7,7 @@ use Rattle.node_page.specs.Layout.{KeepsLayout}
 use Rattle.page_space.specs.declared.superblock.Superblock.{Superblock}
 use Rattle.page_space.specs.Layout.{Links, without_head}
 use Rattle.page_space.specs.Spaces.{times, once}
-use Rattle.page_space.specs.Transactions.{left_by}
+use Rattle.page_space.specs.Transactions.{left_by, told_by}
 use Rattle.page_space.specs.declared.txn.Txn.{Txn}
 use Rattle.path_repair.specs.declared.errors.RepairError.{RepairError}
 use Rattle.path_repair.specs.declared.errors.RepairError.TheVariants.{Full, DiskFault, Damaged, NoMemory}
@@ -90,13 +90,13 @@ and_page page mine p = times p (page ∷ []) + mine p
 
 -- they stand apart as a transaction would leave the pages, with this page among those in hand
 abbrev pub StandsWith : Txn → Image → (ℕ → ℕ → Bool) → Image → Superblock → (ℕ → ℕ) → (ℕ → ℕ) → ℕ → Type 0
-StandsWith txn base fits stored from mine kept page = StandsApart fits stored (left_by txn base) from txn.superblock (and_page page mine) kept
+StandsWith txn base fits stored from mine kept page = StandsApart fits stored (left_by txn base) from (told_by txn) (and_page page mine) kept
 
 -- a page in hand is left, and the others still stand apart
 abbrev pub LeavesApart : ℕ → Txn → Txn → Type 0
 LeavesApart page old new =
     (fits : ℕ → ℕ → Bool) (base stored : Image) (from : Superblock) (mine kept : ℕ → ℕ) → StandsWith old base fits stored from mine kept page
-    → StandsApart fits stored (left_by new base) from new.superblock mine kept
+    → StandsApart fits stored (left_by new base) from (told_by new) mine kept
 
 -- the pages of the tree at a place, and those left alone
 abbrev pub and_tree : (ℕ → ℕ → Bool) → Image → ℕ → ℕ → ℕ → ℕ → (ℕ → ℕ) → ℕ → ℕ

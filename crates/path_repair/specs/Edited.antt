@@ -6,6 +6,7 @@ use Rattle.page_space.specs.Layout.{in_use}
 use Rattle.page_space.specs.declared.superblock.Superblock.{Superblock}
 use Rattle.page_space.specs.declared.txn.Txn.{Txn}
 use Rattle.page_space.specs.Spaces.{Stands}
+use Rattle.page_space.specs.Transactions.{told_by}
 use Rattle.tree_walk.specs.declared.tree.Tree.{Tree}
 use Rattle.tree_walk.specs.Trees.{StandsFor}
 use Rattle.path_repair.specs.declared.errors.RepairError.{RepairError}
@@ -33,7 +34,7 @@ pub record IsFullFor (total used : ℕ) (list list' : List (Option ℤ)) (needed
 
 -- which errors come where pages stand for a list
 abbrev pub IsErrorFor : Txn → Txn → List (Option ℤ) → List (Option ℤ) → RepairError → Type 0
-IsErrorFor old new list list' (Full needed have) = IsFullFor old.superblock.total (in_use old.superblock) list list' needed have × (new ≡ old)
+IsErrorFor old new list list' (Full needed have) = IsFullFor (told_by old).total (in_use (told_by old)) list list' needed have × (new ≡ old)
 IsErrorFor old new list list' DiskFault = Unit {0}
 IsErrorFor old new list list' (Damaged page) = ⊥
 IsErrorFor old new list list' NoMemory = ⊥

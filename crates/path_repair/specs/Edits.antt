@@ -3,7 +3,7 @@ use Rattle.std.specs.Prelude.{ℕ, ℤ, Bool, ◌+◌, List, [], ◌∷◌, leng
 use Rattle.block_disk.specs.View.{Image}
 use Rattle.om3_coeff.specs.Keys.{page_levels}
 use Rattle.om3_coeff.specs.declared.span.Span.{Span}
-use Rattle.page_space.specs.Transactions.{left_by}
+use Rattle.page_space.specs.Transactions.{left_by, told_by}
 use Rattle.page_space.specs.declared.txn.Txn.{Txn}
 use Rattle.tree_walk.specs.declared.tree.Tree.{Tree}
 use Rattle.path_repair.specs.Apart.{TellsUnfit, AreApart, NamesDamaged, reached_pages}
@@ -49,26 +49,26 @@ old_passed tree edit = touch edit.first edit.end (page_levels tree.slots) (page_
 
 -- the pages stand with the new tree for this list, and those of the others are as they were
 abbrev pub IsAfter : Txn → Txn → Image → ℕ → Tree → List (Option ℤ) → List ℕ → Type 0
-IsAfter old new base count tree list others = IsEditedTree count (left_by old base) (left_by new base) new.superblock tree list others
+IsAfter old new base count tree list others = IsEditedTree count (left_by old base) (left_by new base) (told_by new) tree list others
 
 -- which page of the tree `Damaged` names
 abbrev pub IsDamageOf : Txn → Txn → Image → Tree → RepairError → Type 0
-IsDamageOf old new base tree cause = IsDamage (left_by new base) old.superblock.fresh new.superblock (page_levels tree.slots) tree.root tree.span cause
+IsDamageOf old new base tree cause = IsDamage (left_by new base) (told_by old).fresh (told_by new) (page_levels tree.slots) tree.root tree.span cause
 
 -- the page is damaged before the change, where the pages of the tree, as far as they fit, and of the chain are apart
 abbrev pub BlamesStored : Txn → Image → Tree → RepairError → Type 0
 BlamesStored txn base tree cause =
-    (fits : ℕ → ℕ → Bool) → TellsUnfit (left_by txn base) txn.superblock.total fits
-    → AreApart (left_by txn base) txn.superblock (reached_pages fits (left_by txn base) (page_levels tree.slots) tree.root)
-    → NamesDamaged (left_by txn base) txn.superblock txn.superblock.total (page_levels tree.slots) tree.root tree.span cause
+    (fits : ℕ → ℕ → Bool) → TellsUnfit (left_by txn base) (told_by txn).total fits
+    → AreApart (left_by txn base) (told_by txn) (reached_pages fits (left_by txn base) (page_levels tree.slots) tree.root)
+    → NamesDamaged (left_by txn base) (told_by txn) (told_by txn).total (page_levels tree.slots) tree.root tree.span cause
 
 -- which page of the tree below a place `Damaged` names
 abbrev pub IsDamageAt : Txn → Txn → Image → ℕ → ℕ → ℕ → ℕ → Option Span → RepairError → Type 0
-IsDamageAt old new base height level index page top cause = IsDamage (left_by new base) old.superblock.fresh new.superblock (root_level height level index) page top cause
+IsDamageAt old new base height level index page top cause = IsDamage (left_by new base) (told_by old).fresh (told_by new) (root_level height level index) page top cause
 
 -- and which one that is unfit for its place alone
 abbrev pub IsUnfitUnder : Txn → Image → ℕ → ℕ → ℕ → ℕ → ℕ → RepairError → Type 0
-IsUnfitUnder txn base total height level index page cause = IsUnfitBelow (left_by txn base) txn.superblock.fresh total (root_level height level index) page cause
+IsUnfitUnder txn base total height level index page cause = IsUnfitBelow (left_by txn base) (told_by txn).fresh total (root_level height level index) page cause
 
 -- the pages of the catalog, none of which is of the kind of a tree page, are what they were
 abbrev pub LeavesCatalog : Txn → Txn → Image → Type 0

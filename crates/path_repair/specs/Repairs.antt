@@ -4,7 +4,7 @@ use Rattle.block_disk.specs.View.{Image}
 use Rattle.gate_pages.specs.declared.pages.Pages.{Ghosts}
 use Rattle.page_space.specs.Shown as shown
 use Rattle.page_space.specs.Spaces.{Stands}
-use Rattle.page_space.specs.Transactions.{left_by}
+use Rattle.page_space.specs.Transactions.{left_by, told_by}
 use Rattle.page_space.specs.declared.superblock.Superblock.{Superblock}
 use Rattle.page_space.specs.declared.space.Space.{Space}
 use Rattle.page_space.specs.declared.txn.Txn.{Txn}
@@ -45,17 +45,17 @@ module _ {P : Type 0} {g : Ghosts P} where
   abbrev pub ForEdit : Space P g → Txn → Tree → Edit → (Image → ℕ → List (Option ℤ) → List (Option ℤ) → List ℕ → Type 0) → Type 0
   ForEdit it txn tree edit IsSo =
       (base : Image) (count : ℕ) (list list' : List (Option ℤ)) (others : List ℕ) → AreTold (shown.IsTold it) (shown.view it) base
-      → IsHeldTree count (left_by txn base) txn.superblock tree list others → IsEdited edit.first edit.end edit.slots edit.values list list'
+      → IsHeldTree count (left_by txn base) (told_by txn) tree list others → IsEdited edit.first edit.end edit.slots edit.values list list'
       → IsSo base count list list' others
 
   -- so of the pages and of the pages in use, where they stand as the transaction would leave them
   abbrev pub ForStanding : Space P g → Txn → (Image → ℕ → List ℕ → Type 0) → Type 0
   ForStanding it txn IsSo =
       (base : Image) (count : ℕ) (used freed : List ℕ) → AreTold (shown.IsTold it) (shown.view it) base
-      → Stands count (left_by txn base) txn.superblock used freed → IsSo base count used
+      → Stands count (left_by txn base) (told_by txn) used freed → IsSo base count used
 
   -- so of the pages as they were stored, where these are apart: those in hand, and those left alone
   abbrev pub ForApart : Space P g → Txn → ((ℕ → ℕ → Bool) → Image → (ℕ → ℕ) → ℕ → ℕ) → (Image → (ℕ → ℕ → Bool) → Image → Superblock → (ℕ → ℕ) → (ℕ → ℕ) → Type 0) → Type 0
   ForApart it txn left IsSo =
       (base : Image) (fits : ℕ → ℕ → Bool) (stored : Image) (from : Superblock) (mine kept : ℕ → ℕ) → AreTold (shown.IsTold it) (shown.view it) base
-      → StandsApart fits stored (left_by txn base) from txn.superblock mine (left fits stored kept) → IsSo base fits stored from mine kept
+      → StandsApart fits stored (left_by txn base) from (told_by txn) mine (left fits stored kept) → IsSo base fits stored from mine kept

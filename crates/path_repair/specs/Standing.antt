@@ -10,7 +10,7 @@ use Rattle.page_space.specs.declared.superblock.Superblock.{Superblock}
 use Rattle.page_space.specs.Spaces.{times, Stands}
 use Rattle.tree_walk.specs.Trees.{top_of_page, IsTree}
 use Rattle.page_space.specs.declared.txn.Txn.{Txn}
-use Rattle.page_space.specs.Transactions.{held, left_by}
+use Rattle.page_space.specs.Transactions.{held, left_by, told_by}
 use Rattle.tree_walk.specs.SpaceViews.{StaysOn}
 use Rattle.path_repair.specs.declared.errors.RepairError.{RepairError}
 use Rattle.path_repair.specs.declared.errors.RepairError.TheVariants.{Full, DiskFault, Damaged, NoMemory}
@@ -61,7 +61,7 @@ pub record IsPlaced (count : ℕ) (image : Image) (s : Superblock) (list list' :
 abbrev pub ForPlaced : Type 0 → View → Txn → ℕ → ℕ → List (Option ℤ) → ℕ → ℕ → ℕ → ℕ → Option Span → (List (Option ℤ) → List (Option ℤ) → Type 0) → Type 0
 ForPlaced told view txn first end values height level index page top IsSo =
     (base : Image) (count : ℕ) (list list' : List (Option ℤ)) (others : List ℕ) → AreTold told view base → AreLists first end values list list'
-    → IsPlaced count (left_by txn base) txn.superblock list list' height level index page top others → IsSo list list'
+    → IsPlaced count (left_by txn base) (told_by txn) list list' height level index page top others → IsSo list list'
 
 -- the pages stand for the list there, and those of the others are as they were
 pub record IsRepaired (count : ℕ) (before image : Image) (s : Superblock) (list : List (Option ℤ)) (level index page : ℕ) (top : Option Span) (others : List ℕ) : Type 0 where
@@ -91,9 +91,9 @@ pub record IsPartWay (count : ℕ) (before image : Image) (s : Superblock) (list
 pub record Moved (most_reads most_puts : ℕ) (told_old told_new : Type 0) (old new under_old under_new : View) (before after : Superblock) (txn_old txn_new : Txn) : Type 0 where
   pub reads : ReadsMost most_reads told_old told_new old new
   pub over : StaysOn before after under_old under_new
-  pub total : txn_new.superblock.total ≡ txn_old.superblock.total
-  pub series : txn_new.superblock.series ≡ txn_old.superblock.series
-  pub fresh : txn_old.superblock.fresh ≤ txn_new.superblock.fresh
+  pub total : (told_by txn_new).total ≡ (told_by txn_old).total
+  pub series : (told_by txn_new).series ≡ (told_by txn_old).series
+  pub fresh : (told_by txn_old).fresh ≤ (told_by txn_new).fresh
   pub held : length (held txn_new) ≤ length (held txn_old) + most_puts
 
 -- why a tree of so many pages in all wasn't changed, beside what the pages are

@@ -4,7 +4,7 @@ ghost use Rattle.om3_coeff.specs.Keys.{page_levels as levels_of};
 ghost use Rattle.om3_coeff.specs.Spans.{IsProperIfAny};
 ghost use Rattle.whole_number.specs.Range.{IsValue};
 ghost use Rattle.page_space.specs.Shown as shown;
-ghost use Rattle.page_space.specs.Transactions.{held};
+ghost use Rattle.page_space.specs.Transactions.{held, told_by};
 ghost use Rattle.path_repair.specs.Edited.{IsErrorFor};
 ghost use Rattle.path_repair.specs.Edits.{edit_of, run_in, slot_in, grow_to, clear_in, passed, IsAfter, IsDamageOf, BlamesStored, LeavesCatalog};
 ghost use Rattle.path_repair.specs.Keeping.{IsNewTree};
@@ -38,7 +38,7 @@ fn fill<P: Pages>(
     changed: &mut bool,
 ) -> Result<Tree, RepairError>
     requires sound { shown.IsSound space.old }
-    requires total { txn.old.superblock.total ≡ shown.total space.old }
+    requires total { (told_by txn.old).total ≡ shown.total space.old }
     requires root { tree.root < shown.total space.old }
     requires proper { IsProperIfAny tree.span }
     requires few { tree.slots ≤ 2 ^ 35 }
@@ -53,7 +53,7 @@ fn fill<P: Pages>(
     ensures quiet { OnOk result ((shown.view space.new).faults ≡ (shown.view space.old).faults) }
     ensures quiet_err { IfErr result (λ e. e ≢ RepairError.DiskFault → (shown.view space.new).faults ≡ (shown.view space.old).faults) }
     ensures catalog { repairs.ForPages space.old (λ base. LeavesCatalog txn.old txn.new base) }
-    ensures tree { IfOk result (λ new. IsNewTree len txn.new.superblock tree new) }
+    ensures tree { IfOk result (λ new. IsNewTree len (told_by txn.new) tree new) }
     ensures damaged { repairs.ForPages space.old (λ base. IfErr result (λ e. IsDamageOf txn.old txn.new base tree e)) }
     // where the pages of the tree and of the chain are apart, it is so before the change
     ensures stored { repairs.ForPages space.old (λ base. IfErr result (BlamesStored txn.old base tree)) }
@@ -108,7 +108,7 @@ pub fn put_run<P: Pages>(
     changed: &mut bool,
 ) -> Result<Tree, RepairError>
     requires sound { shown.IsSound space.old }
-    requires total { txn.old.superblock.total ≡ shown.total space.old }
+    requires total { (told_by txn.old).total ≡ shown.total space.old }
     requires root { tree.root < shown.total space.old }
     requires proper { IsProperIfAny tree.span }
     requires few { tree.slots ≤ 2 ^ 35 }
@@ -120,7 +120,7 @@ pub fn put_run<P: Pages>(
     ensures quiet { OnOk result ((shown.view space.new).faults ≡ (shown.view space.old).faults) }
     ensures quiet_err { IfErr result (λ e. e ≢ RepairError.DiskFault → (shown.view space.new).faults ≡ (shown.view space.old).faults) }
     ensures catalog { repairs.ForPages space.old (λ base. LeavesCatalog txn.old txn.new base) }
-    ensures tree { IfOk result (λ new. IsNewTree (max tree.slots (slot + length values.now)) txn.new.superblock tree new) }
+    ensures tree { IfOk result (λ new. IsNewTree (max tree.slots (slot + length values.now)) (told_by txn.new) tree new) }
     ensures damaged { repairs.ForPages space.old (λ base. IfErr result (λ e. IsDamageOf txn.old txn.new base tree e)) }
     // where the pages of the tree and of the chain are apart, it is so before the change
     ensures stored { repairs.ForPages space.old (λ base. IfErr result (BlamesStored txn.old base tree)) }
@@ -155,7 +155,7 @@ pub fn put_slot<P: Pages>(
     value: i64,
 ) -> Result<Tree, RepairError>
     requires sound { shown.IsSound space.old }
-    requires total { txn.old.superblock.total ≡ shown.total space.old }
+    requires total { (told_by txn.old).total ≡ shown.total space.old }
     requires root { tree.root < shown.total space.old }
     requires proper { IsProperIfAny tree.span }
     requires few { tree.slots ≤ 2 ^ 35 }
@@ -167,7 +167,7 @@ pub fn put_slot<P: Pages>(
     ensures quiet { OnOk result ((shown.view space.new).faults ≡ (shown.view space.old).faults) }
     ensures quiet_err { IfErr result (λ e. e ≢ RepairError.DiskFault → (shown.view space.new).faults ≡ (shown.view space.old).faults) }
     ensures catalog { repairs.ForPages space.old (λ base. LeavesCatalog txn.old txn.new base) }
-    ensures tree { IfOk result (λ new. IsNewTree (max tree.slots (slot + 1)) txn.new.superblock tree new) }
+    ensures tree { IfOk result (λ new. IsNewTree (max tree.slots (slot + 1)) (told_by txn.new) tree new) }
     ensures damaged { repairs.ForPages space.old (λ base. IfErr result (λ e. IsDamageOf txn.old txn.new base tree e)) }
     // where the pages of the tree and of the chain are apart, it is so before the change
     ensures stored { repairs.ForPages space.old (λ base. IfErr result (BlamesStored txn.old base tree)) }
@@ -198,7 +198,7 @@ pub fn grow<P: Pages>(
     slots: u64,
 ) -> Result<Tree, RepairError>
     requires sound { shown.IsSound space.old }
-    requires total { txn.old.superblock.total ≡ shown.total space.old }
+    requires total { (told_by txn.old).total ≡ shown.total space.old }
     requires root { tree.root < shown.total space.old }
     requires proper { IsProperIfAny tree.span }
     requires few { tree.slots ≤ 2 ^ 35 }
@@ -210,7 +210,7 @@ pub fn grow<P: Pages>(
     ensures quiet { OnOk result ((shown.view space.new).faults ≡ (shown.view space.old).faults) }
     ensures quiet_err { IfErr result (λ e. e ≢ RepairError.DiskFault → (shown.view space.new).faults ≡ (shown.view space.old).faults) }
     ensures catalog { repairs.ForPages space.old (λ base. LeavesCatalog txn.old txn.new base) }
-    ensures tree { IfOk result (λ new. IsNewTree slots txn.new.superblock tree new) }
+    ensures tree { IfOk result (λ new. IsNewTree slots (told_by txn.new) tree new) }
     ensures damaged { repairs.ForPages space.old (λ base. IfErr result (λ e. IsDamageOf txn.old txn.new base tree e)) }
     // where the pages of the tree and of the chain are apart, it is so before the change
     ensures stored { repairs.ForPages space.old (λ base. IfErr result (BlamesStored txn.old base tree)) }
@@ -233,7 +233,7 @@ pub fn clear_run<P: Pages>(
     changed: &mut bool,
 ) -> Result<Tree, RepairError>
     requires sound { shown.IsSound space.old }
-    requires total { txn.old.superblock.total ≡ shown.total space.old }
+    requires total { (told_by txn.old).total ≡ shown.total space.old }
     requires root { tree.root < shown.total space.old }
     requires proper { IsProperIfAny tree.span }
     requires few { tree.slots ≤ 2 ^ 35 }
@@ -244,7 +244,7 @@ pub fn clear_run<P: Pages>(
     ensures quiet { OnOk result ((shown.view space.new).faults ≡ (shown.view space.old).faults) }
     ensures quiet_err { IfErr result (λ e. e ≢ RepairError.DiskFault → (shown.view space.new).faults ≡ (shown.view space.old).faults) }
     ensures catalog { repairs.ForPages space.old (λ base. LeavesCatalog txn.old txn.new base) }
-    ensures tree { IfOk result (λ new. IsNewTree tree.slots txn.new.superblock tree new) }
+    ensures tree { IfOk result (λ new. IsNewTree tree.slots (told_by txn.new) tree new) }
     ensures damaged { repairs.ForPages space.old (λ base. IfErr result (λ e. IsDamageOf txn.old txn.new base tree e)) }
     // where the pages of the tree and of the chain are apart, it is so before the change
     ensures stored { repairs.ForPages space.old (λ base. IfErr result (BlamesStored txn.old base tree)) }

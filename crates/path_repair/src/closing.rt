@@ -2,7 +2,7 @@
 ghost use Rattle.std.specs.Prelude.{◌≡◌, ◌≢◌, ◌<◌, ◌≤◌, ◌+◌, ◌⊎◌, ℕ, ℤ, suc, Option, List, length};
 ghost use Rattle.block_disk.specs.View.{Image};
 ghost use Rattle.om3_coeff.specs.Spans.{IsProperIfAny, AreSlots};
-ghost use Rattle.page_space.specs.Transactions.{left_by, held, held_page};
+ghost use Rattle.page_space.specs.Transactions.{left_by, held, held_page, told_by};
 ghost use Rattle.path_repair.specs.Apart.{LeavesApart};
 ghost use Rattle.page_spans.specs.Heaps.{span_at};
 ghost use Rattle.path_repair.specs.Forms.{IsForm};
@@ -25,7 +25,7 @@ pub(crate) fn close_page<P: Pages>(
     bytes: &mut [u8],
     spans: &mut PageSpans,
 ) -> Root
-    requires total { txn.old.superblock.total ≡ shown.total space.old }
+    requires total { (told_by txn.old).total ≡ shown.total space.old }
     requires level { (1 ≤ at.level) × (at.level ≤ 5) }
     requires first { 1 ≤ number }
     requires below { number < shown.total space.old }
@@ -40,8 +40,8 @@ pub(crate) fn close_page<P: Pages>(
     ensures others { (p : ℕ) → 1 ≤ p → p ≢ number → held_page txn.new p ≡ held_page txn.old p }
     ensures apart { LeavesApart number txn.old txn.new }
     ensures repaired { (base before : Image) (count : ℕ) (list list' : List (Option ℤ)) (others : List ℕ) (below : ℕ) → at.level ≡ suc below → AreSlots list'
-        → IsPartWay count before (left_by txn.old base) txn.old.superblock list list' at.height below at.index number bytes.old (λ child. span_at spans.old (127 + child)) 128 others
-        → IsRepaired count before (left_by txn.new base) txn.new.superblock list' at.level at.index result.page result.span others }
+        → IsPartWay count before (left_by txn.old base) (told_by txn.old) list list' at.height below at.index number bytes.old (λ child. span_at spans.old (127 + child)) 128 others
+        → IsRepaired count before (left_by txn.new base) (told_by txn.new) list' at.level at.index result.page result.span others }
 {
     spans.gather(bytes);
     let span = spans.top();

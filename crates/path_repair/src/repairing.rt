@@ -6,7 +6,7 @@ ghost use Rattle.om3_coeff.specs.Keys.{first_slot, end_slot};
 ghost use Rattle.om3_coeff.specs.Spans.{IsProperIfAny};
 ghost use Rattle.whole_number.specs.Range.{IsValue};
 ghost use Rattle.node_page.specs.Fields.{child_at};
-ghost use Rattle.page_space.specs.Transactions.{left_by, held};
+ghost use Rattle.page_space.specs.Transactions.{left_by, held, told_by};
 ghost use Rattle.tree_walk.specs.Trees.{top_of_page};
 ghost use Rattle.page_spans.specs.Heaps.{span_at};
 ghost use Rattle.path_repair.specs.Forms.{IsForm};
@@ -70,7 +70,7 @@ pub(crate) fn repair<P: Pages>(
     changed: &mut bool,
 ) -> Result<Root, RepairError>
     requires sound { shown.IsSound space.old }
-    requires total { txn.old.superblock.total ≡ shown.total space.old }
+    requires total { (told_by txn.old).total ≡ shown.total space.old }
     requires level { at.level ≤ 5 }
     requires small { end_slot (top_of_page at.level at.index) ≤ 2 ^ 35 }
     requires page { root.page < shown.total space.old }
@@ -83,20 +83,20 @@ pub(crate) fn repair<P: Pages>(
     ensures quiet_err { IfErr result (λ e. e ≢ RepairError.DiskFault → (shown.view space.new).faults ≡ (shown.view space.old).faults) }
     ensures page { IfOk result (λ next. next.page < shown.total space.old) }
     ensures proper { IfOk result (λ next. IsProperIfAny next.span) }
-    ensures root { IfOk result (λ next. IsNewRoot txn.new.superblock.fresh root.page next.page) }
+    ensures root { IfOk result (λ next. IsNewRoot (told_by txn.new).fresh root.page next.page) }
     ensures matched { IfOk result (λ next. 1 ≤ at.level → IsMatched root.page root.span → IsMatched next.page next.span) }
-    ensures spares { repairs.ForPages space.old (λ base. Spares at.level txn.old.superblock.fresh txn.new.superblock.fresh (left_by txn.old base) (left_by txn.new base)) }
+    ensures spares { repairs.ForPages space.old (λ base. Spares at.level (told_by txn.old).fresh (told_by txn.new).fresh (left_by txn.old base) (left_by txn.new base)) }
     ensures damaged { repairs.ForPages space.old (λ base. IfErr result (λ e. IsDamageAt txn.old txn.new base at.height at.level at.index root.page root.span e)) }
     ensures apart { repairs.ForApart space.old txn.old (λ fits stored. and_tree fits stored at.height at.level at.index root.page)
-        (λ base fits stored from mine kept. OnOk result (StandsApart fits stored (left_by txn.new base) from txn.new.superblock mine kept)) }
+        (λ base fits stored from mine kept. OnOk result (StandsApart fits stored (left_by txn.new base) from (told_by txn.new) mine kept)) }
     // while the pages are apart as they were stored, the damaged one is so as it was stored
     ensures broken { repairs.ForApart space.old txn.old (λ fits stored. and_tree fits stored at.height at.level at.index root.page)
         (λ base fits stored from mine kept. IfErr result (NamesDamaged stored from (shown.total space.old) (root_level at.height at.level at.index) root.page root.span)) }
     ensures repaired { (base : Image) (count : ℕ) (list list' : List (Option ℤ)) (others : List ℕ) → AreTold (shown.IsTold space.old) (shown.view space.old) base
-        → AreLists slots.first slots.end values.now list list' → IsPlaced count (left_by txn.old base) txn.old.superblock list list' at.height at.level at.index root.page root.span others
-        → IfOk result (λ next. IsRepaired count (left_by txn.old base) (left_by txn.new base) txn.new.superblock list' at.level at.index next.page next.span others) }
+        → AreLists slots.first slots.end values.now list list' → IsPlaced count (left_by txn.old base) (told_by txn.old) list list' at.height at.level at.index root.page root.span others
+        → IfOk result (λ next. IsRepaired count (left_by txn.old base) (left_by txn.new base) (told_by txn.new) list' at.level at.index next.page next.span others) }
     ensures only_faults { (base : Image) (count : ℕ) (list list' : List (Option ℤ)) (others : List ℕ) → AreTold (shown.IsTold space.old) (shown.view space.old) base
-        → AreLists slots.first slots.end values.now list list' → IsPlaced count (left_by txn.old base) txn.old.superblock list list' at.height at.level at.index root.page root.span others
+        → AreLists slots.first slots.end values.now list list' → IsPlaced count (left_by txn.old base) (told_by txn.old) list list' at.height at.level at.index root.page root.span others
         → IfErr result (λ e. e ≡ RepairError.DiskFault) }
     // where no slot is told to be changed, none is and nothing is put, and a change that changes none is told so
     ensures was { changed.new ≡ false → changed.old ≡ false }

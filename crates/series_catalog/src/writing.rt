@@ -3,7 +3,7 @@ ghost use Rattle.std.specs.Prelude.{◌≡◌, ◌≢◌, ◌<◌, ◌≤◌, �
 ghost use Rattle.block_disk.specs.Counts.{HasRisen};
 ghost use Rattle.block_disk.specs.View.{View};
 ghost use Rattle.catalog_page.specs.Places.{page_of};
-ghost use Rattle.page_space.specs.Transactions.{held, held_page, HasRoom};
+ghost use Rattle.page_space.specs.Transactions.{held, held_page, told_by, HasRoom};
 ghost use Rattle.stored_book.specs.Changing.{IsRecordSet, KeepsRecords, AddsRecord};
 ghost use Rattle.series_book.specs.declared.limits.TheConstants.{MOST_SLOTS};
 ghost use Rattle.series_catalog.specs.Catalogs.{ForEntry, entry_with};
@@ -27,12 +27,12 @@ pub fn put_record<P: Pages>(
     tree: Tree,
 ) -> Result<(), DiskFault>
     requires sound { shown.IsSound space.old }
-    requires total { txn.old.superblock.total ≡ (shown.numbers space.old).total }
+    requires total { (told_by txn.old).total ≡ (shown.numbers space.old).total }
     requires few { id < 512 }
     requires room { HasRoom txn.old (page_of id) }
     requires slots { tree.slots ≤ MOST_SLOTS }
     requires rooted { (tree.span ≡ None) ↔ (tree.root ≡ 0) }
-    ensures superblock { txn.new.superblock ≡ txn.old.superblock }
+    ensures superblock { told_by txn.new ≡ told_by txn.old }
     ensures others { (p : ℕ) → p ≢ page_of id → held_page txn.new p ≡ held_page txn.old p }
     ensures len { length (held txn.new) ≤ length (held txn.old) + 1 }
     ensures err { OnErr result (txn.new ≡ txn.old) }

@@ -13,7 +13,7 @@ use Rattle.series_catalog.specs.declared.stored_series.StoredSeries.{StoredSerie
 use Rattle.stored_book.specs.Standing.{StandsForBook}
 use Rattle.tree_walk.specs.declared.tree.Tree.{Tree}
 use Rattle.tree_walk.specs.declared.trail.Trail.{Trail}
-use Rattle.tree_walk.specs.Trails.{IsTrailOfAny}
+use Rattle.tree_walk.specs.Walk.{FitsAny}
 use Rattle.series_store.specs.Creating.{series_of}
 use Rattle.series_store.specs.Results.{IsEditCause, IsUnchangedFor, Moves}
 use Rattle.series_store.specs.declared.errors.StoreError.{StoreError}
@@ -23,7 +23,7 @@ use Rattle.series_store.specs.declared.errors.StoreError.TheVariants.{Refused, N
 pub record IsIdle (tree : Tree) (trail : Trail) : Type 0 where
   pub slots : tree.slots ≡ 0
   pub none : tree.span ≡ None
-  pub trail_is : IsTrailOfAny trail.pages.items trail.len trail.asked
+  pub trail_is : FitsAny trail
 
 -- what the book answers where values are put into slots of a series from one on
 abbrev pub after_put : ℕ → List Series → ℕ → Series → ℕ → List (Option ℤ) → Result Edited Refusal

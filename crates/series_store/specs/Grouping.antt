@@ -5,7 +5,7 @@ use Rattle.block_disk.specs.View.{Image, View, Passes}
 use Rattle.gate_pages.specs.Pages.{GoesOn, Quiet}
 use Rattle.gate_pages.specs.declared.pages.Pages.{Ghosts}
 use Rattle.page_space.specs.Shown as spaces
-use Rattle.page_space.specs.Transactions.{held, left_by}
+use Rattle.page_space.specs.Transactions.{held, left_by, told_by}
 use Rattle.page_space.specs.declared.space.Space.{Space}
 use Rattle.page_space.specs.declared.superblock.Superblock.{Superblock}
 use Rattle.page_space.specs.declared.txn.Txn.{Txn}
@@ -97,7 +97,7 @@ pub record IsNext (told told' : Type 0) (old new under under' : View) (s s' : Su
   pub kept : OnErr result (items' ≡ items)
   pub same : OnErr result (answers ≡ before)
   pub back : IfOk result (λ undo. TakesBack undo items' items)
-  pub staged : OnOk result (IsWholeOf s'.total told' (left_by txn' new.image) txn'.superblock items')
+  pub staged : OnOk result (IsWholeOf s'.total told' (left_by txn' new.image) (told_by txn') items')
   pub answer : Result Outcome Refusal
   pub answers_are : OnOk result (answers ≡ before ++ answer ∷ [])
   pub slots : IfOk answer (λ outcome. outcome.slots ≤ MOST_SLOTS)

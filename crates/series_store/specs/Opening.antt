@@ -6,6 +6,7 @@ use Rattle.block_disk.specs.declared.back.Back.{Back}
 use Rattle.gate_pages.specs.Pages.{Quiet}
 use Rattle.gate_pages.specs.declared.pages.Pages.{Ghosts}
 use Rattle.page_space.specs.Layout.{HasMagic, Keeps}
+use Rattle.page_space.specs.Shown as spaces
 use Rattle.page_space.specs.declared.superblock.Superblock.{Superblock}
 use Rattle.page_space.specs.declared.errors.SpaceError.{SpaceError}
 use Rattle.page_space.specs.declared.errors.SpaceError.TheVariants.{NotAStore as NoStore, Full, DiskFault as AtDisk, Damaged as AtPage, NoMemory as AtMemory}
@@ -19,7 +20,7 @@ use Rattle.series_store.specs.declared.store.Store.{Store}
 
 -- the pages, within a store or handed back
 abbrev pub pages_in : {P : Type 0} {pages : Ghosts P} → Result (Store P pages) (Back P StoreError) → P
-pages_in (Ok store) = store.space.pages
+pages_in (Ok store) = spaces.pages store.space
 pages_in (Err back) = back.value
 
 -- page 0 has the magic and breaks its layout else, or it keeps it and this page of the catalog is bad

@@ -4,7 +4,7 @@ use Rattle.block_disk.specs.Counts.{HasRisen}
 use Rattle.block_disk.specs.View.{Image, View}
 use Rattle.gate_pages.specs.declared.pages.Pages.{Ghosts}
 use Rattle.page_space.specs.Shown as spaces
-use Rattle.page_space.specs.Transactions.{held, left_by}
+use Rattle.page_space.specs.Transactions.{held, left_by, told_by}
 use Rattle.page_space.specs.declared.space.Space.{Space}
 use Rattle.page_space.specs.declared.superblock.Superblock.{Superblock}
 use Rattle.page_space.specs.declared.txn.Txn.{Txn}
@@ -90,12 +90,12 @@ IsRefusal NoMemory = ⊥
 pub record IsStaging (told told' : Type 0) (old new under under' : View) (s s' : Superblock) (txn txn' : Txn) (items items' : List StoredSeries) (result : Result Staged StoreError) : Type 0 where
   pub reads : ReadsMost 96 told told' old new
   pub over : StaysOn s s' under under'
-  pub total : txn'.superblock.total ≡ txn.superblock.total
-  pub cause : IfErr result (λ e. IsStageCause e told (left_by txn old.image) txn.superblock old.faults new.faults)
+  pub total : (told_by txn').total ≡ (told_by txn).total
+  pub cause : IfErr result (λ e. IsStageCause e told (left_by txn old.image) (told_by txn) old.faults new.faults)
   pub kept : OnErr result (items' ≡ items)
   pub back : IfOk result (λ staged. TakesBack staged.undo items' items)
   pub nothing : IfOk result (λ staged. staged.undo ≡ undo.Nothing → txn' ≡ txn)
-  pub stands : IsAnswer result → IsCatalogOf told' (left_by txn' new.image) txn'.superblock items'
+  pub stands : IsAnswer result → IsCatalogOf told' (left_by txn' new.image) (told_by txn') items'
   pub few : length (held txn') ≤ length (held txn) + 41
   pub slots : IfOk result (λ staged. staged.outcome.slots ≤ MOST_SLOTS)
 
@@ -130,7 +130,7 @@ pub record IsWholeOf (total : ℕ) (told : Type 0) (image : Image) (s : Superblo
 module _ {P : Type 0} {g : Ghosts P} where
   -- the catalog is that of the pages that the transaction would leave
   abbrev pub IsStaged : Space P g → Txn → Catalog → Type 0
-  IsStaged space txn catalog = IsWholeOf (spaces.total space) (spaces.IsTold space) (spaces.left space txn) txn.superblock (series_in catalog)
+  IsStaged space txn catalog = IsWholeOf (spaces.total space) (spaces.IsTold space) (spaces.left space txn) (told_by txn) (series_in catalog)
 
   -- the catalog is that of the pages, while they are sound
   abbrev pub IsStored : Space P g → Catalog → Type 0
@@ -142,7 +142,7 @@ module _ {P : Type 0} {g : Ghosts P} where
 
   -- the transaction would leave the pages as they are
   abbrev pub LeavesAll : Space P g → Txn → Type 0
-  LeavesAll space txn = (txn.superblock ≡ spaces.numbers space) × (spaces.IsTold space → spaces.left space txn ≡ spaces.image space)
+  LeavesAll space txn = (told_by txn ≡ spaces.numbers space) × (spaces.IsTold space → spaces.left space txn ≡ spaces.image space)
 
   -- so of each book that the pages stand for
   abbrev pub ForKept : Space P g → (ℕ → List Series → Type 0) → Type 0
@@ -188,7 +188,7 @@ module _ {P : Type 0} {g : Ghosts P} where
   abbrev pub StandsChanged : ℕ → Tree → Result Staged StoreError → Space P g → Space P g → Txn → Txn → Catalog → Type 0
   StandsChanged id tree result old new txn txn' catalog =
       spaces.IsTold old
-      → ForChangedTree (spaces.left old txn) txn.superblock (series_in catalog) id tree (λ book. OnOk result (StandsForBook (spaces.left new txn') txn.superblock.total book))
+      → ForChangedTree (spaces.left old txn) (told_by txn) (series_in catalog) id tree (λ book. OnOk result (StandsForBook (spaces.left new txn') (told_by txn).total book))
 
   -- a call did this, whatever the pages are
   abbrev pub CarriesOut : Result Outcome StoreError → Space P g → Space P g → Type 0

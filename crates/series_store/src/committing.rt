@@ -3,7 +3,7 @@ ghost use Rattle.std.specs.Prelude.{◌≡◌, ◌≤◌, ℕ, List, Bool, false
 ghost use Rattle.block_disk.specs.Counts.{HasRisen};
 ghost use Rattle.block_disk.specs.View.{View};
 ghost use Rattle.page_space.specs.Shown as spaces;
-ghost use Rattle.page_space.specs.Transactions.{held};
+ghost use Rattle.page_space.specs.Transactions.{held, told_by};
 ghost use Rattle.series_book.specs.declared.one_series.Series.{Series};
 ghost use Rattle.series_book.specs.Edits.{IsEdit, apply};
 ghost use Rattle.series_catalog.specs.Shown.{series_in};
@@ -26,12 +26,12 @@ pub(crate) fn finish<P: Pages>(
     is_changed: bool,
 ) -> Result<(), DiskFault>
     requires sound { spaces.IsSound space.old }
-    requires total { txn.superblock.total ≡ spaces.total space.old }
+    requires total { (told_by txn).total ≡ spaces.total space.old }
     requires same { is_changed ≡ false → stages.LeavesAll space.old txn }
     ensures commits { spaces.CommitsAll txn space.old space.new }
     ensures goes_on { spaces.TimeGoesOn space.old space.new }
     ensures done { spaces.IsTold space.old → OnOk result (spaces.image space.new ≡ spaces.left space.old txn) }
-    ensures superblock { OnOk result (spaces.numbers space.new ≡ txn.superblock) }
+    ensures superblock { OnOk result (spaces.numbers space.new ≡ told_by txn) }
     ensures old_superblock { OnErr result (spaces.numbers space.new ≡ spaces.numbers space.old) }
     ensures sound { OnOk result (spaces.IsSound space.new) }
     ensures unsound { OnErr result (spaces.IsSound space.new → ⊥) }

@@ -2,7 +2,7 @@
 ghost use Rattle.std.specs.Prelude.{◌≡◌, ◌≤◌, ◌<◌, ℕ, List, length, ◌≢◌, OnOk, IfErr};
 ghost use Rattle.block_disk.specs.View.{View};
 ghost use Rattle.page_space.specs.Shown as spaces;
-ghost use Rattle.page_space.specs.Transactions.{held, left_by};
+ghost use Rattle.page_space.specs.Transactions.{held, left_by, told_by};
 ghost use Rattle.series_book.specs.declared.one_series.Series.{Series};
 ghost use Rattle.series_catalog.specs.Shown.{series_in};
 ghost use Rattle.series_store.specs.Staging as stages;
@@ -68,7 +68,7 @@ fn add_series<P: Pages>(
     requires staged { stages.IsStaged space.old txn.old catalog.old }
     requires few { length (held txn.old) ≤ 22 }
     requires room { length (series_in catalog.old) < 512 }
-    requires entry { IsEntry txn.old.superblock.fresh (entry_of series) }
+    requires entry { IsEntry (told_by txn.old).fresh (entry_of series) }
     requires empty { series.tree ≡ NO_TREE }
     ensures answered { stages.AnswersAdded series result space.old space.new txn.old txn.new }
     ensures carried { stages.Stages result space.old space.new txn.old txn.new catalog.old catalog.new }

@@ -2,7 +2,7 @@
 ghost use Rattle.std.specs.Prelude.{◌≡◌, ◌≤◌, ◌<◌, ◌^◌, ℕ, List, None, length, IfOk, IfErr, OnOk, ◌≢◌};
 ghost use Rattle.block_disk.specs.View.{View, Passes};
 ghost use Rattle.gate_pages.specs.Pages.{GoesOn, Quiet};
-ghost use Rattle.page_space.specs.Transactions.{held, left_by};
+ghost use Rattle.page_space.specs.Transactions.{held, left_by, told_by};
 ghost use Rattle.series_book.specs.declared.limits.TheConstants.{MOST_SLOTS};
 ghost use Rattle.series_book.specs.declared.one_series.Series.{Series};
 ghost use Rattle.series_book.specs.Edits.{IsEdit, apply};
@@ -77,7 +77,7 @@ impl<P: Pages> Store<P> {
         ensures catalog { self.new.catalog ≡ self.old.catalog }
         ensures trail { self.new.trail ≡ self.old.trail }
         ensures tree { self.new.tree ≡ self.old.tree }
-        ensures superblock { IfOk result (λ txn. txn.superblock ≡ (shown.numbers self.new)) }
+        ensures superblock { IfOk result (λ txn. told_by txn ≡ (shown.numbers self.new)) }
         ensures len { IfOk result (λ txn. length (held txn) ≡ 1) }
         ensures left { shown.IsTold self.new → IfOk result (λ txn. left_by txn (shown.image self.new) ≡ shown.image self.new) }
         ensures error { IfErr result (λ e. e ≡ StoreError.NoMemory) }

@@ -4,7 +4,7 @@ ghost use Rattle.block_disk.specs.Counts.{HasRisen};
 ghost use Rattle.block_disk.specs.View.{View, Passes};
 ghost use Rattle.gate_pages.specs.Pages.{GoesOn, Quiet};
 ghost use Rattle.page_space.specs.Shown as spaces;
-ghost use Rattle.page_space.specs.Transactions.{held};
+ghost use Rattle.page_space.specs.Transactions.{held, told_by};
 ghost use Rattle.series_book.specs.declared.edits.Edit.{Edit};
 ghost use Rattle.series_book.specs.declared.one_series.Series.{Series};
 ghost use Rattle.series_book.specs.Edits.{IsEdit};
@@ -90,11 +90,11 @@ fn stage_next<P: Pages>(
 /// Commits the transaction, if it changes anything.
 fn close<P: Pages>(space: &mut Space<P>, txn: Txn, is_changed: bool) -> Result<(), StoreError>
     requires sound { spaces.IsSound space.old }
-    requires total { txn.superblock.total ≡ spaces.total space.old }
+    requires total { (told_by txn).total ≡ spaces.total space.old }
     ensures commits { spaces.CommitsAll txn space.old space.new }
     ensures goes_on { spaces.TimeGoesOn space.old space.new }
     ensures done { is_changed ≡ true → spaces.IsTold space.old → OnOk result (spaces.image space.new ≡ spaces.left space.old txn) }
-    ensures superblock { is_changed ≡ true → OnOk result (spaces.numbers space.new ≡ txn.superblock) }
+    ensures superblock { is_changed ≡ true → OnOk result (spaces.numbers space.new ≡ told_by txn) }
     ensures none { is_changed ≡ false → space.new ≡ space.old }
     ensures old_superblock { OnErr result (spaces.numbers space.new ≡ spaces.numbers space.old) }
     ensures sound { OnOk result (spaces.IsSound space.new) }

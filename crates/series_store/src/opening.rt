@@ -7,7 +7,7 @@ ghost use Rattle.path_repair.specs.Standing.{ReadsMost};
 ghost use Rattle.series_book.specs.declared.one_series.Series.{Series};
 ghost use Rattle.series_store.specs.Opening.{pages_in, IsFirstPage, IsOpenCause, IsReadCause, IsOutside, MakesStore, space_error_of, catalog_error_of};
 ghost use Rattle.stored_book.specs.Standing.{StandsForBook};
-ghost use Rattle.tree_walk.specs.Trails.{IsTrailOfAny};
+ghost use Rattle.tree_walk.specs.Walk.{FitsAny};
 ghost use Rattle.series_catalog.specs.Shown.{series_in};
 ghost use Rattle.page_space.specs.Shown as spaces;
 ghost use Rattle.series_store.specs.Shown as shown;
@@ -53,7 +53,7 @@ fn catalog_error(error: CatalogError) -> StoreError
 /// A catalog without a series and an empty trail.
 fn parts(alloc: Global) -> Result<(Catalog, Trail), StoreError>
     ensures catalog { IfOk result (λ parts. series_in parts.0 ≡ []) }
-    ensures trail { IfOk result (λ parts. IsTrailOfAny parts.1.pages.items parts.1.len parts.1.asked) }
+    ensures trail { IfOk result (λ parts. FitsAny parts.1) }
     ensures err { IfErr result (λ e. e ≡ StoreError.NoMemory) }
 {
     let Ok(catalog) = Catalog::new(alloc) else {
@@ -148,7 +148,7 @@ impl<P: Pages> Store<P> {
         trail: Trail,
     ) -> Result<Store<P>, Back<P, StoreError>>
         requires sound { spaces.IsSound space }
-        requires trail { IsTrailOfAny trail.pages.items trail.len trail.asked }
+        requires trail { FitsAny trail }
         ensures place { IfErr result (λ back. IsFirstPage back.cause) }
         ensures none { IfOk result (λ store. shown.SelectsNone store) }
         ensures cause { IfErr result (λ back. IsReadCause back.cause (spaces.IsTold space) (spaces.numbers space) (spaces.view space) (P.view back.value)) }

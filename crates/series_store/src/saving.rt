@@ -4,7 +4,7 @@ ghost use Rattle.whole_number.specs.SlotTimes.{EndsInTime};
 ghost use Rattle.block_disk.specs.Counts.{HasRisen};
 ghost use Rattle.block_disk.specs.View.{View};
 ghost use Rattle.page_space.specs.Shown as spaces;
-ghost use Rattle.page_space.specs.Transactions.{held, left_by};
+ghost use Rattle.page_space.specs.Transactions.{held, left_by, told_by};
 ghost use Rattle.series_book.specs.declared.limits.TheConstants.{MOST_SLOTS};
 ghost use Rattle.series_book.specs.declared.one_series.Series.{Series};
 ghost use Rattle.series_catalog.specs.Shown.{series_in};
@@ -124,13 +124,13 @@ fn save<P: Pages>(
     requires staged { stages.IsStaged space.old txn.old catalog.old }
     requires room { length (held txn.old) < 64 }
     requires there { id < length (series_in catalog.old) }
-    requires entry { IfSome (slice_get (series_in catalog.old) id) (λ one. IsEntry txn.old.superblock.fresh (entry_of (record one { tree = tree }))) }
+    requires entry { IfSome (slice_get (series_in catalog.old) id) (λ one. IsEntry (told_by txn.old).fresh (entry_of (record one { tree = tree }))) }
     ensures stands { stages.StandsChanged id tree result space.old space.new txn.old txn.new catalog.old }
     ensures staged { OnOk result (stages.IsStaged space.new txn.new catalog.new) }
     ensures back { IfOk result (λ staged. (staged.undo ≢ Undo.Nothing) × TakesBack staged.undo (series_in catalog.new) (series_in catalog.old)) }
     ensures kept { OnErr result (series_in catalog.new ≡ series_in catalog.old) }
     ensures slots { IfOk result (λ staged. staged.outcome.slots ≡ tree.slots) }
-    ensures superblock { txn.new.superblock ≡ txn.old.superblock }
+    ensures superblock { told_by txn.new ≡ told_by txn.old }
     ensures len { length (held txn.new) ≤ length (held txn.old) + 1 }
     ensures reads { spaces.ReadsOne space.old space.new }
     ensures goes_on { spaces.TimeGoesOn space.old space.new }

@@ -3,6 +3,7 @@ ghost use Rattle.std.specs.Prelude.{◌≡◌, ◌<◌, ◌≤◌, ◌+◌, ◌+
 ghost use Rattle.block_disk.specs.View.{View};
 ghost use Rattle.om3_coeff.specs.Keys.{first_slot, end_slot};
 ghost use Rattle.om3_coeff.specs.Spans.{IsProperIfAny};
+ghost use Rattle.page_space.specs.Shown as spaces;
 ghost use Rattle.path_repair.specs.Keeping.{IsMatched};
 ghost use Rattle.tree_walk.specs.Trees.{top_of_page};
 ghost use Rattle.series_book.specs.declared.limits.TheConstants.{MOST_SLOTS};
@@ -28,11 +29,11 @@ pub(crate) fn send_waiting<P: PageWorld>(
 ) -> Result<(), SendError>
     ensures none { OnOk result (out.new.items ≡ []) }
     ensures sends { SendsBy space.old space.new }
-    ensures reads { (P.view space.new.pages).reads ≡ (P.view space.old.pages).reads }
+    ensures reads { (spaces.view space.new).reads ≡ (spaces.view space.old).reads }
     ensures gives { GivesMore (λ text. text) result space.old space.new out.old.items out.new.items }
-    ensures cause { IfErr result (λ e. IsTextCause e (P.view space.old.pages) (P.view space.new.pages)) }
-    ensures quiet { (P.view space.new.pages).faults ≡ (P.view space.old.pages).faults }
-    ensures quiet_sends { result ≢ Err SendError.SendFault → (P.view space.new.pages).beside.send_faults ≡ (P.view space.old.pages).beside.send_faults }
+    ensures cause { IfErr result (λ e. IsTextCause e (spaces.view space.old) (spaces.view space.new)) }
+    ensures quiet { (spaces.view space.new).faults ≡ (spaces.view space.old).faults }
+    ensures quiet_sends { result ≢ Err SendError.SendFault → (spaces.view space.new).beside.send_faults ≡ (spaces.view space.old).beside.send_faults }
 {
     let Ok(()) = space.send(out.as_slice()) else {
         return Err(SendError::SendFault);
@@ -52,11 +53,11 @@ fn send_value<P: PageWorld, T: Texts>(
     requires within { slot < T.slots texts.now }
     ensures few { OnOk result (length out.new.items < 16384) }
     ensures sends { SendsBy space.old space.new }
-    ensures reads { (P.view space.new.pages).reads ≡ (P.view space.old.pages).reads }
+    ensures reads { (spaces.view space.new).reads ≡ (spaces.view space.old).reads }
     ensures gives { GivesMore (λ text. text ++ T.text texts.now slot value) result space.old space.new out.old.items out.new.items }
-    ensures cause { IfErr result (λ e. IsTextCause e (P.view space.old.pages) (P.view space.new.pages)) }
-    ensures quiet { (P.view space.new.pages).faults ≡ (P.view space.old.pages).faults }
-    ensures quiet_sends { result ≢ Err SendError.SendFault → (P.view space.new.pages).beside.send_faults ≡ (P.view space.old.pages).beside.send_faults }
+    ensures cause { IfErr result (λ e. IsTextCause e (spaces.view space.old) (spaces.view space.new)) }
+    ensures quiet { (spaces.view space.new).faults ≡ (spaces.view space.old).faults }
+    ensures quiet_sends { result ≢ Err SendError.SendFault → (spaces.view space.new).beside.send_faults ≡ (spaces.view space.old).beside.send_faults }
 {
     texts.add(slot, value, out)?;
     if out.len() < PIECE {
@@ -95,20 +96,20 @@ pub(crate) fn send_below<P: PageWorld, T: Texts>(
     texts: &T,
     out: &mut Vec<u8>,
 ) -> Result<(), SendError>
-    requires sound { (P.view space.old.pages).fit }
+    requires sound { (spaces.view space.old).fit }
     requires level { level ≤ 5 }
     requires range { end_slot (top_of_page level index) ≤ MOST_SLOTS }
     requires slots { slots ≤ T.slots texts.now }
-    requires page { page < space.old.superblock.total }
+    requires page { page < spaces.total space.old }
     requires proper { IsProperIfAny top }
     requires matched { 1 ≤ level → IsMatched page top }
     requires few { length out.old.items < 16384 }
     ensures few { OnOk result (length out.new.items < 16384) }
     ensures sends { SendsBy space.old space.new }
-    ensures cause { IfErr result (λ e. IsSendCause e (P.told space.old.pages) (P.view space.old.pages) (P.view space.new.pages) space.old.superblock.total level page top) }
-    ensures quiet { OnOk result ((P.view space.new.pages).faults ≡ (P.view space.old.pages).faults) }
-    ensures quiet_err { IfErr result (λ e. e ≢ SendError.DiskFault → (P.view space.new.pages).faults ≡ (P.view space.old.pages).faults) }
-    ensures quiet_sends { result ≢ Err SendError.SendFault → (P.view space.new.pages).beside.send_faults ≡ (P.view space.old.pages).beside.send_faults }
+    ensures cause { IfErr result (λ e. IsSendCause e (spaces.IsTold space.old) (spaces.view space.old) (spaces.view space.new) (spaces.total space.old) level page top) }
+    ensures quiet { OnOk result ((spaces.view space.new).faults ≡ (spaces.view space.old).faults) }
+    ensures quiet_err { IfErr result (λ e. e ≢ SendError.DiskFault → (spaces.view space.new).faults ≡ (spaces.view space.old).faults) }
+    ensures quiet_sends { result ≢ Err SendError.SendFault → (spaces.view space.new).beside.send_faults ≡ (spaces.view space.old).beside.send_faults }
     ensures part { ForListBelow space.old level index page top (SendsBelow (first_said slots (T.text texts.now)) level index space.old space.new out.old.items out.new.items result) }
 {
     let Some(span) = top else {

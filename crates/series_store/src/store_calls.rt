@@ -59,7 +59,7 @@ impl<P: Pages> Store<P> {
 
     /// The pages.
     pub fn into_pages(self) -> P
-        ensures { result ≡ self.space.pages }
+        ensures { result ≡ shown.pages self }
     {
         self.space.into_pages()
     }

@@ -3,6 +3,7 @@ ghost use Rattle.std.specs.Prelude.{◌≡◌, ◌<◌, ◌≤◌, ◌+◌, ◌+
 ghost use Rattle.block_disk.specs.Streams.{sent_after, PartSent};
 ghost use Rattle.block_disk.specs.View.{View};
 ghost use Rattle.om3_coeff.specs.Spans.{IsProperIfAny};
+ghost use Rattle.page_space.specs.Shown as spaces;
 ghost use Rattle.path_repair.specs.Keeping.{IsMatched};
 ghost use Rattle.series_book.specs.declared.limits.TheConstants.{MOST_SLOTS};
 ghost use Rattle.series_book.specs.Pages.{series_pages};
@@ -28,25 +29,25 @@ fn send_tree<P: PageWorld, T: Texts>(
     texts: &T,
     out: &mut Vec<u8>,
 ) -> Result<(), SendError>
-    requires sound { (P.view space.old.pages).fit }
+    requires sound { (spaces.view space.old).fit }
     requires few_slots { tree.slots ≤ MOST_SLOTS }
     requires slots { tree.slots ≤ T.slots texts.now }
-    requires root { tree.root < space.old.superblock.total }
+    requires root { tree.root < spaces.total space.old }
     requires proper { IsProperIfAny tree.span }
     requires matched { IsMatched tree.root tree.span }
     requires few { length out.old.items < 16384 }
-    ensures sent { (list : List (Option ℤ)) → P.told space.old.pages → StandsFor (P.view space.old.pages).image space.old.superblock.total tree list
-        → OnOk result ((P.view space.new.pages).beside.sent ≡ sent_after (out.old.items ++ texts_of (T.text texts.now) list) (P.view space.old.pages).beside.sent) }
-    ensures part { (list : List (Option ℤ)) → P.told space.old.pages → StandsFor (P.view space.old.pages).image space.old.superblock.total tree list
-        → OnErr result (PartSent (out.old.items ++ texts_of (T.text texts.now) list) (P.view space.old.pages).beside.sent (P.view space.new.pages).beside.sent) }
-    ensures no_damage { (list : List (Option ℤ)) → P.told space.old.pages → StandsFor (P.view space.old.pages).image space.old.superblock.total tree list → IfErr result IsNoDamage }
-    ensures reads { (list : List (Option ℤ)) → P.told space.old.pages → StandsFor (P.view space.old.pages).image space.old.superblock.total tree list
-        → (P.view space.new.pages).reads ≤ (P.view space.old.pages).reads + series_pages list }
+    ensures sent { (list : List (Option ℤ)) → spaces.IsTold space.old → StandsFor (spaces.view space.old).image (spaces.total space.old) tree list
+        → OnOk result ((spaces.view space.new).beside.sent ≡ sent_after (out.old.items ++ texts_of (T.text texts.now) list) (spaces.view space.old).beside.sent) }
+    ensures part { (list : List (Option ℤ)) → spaces.IsTold space.old → StandsFor (spaces.view space.old).image (spaces.total space.old) tree list
+        → OnErr result (PartSent (out.old.items ++ texts_of (T.text texts.now) list) (spaces.view space.old).beside.sent (spaces.view space.new).beside.sent) }
+    ensures no_damage { (list : List (Option ℤ)) → spaces.IsTold space.old → StandsFor (spaces.view space.old).image (spaces.total space.old) tree list → IfErr result IsNoDamage }
+    ensures reads { (list : List (Option ℤ)) → spaces.IsTold space.old → StandsFor (spaces.view space.old).image (spaces.total space.old) tree list
+        → (spaces.view space.new).reads ≤ (spaces.view space.old).reads + series_pages list }
     ensures sends { SendsBy space.old space.new }
     ensures cause { IfErr result (IsCauseOf tree space.old space.new) }
-    ensures quiet { OnOk result ((P.view space.new.pages).faults ≡ (P.view space.old.pages).faults) }
-    ensures quiet_err { IfErr result (λ e. e ≢ SendError.DiskFault → (P.view space.new.pages).faults ≡ (P.view space.old.pages).faults) }
-    ensures quiet_sends { result ≢ Err SendError.SendFault → (P.view space.new.pages).beside.send_faults ≡ (P.view space.old.pages).beside.send_faults }
+    ensures quiet { OnOk result ((spaces.view space.new).faults ≡ (spaces.view space.old).faults) }
+    ensures quiet_err { IfErr result (λ e. e ≢ SendError.DiskFault → (spaces.view space.new).faults ≡ (spaces.view space.old).faults) }
+    ensures quiet_sends { result ≢ Err SendError.SendFault → (spaces.view space.new).beside.send_faults ≡ (spaces.view space.old).beside.send_faults }
 {
     let levels = page_levels(tree.slots);
     match send_below(

@@ -16,7 +16,11 @@ use Rattle.tree_walk.specs.Holding.{IsHoldCause, IsStepCause, IsCauseOf, KeptWal
 use Rattle.tree_walk.specs.PagedNodes.{Ground, IsTrail, IsFit, IsSeen, IsWayError, Keeps, ground, paged_view}
 use Rattle.tree_walk.specs.SpaceViews.{space_view, StaysOn}
 use Rattle.tree_walk.specs.Trees as trees
-use Rattle.tree_walk.specs.Trails.{IsHeld, AreHeld}
+use Rattle.tree_walk.specs.Trails.{IsHeld, AreHeld, IsTrailOfAny}
+
+-- the trail is one of any tree over any pages
+abbrev pub FitsAny : Trail → Type 0
+FitsAny trail = IsTrailOfAny trail.pages.items trail.len trail.asked
 
 module _ {P : Type 0} {g : Ghosts P} where
   -- its pages: as many as page 0 tells
