@@ -109,4 +109,4 @@ IsShown {V} gives (Show e) = (old : V) × (bytes : List ℕ) × (new : V) × giv
 -- why not all lines of a service's input were answered, and what was sent
 abbrev pub RunEndsBy : {P V : Type 0} {g : Ghosts P} → (P → Option (List ℕ)) → (P → Option (List ℕ)) → Gives V → V → V → ℕ → List Series → Service P g → Service P g → RunEnd → Type 0
 RunEndsBy left sent gives shown shown' total book old new =
-    EndsRun gives shown shown' (left (service.pages old)) (service.state old total book) (service.image new) new.sessions (left (service.pages new)) (sent (service.pages old)) (sent (service.pages new))
+    EndsRun gives shown shown' (left (service.pages old)) (service.state old total book) (service.image new) (service.sessions new) (left (service.pages new)) (sent (service.pages old)) (sent (service.pages new))

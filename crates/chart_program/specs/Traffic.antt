@@ -2,6 +2,7 @@
 use Rattle.std.specs.Prelude.{Result}
 use Rattle.block_disk.specs.View.{View}
 use Rattle.block_disk.specs.declared.disk.Disk.{Ghosts}
+use Rattle.gate_pages.specs.Shown as gate
 use Rattle.gate_pages.specs.declared.gate_pages.GatePages.{GatePages}
 use Rattle.store_commands.specs.Traffic.{Traffic}
 use Rattle.store_commands.specs.declared.status.Status.{Status}
@@ -13,7 +14,7 @@ use Rattle.chart_program.specs.declared.run_end.RunEnd.{RunEnd}
 -- over the pages of an open store on a world
 abbrev pub PagesServed : {W T : Type 0} {disk : Ghosts W} → Says → Type 0 → (W → View) → GatePages W disk → W → Traffic → Result T RunEnd → Type 0
 PagesServed IsText CanShow view pages new t answer =
-    ServesLines IsText CanShow pages.count (view pages.disk) (view new) t.left t.left_now t.sent t.sent_now (faults_of t.reads t.reads_now t.sends t.sends_now) answer
+    ServesLines IsText CanShow (gate.count pages) (view (gate.disk pages)) (view new) t.left t.left_now t.sent t.sent_now (faults_of t.reads t.reads_now t.sends t.sends_now) answer
 
 -- where the store is opened first
 abbrev pub WorldServed : {T : Type 0} → Says → Type 0 → View → View → Traffic → Result T LinesEnd → Type 0

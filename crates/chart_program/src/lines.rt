@@ -1,6 +1,7 @@
-ghost use Rattle.std.specs.Prelude.{◌≡◌, [], IsTrue};
+ghost use Rattle.std.specs.Prelude.{◌≡◌, []};
 ghost use Rattle.block_disk.specs.View.{View};
 ghost use Rattle.chart_world.specs.Faults.{CountsFault, fault_in};
+ghost use Rattle.gate_pages.specs.Shown.{AreSound, disk};
 ghost use Rattle.series_store.specs.Shown as stored;
 ghost use Rattle.chart_service.specs.Shown as shown;
 ghost use Rattle.store_commands.specs.Status.{code_fault};
@@ -59,9 +60,9 @@ pub fn run_world<W: World>(alloc: Global, world: W) -> (Result<(), LinesEnd>, W)
 
 /// The same over a store that is open.
 fn serve_lines<W: World>(alloc: Global, store: Store<GatePages<W>>) -> (Result<(), RunEnd>, W)
-    requires { IsTrue (stored.pages store).sound }
-    ensures serves { let pages = stored.pages store in PagesServed Spelled ⊥ W.view pages result.1 (traffic W.left W.sent W.read_faults W.send_faults pages.disk result.1) result.0 }
-    ensures faults { CountsFault (fault_in run_fault result.0) (W.view (stored.pages store).disk) (W.view result.1) }
+    requires { AreSound (stored.pages store) }
+    ensures serves { let pages = stored.pages store in PagesServed Spelled ⊥ W.view pages result.1 (traffic W.left W.sent W.read_faults W.send_faults (disk pages) result.1) result.0 }
+    ensures faults { CountsFault (fault_in run_fault result.0) (W.view (disk (stored.pages store))) (W.view result.1) }
 {
     match Service::new(alloc, store) {
         Ok(service) => serve_service(service),
@@ -70,9 +71,9 @@ fn serve_lines<W: World>(alloc: Global, store: Store<GatePages<W>>) -> (Result<(
 }
 
 fn run_lines<W: World>(alloc: Global, store: Store<GatePages<W>>) -> (Result<(), RunEnd>, W)
-    requires { IsTrue (stored.pages store).sound }
-    ensures serves { let pages = stored.pages store in PagesServed AreTexts (Unit {0}) W.view pages result.1 (traffic W.left W.sent W.read_faults W.send_faults pages.disk result.1) result.0 }
-    ensures faults { CountsFault (fault_in run_fault result.0) (W.view (stored.pages store).disk) (W.view result.1) }
+    requires { AreSound (stored.pages store) }
+    ensures serves { let pages = stored.pages store in PagesServed AreTexts (Unit {0}) W.view pages result.1 (traffic W.left W.sent W.read_faults W.send_faults (disk pages) result.1) result.0 }
+    ensures faults { CountsFault (fault_in run_fault result.0) (W.view (disk (stored.pages store))) (W.view result.1) }
 {
     match Service::new(alloc, store) {
         Ok(service) => run_service(alloc, service),
@@ -82,10 +83,10 @@ fn run_lines<W: World>(alloc: Global, store: Store<GatePages<W>>) -> (Result<(),
 
 /// The same by a service with no session open.
 fn serve_service<W: World>(mut service: Service<GatePages<W>>) -> (Result<(), RunEnd>, W)
-    requires sound { IsTrue (shown.pages service).sound }
-    requires alone { service.sessions ≡ [] }
-    ensures serves { let pages = shown.pages service in PagesServed Spelled ⊥ W.view pages result.1 (traffic W.left W.sent W.read_faults W.send_faults pages.disk result.1) result.0 }
-    ensures faults { CountsFault (fault_in run_fault result.0) (W.view (shown.pages service).disk) (W.view result.1) }
+    requires sound { AreSound (shown.pages service) }
+    requires alone { shown.sessions service ≡ [] }
+    ensures serves { let pages = shown.pages service in PagesServed Spelled ⊥ W.view pages result.1 (traffic W.left W.sent W.read_faults W.send_faults (disk pages) result.1) result.0 }
+    ensures faults { CountsFault (fault_in run_fault result.0) (W.view (disk (shown.pages service))) (W.view result.1) }
 {
     let answer = serve(&mut service);
     (of_serving(answer), disk_of(service.into_store()))
@@ -95,10 +96,10 @@ fn run_service<W: World>(
     alloc: Global,
     mut service: Service<GatePages<W>>,
 ) -> (Result<(), RunEnd>, W)
-    requires sound { IsTrue (shown.pages service).sound }
-    requires alone { service.sessions ≡ [] }
-    ensures serves { let pages = shown.pages service in PagesServed AreTexts (Unit {0}) W.view pages result.1 (traffic W.left W.sent W.read_faults W.send_faults pages.disk result.1) result.0 }
-    ensures faults { CountsFault (fault_in run_fault result.0) (W.view (shown.pages service).disk) (W.view result.1) }
+    requires sound { AreSound (shown.pages service) }
+    requires alone { shown.sessions service ≡ [] }
+    ensures serves { let pages = shown.pages service in PagesServed AreTexts (Unit {0}) W.view pages result.1 (traffic W.left W.sent W.read_faults W.send_faults (disk pages) result.1) result.0 }
+    ensures faults { CountsFault (fault_in run_fault result.0) (W.view (disk (shown.pages service))) (W.view result.1) }
 {
     one_frame_a_spelling();
     frames_have_one_answer();

@@ -58,9 +58,9 @@ pub fn run_on<P: PageWorld, V: Show>(
     ensures faults { CountsFault (fault_in run_fault result) (shown.view service.old) (shown.view service.new) }
     ensures shown { IfErr result (IsShown V.gives) }
     // where `show` knows the open sessions, each frame that it wasn't able to show names known ones
-    ensures known { (knows : V → ℕ → Bool) → Follows V.gives knows → KnowsOpen knows show.old service.old.sessions → IfErr result (EndsKnown V.gives knows) }
+    ensures known { (knows : V → ℕ → Bool) → Follows V.gives knows → KnowsOpen knows show.old (shown.sessions service.old) → IfErr result (EndsKnown V.gives knows) }
     // each frame that closes a session or answers in it names one that is open by those before it, the one that isn't shown too
-    ensures named { ShowsBy V.gives show.old show.new service.old.sessions (P.sent (shown.pages service.old)) (P.sent (shown.pages service.new)) result }
+    ensures named { ShowsBy V.gives show.old show.new (shown.sessions service.old) (P.sent (shown.pages service.old)) (P.sent (shown.pages service.new)) result }
     ensures bad { IfErr result (EndsAtBad (shown.IsTold service.new) (shown.view service.new).size (shown.image service.new)) }
     ensures serves { Serves (shown.IsTold service.old) (shown.IsTold service.new) (shown.view service.old) (shown.view service.new) }
     ensures goes_on { GoesOn (shown.under service.old) (shown.under service.new) }

@@ -8,6 +8,7 @@ use Rattle.page_space.specs.declared.superblock.Superblock.{Superblock}
 use Rattle.series_book.specs.declared.one_series.Series.{Series}
 use Rattle.series_catalog.specs.declared.stored_series.StoredSeries.{StoredSeries}
 use Rattle.series_store.specs.Shown as store
+use Rattle.zoom_session.specs.declared.session.Session.{Session}
 use Rattle.chart_service.specs.State.{State}
 use Rattle.chart_service.specs.Stepping.{StandsAfter, IsBeforeOrAfter, GroupSteps, state_of}
 use Rattle.chart_service.specs.Holding.{KeepsSessions}
@@ -40,6 +41,9 @@ module _ {P : Type 0} {g : Ghosts P} where
   -- reads give what the pages are
   abbrev pub IsTold : Service P g → Type 0
   IsTold it = store.IsTold it.store
+
+  abbrev pub sessions : Service P g → List Session
+  sessions it = it.sessions
 
   -- its state over a book of its store
   abbrev pub state : Service P g → ℕ → List Series → State

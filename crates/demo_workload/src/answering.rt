@@ -37,15 +37,15 @@ pub(crate) fn answer<P: Pages>(
 ) -> Result<(), DemoEnd>
     requires fit { (shown.view service.old).fit }
     requires range { IsInRange request.now }
-    requires known { KnowsOpen service.old.sessions client.old }
+    requires known { KnowsOpen (shown.sessions service.old) client.old }
     requires few { summary.old.requests < 2 ^ 32 }
     requires small { IsSmall summary.old }
     ensures answered { ForMirrored service.old client.old (λ total old. OnOk result (shown.StandsSo total service.new (λ new. AnswersOne request.now old new client.new summary.old summary.new))) }
     ensures standing { ForMirrored service.old client.old (λ total old. IfErr result IsOutside) }
     ensures moments { shown.ForBook service.old (λ total book. shown.PassesBy (RepliedTo request.now) total book service.old service.new) }
-    ensures left { shown.ForBook service.old (λ total book. IfStopped result (IsBeforeOrAfter (RepliedTo request.now) total book service.old.sessions (shown.image service.new))) }
+    ensures left { shown.ForBook service.old (λ total book. IfStopped result (IsBeforeOrAfter (RepliedTo request.now) total book (shown.sessions service.old) (shown.image service.new))) }
     // whatever the pages are
-    ensures known { OnOk result (KnowsOpen service.new.sessions client.new) }
+    ensures known { OnOk result (KnowsOpen (shown.sessions service.new) client.new) }
     ensures accepts { OnOk result (AcceptsOne client.old client.new) }
     ensures cause { IfErr result (λ end. IsOneCause end client.old (shown.IsTold service.new) (shown.view service.old) (shown.view service.new)) }
     ensures faults { CountsFault (fault_in demo_fault result) (shown.view service.old) (shown.view service.new) }

@@ -35,7 +35,7 @@ pub fn run_workload<P: Pages>(
     count: u32,
 ) -> Result<Summary, DemoEnd>
     requires fit { (shown.view service.old).fit }
-    requires alone { service.old.sessions ≡ [] }
+    requires alone { shown.sessions service.old ≡ [] }
     requires rounds { count ≤ 4096 }
     ensures done { shown.ForBook service.old (λ total book. IfOk result (λ summary. shown.StandsSo total service.new (λ new. Summarizes (workload seed count) (state_of book total []) new summary))) }
     ensures standing { shown.ForBook service.old (λ total book. IfErr result IsOutside) }

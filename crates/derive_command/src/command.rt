@@ -1,7 +1,8 @@
 //! The command `derive`: a picture for each line of the input, drawn of the store of a disk.
-ghost use Rattle.std.specs.Prelude.{◌≡◌, ◌+◌, ◌*◌, IsTrue};
+ghost use Rattle.std.specs.Prelude.{◌≡◌, ◌+◌, ◌*◌};
 ghost use Rattle.block_disk.specs.View.{View};
 ghost use Rattle.chart_world.specs.Faults.{CountsFault, fault_in};
+ghost use Rattle.gate_pages.specs.Shown.{AreSound, count, disk};
 ghost use Rattle.series_store.specs.Shown as shown;
 ghost use Rattle.store_commands.specs.Away.{TurnsAway};
 ghost use Rattle.store_commands.specs.Status.{code_fault};
@@ -47,9 +48,9 @@ pub fn derive<W: World>(alloc: Global, world: W) -> (Status, W)
 
 /// The same over a store that is open: what that answers, and the disk.
 fn draw_store<W: World>(alloc: Global, store: Store<GatePages<W>>) -> (Result<(), DeriveEnd>, W)
-    requires { IsTrue (shown.pages store).sound }
-    ensures drawn { let pages = shown.pages store in DrawnOn pages.count (W.view pages.disk) (W.view result.1) (traffic W.left W.sent W.read_faults W.send_faults pages.disk result.1) result.0 }
-    ensures faults { CountsFault (fault_in derive_fault result.0) (W.view (shown.pages store).disk) (W.view result.1) }
+    requires { AreSound (shown.pages store) }
+    ensures drawn { let pages = shown.pages store in DrawnOn (count pages) (W.view (disk pages)) (W.view result.1) (traffic W.left W.sent W.read_faults W.send_faults (disk pages) result.1) result.0 }
+    ensures faults { CountsFault (fault_in derive_fault result.0) (W.view (disk (shown.pages store))) (W.view result.1) }
 {
     let (answer, store) = draw_lines(alloc, store);
     (answer, disk_of(store))

@@ -4,6 +4,7 @@ use Rattle.block_disk.specs.View.{View, Honest, Passes}
 use Rattle.block_disk.specs.declared.disk.Disk.{Ghosts}
 use Rattle.gate_pages.specs.Journal.{page_count}
 use Rattle.gate_pages.specs.Pages.{Quiet}
+use Rattle.gate_pages.specs.Shown as gate
 use Rattle.gate_pages.specs.declared.gate_pages.GatePages.{GatePages}
 use Rattle.gate_pages.specs.declared.pages.Pages as pages_trait
 use Rattle.series_book.specs.declared.one_series.Series.{Series}
@@ -14,7 +15,7 @@ use Rattle.disk_store.specs.Held.{HoldsBook}
 
 -- the disk that the pages of a store lie on
 abbrev pub disk_below : {D : Type 0} {disk : Ghosts D} {pages : pages_trait.Ghosts (GatePages D disk)} → Store (GatePages D disk) pages → D
-disk_below store = (shown.pages store).disk
+disk_below store = gate.disk (shown.pages store)
 
 -- so of each book for which the image of a disk stands
 abbrev pub ForRecovered : View → (ℕ → List Series → Type 0) → Type 0

@@ -23,6 +23,7 @@ use Rattle.live_service.specs.Shown.{live_of}
 use Rattle.live_service.specs.declared.stepper.ServiceStepper.{ServiceStepper}
 use Rattle.live_view.specs.declared.live.Live.{Live}
 use Rattle.live_view.specs.declared.stepper.Stepper.{Ghosts as StepperGhosts}
+use Rattle.live_view.specs.Live as live
 use Rattle.series_book.specs.declared.one_series.Series.{Series}
 use Rattle.stored_book.specs.Damage.{IsBadForRequest}
 use Rattle.stored_book.specs.Standing.{StandsForBook}
@@ -174,7 +175,7 @@ IsCause NoMemory old new = ⊤
 
 module _ {P : Type 0} {g : Ghosts P} {h : StepperGhosts (ServiceStepper P g) ServiceError} {beside : StreamGhosts (ServiceStepper P g)} where
   abbrev pub held_by : Live (ServiceStepper P g) ServiceError h beside → Held
-  held_by it = record { sessions = (its.service it).sessions; followed = it.followed.items; pending = it.pending.items }
+  held_by it = record { sessions = shown.sessions (its.service it); followed = live.followed it; pending = live.pending it }
 
   abbrev pub side_of : streams.Ghosts P → Live (ServiceStepper P g) ServiceError h beside → Side
   side_of told it = record {

@@ -1,9 +1,10 @@
 //! The command `live`: the lines of the input are answered over the store of a disk, and pushes are made behind edits.
-ghost use Rattle.std.specs.Prelude.{◌≡◌, [], IfSome, IsTrue};
+ghost use Rattle.std.specs.Prelude.{◌≡◌, [], IfSome};
 ghost use Rattle.block_disk.specs.View.{View};
 ghost use Rattle.chart_service.specs.Faulting.{serve_fault};
 ghost use Rattle.chart_service.specs.Shown as shown;
 ghost use Rattle.chart_world.specs.Faults.{CountsFault, fault_in};
+ghost use Rattle.gate_pages.specs.Shown.{AreSound, count, disk};
 ghost use Rattle.series_store.specs.Shown as stored;
 ghost use Rattle.store_commands.specs.Away.{TurnsAway};
 ghost use Rattle.store_commands.specs.Status.{code_fault};
@@ -49,11 +50,11 @@ pub fn live<W: World>(alloc: Global, world: W) -> (Status, W)
 
 /// The same over a store that is open: what that answers, and the disk.
 fn serve_store<W: World>(alloc: Global, store: Store<GatePages<W>>) -> (Result<(), ServeEnd>, W)
-    requires { IsTrue (stored.pages store).sound }
-    ensures serves { let pages = stored.pages store in ServedOn pages.count (W.view pages.disk) (W.view result.1) (traffic W.left W.sent W.read_faults W.send_faults pages.disk result.1) result.0 }
-    ensures faults { CountsFault (fault_in serve_fault result.0) (W.view (stored.pages store).disk) (W.view result.1) }
-    ensures reads { let pages = stored.pages store in IfSome (W.left pages.disk) (λ input. ReadsFrom pages.count (W.view pages.disk) (W.view result.1) input (W.view pages.disk).reads) }
-    ensures syncs { let pages = stored.pages store in IfSome (W.left pages.disk) (λ input. SyncsLines input (W.view pages.disk).syncs (W.view result.1).syncs) }
+    requires { AreSound (stored.pages store) }
+    ensures serves { let pages = stored.pages store in ServedOn (count pages) (W.view (disk pages)) (W.view result.1) (traffic W.left W.sent W.read_faults W.send_faults (disk pages) result.1) result.0 }
+    ensures faults { CountsFault (fault_in serve_fault result.0) (W.view (disk (stored.pages store))) (W.view result.1) }
+    ensures reads { let pages = stored.pages store in IfSome (W.left (disk pages)) (λ input. ReadsFrom (count pages) (W.view (disk pages)) (W.view result.1) input (W.view (disk pages)).reads) }
+    ensures syncs { let pages = stored.pages store in IfSome (W.left (disk pages)) (λ input. SyncsLines input (W.view (disk pages)).syncs (W.view result.1).syncs) }
 {
     match Service::new(alloc, store) {
         Ok(service) => serve_service(alloc, service),
@@ -66,12 +67,12 @@ fn serve_service<W: World>(
     alloc: Global,
     service: Service<GatePages<W>>,
 ) -> (Result<(), ServeEnd>, W)
-    requires sound { IsTrue (shown.pages service).sound }
-    requires alone { service.sessions ≡ [] }
-    ensures serves { let pages = shown.pages service in ServedOn pages.count (W.view pages.disk) (W.view result.1) (traffic W.left W.sent W.read_faults W.send_faults pages.disk result.1) result.0 }
-    ensures faults { CountsFault (fault_in serve_fault result.0) (W.view (shown.pages service).disk) (W.view result.1) }
-    ensures reads { let pages = shown.pages service in IfSome (W.left pages.disk) (λ input. ReadsFrom pages.count (W.view pages.disk) (W.view result.1) input (W.view pages.disk).reads) }
-    ensures syncs { let pages = shown.pages service in IfSome (W.left pages.disk) (λ input. SyncsLines input (W.view pages.disk).syncs (W.view result.1).syncs) }
+    requires sound { AreSound (shown.pages service) }
+    requires alone { shown.sessions service ≡ [] }
+    ensures serves { let pages = shown.pages service in ServedOn (count pages) (W.view (disk pages)) (W.view result.1) (traffic W.left W.sent W.read_faults W.send_faults (disk pages) result.1) result.0 }
+    ensures faults { CountsFault (fault_in serve_fault result.0) (W.view (disk (shown.pages service))) (W.view result.1) }
+    ensures reads { let pages = shown.pages service in IfSome (W.left (disk pages)) (λ input. ReadsFrom (count pages) (W.view (disk pages)) (W.view result.1) input (W.view (disk pages)).reads) }
+    ensures syncs { let pages = shown.pages service in IfSome (W.left (disk pages)) (λ input. SyncsLines input (W.view (disk pages)).syncs (W.view result.1).syncs) }
 {
     service.is_sound();
     let mut live = Live::new(alloc, ServiceStepper::new(service));

@@ -7,6 +7,7 @@ use Rattle.gate_pages.specs.Pages.{Quiet}
 use Rattle.gate_pages.specs.declared.pages.Pages.{Ghosts}
 use Rattle.live_view.specs.declared.live.Live.{Live}
 use Rattle.live_view.specs.declared.stepper.Stepper.{Ghosts as StepperGhosts}
+use Rattle.live_view.specs.Live as live
 use Rattle.series_book.specs.declared.one_series.Series.{Series}
 use Rattle.chart_service.specs.Called as called
 use Rattle.chart_service.specs.Shown as shown
@@ -35,11 +36,11 @@ IsBeforeOrAfter Reply total old image = StandsForBook image total old.state.book
 
 module _ {P : Type 0} {g : Ghosts P} {h : StepperGhosts (ServiceStepper P g) ServiceError} {streams : StreamGhosts (ServiceStepper P g)} where
   abbrev pub service : Live (ServiceStepper P g) ServiceError h streams → Service P g
-  service it = it.stepper.service
+  service it = (live.stepper it).service
 
   -- its state over a book of its store
   abbrev pub state : Live (ServiceStepper P g) ServiceError h streams → ℕ → List Series → LiveState
-  state it total book = live_of (shown.state (service it) total book) it.followed.items it.pending.items
+  state it total book = live_of (shown.state (service it) total book) (live.followed it) (live.pending it)
 
   -- so of each book that the pages stand for
   abbrev pub ForBook : Live (ServiceStepper P g) ServiceError h streams → (ℕ → List Series → Type 0) → Type 0
@@ -47,7 +48,7 @@ module _ {P : Type 0} {g : Ghosts P} {h : StepperGhosts (ServiceStepper P g) Ser
 
   -- the pages stand for a book with this total, and the state with it is so
   abbrev pub StandsSo : ℕ → Live (ServiceStepper P g) ServiceError h streams → (LiveState → Type 0) → Type 0
-  StandsSo total it IsSo = StandsAfter total (shown.image (service it)) (service it).sessions (λ state. IsSo (live_of state it.followed.items it.pending.items))
+  StandsSo total it IsSo = StandsAfter total (shown.image (service it)) (shown.sessions (service it)) (λ state. IsSo (live_of state (live.followed it) (live.pending it)))
 
   -- the frame answers so, and the pages stand for the book that it leaves
   abbrev pub AnswersSo : (Frame → LiveState → LiveState → Type 0) → ℕ → List Series → Live (ServiceStepper P g) ServiceError h streams → Live (ServiceStepper P g) ServiceError h streams → Frame → Type 0
@@ -66,4 +67,4 @@ module _ {P : Type 0} {g : Ghosts P} {h : StepperGhosts (ServiceStepper P g) Ser
 
   -- the next push reads no more blocks than it may
   abbrev pub ReadsNext : ℕ → List Series → Live (ServiceStepper P g) ServiceError h streams → Live (ServiceStepper P g) ServiceError h streams → Type 0
-  ReadsNext total book old new = ReadsPush old.pending.items (shown.state (service old) total book) (view old).reads (view new).reads
+  ReadsNext total book old new = ReadsPush (live.pending old) (shown.state (service old) total book) (view old).reads (view new).reads

@@ -26,8 +26,8 @@ module _ {P : Type 0} {g : Ghosts P} where
     pub standing : shown.ForBook old (λ total book. IfErr result IsOutside)
     pub moments : shown.ForBook old (λ total book. shown.PassesBy (Replied (line_text line)) total book old new)
     pub reads : shown.ForBook old (λ total book. ReadsFewFor (line_text line) total book old new)
-    pub opens : IfOk result (λ frame. OpensBy frame old.sessions new.sessions)
-    pub sessions : OnErr result (LosesAtMost (session_named (line_text line)) old.sessions new.sessions)
+    pub opens : IfOk result (λ frame. OpensBy frame (shown.sessions old) (shown.sessions new))
+    pub sessions : OnErr result (LosesAtMost (session_named (line_text line)) (shown.sessions old) (shown.sessions new))
     pub unchanged : CommitsOnly result old new
     pub idle : edit_of (line_text line) ≡ [] → IsUnchanged (shown.IsTold old) (shown.view old) (shown.view new)
     pub cause : IfErr result (IsCauseOfLine (line_text line) old new)
@@ -43,9 +43,9 @@ module _ {P : Type 0} {g : Ghosts P} where
     pub reply : ForLast session old (λ last. shown.ForBook old (λ total book. IfOk result (AnswersSo (RepliedTo (own_zoom session last)) total book old new)))
     pub standing : shown.ForBook old (λ total book. IfErr result IsOutside)
     pub moments : shown.PassesTo (Now (shown.view old)) old new
-    pub reads : ForLast session old (λ last. shown.ForBook old (λ total book. ReadsFew (own_zoom session last) book old.sessions (shown.view old).reads (shown.view new).reads))
-    pub opens : IfOk result (λ frame. OpensBy frame old.sessions new.sessions)
-    pub sessions : OnErr result (LosesAtMost (Some session) old.sessions new.sessions)
+    pub reads : ForLast session old (λ last. shown.ForBook old (λ total book. ReadsFew (own_zoom session last) book (shown.sessions old) (shown.view old).reads (shown.view new).reads))
+    pub opens : IfOk result (λ frame. OpensBy frame (shown.sessions old) (shown.sessions new))
+    pub sessions : OnErr result (LosesAtMost (Some session) (shown.sessions old) (shown.sessions new))
     pub idle : IsUnchanged (shown.IsTold old) (shown.view old) (shown.view new)
     pub cause : ForLast session old (λ last. IfErr result (IsCause (own_zoom session last) old new))
     pub faults : CountsFault (fault_in step_fault result) (shown.view old) (shown.view new)

@@ -15,7 +15,7 @@ use zoom_session::ViewSpec;
 impl<P: PageWorld> Stepper for ServiceStepper<P> {
     type Fault = ServiceError;
 
-    ghost sessions = { λ it. it.service.sessions };
+    ghost sessions = { λ it. shown.sessions it.service };
 
     /// By each book for which the pages stand, it is the id that the book gives.
     ghost names = { λ it name id. shown.ForSoundBook it.service (λ total book. id ≡ id_of name book) };

@@ -18,6 +18,10 @@ use Rattle.live_view.specs.Replies.{refused, follow_reply, unfollow_reply, follo
 use Rattle.live_view.specs.Sessions.{open_among}
 
 module _ {S F : Type 0} {g : Ghosts S F} {streams : StreamGhosts S} where
+  -- what answers other lines
+  abbrev pub stepper : Live S F g streams → S
+  stepper it = it.stepper
+
   -- the sessions that are open
   abbrev pub sessions : Live S F g streams → List Session
   sessions it = g.sessions it.stepper

@@ -1,7 +1,8 @@
 //! The command `retain`: the rules of the input are swept over the store of a disk, and each is answered.
-ghost use Rattle.std.specs.Prelude.{◌≡◌, IsTrue};
+ghost use Rattle.std.specs.Prelude.{◌≡◌};
 ghost use Rattle.block_disk.specs.View.{View};
 ghost use Rattle.chart_world.specs.Faults.{CountsFault, fault_in};
+ghost use Rattle.gate_pages.specs.Shown.{AreSound, count, disk};
 ghost use Rattle.series_store.specs.Shown as shown;
 ghost use Rattle.store_commands.specs.Away.{TurnsAway};
 ghost use Rattle.store_commands.specs.Status.{code_fault};
@@ -48,9 +49,9 @@ fn sweep_store<W: World>(
     alloc: Global,
     mut store: Store<GatePages<W>>,
 ) -> (Result<(), RetainEnd>, W)
-    requires { IsTrue (shown.pages store).sound }
-    ensures swept { let pages = shown.pages store in SweptOn pages.count (W.view pages.disk) (W.view result.1) (traffic W.left W.sent W.read_faults W.send_faults pages.disk result.1) result.0 }
-    ensures faults { CountsFault (fault_in retain_fault result.0) (W.view (shown.pages store).disk) (W.view result.1) }
+    requires { AreSound (shown.pages store) }
+    ensures swept { let pages = shown.pages store in SweptOn (count pages) (W.view (disk pages)) (W.view result.1) (traffic W.left W.sent W.read_faults W.send_faults (disk pages) result.1) result.0 }
+    ensures faults { CountsFault (fault_in retain_fault result.0) (W.view (disk (shown.pages store))) (W.view result.1) }
 {
     let answer = sweep_lines(alloc, &mut store);
     (answer, disk_of(store))

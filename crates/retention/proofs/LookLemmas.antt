@@ -1,37 +1,25 @@
 -- Calls that read pages and change nothing else.
-use Rattle.std.proofs.Common.{◌≡◌, ℕ, zero, suc, ◌<◌, ◌≤◌, List, [], ◌∷◌, length, Some, refl, sym, ap, subst, inl, ◌∙◌, arith}
-use Rattle.std.proofs.lemmas.Option.{slice_get_within}
-use Rattle.std.specs.List.{slice_get}
+use Rattle.std.proofs.Common.{◌≡◌, ℕ, ◌≤◌, length, refl, sym, ap, subst, ◌∙◌, arith}
 use Rattle.block_disk.specs.View.{Image, View, Now}
 use Rattle.block_disk.proofs.Passing.{passes_none, passes_weaker, now_back}
-use Rattle.catalog_page.specs.Entries.{Entry}
 use Rattle.gate_pages.specs.declared.pages.Pages.{Ghosts}
 use Rattle.gate_pages.specs.GateLaws.{goes_none, goes_then}
 use Rattle.gate_pages.specs.Pages.{GoesOn, Quiet}
 use Rattle.om3_coeff.specs.View.{NodesView}
 use Rattle.om3_coeff.specs.declared.errors.NodeError.TheVariants as node
 use Rattle.gate_pages.proofs.Moving.{time_then}
-use Rattle.page_space.specs.Layout.{Keeps as KeepsPage}
 use Rattle.page_space.specs.Shown as spaces
 use Rattle.page_space.specs.declared.space.Space.{Space}
 use Rattle.page_space.specs.declared.superblock.Superblock.{Superblock}
-use Rattle.series_catalog.specs.Catalogs.{AreAsTold}
 use Rattle.series_catalog.specs.declared.catalog.Catalog.{Catalog}
-use Rattle.series_catalog.specs.declared.stored_series.StoredSeries.{StoredSeries}
 use Rattle.series_catalog.specs.Shown.{series_in}
-use Rattle.series_book.specs.declared.one_series.Series.{Series}
-use Rattle.series_store.proofs.AskLemmas.{kept_as}
+use Rattle.series_store.specs.Asking.{IsBadPage}
 use Rattle.series_store.specs.Results.{Moves}
-use Rattle.stored_book.specs.Standing.{IsStore}
-use Rattle.tree_walk.specs.Trees.{StandsFor}
-use Rattle.tree_walk.proofs.StandingLemmas.{standing_sound}
 use Rattle.stored_book.specs.Damage.{IsBadForRequest}
-use Rattle.stored_book.specs.Records.{tree_of}
-use Rattle.tree_walk.specs.Paths.{IsDamaged}
 use Rattle.tree_walk.specs.PagedNodes.{Keeps, ground}
 use Rattle.tree_walk.specs.declared.tree.Tree.{Tree}
 use Rattle.retention.specs.Moving.{Carries, Looks}
-use Rattle.retention.specs.Sweeping.{IsAskCause, IsBadPage, IsOutside, IsReadCause, IsSweepCause}
+use Rattle.retention.specs.Sweeping.{IsAskCause, IsOutside, IsReadCause, IsSweepCause}
 use Rattle.retention.specs.declared.sweep_error.SweepError.{SweepError}
 use Rattle.retention.specs.declared.sweep_error.SweepError.TheVariants.{UnknownSeries, DiskFault, Damaged, NoMemory}
 
@@ -96,39 +84,6 @@ looks_asked told told' old new under under' s s' tree tree' catalog catalog' kep
   superblock = kept.superblock;
   catalog_is = same;
 }
-
-pub there : {A : Type 0} (list : List A) (id : ℕ) → id < length list → (a : A) × (slice_get list id ≡ Some a)
-there {A} [] id low = absurd (omega (arith, low))
-there {A} (x ∷ xs) zero low = (x, refl)
-there {A} (x ∷ xs) (suc id) low = there xs id (omega (arith, low))
-
--- a page of which the nodes of a series tell is damaged on the way to a key of its tree
-pub bad_in : (told : Type 0) (view : View) (s : Superblock) (items : List StoredSeries) (id : ℕ) (one : StoredSeries) (tree : Tree) (page : ℕ) → (told → KeepsPage view.size s (view.image 0)) → length items ≡ s.series → (told → AreAsTold view.image items)
-    → slice_get items id ≡ Some one → tree ≡ one.tree → (page < s.total) × (told → IsDamaged view.image s.total tree page) → IsBadPage told s.total view page
-bad_in told view s items id one tree page keeps count says at same is =
-    let E : Entry → Type 0 = λ e. IsDamaged view.image s.total (tree_of e) page in
-    let T : Tree → Type 0 = λ t. IsDamaged view.image s.total t page in (
-      is.0,
-      λ t. record {
-        numbers = s;
-        keeps = keeps t;
-        so = (
-          is.0,
-          inl (record {
-            id = id;
-            there = omega (arith, slice_get_within items id one at, count);
-            damaged = subst E (sym (says t id one at)) (subst T same (is.1 t));
-          }),
-        );
-      },
-    )
-
--- and where the pages stand for a book, none is
-pub whole_in : (image : Image) (s : Superblock) (book : List Series) (items : List StoredSeries) (id : ℕ) (one : StoredSeries) (two : Series) (tree : Tree) (page : ℕ) → IsStore image s book → AreAsTold image items → slice_get items id ≡ Some one → slice_get book id ≡ Some two → tree ≡ one.tree → IsDamaged image s.total tree page → ⊥
-whole_in image s book items id one two tree page store told at at' same damaged =
-    let is = kept_as image s book items id one two store told at at' in
-    let P : Tree → Type 0 = λ t. StandsFor image s.total t two.slots in
-    standing_sound image s.total tree two.slots page (subst P (sym same) is.tree) damaged
 
 -- what was bad before a look is so behind it
 pub bad_later : (told told' : Type 0) (old new under under' : View) (s s' : Superblock) (catalog catalog' : Catalog) (total page : ℕ) → Looks told told' old new under under' s s' catalog catalog' → IsBadPage told total old page → IsBadPage told' total new page

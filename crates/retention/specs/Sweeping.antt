@@ -1,9 +1,10 @@
 -- What a sweep did, and why it ended.
-use Rattle.std.specs.Prelude.{ℕ, ℤ, ◌≡◌, ◌/◌, ◌<◌, ◌≤◌, List, [], take, length, Option, None, Some, MatchOption}
+use Rattle.std.specs.Prelude.{ℕ, ℤ, ◌≡◌, ◌/◌, ◌≤◌, List, [], take, length, Option, None, Some, MatchOption}
 use Rattle.block_disk.specs.Counts.{HasRisen}
 use Rattle.block_disk.specs.View.{Image, View, Passes}
 use Rattle.gate_pages.specs.declared.pages.Pages.{Ghosts}
 use Rattle.gate_pages.specs.Pages.{Quiet}
+use Rattle.series_store.specs.Asking.{IsBadPage}
 use Rattle.series_store.specs.Shown as shown
 use Rattle.series_store.specs.declared.store.Store.{Store}
 use Rattle.om3_coeff.specs.View.{NodesView}
@@ -15,7 +16,6 @@ use Rattle.series_book.specs.declared.one_series.Series.{Series}
 use Rattle.series_book.specs.Axes.{IsAxisOf}
 use Rattle.series_book.specs.EditLists.{after_edits}
 use Rattle.series_book.specs.Pages.{pages_of}
-use Rattle.stored_book.specs.Damage.{IsBadForRequest}
 use Rattle.stored_book.specs.Standing.{StandsForBook}
 use Rattle.retention.specs.declared.oldest.Oldest.{Oldest}
 use Rattle.retention.specs.declared.rule.Rule.{Rule}
@@ -43,10 +43,6 @@ StopsSo total book rule image UnknownSeries = NamesNone book rule
 StopsSo total book rule image DiskFault = Unit {0}
 StopsSo total book rule image (Damaged page) = ⊥
 StopsSo total book rule image NoMemory = IsAfterSome total book rule image
-
--- a page that is called damaged is one of so many, and is so where reads give what the pages are
-abbrev pub IsBadPage : Type 0 → ℕ → View → ℕ → Type 0
-IsBadPage told total view page = (page < total) × (told → IsBadForRequest view.size view.image page)
 
 -- an error of nodes over pages, and what it is for a sweep
 abbrev pub IsOfPages : NodeError → Type 0

@@ -51,8 +51,8 @@ pub fn export_series<P: PageWorld>(
     ensures faults { CountsFault (fault_in send_fault result) (shown.view store.old) (shown.view store.new) }
     // a crash leaves at each moment what it might have left before
     ensures sends { SendsOn store.old store.new }
-    ensures catalog { store.new.catalog ≡ store.old.catalog }
-    ensures selected { (store.new.tree ≡ store.old.tree) × (store.new.trail ≡ store.old.trail) }
+    ensures catalog { shown.SameCatalog store.old store.new }
+    ensures selected { shown.SelectsSame store.old store.new }
 {
     let info = store.info(id);
     let texts = ReadingTexts {

@@ -9,22 +9,21 @@ use Rattle.om3_coeff.specs.declared.errors.NodeError.{NodeError}
 use Rattle.om3_coeff.specs.declared.errors.NodeError.TheVariants.{DiskFault, Damaged, Missing, BadCoefficient}
 use Rattle.page_space.specs.declared.superblock.Superblock.{Superblock}
 use Rattle.derived_chart.specs.Sums.{one_of}
-use Rattle.retention.proofs.LookLemmas.{bad_in, bad_later, looks_asked, looks_none, looks_then, there, whole_in}
+use Rattle.retention.proofs.LookLemmas.{bad_later, looks_asked, looks_none, looks_then}
 use Rattle.retention.specs.Moving.{LooksOnly}
-use Rattle.retention.specs.Sweeping.{IsBadPage}
 use Rattle.series_book.specs.declared.one_series.Series.{Series}
 use Rattle.series_catalog.specs.Shown.{series_in}
 use Rattle.series_catalog.specs.declared.catalog.Catalog.{Catalog}
 use Rattle.series_catalog.specs.declared.stored_series.StoredSeries.{StoredSeries}
-use Rattle.series_store.proofs.AskLemmas as asking
-use Rattle.series_store.specs.Asking.{store_keeps, store_keeps_on}
+use Rattle.series_store.proofs.AskLemmas.{there}
+use Rattle.series_store.specs.AskLaws.{agrees_at, bad_at, selected_keeps, selected_keeps_on, selected_stays, whole_at}
+use Rattle.series_store.specs.Asking.{IsBadPage, IsTreeAt}
 use Rattle.series_store.specs.Shown as shown
 use Rattle.series_store.specs.declared.store.Store.{Store}
-use Rattle.stored_book.specs.Standing.{IsStore, StandsForBook}
-use Rattle.tree_walk.specs.PagedNodes.{pages_stay}
+use Rattle.stored_book.specs.Standing.{StandsForBook}
 use Rattle.tree_walk.specs.declared.tree.Tree.{Tree}
 use Rattle.series_pair.specs.Asking.{ArePair, Causes, GoesPair, KeepsPair, count}
-use Rattle.series_pair.specs.Pairs.{IsTreeAt, side_of, slots_at, slots_of}
+use Rattle.series_pair.specs.Pairs.{side_of, slots_at, slots_of}
 use Rattle.series_pair.specs.declared.store_pair.StorePair.{StorePair}
 
 -- the one that is asked is there
@@ -40,27 +39,27 @@ slots_there catalog id tree low is =
 
 module _ {P : Type 0} {g : Ghosts P} where
   pub pair_keeps : (at : StorePair P g) → KeepsPair at at
-  pair_keeps at = record { side = refl; first = refl; second = refl; store = store_keeps (shown.stands_on at.store) at.store.catalog; faults = omega arith }
+  pair_keeps at = record { side = refl; first = refl; second = refl; store = selected_keeps at.store; faults = omega arith }
 
   pub pair_keeps_on : {old mid new : StorePair P g} → KeepsPair old mid → KeepsPair mid new → KeepsPair old new
   pair_keeps_on {old} {mid} {new} before after = record {
     side = after.side ∙ before.side;
     first = after.first ∙ before.first;
     second = after.second ∙ before.second;
-    store = store_keeps_on (shown.stands_on old.store) (shown.stands_on mid.store) (shown.stands_on new.store) old.store.catalog mid.store.catalog new.store.catalog before.store after.store;
+    store = selected_keeps_on old.store mid.store new.store before.store after.store;
     faults = omega (arith, before.faults, after.faults);
   }
 
   pub pair_stays : {old new : StorePair P g} → KeepsPair old new → StaysSame (shown.nodes old.store) (shown.nodes new.store)
-  pair_stays {old} {new} kept = pages_stay (shown.stands_on old.store) (shown.stands_on new.store) old.store.trail new.store.trail kept.store.pages
+  pair_stays {old} {new} kept = selected_stays old.store new.store kept.store
 
   pub looks_nowhere : (at : Store P g) → LooksOnly at at
-  looks_nowhere at = looks_none (shown.IsTold at) (shown.view at) (shown.under at) (shown.numbers at) at.catalog
+  looks_nowhere at = looks_none (shown.IsTold at) (shown.view at) (shown.under at) (shown.numbers at) (shown.kept_catalog at)
 
   pub looks_on : (old mid new : Store P g) → LooksOnly old mid → LooksOnly mid new → LooksOnly old new
   looks_on old mid new before after =
       looks_then (shown.IsTold old) (shown.IsTold mid) (shown.IsTold new) (shown.view old) (shown.view mid) (shown.view new) (shown.under old) (shown.under mid) (shown.under new)
-      (shown.numbers old) (shown.numbers mid) (shown.numbers new) old.catalog mid.catalog new.catalog before after
+      (shown.numbers old) (shown.numbers mid) (shown.numbers new) (shown.kept_catalog old) (shown.kept_catalog mid) (shown.kept_catalog new) before after
 
   pub pair_goes_nowhere : (at : StorePair P g) → GoesPair at at
   pair_goes_nowhere at = record { first = refl; second = refl; looks = looks_nowhere at.store }
@@ -75,7 +74,7 @@ module _ {P : Type 0} {g : Ghosts P} where
   asks_look : {old new : StorePair P g} → KeepsPair old new → LooksOnly old.store new.store
   asks_look {old} {new} kept =
       looks_asked (shown.IsTold old.store) (shown.IsTold new.store) (shown.view old.store) (shown.view new.store) (shown.under old.store) (shown.under new.store)
-      (shown.numbers old.store) (shown.numbers new.store) old.store.tree new.store.tree old.store.catalog new.store.catalog kept.store.pages kept.faults kept.store.catalog
+      (shown.numbers old.store) (shown.numbers new.store) (shown.selected old.store) (shown.selected new.store) (shown.kept_catalog old.store) (shown.kept_catalog new.store) kept.store.pages kept.faults kept.store.catalog
 
   pub asks_are_steps : {old new : StorePair P g} → KeepsPair old new → GoesPair old new
   asks_are_steps kept = record { first = kept.first; second = kept.second; looks = asks_look kept }
@@ -102,25 +101,10 @@ module _ {P : Type 0} {g : Ghosts P} where
   }
 
   pub still_counts : (side : Bool) {old new : StorePair P g} → GoesPair old new → count side new ≡ count side old
-  still_counts false {old} {new} going = ap (λ (c : Catalog). slots_at (series_in c) new.x) going.looks.catalog_is ∙ ap (λ n. slots_at (series_in old.store.catalog) n) going.first
-  still_counts true {old} {new} going = ap (λ (c : Catalog). slots_at (series_in c) new.y) going.looks.catalog_is ∙ ap (λ n. slots_at (series_in old.store.catalog) n) going.second
+  still_counts false {old} {new} going = ap (λ (c : Catalog). slots_at (series_in c) new.x) going.looks.catalog_is ∙ ap (λ n. slots_at (shown.catalog old.store) n) going.first
+  still_counts true {old} {new} going = ap (λ (c : Catalog). slots_at (series_in c) new.y) going.looks.catalog_is ∙ ap (λ n. slots_at (shown.catalog old.store) n) going.second
 
-  -- the pages stand for a book with the numbers that the store has
-  pub own : (at : Store P g) (total : ℕ) (book : List Series) → shown.IsSound at → shown.IsTold at → StandsForBook (shown.image at) total book → IsStore (shown.image at) (shown.numbers at) book
-  own at total book sound told stands = (asking.own_store (shown.view at).size total (shown.image at) book (shown.numbers at) at.space.rules at.small (at.space.spelled sound told) stands).0
-
-  -- and have a series for each of its catalog
-  pub book_there : (at : Store P g) (total : ℕ) (book : List Series) (id : ℕ) → shown.IsSound at → shown.IsTold at → StandsForBook (shown.image at) total book → id < length (shown.catalog at) → (series : Series) × (slice_get book id ≡ Some series)
-  book_there at total book id sound told stands low =
-      there book id (omega (arith, low, asking.as_many (shown.image at) (shown.numbers at) book (shown.catalog at) (own at total book sound told stands) at.count))
-
-  agrees_at : (at : Store P g) (total : ℕ) (book : List Series) (id : ℕ) (series : Series) → shown.IsSound at → shown.IsTold at → StandsForBook (shown.image at) total book → id < length (shown.catalog at)
-      → IsTreeAt (shown.catalog at) id at.tree → slice_get book id ≡ Some series → Agrees (shown.nodes at) series.slots
-  agrees_at at total book id series sound told stands low selected is =
-      let one = there (shown.catalog at) id low in
-      asking.agrees (shown.IsTold at) (shown.view at) (shown.under at) (shown.numbers at) book (shown.catalog at) id one.0 series at.tree at.trail told (own at total book sound told stands) (at.told sound told) one.1 is (selected one.0 one.1)
-
-  side_agrees : (second : Bool) (at : StorePair P g) (xs ys : List (Option ℤ)) → ArePair at xs ys → IsTreeAt (shown.catalog at.store) (side_of second at.x at.y) at.store.tree → Agrees (shown.nodes at.store) (one_of second xs ys)
+  side_agrees : (second : Bool) (at : StorePair P g) (xs ys : List (Option ℤ)) → ArePair at xs ys → shown.Selects at.store (side_of second at.x at.y) → Agrees (shown.nodes at.store) (one_of second xs ys)
   side_agrees false at xs ys are selected =
       let L : List (Option ℤ) → Type 0 = λ l. Agrees (shown.nodes at.store) l in
       subst L are.first_is (agrees_at at.store are.total are.book at.x are.one are.sound are.told are.stands at.first selected are.first)
@@ -132,19 +116,7 @@ module _ {P : Type 0} {g : Ghosts P} where
   pair_agrees {at} {xs} {ys} are = side_agrees at.is_second at xs ys are at.selected
 
   pub pair_counts : (at : StorePair P g) → (shown.nodes at.store).slots ≡ count at.is_second at
-  pair_counts at = slots_there (shown.catalog at.store) (side_of at.is_second at.x at.y) at.store.tree (low_side at.is_second at.x at.y (length (shown.catalog at.store)) at.first at.second) at.selected
-
-  -- a page of which the selected series' nodes tell is damaged, and where the pages stand for a book there is none
-  bad_at : (at : Store P g) (id page : ℕ) → shown.IsSound at → id < length (shown.catalog at) → IsTreeAt (shown.catalog at) id at.tree → (shown.nodes at).bad (Damaged page) → IsBadPage (shown.IsTold at) (shown.total at) (shown.view at) page
-  bad_at at id page sound low selected bad =
-      let one = there (shown.catalog at) id low in
-      bad_in (shown.IsTold at) (shown.view at) (shown.numbers at) (shown.catalog at) id one.0 at.tree page (λ t. record { spelled = at.space.spelled sound t; rules = at.space.rules }) at.count (at.told sound) one.1 (selected one.0 one.1) bad
-
-  whole_at : (at : Store P g) (id page : ℕ) → shown.IsSound at → id < length (shown.catalog at) → IsTreeAt (shown.catalog at) id at.tree → (shown.nodes at).bad (Damaged page) → shown.ForBook at (λ total book. ⊥)
-  whole_at at id page sound low selected bad = λ total book told stands.
-      let one = there (shown.catalog at) id low in
-      let two = book_there at total book id sound told stands low in
-      whole_in (shown.image at) (shown.numbers at) book (shown.catalog at) id one.0 two.0 at.tree page (own at total book sound told stands) (at.told sound told) one.1 two.1 (selected one.0 one.1) (bad.1 told)
+  pair_counts at = slots_there (shown.catalog at.store) (side_of at.is_second at.x at.y) (shown.selected at.store) (low_side at.is_second at.x at.y (length (shown.catalog at.store)) at.first at.second) at.selected
 
   pub asks_have_cause : (e : NodeError) {old new : StorePair P g} → KeepsPair old new → HasCause (shown.nodes old.store) (shown.nodes new.store) e → Causes old new e
   asks_have_cause DiskFault kept cause = λ sound. cause
@@ -152,7 +124,7 @@ module _ {P : Type 0} {g : Ghosts P} where
       let id = side_of old.is_second old.x old.y in
       let low = low_side old.is_second old.x old.y (length (shown.catalog old.store)) old.first old.second in (
         bad_later (shown.IsTold old.store) (shown.IsTold new.store) (shown.view old.store) (shown.view new.store) (shown.under old.store) (shown.under new.store)
-            (shown.numbers old.store) (shown.numbers new.store) old.store.catalog new.store.catalog (shown.total old.store) page (asks_look kept) (bad_at old.store id page sound low old.selected bad),
+            (shown.numbers old.store) (shown.numbers new.store) (shown.kept_catalog old.store) (shown.kept_catalog new.store) (shown.total old.store) page (asks_look kept) (bad_at old.store id page sound low old.selected bad),
         whole_at old.store id page sound low old.selected bad,
       )
   asks_have_cause (Missing key) kept never = λ sound. never

@@ -5,9 +5,8 @@ use Rattle.gate_pages.specs.declared.pages.Pages.{Ghosts}
 use Rattle.om3_coeff.specs.declared.errors.NodeError.{NodeError}
 use Rattle.om3_coeff.specs.declared.errors.NodeError.TheVariants.{DiskFault, Damaged, Missing, BadCoefficient}
 use Rattle.retention.specs.Moving.{LooksOnly}
-use Rattle.retention.specs.Sweeping.{IsBadPage}
 use Rattle.series_book.specs.declared.one_series.Series.{Series}
-use Rattle.series_store.specs.Asking.{KeepsStore}
+use Rattle.series_store.specs.Asking.{IsBadPage}
 use Rattle.series_store.specs.Shown as shown
 use Rattle.stored_book.specs.Standing.{StandsForBook}
 use Rattle.series_pair.specs.Pairs.{side_of, slots_at}
@@ -19,7 +18,7 @@ module _ {P : Type 0} {g : Ghosts P} where
     pub side : new.is_second ≡ old.is_second
     pub first : new.x ≡ old.x
     pub second : new.y ≡ old.y
-    pub store : KeepsStore (shown.stands_on old.store) (shown.stands_on new.store) old.store.catalog new.store.catalog
+    pub store : shown.KeepsSelected old.store new.store
     pub faults : (shown.view old.store).faults ≤ (shown.view new.store).faults
 
   -- asks and turns: both ids stay, and pages are read, and nothing else changes

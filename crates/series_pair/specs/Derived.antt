@@ -12,8 +12,8 @@ use Rattle.plain_chart.specs.Chart.{IsChart, IsScale}
 use Rattle.plain_chart.specs.Samples.{values_of, IsRange}
 use Rattle.plain_chart.specs.declared.sample.Sample.{Sample}
 use Rattle.plain_chart.specs.declared.value_range.ValueRange.{ValueRange}
-use Rattle.retention.specs.Sweeping.{IsBadPage}
 use Rattle.series_book.specs.declared.one_series.Series.{Series}
+use Rattle.series_store.specs.Asking.{IsBadPage}
 use Rattle.whole_number.specs.Range.{IsValue}
 use Rattle.series_pair.specs.declared.sum_error.SumError.{SumError}
 use Rattle.series_pair.specs.declared.sum_error.SumError.TheVariants.{TooLarge, DiskFault, Damaged, NoMemory}

@@ -1,16 +1,11 @@
 -- Two series of a catalog, of which one is asked.
-use Rattle.std.specs.Prelude.{ℕ, ◌≡◌, Bool, false, true, List, slice_get, Option, None, Some}
+use Rattle.std.specs.Prelude.{ℕ, Bool, false, true, List, slice_get, Option, None, Some}
 use Rattle.series_catalog.specs.declared.stored_series.StoredSeries.{StoredSeries}
-use Rattle.tree_walk.specs.declared.tree.Tree.{Tree}
 
 -- of two ids the one that is asked
 abbrev pub side_of : Bool → ℕ → ℕ → ℕ
 side_of false x y = x
 side_of true x y = y
-
--- the tree is that of the series of this id
-abbrev pub IsTreeAt : List StoredSeries → ℕ → Tree → Type 0
-IsTreeAt catalog id tree = (one : StoredSeries) → slice_get catalog id ≡ Some one → tree ≡ one.tree
 
 -- how many slots the series has
 abbrev pub slots_of : Option StoredSeries → ℕ

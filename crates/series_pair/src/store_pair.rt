@@ -1,7 +1,7 @@
 //! Two series of a store, of which one is asked.
 ghost use Rattle.std.specs.Prelude.{◌≡◌, ◌<◌, length, false};
 ghost use Rattle.series_store.specs.Shown as shown;
-ghost use Rattle.series_pair.specs.Pairs.{IsTreeAt, side_of};
+ghost use Rattle.series_pair.specs.Pairs.{side_of};
 
 use gate_pages::Pages;
 use series_store::Store;
@@ -15,7 +15,7 @@ pub struct StorePair<P: Pages> {
     pub(crate) is_second: bool,
     ghost first: { x < length (shown.catalog store) },
     ghost second: { y < length (shown.catalog store) },
-    ghost selected: { IsTreeAt (shown.catalog store) (side_of is_second x y) store.tree },
+    ghost selected: { shown.Selects store (side_of is_second x y) },
 }
 
 impl<P: Pages> StorePair<P> {
@@ -23,8 +23,8 @@ impl<P: Pages> StorePair<P> {
     pub fn new(store: Store<P>, x: u16, y: u16) -> StorePair<P>
         requires first { x < length (shown.catalog store) }
         requires second { y < length (shown.catalog store) }
-        ensures space { result.store.space ≡ store.space }
-        ensures catalog { result.store.catalog ≡ store.catalog }
+        ensures space { shown.SamePages store result.store }
+        ensures catalog { shown.SameCatalog store result.store }
         ensures first { result.x ≡ x }
         ensures second { result.y ≡ y }
         ensures side { result.is_second ≡ false }

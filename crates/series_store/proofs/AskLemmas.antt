@@ -1,6 +1,7 @@
 -- What a store tells of its series, by what its pages stand for.
 use Rattle.std.proofs.Common.{◌≡◌, ℕ, zero, suc, ◌+◌, ◌^◌, ◌<◌, ◌≤◌, ◌⊎◌, Bool, cond, not, ltb, List, [], ◌∷◌, length, ℤ, w64, Option, Some, None, refl, sym, ap, subst, arith, inl, inr, ◌∙◌}
 use mir.Val.{to_z, of_z}
+use Rattle.std.proofs.lemmas.Option.{slice_get_within}
 use Rattle.std.proofs.lemmas.Int.{to_z-of_z, fits_signed_from_abs}
 use Rattle.std.specs.Prelude.{MatchOption}
 use Rattle.std.specs.List.{position, position_or_len, slice_get}
@@ -10,23 +11,25 @@ use Rattle.block_disk.specs.View.{Image, View}
 use Rattle.catalog_page.specs.Entries.{Entry}
 use Rattle.om3_coeff.specs.View.{Agrees}
 use Rattle.om3_coeff.specs.Spans.{IsProperIfAny}
-use Rattle.page_space.specs.Layout.{superblock_page, IsSuperblock}
+use Rattle.page_space.specs.Layout.{superblock_page, IsSuperblock, Keeps as KeepsPage}
 use Rattle.page_space.specs.declared.superblock.Superblock.{Superblock}
 use Rattle.series_book.specs.declared.limits.TheConstants.{MOST_SLOTS}
 use Rattle.series_book.specs.Edits.{id_of}
 use Rattle.series_book.specs.declared.one_series.Series.{Series}
-use Rattle.series_store.specs.Asking.{IsInfo}
+use Rattle.series_store.specs.Asking.{IsBadPage, IsInfo}
 use Rattle.series_store.specs.declared.series_info.SeriesInfo.{SeriesInfo}
 use Rattle.series_catalog.specs.Catalogs.{entry_of, place_of, AreFit, AreAsTold}
 use Rattle.series_catalog.specs.declared.stored_series.StoredSeries.{StoredSeries}
 use Rattle.stored_book.proofs.NumberLemmas.{numbers, small_numbers}
+use Rattle.stored_book.specs.Records.{tree_of}
 use Rattle.stored_book.specs.Standing.{IsStore, IsKept, StandsForBook}
 use Rattle.tree_walk.specs.declared.tree.Tree.{Tree}
 use Rattle.tree_walk.specs.declared.trail.Trail.{Trail}
+use Rattle.tree_walk.specs.Paths.{IsDamaged}
 use Rattle.tree_walk.specs.PagedNodes.{ground, paged_view, IsFit, IsTrail}
 use Rattle.tree_walk.specs.SpaceViews.{space_view}
 use Rattle.tree_walk.specs.Trees.{StandsFor}
-use Rattle.tree_walk.proofs.StandingLemmas.{standing_agrees}
+use Rattle.tree_walk.proofs.StandingLemmas.{standing_agrees, standing_sound}
 
 -- the pages stand for the book with the numbers that the store has
 pub own_store : (size total : ℕ) (image : Image) (book : List Series) (s : Superblock) → IsSuperblock size s → s.total < 2 ^ 32 → image 0 ≡ superblock_page s → StandsForBook image total book → IsStore image s book × (s.total ≡ total)
@@ -93,6 +96,39 @@ agrees told view under s book series id one two tree trail t store as_told at at
     let is = kept_as view.image s book series id one two store as_told at at' in
     let P : Tree → Type 0 = λ tr. StandsFor view.image s.total tr two.slots in
     standing_agrees (ground told view under s tree) trail two.slots t (subst P (sym same) is.tree)
+
+pub there : {A : Type 0} (list : List A) (id : ℕ) → id < length list → (a : A) × (slice_get list id ≡ Some a)
+there {A} [] id low = absurd (omega (arith, low))
+there {A} (x ∷ xs) zero low = (x, refl)
+there {A} (x ∷ xs) (suc id) low = there xs id (omega (arith, low))
+
+-- a page of which the nodes of a series tell is damaged on the way to a key of its tree
+pub bad_in : (told : Type 0) (view : View) (s : Superblock) (items : List StoredSeries) (id : ℕ) (one : StoredSeries) (tree : Tree) (page : ℕ) → (told → KeepsPage view.size s (view.image 0)) → length items ≡ s.series → (told → AreAsTold view.image items)
+    → slice_get items id ≡ Some one → tree ≡ one.tree → (page < s.total) × (told → IsDamaged view.image s.total tree page) → IsBadPage told s.total view page
+bad_in told view s items id one tree page keeps count says at same is =
+    let E : Entry → Type 0 = λ e. IsDamaged view.image s.total (tree_of e) page in
+    let T : Tree → Type 0 = λ t. IsDamaged view.image s.total t page in (
+      is.0,
+      λ t. record {
+        numbers = s;
+        keeps = keeps t;
+        so = (
+          is.0,
+          inl (record {
+            id = id;
+            there = omega (arith, slice_get_within items id one at, count);
+            damaged = subst E (sym (says t id one at)) (subst T same (is.1 t));
+          }),
+        );
+      },
+    )
+
+-- and where the pages stand for a book, none is
+pub whole_in : (image : Image) (s : Superblock) (book : List Series) (items : List StoredSeries) (id : ℕ) (one : StoredSeries) (two : Series) (tree : Tree) (page : ℕ) → IsStore image s book → AreAsTold image items → slice_get items id ≡ Some one → slice_get book id ≡ Some two → tree ≡ one.tree → IsDamaged image s.total tree page → ⊥
+whole_in image s book items id one two tree page store told at at' same damaged =
+    let is = kept_as image s book items id one two store told at at' in
+    let P : Tree → Type 0 = λ t. StandsFor image s.total t two.slots in
+    standing_sound image s.total tree two.slots page (subst P (sym same) is.tree) damaged
 
 -- a record of the catalog that says what is in range names a tree that may be asked
 pub tree_fits : (size : ℕ) (s : Superblock) (series : List StoredSeries) (id : ℕ) (one : StoredSeries) → IsSuperblock size s → AreFit s.fresh series → slice_get series id ≡ Some one → one.tree.root < s.total

@@ -1,10 +1,14 @@
 -- A store as the nodes of a series' tree, and what it tells of a series.
-use Rattle.std.specs.Prelude.{ℕ, ◌≡◌, List, Some, length, slice_get}
+use Rattle.std.specs.Prelude.{ℕ, ◌≡◌, ◌<◌, List, Some, length, slice_get}
+use Rattle.block_disk.specs.View.{View}
 use Rattle.om3_coeff.specs.Keys.{top_key}
 use Rattle.om3_coeff.specs.Spans.{span}
 use Rattle.series_book.specs.declared.one_series.Series.{Series}
 use Rattle.series_book.specs.Edits.{id_of}
 use Rattle.series_catalog.specs.declared.catalog.Catalog.{Catalog}
+use Rattle.series_catalog.specs.declared.stored_series.StoredSeries.{StoredSeries}
+use Rattle.stored_book.specs.Damage.{IsBadForRequest}
+use Rattle.tree_walk.specs.declared.tree.Tree.{Tree}
 use Rattle.tree_walk.specs.PagedNodes.{Ground, Keeps, pages_keep, pages_keep_on}
 use Rattle.std.proofs.Common.{refl, ◌∙◌}
 use Rattle.series_store.specs.declared.series_info.SeriesInfo.{SeriesInfo}
@@ -21,6 +25,14 @@ pub record IsInfo (series : Series) (id : ℕ) (info : SeriesInfo) : Type 0 wher
 -- the book has a series of this name, and what is told of it is so
 abbrev pub IsFound : List ℕ → List Series → SeriesInfo → Type 0
 IsFound name book info = (id_of name book ≡ Some info.id) × ((series : Series) → slice_get book info.id ≡ Some series → IsInfo series info.id info)
+
+-- the tree is that of the series of this id
+abbrev pub IsTreeAt : List StoredSeries → ℕ → Tree → Type 0
+IsTreeAt catalog id tree = (one : StoredSeries) → slice_get catalog id ≡ Some one → tree ≡ one.tree
+
+-- a page that is called damaged is one of so many, and is so where reads give what the pages are
+abbrev pub IsBadPage : Type 0 → ℕ → View → ℕ → Type 0
+IsBadPage told total view page = (page < total) × (told → IsBadForRequest view.size view.image page)
 
 -- asks keep the pages, the tree and the catalog
 pub record KeepsStore (old new : Ground) (before after : Catalog) : Type 0 where

@@ -5,15 +5,19 @@ use Rattle.gate_pages.specs.declared.pages.Pages.{Ghosts}
 use Rattle.gate_pages.specs.Pages.{GoesOn, Quiet}
 use Rattle.om3_coeff.specs.View.{NodesView}
 use Rattle.page_space.specs.declared.superblock.Superblock.{Superblock}
+use Rattle.page_space.specs.Shown as spaces
 use Rattle.series_book.specs.declared.edits.Edit.{Edit}
 use Rattle.series_book.specs.declared.one_series.Series.{Series}
 use Rattle.series_book.specs.declared.outcomes.Outcome.{Outcome}
 use Rattle.series_book.specs.declared.refusals.Refusal.{Refusal}
 use Rattle.series_book.specs.Edits.{Edited}
 use Rattle.series_catalog.specs.Shown.{series_in}
+use Rattle.series_catalog.specs.declared.catalog.Catalog.{Catalog}
 use Rattle.series_catalog.specs.declared.stored_series.StoredSeries.{StoredSeries}
 use Rattle.stored_book.specs.Standing.{StandsForBook}
 use Rattle.tree_walk.specs.PagedNodes.{Ground, ground, paged_view}
+use Rattle.tree_walk.specs.declared.tree.Tree.{Tree}
+use Rattle.series_store.specs.Asking.{IsTreeAt, KeepsStore}
 use Rattle.series_store.specs.Beside.{Kept, KeepsBeside, kept, beside_none, beside_then, beside_so}
 use Rattle.series_store.specs.Changing.{IsIdle, IsAnswered, IsCarriedOut}
 use Rattle.series_store.specs.Counting.{Looks}
@@ -24,7 +28,7 @@ use Rattle.series_store.specs.declared.store.Store.{Store}
 
 module _ {P : Type 0} {g : Ghosts P} where
   abbrev pub pages : Store P g → P
-  pages it = it.space.pages
+  pages it = spaces.pages it.space
 
   abbrev pub view : Store P g → View
   view it = g.view (pages it)
@@ -36,15 +40,25 @@ module _ {P : Type 0} {g : Ghosts P} where
   image it = (view it).image
 
   abbrev pub total : Store P g → ℕ
-  total it = it.space.superblock.total
+  total it = spaces.total it.space
 
   -- what page 0 tells
   abbrev pub numbers : Store P g → Superblock
-  numbers it = it.space.superblock
+  numbers it = spaces.numbers it.space
 
-  -- the series of its catalog
+  -- the catalog in memory, and the series in it
+  abbrev pub kept_catalog : Store P g → Catalog
+  kept_catalog it = it.catalog
+
   abbrev pub catalog : Store P g → List StoredSeries
   catalog it = series_in it.catalog
+
+  -- the same pages, with all that is kept of them, and the same catalog
+  abbrev pub SamePages : Store P g → Store P g → Type 0
+  SamePages old new = new.space ≡ old.space
+
+  abbrev pub SameCatalog : Store P g → Store P g → Type 0
+  SameCatalog old new = new.catalog ≡ old.catalog
 
   -- reads give what the pages are
   abbrev pub IsTold : Store P g → Type 0
@@ -58,6 +72,14 @@ module _ {P : Type 0} {g : Ghosts P} where
   abbrev pub SelectsNone : Store P g → Type 0
   SelectsNone it = IsIdle it.tree it.trail
 
+  -- the tree of the selected series
+  abbrev pub selected : Store P g → Tree
+  selected it = it.tree
+
+  -- the series of this id is selected, if there is one
+  abbrev pub Selects : Store P g → ℕ → Type 0
+  Selects it id = IsTreeAt (catalog it) id it.tree
+
   -- the same series is selected
   abbrev pub SelectsSame : Store P g → Store P g → Type 0
   SelectsSame old new = (new.tree ≡ old.tree) × (new.trail ≡ old.trail)
@@ -69,9 +91,13 @@ module _ {P : Type 0} {g : Ghosts P} where
   abbrev pub nodes : Store P g → NodesView
   nodes it = paged_view (stands_on it) it.trail
 
+  -- asks of these nodes keep the pages, the tree and the catalog
+  abbrev pub KeepsSelected : Store P g → Store P g → Type 0
+  KeepsSelected old new = KeepsStore (stands_on old) (stands_on new) old.catalog new.catalog
+
   -- what it has beside its pages
   abbrev pub beside : Store P g → Kept
-  beside it = kept it.space.superblock it.catalog it.tree it.trail
+  beside it = kept (numbers it) it.catalog it.tree it.trail
 
   -- the pages change so, and all else stays
   abbrev pub Keeps : Type 0 → Store P g → Store P g → Type 0

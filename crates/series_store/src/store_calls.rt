@@ -110,10 +110,10 @@ impl<P: Pages> Store<P> {
     /// Selects the series of this id: the store is then the nodes of its tree.
     pub fn select(&mut self, id: u16)
         requires { id < length (shown.catalog self.old) }
-        ensures space { self.new.space ≡ self.old.space }
-        ensures catalog { self.new.catalog ≡ self.old.catalog }
+        ensures space { shown.SamePages self.old self.new }
+        ensures catalog { shown.SameCatalog self.old self.new }
         ensures fit { shown.IsSound self.new → (shown.nodes self.new).fit }
-        ensures slots { (series : StoredSeries) → slice_get (shown.catalog self.old) id ≡ Some series → self.new.tree ≡ series.tree }
+        ensures slots { (series : StoredSeries) → slice_get (shown.catalog self.old) id ≡ Some series → shown.selected self.new ≡ series.tree }
         ensures agrees { shown.ForSoundSeries self.old id (λ total book series. Agrees (shown.nodes self.new) series.slots) }
     {
         self.trail.forget();

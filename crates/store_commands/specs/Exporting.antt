@@ -4,6 +4,7 @@ use Rattle.block_disk.specs.Counts.{HasRisen}
 use Rattle.block_disk.specs.View.{View}
 use Rattle.block_disk.specs.declared.disk.Disk.{Ghosts}
 use Rattle.gate_pages.specs.Pages.{GoesOn}
+use Rattle.gate_pages.specs.Shown as gate
 use Rattle.gate_pages.specs.declared.gate_pages.GatePages.{GatePages}
 use Rattle.series_book.specs.Pages.{series_pages}
 use Rattle.series_export.specs.declared.window.Window.{Window}
@@ -46,4 +47,4 @@ pub record ExportsStore (name : List ℕ) (window : Option Window) (count : ℕ)
 
 -- the same over the pages of an open store on a world, by what passed through the streams
 abbrev pub ExportsOn : {W : Type 0} {disk : Ghosts W} → List ℕ → Option Window → (W → View) → GatePages W disk → W → Traffic → Status → Type 0
-ExportsOn name window view pages new t end = ExportsStore name window pages.count (view pages.disk) (view new) t.sent t.sent_now t.sends t.sends_now end
+ExportsOn name window view pages new t end = ExportsStore name window (gate.count pages) (view (gate.disk pages)) (view new) t.sent t.sent_now t.sends t.sends_now end

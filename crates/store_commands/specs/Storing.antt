@@ -4,6 +4,7 @@ use Rattle.block_disk.specs.Counts.{HasRisen}
 use Rattle.block_disk.specs.View.{View, sent_now}
 use Rattle.block_disk.specs.declared.disk.Disk.{Ghosts}
 use Rattle.gate_pages.specs.Pages.{GoesOn}
+use Rattle.gate_pages.specs.Shown as gate
 use Rattle.gate_pages.specs.declared.gate_pages.GatePages.{GatePages}
 use Rattle.series_book.specs.Refusals.{number_of}
 use Rattle.stored_book.specs.Damage.{IsBadForEdit}
@@ -74,4 +75,4 @@ pub record Stores (name : List ℕ) (count : ℕ) (old new : View) (left left' b
 
 -- the same over the pages of an open store on a world, by what passed through the streams
 abbrev pub StoresOn : {W : Type 0} {disk : Ghosts W} → List ℕ → (W → View) → GatePages W disk → W → Traffic → Result ℕ LoadEnd → Type 0
-StoresOn name view pages new t answer = Stores name pages.count (view pages.disk) (view new) t.left t.left_now t.sent t.sent_now t.reads t.reads_now t.sends t.sends_now answer
+StoresOn name view pages new t answer = Stores name (gate.count pages) (view (gate.disk pages)) (view new) t.left t.left_now t.sent t.sent_now t.reads t.reads_now t.sends t.sends_now answer

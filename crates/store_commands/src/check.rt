@@ -1,7 +1,8 @@
 //! The command `check`: every page of the store is read, and what it holds is counted and sent.
-ghost use Rattle.std.specs.Prelude.{◌≡◌, IfOk, IsTrue};
+ghost use Rattle.std.specs.Prelude.{◌≡◌, IfOk};
 ghost use Rattle.block_disk.specs.View.{View};
 ghost use Rattle.chart_world.specs.Faults.{CountsFault};
+ghost use Rattle.gate_pages.specs.Shown.{AreSound, count, disk};
 ghost use Rattle.series_store.specs.Shown as shown;
 ghost use Rattle.store_commands.specs.Checked.{CheckEnds, counts_text};
 ghost use Rattle.store_commands.specs.Checking.{ChecksOn, check_status};
@@ -33,10 +34,10 @@ pub fn check_store<W: World>(alloc: Global, world: W) -> (Status, W)
 
 /// The same over a store that is open.
 fn check_opened<W: World>(alloc: Global, mut store: Store<GatePages<W>>) -> (Status, W)
-    requires { IsTrue (shown.pages store).sound }
-    ensures checks { let pages = shown.pages store in ChecksOn pages.count (W.view pages.disk) (W.view result.1) (traffic W.left W.sent W.read_faults W.send_faults pages.disk result.1) result.0 }
-    ensures untaken { W.left result.1 ≡ W.left (shown.pages store).disk }
-    ensures faults { CountsFault (code_fault result.0.code) (W.view (shown.pages store).disk) (W.view result.1) }
+    requires { AreSound (shown.pages store) }
+    ensures checks { let pages = shown.pages store in ChecksOn (count pages) (W.view (disk pages)) (W.view result.1) (traffic W.left W.sent W.read_faults W.send_faults (disk pages) result.1) result.0 }
+    ensures untaken { W.left result.1 ≡ W.left (disk (shown.pages store)) }
+    ensures faults { CountsFault (code_fault result.0.code) (W.view (disk (shown.pages store))) (W.view result.1) }
 {
     let counted = store.check();
     let world = disk_of(store);

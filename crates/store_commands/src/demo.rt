@@ -1,7 +1,8 @@
 //! The command `demo`: the workload that a number makes is answered, and the summary of its replies is sent.
-ghost use Rattle.std.specs.Prelude.{◌≡◌, ◌≢◌, ◌≤◌, [], IsTrue};
+ghost use Rattle.std.specs.Prelude.{◌≡◌, ◌≢◌, ◌≤◌, []};
 ghost use Rattle.block_disk.specs.View.{View};
 ghost use Rattle.chart_world.specs.Faults.{CountsFault, fault_in};
+ghost use Rattle.gate_pages.specs.Shown.{AreSound, count, disk};
 ghost use Rattle.gate_pages.specs.Journal.{page_count};
 ghost use Rattle.series_store.specs.Shown as shown;
 ghost use Rattle.chart_service.specs.Shown as service_shown;
@@ -57,10 +58,10 @@ fn answer_store<W: World>(
     rounds: u16,
     store: Store<GatePages<W>>,
 ) -> (Result<Summary, DemoEnd>, W)
-    requires sound { IsTrue (shown.pages store).sound }
+    requires sound { AreSound (shown.pages store) }
     requires rounds { rounds ≤ 4096 }
-    ensures answered { let pages = shown.pages store in Answered (workload seed rounds) pages.count (W.view pages.disk) (W.view result.1) result.0 }
-    ensures faults { CountsFault (fault_in demo_fault result.0) (W.view (shown.pages store).disk) (W.view result.1) }
+    ensures answered { let pages = shown.pages store in Answered (workload seed rounds) (count pages) (W.view (disk pages)) (W.view result.1) result.0 }
+    ensures faults { CountsFault (fault_in demo_fault result.0) (W.view (disk (shown.pages store))) (W.view result.1) }
 {
     match Service::new(alloc, store) {
         Ok(service) => answer_all(alloc, seed, rounds, service),
@@ -75,11 +76,11 @@ fn answer_all<W: World>(
     rounds: u16,
     mut service: Service<GatePages<W>>,
 ) -> (Result<Summary, DemoEnd>, W)
-    requires sound { IsTrue (service_shown.pages service).sound }
-    requires alone { service.sessions ≡ [] }
+    requires sound { AreSound (service_shown.pages service) }
+    requires alone { service_shown.sessions service ≡ [] }
     requires rounds { rounds ≤ 4096 }
-    ensures answered { let pages = service_shown.pages service in Answered (workload seed rounds) pages.count (W.view pages.disk) (W.view result.1) result.0 }
-    ensures faults { CountsFault (fault_in demo_fault result.0) (W.view (service_shown.pages service).disk) (W.view result.1) }
+    ensures answered { let pages = service_shown.pages service in Answered (workload seed rounds) (count pages) (W.view (disk pages)) (W.view result.1) result.0 }
+    ensures faults { CountsFault (fault_in demo_fault result.0) (W.view (disk (service_shown.pages service))) (W.view result.1) }
 {
     frames_have_one_answer();
     let answer = run_workload(alloc, &mut service, seed, u32::from(rounds));

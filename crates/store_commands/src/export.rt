@@ -1,7 +1,8 @@
 //! The command `export`: the stored values of a series are sent as lines that a load reads.
-ghost use Rattle.std.specs.Prelude.{◌≡◌, IsTrue};
+ghost use Rattle.std.specs.Prelude.{◌≡◌};
 ghost use Rattle.block_disk.specs.View.{View};
 ghost use Rattle.chart_world.specs.Faults.{CountsFault};
+ghost use Rattle.gate_pages.specs.Shown.{AreSound, disk};
 ghost use Rattle.series_store.specs.Shown as shown;
 ghost use Rattle.store_commands.specs.Away.{TurnsAway};
 ghost use Rattle.store_commands.specs.Status.{code_fault};
@@ -47,10 +48,10 @@ fn export_opened<W: World>(
     window: Option<Window>,
     mut store: Store<GatePages<W>>,
 ) -> (Status, W)
-    requires { IsTrue (shown.pages store).sound }
-    ensures exports { let pages = shown.pages store in ExportsOn name.now window W.view pages result.1 (traffic W.left W.sent W.read_faults W.send_faults pages.disk result.1) result.0 }
-    ensures untaken { W.left result.1 ≡ W.left (shown.pages store).disk }
-    ensures faults { CountsFault (code_fault result.0.code) (W.view (shown.pages store).disk) (W.view result.1) }
+    requires { AreSound (shown.pages store) }
+    ensures exports { let pages = shown.pages store in ExportsOn name.now window W.view pages result.1 (traffic W.left W.sent W.read_faults W.send_faults (disk pages) result.1) result.0 }
+    ensures untaken { W.left result.1 ≡ W.left (disk (shown.pages store)) }
+    ensures faults { CountsFault (code_fault result.0.code) (W.view (disk (shown.pages store))) (W.view result.1) }
 {
     let Some(info) = store.series(name) else {
         return (ended(REFUSED, UNKNOWN_SERIES), disk_of(store));

@@ -1,7 +1,8 @@
 //! The command `load`: the readings of the input are stored in a series, and their number is sent.
-ghost use Rattle.std.specs.Prelude.{◌≡◌, ◌≢◌, IfOk, IsTrue};
+ghost use Rattle.std.specs.Prelude.{◌≡◌, ◌≢◌, IfOk};
 ghost use Rattle.block_disk.specs.View.{View};
 ghost use Rattle.chart_world.specs.Faults.{CountsFault, fault_in};
+ghost use Rattle.gate_pages.specs.Shown.{AreSound, disk};
 ghost use Rattle.gate_pages.specs.Journal.{page_count};
 ghost use Rattle.series_load.specs.Faults.{load_fault};
 ghost use Rattle.series_store.specs.Shown as shown;
@@ -51,9 +52,9 @@ fn load_store<W: World>(
     name: &Name,
     mut store: Store<GatePages<W>>,
 ) -> (Result<u64, LoadEnd>, W)
-    requires { IsTrue (shown.pages store).sound }
-    ensures stores { let pages = shown.pages store in StoresOn name.now W.view pages result.1 (traffic W.left W.sent W.read_faults W.send_faults pages.disk result.1) result.0 }
-    ensures faults { CountsFault (fault_in load_fault result.0) (W.view (shown.pages store).disk) (W.view result.1) }
+    requires { AreSound (shown.pages store) }
+    ensures stores { let pages = shown.pages store in StoresOn name.now W.view pages result.1 (traffic W.left W.sent W.read_faults W.send_faults (disk pages) result.1) result.0 }
+    ensures faults { CountsFault (fault_in load_fault result.0) (W.view (disk (shown.pages store))) (W.view result.1) }
 {
     let answer = load(alloc, &mut store, name);
     (answer, disk_of(store))

@@ -1,15 +1,24 @@
-use Rattle.std.proofs.Common.{◌≡◌, Some, sym, ap, subst, ◌∙◌}
+use Rattle.std.proofs.Common.{◌≡◌, ℕ, ◌<◌, length, Some, sym, ap, subst, ◌∙◌, arith}
 use Rattle.std.specs.List.{slice_get}
 use Rattle.page_space.specs.Shown as spaces
 use Rattle.page_space.specs.declared.space.Space.{Space}
 use Rattle.series_catalog.specs.Shown.{series_in}
 use Rattle.series_catalog.specs.declared.catalog.Catalog.{Catalog}
-use Rattle.series_store.proofs.AskLemmas.{own_store, start_same}
-use Rattle.series_store.specs.Shown as shown
+use Rattle.series_catalog.specs.declared.stored_series.StoredSeries.{StoredSeries}
+use Rattle.series_store.proofs.AskLemmas.{start_same}
+use Rattle.series_store.specs.AskLaws.{bad_at, whole_at}
+use Rattle.series_store.specs.Asking.{IsTreeAt}
 use Rattle.stored_book.specs.Standing.{StandsForBook}
+use Rattle.tree_walk.specs.declared.tree.Tree.{Tree}
 use Rattle.chart_world.specs.Faults.{faults_of}
-use Rattle.retention.proofs.LookLemmas.{bad_in, there, whole_in}
 use Rattle.retention.proofs.asking.selected.Goals as goal
+
+-- a catalog that stays has the same series
+still_there : {old new : Catalog} {id : ℕ} → new ≡ old → id < length (series_in old) → id < length (series_in new)
+still_there same low = omega (arith, low, ap (λ (k : Catalog). length (series_in k)) same)
+
+selects : {old new : Catalog} {id : ℕ} {tree : Tree} → new ≡ old → ((one : StoredSeries) → slice_get (series_in old) id ≡ Some one → tree ≡ one.tree) → IsTreeAt (series_in new) id tree
+selects {old} {new} {id} same is = λ one at. is one (ap (λ (k : Catalog). slice_get (series_in k) id) (sym same) ∙ at)
 
 pub returns-clause-axis : goal.returns-clause-axis
 returns-clause-axis g c = λ total book series told stands at.
@@ -22,28 +31,18 @@ returns-clause-agrees g c = λ total book series told stands at. c.select.ensure
 
 pub returns-clause-bad : goal.returns-clause-bad
 returns-clause-bad g c = λ page is.
-    let old = c.args.store.now in
     let new = c.select.new.self in
-    let one = there (shown.catalog old) c.args.id c.requires.there in
     let S : Space _ _ → Type 0 = λ x. spaces.IsSound x in
-    let sound : shown.IsSound new = subst S (sym c.select.ensures.space) c.requires.sound in
-    let at : slice_get (shown.catalog new) c.args.id ≡ Some one.0 = ap (λ (k : Catalog). slice_get (series_in k) c.args.id) c.select.ensures.catalog ∙ one.1 in
-    bad_in (shown.IsTold new) (shown.view new) (shown.numbers new) (shown.catalog new) c.args.id one.0 new.tree page (λ t. record { spelled = new.space.spelled sound t; rules = new.space.rules }) new.count (new.told sound) at (c.select.ensures.slots one.0 one.1) is
+    bad_at new c.args.id page (subst S (sym c.select.ensures.space) c.requires.sound) (still_there c.select.ensures.catalog c.requires.there) (selects c.select.ensures.catalog c.select.ensures.slots) is
 
 pub returns-clause-whole : goal.returns-clause-whole
 returns-clause-whole g c = λ total book series told stands at page is.
-    let old = c.args.store.now in
     let new = c.select.new.self in
-    let one = there (shown.catalog old) c.args.id c.requires.there in
     let S : Space _ _ → Type 0 = λ x. spaces.IsSound x in
     let T : Space _ _ → Type 0 = λ x. spaces.IsTold x in
     let B : Space _ _ → Type 0 = λ x. StandsForBook (spaces.image x) total book in
-    let sound : shown.IsSound new = subst S (sym c.select.ensures.space) c.requires.sound in
-    let told' : shown.IsTold new = subst T (sym c.select.ensures.space) told in
-    let stands' : StandsForBook (shown.image new) total book = subst B (sym c.select.ensures.space) stands in
-    let at' : slice_get (shown.catalog new) c.args.id ≡ Some one.0 = ap (λ (k : Catalog). slice_get (series_in k) c.args.id) c.select.ensures.catalog ∙ one.1 in
-    let own = own_store (shown.view new).size total (shown.image new) book (shown.numbers new) new.space.rules new.small (new.space.spelled sound told') stands' in
-    whole_in (shown.image new) (shown.numbers new) book (shown.catalog new) c.args.id one.0 series new.tree page own.0 (new.told sound told') at' at (c.select.ensures.slots one.0 one.1) (is.1 told')
+    let same = sym c.select.ensures.space in
+    whole_at new c.args.id page (subst S same c.requires.sound) (still_there c.select.ensures.catalog c.requires.there) (selects c.select.ensures.catalog c.select.ensures.slots) is total book (subst T same told) (subst B same stands)
 
 pub returns-clause-faults : goal.returns-clause-faults
 returns-clause-faults g c = ap (λ (x : Space _ _). faults_of (spaces.view x)) c.select.ensures.space

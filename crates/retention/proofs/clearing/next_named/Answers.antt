@@ -1,4 +1,4 @@
-use Rattle.retention.proofs.LookLemmas.{there}
+use Rattle.series_store.proofs.AskLemmas.{there}
 use Rattle.retention.proofs.NextLemmas.{id_within, named_next, named_none}
 use Rattle.retention.proofs.clearing.next_named.Goals as goal
 

@@ -7,7 +7,8 @@ use Rattle.stored_book.specs.Standing.{StandsForBook}
 use Rattle.retention.specs.Sweeps.{found_at, oldest_among}
 use Rattle.chart_world.specs.FaultLaws.{counts_then}
 use Rattle.retention.specs.Faults.{sweep_fault}
-use Rattle.retention.proofs.LookLemmas.{looks_none, looks_then, there}
+use Rattle.series_store.proofs.AskLemmas.{there}
+use Rattle.retention.proofs.LookLemmas.{looks_none, looks_then}
 use Rattle.retention.proofs.NextLemmas.{kept_all, kept_more, kept_zero}
 use Rattle.retention.proofs.freeing.oldest.Goals as goal
 

@@ -1,0 +1,50 @@
+-- What the nodes of the selected series tell, by what the pages stand for.
+use Rattle.std.proofs.Common.{◌≡◌, ℕ, ◌<◌, List, length, Some, arith}
+use Rattle.std.specs.List.{slice_get}
+use Rattle.gate_pages.specs.declared.pages.Pages.{Ghosts}
+use Rattle.om3_coeff.specs.View.{Agrees, StaysSame}
+use Rattle.om3_coeff.specs.declared.errors.NodeError.TheVariants.{Damaged}
+use Rattle.series_book.specs.declared.one_series.Series.{Series}
+use Rattle.stored_book.specs.Standing.{IsStore, StandsForBook}
+use Rattle.tree_walk.specs.PagedNodes.{pages_stay}
+use Rattle.series_store.proofs.AskLemmas.{agrees, as_many, bad_in, own_store, there, whole_in}
+use Rattle.series_store.specs.Asking.{IsBadPage, store_keeps, store_keeps_on}
+use Rattle.series_store.specs.Shown as shown
+use Rattle.series_store.specs.declared.store.Store.{Store}
+
+module _ {P : Type 0} {g : Ghosts P} where
+  pub selected_keeps : (at : Store P g) → shown.KeepsSelected at at
+  selected_keeps at = store_keeps (shown.stands_on at) at.catalog
+
+  pub selected_keeps_on : (old mid new : Store P g) → shown.KeepsSelected old mid → shown.KeepsSelected mid new → shown.KeepsSelected old new
+  selected_keeps_on old mid new before after = store_keeps_on (shown.stands_on old) (shown.stands_on mid) (shown.stands_on new) old.catalog mid.catalog new.catalog before after
+
+  pub selected_stays : (old new : Store P g) → shown.KeepsSelected old new → StaysSame (shown.nodes old) (shown.nodes new)
+  selected_stays old new kept = pages_stay (shown.stands_on old) (shown.stands_on new) old.trail new.trail kept.pages
+
+  -- the pages stand for a book with the numbers that the store has
+  pub own : (at : Store P g) (total : ℕ) (book : List Series) → shown.IsSound at → shown.IsTold at → StandsForBook (shown.image at) total book → IsStore (shown.image at) (shown.numbers at) book
+  own at total book sound told stands = (own_store (shown.view at).size total (shown.image at) book (shown.numbers at) at.space.rules at.small (at.space.spelled sound told) stands).0
+
+  -- and have a series for each of its catalog
+  pub book_there : (at : Store P g) (total : ℕ) (book : List Series) (id : ℕ) → shown.IsSound at → shown.IsTold at → StandsForBook (shown.image at) total book → id < length (shown.catalog at) → (series : Series) × (slice_get book id ≡ Some series)
+  book_there at total book id sound told stands low = there book id (omega (arith, low, as_many (shown.image at) (shown.numbers at) book (shown.catalog at) (own at total book sound told stands) at.count))
+
+  pub agrees_at : (at : Store P g) (total : ℕ) (book : List Series) (id : ℕ) (series : Series) → shown.IsSound at → shown.IsTold at → StandsForBook (shown.image at) total book → id < length (shown.catalog at)
+      → shown.Selects at id → slice_get book id ≡ Some series → Agrees (shown.nodes at) series.slots
+  agrees_at at total book id series sound told stands low selected is =
+      let one = there (shown.catalog at) id low in
+      agrees (shown.IsTold at) (shown.view at) (shown.under at) (shown.numbers at) book (shown.catalog at) id one.0 series at.tree at.trail told (own at total book sound told stands) (at.told sound told) one.1 is (selected one.0 one.1)
+
+  -- a page of which they tell is damaged
+  pub bad_at : (at : Store P g) (id page : ℕ) → shown.IsSound at → id < length (shown.catalog at) → shown.Selects at id → (shown.nodes at).bad (Damaged page) → IsBadPage (shown.IsTold at) (shown.total at) (shown.view at) page
+  bad_at at id page sound low selected bad =
+      let one = there (shown.catalog at) id low in
+      bad_in (shown.IsTold at) (shown.view at) (shown.numbers at) (shown.catalog at) id one.0 at.tree page (λ t. record { spelled = at.space.spelled sound t; rules = at.space.rules }) at.count (at.told sound) one.1 (selected one.0 one.1) bad
+
+  -- and where the pages stand for a book there is none
+  pub whole_at : (at : Store P g) (id page : ℕ) → shown.IsSound at → id < length (shown.catalog at) → shown.Selects at id → (shown.nodes at).bad (Damaged page) → shown.ForBook at (λ total book. ⊥)
+  whole_at at id page sound low selected bad = λ total book told stands.
+      let one = there (shown.catalog at) id low in
+      let two = book_there at total book id sound told stands low in
+      whole_in (shown.image at) (shown.numbers at) book (shown.catalog at) id one.0 two.0 at.tree page (own at total book sound told stands) (at.told sound told) one.1 two.1 (selected one.0 one.1) (bad.1 told)
