@@ -51,7 +51,7 @@ pub fn live<W: World>(alloc: Global, world: W) -> (Status, W)
 /// The same over a store that is open: what that answers, and the disk.
 fn serve_store<W: World>(alloc: Global, store: Store<GatePages<W>>) -> (Result<(), ServeEnd>, W)
     requires { AreSound (stored.pages store) }
-    ensures serves { let pages = stored.pages store in ServedOn (count pages) (W.view (disk pages)) (W.view result.1) (traffic W.left W.sent W.read_faults W.send_faults (disk pages) result.1) result.0 }
+    ensures serves { let at = stored.pages store in ServedOn (count at) (W.view (disk at)) (W.view result.1) (traffic W.left W.sent W.read_faults W.send_faults (disk at) result.1) result.0 }
     ensures faults { CountsFault (fault_in serve_fault result.0) (W.view (disk (stored.pages store))) (W.view result.1) }
     ensures reads { let pages = stored.pages store in IfSome (W.left (disk pages)) (λ input. ReadsFrom (count pages) (W.view (disk pages)) (W.view result.1) input (W.view (disk pages)).reads) }
     ensures syncs { let pages = stored.pages store in IfSome (W.left (disk pages)) (λ input. SyncsLines input (W.view (disk pages)).syncs (W.view result.1).syncs) }
@@ -69,7 +69,7 @@ fn serve_service<W: World>(
 ) -> (Result<(), ServeEnd>, W)
     requires sound { AreSound (shown.pages service) }
     requires alone { shown.sessions service ≡ [] }
-    ensures serves { let pages = shown.pages service in ServedOn (count pages) (W.view (disk pages)) (W.view result.1) (traffic W.left W.sent W.read_faults W.send_faults (disk pages) result.1) result.0 }
+    ensures serves { let at = shown.pages service in ServedOn (count at) (W.view (disk at)) (W.view result.1) (traffic W.left W.sent W.read_faults W.send_faults (disk at) result.1) result.0 }
     ensures faults { CountsFault (fault_in serve_fault result.0) (W.view (disk (shown.pages service))) (W.view result.1) }
     ensures reads { let pages = shown.pages service in IfSome (W.left (disk pages)) (λ input. ReadsFrom (count pages) (W.view (disk pages)) (W.view result.1) input (W.view (disk pages)).reads) }
     ensures syncs { let pages = shown.pages service in IfSome (W.left (disk pages)) (λ input. SyncsLines input (W.view (disk pages)).syncs (W.view result.1).syncs) }

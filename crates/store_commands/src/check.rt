@@ -35,7 +35,7 @@ pub fn check_store<W: World>(alloc: Global, world: W) -> (Status, W)
 /// The same over a store that is open.
 fn check_opened<W: World>(alloc: Global, mut store: Store<GatePages<W>>) -> (Status, W)
     requires { AreSound (shown.pages store) }
-    ensures checks { let pages = shown.pages store in ChecksOn (count pages) (W.view (disk pages)) (W.view result.1) (traffic W.left W.sent W.read_faults W.send_faults (disk pages) result.1) result.0 }
+    ensures checks { let at = shown.pages store in ChecksOn (count at) (W.view (disk at)) (W.view result.1) (traffic W.left W.sent W.read_faults W.send_faults (disk at) result.1) result.0 }
     ensures untaken { W.left result.1 ≡ W.left (disk (shown.pages store)) }
     ensures faults { CountsFault (code_fault result.0.code) (W.view (disk (shown.pages store))) (W.view result.1) }
 {
