@@ -26,7 +26,7 @@ use Rattle.series_book.specs.declared.one_series.Series.{Series}
 use Rattle.series_store.specs.Shown as shown
 use Rattle.series_store.specs.declared.store.Store.{Store}
 use Rattle.stored_book.specs.Standing.{StandsForBook}
-use Rattle.series_store.specs.AskLaws.{book_there}
+use Rattle.series_store.proofs.SelectedLemmas.{book_there}
 use Rattle.series_pair.specs.AskLaws.{causes_later, pair_agrees, still_are_pair}
 use Rattle.series_pair.specs.Asking.{ArePair, Causes, GoesPair}
 use Rattle.series_pair.specs.Derived.{AreSamplesOf, AreShifted, AreUnlike, IsChartAnswer, IsChartCause, axis_of, sum_fault}

@@ -16,7 +16,7 @@ use Rattle.series_catalog.specs.Shown.{series_in}
 use Rattle.series_catalog.specs.declared.catalog.Catalog.{Catalog}
 use Rattle.series_catalog.specs.declared.stored_series.StoredSeries.{StoredSeries}
 use Rattle.series_store.proofs.AskLemmas.{there}
-use Rattle.series_store.specs.AskLaws.{agrees_at, bad_at, selected_keeps, selected_keeps_on, selected_stays, whole_at}
+use Rattle.series_store.proofs.SelectedLemmas.{agrees_at, bad_at, whole_at}
 use Rattle.series_store.specs.Asking.{IsBadPage, IsTreeAt}
 use Rattle.series_store.specs.Shown as shown
 use Rattle.series_store.specs.declared.store.Store.{Store}
@@ -39,19 +39,19 @@ slots_there catalog id tree low is =
 
 module _ {P : Type 0} {g : Ghosts P} where
   pub pair_keeps : (at : StorePair P g) → KeepsPair at at
-  pair_keeps at = record { side = refl; first = refl; second = refl; store = selected_keeps at.store; faults = omega arith }
+  pair_keeps at = record { side = refl; first = refl; second = refl; store = shown.selected_keeps at.store; faults = omega arith }
 
   pub pair_keeps_on : {old mid new : StorePair P g} → KeepsPair old mid → KeepsPair mid new → KeepsPair old new
   pair_keeps_on {old} {mid} {new} before after = record {
     side = after.side ∙ before.side;
     first = after.first ∙ before.first;
     second = after.second ∙ before.second;
-    store = selected_keeps_on old.store mid.store new.store before.store after.store;
+    store = shown.selected_keeps_on old.store mid.store new.store before.store after.store;
     faults = omega (arith, before.faults, after.faults);
   }
 
   pub pair_stays : {old new : StorePair P g} → KeepsPair old new → StaysSame (shown.nodes old.store) (shown.nodes new.store)
-  pair_stays {old} {new} kept = selected_stays old.store new.store kept.store
+  pair_stays {old} {new} kept = shown.selected_stays old.store new.store kept.store
 
   pub looks_nowhere : (at : Store P g) → LooksOnly at at
   looks_nowhere at = looks_none (shown.IsTold at) (shown.view at) (shown.under at) (shown.numbers at) (shown.kept_catalog at)

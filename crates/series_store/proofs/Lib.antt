@@ -19,6 +19,7 @@ pub mod ValueLemmas
 pub mod TreeCountLemmas
 pub mod ChainLemmas
 pub mod BookCountLemmas
+pub mod SelectedLemmas
 pub mod SendLemmas
 pub mod SeriesSendLemmas
 pub mod DoneLemmas

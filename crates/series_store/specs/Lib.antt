@@ -6,7 +6,6 @@ pub mod Changing
 pub mod Errors
 pub mod Beside
 pub mod Shown
-pub mod AskLaws
 pub mod Looking
 pub mod Creating
 pub mod Counting

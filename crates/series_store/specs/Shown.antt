@@ -3,7 +3,7 @@ use Rattle.std.specs.Prelude.{ℕ, ◌≡◌, List, Result, Some, slice_get}
 use Rattle.block_disk.specs.View.{Image, View, Passes}
 use Rattle.gate_pages.specs.declared.pages.Pages.{Ghosts}
 use Rattle.gate_pages.specs.Pages.{GoesOn, Quiet}
-use Rattle.om3_coeff.specs.View.{NodesView}
+use Rattle.om3_coeff.specs.View.{NodesView, StaysSame}
 use Rattle.page_space.specs.declared.superblock.Superblock.{Superblock}
 use Rattle.page_space.specs.Shown as spaces
 use Rattle.series_book.specs.declared.edits.Edit.{Edit}
@@ -15,9 +15,9 @@ use Rattle.series_catalog.specs.Shown.{series_in}
 use Rattle.series_catalog.specs.declared.catalog.Catalog.{Catalog}
 use Rattle.series_catalog.specs.declared.stored_series.StoredSeries.{StoredSeries}
 use Rattle.stored_book.specs.Standing.{StandsForBook}
-use Rattle.tree_walk.specs.PagedNodes.{Ground, ground, paged_view}
+use Rattle.tree_walk.specs.PagedNodes.{Ground, ground, pages_stay, paged_view}
 use Rattle.tree_walk.specs.declared.tree.Tree.{Tree}
-use Rattle.series_store.specs.Asking.{IsTreeAt, KeepsStore}
+use Rattle.series_store.specs.Asking.{IsTreeAt, KeepsStore, store_keeps, store_keeps_on}
 use Rattle.series_store.specs.Beside.{Kept, KeepsBeside, kept, beside_none, beside_then, beside_so}
 use Rattle.series_store.specs.Changing.{IsIdle, IsAnswered, IsCarriedOut}
 use Rattle.series_store.specs.Counting.{Looks}
@@ -158,3 +158,12 @@ module _ {P : Type 0} {g : Ghosts P} where
 
   pub keeps_so : {one two : Type 0} (old new : Store P g) → (one → two) → Keeps one old new → Keeps two old new
   keeps_so {one} {two} old new more keeps = beside_so one two (beside old) (beside new) more keeps
+
+  pub selected_keeps : (at : Store P g) → KeepsSelected at at
+  selected_keeps at = store_keeps (stands_on at) at.catalog
+
+  pub selected_keeps_on : (old mid new : Store P g) → KeepsSelected old mid → KeepsSelected mid new → KeepsSelected old new
+  selected_keeps_on old mid new before after = store_keeps_on (stands_on old) (stands_on mid) (stands_on new) old.catalog mid.catalog new.catalog before after
+
+  pub selected_stays : (old new : Store P g) → KeepsSelected old new → StaysSame (nodes old) (nodes new)
+  selected_stays old new kept = pages_stay (stands_on old) (stands_on new) old.trail new.trail kept.pages

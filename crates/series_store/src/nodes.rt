@@ -5,7 +5,6 @@ use om3_coeff::{Coef, Key, NodeError, Nodes, Span};
 use tree_walk::coef_at;
 
 impl<P: Pages> Nodes for Store<P> {
-    ghost use Rattle.series_store.specs.AskLaws.{selected_keeps, selected_keeps_on, selected_stays};
     ghost use Rattle.series_store.specs.Shown as shown;
 
     ghost view = { λ nodes. shown.nodes nodes };
@@ -24,9 +23,9 @@ impl<P: Pages> Nodes for Store<P> {
         coef_at(&mut self.space, &mut self.trail, self.tree, key, span)
     }
 
-    ghost keeps_itself = { λ nodes. selected_keeps nodes };
+    ghost keeps_itself = { λ nodes. shown.selected_keeps nodes };
 
-    ghost keeps_on = { λ old between new before after. selected_keeps_on old between new before after };
+    ghost keeps_on = { λ old between new before after. shown.selected_keeps_on old between new before after };
 
-    ghost keeps_same = { λ old new kept. selected_stays old new kept };
+    ghost keeps_same = { λ old new kept. shown.selected_stays old new kept };
 }

@@ -6,7 +6,7 @@ use Rattle.series_catalog.specs.Shown.{series_in}
 use Rattle.series_catalog.specs.declared.catalog.Catalog.{Catalog}
 use Rattle.series_catalog.specs.declared.stored_series.StoredSeries.{StoredSeries}
 use Rattle.series_store.proofs.AskLemmas.{start_same}
-use Rattle.series_store.specs.AskLaws.{bad_at, whole_at}
+use Rattle.series_store.proofs.SelectedLemmas.{bad_at, whole_at}
 use Rattle.series_store.specs.Asking.{IsTreeAt}
 use Rattle.stored_book.specs.Standing.{StandsForBook}
 use Rattle.tree_walk.specs.declared.tree.Tree.{Tree}

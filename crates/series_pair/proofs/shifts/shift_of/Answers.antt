@@ -1,6 +1,6 @@
 use Rattle.std.proofs.Common.{◌∙◌}
 use Rattle.series_pair.proofs.ChartLemmas.{axis_same, shift_so}
-use Rattle.series_store.specs.AskLaws.{book_there}
+use Rattle.series_store.proofs.SelectedLemmas.{book_there}
 use Rattle.series_pair.proofs.shifts.shift_of.Goals as goal
 
 pub returns-clause-shift : goal.returns-clause-shift

@@ -2,26 +2,16 @@
 use Rattle.std.proofs.Common.{◌≡◌, ℕ, ◌<◌, List, length, Some, arith}
 use Rattle.std.specs.List.{slice_get}
 use Rattle.gate_pages.specs.declared.pages.Pages.{Ghosts}
-use Rattle.om3_coeff.specs.View.{Agrees, StaysSame}
+use Rattle.om3_coeff.specs.View.{Agrees}
 use Rattle.om3_coeff.specs.declared.errors.NodeError.TheVariants.{Damaged}
 use Rattle.series_book.specs.declared.one_series.Series.{Series}
 use Rattle.stored_book.specs.Standing.{IsStore, StandsForBook}
-use Rattle.tree_walk.specs.PagedNodes.{pages_stay}
 use Rattle.series_store.proofs.AskLemmas.{agrees, as_many, bad_in, own_store, there, whole_in}
-use Rattle.series_store.specs.Asking.{IsBadPage, store_keeps, store_keeps_on}
+use Rattle.series_store.specs.Asking.{IsBadPage}
 use Rattle.series_store.specs.Shown as shown
 use Rattle.series_store.specs.declared.store.Store.{Store}
 
 module _ {P : Type 0} {g : Ghosts P} where
-  pub selected_keeps : (at : Store P g) → shown.KeepsSelected at at
-  selected_keeps at = store_keeps (shown.stands_on at) at.catalog
-
-  pub selected_keeps_on : (old mid new : Store P g) → shown.KeepsSelected old mid → shown.KeepsSelected mid new → shown.KeepsSelected old new
-  selected_keeps_on old mid new before after = store_keeps_on (shown.stands_on old) (shown.stands_on mid) (shown.stands_on new) old.catalog mid.catalog new.catalog before after
-
-  pub selected_stays : (old new : Store P g) → shown.KeepsSelected old new → StaysSame (shown.nodes old) (shown.nodes new)
-  selected_stays old new kept = pages_stay (shown.stands_on old) (shown.stands_on new) old.trail new.trail kept.pages
-
   -- the pages stand for a book with the numbers that the store has
   pub own : (at : Store P g) (total : ℕ) (book : List Series) → shown.IsSound at → shown.IsTold at → StandsForBook (shown.image at) total book → IsStore (shown.image at) (shown.numbers at) book
   own at total book sound told stands = (own_store (shown.view at).size total (shown.image at) book (shown.numbers at) at.space.rules at.small (at.space.spelled sound told) stands).0
