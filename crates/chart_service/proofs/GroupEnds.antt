@@ -1,5 +1,5 @@
 -- What edits in a store are for a service.
-use Rattle.std.proofs.Common.{◌≡◌, ◌+◌, ◌++◌, ◌∙◌, ℕ, List, Result, Ok, Err, length, map, ap, arith, length-append}
+use Rattle.std.proofs.Common.{◌≡◌, ◌+◌, ◌++◌, List, Result, Ok, Err, length, map, ap, arith, length-append}
 use Rattle.std.specs.Prelude.{OnOk}
 use Rattle.block_disk.specs.Counts.{HasRisen}
 use Rattle.block_disk.specs.View.{View}

@@ -11,6 +11,7 @@ pub mod Progress
 pub mod DiskKept
 pub mod Moments
 pub mod Ends
+pub mod Outcomes
 pub mod Faulting
 pub mod Sending
 pub mod Made

@@ -73,9 +73,6 @@ given_some {X} o x P Q given is = let M : Option X → Type 0 = λ y. MatchOptio
 pub given_none : {X : Type 0} (o : Option X) (P : Type 0) (Q : X → Type 0) → MatchOption o P Q → o ≡ None → P
 given_none {X} o P Q given is = let M : Option X → Type 0 = λ y. MatchOption y P Q in subst M is given
 
-pub ok_err : {T E : Type 0} (x : T) (e : E) → ◌≡◌ {A = Result T E} (Ok x) (Err e) → ⊥
-ok_err x e never = cc
-
 pub one_fewer : (before now : ℕ) (left behind : List Request) (request : Request) → left ≡ request ∷ behind → now ≡ before + 1 → before + length left ≤ 12290
     → now + length behind ≤ 12290
 one_fewer before now left behind request is one few =

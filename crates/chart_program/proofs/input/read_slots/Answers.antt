@@ -4,6 +4,7 @@ use Rattle.chart_world.specs.Reading.{Reading, unread}
 use Rattle.chart_world.specs.FrontLaws.{same_line}
 use Rattle.chart_world.specs.StandsLaws.{stands_first}
 use Rattle.plain_chart.specs.Samples.{IsSlot}
+use Rattle.chart_service.proofs.Outcomes.{ok_err}
 use Rattle.chart_program.specs.declared.input.InputEnd.{InputEnd}
 use Rattle.chart_program.specs.Reads.{Stops, end_of}
 use Rattle.chart_service.proofs.Ends.{error_is}
@@ -90,7 +91,7 @@ lines-preserved g c =
           told next.rest inv.counted next.given next.total (omega (arith, inv.few, c.lines.slots.ok)) done inv.progress;
       sent = next.sent ∙ inv.sent;
       send_faults = next.send_faults ∙ inv.send_faults;
-      read_faults = next.quiet (λ is. cc) ∙ inv.read_faults;
+      read_faults = next.quiet (ok_err _ _) ∙ inv.read_faults;
       beside = g.met.S.Streams.takes_then c.args.from.now c.lines.from c.next.new.from inv.beside next.beside;
     }
 
@@ -101,10 +102,10 @@ returns-in_err-next-clause-quiet_reads g c = λ other.
     c.in_err-next.ensures.quiet (λ read. is_of_take f c.from_residual-in_err-next.result is other (cc)) ∙ c.lines.invariant.read_faults
 
 pub returns-in_err-add_line-in-Line-clause-quiet_reads : goal.returns-in_err-add_line-in-Line-clause-quiet_reads
-returns-in_err-add_line-in-Line-clause-quiet_reads g c = λ other. c.in_ok-next.ensures.quiet (λ is. cc) ∙ c.lines.invariant.read_faults
+returns-in_err-add_line-in-Line-clause-quiet_reads g c = λ other. c.in_ok-next.ensures.quiet (ok_err _ _) ∙ c.lines.invariant.read_faults
 
 pub returns-in-End-clause-quiet_reads : goal.returns-in-End-clause-quiet_reads
-returns-in-End-clause-quiet_reads g c = λ other. c.in_ok-next.ensures.quiet (λ is. cc) ∙ c.lines.invariant.read_faults
+returns-in-End-clause-quiet_reads g c = λ other. c.in_ok-next.ensures.quiet (ok_err _ _) ∙ c.lines.invariant.read_faults
 
 pub returns-in-TooLong-clause-quiet_reads : goal.returns-in-TooLong-clause-quiet_reads
-returns-in-TooLong-clause-quiet_reads g c = λ other. c.in_ok-next.ensures.quiet (λ is. cc) ∙ c.lines.invariant.read_faults
+returns-in-TooLong-clause-quiet_reads g c = λ other. c.in_ok-next.ensures.quiet (ok_err _ _) ∙ c.lines.invariant.read_faults

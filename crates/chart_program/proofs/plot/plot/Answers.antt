@@ -6,6 +6,7 @@ use Rattle.chart_world.specs.FaultLaws.{counts_then, counts_kept, counts_unsent}
 use Rattle.chart_service.proofs.Sending.{error_goes}
 use Rattle.chart_service.proofs.Ends.{error_is, on_err}
 use Rattle.chart_service.proofs.Faulting.{of_err, of_ok}
+use Rattle.chart_service.proofs.Outcomes.{ok_err}
 use Rattle.chart_program.specs.declared.input.InputEnd.{InputEnd}
 use Rattle.chart_program.specs.declared.plot.PlotEnd.{PlotEnd}
 use Rattle.chart_program.specs.declared.plot.PlotEnd.TheVariants.{Input, SendFault}
@@ -136,7 +137,7 @@ returns-in_err-bytes-clause-faults g c =
     let mid = c.read_slots.new.from in
     let e = c.read_slots.ensures in
     let end = c.in_err-bytes.field-0.0 in
-    let kept = counts_kept view g.S.Streams.read_faults g.S.Streams.send_faults w.beside_read_faults w.beside_send_faults old mid (w.take_keeps old mid e.beside) (c.in_ok-slots.ensures.quiet_reads (λ is. cc)) e.send_faults in
+    let kept = counts_kept view g.S.Streams.read_faults g.S.Streams.send_faults w.beside_read_faults w.beside_send_faults old mid (w.take_keeps old mid e.beside) (c.in_ok-slots.ensures.quiet_reads (ok_err _ _)) e.send_faults in
     let I : InputEnd → Type 0 = λ x. CountsFault (plot_fault (Input x)) (view old) (view mid) in
     let P : Result (Unit {0}) PlotEnd → Type 0 = λ r. CountsFault (fault_in plot_fault r) (view old) (view mid) in
     subst P (sym (error_is c.from_residual-in_err-bytes.result (Input end) c.from_residual-in_err-bytes.ensures.1)) (subst I (sym c.in_err-bytes.ensures.memory) kept)
@@ -151,7 +152,7 @@ returns-then-is_err-clause-faults g c =
     let e = c.read_slots.ensures in
     let reads = g.S.Streams.read_faults in
     let sends = g.S.Streams.send_faults in
-    let kept = counts_kept view reads sends w.beside_read_faults w.beside_send_faults old mid (w.take_keeps old mid e.beside) (c.in_ok-slots.ensures.quiet_reads (λ is. cc)) e.send_faults in
+    let kept = counts_kept view reads sends w.beside_read_faults w.beside_send_faults old mid (w.take_keeps old mid e.beside) (c.in_ok-slots.ensures.quiet_reads (ok_err _ _)) e.send_faults in
     let failed : is_err c.send.result ≡ true = search rules in
     counts_then (Some OfSend) (view old) (view mid) (view new) kept
     (counts_unsent view reads sends w.beside_read_faults w.beside_send_faults mid new (w.send_keeps _ mid new c.send.ensures.beside) c.send.ensures.read_faults (of_err c.send.result (HasRisen (sends mid) (sends new)) failed c.send.ensures.cause))
@@ -166,7 +167,7 @@ returns-clause-faults g c =
     let e = c.read_slots.ensures in
     let reads = g.S.Streams.read_faults in
     let sends = g.S.Streams.send_faults in
-    let kept = counts_kept view reads sends w.beside_read_faults w.beside_send_faults old mid (w.take_keeps old mid e.beside) (c.in_ok-slots.ensures.quiet_reads (λ is. cc)) e.send_faults in
+    let kept = counts_kept view reads sends w.beside_read_faults w.beside_send_faults old mid (w.take_keeps old mid e.beside) (c.in_ok-slots.ensures.quiet_reads (ok_err _ _)) e.send_faults in
     let done : is_err c.send.result ≡ false = search rules in
     counts_then None (view old) (view mid) (view new) kept
     (counts_kept view reads sends w.beside_read_faults w.beside_send_faults mid new (w.send_keeps _ mid new c.send.ensures.beside) c.send.ensures.read_faults (of_ok c.send.result (sends new ≡ sends mid) done c.send.ensures.quiet))

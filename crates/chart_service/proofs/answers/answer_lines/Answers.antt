@@ -22,6 +22,7 @@ use Rattle.chart_service.specs.Stepping.{state_of}
 use Rattle.chart_service.specs.Syncing.{EndsGroup, edit_of}
 use Rattle.chart_service.specs.declared.failure.AnswerEnd.TheVariants.{Serve}
 use Rattle.chart_service.specs.declared.failure.ServeEnd.TheVariants.{NoMemory}
+use Rattle.chart_service.proofs.Outcomes.{ok_err}
 use Rattle.chart_service.proofs.DiskKept.{serves_none, serves_then, serves_kept as serves_disk, risen_since}
 use Rattle.chart_service.proofs.Ends.{differ, end_is, err_is, error_is, on_err, fault_read, fault_unsent, fault_disk, fault_bad, reply_bad}
 use Rattle.chart_service.proofs.Faulting.{count_stays, counts_lines, fault_goes}
@@ -166,7 +167,7 @@ returns-in-End g c =
     let takes = beside.store_is.pages_are in
     let kept = g.met.P.PageWorld.take_keeps mid taken takes in
     let told_in = g.P.Pages.told in
-    let quiet = counts_then None (view pages) (view mid) (view taken) inv.faults (counts_kept view g.P.Streams.read_faults g.P.Streams.send_faults g.met.P.PageWorld.beside_read_faults g.met.P.PageWorld.beside_send_faults mid taken kept (c.in_ok-next.ensures.quiet (λ is. cc)) c.next.ensures.send_faults) in
+    let quiet = counts_then None (view pages) (view mid) (view taken) inv.faults (counts_kept view g.P.Streams.read_faults g.P.Streams.send_faults g.met.P.PageWorld.beside_read_faults g.met.P.PageWorld.beside_send_faults mid taken kept (c.in_ok-next.ensures.quiet (ok_err _ _)) c.next.ensures.send_faults) in
     record {
       done = λ total book told stands.
           let far = far_kept g.R.Reply.makes c.args.kept.now o total book own before c.lines.kept c.lines.lines (g.P.Streams.left mid) (g.P.Streams.sent mid) (g.P.Streams.sent taken) (view mid).image (view taken).image c.lines.service.sessions c.next.new.from.sessions kept.image beside.sessions c.next.ensures.sent (inv.far total book told stands) in
@@ -216,7 +217,7 @@ lines-preserved-in-Continue-branch-4 g c =
     } in
     let passed = one_passed c.lines.lines c.next.new.self (g.P.Streams.left mid) (g.P.Streams.left taken) None gives next.within in
     let few = few_lines None in
-    let quiet = counts_then None (view pages) (view mid) (view taken) inv.faults (counts_kept view g.P.Streams.read_faults g.P.Streams.send_faults g.met.P.PageWorld.beside_read_faults g.met.P.PageWorld.beside_send_faults mid taken kept (next.quiet (λ is. cc)) c.next.ensures.send_faults) in
+    let quiet = counts_then None (view pages) (view mid) (view taken) inv.faults (counts_kept view g.P.Streams.read_faults g.P.Streams.send_faults g.met.P.PageWorld.beside_read_faults g.met.P.PageWorld.beside_send_faults mid taken kept (next.quiet (ok_err _ _)) c.next.ensures.send_faults) in
     record {
       usable = next.usable;
       counted = next.given;
@@ -276,7 +277,7 @@ returns-in_err-answer_long_line-in-TooLong g c =
     let told_in = g.P.Pages.told in
     let sends = g.P.Streams.send_faults in
     let it = c.answer_long_line.new.service in
-    let quiet = counts_then None (view pages) (view mid) (view taken) inv.faults (counts_kept view g.P.Streams.read_faults g.P.Streams.send_faults g.met.P.PageWorld.beside_read_faults g.met.P.PageWorld.beside_send_faults mid taken kept (next.quiet (λ is. cc)) c.next.ensures.send_faults) in
+    let quiet = counts_then None (view pages) (view mid) (view taken) inv.faults (counts_kept view g.P.Streams.read_faults g.P.Streams.send_faults g.met.P.PageWorld.beside_read_faults g.met.P.PageWorld.beside_send_faults mid taken kept (next.quiet (ok_err _ _)) c.next.ensures.send_faults) in
     record {
       done = λ total book told stands. on_err c.from_residual-in_err-answer_long_line-in-TooLong.result _ _ c.from_residual-in_err-answer_long_line-in-TooLong.ensures.1;
       within = on_err c.from_residual-in_err-answer_long_line-in-TooLong.result _ _ c.from_residual-in_err-answer_long_line-in-TooLong.ensures.1;
@@ -349,14 +350,14 @@ lines-preserved g c =
     let few = few_lines (Some text) in
     let none : edit_of (Some text) ≡ [] = ap (λ t. edit_of (Some t)) (c.line.ensures.line ∙ ap (λ (x : Reading). x.line) same) ∙ subst (λ (x : Option (Vec Edit Global)). IfNone x (edit_of (Some m.line) ≡ [])) c.in-None.is c.in_ok-edits-in-Line.ensures.other in
     let idle = made.idle none in
-    let quiet = counts_then None (view pages) (view mid) (view taken) inv.faults (counts_kept view g.P.Streams.read_faults g.P.Streams.send_faults g.met.P.PageWorld.beside_read_faults g.met.P.PageWorld.beside_send_faults mid taken kept (next.quiet (λ is. cc)) c.next.ensures.send_faults) in
+    let quiet = counts_then None (view pages) (view mid) (view taken) inv.faults (counts_kept view g.P.Streams.read_faults g.P.Streams.send_faults g.met.P.PageWorld.beside_read_faults g.met.P.PageWorld.beside_send_faults mid taken kept (next.quiet (ok_err _ _)) c.next.ensures.send_faults) in
     record {
       usable = c.in_ok-edits-in-Line.ensures.usable;
       counted = c.in_ok-edits-in-Line.ensures.counted;
       within = c.in_ok-edits-in-Line.ensures.within;
       whole = ap (λ l. input_length r.taken l) made.left ∙ ap (λ (x : Reading). input_length x.taken (g.P.Streams.left taken)) same ∙ next.total ∙ inv.whole;
       stands_in = stands_beside o (g.P.Streams.left taken) (g.P.Streams.left new) r made.left (c.in_ok-edits-in-Line.ensures.stands o (g.P.Streams.left taken) (next.stands o inv.stands_in));
-      fit = c.in_ok-answer_line-in-None.ensures.sound (λ e. cc);
+      fit = c.in_ok-answer_line-in-None.ensures.sound (ok_err _ _);
       far = λ total book told stands.
           let far = far_kept g.R.Reply.makes c.args.kept.now o total book own before c.lines.kept c.lines.lines (g.P.Streams.left mid) (g.P.Streams.sent mid) (g.P.Streams.sent taken) (view mid).image (view taken).image c.lines.service.sessions c.next.new.from.sessions kept.image beside.sessions c.next.ensures.sent (inv.far total book told stands) in
           let told' = g.met.P.PageWorld.take_told mid taken takes (inv.serves.told told) in
@@ -416,7 +417,7 @@ returns-in_err-answer_line-in-None g c =
     let told_in = g.P.Pages.told in
     let sends = g.P.Streams.send_faults in
     let it = c.answer_line.new.service in
-    let quiet = counts_then None (view pages) (view mid) (view taken) inv.faults (counts_kept view g.P.Streams.read_faults g.P.Streams.send_faults g.met.P.PageWorld.beside_read_faults g.met.P.PageWorld.beside_send_faults mid taken kept (next.quiet (λ is. cc)) c.next.ensures.send_faults) in
+    let quiet = counts_then None (view pages) (view mid) (view taken) inv.faults (counts_kept view g.P.Streams.read_faults g.P.Streams.send_faults g.met.P.PageWorld.beside_read_faults g.met.P.PageWorld.beside_send_faults mid taken kept (next.quiet (ok_err _ _)) c.next.ensures.send_faults) in
     record {
       done = λ total book told stands. on_err c.from_residual-in_err-answer_line-in-None.result _ _ c.from_residual-in_err-answer_line-in-None.ensures.1;
       within = on_err c.from_residual-in_err-answer_line-in-None.result _ _ c.from_residual-in_err-answer_line-in-None.ensures.1;
@@ -492,14 +493,14 @@ lines-preserved-in-Some g c =
     let spells = both.1 in
     let few : length all ≤ most_ahead = omega (arith, most, spelled_length all edits spells) in
     let ends = subst (λ (e : List Edit). EndsGroup r e) (sym c.as_slice.ensures.value) (subst (λ (x : Option (Vec Edit Global)). IfSome x (λ edits. EndsGroup r edits.items)) c.in-Some.is c.in_ok-edits-in-Line.ensures.ends) in
-    let quiet = counts_then None (view pages) (view mid) (view taken) inv.faults (counts_kept view g.P.Streams.read_faults g.P.Streams.send_faults g.met.P.PageWorld.beside_read_faults g.met.P.PageWorld.beside_send_faults mid taken kept (next.quiet (λ is. cc)) c.next.ensures.send_faults) in
+    let quiet = counts_then None (view pages) (view mid) (view taken) inv.faults (counts_kept view g.P.Streams.read_faults g.P.Streams.send_faults g.met.P.PageWorld.beside_read_faults g.met.P.PageWorld.beside_send_faults mid taken kept (next.quiet (ok_err _ _)) c.next.ensures.send_faults) in
     record {
       usable = c.in_ok-edits-in-Line.ensures.usable;
       counted = c.in_ok-edits-in-Line.ensures.counted;
       within = c.in_ok-edits-in-Line.ensures.within;
       whole = ap (λ l. input_length r.taken l) made.left ∙ ap (λ n. input_length n (g.P.Streams.left taken)) group.group.gathers.taken ∙ next.total ∙ inv.whole;
       stands_in = stands_beside o (g.P.Streams.left taken) (g.P.Streams.left new) r made.left (c.in_ok-edits-in-Line.ensures.stands o (g.P.Streams.left taken) (next.stands o inv.stands_in));
-      fit = c.in_ok-answer_edits-in-Some.ensures.sound (λ e. cc);
+      fit = c.in_ok-answer_edits-in-Some.ensures.sound (ok_err _ _);
       far = λ total book told stands.
           let far = far_kept g.R.Reply.makes c.args.kept.now o total book own before c.lines.kept c.lines.lines (g.P.Streams.left mid) (g.P.Streams.sent mid) (g.P.Streams.sent taken) (view mid).image (view taken).image c.lines.service.sessions c.next.new.from.sessions kept.image beside.sessions c.next.ensures.sent (inv.far total book told stands) in
           let told' = g.met.P.PageWorld.take_told mid taken takes (inv.serves.told told) in
@@ -562,7 +563,7 @@ returns-in_err-answer_edits-in-Some g c =
     let told_in = g.P.Pages.told in
     let sends = g.P.Streams.send_faults in
     let it = c.answer_edits.new.service in
-    let quiet = counts_then None (view pages) (view mid) (view taken) inv.faults (counts_kept view g.P.Streams.read_faults g.P.Streams.send_faults g.met.P.PageWorld.beside_read_faults g.met.P.PageWorld.beside_send_faults mid taken kept (next.quiet (λ is. cc)) c.next.ensures.send_faults) in
+    let quiet = counts_then None (view pages) (view mid) (view taken) inv.faults (counts_kept view g.P.Streams.read_faults g.P.Streams.send_faults g.met.P.PageWorld.beside_read_faults g.met.P.PageWorld.beside_send_faults mid taken kept (next.quiet (ok_err _ _)) c.next.ensures.send_faults) in
     record {
       done = λ total book told stands. on_err c.from_residual-in_err-answer_edits-in-Some.result _ _ c.from_residual-in_err-answer_edits-in-Some.ensures.1;
       within = on_err c.from_residual-in_err-answer_edits-in-Some.result _ _ c.from_residual-in_err-answer_edits-in-Some.ensures.1;
@@ -621,7 +622,7 @@ returns-in_err-edits-in-Line g c =
     let told_in = g.P.Pages.told in
     let residual = c.from_residual-in_err-edits-in-Line.ensures.1 in
     let result = c.from_residual-in_err-edits-in-Line.result in
-    let quiet = counts_then None (view pages) (view mid) (view taken) inv.faults (counts_kept view g.P.Streams.read_faults g.P.Streams.send_faults g.met.P.PageWorld.beside_read_faults g.met.P.PageWorld.beside_send_faults mid taken kept (c.in_ok-next.ensures.quiet (λ is. cc)) c.next.ensures.send_faults) in
+    let quiet = counts_then None (view pages) (view mid) (view taken) inv.faults (counts_kept view g.P.Streams.read_faults g.P.Streams.send_faults g.met.P.PageWorld.beside_read_faults g.met.P.PageWorld.beside_send_faults mid taken kept (c.in_ok-next.ensures.quiet (ok_err _ _)) c.next.ensures.send_faults) in
     record {
       done = λ total book told stands. on_err result _ _ residual;
       within = on_err result _ _ residual;

@@ -12,7 +12,8 @@ use Rattle.demo_workload.specs.Replying.{IsPartWay}
 use Rattle.demo_workload.proofs.Rounds.{few_requests}
 use Rattle.demo_workload.proofs.Replies.{starts, nothing_done, next_reaches, reaches_more, reached_part, reached_all, next_part, accepted_none, accepted_more}
 use Rattle.demo_workload.proofs.Knowing.{knows_none}
-use Rattle.demo_workload.proofs.Moved.{runs_none, runs_on, moments_more, cause_on, given_some, given_none, ok_err, one_fewer}
+use Rattle.chart_service.proofs.Outcomes.{ok_err}
+use Rattle.demo_workload.proofs.Moved.{runs_none, runs_on, moments_more, cause_on, given_some, given_none, one_fewer}
 use Rattle.demo_workload.proofs.running.run_workload.Goals as goal
 
 pub returns-in_default-clause-left : goal.returns-in_default-clause-left

@@ -8,6 +8,7 @@ use Rattle.chart_world.specs.StandsLaws.{stands_beside, stands_first}
 use Rattle.chart_world.specs.Reading.{Reading, input_length, unread}
 use Rattle.page_space.specs.declared.superblock.Superblock.{Superblock}
 use Rattle.series_store.specs.Shown as shown
+use Rattle.chart_service.proofs.Outcomes.{ok_err}
 use Rattle.derive_command.proofs.DoingLemmas.{cause_later, goes_further, goes_nowhere, goes_takes, line_fault_cause}
 use Rattle.derive_command.proofs.FaultLemmas.{line_failed}
 use Rattle.derive_command.proofs.EndLemmas.{Far, all_on, far_first, far_kept, far_line, fault_on, line_stops, long_on}
@@ -161,7 +162,7 @@ returns-in-Err-answer-clause-cause g c =
     let D : _ → Type 0 = λ r. Rattle.std.specs.Prelude.IfErr {E = DeriveEnd} r (λ e. Rattle.derive_command.specs.Doing.IsCause e (side c.next.new.from) (side c.answer_line-answer.result.1)) in
     let first = shown.pages c.args.store in
     let view = g.P.Pages.view in
-    let quiet = counts_then None (view first) (view mid) (view taken) c.lines.invariant.faults (counts_kept view g.P.Streams.read_faults g.P.Streams.send_faults w.beside_read_faults w.beside_send_faults mid taken (w.take_keeps mid taken takes) (c.in-Ok.ensures.quiet (λ same. cc)) c.next.ensures.send_faults) in
+    let quiet = counts_then None (view first) (view mid) (view taken) c.lines.invariant.faults (counts_kept view g.P.Streams.read_faults g.P.Streams.send_faults w.beside_read_faults w.beside_send_faults mid taken (w.take_keeps mid taken takes) (c.in-Ok.ensures.quiet (ok_err _ _)) c.next.ensures.send_faults) in
     cause_later (side c.args.store) (side c.next.new.from) (side c.answer_line-answer.result.1) (record { reads_are = w.beside_read_faults first; sends_are = w.beside_send_faults first })
     (record { reads_are = w.beside_read_faults taken; sends_are = w.beside_send_faults taken }) quiet c.in-Err-answer.end goes (subst D c.in-Err-answer.is c.answer_line-answer.ensures.cause)
 
@@ -211,7 +212,7 @@ lines-preserved g c =
           let reads = g.P.Streams.read_faults in
           let sends = g.P.Streams.send_faults in
           let D : _ → Type 0 = λ r. CountsFault (fault_in {T = Unit {0}} derive_fault r) (view taken) (view new) in
-          let none = counts_then None (view first) (view mid) (view taken) inv.faults (counts_kept view reads sends w.beside_read_faults w.beside_send_faults mid taken kept (c.in-Ok.ensures.quiet (λ same. cc)) c.next.ensures.send_faults) in
+          let none = counts_then None (view first) (view mid) (view taken) inv.faults (counts_kept view reads sends w.beside_read_faults w.beside_send_faults mid taken kept (c.in-Ok.ensures.quiet (ok_err _ _)) c.next.ensures.send_faults) in
           counts_then None (view first) (view taken) (view new) none (subst D c.in_default.is made.faults);
       goes = goes_further (side c.args.store) (side c.next.new.from) (side c.answer_line-answer.result.1) goes made.goes;
       far = λ total book told stands.
@@ -247,7 +248,7 @@ returns-in-End-clause-faults g c =
     let reads = g.P.Streams.read_faults in
     let sends = g.P.Streams.send_faults in
     counts_then None (view (shown.pages c.args.store)) (view mid) (view taken) c.lines.invariant.faults
-    (counts_kept view reads sends w.beside_read_faults w.beside_send_faults mid taken kept (c.in-Ok.ensures.quiet (λ same. cc)) c.next.ensures.send_faults)
+    (counts_kept view reads sends w.beside_read_faults w.beside_send_faults mid taken kept (c.in-Ok.ensures.quiet (ok_err _ _)) c.next.ensures.send_faults)
 
 pub returns-in-TooLong-clause-faults : goal.returns-in-TooLong-clause-faults
 returns-in-TooLong-clause-faults g c =
@@ -259,7 +260,7 @@ returns-in-TooLong-clause-faults g c =
     let reads = g.P.Streams.read_faults in
     let sends = g.P.Streams.send_faults in
     counts_then None (view (shown.pages c.args.store)) (view mid) (view taken) c.lines.invariant.faults
-    (counts_kept view reads sends w.beside_read_faults w.beside_send_faults mid taken kept (c.in-Ok.ensures.quiet (λ same. cc)) c.next.ensures.send_faults)
+    (counts_kept view reads sends w.beside_read_faults w.beside_send_faults mid taken kept (c.in-Ok.ensures.quiet (ok_err _ _)) c.next.ensures.send_faults)
 
 pub returns-in-Err-answer-clause-faults : goal.returns-in-Err-answer-clause-faults
 returns-in-Err-answer-clause-faults g c =
@@ -273,5 +274,5 @@ returns-in-Err-answer-clause-faults g c =
     let first = shown.pages c.args.store in
     let new = shown.pages c.answer_line-answer.result.1 in
     let D : _ → Type 0 = λ r. CountsFault (fault_in {T = Unit {0}} derive_fault r) (view taken) (view new) in
-    let none = counts_then None (view first) (view mid) (view taken) c.lines.invariant.faults (counts_kept view reads sends w.beside_read_faults w.beside_send_faults mid taken kept (c.in-Ok.ensures.quiet (λ same. cc)) c.next.ensures.send_faults) in
+    let none = counts_then None (view first) (view mid) (view taken) c.lines.invariant.faults (counts_kept view reads sends w.beside_read_faults w.beside_send_faults mid taken kept (c.in-Ok.ensures.quiet (ok_err _ _)) c.next.ensures.send_faults) in
     counts_then (derive_fault c.in-Err-answer.end) (view first) (view taken) (view new) none (subst D c.in-Err-answer.is c.answer_line-answer.ensures.faults)

@@ -6,7 +6,6 @@ use Rattle.om3_coeff.specs.View.{StaysSame}
 use Rattle.om3_coeff.proofs.CauseLemmas.{passed_on}
 use Rattle.om3_coeff.proofs.WalkLemmas.{still_agrees}
 use Rattle.filter_scan.specs.Ends.{IsWholeRow}
-use Rattle.filter_scan.specs.Table.{IsColumnRow}
 use Rattle.filter_scan.proofs.EndLaws.{ask_again, both_below, cast_row, cause_before}
 use Rattle.filter_scan.proofs.FillLaws.{extremes_of}
 use Rattle.std.proofs.Common.{refl}

@@ -1,4 +1,5 @@
 use Rattle.std.proofs.Common.{rules, arith, [], refl}
+use Rattle.chart_service.proofs.Outcomes.{ok_err}
 use Rattle.live_command.specs.Doing.{held_by, held_with}
 use Rattle.live_command.specs.Shown.{pages}
 use Rattle.live_command.proofs.LineLemmas.{still_does, then_does}
@@ -14,7 +15,7 @@ returns-then-is_idle-clause-does g t c = λ total book told stands sound.
     still_does _ total book held held (g.P.Pages.view at) (g.P.Pages.view at) (g.P.Streams.sent at) (g.P.Streams.sent at) refl refl refl stands sound
 
 pub send_pushes-requires : goal.send_pushes-requires
-send_pushes-requires g t c κs within = (omega (arith, c.in-Ok.ensures.fewer), (search rules, c.in-Ok.ensures.sound (λ no. cc)))
+send_pushes-requires g t c κs within = (omega (arith, c.in-Ok.ensures.fewer), (search rules, c.in-Ok.ensures.sound (ok_err _ _)))
 
 pub returns-in-Ok-clause-does : goal.returns-in-Ok-clause-does
 returns-in-Ok-clause-does g t c = λ total book told stands sound.

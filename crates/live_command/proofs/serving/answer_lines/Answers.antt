@@ -4,6 +4,7 @@ use Rattle.chart_world.specs.Fronts.{Gives}
 use Rattle.chart_world.specs.StandsLaws.{stands_beside, stands_first}
 use Rattle.chart_world.specs.Reading.{Reading, input_length, unread}
 use Rattle.live_service.specs.Shown as its
+use Rattle.chart_service.proofs.Outcomes.{ok_err}
 use Rattle.live_command.proofs.GoesLemmas.{cause_later, goes_further, goes_nowhere, goes_streams, held_same}
 use Rattle.live_command.proofs.ReadLemmas.{FarRead, far_read_first, far_read_kept, far_read_line, reads_far, reads_stopped}
 use Rattle.chart_service.specs.Serving.{end_of, unless_empty}
@@ -144,11 +145,11 @@ lines-preserved-in-Ok-refuse_line g c =
       within = e.within;
       whole = subst U (sym it.left) (e.total ∙ inv.whole);
       stands_in = stands_beside (left first) (left taken) (left new) c.next.new.self it.left (e.stands (left first) inv.stands_in);
-      sound = it.sound (λ no. cc);
+      sound = it.sound (ok_err _ _);
       idle = it.idle;
       goes = goes_further (side start) (side c.next.new.from) (side c.refuse_line.new.live) goes it.goes;
       faults = counts_then None (view first) (view taken) (view new)
-          (counts_then None (view first) (view mid) (view taken) inv.faults (counts_kept view g.P.Streams.read_faults g.P.Streams.send_faults w.beside_read_faults w.beside_send_faults mid taken kept (e.quiet (λ is. cc)) c.next.ensures.send_faults)) it.faults;
+          (counts_then None (view first) (view mid) (view taken) inv.faults (counts_kept view g.P.Streams.read_faults g.P.Streams.send_faults w.beside_read_faults w.beside_send_faults mid taken kept (e.quiet (ok_err _ _)) c.next.ensures.send_faults)) it.faults;
       far = λ total book told stands.
           let state = its.state start total book in
           let far = far_kept (left first) (unread c.lines.lines (left mid)) c.lines.lines.given total state (view mid).image (view taken).image (held_by c.lines.live) (held_by c.next.new.from) (sent first) (sent mid) (sent taken) kept.image same c.next.ensures.sent (inv.far total book told stands) in
@@ -257,7 +258,7 @@ returns-in-Err-refuse_line-clause-cause g c =
     let w = g.met.P.PageWorld in
     let side = side_of g.P.Streams in
     let kept = w.take_keeps mid taken c.next.ensures.beside.changed.store_is.pages_are in
-    let next = counts_kept view g.P.Streams.read_faults g.P.Streams.send_faults w.beside_read_faults w.beside_send_faults mid taken kept (c.in-Ok.ensures.quiet (λ is. cc)) c.next.ensures.send_faults in
+    let next = counts_kept view g.P.Streams.read_faults g.P.Streams.send_faults w.beside_read_faults w.beside_send_faults mid taken kept (c.in-Ok.ensures.quiet (ok_err _ _)) c.next.ensures.send_faults in
     cause_later (side c.args.live.now) (side c.next.new.from) (side c.refuse_line.new.live) c.in-Err-refuse_line.end (record { reads_are = w.beside_read_faults first; sends_are = w.beside_send_faults first }) (record { reads_are = w.beside_read_faults taken; sends_are = w.beside_send_faults taken })
     (counts_then None (view first) (view mid) (view taken) c.lines.invariant.faults next) c.in-Err-refuse_line.ensures.cause
 
@@ -292,11 +293,11 @@ lines-preserved g c =
       within = e.within;
       whole = subst U (sym it.left) (e.total ∙ inv.whole);
       stands_in = stands_beside (left first) (left taken) (left new) c.next.new.self it.left (e.stands (left first) inv.stands_in);
-      sound = it.sound (λ no. cc);
+      sound = it.sound (ok_err _ _);
       idle = it.idle;
       goes = goes_further (side start) (side c.next.new.from) (side c.answer_line.new.live) goes it.goes;
       faults = counts_then None (view first) (view taken) (view new)
-          (counts_then None (view first) (view mid) (view taken) inv.faults (counts_kept view g.P.Streams.read_faults g.P.Streams.send_faults w.beside_read_faults w.beside_send_faults mid taken kept (e.quiet (λ is. cc)) c.next.ensures.send_faults)) it.faults;
+          (counts_then None (view first) (view mid) (view taken) inv.faults (counts_kept view g.P.Streams.read_faults g.P.Streams.send_faults w.beside_read_faults w.beside_send_faults mid taken kept (e.quiet (ok_err _ _)) c.next.ensures.send_faults)) it.faults;
       far = λ total book told stands.
           let state = its.state start total book in
           let far = far_kept (left first) (unread c.lines.lines (left mid)) c.lines.lines.given total state (view mid).image (view taken).image (held_by c.lines.live) (held_by c.next.new.from) (sent first) (sent mid) (sent taken) kept.image same c.next.ensures.sent (inv.far total book told stands) in
@@ -408,7 +409,7 @@ returns-in-Err-answer_line-clause-cause g c =
     let w = g.met.P.PageWorld in
     let side = side_of g.P.Streams in
     let kept = w.take_keeps mid taken c.next.ensures.beside.changed.store_is.pages_are in
-    let next = counts_kept view g.P.Streams.read_faults g.P.Streams.send_faults w.beside_read_faults w.beside_send_faults mid taken kept (c.in-Ok.ensures.quiet (λ is. cc)) c.next.ensures.send_faults in
+    let next = counts_kept view g.P.Streams.read_faults g.P.Streams.send_faults w.beside_read_faults w.beside_send_faults mid taken kept (c.in-Ok.ensures.quiet (ok_err _ _)) c.next.ensures.send_faults in
     cause_later (side c.args.live.now) (side c.next.new.from) (side c.answer_line.new.live) c.in-Err-answer_line.end (record { reads_are = w.beside_read_faults first; sends_are = w.beside_send_faults first }) (record { reads_are = w.beside_read_faults taken; sends_are = w.beside_send_faults taken })
     (counts_then None (view first) (view mid) (view taken) c.lines.invariant.faults next) c.in-Err-answer_line.ensures.cause
 
@@ -581,7 +582,7 @@ returns-in-End-clause-faults g c =
     let w = g.met.P.PageWorld in
     let inv = c.lines.invariant in
     let kept = w.take_keeps mid taken c.next.ensures.beside.changed.store_is.pages_are in
-    let next = counts_kept view g.P.Streams.read_faults g.P.Streams.send_faults w.beside_read_faults w.beside_send_faults mid taken kept (c.in-Ok.ensures.quiet (λ is. cc)) c.next.ensures.send_faults in
+    let next = counts_kept view g.P.Streams.read_faults g.P.Streams.send_faults w.beside_read_faults w.beside_send_faults mid taken kept (c.in-Ok.ensures.quiet (ok_err _ _)) c.next.ensures.send_faults in
     counts_then None (view first) (view mid) (view taken) inv.faults next
 
 pub returns-in-Err-refuse_line-clause-faults : goal.returns-in-Err-refuse_line-clause-faults
@@ -594,7 +595,7 @@ returns-in-Err-refuse_line-clause-faults g c =
     let inv = c.lines.invariant in
     let kept = w.take_keeps mid taken c.next.ensures.beside.changed.store_is.pages_are in
     let new = pages c.refuse_line.new.live in
-    let next = counts_kept view g.P.Streams.read_faults g.P.Streams.send_faults w.beside_read_faults w.beside_send_faults mid taken kept (c.in-Ok.ensures.quiet (λ is. cc)) c.next.ensures.send_faults in
+    let next = counts_kept view g.P.Streams.read_faults g.P.Streams.send_faults w.beside_read_faults w.beside_send_faults mid taken kept (c.in-Ok.ensures.quiet (ok_err _ _)) c.next.ensures.send_faults in
     counts_then (serve_fault c.in-Err-refuse_line.end) (view first) (view taken) (view new) (counts_then None (view first) (view mid) (view taken) inv.faults next) c.in-Err-refuse_line.ensures.faults
 
 pub returns-in-Err-answer_line-clause-faults : goal.returns-in-Err-answer_line-clause-faults
@@ -607,5 +608,5 @@ returns-in-Err-answer_line-clause-faults g c =
     let inv = c.lines.invariant in
     let kept = w.take_keeps mid taken c.next.ensures.beside.changed.store_is.pages_are in
     let new = pages c.answer_line.new.live in
-    let next = counts_kept view g.P.Streams.read_faults g.P.Streams.send_faults w.beside_read_faults w.beside_send_faults mid taken kept (c.in-Ok.ensures.quiet (λ is. cc)) c.next.ensures.send_faults in
+    let next = counts_kept view g.P.Streams.read_faults g.P.Streams.send_faults w.beside_read_faults w.beside_send_faults mid taken kept (c.in-Ok.ensures.quiet (ok_err _ _)) c.next.ensures.send_faults in
     counts_then (serve_fault c.in-Err-answer_line.end) (view first) (view taken) (view new) (counts_then None (view first) (view mid) (view taken) inv.faults next) c.in-Err-answer_line.ensures.faults

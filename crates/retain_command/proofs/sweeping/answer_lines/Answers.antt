@@ -8,6 +8,7 @@ use Rattle.page_space.specs.declared.superblock.Superblock.{Superblock}
 use Rattle.series_store.specs.Shown as shown
 use Rattle.chart_service.proofs.DiskKept.{risen_since}
 use Rattle.chart_world.specs.FaultLaws.{counts_then, counts_kept, counts_untaken, takes_stay}
+use Rattle.chart_service.proofs.Outcomes.{ok_err}
 use Rattle.retain_command.specs.Faults.{retain_fault}
 use Rattle.retain_command.proofs.Counting.{take_counts}
 use Rattle.retain_command.proofs.DoingLemmas.{cause_later, goes_further, goes_nowhere, goes_streams, line_fault_cause}
@@ -147,7 +148,7 @@ lines-preserved g c =
     let text = c.line.result.now in
     let gives : Gives c.lines.lines c.next.new.self (left mid) (left taken) (Some text) =
     gives_by c.lines.lines c.next.new.self (left mid) (left taken) (Some text) (same_line _ _ text c.next.new.self.line c.line.ensures.line (e.line is)) e.rest inv.counted e.given e.total in
-    let quiet = counts_then None (view first) (view mid) (view taken) inv.quiet (counts_kept view g.P.Streams.read_faults g.P.Streams.send_faults w.beside_read_faults w.beside_send_faults mid taken kept (e.quiet (λ no. cc)) c.next.ensures.send_faults) in
+    let quiet = counts_then None (view first) (view mid) (view taken) inv.quiet (counts_kept view g.P.Streams.read_faults g.P.Streams.send_faults w.beside_read_faults w.beside_send_faults mid taken kept (e.quiet (ok_err _ _)) c.next.ensures.send_faults) in
     let I : Option ℕ → Type 0 = λ n. n ≡ input_length 0 (left first) in
     let U : Option (List ℕ) → Type 0 = λ l. input_length c.next.new.self.taken l ≡ input_length 0 (left first) in
     record {
@@ -156,7 +157,7 @@ lines-preserved g c =
       within = e.within;
       whole = subst U (sym does.left) (e.total ∙ inv.whole);
       stands_in = stands_beside (left first) (left taken) (left new) c.next.new.self does.left (e.stands (left first) inv.stands_in);
-      sound = does.sound (λ no. cc);
+      sound = does.sound (ok_err _ _);
       goes = goes_further (side c.args.store.now) (side c.next.new.from) (side c.answer_line.new.store) goes does.goes;
       quiet = counts_then None (view first) (view taken) (view new) quiet does.faults;
       far = λ total book told stands.
@@ -236,7 +237,7 @@ returns-in-Err-answer_line-clause-cause g c =
     let goes = goes_further (side c.args.store.now) (side c.lines.store) (side c.next.new.from) c.lines.invariant.goes (goes_streams (side c.lines.store) (side c.next.new.from) (w.take_keeps mid taken takes) (w.take_told mid taken takes) (w.take_was_told mid taken takes) (w.take_goes_on mid taken takes) (ap (λ (s : Superblock). s.total) beside.superblock) c.next.ensures.read_faults (omega (arith, c.next.ensures.send_faults))) in
     let first = shown.pages c.args.store.now in
     let view = g.P.Pages.view in
-    let quiet = counts_then None (view first) (view mid) (view taken) c.lines.invariant.quiet (counts_kept view g.P.Streams.read_faults g.P.Streams.send_faults w.beside_read_faults w.beside_send_faults mid taken (w.take_keeps mid taken takes) (c.in-Ok.ensures.quiet (λ no. cc)) c.next.ensures.send_faults) in
+    let quiet = counts_then None (view first) (view mid) (view taken) c.lines.invariant.quiet (counts_kept view g.P.Streams.read_faults g.P.Streams.send_faults w.beside_read_faults w.beside_send_faults mid taken (w.take_keeps mid taken takes) (c.in-Ok.ensures.quiet (ok_err _ _)) c.next.ensures.send_faults) in
     cause_later (side c.args.store.now) (side c.next.new.from) (side c.answer_line.new.store) (record { reads_are = w.beside_read_faults first; sends_are = w.beside_send_faults first })
     (record { reads_are = w.beside_read_faults taken; sends_are = w.beside_send_faults taken }) quiet c.in-Err-answer_line.end goes c.in-Err-answer_line.ensures.cause
 
@@ -275,7 +276,7 @@ returns-in-End-clause-faults g c =
     let mid = shown.pages c.lines.store in
     let taken = shown.pages c.next.new.from in
     let kept = w.take_keeps mid taken c.next.ensures.beside.pages_are in
-    counts_then None (view first) (view mid) (view taken) c.lines.invariant.quiet (counts_kept view g.P.Streams.read_faults g.P.Streams.send_faults w.beside_read_faults w.beside_send_faults mid taken kept (c.in-Ok.ensures.quiet (λ no. cc)) c.next.ensures.send_faults)
+    counts_then None (view first) (view mid) (view taken) c.lines.invariant.quiet (counts_kept view g.P.Streams.read_faults g.P.Streams.send_faults w.beside_read_faults w.beside_send_faults mid taken kept (c.in-Ok.ensures.quiet (ok_err _ _)) c.next.ensures.send_faults)
 
 pub returns-in-TooLong-clause-faults : goal.returns-in-TooLong-clause-faults
 returns-in-TooLong-clause-faults g c =
@@ -285,7 +286,7 @@ returns-in-TooLong-clause-faults g c =
     let mid = shown.pages c.lines.store in
     let taken = shown.pages c.next.new.from in
     let kept = w.take_keeps mid taken c.next.ensures.beside.pages_are in
-    counts_then None (view first) (view mid) (view taken) c.lines.invariant.quiet (counts_kept view g.P.Streams.read_faults g.P.Streams.send_faults w.beside_read_faults w.beside_send_faults mid taken kept (c.in-Ok.ensures.quiet (λ no. cc)) c.next.ensures.send_faults)
+    counts_then None (view first) (view mid) (view taken) c.lines.invariant.quiet (counts_kept view g.P.Streams.read_faults g.P.Streams.send_faults w.beside_read_faults w.beside_send_faults mid taken kept (c.in-Ok.ensures.quiet (ok_err _ _)) c.next.ensures.send_faults)
 
 pub returns-in-Err-answer_line-clause-faults : goal.returns-in-Err-answer_line-clause-faults
 returns-in-Err-answer_line-clause-faults g c =
@@ -295,5 +296,5 @@ returns-in-Err-answer_line-clause-faults g c =
     let mid = shown.pages c.lines.store in
     let taken = shown.pages c.next.new.from in
     let kept = w.take_keeps mid taken c.next.ensures.beside.pages_are in
-    let quiet = counts_then None (view first) (view mid) (view taken) c.lines.invariant.quiet (counts_kept view g.P.Streams.read_faults g.P.Streams.send_faults w.beside_read_faults w.beside_send_faults mid taken kept (c.in-Ok.ensures.quiet (λ no. cc)) c.next.ensures.send_faults) in
+    let quiet = counts_then None (view first) (view mid) (view taken) c.lines.invariant.quiet (counts_kept view g.P.Streams.read_faults g.P.Streams.send_faults w.beside_read_faults w.beside_send_faults mid taken kept (c.in-Ok.ensures.quiet (ok_err _ _)) c.next.ensures.send_faults) in
     counts_then (retain_fault c.in-Err-answer_line.end) (view first) (view taken) (shown.view c.answer_line.new.store) quiet c.in-Err-answer_line.ensures.faults
