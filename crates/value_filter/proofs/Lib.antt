@@ -11,3 +11,4 @@ pub mod Alone
 pub mod Spaced
 pub mod OneAnswer
 pub mod Apart
+mod Keywords
