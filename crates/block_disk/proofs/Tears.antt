@@ -1,11 +1,11 @@
 -- Blocks that are torn one after another, and what was pending.
-use Rattle.std.proofs.Common.{◌≡◌, ℕ, ◌+◌, ◌-◌, ◌<◌, ◌⊎◌, Bool, true, false, cond, eqb, List, [], ◌∷◌, ◌++◌, length, take, drop, get_or, ap, sym, ◌∙◌, arith, inl, inr, subst, IsTrue, ◌&&◌, append_assoc, length-drop}
+use Rattle.std.proofs.Common.{refl, ◌≡◌, ℕ, ◌+◌, ◌-◌, ◌<◌, ◌≤◌, ◌⊎◌, Bool, true, false, cond, eqb, List, [], ◌∷◌, ◌++◌, length, take, drop, get_or, ap, sym, ◌∙◌, arith, inl, inr, subst, IsTrue, ◌&&◌, append_assoc, length-drop}
 use Rattle.std.specs.List.{list_all}
 use Rattle.std.proofs.lemmas.List.{take_more, take_all, take-append-drop}
-use Rattle.std.proofs.lemmas.List.Folds.{list_all-append}
+use Rattle.std.proofs.lemmas.List.Folds.{list_all-append, list_all_at}
 use Rattle.std.proofs.lemmas.Bool.Decides.{eqb_tells}
 use Rattle.block_disk.specs.View.{Image}
-use Rattle.block_disk.specs.MemDisk.{put, before_all, HasNoSync, IsPending}
+use Rattle.block_disk.specs.MemDisk.{blocks_of, put, before_all, HasNoSync, IsPending}
 use Rattle.block_disk.specs.Tear.{torn, after_tear, Touched, TornBy, EndsSynced, Crashed}
 use Rattle.block_disk.specs.declared.mem_disk.Call.{Call}
 use Rattle.block_disk.specs.declared.mem_disk.Call.TheVariants.{Wrote, Synced, Asked}
@@ -112,6 +112,18 @@ tears_step tear calls i call old new left left' below is so_far next =
     let longer : take (i + 1) calls ≡ take i calls ++ call ∷ [] = take_more calls i call below ∙ ap (λ c. take i calls ++ c ∷ []) (sym is) in
     subst P (sym longer) (subst Q (sym next) (tears_more tear (take i calls) call old new left so_far))
 
+-- before the first call, and after the last
+pub tears_none : (tear : Tear) (old : Image) (new left : List ℕ) → left ≡ new → TornBy tear [] old (blocks_of new) (blocks_of left)
+tears_none tear old new left same = record {
+  touched = λ number touched. absurd touched;
+  others = λ number untouched. ap (λ bytes. blocks_of bytes number) same;
+}
+
+pub tears_all : (tear : Tear) (calls : List Call) (i : ℕ) (old new left : Image) → length calls ≤ i → TornBy tear (take i calls) old new left → TornBy tear calls old new left
+tears_all tear calls i old new left past so_far =
+    let P : List Call → Type 0 = λ l. TornBy tear l old new left in
+    subst P (take_all i calls past) so_far
+
 -- the pending blocks are those that were touched since the last sync
 since_pending : (record' : List Call) (synced number : ℕ) → EndsSynced (take synced record') → IsPending record' number → IsPending (drop synced record') number
 since_pending record' synced number last pending =
@@ -155,6 +167,16 @@ all_behind p calls from all =
     let P : List Call → Type 0 = λ l. IsTrue (list_all p l) in
     let Q : Bool → Type 0 = λ b. IsTrue b in
     and_right (list_all p (take from calls)) (list_all p (drop from calls)) (subst Q (list_all-append p (take from calls) (drop from calls)) (subst P (sym (take-append-drop from calls)) all))
+
+told_true : (b c : Bool) → (b ≡ false → c ≡ false) → IsTrue c → IsTrue b
+told_true true c if_not is = refl
+told_true false c if_not is = absurd (cc (if_not refl, is))
+
+-- what holds of all calls holds of one
+pub all_at : (p : Call → Bool) (calls : List Call) (i : ℕ) (call : Call) → i < length calls → call ≡ get_or calls i call → IsTrue (list_all p calls) → IsTrue (p call)
+all_at p calls i call below is all =
+    let P : Call → Type 0 = λ c. IsTrue (p c) in
+    subst P (sym is) (told_true (p (get_or calls i call)) (list_all p calls) (list_all_at p calls i call below) all)
 
 -- the calls from there to the end
 pub behind_all : (calls : List Call) (from : ℕ) → take (length calls - from) (drop from calls) ≡ drop from calls
