@@ -306,3 +306,6 @@ err_ok x e never = cc
 
 pub ok_apart : {E : Type 0} → ◌≡◌ {A = Result Bool E} (Ok true) (Ok false) → ⊥
 ok_apart never = cc
+
+pub true_false : true ≡ false → ⊥
+true_false never = cc
