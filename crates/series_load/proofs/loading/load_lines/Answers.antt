@@ -7,7 +7,6 @@ use Rattle.chart_world.specs.Faults.{fault_in}
 use Rattle.chart_world.specs.FaultLaws.{counts_none, counts_then, disk_stays, takes_stay}
 use Rattle.chart_world.specs.FrontLaws.{same_line}
 use Rattle.chart_world.specs.StandsLaws.{stands_beside, stands_first}
-use Rattle.chart_world.specs.declared.line_answer.LineFault.TheVariants as fault
 use Rattle.series_load.specs.Faults.{load_fault}
 use Rattle.series_load.proofs.Counting.{counts_on, ok_err, same_err, takes_fault}
 use Rattle.series_load.proofs.Passing.{short_end, short_so}
