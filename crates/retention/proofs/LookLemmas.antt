@@ -1,5 +1,6 @@
 -- Calls that read pages and change nothing else.
 use Rattle.std.proofs.Common.{◌≡◌, ℕ, ◌≤◌, length, refl, sym, ap, subst, ◌∙◌, arith}
+use Rattle.block_disk.specs.Counts.{HasRisen}
 use Rattle.block_disk.specs.View.{Image, View, Now}
 use Rattle.block_disk.proofs.Passing.{passes_none, passes_weaker, now_back}
 use Rattle.gate_pages.specs.declared.pages.Pages.{Ghosts}
@@ -103,6 +104,13 @@ read_sweeps UnknownSeries told total old new cause = absurd cause
 read_sweeps DiskFault told total old new cause = cause
 read_sweeps (Damaged page) told total old new cause = cause
 read_sweeps NoMemory told total old new cause = tt
+
+-- a cause behind calls that counted no fault
+pub read_later : (e : SweepError) (told : Type 0) (total total' : ℕ) (old mid new : View) → total' ≡ total → mid.faults ≡ old.faults → IsReadCause e told total' mid new → IsReadCause e told total old new
+read_later UnknownSeries told total total' old mid new same quiet cause = absurd cause
+read_later DiskFault told total total' old mid new same quiet cause = let P : ℕ → Type 0 = λ n. HasRisen n new.faults in subst P quiet cause
+read_later (Damaged page) told total total' old mid new same quiet cause = let P : ℕ → Type 0 = λ n. IsBadPage told n new page in subst P same cause
+read_later NoMemory told total total' old mid new same quiet cause = tt
 
 pub carries_none : (told : Type 0) (at under : View) (total count : ℕ) → Carries told told at at under under total total count count
 carries_none told at under total count = record { told = λ t. t; was_told = λ t. t; size = refl; beside = refl; faults = omega arith; goes_on = goes_none under; total_is = refl; more = omega arith }

@@ -299,3 +299,13 @@ next_none total book rule o is so = let P : Option Edit → Type 0 = λ x. Match
 
 pub next_some : (total : ℕ) (book : List Series) (rule : Rule) (o : Option Edit) (clear : Edit) → o ≡ Some clear → MatchOption o (sweeps total book rule ≡ []) (λ clear. IsNext total book rule clear) → IsNext total book rule clear
 next_some total book rule o clear is so = let P : Option Edit → Type 0 = λ x. MatchOption x (sweeps total book rule ≡ []) (λ clear. IsNext total book rule clear) in subst P is so
+
+-- an outcome that isn't the other
+pub err_ok : {T E : Type 0} (x : T) (e : E) → ◌≡◌ {A = Result T E} (Err e) (Ok x) → ⊥
+err_ok x e never = cc
+
+pub ok_apart : {E : Type 0} → ◌≡◌ {A = Result Bool E} (Ok true) (Ok false) → ⊥
+ok_apart never = cc
+
+pub true_false : true ≡ false → ⊥
+true_false never = cc

@@ -47,3 +47,10 @@ takes_fault fault.ReadFault old new reads reads' was are disk risen same sends =
     let N : ℕ → Type 0 = λ n. HasRisen reads n in
     (disk, subst F (sym was) (subst N (sym are) (risen refl)), sends)
 takes_fault fault.InputTooLong old new reads reads' was are disk risen same sends = counts_none old new disk (are ∙ same (λ is. cc) ∙ sym was) sends
+
+-- an outcome that isn't the other
+pub ok_err : {T E : Type 0} (x : T) (e : E) → ◌≡◌ {A = Result T E} (Ok x) (Err e) → ⊥
+ok_err x e never = cc
+
+pub same_err : {T E : Type 0} (e f : E) → ◌≡◌ {A = Result T E} (Err e) (Err f) → e ≡ f
+same_err e f same = cc

@@ -2,7 +2,7 @@ use Rattle.std.proofs.Common.{None, refl}
 use Rattle.series_store.specs.Shown as shown
 use Rattle.chart_world.specs.FaultLaws.{counts_then}
 use Rattle.retention.specs.Faults.{sweep_fault}
-use Rattle.retention.proofs.LookLemmas.{ask_outside}
+use Rattle.retention.proofs.LookLemmas.{ask_outside, looks_then}
 use Rattle.retention.proofs.NextLemmas.{kept_none, kept_some, none_first, some_first}
 use Rattle.retention.proofs.freeing.first_of.Goals as goal
 
@@ -31,3 +31,12 @@ returns-in_default-clause-faults g c = counts_then None (shown.view c.args.store
 
 pub returns-clause-faults : goal.returns-clause-faults
 returns-clause-faults g c = counts_then None (shown.view c.args.store.now) (shown.view c.selected-axis.new.store) (shown.view c.first_stored.new.store) c.selected-axis.ensures.faults c.in-Ok.ensures.faults
+
+pub returns-in-Err-clause-looks : goal.returns-in-Err-clause-looks
+returns-in-Err-clause-looks g c = looks_then _ _ _ _ _ _ _ _ _ _ _ _ _ _ _ c.selected-axis.ensures.looks c.in-Err.ensures.looks
+
+pub returns-in_default-clause-looks : goal.returns-in_default-clause-looks
+returns-in_default-clause-looks g c = looks_then _ _ _ _ _ _ _ _ _ _ _ _ _ _ _ c.selected-axis.ensures.looks c.in-Ok.ensures.looks
+
+pub returns-clause-looks : goal.returns-clause-looks
+returns-clause-looks g c = looks_then _ _ _ _ _ _ _ _ _ _ _ _ _ _ _ c.selected-axis.ensures.looks c.in-Ok.ensures.looks

@@ -1,11 +1,15 @@
-use Rattle.std.proofs.Common.{sym, subst}
+use Rattle.std.proofs.Common.{Option, IfSome, ap, arith, sym, subst}
 use Rattle.block_disk.specs.View.{Image}
 use Rattle.series_store.specs.Shown as shown
 use Rattle.stored_book.specs.Standing.{StandsForBook}
 use Rattle.std.proofs.Common.{None}
-use Rattle.chart_world.specs.FaultLaws.{counts_then}
+use Rattle.page_space.specs.declared.superblock.Superblock.{Superblock}
+use Rattle.series_book.specs.Edits.{IsEdit}
+use Rattle.series_book.specs.declared.edits.Edit.{Edit}
+use Rattle.retention.proofs.LookLemmas.{carries_looks, carries_then, read_later}
+use Rattle.chart_world.specs.FaultLaws.{counts_then, disk_stays}
 use Rattle.retention.specs.Faults.{sweep_fault}
-use Rattle.retention.proofs.SweepLemmas.{next_some, step_done, step_fails, step_stops}
+use Rattle.retention.proofs.SweepLemmas.{err_ok, looks_sound, next_none, next_some, ok_apart, step_done, step_fails, step_none, step_stops}
 use Rattle.retention.proofs.sweeping.clear_next.Goals as goal
 
 pub returns-in-Err-clause-steps : goal.returns-in-Err-clause-steps
@@ -34,3 +38,76 @@ returns-in-Ok-do_clear-clause-faults g c = counts_then None (shown.view c.args.s
 
 pub returns-clause-faults : goal.returns-clause-faults
 returns-clause-faults g c = counts_then (sweep_fault c.in-Err-do_clear.error) (shown.view c.args.store.now) (shown.view c.next_clear.new.store) (shown.view c.do_clear.new.store) c.in-Ok.ensures.faults c.in-Err-do_clear.ensures.faults
+
+pub do_clear-requires-clause-sound : goal.do_clear-requires-clause-sound
+do_clear-requires-clause-sound g c = c.in-Ok.ensures.looks.fit c.requires.sound
+
+pub do_clear-requires-clause-is_edit : goal.do_clear-requires-clause-is_edit
+do_clear-requires-clause-is_edit g c = let P : Option Edit → Type 0 = λ x. IfSome x IsEdit in subst P c.in-Some.is c.in-Ok.ensures.is_edit
+
+pub returns-in-Err-clause-carries : goal.returns-in-Err-clause-carries
+returns-in-Err-clause-carries g c = carries_looks _ _ _ _ _ _ _ _ _ _ c.in-Err.ensures.looks
+
+pub returns-in-Err-clause-syncs : goal.returns-in-Err-clause-syncs
+returns-in-Err-clause-syncs g c = omega (arith, c.in-Err.ensures.looks.syncs)
+
+pub returns-in-Err-clause-idle : goal.returns-in-Err-clause-idle
+returns-in-Err-clause-idle g c = λ is. omega (arith, c.in-Err.ensures.looks.syncs)
+
+pub returns-in-Err-clause-cause : goal.returns-in-Err-clause-cause
+returns-in-Err-clause-cause g c = c.in-Err.ensures.cause
+
+pub returns-in-Err-clause-faults : goal.returns-in-Err-clause-faults
+returns-in-Err-clause-faults g c = c.in-Err.ensures.faults
+
+pub returns-in-Err-clause-sound_for : goal.returns-in-Err-clause-sound_for
+returns-in-Err-clause-sound_for g c = looks_sound c.in-Err.error (shown.view c.next_clear.new.store) (c.in-Err.ensures.looks.fit c.requires.sound)
+
+pub returns-in_default-clause-steps : goal.returns-in_default-clause-steps
+returns-in_default-clause-steps g c = λ total book told stands.
+    step_none total book c.args.rule.now (shown.view c.args.store.now) (shown.view c.next_clear.new.store) (g.met.P.Pages.rests (shown.pages c.args.store.now) c.requires.sound) stands
+    (c.in-Ok.ensures.looks.image told) c.in-Ok.ensures.looks.time (next_none total book c.args.rule.now c.in-Ok.next c.in_default.is (c.in-Ok.ensures.next total book told stands))
+
+pub returns-in_default-clause-carries : goal.returns-in_default-clause-carries
+returns-in_default-clause-carries g c = carries_looks _ _ _ _ _ _ _ _ _ _ c.in-Ok.ensures.looks
+
+pub returns-in_default-clause-syncs : goal.returns-in_default-clause-syncs
+returns-in_default-clause-syncs g c = omega (arith, c.in-Ok.ensures.looks.syncs)
+
+pub returns-in_default-clause-idle : goal.returns-in_default-clause-idle
+returns-in_default-clause-idle g c = λ is. omega (arith, c.in-Ok.ensures.looks.syncs)
+
+pub returns-in_default-clause-faults : goal.returns-in_default-clause-faults
+returns-in_default-clause-faults g c = c.in-Ok.ensures.faults
+
+pub returns-in_default-clause-sound : goal.returns-in_default-clause-sound
+returns-in_default-clause-sound g c = c.in-Ok.ensures.looks.fit c.requires.sound
+
+pub returns-in-Ok-do_clear-clause-carries : goal.returns-in-Ok-do_clear-clause-carries
+returns-in-Ok-do_clear-clause-carries g c = carries_then _ _ _ _ _ _ _ _ _ _ _ _ _ _ _ (carries_looks _ _ _ _ _ _ _ _ _ _ c.in-Ok.ensures.looks) c.in-Ok-do_clear.ensures.carries
+
+pub returns-in-Ok-do_clear-clause-syncs : goal.returns-in-Ok-do_clear-clause-syncs
+returns-in-Ok-do_clear-clause-syncs g c = omega (arith, c.in-Ok.ensures.looks.syncs, c.in-Ok-do_clear.ensures.syncs)
+
+pub returns-in-Ok-do_clear-clause-idle : goal.returns-in-Ok-do_clear-clause-idle
+returns-in-Ok-do_clear-clause-idle g c = λ is. absurd (ok_apart is)
+
+pub returns-in-Ok-do_clear-clause-sound : goal.returns-in-Ok-do_clear-clause-sound
+returns-in-Ok-do_clear-clause-sound g c = c.in-Ok-do_clear.ensures.sound
+
+pub returns-clause-carries : goal.returns-clause-carries
+returns-clause-carries g c = carries_then _ _ _ _ _ _ _ _ _ _ _ _ _ _ _ (carries_looks _ _ _ _ _ _ _ _ _ _ c.in-Ok.ensures.looks) c.in-Err-do_clear.ensures.carries
+
+pub returns-clause-syncs : goal.returns-clause-syncs
+returns-clause-syncs g c = omega (arith, c.in-Ok.ensures.looks.syncs, c.in-Err-do_clear.ensures.syncs)
+
+pub returns-clause-idle : goal.returns-clause-idle
+returns-clause-idle g c = λ is. absurd (err_ok _ _ is)
+
+pub returns-clause-cause : goal.returns-clause-cause
+returns-clause-cause g c =
+    read_later c.in-Err-do_clear.error (shown.IsTold c.do_clear.new.store) (shown.total c.args.store.now) (shown.total c.next_clear.new.store) (shown.view c.args.store.now) (shown.view c.next_clear.new.store) (shown.view c.do_clear.new.store)
+    (ap (λ (x : Superblock). x.total) c.in-Ok.ensures.looks.superblock) (disk_stays (shown.view c.args.store.now) (shown.view c.next_clear.new.store) c.in-Ok.ensures.faults) c.in-Err-do_clear.ensures.cause
+
+pub returns-clause-sound_for : goal.returns-clause-sound_for
+returns-clause-sound_for g c = c.in-Err-do_clear.ensures.sound_for

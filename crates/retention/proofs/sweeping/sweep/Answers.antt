@@ -1,5 +1,5 @@
 use Rattle.std.proofs.Common.{◌≡◌, true, false, refl, sym, ◌∙◌}
-use Rattle.retention.proofs.SweepLemmas.{not_unknown}
+use Rattle.retention.proofs.SweepLemmas.{not_unknown, true_false}
 use Rattle.retention.proofs.sweeping.sweep.Goals as goal
 
 pub returns-then-names_none-clause-unknown : goal.returns-then-names_none-clause-unknown
@@ -11,5 +11,41 @@ returns-then-names_none-clause-stops g c = λ total book told stands. c.names_no
 pub returns-clause-unknown : goal.returns-clause-unknown
 returns-clause-unknown g c = λ total book told stands. (
   λ same. absurd (not_unknown c.sweep_all.result c.sweep_all.ensures.known same),
-  λ names. let both : true ≡ false = sym (c.names_none.ensures.some total book told stands names) ∙ c.if-names_none.false in cc,
+  λ names. let both : true ≡ false = sym (c.names_none.ensures.some total book told stands names) ∙ c.if-names_none.false in absurd (true_false both),
 )
+
+pub returns-clause-untouched : goal.returns-clause-untouched
+returns-clause-untouched g c = λ same. absurd (not_unknown c.sweep_all.result c.sweep_all.ensures.known same)
+
+pub returns-clause-done : goal.returns-clause-done
+returns-clause-done g c = c.sweep_all.ensures.done
+
+pub returns-clause-stops : goal.returns-clause-stops
+returns-clause-stops g c = c.sweep_all.ensures.stops
+
+pub returns-clause-moments : goal.returns-clause-moments
+returns-clause-moments g c = c.sweep_all.ensures.moments
+
+pub returns-clause-carries : goal.returns-clause-carries
+returns-clause-carries g c = c.sweep_all.ensures.carries
+
+pub returns-clause-syncs : goal.returns-clause-syncs
+returns-clause-syncs g c = c.sweep_all.ensures.syncs
+
+pub returns-clause-cause : goal.returns-clause-cause
+returns-clause-cause g c = c.sweep_all.ensures.cause
+
+pub returns-clause-faults : goal.returns-clause-faults
+returns-clause-faults g c = c.sweep_all.ensures.faults
+
+pub returns-clause-sound : goal.returns-clause-sound
+returns-clause-sound g c = c.sweep_all.ensures.sound
+
+pub returns-clause-sound_for : goal.returns-clause-sound_for
+returns-clause-sound_for g c = c.sweep_all.ensures.sound_for
+
+pub returns-then-names_none-clause-untouched : goal.returns-then-names_none-clause-untouched
+returns-then-names_none-clause-untouched g c = λ same. refl
+
+pub returns-then-names_none-clause-sound_for : goal.returns-then-names_none-clause-sound_for
+returns-then-names_none-clause-sound_for g c = c.requires.sound

@@ -1,10 +1,10 @@
-use Rattle.std.proofs.Common.{◌≡◌, ◌∙◌, true, false, arith}
+use Rattle.std.proofs.Common.{◌≡◌, ◌∙◌, Ok, true, false, ap, refl, arith}
 use Rattle.series_store.specs.Shown as shown
 use Rattle.std.proofs.Common.{None}
-use Rattle.chart_world.specs.FaultLaws.{counts_then}
+use Rattle.chart_world.specs.FaultLaws.{counts_then, disk_stays}
 use Rattle.retention.specs.Faults.{sweep_fault}
-use Rattle.retention.proofs.LookLemmas.{carries_then}
-use Rattle.retention.proofs.SweepLemmas.{going_more, later_moments, swept_end, swept_last, swept_stops}
+use Rattle.retention.proofs.LookLemmas.{carries_none, carries_then, read_later, read_sweeps}
+use Rattle.retention.proofs.SweepLemmas.{going_more, going_none, is_known, later_moments, swept_end, swept_last, swept_stops}
 use Rattle.retention.proofs.sweeping.sweep_all.Goals as goal
 
 pub returns-in-Err-clause-stops : goal.returns-in-Err-clause-stops
@@ -62,3 +62,55 @@ returns-in-Err-clause-faults g c = counts_then (sweep_fault c.in-Err.error) (sho
 
 pub returns-then-not-more-clause-faults : goal.returns-then-not-more-clause-faults
 returns-then-not-more-clause-faults g c = counts_then None (shown.view c.args.store.now) (shown.view c.clearing.store) (shown.view c.clear_next.new.store) c.clearing.invariant.quiet c.in-Ok.ensures.faults
+
+pub clearing-init : goal.clearing-init
+clearing-init g c =
+    let store = c.args.store.now in
+    record {
+      sound = c.requires.sound;
+      carries = carries_none (shown.IsTold store) (shown.view store) (shown.under store) (shown.total store) _;
+      quiet = refl;
+      syncs = omega arith;
+      going = λ total book told stands. going_none total book c.args.rule.now (shown.view store) stands;
+    }
+
+pub clear_next-requires : goal.clear_next-requires
+clear_next-requires g c = record { sound = c.clearing.invariant.sound }
+
+pub returns-in-Err-clause-known : goal.returns-in-Err-clause-known
+returns-in-Err-clause-known g c = is_known c.in-Err.error (shown.IsTold c.clear_next.new.store) (shown.total c.clearing.store) (shown.view c.clearing.store) (shown.view c.clear_next.new.store) c.in-Err.ensures.cause
+
+pub returns-in-Err-clause-carries : goal.returns-in-Err-clause-carries
+returns-in-Err-clause-carries g c = carries_then _ _ _ _ _ _ _ _ _ _ _ _ _ _ _ c.clearing.invariant.carries c.in-Err.ensures.carries
+
+pub returns-in-Err-clause-cause : goal.returns-in-Err-clause-cause
+returns-in-Err-clause-cause g c =
+    read_sweeps c.in-Err.error (shown.IsTold c.clear_next.new.store) (shown.total c.args.store.now) (shown.view c.args.store.now) (shown.view c.clear_next.new.store)
+    (read_later c.in-Err.error (shown.IsTold c.clear_next.new.store) (shown.total c.args.store.now) (shown.total c.clearing.store) (shown.view c.args.store.now) (shown.view c.clearing.store) (shown.view c.clear_next.new.store)
+    c.clearing.invariant.carries.total_is (disk_stays (shown.view c.args.store.now) (shown.view c.clearing.store) c.clearing.invariant.quiet) c.in-Err.ensures.cause)
+
+pub returns-in-Err-clause-sound_for : goal.returns-in-Err-clause-sound_for
+returns-in-Err-clause-sound_for g c = c.in-Err.ensures.sound_for
+
+pub returns-then-not-more-clause-carries : goal.returns-then-not-more-clause-carries
+returns-then-not-more-clause-carries g c = carries_then _ _ _ _ _ _ _ _ _ _ _ _ _ _ _ c.clearing.invariant.carries c.in-Ok.ensures.carries
+
+pub returns-then-not-more-clause-syncs : goal.returns-then-not-more-clause-syncs
+returns-then-not-more-clause-syncs g c =
+    let is : c.in-Ok.more ≡ false = c.if-not-more.true in
+    omega (arith, c.clearing.invariant.syncs, c.in-Ok.ensures.idle (ap Ok is))
+
+pub returns-then-not-more-clause-sound : goal.returns-then-not-more-clause-sound
+returns-then-not-more-clause-sound g c = c.in-Ok.ensures.sound
+
+pub returns-clause-carries : goal.returns-clause-carries
+returns-clause-carries g c = c.clearing.invariant.carries
+
+pub returns-clause-syncs : goal.returns-clause-syncs
+returns-clause-syncs g c = c.clearing.invariant.syncs
+
+pub returns-clause-faults : goal.returns-clause-faults
+returns-clause-faults g c = c.clearing.invariant.quiet
+
+pub returns-clause-sound : goal.returns-clause-sound
+returns-clause-sound g c = c.clearing.invariant.sound

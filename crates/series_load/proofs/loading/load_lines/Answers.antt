@@ -7,9 +7,8 @@ use Rattle.chart_world.specs.Faults.{fault_in}
 use Rattle.chart_world.specs.FaultLaws.{counts_none, counts_then, disk_stays, takes_stay}
 use Rattle.chart_world.specs.FrontLaws.{same_line}
 use Rattle.chart_world.specs.StandsLaws.{stands_beside, stands_first}
-use Rattle.chart_world.specs.declared.line_answer.LineFault.TheVariants as fault
 use Rattle.series_load.specs.Faults.{load_fault}
-use Rattle.series_load.proofs.Counting.{counts_on, takes_fault}
+use Rattle.series_load.proofs.Counting.{counts_on, ok_err, same_err, takes_fault}
 use Rattle.series_load.proofs.Passing.{short_end, short_so}
 use Rattle.series_load.proofs.Progress.{Takes}
 use Rattle.series_load.proofs.Sides.{goes_nowhere, goes_further, goes_call, goes_take, call_left}
@@ -74,7 +73,7 @@ returns-in_err-next-clause-faults g c =
     counts_on c.from_residual.result (end_of f) (shown.view c.args.store.now) (shown.view c.next.new.from) c.from_residual.ensures.1
     (counts_then (load_fault (end_of f)) (shown.view c.args.store.now) (shown.view c.lines.store) (shown.view c.next.new.from) c.lines.invariant.quiet
     (takes_fault f (shown.view c.lines.store) (shown.view c.next.new.from) (g.P.Streams.read_faults (shown.pages c.lines.store)) (g.P.Streams.read_faults (shown.pages c.next.new.from)) (g.met.P.PageWorld.beside_read_faults (shown.pages c.lines.store)) (g.met.P.PageWorld.beside_read_faults (shown.pages c.next.new.from)) (g.met.P.PageWorld.take_keeps (shown.pages c.lines.store) (shown.pages c.next.new.from) c.next.ensures.beside.pages_are).faults
-    (λ h. no.read_fault (ap Err h)) (λ other. no.quiet (λ same. let here : f ≡ fault.ReadFault = cc in other here)) (g.met.P.PageWorld.beside_send_faults (shown.pages c.next.new.from) ∙ c.next.ensures.send_faults ∙ sym (g.met.P.PageWorld.beside_send_faults (shown.pages c.lines.store)))))
+    (λ h. no.read_fault (ap Err h)) (λ other. no.quiet (λ same. other (same_err _ _ same))) (g.met.P.PageWorld.beside_send_faults (shown.pages c.next.new.from) ∙ c.next.ensures.send_faults ∙ sym (g.met.P.PageWorld.beside_send_faults (shown.pages c.lines.store)))))
 
 pub returns-in_err-next-clause-sound : goal.returns-in_err-next-clause-sound
 returns-in_err-next-clause-sound g c = no_value c.from_residual.result (end_of c.in_err-next.field-0.0) _ c.from_residual.ensures.1
@@ -112,7 +111,7 @@ returns-in-End-clause-cause g c = cause_so (shown.IsTold c.finish.new.store) c.f
 pub returns-in-End-clause-faults : goal.returns-in-End-clause-faults
 returns-in-End-clause-faults g c =
     counts_then (fault_in load_fault c.finish.result) (shown.view c.args.store.now) (shown.view c.next.new.from) (shown.view c.finish.new.store) (counts_then None (shown.view c.args.store.now) (shown.view c.lines.store) (shown.view c.next.new.from) c.lines.invariant.quiet
-    (counts_none (shown.view c.lines.store) (shown.view c.next.new.from) (g.met.P.PageWorld.take_keeps (shown.pages c.lines.store) (shown.pages c.next.new.from) c.next.ensures.beside.pages_are).faults (g.met.P.PageWorld.beside_read_faults (shown.pages c.next.new.from) ∙ c.in_ok-next.ensures.quiet (λ is. cc) ∙ sym (g.met.P.PageWorld.beside_read_faults (shown.pages c.lines.store))) (g.met.P.PageWorld.beside_send_faults (shown.pages c.next.new.from) ∙ c.next.ensures.send_faults ∙ sym (g.met.P.PageWorld.beside_send_faults (shown.pages c.lines.store))))) c.finish.ensures.faults
+    (counts_none (shown.view c.lines.store) (shown.view c.next.new.from) (g.met.P.PageWorld.take_keeps (shown.pages c.lines.store) (shown.pages c.next.new.from) c.next.ensures.beside.pages_are).faults (g.met.P.PageWorld.beside_read_faults (shown.pages c.next.new.from) ∙ c.in_ok-next.ensures.quiet (ok_err _ _) ∙ sym (g.met.P.PageWorld.beside_read_faults (shown.pages c.lines.store))) (g.met.P.PageWorld.beside_send_faults (shown.pages c.next.new.from) ∙ c.next.ensures.send_faults ∙ sym (g.met.P.PageWorld.beside_send_faults (shown.pages c.lines.store))))) c.finish.ensures.faults
 
 pub returns-in-End-clause-sound : goal.returns-in-End-clause-sound
 returns-in-End-clause-sound g c = c.finish.ensures.sound
@@ -158,7 +157,7 @@ returns-in-TooLong-clause-cause g c = cause_so {T = ℕ} (shown.IsTold c.stop.ne
 pub returns-in-TooLong-clause-faults : goal.returns-in-TooLong-clause-faults
 returns-in-TooLong-clause-faults g c =
     counts_then (load_fault c.stop.result) (shown.view c.args.store.now) (shown.view c.next.new.from) (shown.view c.stop.new.store) (counts_then None (shown.view c.args.store.now) (shown.view c.lines.store) (shown.view c.next.new.from) c.lines.invariant.quiet
-    (counts_none (shown.view c.lines.store) (shown.view c.next.new.from) (g.met.P.PageWorld.take_keeps (shown.pages c.lines.store) (shown.pages c.next.new.from) c.next.ensures.beside.pages_are).faults (g.met.P.PageWorld.beside_read_faults (shown.pages c.next.new.from) ∙ c.in_ok-next.ensures.quiet (λ is. cc) ∙ sym (g.met.P.PageWorld.beside_read_faults (shown.pages c.lines.store))) (g.met.P.PageWorld.beside_send_faults (shown.pages c.next.new.from) ∙ c.next.ensures.send_faults ∙ sym (g.met.P.PageWorld.beside_send_faults (shown.pages c.lines.store))))) c.stop.ensures.faults
+    (counts_none (shown.view c.lines.store) (shown.view c.next.new.from) (g.met.P.PageWorld.take_keeps (shown.pages c.lines.store) (shown.pages c.next.new.from) c.next.ensures.beside.pages_are).faults (g.met.P.PageWorld.beside_read_faults (shown.pages c.next.new.from) ∙ c.in_ok-next.ensures.quiet (ok_err _ _) ∙ sym (g.met.P.PageWorld.beside_read_faults (shown.pages c.lines.store))) (g.met.P.PageWorld.beside_send_faults (shown.pages c.next.new.from) ∙ c.next.ensures.send_faults ∙ sym (g.met.P.PageWorld.beside_send_faults (shown.pages c.lines.store))))) c.stop.ensures.faults
 
 pub returns-in-TooLong-clause-sound_for : goal.returns-in-TooLong-clause-sound_for
 returns-in-TooLong-clause-sound_for g c = c.stop.ensures.sound_for
@@ -184,7 +183,7 @@ lines-preserved g c = record {
   goes = (goes_further (side_of g.P.Streams c.args.store.now) (side_of g.P.Streams c.next.new.from) (side_of g.P.Streams c.take_line.new.store) (goes_further (side_of g.P.Streams c.args.store.now) (side_of g.P.Streams c.lines.store) (side_of g.P.Streams c.next.new.from) c.lines.invariant.goes (goes_take (side_of g.P.Streams c.lines.store) (side_of g.P.Streams c.next.new.from) (g.met.P.PageWorld.take_keeps (shown.pages c.lines.store) (shown.pages c.next.new.from) c.next.ensures.beside.pages_are) (g.met.P.PageWorld.take_told (shown.pages c.lines.store) (shown.pages c.next.new.from) c.next.ensures.beside.pages_are) (g.met.P.PageWorld.take_was_told (shown.pages c.lines.store) (shown.pages c.next.new.from) c.next.ensures.beside.pages_are) (g.met.P.PageWorld.take_goes_on (shown.pages c.lines.store) (shown.pages c.next.new.from) c.next.ensures.beside.pages_are)
       (ap (λ (s : Superblock). s.total) c.next.ensures.beside.superblock) (ap (λ (k : Catalog). length (series_in k)) c.next.ensures.beside.catalog) c.next.ensures.sent c.next.ensures.read_faults c.next.ensures.send_faults c.next.ensures.pieces)) (goes_call (side_of g.P.Streams c.next.new.from) (side_of g.P.Streams c.take_line.new.store) (record { left_is = g.met.P.PageWorld.beside_left (shown.pages c.next.new.from); sent_is = g.met.P.PageWorld.beside_sent (shown.pages c.next.new.from); reads_are = g.met.P.PageWorld.beside_read_faults (shown.pages c.next.new.from); sends_are = g.met.P.PageWorld.beside_send_faults (shown.pages c.next.new.from); pieces_are = g.met.P.PageWorld.beside_pieces (shown.pages c.next.new.from) }) (record { left_is = g.met.P.PageWorld.beside_left (shown.pages c.take_line.new.store); sent_is = g.met.P.PageWorld.beside_sent (shown.pages c.take_line.new.store); reads_are = g.met.P.PageWorld.beside_read_faults (shown.pages c.take_line.new.store); sends_are = g.met.P.PageWorld.beside_send_faults (shown.pages c.take_line.new.store); pieces_are = g.met.P.PageWorld.beside_pieces (shown.pages c.take_line.new.store) }) c.take_line.ensures.carries));
   quiet = counts_then None (shown.view c.args.store.now) (shown.view c.next.new.from) (shown.view c.take_line.new.store) (counts_then None (shown.view c.args.store.now) (shown.view c.lines.store) (shown.view c.next.new.from) c.lines.invariant.quiet
-      (counts_none (shown.view c.lines.store) (shown.view c.next.new.from) (g.met.P.PageWorld.take_keeps (shown.pages c.lines.store) (shown.pages c.next.new.from) c.next.ensures.beside.pages_are).faults (g.met.P.PageWorld.beside_read_faults (shown.pages c.next.new.from) ∙ c.in_ok-next.ensures.quiet (λ is. cc) ∙ sym (g.met.P.PageWorld.beside_read_faults (shown.pages c.lines.store))) (g.met.P.PageWorld.beside_send_faults (shown.pages c.next.new.from) ∙ c.next.ensures.send_faults ∙ sym (g.met.P.PageWorld.beside_send_faults (shown.pages c.lines.store))))) c.in_ok-take_line-in-Line.ensures.faults;
+      (counts_none (shown.view c.lines.store) (shown.view c.next.new.from) (g.met.P.PageWorld.take_keeps (shown.pages c.lines.store) (shown.pages c.next.new.from) c.next.ensures.beside.pages_are).faults (g.met.P.PageWorld.beside_read_faults (shown.pages c.next.new.from) ∙ c.in_ok-next.ensures.quiet (ok_err _ _) ∙ sym (g.met.P.PageWorld.beside_read_faults (shown.pages c.lines.store))) (g.met.P.PageWorld.beside_send_faults (shown.pages c.next.new.from) ∙ c.next.ensures.send_faults ∙ sym (g.met.P.PageWorld.beside_send_faults (shown.pages c.lines.store))))) c.in_ok-take_line-in-Line.ensures.faults;
   going = λ total book series told stands step scale.
       let was = c.lines.invariant.going total book series told stands step scale in
       let going = going_taken total c.args.loader.now.name book series (g.P.Streams.left (shown.pages c.args.store.now)) (unread c.lines.lines (g.P.Streams.left (shown.pages c.lines.store))) c.lines.lines.given c.lines.loader (shown.view c.args.store.now) (shown.view c.lines.store) (shown.view c.next.new.from) (g.met.P.Pages.rests (shown.pages c.lines.store) c.lines.invariant.sound) (g.met.P.PageWorld.take_keeps (shown.pages c.lines.store) (shown.pages c.next.new.from) c.next.ensures.beside.pages_are).image (g.met.P.PageWorld.take_passes (shown.pages c.lines.store) (shown.pages c.next.new.from) c.next.ensures.beside.pages_are) was in
@@ -252,7 +251,7 @@ returns-in_err-take_line-in-Line-clause-faults g c =
     let e = c.in_err-take_line-in-Line.field-0.0 in
     counts_on c.from_residual-in_err-take_line-in-Line.result e (shown.view c.args.store.now) (shown.view c.take_line.new.store) c.from_residual-in_err-take_line-in-Line.ensures.1
     (counts_then (load_fault e) (shown.view c.args.store.now) (shown.view c.next.new.from) (shown.view c.take_line.new.store) (counts_then None (shown.view c.args.store.now) (shown.view c.lines.store) (shown.view c.next.new.from) c.lines.invariant.quiet
-    (counts_none (shown.view c.lines.store) (shown.view c.next.new.from) (g.met.P.PageWorld.take_keeps (shown.pages c.lines.store) (shown.pages c.next.new.from) c.next.ensures.beside.pages_are).faults (g.met.P.PageWorld.beside_read_faults (shown.pages c.next.new.from) ∙ c.in_ok-next.ensures.quiet (λ is. cc) ∙ sym (g.met.P.PageWorld.beside_read_faults (shown.pages c.lines.store))) (g.met.P.PageWorld.beside_send_faults (shown.pages c.next.new.from) ∙ c.next.ensures.send_faults ∙ sym (g.met.P.PageWorld.beside_send_faults (shown.pages c.lines.store))))) c.in_err-take_line-in-Line.ensures.faults)
+    (counts_none (shown.view c.lines.store) (shown.view c.next.new.from) (g.met.P.PageWorld.take_keeps (shown.pages c.lines.store) (shown.pages c.next.new.from) c.next.ensures.beside.pages_are).faults (g.met.P.PageWorld.beside_read_faults (shown.pages c.next.new.from) ∙ c.in_ok-next.ensures.quiet (ok_err _ _) ∙ sym (g.met.P.PageWorld.beside_read_faults (shown.pages c.lines.store))) (g.met.P.PageWorld.beside_send_faults (shown.pages c.next.new.from) ∙ c.next.ensures.send_faults ∙ sym (g.met.P.PageWorld.beside_send_faults (shown.pages c.lines.store))))) c.in_err-take_line-in-Line.ensures.faults)
 
 pub returns-in_err-take_line-in-Line-clause-sound : goal.returns-in_err-take_line-in-Line-clause-sound
 returns-in_err-take_line-in-Line-clause-sound g c = no_value c.from_residual-in_err-take_line-in-Line.result c.in_err-take_line-in-Line.field-0.0 _ c.from_residual-in_err-take_line-in-Line.ensures.1
