@@ -3,17 +3,13 @@
 #![tactic(auto)]
 
 #[cfg(test)]
-mod faults;
+mod calls;
 #[cfg(test)]
 mod frames;
 #[cfg(test)]
-mod long_series;
+mod loads;
 #[cfg(test)]
 mod plans;
-#[cfg(test)]
-mod reads;
-#[cfg(test)]
-mod serving;
 #[cfg(test)]
 mod walks;
 #[cfg(test)]

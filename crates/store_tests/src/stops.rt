@@ -1,11 +1,9 @@
 //! Deeds that are stopped after each of their calls, with each way to tear what is pending then; and deeds
 //! one call of which fails.
 
-use crate::deeds::{Deed, MANY, after, bytes_of, fused, run};
-use block_disk::{BLOCK, MemDisk, Tear};
-use disk_store::open_store;
+use crate::deeds::{Deed, MANY, after, bytes_of, run};
+use block_disk::{MemDisk, Tear};
 use gate_pages::GatePages;
-use series_store::Counts;
 use std::alloc::Global;
 use std::test::Fail;
 
@@ -176,53 +174,6 @@ fn a_stop_leaves_the_pages_before_or_after(rt: HostRuntime) -> Result<(), Fail> 
         let image = after(alloc, before)?;
         turns_at_the_gate(alloc, image.as_slice(), deed, pages, reads)?;
     }
-    Ok(())
-}
-
-/// The opening of a store of version 1 leaves the pages that the same deeds leave in version 2.
-#[test]
-fn an_old_store_becomes_the_new_one(rt: HostRuntime) -> Result<(), Fail> {
-    let alloc = rt.alloc();
-    let new = after(alloc, &FILLED)?;
-    let old = after(alloc, &AGED)?;
-    let ends = ends_of(alloc, old.as_slice(), Deed::Open)?;
-    if !new.as_slice().ends_with(ends.after.as_slice())
-        || !old.as_slice().ends_with(ends.before.as_slice())
-    {
-        return Err(Fail::new("other pages"));
-    }
-    Ok(())
-}
-
-/// Three slots, in one page.
-const SMALL: [Deed; 4] = [Deed::Make, Deed::Create, Deed::Append(3, 5), Deed::Age];
-
-/// What a check says of a store of version 1 when it is opened.
-fn checked(alloc: Global, image: &[u8]) -> Result<Counts, Fail> {
-    let Ok(mut store) = open_store(alloc, fused(alloc, image, MANY, &[])?) else {
-        return Err(Fail::new("no store"));
-    };
-    if !store.is_sound() {
-        return Err(Fail::new("the pages aren't sound"));
-    }
-    Ok(store.check().ok().ok_or("not checked")?)
-}
-
-/// It counts what the store held, and the opening leaves the magic, the kind of the catalog's first page and the page levels of
-/// version 2.
-#[test]
-fn an_old_store_is_checked(rt: HostRuntime) -> Result<(), Fail> {
-    let alloc = rt.alloc();
-    let old = after(alloc, &SMALL)?;
-    let counts = checked(alloc, old.as_slice())?;
-    assert_eq!(rt; (counts.series, counts.values), (1, 3));
-    assert_eq!(rt; (counts.used, counts.total), (18, 62));
-    let ends = ends_of(alloc, old.as_slice(), Deed::Open)?;
-    assert!(rt; ends.after.as_slice().starts_with(b"CHARTST2"));
-    assert_eq!(rt;
-        (ends.after.get(BLOCK), ends.after.get(BLOCK + 88)),
-        (Some(&4), Some(&1))
-    );
     Ok(())
 }
 

@@ -1,0 +1,42 @@
+//! A load whose input fails in mid-stream.
+
+use crate::worlds::{behind, world_of};
+use series_book::Name;
+use std::alloc::Global;
+use std::test::Fail;
+use store_commands::{check_store, load_series};
+
+/// An empty series `a` of two decimals.
+const CREATED: &[u8] = b"create a 0 1 2\n";
+
+/// 3,000 rows of 8 bytes each, from time 10,000 on.
+fn rows(alloc: Global) -> Result<Vec<u8>, Fail> {
+    let mut input = Vec::new(alloc);
+    for time in 10_000..13_000u32 {
+        let line = format!(in alloc; "{time},1\n")?;
+        input.extend_from_slice(line.as_bytes())?;
+    }
+    Ok(input)
+}
+
+/// Loads them where the take of this number fails, each of 16,384 bytes, and checks the store: whether the load has
+/// this code, and what is sent begins so.
+fn is_loaded(alloc: Global, take: u64, code: u8, text: &[u8]) -> Result<bool, Fail> {
+    let input = rows(alloc)?;
+    let world = world_of(alloc, behind(alloc, CREATED)?, input.as_slice(), &[take])?;
+    let name = Name::new(alloc, b"a")?;
+    let (status, world) = load_series(alloc, &name, world);
+    let (_, world) = check_store(alloc, world);
+    Ok(status.code == code && world.sent().starts_with(text))
+}
+
+/// The runs of 256 rows that ended before the fault are stored, and the open one isn't.
+#[test]
+fn an_input_fails_in_mid_stream(rt: HostRuntime) -> Result<(), Fail> {
+    let alloc = rt.alloc();
+    assert!(rt; is_loaded(alloc, 0, 4, b"series 1\nvalues 0\n")?);
+    assert!(rt; is_loaded(alloc, 1, 4, b"series 1\nvalues 2048\n")?);
+    assert!(rt; is_loaded(alloc, 2, 4, b"series 1\nvalues 2816\n")?);
+    assert!(rt; is_loaded(alloc, 3, 0, b"loaded 3000\nseries 1\nvalues 3000\n")?);
+    Ok(())
+}
