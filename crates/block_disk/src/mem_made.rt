@@ -6,12 +6,11 @@ ghost use Rattle.block_disk.specs.MemDisk.{mem_view, blocks_of};
 
 use crate::BLOCK;
 use crate::mem_disk::MemDisk;
-use crate::no_memory::NoMemory;
-use std::alloc::Global;
+use std::alloc::{AllocError, Global};
 
 impl MemDisk {
     /// A disk of so many blocks, all zero. Calls are counted from 0, and those that `fails` names fail.
-    pub fn new(alloc: Global, blocks: u32, fails: Vec<u64>) -> Result<MemDisk, NoMemory>
+    pub fn new(alloc: Global, blocks: u32, fails: Vec<u64>) -> Result<MemDisk, AllocError>
         ensures size { IfOk result (λ disk. (mem_view disk).size ≡ blocks) }
         ensures zero { IfOk result (λ disk. (number : ℕ) → number < blocks → (mem_view disk).image number ≡ replicate block_size 0) }
         ensures rests { IfOk result (λ disk. Only (mem_view disk).image (Now (mem_view disk))) }

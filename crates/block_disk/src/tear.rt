@@ -10,11 +10,10 @@ ghost use Rattle.block_disk.specs.View.{Now, Only};
 use crate::BLOCK;
 use crate::mem_calls::replace_block;
 use crate::mem_disk::{Call, MemDisk};
-use crate::no_memory::NoMemory;
-use std::alloc::Global;
+use std::alloc::{AllocError, Global};
 
 /// What a crash leaves of each pending block.
-#[derive(Clone, Copy, Debug, PartialEq, Eq)]
+#[derive(Clone, Copy, Debug)]
 pub enum Tear {
     /// What it was at the last sync.
     Old,
@@ -27,7 +26,7 @@ pub enum Tear {
 }
 
 /// What a crash leaves of a block.
-fn torn_block(alloc: Global, tear: Tear, old: &[u8], new: &[u8]) -> Result<Vec<u8>, NoMemory>
+fn torn_block(alloc: Global, tear: Tear, old: &[u8], new: &[u8]) -> Result<Vec<u8>, AllocError>
     requires old_block { IsBlock old.now }
     requires new_block { IsBlock new.now }
     ensures block { IfOk result (λ block. block.items ≡ torn tear old.now new.now) }
@@ -42,7 +41,7 @@ fn torn_block(alloc: Global, tear: Tear, old: &[u8], new: &[u8]) -> Result<Vec<u
 }
 
 /// The front half of a block, and the other half of another.
-fn half_block(alloc: Global, old: &[u8], new: &[u8]) -> Result<Vec<u8>, NoMemory>
+fn half_block(alloc: Global, old: &[u8], new: &[u8]) -> Result<Vec<u8>, AllocError>
     requires old_block { IsBlock old.now }
     requires new_block { IsBlock new.now }
     ensures block { IfOk result (λ block. block.items ≡ take 2048 new.now ++ drop 2048 old.now) }
@@ -105,7 +104,7 @@ fn tear_call(
     tear: Tear,
     old: &[u8],
     new: &[u8],
-) -> Result<(), NoMemory>
+) -> Result<(), AllocError>
     requires fits { IsTrue (call_fits blocks call.now) }
     requires within { block_size * blocks ≤ length left.old.items }
     requires old_within { block_size * blocks ≤ length old.now }
@@ -130,7 +129,7 @@ fn torn_at(
     no: usize,
     old: &[u8],
     new: &[u8],
-) -> Result<Vec<u8>, NoMemory>
+) -> Result<Vec<u8>, AllocError>
     requires old_within { block_size * no + block_size ≤ length old.now }
     requires new_within { block_size * no + block_size ≤ length new.now }
     ensures block { IfOk result (λ block. block.items ≡ torn tear (blocks_of old.now no) (blocks_of new.now no)) }
@@ -158,7 +157,7 @@ fn tear_all(
     tear: Tear,
     old: &[u8],
     new: &[u8],
-) -> Result<Vec<u8>, NoMemory>
+) -> Result<Vec<u8>, AllocError>
     requires fits { IsTrue (list_all (call_fits blocks) calls.now) }
     requires old_within { block_size * blocks ≤ length old.now }
     requires new_within { block_size * blocks ≤ length new.now }
@@ -175,7 +174,7 @@ fn tear_all(
 impl MemDisk {
     /// What is there after a crash now that leaves the pending blocks so. It is called from 0 again,
     /// and no call of it fails.
-    pub fn after_crash(self, tear: Tear) -> Result<MemDisk, NoMemory>
+    pub fn after_crash(self, tear: Tear) -> Result<MemDisk, AllocError>
         ensures left { IfOk result (λ disk. Crashed tear self.record.items (mem_view self).image (mem_view disk).image) }
         ensures possible { IfOk result (λ disk. Now (mem_view self) (mem_view disk).image) }
         ensures rests { IfOk result (λ disk. Only (mem_view disk).image (Now (mem_view disk))) }

@@ -1,7 +1,7 @@
 use thiserror::Error;
 
 /// The first field of a record that breaks its rule, in this order.
-#[derive(Clone, Copy, Debug, PartialEq, Eq, Error)]
+#[derive(Clone, Copy, Debug, Error)]
 pub enum BadField {
     /// Byte 0 of the record isn't 1.
     #[error("the record isn't marked as one of a series")]
@@ -42,7 +42,7 @@ pub enum BadField {
 }
 
 /// What of a catalog page first breaks its rule, in this order.
-#[derive(Clone, Copy, Debug, PartialEq, Eq, Error)]
+#[derive(Clone, Copy, Debug, Error)]
 pub enum BadCatalog {
     /// Byte 0 isn't 4.
     #[error("the page is no catalog page")]

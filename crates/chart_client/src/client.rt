@@ -8,7 +8,7 @@ ghost use Rattle.chart_client.specs.Holdings.{holding_of, without, opened};
 ghost use Rattle.chart_client.specs.Accepting.{Accepts, Rejects, Leaves, KeepsUnless};
 
 use crate::drawing::{grid_of, picture_of};
-use crate::errors::{ClientError, NoMemory};
+use crate::errors::ClientError;
 use crate::finding::find;
 use crate::holding::Holding;
 use chart_frames::{Frame, RowsFrame, ViewFrame};
@@ -16,7 +16,7 @@ use coefficient_cache::CoefficientCache;
 use line_raster::Bitmap;
 use needed_nodes::laws::points_are_the_samples;
 use om3_coeff::{Coef, Key};
-use std::alloc::Global;
+use std::alloc::{AllocError, Global};
 use std::marker::Model;
 
 /// What a client holds of the sessions that are open in its stream.
@@ -37,7 +37,7 @@ impl Model for Client {
 
 impl Client {
     /// A client before any frame.
-    pub fn new(alloc: Global) -> Result<Client, NoMemory>
+    pub fn new(alloc: Global) -> Result<Client, AllocError>
         ensures { IfOk result (λ client. client ≡ []) }
     {
         Ok(Client {

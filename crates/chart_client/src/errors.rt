@@ -5,13 +5,8 @@ use om3_coeff::Key;
 use std::alloc::{AllocError, AllocFailed};
 use thiserror::Error;
 
-/// No memory was left.
-#[derive(Clone, Copy, Debug, PartialEq, Eq, Error)]
-#[error("out of memory")]
-pub struct NoMemory;
-
 /// Why a frame wasn't accepted.
-#[derive(Clone, Copy, Debug, PartialEq, Eq, Error)]
+#[derive(Clone, Copy, Debug, Error)]
 pub enum ClientError {
     /// The coefficient of a key that the view wants was neither sent nor held. It is the first such
     /// key, from the top level down and then from left to right, whose coefficient can't be used.
@@ -28,12 +23,6 @@ pub enum ClientError {
     NoMemory,
 }
 
-impl From<AllocError> for NoMemory {
-    fn from(_error: AllocError) -> NoMemory {
-        NoMemory
-    }
-}
-
 impl From<AllocError> for ClientError {
     ghost from_gives = { λ _ e. e ≡ client.NoMemory };
 
@@ -46,22 +35,6 @@ impl<T: Drop> From<AllocFailed<T>> for ClientError {
     ghost from_gives = { λ _ e. e ≡ client.NoMemory };
 
     fn from(_error: AllocFailed<T>) -> ClientError {
-        ClientError::NoMemory
-    }
-}
-
-impl From<coefficient_cache::NoMemory> for ClientError {
-    ghost from_gives = { λ _ e. e ≡ client.NoMemory };
-
-    fn from(_error: coefficient_cache::NoMemory) -> ClientError {
-        ClientError::NoMemory
-    }
-}
-
-impl From<line_raster::NoMemory> for ClientError {
-    ghost from_gives = { λ _ e. e ≡ client.NoMemory };
-
-    fn from(_error: line_raster::NoMemory) -> ClientError {
         ClientError::NoMemory
     }
 }

@@ -27,6 +27,6 @@ mod search;
 mod show;
 
 pub use client::Client;
-pub use errors::{ClientError, NoMemory};
+pub use errors::ClientError;
 pub use screen::Screen;
 pub use show::{Show, Shown};

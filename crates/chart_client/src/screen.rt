@@ -3,10 +3,10 @@ ghost use Rattle.chart_client.specs.declared.errors.ClientError.TheVariants as c
 ghost use Rattle.chart_client.specs.Showing.{Spells, IsSpelling};
 
 use crate::client::Client;
-use crate::errors::{ClientError, NoMemory};
+use crate::errors::ClientError;
 use crate::show::{Show, Shown};
 use chart_frames::{Decoder, Frame, FrameFault};
-use std::alloc::Global;
+use std::alloc::{AllocError, Global};
 use std::marker::Model;
 
 /// Shows the frames of a stream as a client does: it reads each frame's bytes and draws its picture.
@@ -27,7 +27,7 @@ impl Model for Screen {
 
 impl Screen {
     /// A screen before any frame.
-    pub fn new(alloc: Global) -> Result<Screen, NoMemory>
+    pub fn new(alloc: Global) -> Result<Screen, AllocError>
         ensures { IfOk result (λ screen. screen ≡ []) }
     {
         let client = Client::new(alloc)?;

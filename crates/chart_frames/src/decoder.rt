@@ -8,12 +8,12 @@ ghost use Rattle.chart_frames.specs.Places.{Reached};
 ghost use Rattle.chart_frames.specs.declared.frame.Frame.{Frame};
 ghost use Rattle.chart_frames.specs.declared.errors.FrameFault.TheVariants.{BadFrame};
 
-use crate::errors::{FrameFault, NoMemory};
+use crate::errors::FrameFault;
 use crate::fields::Stop;
 use crate::frame::Frame;
 use crate::item_stop::ItemStop;
 use crate::place::{Place, frame_at};
-use std::alloc::Global;
+use std::alloc::{AllocError, Global};
 use std::marker::Model;
 
 /// Frames out of a stream of bytes that comes in pieces. It counts the bytes that it has given as
@@ -62,19 +62,19 @@ impl Decoder {
 
     /// Takes the next piece of the stream. Want of memory changes nothing; it is also answered where
     /// the stream would pass 2^64 - 1 bytes, which can't be counted.
-    pub fn feed(&mut self, piece: &[u8]) -> Result<(), NoMemory>
+    pub fn feed(&mut self, piece: &[u8]) -> Result<(), AllocError>
         ensures given { self.new.given ≡ self.old.given }
         ensures ok { OnOk result (self.new.rest ≡ self.old.rest ++ piece.now) }
         ensures err { OnErr result (self.new ≡ self.old) }
     {
         let held = (self.bytes.len() - self.start) as u64;
         if piece.len() as u64 > u64::MAX - self.given - held {
-            return Err(NoMemory);
+            return Err(AllocError);
         }
         self.start = drop_given(&mut self.bytes, self.start);
         match self.bytes.extend_from_slice(piece) {
             Ok(()) => Ok(()),
-            Err(_) => Err(NoMemory),
+            Err(_) => Err(AllocError),
         }
     }
 

@@ -5,7 +5,6 @@ ghost use Rattle.chart_frames.specs.Format.{number_bytes};
 ghost use Rattle.chart_frames.specs.Frames.{Fits, FitsView, FitsRows, spelling, flags_of, number_of_flag};
 ghost use Rattle.chart_frames.specs.Spelled.{signed_bytes, two_before, place_before, source_before, view_before, coef_before, coefs_before, row_before, rows_before, rows_all_before, framed, frame_before};
 
-use crate::errors::NoMemory;
 use crate::frame::{Frame, RowsFrame, ViewFrame};
 use m4_groups::Row;
 use om3_coeff::{Coef, Key};
@@ -223,13 +222,13 @@ fn put_frame(out: &mut Vec<u8>, frame: &Frame) -> Result<(), AllocError>
 
 /// The bytes of a frame whose fields meet their rules: its one spelling. A reader of a stream of such
 /// bytes finds each frame again, whatever follows it. The one error is want of memory.
-pub fn encode(alloc: Global, frame: &Frame) -> Result<Vec<u8>, NoMemory>
+pub fn encode(alloc: Global, frame: &Frame) -> Result<Vec<u8>, AllocError>
     requires { Fits frame.now }
     ensures { IfOk result (λ bytes. bytes.items ≡ spelling frame.now) }
 {
     let mut out = Vec::new(alloc);
     match put_frame(&mut out, frame) {
         Ok(()) => Ok(out),
-        Err(_) => Err(NoMemory),
+        Err(_) => Err(AllocError),
     }
 }

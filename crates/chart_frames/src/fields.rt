@@ -8,7 +8,7 @@ ghost use Rattle.chart_frames.specs.Spelled.{signed_bytes};
 use byteorder::{BigEndian, ByteOrder};
 
 /// Why a field was not read.
-#[derive(Clone, Copy, PartialEq, Eq)]
+#[derive(Clone, Copy)]
 pub enum Stop {
     /// It lacks bytes.
     More,

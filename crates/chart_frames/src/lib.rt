@@ -29,5 +29,5 @@ mod rows;
 
 pub use decoder::Decoder;
 pub use encoding::encode;
-pub use errors::{FrameFault, NoMemory};
+pub use errors::FrameFault;
 pub use frame::{Frame, RowsFrame, ViewFrame};

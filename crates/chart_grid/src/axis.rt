@@ -4,7 +4,7 @@ use crate::share::gap;
 
 /// The times of a series' slots: slot i stands at `start + i * step`. There are `slots` of them.
 /// Calls that take an axis want a step of at least 1.
-#[derive(Clone, Copy, PartialEq, Eq)]
+#[derive(Clone, Copy)]
 pub struct Axis {
     pub start: i64,
     pub step: u32,

@@ -10,7 +10,7 @@ use crate::times::{is_far, later, moved};
 const GREATEST_SIDE: u64 = 4_096;
 
 /// A window of time, from `t0` to below `t1`, drawn on a canvas of `w` columns and `h` rows.
-#[derive(Clone, Copy, PartialEq, Eq)]
+#[derive(Clone, Copy)]
 pub struct Grid {
     t0: i64,
     t1: i64,

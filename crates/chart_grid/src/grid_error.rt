@@ -1,7 +1,7 @@
 use thiserror::Error;
 
 /// Why there is no grid.
-#[derive(Clone, Copy, Debug, PartialEq, Eq, Error)]
+#[derive(Clone, Copy, Debug, Error)]
 pub enum GridError {
     /// The window's start isn't before its end, or an end is more than 2 * 10^18 from 0.
     #[error("the window is empty or reaches too far")]

@@ -8,14 +8,14 @@ ghost use Rattle.chart_program.specs.Reads.{end_of, AddsLine, IsNotAdded, Stops}
 use crate::slot::{Entry, entry_of};
 use block_disk::Streams;
 use chart_world::{LineAnswer, LineFault, Lines};
-use std::alloc::{AllocFailed, Global};
+use std::alloc::{AllocError, AllocFailed, Global};
 use thiserror::Error;
 
 /// The most slots of a plot.
 pub const MOST_SLOTS: usize = 1_048_576;
 
 /// Why the slots of the input weren't read to the end.
-#[derive(Clone, Copy, Debug, PartialEq, Eq, Error)]
+#[derive(Clone, Copy, Debug, Error)]
 pub enum InputEnd {
     /// There was no memory for the slots.
     #[error("out of memory")]
@@ -34,26 +34,10 @@ pub enum InputEnd {
     TooManySlots,
 }
 
-impl From<chart_world::NoMemory> for InputEnd {
+impl From<AllocError> for InputEnd {
     ghost from_gives = { λ _ e. e ≡ NoMemory };
 
-    fn from(_error: chart_world::NoMemory) -> InputEnd {
-        InputEnd::NoMemory
-    }
-}
-
-impl From<row_chart::NoMemory> for InputEnd {
-    ghost from_gives = { λ _ e. e ≡ NoMemory };
-
-    fn from(_error: row_chart::NoMemory) -> InputEnd {
-        InputEnd::NoMemory
-    }
-}
-
-impl From<pbm_writer::NoMemory> for InputEnd {
-    ghost from_gives = { λ _ e. e ≡ NoMemory };
-
-    fn from(_error: pbm_writer::NoMemory) -> InputEnd {
+    fn from(_error: AllocError) -> InputEnd {
         InputEnd::NoMemory
     }
 }

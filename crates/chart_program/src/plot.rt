@@ -19,7 +19,7 @@ use std::alloc::Global;
 use thiserror::Error;
 
 /// Why a plot wasn't sent whole.
-#[derive(Clone, Copy, Debug, PartialEq, Eq, Error)]
+#[derive(Clone, Copy, Debug, Error)]
 pub enum PlotEnd {
     /// The slots weren't read to the end, or there was no memory. Nothing was sent.
     #[error("{0}")]

@@ -11,7 +11,7 @@ use thiserror::Error;
 
 /// Why `run_on` didn't answer all lines of its input. What the lines before did stays, and what they
 /// were answered was sent.
-#[derive(Clone, Copy, Debug, PartialEq, Eq, Error)]
+#[derive(Clone, Copy, Debug, Error)]
 pub enum RunEnd {
     /// As the serving of lines ends.
     #[error("{0}")]
@@ -37,14 +37,6 @@ impl From<LineFault> for RunEnd {
     }
 }
 
-impl From<chart_world::NoMemory> for RunEnd {
-    ghost from_gives = { λ _ end. end ≡ Serve NoMemory };
-
-    fn from(_error: chart_world::NoMemory) -> RunEnd {
-        RunEnd::Serve(ServeEnd::NoMemory)
-    }
-}
-
 impl From<ServiceError> for RunEnd {
     ghost from_gives = { λ error end. end ≡ Serve (end_of_step error) };
 
@@ -53,34 +45,10 @@ impl From<ServiceError> for RunEnd {
     }
 }
 
-impl From<chart_frames::NoMemory> for RunEnd {
-    ghost from_gives = { λ _ end. end ≡ Serve NoMemory };
-
-    fn from(_error: chart_frames::NoMemory) -> RunEnd {
-        RunEnd::Serve(ServeEnd::NoMemory)
-    }
-}
-
-impl From<pbm_writer::NoMemory> for RunEnd {
-    ghost from_gives = { λ _ end. end ≡ Serve NoMemory };
-
-    fn from(_error: pbm_writer::NoMemory) -> RunEnd {
-        RunEnd::Serve(ServeEnd::NoMemory)
-    }
-}
-
 impl From<AllocError> for RunEnd {
     ghost from_gives = { λ _ end. end ≡ Serve NoMemory };
 
     fn from(_error: AllocError) -> RunEnd {
-        RunEnd::Serve(ServeEnd::NoMemory)
-    }
-}
-
-impl From<chart_client::NoMemory> for RunEnd {
-    ghost from_gives = { λ _ end. end ≡ Serve NoMemory };
-
-    fn from(_error: chart_client::NoMemory) -> RunEnd {
         RunEnd::Serve(ServeEnd::NoMemory)
     }
 }

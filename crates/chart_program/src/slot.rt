@@ -6,7 +6,7 @@ use whole_number::integer;
 use whole_number::limits::GREATEST_VALUE;
 
 /// What a line of the input says.
-#[derive(Clone, Copy, PartialEq, Eq)]
+#[derive(Clone, Copy)]
 pub enum Entry {
     /// Nothing: the line is empty.
     Nothing,

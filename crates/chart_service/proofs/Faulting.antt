@@ -17,7 +17,7 @@ use Rattle.chart_service.specs.Spelled.{serve_end}
 use Rattle.chart_service.specs.Stepping.{IsStepCause}
 use Rattle.chart_service.specs.declared.failure.AnswerEnd.{AnswerEnd}
 use Rattle.chart_service.specs.declared.failure.AnswerEnd.TheVariants.{Serve, Reply}
-use Rattle.chart_service.specs.declared.failure.NoMemory.{NoMemory as Lack}
+use Rattle.std.specs.declared.alloc.AllocError.{AllocError}
 use Rattle.chart_service.specs.declared.failure.ServiceError.{ServiceError}
 use Rattle.chart_service.specs.declared.failure.ServiceError.TheVariants.{DiskFault, Damaged, NoMemory}
 
@@ -70,7 +70,7 @@ step_goes {T} {F} r e old new is counts =
     fault_goes answer_fault r (Serve (end_of_step e)) old new is (subst P (sym (step_end F e)) counts)
 
 -- and of a serving
-pub serve_goes : {T : Type 0} (r : Result T (AnswerEnd Lack)) (old new : View) → CountsFault (fault_in answer_fault r) old new → CountsFault (fault_in serve_fault (serve_end r)) old new
+pub serve_goes : {T : Type 0} (r : Result T (AnswerEnd AllocError)) (old new : View) → CountsFault (fault_in answer_fault r) old new → CountsFault (fault_in serve_fault (serve_end r)) old new
 serve_goes (Ok done) old new counts = counts
 serve_goes (Err (Serve e)) old new counts = counts
 serve_goes (Err (Reply e)) old new counts = counts

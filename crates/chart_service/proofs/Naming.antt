@@ -24,7 +24,7 @@ use Rattle.block_disk.specs.SentLaws.{sent_none, sent_more}
 use Rattle.chart_service.specs.Serving.{end_of, end_of_step}
 use Rattle.chart_service.specs.declared.failure.AnswerEnd.{AnswerEnd}
 use Rattle.chart_service.specs.declared.failure.AnswerEnd.TheVariants.{Serve, Reply}
-use Rattle.chart_service.specs.declared.failure.NoMemory.{NoMemory as Lack}
+use Rattle.std.specs.declared.alloc.AllocError.{AllocError}
 use Rattle.chart_service.specs.declared.failure.ServiceError.{ServiceError}
 use Rattle.chart_service.specs.declared.failure.ServiceError.TheVariants as step
 use Rattle.chart_service.specs.declared.failure.ServeEnd.TheVariants.{ReadFault, SendFault, DiskFault, Damaged, InputTooLong, NoMemory}
@@ -320,7 +320,7 @@ part_named v w old b before sent now frame piece g fits known is part =
     }
 
 -- by the end
-first_named : (v w : Unit {0}) (old : List Session) (before now : Option (List ℕ)) (end : AnswerEnd Lack) → GivesFirst spelling_makes v w (λ n. is_open n old) before now end → SendsNamed old before now
+first_named : (v w : Unit {0}) (old : List Session) (before now : Option (List ℕ)) (end : AnswerEnd AllocError) → GivesFirst spelling_makes v w (λ n. is_open n old) before now end → SendsNamed old before now
 first_named v w old before now (Serve ReadFault) g = whole_named v g.last old g.now_open before now (gives_kept spelling_makes v g.last (λ n. is_open n old) g.now_open g.now_open before g.sent now (λ n. refl) g.stops.1 g.given)
 first_named v w old before now (Serve SendFault) g = part_named v g.last old g.now_open before g.sent now g.stops.0 g.stops.3.0 g.given g.stops.1 g.stops.2 (spells g.last w g.stops.0 g.stops.3.0 g.stops.3.1) g.stops.3.2
 first_named v w old before now (Serve DiskFault) g = whole_named v g.last old g.now_open before now (gives_kept spelling_makes v g.last (λ n. is_open n old) g.now_open g.now_open before g.sent now (λ n. refl) g.stops.1 g.given)
@@ -329,6 +329,6 @@ first_named v w old before now (Serve InputTooLong) g = whole_named v g.last old
 first_named v w old before now (Serve NoMemory) g = whole_named v g.last old g.now_open before now (gives_kept spelling_makes v g.last (λ n. is_open n old) g.now_open g.now_open before g.sent now (λ n. refl) g.stops.1 g.given)
 first_named v w old before now (Reply e) g = whole_named v g.last old g.now_open before now (gives_kept spelling_makes v g.last (λ n. is_open n old) g.now_open g.now_open before g.sent now (λ n. refl) g.stops.3.0 g.given)
 
-pub serve_named : {T : Type 0} (v w : Unit {0}) (old new : List Session) (before now : Option (List ℕ)) (r : Result T (AnswerEnd Lack)) → GivesBy spelling_makes v w old new before now r → SendsNamed old before now
+pub serve_named : {T : Type 0} (v w : Unit {0}) (old new : List Session) (before now : Option (List ℕ)) (r : Result T (AnswerEnd AllocError)) → GivesBy spelling_makes v w old new before now r → SendsNamed old before now
 serve_named v w old new before now (Ok done) g = whole_named v w old (λ n. is_open n new) before now g
 serve_named v w old new before now (Err end) g = first_named v w old before now end g

@@ -17,13 +17,13 @@ use Rattle.chart_service.specs.Telling.{Tells, text_told, front_told, taken_told
 use Rattle.chart_service.specs.MomentLaws.{since_so}
 use Rattle.chart_service.specs.declared.failure.AnswerEnd.{AnswerEnd}
 use Rattle.chart_service.specs.declared.failure.AnswerEnd.TheVariants.{Serve, Reply}
-use Rattle.chart_service.specs.declared.failure.NoMemory.{NoMemory as Lack}
+use Rattle.std.specs.declared.alloc.AllocError.{AllocError}
 use Rattle.chart_service.specs.declared.failure.ServeEnd.{ServeEnd}
 use Rattle.chart_service.specs.declared.failure.ServeEnd.TheVariants.{ReadFault, SendFault, DiskFault, Damaged, InputTooLong, NoMemory}
 use Rattle.chart_service.proofs.Sending.{stands_on}
 
 -- what is made of a frame is its spelling
-module _ {S : Type 0} (makes : Makes S Lack) (spells : (old new : S) (frame : Frame) (piece : List ℕ) → makes old frame (Ok piece) new → piece ≡ spelling frame) where
+module _ {S : Type 0} (makes : Makes S AllocError) (spells : (old new : S) (frame : Frame) (piece : List ℕ) → makes old frame (Ok piece) new → piece ≡ spelling frame) where
   pub made_spelled : (v w : S) (lines : List (Option (List ℕ))) (frames : List Frame) (text : List ℕ) → AreMade makes v w lines frames text → AreSpelled lines frames text
   made_spelled v w lines [] text all = all.0
   made_spelled v w lines (f ∷ fs) text all =
@@ -49,7 +49,7 @@ module _ {S : Type 0} (makes : Makes S Lack) (spells : (old new : S) (frame : Fr
     at : (P Q : State → Type 0) → ((s : State) → P s → Q s) → StandsAfter old.total image sessions P → StandsAfter old.total image sessions Q
     at P Q more after = stands_on old.total image image sessions sessions P Q refl refl more after
 
-    ends_in : (input : List ℕ) (end : AnswerEnd Lack) → EndsAnswers makes v w (Some input) old image sessions left before now end → EndsServe input old image sessions left before now (spelled_end end)
+    ends_in : (input : List ℕ) (end : AnswerEnd AllocError) → EndsAnswers makes v w (Some input) old image sessions left before now end → EndsServe input old image sessions left before now (spelled_end end)
     ends_in input (Serve ReadFault) ends =
         at (λ new. IfSome left (λ bytes. SendsTaken (AreMade makes v w) input bytes old new before now)) (λ new. IfSome left (λ bytes. SendsTaken AreSpelled input bytes old new before now))
         (λ new sends. told_so (λ bytes. SendsTaken (AreMade makes v w) input bytes old new before now) (λ bytes. SendsTaken AreSpelled input bytes old new before now) left
@@ -74,7 +74,7 @@ module _ {S : Type 0} (makes : Makes S Lack) (spells : (old new : S) (frame : Fr
           state = inr fails.next;
         }) ends
 
-    pub ends_spelled : {T : Type 0} (o : Option (List ℕ)) (r : Result T (AnswerEnd Lack)) → IfErr r (EndsAnswers makes v w o old image sessions left before now) → IfErr (serve_end r) (λ end. IfSome o (λ input. EndsServe input old image sessions left before now end))
+    pub ends_spelled : {T : Type 0} (o : Option (List ℕ)) (r : Result T (AnswerEnd AllocError)) → IfErr r (EndsAnswers makes v w o old image sessions left before now) → IfErr (serve_end r) (λ end. IfSome o (λ input. EndsServe input old image sessions left before now end))
     ends_spelled o (Ok x) ends = tt
     ends_spelled None (Err e) ends = tt
     ends_spelled (Some input) (Err e) ends = ends_in input e ends
@@ -90,7 +90,7 @@ module _ {S : Type 0} (makes : Makes S Lack) (spells : (old new : S) (frame : Fr
       (λ image count is. ahead_told (AreMadeFrom makes v) AreSpelled input total first from image count (tells_from v first) is) lasts
 
 -- a spelling makes just that
-abbrev pub spelling_makes : Makes (Unit {0}) Lack
+abbrev pub spelling_makes : Makes (Unit {0}) AllocError
 spelling_makes old frame made new = OnOk made (made ≡ Ok (spelling frame))
 
 pub spells : (old new : Unit {0}) (frame : Frame) (piece : List ℕ) → spelling_makes old frame (Ok piece) new → piece ≡ spelling frame
@@ -98,16 +98,16 @@ spells old new frame piece is = cc
 
 -- ---- what a serving answers
 
-pub served_ok : {T : Type 0} (r : Result T (AnswerEnd Lack)) (P : Type 0) → OnOk r P → OnOk (serve_end r) P
+pub served_ok : {T : Type 0} (r : Result T (AnswerEnd AllocError)) (P : Type 0) → OnOk r P → OnOk (serve_end r) P
 served_ok (Ok x) P is = is
 served_ok (Err e) P is = tt
 
-pub served_fault : {T : Type 0} (r : Result T (AnswerEnd Lack)) (f : ServeEnd) → (f ≡ NoMemory → ⊥) → serve_end r ≡ Err f → r ≡ Err (Serve f)
+pub served_fault : {T : Type 0} (r : Result T (AnswerEnd AllocError)) (f : ServeEnd) → (f ≡ NoMemory → ⊥) → serve_end r ≡ Err f → r ≡ Err (Serve f)
 served_fault (Ok x) f other is = absurd (cc (is))
 served_fault (Err (Serve e)) f other is = cc
 served_fault (Err (Reply e)) f other is = absurd (other (cc))
 
-pub served_bad : {T : Type 0} (told : Type 0) (count : ℕ) (image : Image) (r : Result T (AnswerEnd Lack)) → IfErr r (answering.EndsAtBad told count image) → IfErr (serve_end r) (EndsAtBad told count image)
+pub served_bad : {T : Type 0} (told : Type 0) (count : ℕ) (image : Image) (r : Result T (AnswerEnd AllocError)) → IfErr r (answering.EndsAtBad told count image) → IfErr (serve_end r) (EndsAtBad told count image)
 served_bad told count image (Ok x) is = tt
 served_bad told count image (Err (Serve e)) is = is
 served_bad told count image (Err (Reply e)) is = tt

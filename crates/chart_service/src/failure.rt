@@ -2,13 +2,8 @@ use chart_world::LineFault;
 use std::alloc::{AllocError, AllocFailed};
 use thiserror::Error;
 
-/// No memory was left.
-#[derive(Clone, Copy, Debug, PartialEq, Eq, Error)]
-#[error("out of memory")]
-pub struct NoMemory;
-
 /// Why a request wasn't answered.
-#[derive(Clone, Copy, Debug, PartialEq, Eq, Error)]
+#[derive(Clone, Copy, Debug, Error)]
 pub enum ServiceError {
     /// A call of the disk failed: its count of faults has risen.
     #[error("a call of the disk failed")]
@@ -22,7 +17,7 @@ pub enum ServiceError {
 }
 
 /// Why `serve` didn't answer all lines of its input. What the lines before did stays.
-#[derive(Clone, Copy, Debug, PartialEq, Eq, Error)]
+#[derive(Clone, Copy, Debug, Error)]
 pub enum ServeEnd {
     /// A take failed. Each line that ended before was answered.
     #[error("the input could not be read")]
@@ -53,24 +48,6 @@ pub enum AnswerEnd<F> {
     Reply(F),
 }
 
-impl From<AllocError> for NoMemory {
-    fn from(_error: AllocError) -> NoMemory {
-        NoMemory
-    }
-}
-
-impl<T: Drop> From<AllocFailed<T>> for NoMemory {
-    fn from(_error: AllocFailed<T>) -> NoMemory {
-        NoMemory
-    }
-}
-
-impl From<zoom_session::NoMemory> for NoMemory {
-    fn from(_error: zoom_session::NoMemory) -> NoMemory {
-        NoMemory
-    }
-}
-
 impl<T: Drop> From<AllocFailed<T>> for ServiceError {
     ghost use Rattle.std.specs.Prelude.{◌≡◌};
     ghost use Rattle.chart_service.specs.declared.failure.ServiceError.TheVariants.{NoMemory};
@@ -82,13 +59,13 @@ impl<T: Drop> From<AllocFailed<T>> for ServiceError {
     }
 }
 
-impl From<zoom_session::NoMemory> for ServiceError {
+impl From<AllocError> for ServiceError {
     ghost use Rattle.std.specs.Prelude.{◌≡◌};
     ghost use Rattle.chart_service.specs.declared.failure.ServiceError.TheVariants.{NoMemory};
 
     ghost from_gives = { λ _ error. error ≡ NoMemory };
 
-    fn from(_error: zoom_session::NoMemory) -> ServiceError {
+    fn from(_error: AllocError) -> ServiceError {
         ServiceError::NoMemory
     }
 }
@@ -107,24 +84,13 @@ impl From<LineFault> for ServeEnd {
     }
 }
 
-impl From<chart_world::NoMemory> for ServeEnd {
+impl From<AllocError> for ServeEnd {
     ghost use Rattle.std.specs.Prelude.{◌≡◌};
     ghost use Rattle.chart_service.specs.declared.failure.ServeEnd.TheVariants.{NoMemory};
 
     ghost from_gives = { λ _ end. end ≡ NoMemory };
 
-    fn from(_error: chart_world::NoMemory) -> ServeEnd {
-        ServeEnd::NoMemory
-    }
-}
-
-impl From<chart_frames::NoMemory> for ServeEnd {
-    ghost use Rattle.std.specs.Prelude.{◌≡◌};
-    ghost use Rattle.chart_service.specs.declared.failure.ServeEnd.TheVariants.{NoMemory};
-
-    ghost from_gives = { λ _ end. end ≡ NoMemory };
-
-    fn from(_error: chart_frames::NoMemory) -> ServeEnd {
+    fn from(_error: AllocError) -> ServeEnd {
         ServeEnd::NoMemory
     }
 }
@@ -156,26 +122,14 @@ impl<F> From<LineFault> for AnswerEnd<F> {
     }
 }
 
-impl<F> From<chart_world::NoMemory> for AnswerEnd<F> {
+impl<F> From<AllocError> for AnswerEnd<F> {
     ghost use Rattle.std.specs.Prelude.{◌≡◌};
     ghost use Rattle.chart_service.specs.declared.failure.AnswerEnd.TheVariants.{Serve};
     ghost use Rattle.chart_service.specs.declared.failure.ServeEnd.TheVariants.{NoMemory};
 
     ghost from_gives = { λ _ end. end ≡ Serve NoMemory };
 
-    fn from(_error: chart_world::NoMemory) -> AnswerEnd<F> {
-        AnswerEnd::Serve(ServeEnd::NoMemory)
-    }
-}
-
-impl<F> From<NoMemory> for AnswerEnd<F> {
-    ghost use Rattle.std.specs.Prelude.{◌≡◌};
-    ghost use Rattle.chart_service.specs.declared.failure.AnswerEnd.TheVariants.{Serve};
-    ghost use Rattle.chart_service.specs.declared.failure.ServeEnd.TheVariants.{NoMemory};
-
-    ghost from_gives = { λ _ end. end ≡ Serve NoMemory };
-
-    fn from(_error: NoMemory) -> AnswerEnd<F> {
+    fn from(_error: AllocError) -> AnswerEnd<F> {
         AnswerEnd::Serve(ServeEnd::NoMemory)
     }
 }

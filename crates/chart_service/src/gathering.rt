@@ -6,18 +6,17 @@ ghost use Rattle.chart_service.specs.EditGroups.{IsEditAhead, IsGroup, IsGroupOf
 ghost use Rattle.chart_service.specs.Serving.{most_ahead};
 ghost use Rattle.chart_service.specs.Syncing.{EndsGroup, IsOtherNext, edit_of};
 
-use crate::failure::NoMemory;
 use chart_world::Lines;
 use request_lines::{LineError, Request, parse_line};
 use series_book::Edit;
-use std::alloc::Global;
+use std::alloc::{AllocError, Global};
 
 /// The most edits that are done together.
 const MOST_EDITS: usize = 64;
 
 /// The edits that the last line and the lines that stand ready behind it spell, up to 64; the lines
 /// behind it are passed. None where the last line spells no edit.
-pub(crate) fn edits_ready(alloc: Global, lines: &mut Lines) -> Result<Option<Vec<Edit>>, NoMemory>
+pub(crate) fn edits_ready(alloc: Global, lines: &mut Lines) -> Result<Option<Vec<Edit>>, AllocError>
     requires usable { IsTrue lines.old.usable }
     requires counted { lines.old.taken ≡ lines.old.given + length lines.old.pending }
     requires within { lines.old.given ≤ 2 ^ 32 }
@@ -39,7 +38,7 @@ pub(crate) fn edits_ready(alloc: Global, lines: &mut Lines) -> Result<Option<Vec
 }
 
 /// An edit, and those that the lines which stand ready spell, up to 64. These lines are passed.
-fn gather(alloc: Global, first: Edit, lines: &mut Lines) -> Result<Vec<Edit>, NoMemory>
+fn gather(alloc: Global, first: Edit, lines: &mut Lines) -> Result<Vec<Edit>, AllocError>
     requires usable { IsTrue lines.old.usable }
     requires counted { lines.old.taken ≡ lines.old.given + length lines.old.pending }
     requires within { lines.old.given ≤ 2 ^ 32 }
@@ -66,7 +65,7 @@ fn gather(alloc: Global, first: Edit, lines: &mut Lines) -> Result<Vec<Edit>, No
 }
 
 /// The edit that the next line spells, where that stands ready.
-fn edit_ahead(alloc: Global, lines: &Lines) -> Result<Option<Edit>, NoMemory>
+fn edit_ahead(alloc: Global, lines: &Lines) -> Result<Option<Edit>, AllocError>
     ensures ahead { IfOk result (λ some. IfSome some (IsEditAhead lines.now)) }
     ensures none { IfOk result (λ some. IfNone some (IsOtherNext lines.now)) }
     ensures is_edit { IfOk result (λ some. IfSome some IsEdit) }
@@ -78,7 +77,7 @@ fn edit_ahead(alloc: Global, lines: &Lines) -> Result<Option<Edit>, NoMemory>
 }
 
 /// The edit that a line spells, if it spells one.
-fn edit_in(alloc: Global, line: &[u8]) -> Result<Option<Edit>, NoMemory>
+fn edit_in(alloc: Global, line: &[u8]) -> Result<Option<Edit>, AllocError>
     requires { length line.now ≤ 8192 }
     ensures spells { IfOk result (λ some. IfSome some (SpellsEdit (Some line.now))) }
     ensures none { IfOk result (λ some. IfNone some (edit_of (Some line.now) ≡ [])) }
@@ -90,6 +89,6 @@ fn edit_in(alloc: Global, line: &[u8]) -> Result<Option<Edit>, NoMemory>
     match parse_line(alloc, line) {
         Ok(Request::Edit(edit)) => Ok(Some(edit)),
         Ok(_) | Err(LineError::BadLine { .. }) => Ok(None),
-        Err(LineError::NoMemory) => Err(NoMemory),
+        Err(LineError::NoMemory) => Err(AllocError),
     }
 }

@@ -42,7 +42,7 @@ mod viewing;
 mod viewport;
 
 pub use answers::answer_lines;
-pub use failure::{AnswerEnd, NoMemory, ServeEnd, ServiceError};
+pub use failure::{AnswerEnd, ServeEnd, ServiceError};
 pub use refusals::refused;
 pub use replying::Reply;
 pub use service::Service;

@@ -10,18 +10,17 @@ ghost use Rattle.chart_service.specs.State.{IsSound};
 ghost use Rattle.chart_service.specs.Stepping.{state_of};
 ghost use Rattle.chart_service.specs.Shown as shown;
 
-use crate::failure::NoMemory;
 use crate::service::Service;
 use block_disk::Back;
 use gate_pages::Pages;
 use series_book::Name;
 use series_store::Store;
-use std::alloc::Global;
+use std::alloc::{AllocError, Global};
 use zoom_session::{Sessions, ViewSpec};
 
 impl<P: Pages> Service<P> {
     /// A service over this store, with no session open.
-    pub fn new(alloc: Global, store: Store<P>) -> Result<Service<P>, Back<Store<P>, NoMemory>>
+    pub fn new(alloc: Global, store: Store<P>) -> Result<Service<P>, Back<Store<P>, AllocError>>
         ensures store { IfOk result (λ service. service.store ≡ store) }
         ensures sessions { IfOk result (λ service. service.sessions ≡ []) }
         ensures back { IfErr result (λ back. back.value ≡ store) }
@@ -34,7 +33,7 @@ impl<P: Pages> Service<P> {
             }),
             Err(_) => Err(Back {
                 value: store,
-                cause: NoMemory,
+                cause: AllocError,
             }),
         }
     }

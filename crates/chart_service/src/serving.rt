@@ -13,12 +13,12 @@ ghost use Rattle.chart_service.specs.Shown as shown;
 ghost use Rattle.chart_service.specs.Spelled.{serve_end};
 
 use crate::answers::answer_lines;
-use crate::failure::{AnswerEnd, NoMemory, ServeEnd};
+use crate::failure::{AnswerEnd, ServeEnd};
 use crate::replying::Reply;
 use crate::service::Service;
 use chart_frames::{Frame, encode};
 use gate_pages::PageWorld;
-use std::alloc::Global;
+use std::alloc::{AllocError, Global};
 
 /// Replies are the spellings of their frames.
 #[derive(Drop)]
@@ -26,13 +26,13 @@ struct Spelling {
     alloc: Global,
 }
 
-impl Reply<(), NoMemory> for Spelling {
+impl Reply<(), AllocError> for Spelling {
     ghost makes = { λ old frame made new. OnOk made (made ≡ Ok (spelling frame)) };
 
-    fn make(&self, frame: &Frame, _kept: &mut ()) -> Result<Vec<u8>, NoMemory> {
+    fn make(&self, frame: &Frame, _kept: &mut ()) -> Result<Vec<u8>, AllocError> {
         match encode(self.alloc, frame) {
             Ok(bytes) => Ok(bytes),
-            Err(_) => Err(NoMemory),
+            Err(_) => Err(AllocError),
         }
     }
 }
@@ -72,7 +72,7 @@ pub fn serve<P: PageWorld>(service: &mut Service<P>) -> Result<(), ServeEnd>
 }
 
 /// What the answering of lines by spellings answers, as a serving ends.
-fn served(answer: Result<(), AnswerEnd<NoMemory>>) -> Result<(), ServeEnd>
+fn served(answer: Result<(), AnswerEnd<AllocError>>) -> Result<(), ServeEnd>
     ensures { result ≡ serve_end answer }
 {
     match answer {

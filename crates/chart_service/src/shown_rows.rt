@@ -23,8 +23,8 @@ use om3_coeff::Nodes;
 use plain_chart::ValueRange;
 use query_rewriter::ViewQuery;
 use row_chart::range_of_rows;
-use std::alloc::Global;
-use zoom_session::{NoMemory, RangeSpec, ViewSpec};
+use std::alloc::{AllocError, Global};
+use zoom_session::{RangeSpec, ViewSpec};
 
 /// The rows of what a filtered view keeps, and the range of values that it shows.
 #[derive(Drop)]
@@ -67,7 +67,7 @@ pub(crate) fn shown_rows<N: Nodes>(
 }
 
 /// The query of a view of a series with these times.
-fn query_of(spec: &ViewSpec, axis: Axis) -> Result<ViewQuery, NoMemory>
+fn query_of(spec: &ViewSpec, axis: Axis) -> Result<ViewQuery, AllocError>
     ensures { IfOk result (λ query. query ≡ record { axis = axis; grid = spec.now.grid; filter = spec.now.filter }) }
 {
     let copy = spec.copy()?;

@@ -25,13 +25,7 @@ pub(crate) fn world_of(
 ) -> Result<MemWorld<MemDisk>, Fail> {
     let input = Vec::from_slice(alloc, input)?;
     let take_fails = Vec::from_slice(alloc, take_fails)?;
-    Ok(MemWorld::new(
-        alloc,
-        disk,
-        input,
-        take_fails,
-        Vec::new(alloc),
-    )?)
+    Ok(MemWorld::new(alloc, disk, input, take_fails, Vec::new(alloc))?)
 }
 
 /// The disk behind `serve` on these lines over an empty store.

@@ -5,9 +5,8 @@ ghost use Rattle.block_disk.specs.Counts.{HasRisen, counted};
 ghost use Rattle.block_disk.specs.Streams.{Given, left_after};
 ghost use Rattle.chart_world.specs.Lines.{is_line_feed};
 
-use crate::no_memory::NoMemory;
 use block_disk::{Failed, Streams};
-use std::alloc::Global;
+use std::alloc::{AllocError, Global};
 
 /// The bytes of a piece.
 const PIECE: usize = 16384;
@@ -51,7 +50,7 @@ fn line_feed_at(bytes: &[u8]) -> usize
 
 impl Feed {
     /// Nothing taken yet.
-    pub(crate) fn new(alloc: Global) -> Result<Feed, NoMemory>
+    pub(crate) fn new(alloc: Global) -> Result<Feed, AllocError>
         ensures { IfOk result (λ feed. (feed.start ≡ 0) × (feed.end ≡ 0) × (feed.taken ≡ 0) × (feed.ended ≡ false)) }
     {
         Ok(Feed {

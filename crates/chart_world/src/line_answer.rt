@@ -3,7 +3,7 @@
 use thiserror::Error;
 
 /// The next line, or the end of the input.
-#[derive(Clone, Copy, PartialEq, Eq)]
+#[derive(Clone, Copy)]
 pub enum LineAnswer {
     /// A line of at most 8,192 bytes, which `Lines::line` gives.
     Line,
@@ -14,7 +14,7 @@ pub enum LineAnswer {
 }
 
 /// Why no line came. It is the last answer of these `Lines`.
-#[derive(Clone, Copy, Debug, PartialEq, Eq, Error)]
+#[derive(Clone, Copy, Debug, Error)]
 pub enum LineFault {
     /// A take failed. Every line whose line feed was taken came before.
     #[error("the input could not be read")]

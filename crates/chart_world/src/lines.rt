@@ -9,10 +9,9 @@ ghost use Rattle.chart_world.specs.Reading.{unread_input, unread, told_lines, wi
 
 use crate::feed::{Feed, LIMIT, LONGEST};
 use crate::line_answer::{LineAnswer, LineFault};
-use crate::no_memory::NoMemory;
 use crate::place::{Place, text_len};
 use block_disk::Streams;
-use std::alloc::Global;
+use std::alloc::{AllocError, Global};
 use std::marker::Model;
 
 /// A reader of lines. It takes pieces of a stream as it needs them.
@@ -86,7 +85,7 @@ impl Lines {
     }
 
     /// Takes all buffers that it will need.
-    pub fn new(alloc: Global) -> Result<Lines, NoMemory>
+    pub fn new(alloc: Global) -> Result<Lines, AllocError>
         ensures { IfOk result (λ lines. lines ≡ unread_input) }
     {
         Ok(Lines {

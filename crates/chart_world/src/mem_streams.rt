@@ -11,10 +11,9 @@ ghost use Rattle.chart_world.specs.Worlds.{bytes_left, bytes_sent, TakesOnly, Se
 
 use crate::count_one::count_one;
 use crate::mem_world::MemWorld;
-use crate::no_memory::NoMemory;
 use crate::sent_log::Sent;
 use block_disk::{Clocked, Failed, Streams};
-use std::alloc::Global;
+use std::alloc::{AllocError, Global};
 
 impl<D: Clocked> MemWorld<D> {
     /// A world of this disk and this input, of which nothing was taken, and with nothing sent.
@@ -24,7 +23,7 @@ impl<D: Clocked> MemWorld<D> {
         input: Vec<u8>,
         take_fails: Vec<u64>,
         send_fails: Vec<u64>,
-    ) -> Result<MemWorld<D>, NoMemory>
+    ) -> Result<MemWorld<D>, AllocError>
         ensures left { IfOk result (λ world. bytes_left world ≡ input.items) }
         ensures sent { IfOk result (λ world. bytes_sent world ≡ []) }
         ensures disk { IfOk result (λ world. world.disk ≡ disk) }

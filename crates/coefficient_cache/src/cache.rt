@@ -3,12 +3,11 @@ ghost use Rattle.coefficient_cache.specs.Pairs.{series_key, coefficient_at, hold
 ghost use Rattle.coefficient_cache.specs.Views.{AreDistinct, to_send, renewed};
 ghost use Rattle.coefficient_cache.specs.Caches.{IsCapacity, IsValid};
 
-use crate::no_memory::NoMemory;
 use crate::renewal::{Pairs, put_news, renew_hits};
 use crate::series_key::SeriesKey;
 use lru::LruCache;
 use om3_coeff::{Coef, Coefs, Key};
-use std::alloc::Global;
+use std::alloc::{AllocError, Global};
 use std::marker::Model;
 use std::num::NonZeroUsize;
 
@@ -41,7 +40,7 @@ impl Model for CoefficientCache {
 
 impl CoefficientCache {
     /// An empty list of at most `capacity` pairs, which takes memory only as it fills.
-    pub fn new(alloc: Global, capacity: u32) -> Result<CoefficientCache, NoMemory>
+    pub fn new(alloc: Global, capacity: u32) -> Result<CoefficientCache, AllocError>
         requires { IsCapacity capacity }
         ensures { IfOk result (λ cache. cache ≡ record { pairs = []; capacity = capacity }) }
     {
@@ -88,7 +87,7 @@ impl CoefficientCache {
         alloc: Global,
         series: u16,
         needed: &[(Key, Coef)],
-    ) -> Result<Coefs, NoMemory>
+    ) -> Result<Coefs, AllocError>
         ensures { IfOk result (λ sent. sent ≡ to_send self.now.pairs series needed.now) }
     {
         let mut sent = Vec::new(alloc);
@@ -114,13 +113,13 @@ impl CoefficientCache {
     /// coefficient: first the needed keys that are in the list come to its front, in order, and then
     /// the others are put in front, in order. What passes the capacity falls off the end.
     ///
-    /// After `NoMemory` the list has its capacity and any pairs: it is of no further use.
+    /// After want of memory the list has its capacity and any pairs: it is of no further use.
     pub fn renew(
         &mut self,
         alloc: Global,
         series: u16,
         needed: &[(Key, Coef)],
-    ) -> Result<(), NoMemory>
+    ) -> Result<(), AllocError>
         requires { AreDistinct needed.now }
         ensures renewed { OnOk result
             (self.new.pairs ≡ renewed self.old.capacity self.old.pairs (in_series series needed.now)) }

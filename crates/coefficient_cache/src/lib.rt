@@ -14,10 +14,8 @@
 
 mod cache;
 pub mod laws;
-mod no_memory;
 mod renewal;
 mod series_key;
 
 pub use cache::{CoefficientCache, MOST_CAPACITY, is_capacity};
-pub use no_memory::NoMemory;
 pub use series_key::SeriesKey;

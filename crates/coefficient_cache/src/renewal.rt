@@ -5,11 +5,10 @@ ghost use Rattle.lru.specs.LruCache.{put_entries};
 ghost use Rattle.coefficient_cache.specs.Pairs.{key_eq, in_series, has};
 ghost use Rattle.coefficient_cache.specs.Views.{AreDistinct, hits, news, are_new, others};
 
-use crate::no_memory::NoMemory;
 use crate::series_key::SeriesKey;
 use lru::LruCache;
 use om3_coeff::{Coef, Key};
-use std::alloc::Global;
+use std::alloc::{AllocError, Global};
 
 // The pairs, the most recently used first.
 pub(crate) type Pairs = LruCache<SeriesKey, Coef>;
@@ -21,7 +20,7 @@ pub(crate) fn renew_hits(
     alloc: Global,
     series: u16,
     needed: &[(Key, Coef)],
-) -> Result<Vec<bool>, NoMemory>
+) -> Result<Vec<bool>, AllocError>
     requires { AreDistinct needed.now }
     ensures hits { let all = in_series series needed.now in OnOk result
         (pairs.new.entries ≡ reverse (hits pairs.old.entries all) ++ others pairs.old.entries all) }
@@ -39,7 +38,7 @@ pub(crate) fn renew_hits(
 }
 
 // Moves a key that is in the list to its front, with a coefficient, and says whether it is there.
-fn renew_hit(pairs: &mut Pairs, key: SeriesKey, coef: Coef) -> Result<bool, NoMemory>
+fn renew_hit(pairs: &mut Pairs, key: SeriesKey, coef: Coef) -> Result<bool, AllocError>
     ensures there { IfOk result (λ is_there. is_there ≡ has pairs.old.entries key) }
     ensures entries { OnOk result (pairs.new.entries ≡
         (if has pairs.old.entries key then put_entries key_eq pairs.old key coef else pairs.old.entries)) }
@@ -59,7 +58,7 @@ pub(crate) fn put_news(
     series: u16,
     needed: &[(Key, Coef)],
     is_new: &[bool],
-) -> Result<(), NoMemory>
+) -> Result<(), AllocError>
     requires distinct { AreDistinct needed.now }
     requires news { is_new.now ≡ are_new pairs.old.entries (in_series series needed.now) }
     ensures news { let all = in_series series needed.now in OnOk result

@@ -2,7 +2,7 @@ use om3_coeff::Key;
 use thiserror::Error;
 
 /// Why a workload wasn't answered to its end. The edits before stay.
-#[derive(Clone, Copy, Debug, PartialEq, Eq, Error)]
+#[derive(Clone, Copy, Debug, Error)]
 pub enum DemoEnd {
     /// A call of the disk failed: its count of faults has risen. The store has to be opened again.
     #[error("a call of the disk failed")]

@@ -1,14 +1,13 @@
 ghost use Rattle.std.specs.Prelude.{◌≡◌, ◌+◌, ◌≤◌, ◌<◌, ◌^◌, IfOk, OnOk, unsigned_abs};
 ghost use Rattle.demo_workload.specs.Draws.{next_state, number_in, moved, after_draw, walked, values};
 
-use crate::errors::NoMemory;
-use std::alloc::Global;
+use std::alloc::{AllocError, Global};
 
 /// The values of an append.
 const VALUES: u32 = 256;
 
 /// Where the draws of a workload stand: the generator's state, and the last value.
-#[derive(Clone, Copy, PartialEq, Eq)]
+#[derive(Clone, Copy)]
 pub(crate) struct Walk {
     pub(crate) state: u64,
     pub(crate) value: i64,
@@ -36,7 +35,7 @@ impl Walk {
 
     /// Draws the values of an append.
     #[tactic(auto, using(crate::proofs::Walking::walked_more, crate::proofs::Walking::values_more))]
-    pub(crate) fn values(&mut self, alloc: Global) -> Result<Vec<Option<i128>>, NoMemory>
+    pub(crate) fn values(&mut self, alloc: Global) -> Result<Vec<Option<i128>>, AllocError>
         requires { unsigned_abs self.old.value + 25600 ≤ 104857600 }
         ensures values { IfOk result (λ list. list.items ≡ values 256 self.old) }
         ensures walk { OnOk result (self.new ≡ walked 256 self.old) }

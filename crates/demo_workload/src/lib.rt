@@ -16,7 +16,6 @@
 mod answering;
 pub mod demo_end;
 mod draws;
-pub mod errors;
 mod plans;
 mod requests;
 pub mod running;
@@ -24,7 +23,6 @@ pub mod summaries;
 pub mod workloads;
 
 pub use demo_end::DemoEnd;
-pub use errors::NoMemory;
 pub use running::run_workload;
 pub use summaries::Summary;
 pub use workloads::Workload;

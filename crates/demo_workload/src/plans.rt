@@ -6,13 +6,12 @@ ghost use Rattle.demo_workload.specs.Workload.{slots_after, set_in, after_set, v
 ghost use Rattle.demo_workload.specs.Remaining.{remaining, HasRoom, IsPlan};
 
 use crate::draws::Walk;
-use crate::errors::NoMemory;
 use crate::requests::{appends, creates, opens, sets, views};
 use request_lines::Request;
-use std::alloc::Global;
+use std::alloc::{AllocError, Global};
 
 /// The kind of the next request.
-#[derive(Clone, Copy, PartialEq, Eq)]
+#[derive(Clone, Copy)]
 pub(crate) enum Stage {
     Create,
     Open,
@@ -22,7 +21,7 @@ pub(crate) enum Stage {
 }
 
 /// What a workload has still to give.
-#[derive(Clone, Copy, PartialEq, Eq)]
+#[derive(Clone, Copy)]
 pub(crate) struct Plan {
     pub(crate) walk: Walk,
     pub(crate) stage: Stage,
@@ -34,7 +33,7 @@ pub(crate) struct Plan {
 
 impl Plan {
     /// The next request, or none where nothing is left. After want of memory nothing has changed.
-    pub(crate) fn next(&mut self, alloc: Global) -> Result<Option<Request>, NoMemory>
+    pub(crate) fn next(&mut self, alloc: Global) -> Result<Option<Request>, AllocError>
         requires { IsPlan self.old }
         ensures given { IfOk result (λ next. MatchOption next ((remaining self.old ≡ []) × (remaining self.new ≡ [])) (λ request. remaining self.old ≡ request ∷ remaining self.new)) }
         ensures in_range { IfOk result (λ next. IfSome next IsInRange) }
@@ -51,7 +50,7 @@ impl Plan {
         }
     }
 
-    fn create(&mut self, alloc: Global) -> Result<Request, NoMemory>
+    fn create(&mut self, alloc: Global) -> Result<Request, AllocError>
         requires plan { IsPlan self.old }
         requires stage { self.old.stage ≡ stage.Create }
         ensures given { IfOk result (λ request. remaining self.old ≡ request ∷ remaining self.new) }
@@ -75,7 +74,7 @@ impl Plan {
         opens()
     }
 
-    fn append(&mut self, alloc: Global) -> Result<Request, NoMemory>
+    fn append(&mut self, alloc: Global) -> Result<Request, AllocError>
         requires plan { IsPlan self.old }
         requires stage { self.old.stage ≡ stage.Append }
         requires some { 0 < self.old.left }
@@ -134,7 +133,7 @@ impl Plan {
         self.round += 1;
     }
 
-    fn set(&mut self, alloc: Global) -> Result<Request, NoMemory>
+    fn set(&mut self, alloc: Global) -> Result<Request, AllocError>
         requires plan { IsPlan self.old }
         requires stage { self.old.stage ≡ stage.Set }
         ensures given { IfOk result (λ request. remaining self.old ≡ request ∷ remaining self.new) }
@@ -149,7 +148,7 @@ impl Plan {
         Ok(request)
     }
 
-    fn view(&mut self, alloc: Global) -> Result<Request, NoMemory>
+    fn view(&mut self, alloc: Global) -> Result<Request, AllocError>
         requires plan { IsPlan self.old }
         requires stage { self.old.stage ≡ stage.View }
         ensures given { IfOk result (λ request. remaining self.old ≡ request ∷ remaining self.new) }

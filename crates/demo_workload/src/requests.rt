@@ -5,28 +5,27 @@ ghost use Rattle.demo_workload.specs.Draws.{walked};
 ghost use Rattle.demo_workload.specs.Workload.{name, creates, opens, appends, sets, views, drawn_twice};
 
 use crate::draws::Walk;
-use crate::errors::NoMemory;
 use request_lines::{RangeWord, Request};
 use series_book::{Edit, Name, NameError, Values};
-use std::alloc::Global;
+use std::alloc::{AllocError, Global};
 
 /// The session of all views.
 const SESSION: u32 = 1;
 
 /// The name of the series.
-fn name(alloc: Global) -> Result<Name, NoMemory>
+fn name(alloc: Global) -> Result<Name, AllocError>
     ensures name { IfOk result (λ n. n ≡ name) }
     ensures named { IfOk result (λ n. IsTrue (is_name n)) }
 {
     match Name::new(alloc, b"demo") {
         Ok(name) => Ok(name),
         Err(NameError::NotAName) => unreachable!(),
-        Err(NameError::NoMemory) => Err(NoMemory),
+        Err(NameError::NoMemory) => Err(AllocError),
     }
 }
 
 /// The creation of the series.
-pub(crate) fn creates(alloc: Global) -> Result<Request, NoMemory>
+pub(crate) fn creates(alloc: Global) -> Result<Request, AllocError>
     ensures request { IfOk result (λ request. request ≡ creates) }
     ensures in_range { IfOk result IsInRange }
 {
@@ -51,7 +50,7 @@ pub(crate) fn opens() -> Request
 }
 
 /// The append of a round. After want of memory the walk may have gone on.
-pub(crate) fn appends(alloc: Global, walk: &mut Walk) -> Result<Request, NoMemory>
+pub(crate) fn appends(alloc: Global, walk: &mut Walk) -> Result<Request, AllocError>
     requires { unsigned_abs walk.old.value + 25600 ≤ 104857600 }
     ensures request { IfOk result (λ request. request ≡ appends walk.old) }
     ensures in_range { IfOk result IsInRange }
@@ -67,7 +66,7 @@ pub(crate) fn appends(alloc: Global, walk: &mut Walk) -> Result<Request, NoMemor
 }
 
 /// The set of one of so many slots. After want of memory the walk may have gone on.
-pub(crate) fn sets(alloc: Global, slots: u64, walk: &mut Walk) -> Result<Request, NoMemory>
+pub(crate) fn sets(alloc: Global, slots: u64, walk: &mut Walk) -> Result<Request, AllocError>
     requires some { 0 < slots }
     ensures request { IfOk result (λ request. request ≡ sets slots walk.old) }
     ensures in_range { IfOk result IsInRange }
@@ -91,7 +90,7 @@ fn set_value(draw: u64) -> i128
 }
 
 /// The view of so many slots.
-pub(crate) fn views(alloc: Global, slots: u64) -> Result<Request, NoMemory>
+pub(crate) fn views(alloc: Global, slots: u64) -> Result<Request, AllocError>
     ensures request { IfOk result (λ request. request ≡ views slots) }
     ensures in_range { IfOk result IsInRange }
 {

@@ -3,13 +3,12 @@ ghost use Rattle.std.specs.Fmt.{decimal};
 ghost use Rattle.chart_frames.specs.Frames.{spelling};
 ghost use Rattle.demo_workload.specs.Summaries.{AddsReply, summary_of, summary_line, picture_pixels, IsSmall};
 
-use crate::errors::NoMemory;
 use chart_frames::Frame;
 use line_raster::Bitmap;
-use std::alloc::Global;
+use std::alloc::{AllocError, Global};
 
 /// What the replies to requests are in all.
-#[derive(Clone, Copy, PartialEq, Eq)]
+#[derive(Clone, Copy)]
 pub struct Summary {
     /// The requests.
     pub requests: u64,
@@ -78,7 +77,7 @@ impl Summary {
     }
 
     /// The line of the summary.
-    pub fn line(&self, alloc: Global) -> Result<Vec<u8>, NoMemory>
+    pub fn line(&self, alloc: Global) -> Result<Vec<u8>, AllocError>
         ensures { IfOk result (λ line. line.items ≡ summary_line self.now) }
     {
         let mut line = replies_text(alloc, self.requests, self.done, self.refused)?;
@@ -89,7 +88,12 @@ impl Summary {
 }
 
 /// The first half of a summary's line.
-fn replies_text(alloc: Global, requests: u64, done: u64, refused: u64) -> Result<Vec<u8>, NoMemory>
+fn replies_text(
+    alloc: Global,
+    requests: u64,
+    done: u64,
+    refused: u64,
+) -> Result<Vec<u8>, AllocError>
     ensures { IfOk result (λ text. text.items ≡ codes "requests " ++ (decimal requests ++ (codes " done " ++ (decimal done ++ (codes " refused " ++ decimal refused))))) }
 {
     let text = format!(in alloc; "requests {requests} done {done} refused {refused}")?;
@@ -97,7 +101,7 @@ fn replies_text(alloc: Global, requests: u64, done: u64, refused: u64) -> Result
 }
 
 /// The second half of a summary's line.
-fn views_text(alloc: Global, views: u64, sent: u64, black: u64) -> Result<Vec<u8>, NoMemory>
+fn views_text(alloc: Global, views: u64, sent: u64, black: u64) -> Result<Vec<u8>, AllocError>
     ensures { IfOk result (λ text. text.items ≡ codes " views " ++ (decimal views ++ (codes " sent " ++ (decimal sent ++ (codes " black " ++ (decimal black ++ codes "\n")))))) }
 {
     let text = format!(in alloc; " views {views} sent {sent} black {black}\n")?;

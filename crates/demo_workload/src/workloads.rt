@@ -3,10 +3,9 @@ ghost use Rattle.request_lines.specs.Requests.{IsInRange};
 ghost use Rattle.demo_workload.specs.Workload.{workload};
 
 use crate::draws::Walk;
-use crate::errors::NoMemory;
 use crate::plans::{Plan, Stage};
 use request_lines::Request;
-use std::alloc::Global;
+use std::alloc::{AllocError, Global};
 use std::marker::Model;
 
 /// The most rounds of a workload.
@@ -50,7 +49,7 @@ impl Workload {
     }
 
     /// The next request, or none where all were given. After want of memory nothing has changed.
-    pub fn next(&mut self, alloc: Global) -> Result<Option<Request>, NoMemory>
+    pub fn next(&mut self, alloc: Global) -> Result<Option<Request>, AllocError>
         ensures given { IfOk result (λ next. MatchOption next ((self.old ≡ []) × (self.new ≡ [])) (λ request. self.old ≡ request ∷ self.new)) }
         ensures in_range { IfOk result (λ next. IfSome next IsInRange) }
         ensures kept { OnErr result (self.new ≡ self.old) }

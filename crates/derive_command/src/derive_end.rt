@@ -3,7 +3,7 @@ use crate::derive_refusal::DeriveRefusal;
 use thiserror::Error;
 
 /// Why not all lines of the input were answered. The answers to the lines before were sent.
-#[derive(Clone, Copy, Debug, PartialEq, Eq, Error)]
+#[derive(Clone, Copy, Debug, Error)]
 pub enum DeriveEnd {
     /// The line that begins at this offset is no request, or is too long.
     #[error("bad line at {at}")]

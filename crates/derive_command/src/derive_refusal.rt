@@ -6,7 +6,7 @@ use series_book::Refusal;
 use thiserror::Error;
 
 /// Why a request is refused. The variants stand in the order in which they are tested.
-#[derive(Clone, Copy, Debug, PartialEq, Eq, Error)]
+#[derive(Clone, Copy, Debug, Error)]
 pub enum DeriveRefusal {
     /// No series has the one or the other name.
     #[error("no such series")]

@@ -2,7 +2,7 @@
 use thiserror::Error;
 
 /// Why a line gives no request.
-#[derive(Clone, Copy, Debug, PartialEq, Eq, Error)]
+#[derive(Clone, Copy, Debug, Error)]
 pub enum RequestError {
     /// The line spells none.
     #[error("the line is no request")]

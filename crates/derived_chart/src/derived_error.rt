@@ -6,7 +6,7 @@ use std::alloc::{AllocError, AllocFailed};
 use thiserror::Error;
 
 /// Why there are no rows of a sum.
-#[derive(Clone, Copy, Debug, PartialEq, Eq, Error)]
+#[derive(Clone, Copy, Debug, Error)]
 pub enum DerivedError {
     /// The sum at this time is more than 10^18 in size, and none before it in the window is.
     #[error("the sum at the time {time} is too large")]

@@ -2,7 +2,7 @@
 
 /// `a * x + b * y`, where the value y stands `shift` slots behind x in its own series: slot i of the first
 /// series has the time of slot i + shift of the second one.
-#[derive(Clone, Copy, PartialEq, Eq)]
+#[derive(Clone, Copy)]
 pub struct Sum {
     /// At most 10^9 in size.
     pub a: i64,

@@ -2,7 +2,7 @@
 use thiserror::Error;
 
 /// Why no store was opened.
-#[derive(Clone, Copy, Debug, PartialEq, Eq, Error)]
+#[derive(Clone, Copy, Debug, Error)]
 pub enum OpeningCause {
     /// The disk has fewer than 128 blocks: so many.
     #[error("a disk of {0} blocks is too small for a store")]

@@ -10,7 +10,7 @@ use thiserror::Error;
 
 /// Why not all frames of the input were drawn. The pictures of the frames before were sent, and their covers where covers
 /// are asked for.
-#[derive(Clone, Copy, Debug, PartialEq, Eq, Error)]
+#[derive(Clone, Copy, Debug, Error)]
 pub enum DrawEnd {
     /// There was no memory.
     #[error("out of memory")]
@@ -59,38 +59,6 @@ impl From<FrameFault> for DrawEnd {
             FrameFault::BadFrame { at } => DrawEnd::BadFrame { at },
             FrameFault::NoMemory => DrawEnd::NoMemory,
         }
-    }
-}
-
-impl From<chart_client::NoMemory> for DrawEnd {
-    ghost from_gives = { λ _ end. end ≡ NoMemory };
-
-    fn from(_error: chart_client::NoMemory) -> DrawEnd {
-        DrawEnd::NoMemory
-    }
-}
-
-impl From<chart_frames::NoMemory> for DrawEnd {
-    ghost from_gives = { λ _ end. end ≡ NoMemory };
-
-    fn from(_error: chart_frames::NoMemory) -> DrawEnd {
-        DrawEnd::NoMemory
-    }
-}
-
-impl From<line_raster::NoMemory> for DrawEnd {
-    ghost from_gives = { λ _ end. end ≡ NoMemory };
-
-    fn from(_error: line_raster::NoMemory) -> DrawEnd {
-        DrawEnd::NoMemory
-    }
-}
-
-impl From<pbm_writer::NoMemory> for DrawEnd {
-    ghost from_gives = { λ _ end. end ≡ NoMemory };
-
-    fn from(_error: pbm_writer::NoMemory) -> DrawEnd {
-        DrawEnd::NoMemory
     }
 }
 

@@ -4,7 +4,7 @@ use page_space::SpaceError;
 use thiserror::Error;
 
 /// Why no store was made.
-#[derive(Clone, Copy, Debug, PartialEq, Eq, Error)]
+#[derive(Clone, Copy, Debug, Error)]
 pub enum InitCause {
     /// The disk has fewer than 128 blocks: so many.
     #[error("a disk of {0} blocks is too small for a store")]

@@ -2,12 +2,11 @@ ghost use Rattle.std.specs.Prelude.{◌≡◌};
 ghost use Rattle.filter_scan.specs.declared.scan_error.ScanError.TheVariants.{Node, NoMemory};
 
 use om3_coeff::NodeError;
-use query_rewriter::NoMemory as NoPlan;
 use std::alloc::{AllocError, AllocFailed};
 use thiserror::Error;
 
 /// Why a filtered view got no rows.
-#[derive(Clone, Copy, Debug, PartialEq, Eq, Error)]
+#[derive(Clone, Copy, Debug, Error)]
 pub enum ScanError {
     /// The nodes gave no coefficient.
     #[error("a coefficient wasn't given: {0}")]
@@ -22,14 +21,6 @@ impl From<NodeError> for ScanError {
 
     fn from(error: NodeError) -> ScanError {
         ScanError::Node(error)
-    }
-}
-
-impl From<NoPlan> for ScanError {
-    ghost from_gives = { λ _ e. e ≡ NoMemory };
-
-    fn from(_error: NoPlan) -> ScanError {
-        ScanError::NoMemory
     }
 }
 

@@ -7,20 +7,19 @@ ghost use Rattle.gate_pages.specs.Batches.{entry_of};
 ghost use Rattle.gate_pages.specs.Entries.{entries};
 
 use crate::batch::Batch;
-use crate::errors::NoMemory;
 use crate::layout::MOST;
 use crate::page::Page;
-use std::alloc::Global;
+use std::alloc::{AllocError, Global};
 
 /// Room for so many pages.
-fn room(alloc: Global) -> Result<Vec<Page>, NoMemory>
+fn room(alloc: Global) -> Result<Vec<Page>, AllocError>
     ensures { IfOk result (λ pages. length pages.items ≡ 64) }
 {
     let mut pages = Vec::new(alloc);
     for _ in 0..MOST {
         let page = Page::new(alloc)?;
         if pages.push(page).is_err() {
-            return Err(NoMemory);
+            return Err(AllocError);
         }
     }
     Ok(pages)
@@ -28,7 +27,7 @@ fn room(alloc: Global) -> Result<Vec<Page>, NoMemory>
 
 impl Batch {
     /// An empty batch with room for 64 pages. No other call of it takes memory.
-    pub fn new(alloc: Global) -> Result<Batch, NoMemory>
+    pub fn new(alloc: Global) -> Result<Batch, AllocError>
         ensures { IfOk result (λ batch. entries batch ≡ []) }
     {
         let pages = room(alloc)?;

@@ -7,7 +7,7 @@ use std::alloc::AllocError;
 use thiserror::Error;
 
 /// A call of the disk failed. It comes only where the disk's count of faults has risen.
-#[derive(Clone, Copy, Debug, PartialEq, Eq, Error)]
+#[derive(Clone, Copy, Debug, Error)]
 #[error("a call of the disk failed")]
 pub struct DiskFault;
 
@@ -17,19 +17,8 @@ impl From<Failed> for DiskFault {
     }
 }
 
-/// There was no memory.
-#[derive(Clone, Copy, Debug, PartialEq, Eq, Error)]
-#[error("out of memory")]
-pub struct NoMemory;
-
-impl From<AllocError> for NoMemory {
-    fn from(_: AllocError) -> NoMemory {
-        NoMemory
-    }
-}
-
 /// Why pages weren't opened or formatted.
-#[derive(Clone, Copy, Debug, PartialEq, Eq, Error)]
+#[derive(Clone, Copy, Debug, Error)]
 pub enum OpenCause {
     /// A call of the disk failed: its count of faults has risen.
     #[error("a call of the disk failed")]
@@ -57,14 +46,6 @@ impl From<AllocError> for OpenCause {
     ghost from_gives = { λ _ e. e ≡ AtMemory };
 
     fn from(_: AllocError) -> OpenCause {
-        OpenCause::NoMemory
-    }
-}
-
-impl From<NoMemory> for OpenCause {
-    ghost from_gives = { λ _ e. e ≡ AtMemory };
-
-    fn from(_: NoMemory) -> OpenCause {
         OpenCause::NoMemory
     }
 }

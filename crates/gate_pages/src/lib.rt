@@ -28,7 +28,7 @@ mod pages;
 mod recovery;
 
 pub use batch::Batch;
-pub use errors::{DiskFault, NoMemory, OpenCause, OpenError};
+pub use errors::{DiskFault, OpenCause, OpenError};
 pub use gate_pages::GatePages;
 pub use list_pages::ListPages;
 pub use page_world::PageWorld;

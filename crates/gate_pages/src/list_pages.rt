@@ -3,9 +3,8 @@ ghost use Rattle.std.specs.Prelude.{◌≡◌, ◌*◌, ◌<◌, ◌≤◌, ℕ,
 ghost use Rattle.block_disk.specs.Blocks.{block_size};
 ghost use Rattle.block_disk.specs.MemDisk.{blocks_of};
 
-use crate::errors::NoMemory;
 use block_disk::BLOCK;
-use std::alloc::Global;
+use std::alloc::{AllocError, Global};
 
 /// Pages in memory. No call of them fails. A crash leaves nothing of them.
 #[derive(Drop)]
@@ -17,7 +16,7 @@ pub struct ListPages {
 
 impl ListPages {
     /// So many pages, all zero.
-    pub fn new(alloc: Global, count: u32) -> Result<ListPages, NoMemory>
+    pub fn new(alloc: Global, count: u32) -> Result<ListPages, AllocError>
         ensures count { IfOk result (λ pages. pages.count ≡ count) }
         ensures zero { IfOk result (λ pages. (p : ℕ) → p < count → blocks_of pages.bytes.items p ≡ replicate block_size 0) }
     {

@@ -2,9 +2,8 @@
 ghost use Rattle.std.specs.Prelude.{◌≡◌, IfOk};
 ghost use Rattle.block_disk.specs.Blocks.{IsBlock};
 
-use crate::errors::NoMemory;
 use block_disk::BLOCK;
-use std::alloc::Global;
+use std::alloc::{AllocError, Global};
 
 /// A page of 4,096 bytes with its number.
 #[derive(Drop)]
@@ -16,7 +15,7 @@ pub struct Page {
 
 impl Page {
     /// Page 0, all zero.
-    pub(crate) fn new(alloc: Global) -> Result<Page, NoMemory> {
+    pub(crate) fn new(alloc: Global) -> Result<Page, AllocError> {
         let bytes = vec![in alloc; 0; BLOCK]?;
         Ok(Page { number: 0, bytes })
     }

@@ -10,7 +10,6 @@
 #![tactic(auto)]
 
 mod drawing;
-mod failure;
 mod flat;
 mod ideal;
 mod position;
@@ -18,7 +17,6 @@ mod steep;
 mod storage;
 
 pub use drawing::{column_fill, segment};
-pub use failure::NoMemory;
 pub use ideal::{column_in_row, ends, row_in_column};
 pub use position::Point;
 pub use storage::Bitmap;

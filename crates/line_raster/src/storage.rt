@@ -1,8 +1,7 @@
 ghost use Rattle.std.specs.Prelude.{◌≡◌, ℕ, ◌+◌, ◌*◌, ◌<◌, ◌≤◌, ◌⊎◌, false, IfOk, count_by};
 ghost use Rattle.line_raster.specs.Canvas.{Canvas, black_at, Adds, IsBlank, black_pixels};
 
-use super::NoMemory;
-use std::alloc::Global;
+use std::alloc::{AllocError, Global};
 use std::marker::Model;
 
 /// A picture of black and white pixels, 1 to 4,096 columns wide and 1 to 4,096 rows high.
@@ -28,7 +27,7 @@ impl Model for Bitmap {
 
 impl Bitmap {
     /// A white bitmap of `width` columns and `height` rows, 1 to 4,096 each.
-    pub fn new(alloc: Global, width: u16, height: u16) -> Result<Self, NoMemory>
+    pub fn new(alloc: Global, width: u16, height: u16) -> Result<Self, AllocError>
         requires some_columns { 1 ≤ width }
         requires columns_in_range { width ≤ 4096 }
         requires some_rows { 1 ≤ height }

@@ -5,13 +5,13 @@ ghost use Rattle.series_book.specs.declared.refusals.Refusal.{Refusal};
 ghost use Rattle.zoom_session.specs.Sessions.{is_open, session_of, AreSessions};
 ghost use Rattle.live_view.specs.Replies.{refused, too_large, follow_reply, unfollow_reply, is_too_large, live_bound};
 
-use crate::errors::NoMemory;
 use crate::live::Live;
 use crate::numbers::{take_out, with_number};
 use crate::passing::is_open;
 use crate::stepper::Stepper;
 use chart_frames::Frame;
 use series_book::Refusal;
+use std::alloc::AllocError;
 use zoom_session::ViewSpec;
 
 /// The number of the refusal to follow a view that may need more coefficients than its cache holds.
@@ -20,8 +20,8 @@ pub const TOO_LARGE: u8 = 22;
 impl<S: Stepper> Live<S> {
     ghost use Rattle.live_view.specs.Live as live;
 
-    /// Follows a session, unless that is refused. After `NoMemory` nothing has changed.
-    pub(crate) fn follow(&mut self, session: u32) -> Result<Frame, NoMemory>
+    /// Follows a session, unless that is refused. After want of memory nothing has changed.
+    pub(crate) fn follow(&mut self, session: u32) -> Result<Frame, AllocError>
         requires number { IsSession session }
         requires idle { live.IsIdle self.old }
         ensures reply { IfOk result (λ answer. live.AnswersItself (follow_reply session (session_of session (live.sessions self.old))) answer self.old self.new) }

@@ -23,6 +23,6 @@ pub mod stepper;
 mod stepping;
 mod streams;
 
-pub use errors::{LiveFault, NoMemory};
+pub use errors::LiveFault;
 pub use live::Live;
 pub use stepper::Stepper;

@@ -13,7 +13,7 @@ use whole_number::numbers::natural_value;
 pub const LONGEST_LINE: usize = 8_192;
 
 /// What a line asks of live views.
-#[derive(Clone, Copy, PartialEq, Eq)]
+#[derive(Clone, Copy)]
 pub enum LiveLine {
     /// `follow N`: the edits of the session's series are to be pushed to it.
     Follow { session: u32 },

@@ -3,11 +3,10 @@ ghost use Rattle.std.specs.Prelude.{◌≡◌, ◌≤◌, length, Ok, Err, IfOk}
 ghost use Rattle.request_lines.specs.Requests.{read_line};
 ghost use Rattle.live_view.specs.Meaning.{name_of, meaning_in, meaning_of};
 
-use crate::errors::NoMemory;
 use crate::live_lines::LONGEST_LINE;
 use request_lines::{LineError, Request, parse_line};
 use series_book::{Edit, Name};
-use std::alloc::Global;
+use std::alloc::{AllocError, Global};
 
 /// What a line means for those that follow.
 #[derive(Drop)]
@@ -22,7 +21,7 @@ pub enum Meaning {
 
 /// What a line means.
 #[tactic(auto, unfolding(crate::specs::Meaning::meaning_of))]
-pub(crate) fn meaning_of(alloc: Global, line: &[u8]) -> Result<Meaning, NoMemory>
+pub(crate) fn meaning_of(alloc: Global, line: &[u8]) -> Result<Meaning, AllocError>
     ensures { IfOk result (λ meaning. meaning ≡ meaning_of line.now) }
 {
     if line.len() > LONGEST_LINE {
@@ -31,7 +30,7 @@ pub(crate) fn meaning_of(alloc: Global, line: &[u8]) -> Result<Meaning, NoMemory
     match parse_line(alloc, line) {
         Ok(request) => Ok(meaning_in(request)),
         Err(LineError::BadLine { .. }) => Ok(Meaning::Other),
-        Err(LineError::NoMemory) => Err(NoMemory),
+        Err(LineError::NoMemory) => Err(AllocError),
     }
 }
 

@@ -2,11 +2,14 @@
 ghost use Rattle.std.specs.Prelude.{◌≡◌, IfOk, nat_lt, filter};
 ghost use Rattle.live_view.specs.Numbers.{with_number, without_number};
 
-use crate::errors::NoMemory;
-use std::alloc::Global;
+use std::alloc::{AllocError, Global};
 
 /// The numbers with one more, in rising order where they rise.
-pub(crate) fn with_number(alloc: Global, numbers: &[u32], number: u32) -> Result<Vec<u32>, NoMemory>
+pub(crate) fn with_number(
+    alloc: Global,
+    numbers: &[u32],
+    number: u32,
+) -> Result<Vec<u32>, AllocError>
     ensures { IfOk result (λ all. all.items ≡ with_number number numbers.now) }
 {
     let mut all = below(alloc, numbers, number)?;
@@ -17,7 +20,7 @@ pub(crate) fn with_number(alloc: Global, numbers: &[u32], number: u32) -> Result
 }
 
 /// Those below a number.
-fn below(alloc: Global, numbers: &[u32], number: u32) -> Result<Vec<u32>, NoMemory>
+fn below(alloc: Global, numbers: &[u32], number: u32) -> Result<Vec<u32>, AllocError>
     ensures { IfOk result (λ below. below.items ≡ filter (λ other. nat_lt other number) numbers.now) }
 {
     let below = numbers
@@ -29,7 +32,7 @@ fn below(alloc: Global, numbers: &[u32], number: u32) -> Result<Vec<u32>, NoMemo
 }
 
 /// Those above it.
-fn above(alloc: Global, numbers: &[u32], number: u32) -> Result<Vec<u32>, NoMemory>
+fn above(alloc: Global, numbers: &[u32], number: u32) -> Result<Vec<u32>, AllocError>
     ensures { IfOk result (λ above. above.items ≡ filter (λ other. nat_lt number other) numbers.now) }
 {
     let above = numbers
@@ -48,7 +51,7 @@ pub(crate) fn take_out(numbers: &mut Vec<u32>, number: u32)
 }
 
 /// A copy of the numbers.
-pub(crate) fn copy_of(alloc: Global, numbers: &[u32]) -> Result<Vec<u32>, NoMemory>
+pub(crate) fn copy_of(alloc: Global, numbers: &[u32]) -> Result<Vec<u32>, AllocError>
     ensures { IfOk result (λ copy. copy.items ≡ numbers.now) }
 {
     let copy = Vec::from_slice(alloc, numbers)?;

@@ -5,11 +5,10 @@ ghost use Rattle.m4_groups.specs.Rows.{AreRowsOf};
 ghost use Rattle.m4_groups.specs.Folded.{put_last};
 ghost use Rattle.m4_groups.specs.Spanned.{last_column};
 
-use crate::no_memory::NoMemory;
 use crate::row::Row;
 use crate::rows::Rows;
 use chart_grid::Grid;
-use std::alloc::Global;
+use std::alloc::{AllocError, Global};
 use std::marker::Model;
 
 /// The rows of the points that were pushed so far, in order of time.
@@ -36,9 +35,9 @@ impl Model for Groups {
 }
 
 impl Groups {
-    /// No point yet. It has room for a row for each column of the grid, and is `NoMemory` where there
+    /// No point yet. It has room for a row for each column of the grid, and is an error where there
     /// is none.
-    pub fn new(alloc: Global, grid: Grid) -> Result<Groups, NoMemory>
+    pub fn new(alloc: Global, grid: Grid) -> Result<Groups, AllocError>
         ensures grid { IfOk result (λ g. g.grid ≡ grid) }
         ensures none { IfOk result (IsGathered []) }
     {
@@ -52,8 +51,8 @@ impl Groups {
         })
     }
 
-    /// Takes in the point at the time `t` with the value `v`. After `NoMemory` nothing has changed.
-    pub fn push(&mut self, t: i64, v: i64) -> Result<(), NoMemory>
+    /// Takes in the point at the time `t` with the value `v`. After want of memory nothing has changed.
+    pub fn push(&mut self, t: i64, v: i64) -> Result<(), AllocError>
         requires shown { InWindow self.old.grid t }
         requires later { IsLater self.old t }
         ensures gathered { OnOk result ((points : List (ℤ × ℤ)) →
@@ -81,7 +80,7 @@ impl Groups {
     }
 
     // Takes in a point of another column, which gets a row.
-    fn begin(&mut self, t: i64, v: i64) -> Result<(), NoMemory>
+    fn begin(&mut self, t: i64, v: i64) -> Result<(), AllocError>
         requires shown { InWindow self.old.grid t }
         requires other { last_column self.old.rows ≢ Some (column self.old.grid t) }
         ensures begun { OnOk result (self.new ≡ with_point self.old t v) }

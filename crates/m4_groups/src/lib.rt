@@ -14,13 +14,11 @@
 mod drawing;
 mod groups;
 pub mod laws;
-mod no_memory;
 mod row;
 mod rows;
 mod scale;
 
 pub use drawing::draw_rows;
 pub use groups::Groups;
-pub use no_memory::NoMemory;
 pub use row::Row;
 pub use rows::Rows;

@@ -25,7 +25,7 @@ pub(crate) struct Window {
 
 /// How a key's range lies to the columns of a window: it meets none, or it is within one, or a border
 /// of a column or an end of the window lies inside it.
-#[derive(Clone, Copy, PartialEq, Eq)]
+#[derive(Clone, Copy)]
 pub(crate) enum Place {
     Outside,
     Within(u16),

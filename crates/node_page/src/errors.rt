@@ -1,7 +1,7 @@
 use thiserror::Error;
 
 /// The first field of a page that breaks its rule, in this order.
-#[derive(Clone, Copy, Debug, PartialEq, Eq, Error)]
+#[derive(Clone, Copy, Debug, Error)]
 pub enum BadPage {
     /// Byte 0 isn't 2.
     #[error("the page is no tree page")]

@@ -2,12 +2,12 @@ use crate::key::Key;
 use thiserror::Error;
 
 /// The coefficient splits the span for no two halves.
-#[derive(Clone, Copy, Debug, PartialEq, Eq, Error)]
+#[derive(Clone, Copy, Debug, Error)]
 #[error("the coefficient doesn't fit the span")]
 pub struct BadCoef;
 
 /// Why nodes gave no coefficient.
-#[derive(Clone, Copy, Debug, PartialEq, Eq, Error)]
+#[derive(Clone, Copy, Debug, Error)]
 pub enum NodeError {
     /// The disk failed: its count of faults has risen.
     #[error("the disk failed")]

@@ -5,7 +5,7 @@ ghost use Rattle.om3_coeff.specs.Walks.{IsPlace};
 use crate::key::Key;
 
 /// How a key's range lies to the slots of a walk: outside, within, or cut by an end of them.
-#[derive(Clone, Copy, PartialEq, Eq)]
+#[derive(Clone, Copy)]
 pub(crate) enum Place {
     Outside,
     Within,

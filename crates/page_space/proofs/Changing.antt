@@ -6,7 +6,7 @@ use Rattle.std.proofs.lemmas.Bool.Decides.{eqb_tells}
 use Rattle.std.proofs.lemmas.Bool.{ne_eqb, eq-eqb}
 use Rattle.block_disk.specs.View.{Image}
 use Rattle.page_space.specs.declared.superblock.Superblock.{Superblock}
-use Rattle.page_space.specs.declared.errors.NoMemory.{NoMemory}
+use Rattle.std.specs.declared.alloc.AllocError.{AllocError}
 use Rattle.page_space.specs.declared.txn.Txn.{Txn}
 use Rattle.page_space.specs.Layout.{superblock_page, freed_page, with_head, with_series}
 use Rattle.page_space.specs.Spaces.{times, Stands}
@@ -47,7 +47,7 @@ stands_same count old new s taken freed same stands =
     subst P (fun_ext (λ p. sym (same p))) stands
 
 -- a transaction that holds the pages' own page 0 leaves them as they are
-pub begun_stands : (r : Result Txn NoMemory) (s : Superblock) → IfOk r (λ txn. txn.superblock ≡ s) → IfOk r (λ txn. (p : ℕ) → held_page txn p ≡ (if p == 0 then Some (superblock_page s) else None))
+pub begun_stands : (r : Result Txn AllocError) (s : Superblock) → IfOk r (λ txn. txn.superblock ≡ s) → IfOk r (λ txn. (p : ℕ) → held_page txn p ≡ (if p == 0 then Some (superblock_page s) else None))
     → IfOk r (λ txn. (count : ℕ) (image : Image) (taken freed : List ℕ) → Stands count image s taken freed → Stands count (left_by txn image) txn.superblock taken freed)
 begun_stands (Err cause) s is holds = tt
 begun_stands (Ok txn) s is holds = λ count image taken freed stands.

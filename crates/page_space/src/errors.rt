@@ -6,19 +6,8 @@ use gate_pages::DiskFault;
 use std::alloc::AllocError;
 use thiserror::Error;
 
-/// There was no memory.
-#[derive(Clone, Copy, Debug, PartialEq, Eq, Error)]
-#[error("out of memory")]
-pub struct NoMemory;
-
-impl From<gate_pages::NoMemory> for NoMemory {
-    fn from(_: gate_pages::NoMemory) -> NoMemory {
-        NoMemory
-    }
-}
-
 /// Why a space wasn't made, or gave no page.
-#[derive(Clone, Copy, Debug, PartialEq, Eq, Error)]
+#[derive(Clone, Copy, Debug, Error)]
 pub enum SpaceError {
     /// Page 0 lacks the magic. It comes from `open` alone.
     #[error("the pages hold no store")]
@@ -49,14 +38,6 @@ impl From<AllocError> for SpaceError {
     ghost from_gives = { λ _ e. e ≡ AtMemory };
 
     fn from(_: AllocError) -> SpaceError {
-        SpaceError::NoMemory
-    }
-}
-
-impl From<gate_pages::NoMemory> for SpaceError {
-    ghost from_gives = { λ _ e. e ≡ AtMemory };
-
-    fn from(_: gate_pages::NoMemory) -> SpaceError {
         SpaceError::NoMemory
     }
 }

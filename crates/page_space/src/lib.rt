@@ -29,6 +29,6 @@ mod taking;
 mod txn;
 mod txn_calls;
 
-pub use errors::{NoMemory, SpaceError};
+pub use errors::SpaceError;
 pub use space::Space;
 pub use txn::Txn;

@@ -10,7 +10,6 @@ ghost use Rattle.page_space.specs.Shown as shown;
 ghost use Rattle.page_space.specs.Spaces.{Stands};
 ghost use Rattle.page_space.specs.Transactions.{held, held_page, HasRoom, OnlyFirst};
 
-use crate::errors::NoMemory;
 use crate::freed_page::write_freed;
 use crate::layout::FIRST;
 use crate::space::Space;
@@ -18,7 +17,7 @@ use crate::superblock::Superblock;
 use crate::txn::Txn;
 use block_disk::BLOCK;
 use gate_pages::{DiskFault, Pages};
-use std::alloc::Global;
+use std::alloc::{AllocError, Global};
 
 impl<P: Pages> Space<P> {
     /// The number of pages of the store. It never changes.
@@ -112,7 +111,7 @@ impl<P: Pages> Space<P> {
     }
 
     /// A transaction over the pages as they are. It holds page 0 alone.
-    pub fn begin(&mut self, alloc: Global) -> Result<Txn, NoMemory>
+    pub fn begin(&mut self, alloc: Global) -> Result<Txn, AllocError>
         ensures same { self.new ≡ self.old }
         ensures superblock { IfOk result (λ txn. txn.superblock ≡ shown.numbers self.old) }
         ensures len { IfOk result (λ txn. length (held txn) ≡ 1) }

@@ -1,7 +1,7 @@
 //! The numbers of page 0.
 
 /// The numbers of page 0.
-#[derive(Clone, Copy, PartialEq, Eq)]
+#[derive(Clone, Copy)]
 pub struct Superblock {
     /// How many pages the store has.
     pub(crate) total: u32,

@@ -6,17 +6,16 @@ ghost use Rattle.page_space.specs.Layout.{superblock_page, IsSuperblock, in_use}
 ghost use Rattle.page_space.specs.Spaces.{Stands};
 ghost use Rattle.page_space.specs.Transactions.{held, held_page, HasRoom, OnlyFirst};
 
-use crate::errors::NoMemory;
 use crate::layout::SUPERBLOCK;
 use crate::superblock::Superblock;
 use crate::txn::Txn;
 use block_disk::BLOCK;
 use gate_pages::Batch;
-use std::alloc::Global;
+use std::alloc::{AllocError, Global};
 
 impl Txn {
     /// A transaction that holds page 0 alone, with these numbers.
-    pub(crate) fn new(alloc: Global, superblock: Superblock) -> Result<Txn, NoMemory>
+    pub(crate) fn new(alloc: Global, superblock: Superblock) -> Result<Txn, AllocError>
         requires { IsSuperblock superblock.total superblock }
         ensures superblock { IfOk result (λ txn. txn.superblock ≡ superblock) }
         ensures pages { IfOk result (λ txn. length (held txn) ≡ 1) }

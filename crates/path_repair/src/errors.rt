@@ -2,7 +2,7 @@
 use thiserror::Error;
 
 /// Why a tree wasn't changed.
-#[derive(Clone, Copy, Debug, PartialEq, Eq, Error)]
+#[derive(Clone, Copy, Debug, Error)]
 pub enum RepairError {
     /// The changed tree needs so many pages with all others in use, and there are so many.
     #[error("{needed} pages are needed and there are {have}")]

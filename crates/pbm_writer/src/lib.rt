@@ -7,9 +7,7 @@
 //! Sending the bytes is left to the layer above.
 #![tactic(auto)]
 
-mod failure;
 mod rows;
 mod writer;
 
-pub use failure::NoMemory;
 pub use writer::pbm;

@@ -1,13 +1,12 @@
 ghost use Rattle.std.specs.Prelude.{◌≡◌, ℕ, ◌<◌, ◌^◌, ◌++◌, length, IfOk};
 ghost use Rattle.pbm_writer.specs.Picture.{picture, rows_below, Shows};
 
-use super::NoMemory;
 use super::rows::write_rows;
 use line_raster::Bitmap;
 use std::alloc::{AllocError, Global};
 
 /// The bytes of the bitmap as a raw PBM file.
-pub fn pbm(alloc: Global, bitmap: &Bitmap) -> Result<Vec<u8>, NoMemory>
+pub fn pbm(alloc: Global, bitmap: &Bitmap) -> Result<Vec<u8>, AllocError>
     ensures bytes { IfOk result (λ bytes. bytes.items ≡ picture bitmap.now) }
     ensures shown { IfOk result (λ bytes. Shows bitmap.now bytes.items) }
 {

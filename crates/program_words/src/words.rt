@@ -49,7 +49,7 @@ pub enum Command {
 }
 
 /// Why the words aren't taken for a command.
-#[derive(Clone, Copy, PartialEq, Eq)]
+#[derive(Clone, Copy)]
 pub enum WordsEnd {
     /// They aren't one: the index of the first wrong word among the command and its operands, and their
     /// number where one is missing.

@@ -8,8 +8,8 @@ use crate::scopes::scope_of;
 use crate::taken::Taken;
 use chart_client::{Client, ClientError};
 use chart_frames::ViewFrame;
-use line_raster::{Bitmap, NoMemory};
-use std::alloc::Global;
+use line_raster::Bitmap;
+use std::alloc::{AllocError, Global};
 use std::marker::Model;
 use view_cover::draw_cover;
 
@@ -83,7 +83,7 @@ impl<'a> Progress<'a> {
     }
 
     /// The cover of the view's chart, by the coefficients that count so far.
-    pub fn cover(&self) -> Result<Bitmap, NoMemory>
+    pub fn cover(&self) -> Result<Bitmap, AllocError>
         ensures { IfOk result (DrawsCover self.now) }
     {
         let scope = scope_of(self.view);

@@ -18,4 +18,3 @@ mod trimming;
 pub use queries::{Plan, ViewQuery};
 pub use rewriting::rewrite;
 pub use slots::{on_slots, time_of};
-pub use value_filter::NoMemory;

@@ -7,12 +7,12 @@ use crate::queries::{Plan, ViewQuery};
 use crate::slots::window_slots;
 use crate::trimming::{holds_everywhere, trimmed};
 use chart_grid::{Axis, Grid};
-use std::alloc::Global;
-use value_filter::{Filter, NoMemory};
+use std::alloc::{AllocError, Global};
+use value_filter::Filter;
 
 /// The plan of a query. It keeps exactly the points that the query keeps, of whichever slots the series
 /// has; its slots are a range of the series' slots, all in the window.
-pub fn rewrite(alloc: Global, query: &ViewQuery) -> Result<Plan, NoMemory>
+pub fn rewrite(alloc: Global, query: &ViewQuery) -> Result<Plan, AllocError>
     requires { 0 < query.now.axis.step }
     ensures grid { IfOk result (λ plan. plan.grid ≡ query.now.grid) }
     ensures scan { IfOk result (IsScan query.now.axis) }
@@ -42,7 +42,7 @@ fn left_over(
     axis: Axis,
     grid: Grid,
     slots: (u64, u64),
-) -> Result<Option<Filter>, NoMemory>
+) -> Result<Option<Filter>, AllocError>
     requires step { 0 < axis.step }
     requires shown { AreShown axis grid slots.0 slots.1 }
     ensures { IfOk result (IsLeft filter.now axis slots.0 slots.1) }

@@ -2,14 +2,15 @@ ghost use Rattle.std.specs.Prelude.{◌≡◌, ◌+◌, ◌<◌, ◌≤◌, ◌+
 ghost use Rattle.reading_lines.specs.Lines.{reading_line, axis_row, series_line};
 
 use crate::pieces::{put_byte, put_decimal, put_integer, put_natural};
-use series_book::{Axis, Name, NoMemory};
+use series_book::{Axis, Name};
+use std::alloc::AllocError;
 
 /// Room for the line of a reading, and for that of a series behind its name.
 const LONGEST: usize = 96;
 
 /// Appends the line of a reading of a series with this scale. For want of memory nothing is appended; a text with room
 /// for the line lacks none.
-pub fn add_reading(text: &mut Vec<u8>, scale: u8, time: i64, value: i64) -> Result<(), NoMemory>
+pub fn add_reading(text: &mut Vec<u8>, scale: u8, time: i64, value: i64) -> Result<(), AllocError>
     requires { scale ≤ 9 }
     ensures line { OnOk result (text.new.items ≡ text.old.items ++ reading_line scale time value) }
     ensures kept { OnErr result (text.new.items ≡ text.old.items) }
@@ -27,7 +28,7 @@ pub fn add_reading(text: &mut Vec<u8>, scale: u8, time: i64, value: i64) -> Resu
 
 /// Appends the line of a series of this name, axis and scale. For want of memory nothing is appended; a text with room
 /// for the line lacks none.
-pub fn add_series(text: &mut Vec<u8>, name: &Name, axis: &Axis, scale: u8) -> Result<(), NoMemory>
+pub fn add_series(text: &mut Vec<u8>, name: &Name, axis: &Axis, scale: u8) -> Result<(), AllocError>
     ensures line { OnOk result (text.new.items ≡ text.old.items ++ series_line name.now axis.now scale) }
     ensures kept { OnErr result (text.new.items ≡ text.old.items) }
     ensures succeeds { vec_len text.old + length (series_line name.now axis.now scale) ≤ vec_capacity text.old → IsOk result }
@@ -41,7 +42,7 @@ pub fn add_series(text: &mut Vec<u8>, name: &Name, axis: &Axis, scale: u8) -> Re
     text.extend_from_slice(name.as_slice())?;
     if text.extend_from_slice(&line[start..]).is_err() {
         text.truncate(before);
-        return Err(NoMemory);
+        return Err(AllocError);
     }
     Ok(())
 }

@@ -8,7 +8,7 @@ use series_book::names::is_name;
 use whole_number::numbers::{integer_value, is_integer, is_natural, natural_value};
 
 /// What a place of a line allows.
-#[derive(Clone, Copy, PartialEq, Eq)]
+#[derive(Clone, Copy)]
 pub enum Place {
     /// The name of a series.
     Name,

@@ -6,7 +6,7 @@ ghost use Rattle.request_lines.specs.Ranges.{low_end, after_low, is_fixed, is_ra
 use whole_number::numbers::{integer_value, is_integer};
 
 /// The range of values that a view asks for.
-#[derive(Clone, Copy, PartialEq, Eq)]
+#[derive(Clone, Copy)]
 pub enum RangeWord {
     /// The least and the greatest value of the kept points.
     Auto,

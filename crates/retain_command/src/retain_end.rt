@@ -3,7 +3,7 @@ use chart_world::LineFault;
 use thiserror::Error;
 
 /// Why not all lines of the input were swept. The sweeps of the lines before stay.
-#[derive(Clone, Copy, Debug, PartialEq, Eq, Error)]
+#[derive(Clone, Copy, Debug, Error)]
 pub enum RetainEnd {
     /// The line that begins at this offset is no rule, or is too long.
     #[error("bad line at {at}")]

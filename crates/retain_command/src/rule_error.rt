@@ -1,9 +1,8 @@
 //! Why a line gives no rule.
-use series_book::NoMemory;
 use thiserror::Error;
 
 /// Why a line gives no rule.
-#[derive(Clone, Copy, Debug, PartialEq, Eq, Error)]
+#[derive(Clone, Copy, Debug, Error)]
 pub enum RuleError {
     /// The line spells none.
     #[error("the line is no rule")]

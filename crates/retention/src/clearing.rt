@@ -19,11 +19,12 @@ use crate::rule::Rule;
 use crate::sweep_error::SweepError;
 use gate_pages::Pages;
 use series_book::limits::MOST_CLEARED;
-use series_book::{Axis, Edit, Name, NoMemory};
+use series_book::{Axis, Edit, Name};
 use series_store::Store;
+use std::alloc::AllocError;
 
 /// The clear of the old slots of the aligned range that holds a slot.
-fn clear_range(name: &Name, axis: Axis, old: u64, slot: u64) -> Result<Edit, NoMemory>
+fn clear_range(name: &Name, axis: Axis, old: u64, slot: u64) -> Result<Edit, AllocError>
     requires low { slot < old }
     requires few { old ≤ MOST_SLOTS }
     ensures clear { (series : Series) → IsAxisOf series axis → IfOk result (λ clear. clear ≡ clear_of name.now series (range_first (slot / 4096)) (range_end old (slot / 4096))) }

@@ -6,7 +6,8 @@ ghost use Rattle.series_book.specs.Edits.{IsEdit, distance};
 ghost use Rattle.retention.specs.Sweeps.{clear_of, old_slots, slot_time, slots_before};
 
 use crate::rule::Rule;
-use series_book::{Axis, Edit, Name, NoMemory};
+use series_book::{Axis, Edit, Name};
+use std::alloc::AllocError;
 
 /// How far a time is from the start.
 fn distance(axis: Axis, time: i128) -> u128
@@ -55,7 +56,7 @@ pub(crate) fn slot_time(axis: Axis, slot: u64) -> i128
 }
 
 /// The clear of the slots of a series from one on and below another.
-pub(crate) fn clear_of(name: &Name, axis: Axis, first: u64, end: u64) -> Result<Edit, NoMemory>
+pub(crate) fn clear_of(name: &Name, axis: Axis, first: u64, end: u64) -> Result<Edit, AllocError>
     requires order { first ≤ end }
     ensures clear { (series : Series) → IsAxisOf series axis → IfOk result (λ clear. clear ≡ clear_of name.now series first end) }
     ensures is_edit { IfOk result IsEdit }

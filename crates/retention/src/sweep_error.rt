@@ -1,9 +1,9 @@
 //! Why a sweep ended before all of its clears were done.
-use series_book::NoMemory;
+use std::alloc::AllocError;
 use thiserror::Error;
 
 /// Why not all clears of a rule were done. Those that were stay.
-#[derive(Clone, Copy, Debug, PartialEq, Eq, Error)]
+#[derive(Clone, Copy, Debug, Error)]
 pub enum SweepError {
     /// No series has the name of the rule. Nothing was done.
     #[error("no such series")]
@@ -19,13 +19,13 @@ pub enum SweepError {
     NoMemory,
 }
 
-impl From<NoMemory> for SweepError {
+impl From<AllocError> for SweepError {
     ghost use Rattle.std.specs.Prelude.{◌≡◌};
     ghost use Rattle.retention.specs.declared.sweep_error.SweepError.TheVariants.{NoMemory};
 
     ghost from_gives = { λ _ error. error ≡ NoMemory };
 
-    fn from(_error: NoMemory) -> SweepError {
+    fn from(_error: AllocError) -> SweepError {
         SweepError::NoMemory
     }
 }

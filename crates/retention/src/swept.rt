@@ -1,7 +1,7 @@
 //! What a sweep did.
 
 /// How many clears a rule made, and how many pages are in use behind them.
-#[derive(Clone, Copy, PartialEq, Eq)]
+#[derive(Clone, Copy)]
 pub struct Swept {
     pub clears: u64,
     pub used: u64,

@@ -6,21 +6,20 @@ ghost use Rattle.plain_chart.specs.Chart.{IsChart, IsScale};
 ghost use Rattle.m4_groups.specs.Rows.{AreRowsOf, AreRising};
 ghost use Rattle.m4_groups.specs.Heights.{IsDrawable};
 
-use crate::no_memory::NoMemory;
 use chart_grid::Grid;
 use line_raster::Bitmap;
 use m4_groups::{Rows, draw_rows};
 use plain_chart::ValueRange;
-use std::alloc::Global;
+use std::alloc::{AllocError, Global};
 
 /// The chart of a series over a range of values, from the rows of the samples that the view keeps. It
-/// is `NoMemory` where there is none for the bitmap.
+/// is an error where there is none for the bitmap.
 pub fn chart_of_rows(
     alloc: Global,
     grid: Grid,
     rows: &Rows,
     range: ValueRange,
-) -> Result<Bitmap, NoMemory>
+) -> Result<Bitmap, AllocError>
     requires rising { AreRising rows.now }
     requires drawable { All (IsDrawable grid.w) rows.now }
     requires scale { IsScale range }

@@ -6,12 +6,11 @@ ghost use Rattle.m4_groups.specs.Gathered.{IsGathered, IsLater};
 ghost use Rattle.m4_groups.specs.Rows.{AreRowsOf, AreRising};
 ghost use Rattle.m4_groups.specs.Heights.{IsDrawable};
 
-use crate::no_memory::NoMemory;
 use chart_grid::{Axis, Grid};
 use m4_groups::laws::points_follow;
 use m4_groups::{Groups, Rows};
 use plain_chart::{Sample, sample_at};
-use std::alloc::Global;
+use std::alloc::{AllocError, Global};
 
 /// The rows of the samples that the view keeps. Slots outside the window are passed over.
 pub fn rows_of_slots(
@@ -19,7 +18,7 @@ pub fn rows_of_slots(
     grid: Grid,
     axis: Axis,
     slots: &[Option<i64>],
-) -> Result<Rows, NoMemory>
+) -> Result<Rows, AllocError>
     requires series { IsSeries axis }
     requires step { 0 < axis.step }
     requires slots { axis.slots ≡ length slots.now }
@@ -38,7 +37,7 @@ pub fn rows_of_slots(
 }
 
 /// Takes in a slot's sample, where there is one.
-fn take_in(groups: &mut Groups, sample: Option<Sample>) -> Result<(), NoMemory>
+fn take_in(groups: &mut Groups, sample: Option<Sample>) -> Result<(), AllocError>
     requires shown { ForSome sample (λ s. InWindow groups.old.grid s.time) }
     requires later { ForSome sample (λ s. IsLater groups.old s.time) }
     ensures gathered { OnOk result ((points : List (ℤ × ℤ)) →

@@ -9,10 +9,8 @@
 
 mod drawing;
 mod gathering;
-mod no_memory;
 mod range;
 
 pub use drawing::chart_of_rows;
 pub use gathering::rows_of_slots;
-pub use no_memory::NoMemory;
 pub use range::range_of_rows;

@@ -1,5 +1,5 @@
 /// Where the slots of a series stand in time, and how many there are.
-#[derive(Clone, Copy, PartialEq, Eq)]
+#[derive(Clone, Copy)]
 pub struct Axis {
     /// The time of slot 0.
     pub start: i64,

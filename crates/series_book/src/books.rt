@@ -5,11 +5,10 @@ ghost use Rattle.whole_number.specs.SlotTimes.{EndsInTime};
 ghost use Rattle.series_book.specs.declared.limits.TheConstants.{MOST_SLOTS};
 ghost use Rattle.series_book.specs.declared.one_series.Series.{Series};
 
-use crate::errors::NoMemory;
 use crate::limits::MOST_SERIES;
 use crate::names::Name;
 use crate::one_series::Series;
-use std::alloc::Global;
+use std::alloc::{AllocError, Global};
 use std::marker::Model;
 
 /// A list of series, no two of one name. The place of a series in it is the id of the series.
@@ -32,7 +31,7 @@ impl Model for Book {
 
 impl Book {
     /// A book without a series.
-    pub(crate) fn new(alloc: Global) -> Result<Book, NoMemory>
+    pub(crate) fn new(alloc: Global) -> Result<Book, AllocError>
         ensures { IfOk result (λ book. book ≡ []) }
     {
         let series = Vec::with_capacity(alloc, MOST_SERIES)?;
@@ -83,7 +82,7 @@ impl Book {
     }
 
     /// Adds a series at the end.
-    pub(crate) fn add(&mut self, series: Series) -> Result<(), NoMemory>
+    pub(crate) fn add(&mut self, series: Series) -> Result<(), AllocError>
         requires in_range { IsSeries series }
         requires new { id_of series.name self.old ≡ None }
         requires room { length self.old < MOST_SERIES }
@@ -100,7 +99,7 @@ impl Book {
         id: usize,
         place: usize,
         run: &[Option<i64>],
-    ) -> Result<Vec<Option<i64>>, NoMemory>
+    ) -> Result<Vec<Option<i64>>, AllocError>
         requires there { id < length self.old }
         requires room { place + length run.now ≤ MOST_SLOTS }
         requires last { IfSome (slice_get self.old id) (λ series. EndsInTime series.start series.step (max (length series.slots) (place + length run.now))) }

@@ -1,26 +1,9 @@
 use crate::refusals::Refusal;
-use std::alloc::{AllocError, AllocFailed};
+use std::alloc::AllocError;
 use thiserror::Error;
 
-/// Want of memory. It may come at any call that allocates.
-#[derive(Clone, Copy, Debug, PartialEq, Eq, Error)]
-#[error("out of memory")]
-pub struct NoMemory;
-
-impl From<AllocError> for NoMemory {
-    fn from(_error: AllocError) -> NoMemory {
-        NoMemory
-    }
-}
-
-impl<T: Drop> From<AllocFailed<T>> for NoMemory {
-    fn from(_error: AllocFailed<T>) -> NoMemory {
-        NoMemory
-    }
-}
-
 /// Why bytes are no name.
-#[derive(Clone, Copy, Debug, PartialEq, Eq, Error)]
+#[derive(Clone, Copy, Debug, Error)]
 pub enum NameError {
     /// The bytes break the rule of names.
     #[error("not a name")]
@@ -42,7 +25,7 @@ impl From<AllocError> for NameError {
 }
 
 /// Why an edit was not done. The book is as it was.
-#[derive(Clone, Copy, Debug, PartialEq, Eq, Error)]
+#[derive(Clone, Copy, Debug, Error)]
 pub enum BookError {
     /// The edit is refused.
     #[error("{0}")]
@@ -59,17 +42,6 @@ impl From<AllocError> for BookError {
     ghost from_gives = { λ _ error. error ≡ NoMemory };
 
     fn from(_error: AllocError) -> BookError {
-        BookError::NoMemory
-    }
-}
-
-impl From<NoMemory> for BookError {
-    ghost use Rattle.std.specs.Prelude.{◌≡◌};
-    ghost use Rattle.series_book.specs.declared.errors.BookError.TheVariants.{NoMemory};
-
-    ghost from_gives = { λ _ error. error ≡ NoMemory };
-
-    fn from(_error: NoMemory) -> BookError {
         BookError::NoMemory
     }
 }

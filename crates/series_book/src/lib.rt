@@ -31,7 +31,7 @@ pub mod value_list;
 pub use axis::Axis;
 pub use books::Book;
 pub use edits::Edit;
-pub use errors::{BookError, NameError, NoMemory};
+pub use errors::{BookError, NameError};
 pub use list_books::ListBook;
 pub use names::Name;
 pub use one_series::Series;

@@ -7,7 +7,7 @@ ghost use Rattle.series_book.specs.Edits.{IsEdit, RefusesEdit, apply, is_too_lar
 use crate::books::Book;
 use crate::checks::{append_refusal, clear_refusal, place_of, set_refusal};
 use crate::edits::Edit;
-use crate::errors::{BookError, NoMemory};
+use crate::errors::BookError;
 use crate::limits::{FIXED_PAGES, MOST_SERIES};
 use crate::names::Name;
 use crate::one_series::Series;
@@ -15,7 +15,7 @@ use crate::outcomes::Outcome;
 use crate::page_count::series_pages;
 use crate::refusals::Refusal;
 use crate::value_list::Values;
-use std::alloc::Global;
+use std::alloc::{AllocError, Global};
 use std::marker::Model;
 
 /// A book that is held as plain lists, and the number of pages that it may take. It is the plain
@@ -42,7 +42,7 @@ impl Model for ListBook {
 
 impl ListBook {
     /// A book without a series, which may take this many pages.
-    pub fn new(alloc: Global, pages: u64) -> Result<ListBook, NoMemory>
+    pub fn new(alloc: Global, pages: u64) -> Result<ListBook, AllocError>
         requires { FIXED_PAGES ≤ pages }
         ensures empty { IfOk result (λ list. list.book ≡ []) }
         ensures total { IfOk result (λ list. list.total ≡ pages) }

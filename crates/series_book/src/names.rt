@@ -2,9 +2,9 @@ ghost use Rattle.std.specs.Prelude.{◌≡◌, IfOk, IfErr, IsTrue};
 ghost use Rattle.std.specs.List.{list_all};
 ghost use Rattle.series_book.specs.Names.{is_name, is_name_byte, RefusesName};
 
-use crate::errors::{NameError, NoMemory};
+use crate::errors::NameError;
 use crate::limits::MOST_NAME_BYTES;
-use std::alloc::Global;
+use std::alloc::{AllocError, Global};
 use std::marker::Model;
 
 /// The name of a series: 1 to 31 bytes of `A-Z a-z 0-9 _ . -`. It is seen as the list of its bytes.
@@ -39,7 +39,7 @@ impl Name {
     }
 
     /// An equal name.
-    pub fn copy(&self) -> Result<Name, NoMemory>
+    pub fn copy(&self) -> Result<Name, AllocError>
         ensures equal { IfOk result (λ name. name ≡ self.now) }
         ensures named { IsTrue (is_name self.now) }
     {

@@ -5,7 +5,7 @@ use thiserror::Error;
 
 /// Why a request is refused. A refused request changes nothing. The variants stand in the order in
 /// which they are tested among those that apply.
-#[derive(Clone, Copy, Debug, PartialEq, Eq, Error)]
+#[derive(Clone, Copy, Debug, Error)]
 pub enum Refusal {
     /// The line has more than 8,192 bytes.
     #[error("the line is too long")]

@@ -2,7 +2,7 @@ ghost use Rattle.std.specs.Prelude.{◌≡◌, ℤ, ◌+◌, ◌-◌, ◌≤◌,
 ghost use Rattle.series_book.specs.Edits.{overwritten};
 ghost use Rattle.series_book.specs.declared.limits.TheConstants.{MOST_SLOTS};
 
-use crate::errors::NoMemory;
+use std::alloc::AllocError;
 use std::marker::Model;
 
 /// The slots of a series, from its start on: each holds a whole number or is missing. They are seen
@@ -40,7 +40,7 @@ impl Slots {
         &mut self,
         place: usize,
         run: &[Option<i64>],
-    ) -> Result<Vec<Option<i64>>, NoMemory>
+    ) -> Result<Vec<Option<i64>>, AllocError>
         requires { place + length run.now ≤ MOST_SLOTS }
         ensures ok { OnOk result (self.new ≡ overwritten self.old place run.now) }
         ensures displaced { IfOk result (λ old. old.items ≡ take (length run.now) (drop place self.old)) }

@@ -2,7 +2,7 @@ ghost use Rattle.std.specs.Prelude.{◌≡◌, false, All, IfOk, IfSome};
 ghost use Rattle.std.specs.List.{list_any};
 ghost use Rattle.series_book.specs.Edits.{is_too_large};
 
-use crate::errors::NoMemory;
+use std::alloc::AllocError;
 use std::marker::Model;
 
 /// The values that an edit brings: each is a whole number or missing. They are seen as the list of
@@ -36,7 +36,7 @@ impl Values {
     }
 
     /// The values as slots.
-    pub fn to_slots(&self) -> Result<Vec<Option<i64>>, NoMemory>
+    pub fn to_slots(&self) -> Result<Vec<Option<i64>>, AllocError>
         requires { list_any is_too_large self.now ≡ false }
         ensures slots { IfOk result (λ slots. slots.items ≡ self.now) }
         ensures in_range { IfOk result (λ slots. All (λ value. is_too_large value ≡ false) slots.items) }

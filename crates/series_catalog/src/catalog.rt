@@ -2,11 +2,10 @@
 ghost use Rattle.std.specs.Prelude.{List, ◌≡◌, ◌<◌, ◌≤◌, ◌++◌, ◌∷◌, [], length, slice_get, Some, IfOk, OnOk, OnErr, IfSome};
 ghost use Rattle.series_catalog.specs.Catalogs.{place_of, with_tree};
 
-use crate::errors::NoMemory;
 use crate::stored_series::StoredSeries;
 use series_book::Name;
 use series_book::limits::MOST_SERIES;
-use std::alloc::Global;
+use std::alloc::{AllocError, Global};
 use tree_walk::Tree;
 
 /// The series of a store, in the order of their ids.
@@ -19,7 +18,7 @@ pub struct Catalog {
 impl Catalog {
     /// A catalog without a series. It takes the room of all series that there may be, so that `add` takes
     /// none.
-    pub fn new(alloc: Global) -> Result<Catalog, NoMemory>
+    pub fn new(alloc: Global) -> Result<Catalog, AllocError>
         ensures { IfOk result (λ it. it.series.items ≡ []) }
     {
         let series = Vec::with_capacity(alloc, MOST_SERIES)?;
@@ -71,8 +70,8 @@ impl Catalog {
         self.series[usize::from(id)].tree = tree;
     }
 
-    /// Adds a series behind the others. After `NoMemory` the catalog is as it was.
-    pub fn add(&mut self, series: StoredSeries) -> Result<(), NoMemory>
+    /// Adds a series behind the others. After want of memory the catalog is as it was.
+    pub fn add(&mut self, series: StoredSeries) -> Result<(), AllocError>
         requires { length self.old.series.items < 512 }
         ensures ok { OnOk result (self.new.series.items ≡ self.old.series.items ++ series ∷ []) }
         ensures err { OnErr result (self.new.series.items ≡ self.old.series.items) }

@@ -14,7 +14,7 @@ mod stored_series;
 mod writing;
 
 pub use catalog::Catalog;
-pub use errors::{CatalogError, NoMemory};
+pub use errors::CatalogError;
 pub use reading::read_catalog;
 pub use stored_series::StoredSeries;
 pub use writing::put_record;

@@ -12,14 +12,14 @@ ghost use Rattle.page_space.specs.Shown as shown;
 ghost use Rattle.series_catalog.specs.Reading.{IsCatalogCause, IsCatalogPage, IsPageCause, AreRead, HasRepeatedName};
 
 use crate::catalog::Catalog;
-use crate::errors::{CatalogError, NoMemory};
+use crate::errors::CatalogError;
 use crate::stored_series::StoredSeries;
 use block_disk::BLOCK;
 use catalog_page::{CatalogView, Record, records_of};
 use gate_pages::Pages;
 use page_space::Space;
 use series_book::Name;
-use std::alloc::Global;
+use std::alloc::{AllocError, Global};
 use tree_walk::Tree;
 
 /// The first page of the catalog, and the one behind its last.
@@ -28,12 +28,12 @@ const FIRST_PAGE: u32 = 1;
 const END_PAGE: u32 = 17;
 
 /// The series that a record says. Its name is one, so that memory alone may fail.
-fn series_of(alloc: Global, entry: &Record) -> Result<StoredSeries, NoMemory>
+fn series_of(alloc: Global, entry: &Record) -> Result<StoredSeries, AllocError>
     requires named { IsTrue (is_name entry.now.name.now) }
     ensures { IfOk result (λ series. entry_of series ≡ entry_of_record entry.now) }
 {
     let Ok(name) = Name::new(alloc, entry.name) else {
-        return Err(NoMemory);
+        return Err(AllocError);
     };
     let tree = Tree {
         slots: entry.slots,

@@ -12,15 +12,14 @@ ghost use Rattle.series_export.specs.Faults.{send_fault};
 use crate::reading_texts::ReadingTexts;
 use crate::window::Window;
 use gate_pages::PageWorld;
-use series_book::NoMemory;
 use series_store::{SendError, Store};
-use std::alloc::Global;
+use std::alloc::{AllocError, Global};
 
 /// Room for a piece and a line.
 const ROOM: usize = 16_480;
 
 /// The header, with room for a piece behind it.
-fn started(alloc: Global) -> Result<Vec<u8>, NoMemory>
+fn started(alloc: Global) -> Result<Vec<u8>, AllocError>
     ensures header { IfOk result (λ out. out.items ≡ header) }
 {
     let mut out = Vec::with_capacity(alloc, ROOM)?;

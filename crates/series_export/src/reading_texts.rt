@@ -6,8 +6,8 @@ ghost use Rattle.series_export.specs.Exports.{slot_time, line_at};
 
 use crate::window::{Window, is_within, may_meet};
 use reading_lines::add_reading;
-use series_book::NoMemory;
 use series_store::Texts;
+use std::alloc::AllocError;
 use whole_number::slot_times::{slot_time, slots_stand_in_time};
 
 /// The lines of the readings of a series in a window.
@@ -45,7 +45,7 @@ impl Texts for ReadingTexts {
         may_meet(self.window, self.time(first), self.time(end - 1))
     }
 
-    fn add(&self, slot: u64, value: i64, out: &mut Vec<u8>) -> Result<(), NoMemory> {
+    fn add(&self, slot: u64, value: i64, out: &mut Vec<u8>) -> Result<(), AllocError> {
         let time = self.time(slot);
         if !is_within(self.window, time) {
             return Ok(());

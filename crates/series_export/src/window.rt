@@ -3,7 +3,7 @@ ghost use Rattle.std.specs.Prelude.{◌≡◌};
 ghost use Rattle.series_export.specs.Exports.{is_within, may_meet};
 
 /// The times from `from` on and before `to`.
-#[derive(Clone, Copy, PartialEq, Eq)]
+#[derive(Clone, Copy)]
 pub struct Window {
     pub from: i64,
     pub to: i64,

@@ -4,7 +4,7 @@ use series_book::Refusal;
 use thiserror::Error;
 
 /// Why not all of the input was loaded. The sets of the runs before stay.
-#[derive(Clone, Copy, Debug, PartialEq, Eq, Error)]
+#[derive(Clone, Copy, Debug, Error)]
 pub enum LoadEnd {
     /// No series has the name. No input was taken.
     #[error("no such series")]

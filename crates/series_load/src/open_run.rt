@@ -9,7 +9,7 @@ use series_book::{Edit, Name, Values};
 use std::alloc::Global;
 
 /// A time with its value.
-#[derive(Clone, Copy, PartialEq, Eq)]
+#[derive(Clone, Copy)]
 pub(crate) struct Reading {
     pub(crate) time: i128,
     pub(crate) value: i128,

@@ -9,7 +9,7 @@ use csv_load::{Row, RowError, parse_row};
 use std::alloc::Global;
 
 /// What a line says that isn't empty.
-#[derive(Clone, Copy, PartialEq, Eq)]
+#[derive(Clone, Copy)]
 pub(crate) enum Said {
     /// The names of the columns, on the first line.
     Header,

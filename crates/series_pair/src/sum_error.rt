@@ -2,10 +2,11 @@
 ghost use Rattle.std.specs.Prelude.{◌≡◌};
 ghost use Rattle.series_pair.specs.declared.sum_error.SumError.TheVariants.{NoMemory};
 
+use std::alloc::AllocError;
 use thiserror::Error;
 
 /// Why there is no chart of a sum. The book stays what it is.
-#[derive(Clone, Copy, Debug, PartialEq, Eq, Error)]
+#[derive(Clone, Copy, Debug, Error)]
 pub enum SumError {
     /// The sum at this time is more than 10^18 in size, and none before it in the window is.
     #[error("the sum at the time {time} is too large")]
@@ -21,10 +22,10 @@ pub enum SumError {
     NoMemory,
 }
 
-impl From<row_chart::NoMemory> for SumError {
+impl From<AllocError> for SumError {
     ghost from_gives = { λ _ error. error ≡ NoMemory };
 
-    fn from(_error: row_chart::NoMemory) -> SumError {
+    fn from(_error: AllocError) -> SumError {
         SumError::NoMemory
     }
 }

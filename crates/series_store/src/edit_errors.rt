@@ -26,30 +26,6 @@ impl From<AllocError> for StoreError {
     }
 }
 
-impl From<page_space::NoMemory> for StoreError {
-    ghost from_gives = { λ _ e. e ≡ AtMemory };
-
-    fn from(_error: page_space::NoMemory) -> StoreError {
-        StoreError::NoMemory
-    }
-}
-
-impl From<series_book::NoMemory> for StoreError {
-    ghost from_gives = { λ _ e. e ≡ AtMemory };
-
-    fn from(_error: series_book::NoMemory) -> StoreError {
-        StoreError::NoMemory
-    }
-}
-
-impl From<series_catalog::NoMemory> for StoreError {
-    ghost from_gives = { λ _ e. e ≡ AtMemory };
-
-    fn from(_error: series_catalog::NoMemory) -> StoreError {
-        StoreError::NoMemory
-    }
-}
-
 impl From<RepairError> for StoreError {
     ghost from_gives = { λ error e. e ≡ error_of error };
 

@@ -4,7 +4,7 @@ use thiserror::Error;
 
 /// Why a store wasn't opened or an edit not done. `NotAStore` comes from opening alone, `Refused` from
 /// edits alone.
-#[derive(Clone, Copy, Debug, PartialEq, Eq, Error)]
+#[derive(Clone, Copy, Debug, Error)]
 pub enum StoreError {
     /// The edit is refused, and nothing is changed.
     #[error("refused: {0}")]

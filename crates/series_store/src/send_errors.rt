@@ -2,11 +2,11 @@
 ghost use Rattle.series_store.specs.declared.send_errors.SendError.TheVariants.{NoMemory as AtMemory};
 
 use crate::errors::StoreError;
-use series_book::NoMemory;
+use std::alloc::AllocError;
 use thiserror::Error;
 
 /// Why not all values of a series were sent.
-#[derive(Clone, Copy, Debug, PartialEq, Eq, Error)]
+#[derive(Clone, Copy, Debug, Error)]
 pub enum SendError {
     /// A send failed: its count of faults has risen.
     #[error("the output could not be written")]
@@ -22,12 +22,12 @@ pub enum SendError {
     NoMemory,
 }
 
-impl From<NoMemory> for SendError {
+impl From<AllocError> for SendError {
     ghost use Rattle.std.specs.Prelude.{◌≡◌};
 
     ghost from_gives = { λ _ e. e ≡ AtMemory };
 
-    fn from(_: NoMemory) -> SendError {
+    fn from(_: AllocError) -> SendError {
         SendError::NoMemory
     }
 }

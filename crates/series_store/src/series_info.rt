@@ -2,7 +2,7 @@
 use om3_coeff::Span;
 
 /// What is told of a series.
-#[derive(Clone, Copy, PartialEq, Eq)]
+#[derive(Clone, Copy)]
 pub struct SeriesInfo {
     /// The id, below 512.
     pub id: u16,

@@ -1,7 +1,7 @@
 //! The texts of a series' values.
 ghost use Rattle.std.specs.Prelude.{◌≡◌, ◌≤◌, ◌<◌, ◌++◌, ℕ, ℤ, List, [], false, OnOk, OnErr};
 
-use series_book::NoMemory;
+use std::alloc::AllocError;
 
 /// What is said of the values of a series: a text of each, which may be empty.
 pub trait Texts {
@@ -19,7 +19,7 @@ pub trait Texts {
         ensures silent { result ≡ false → (slot : ℕ) (value : ℤ) → first ≤ slot → slot < end → text self.now slot value ≡ [] };
 
     /// Appends the text of a value, whole or not at all.
-    fn add(&self, slot: u64, value: i64, out: &mut Vec<u8>) -> Result<(), NoMemory>
+    fn add(&self, slot: u64, value: i64, out: &mut Vec<u8>) -> Result<(), AllocError>
         requires within { slot < slots self.now }
         ensures added { OnOk result (out.new.items ≡ out.old.items ++ text self.now slot value) }
         ensures kept { OnErr result (out.new.items ≡ out.old.items) };

@@ -14,9 +14,8 @@ use block_disk::{Back, World};
 use disk_store::{disk_of, open_store};
 use gate_pages::Pages;
 use reading_lines::add_series;
-use series_book::NoMemory;
 use series_store::Store;
-use std::alloc::Global;
+use std::alloc::{AllocError, Global};
 
 /// Sends a line for each series in the store of the world's disk, in the order of their creation:
 /// `NAME START STEP SCALE SLOTS`.
@@ -36,7 +35,7 @@ pub fn list_series<W: World>(alloc: Global, world: W) -> (Status, W)
 }
 
 /// The lines of the series of a store.
-fn list_text<P: Pages>(alloc: Global, store: &Store<P>) -> Result<Vec<u8>, NoMemory>
+fn list_text<P: Pages>(alloc: Global, store: &Store<P>) -> Result<Vec<u8>, AllocError>
     ensures { shown.ForSoundBook store.now (λ total book. IfOk result (λ text. text.items ≡ list_text book)) }
 {
     let mut text = Vec::new(alloc);

@@ -5,7 +5,7 @@ use disk_store::OpeningCause;
 
 /// How a run ended: 0 where it did all that it was asked, else a code that says what came in its way,
 /// with its place.
-#[derive(Clone, Copy, PartialEq, Eq)]
+#[derive(Clone, Copy)]
 pub struct Status {
     /// One of the codes of this module.
     pub code: u8,

@@ -7,7 +7,7 @@ use std::alloc::AllocError;
 use thiserror::Error;
 
 /// Why pages weren't brought to version 2.
-#[derive(Clone, Copy, Debug, PartialEq, Eq, Error)]
+#[derive(Clone, Copy, Debug, Error)]
 pub enum UpgradeError {
     /// This page of the catalog breaks a rule of version 1.
     #[error("page {page} is damaged")]
@@ -32,14 +32,6 @@ impl From<AllocError> for UpgradeError {
     ghost from_gives = { λ _ e. e ≡ AtMemory };
 
     fn from(_: AllocError) -> UpgradeError {
-        UpgradeError::NoMemory
-    }
-}
-
-impl From<gate_pages::NoMemory> for UpgradeError {
-    ghost from_gives = { λ _ e. e ≡ AtMemory };
-
-    fn from(_: gate_pages::NoMemory) -> UpgradeError {
         UpgradeError::NoMemory
     }
 }

@@ -60,7 +60,7 @@ fn a_sum_may_be_too_large(rt: HostRuntime) -> Result<(), Fail> {
     };
     let grid = Grid::new(-5, 5, 1, 1)?;
     let answer = derived_rows(rt.alloc(), &mut pair, axis(0, 2), sum, grid);
-    assert!(rt; answer.err() == Some(DerivedError::TooLarge { time: 1 }));
+    assert!(rt; matches!(answer.err(), Some(DerivedError::TooLarge { time: 1 })));
     Ok(())
 }
 

@@ -1,9 +1,8 @@
 //! A page that was read, with its number.
 ghost use Rattle.block_disk.specs.Blocks.{IsBlock};
 
-use crate::errors::NoMemory;
 use block_disk::BLOCK;
-use std::alloc::Global;
+use std::alloc::{AllocError, Global};
 
 /// A page that was read, with its number.
 #[derive(Drop)]
@@ -15,7 +14,7 @@ pub struct HeldPage {
 
 impl HeldPage {
     /// A buffer for a page.
-    pub(crate) fn new(alloc: Global) -> Result<HeldPage, NoMemory> {
+    pub(crate) fn new(alloc: Global) -> Result<HeldPage, AllocError> {
         let bytes = vec![in alloc; 0; BLOCK]?;
         Ok(HeldPage { number: 0, bytes })
     }

@@ -10,7 +10,6 @@
 #![tactic(auto)]
 
 mod asking;
-mod errors;
 mod held_page;
 pub mod laws;
 mod paged_nodes;
@@ -19,7 +18,6 @@ mod trail;
 mod tree;
 
 pub use asking::coef_at;
-pub use errors::NoMemory;
 pub use paged_nodes::PagedNodes;
 pub use trail::Trail;
 pub use tree::Tree;

@@ -1,10 +1,9 @@
 //! The pages of one path.
 ghost use Rattle.std.specs.Prelude.{◌≡◌, ◌≤◌, length, IfOk};
 
-use crate::errors::NoMemory;
 use crate::held_page::HeldPage;
 use om3_coeff::Key;
-use std::alloc::Global;
+use std::alloc::{AllocError, Global};
 
 /// The page levels of the highest tree, so the pages of the longest path.
 const MOST_LEVELS: usize = 5;
@@ -20,7 +19,7 @@ pub struct Trail {
 }
 
 /// Buffers for the pages of a path.
-fn buffers(alloc: Global) -> Result<Vec<HeldPage>, NoMemory>
+fn buffers(alloc: Global) -> Result<Vec<HeldPage>, AllocError>
     ensures { IfOk result (λ pages. length pages.items ≡ 5) }
 {
     let mut pages = Vec::new(alloc);
@@ -36,7 +35,7 @@ impl Trail {
     ghost use Rattle.tree_walk.specs.Trails.{IsTrailOfAny};
 
     /// An empty trail, which is one of any tree over any pages. No other call of it takes memory.
-    pub fn new(alloc: Global) -> Result<Trail, NoMemory>
+    pub fn new(alloc: Global) -> Result<Trail, AllocError>
         ensures fits { IfOk result (λ trail. IsTrailOfAny trail.pages.items trail.len trail.asked) }
         ensures asked { IfOk result (λ trail. trail.asked ≡ None) }
     {

@@ -5,14 +5,14 @@ ghost use Rattle.value_filter.specs.Boxes.{IsAtomAnswer, IsIntervalAnswer, Alway
 use crate::box_answers::BoxAnswer;
 
 /// What of a point an atom compares: its time, or its whole number.
-#[derive(Clone, Copy, PartialEq, Eq)]
+#[derive(Clone, Copy)]
 pub enum Subject {
     Time,
     Value,
 }
 
 /// How an atom compares it with its number.
-#[derive(Clone, Copy, PartialEq, Eq)]
+#[derive(Clone, Copy)]
 pub enum Comparison {
     Less,
     LessOrEqual,
@@ -23,7 +23,7 @@ pub enum Comparison {
 }
 
 /// A comparison with a number, as `v >= 10`. The number has at most 19 digits.
-#[derive(Clone, Copy, PartialEq, Eq)]
+#[derive(Clone, Copy)]
 pub struct Atom {
     pub subject: Subject,
     pub comparison: Comparison,

@@ -2,7 +2,7 @@ use std::alloc::{AllocError, AllocFailed};
 use thiserror::Error;
 
 /// Why a text gives no filter.
-#[derive(Clone, Copy, Debug, PartialEq, Eq, Error)]
+#[derive(Clone, Copy, Debug, Error)]
 pub enum FilterFault {
     /// The text isn't in the grammar. `at` is the offset of the first byte of the first piece that is
     /// no token or can't stand there, or the text's length where the text ends too early.

@@ -7,12 +7,11 @@ ghost use Rattle.value_filter.specs.Grammar.{IsFilter, RefusesText, Gives};
 use crate::answer_stack::AnswerStack;
 use crate::box_answers::BoxAnswer;
 use crate::faults::FilterFault;
-use crate::no_memory::NoMemory;
 use crate::parser::Parser;
 use crate::pieces::{first_piece, past_spaces};
 use crate::steps::Step;
 use crate::tokens::Token;
-use std::alloc::Global;
+use std::alloc::{AllocError, Global};
 use std::marker::Model;
 
 /// A filter of points. It is seen as its steps in postfix order, which are those of one expression.
@@ -81,7 +80,7 @@ impl Filter {
     }
 
     /// An equal filter.
-    pub fn copy(&self) -> Result<Filter, NoMemory>
+    pub fn copy(&self) -> Result<Filter, AllocError>
         ensures { IfOk result (λ filter. filter ≡ self.now) }
     {
         Ok(Filter {
@@ -90,7 +89,7 @@ impl Filter {
     }
 
     /// An equal filter, in memory of `alloc`.
-    pub fn copy_in(&self, alloc: Global) -> Result<Filter, NoMemory>
+    pub fn copy_in(&self, alloc: Global) -> Result<Filter, AllocError>
         ensures { IfOk result (λ filter. filter ≡ self.now) }
     {
         let mut steps = Vec::with_capacity(alloc, self.steps.len())?;

@@ -10,7 +10,7 @@ use std::alloc::{AllocError, Global};
 use std::marker::Model;
 
 /// What may stand next.
-#[derive(Clone, Copy, PartialEq, Eq)]
+#[derive(Clone, Copy)]
 pub(crate) enum Phase {
     AwaitsOperand,
     AwaitsSign(Subject),
@@ -211,9 +211,9 @@ impl Parser {
         ensures ok { IfOk result (λ steps. finished self ≡ Some steps.items) }
         ensures err { IfErr result (Refuses (finished self) at) }
     {
-        if self.phase != Phase::HasOperand {
+        let Phase::HasOperand = self.phase else {
             return Err(FilterFault::At { at });
-        }
+        };
         self.join()?;
         if !self.frames.is_empty() {
             return Err(FilterFault::At { at });

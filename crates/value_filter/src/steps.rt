@@ -8,7 +8,7 @@ pub const OPEN_AT_ONCE: usize = 64;
 pub const PENDING: usize = 131;
 
 /// A step of a filter: an atom, or what is done with the last answers.
-#[derive(Clone, Copy, PartialEq, Eq)]
+#[derive(Clone, Copy)]
 pub enum Step {
     Test(Atom),
     Not,

@@ -6,7 +6,7 @@ use crate::atoms::{Comparison, Subject};
 use whole_number::integer;
 
 /// A token of a filter's text.
-#[derive(Clone, Copy, PartialEq, Eq)]
+#[derive(Clone, Copy)]
 pub enum Token {
     Subject(Subject),
     Sign(Comparison),

@@ -14,13 +14,13 @@ use crate::scope::Scope;
 use crate::teller::Teller;
 use chart_grid::height_of;
 use chart_grid::laws::heights_rise;
-use line_raster::{Bitmap, NoMemory};
+use line_raster::Bitmap;
 use om3_coeff::laws::{ranges_hold_those_below, split_and_join_undo_each_other, what_is_known};
 use om3_coeff::{Key, Span, split, top_key};
-use std::alloc::Global;
+use std::alloc::{AllocError, Global};
 
 /// The cover of a view, by what is told.
-pub fn draw_cover<T: Teller>(alloc: Global, teller: &T, scope: &Scope) -> Result<Bitmap, NoMemory>
+pub fn draw_cover<T: Teller>(alloc: Global, teller: &T, scope: &Scope) -> Result<Bitmap, AllocError>
     requires fit { T.fit teller.now }
     requires proper { IsProperIfAny scope.now.root }
     ensures { IfOk result (IsCoverOf (scene_of scope.now (T.told teller.now))) }

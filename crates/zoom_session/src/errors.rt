@@ -9,11 +9,6 @@ use series_book::Refusal;
 use std::alloc::{AllocError, AllocFailed};
 use thiserror::Error;
 
-/// No memory was left.
-#[derive(Clone, Copy, Debug, PartialEq, Eq, Error)]
-#[error("out of memory")]
-pub struct NoMemory;
-
 /// Why a session wasn't opened. The sessions are as they were.
 #[derive(Debug, Drop, Error)]
 pub enum SessionError {
@@ -26,7 +21,7 @@ pub enum SessionError {
 }
 
 /// Why a view wasn't planned.
-#[derive(Clone, Copy, Debug, PartialEq, Eq, Error)]
+#[derive(Clone, Copy, Debug, Error)]
 pub enum PlanError {
     /// The view needs more keys than the session's client keeps.
     #[error("the view needs {needed} coefficients, and the cache has {cache}")]
@@ -37,12 +32,6 @@ pub enum PlanError {
     /// There was no memory.
     #[error("out of memory")]
     NoMemory,
-}
-
-impl From<AllocError> for NoMemory {
-    fn from(_error: AllocError) -> NoMemory {
-        NoMemory
-    }
 }
 
 impl From<AllocError> for SessionError {
@@ -61,18 +50,10 @@ impl<T: Drop> From<AllocFailed<T>> for SessionError {
     }
 }
 
-impl From<coefficient_cache::NoMemory> for SessionError {
-    ghost from_gives = { λ _ e. e ≡ session.NoMemory };
-
-    fn from(_error: coefficient_cache::NoMemory) -> SessionError {
-        SessionError::NoMemory
-    }
-}
-
-impl From<coefficient_cache::NoMemory> for PlanError {
+impl From<AllocError> for PlanError {
     ghost from_gives = { λ _ e. e ≡ plan.NoMemory };
 
-    fn from(_error: coefficient_cache::NoMemory) -> PlanError {
+    fn from(_error: AllocError) -> PlanError {
         PlanError::NoMemory
     }
 }
@@ -85,17 +66,5 @@ impl From<ScanOf> for PlanError {
             ScanOf::Node(error) => PlanError::Node(error),
             ScanOf::NoMemory => PlanError::NoMemory,
         }
-    }
-}
-
-impl From<value_filter::NoMemory> for NoMemory {
-    fn from(_error: value_filter::NoMemory) -> NoMemory {
-        NoMemory
-    }
-}
-
-impl From<coefficient_cache::NoMemory> for NoMemory {
-    fn from(_error: coefficient_cache::NoMemory) -> NoMemory {
-        NoMemory
     }
 }

@@ -16,7 +16,7 @@ mod session;
 mod sessions;
 mod view_spec;
 
-pub use errors::{NoMemory, PlanError, SessionError};
+pub use errors::{PlanError, SessionError};
 pub use plan::ViewPlan;
 pub use sessions::{DEFAULT_CACHE, MOST_SESSIONS, Sessions};
 pub use view_spec::{RangeSpec, ViewSpec};

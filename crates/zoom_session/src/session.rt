@@ -5,12 +5,12 @@ ghost use Rattle.zoom_session.specs.Planned.{IsInBounds};
 ghost use Rattle.zoom_session.specs.Plans.{IsPlan, IsTooLarge};
 ghost use Rattle.zoom_session.specs.Sessions.{needed_in, after_view};
 
-use crate::errors::{NoMemory, PlanError};
+use crate::errors::PlanError;
 use crate::plan::ViewPlan;
 use crate::view_spec::ViewSpec;
 use coefficient_cache::CoefficientCache;
 use om3_coeff::Coefs;
-use std::alloc::Global;
+use std::alloc::{AllocError, Global};
 use view_keys::laws::keys_in_order_are_distinct;
 
 /// A session that is open.
@@ -53,13 +53,13 @@ impl Session {
     }
 
     // Keeps an answered view as the last one, and changes the list by the keys of its plan, where it has
-    // one. After `NoMemory` the session is of no further use.
+    // one. After want of memory the session is of no further use.
     pub(crate) fn keep_view(
         &mut self,
         alloc: Global,
         spec: ViewSpec,
         plan: Option<&ViewPlan>,
-    ) -> Result<(), NoMemory>
+    ) -> Result<(), AllocError>
         ensures kept { OnOk result (self.new ≡ after_view spec (needed_in (option_copied plan.entry)) self.old) }
         ensures number { self.new.number ≡ self.old.number }
         ensures capacity { self.new.cache.capacity ≡ self.old.cache.capacity }

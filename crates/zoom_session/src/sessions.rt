@@ -10,7 +10,7 @@ ghost use Rattle.zoom_session.specs.declared.errors.SessionError.TheVariants.{Re
 ghost use Rattle.series_book.specs.declared.refusals.Refusal.{Refusal};
 ghost use Rattle.series_book.specs.declared.refusals.Refusal.TheVariants.{UnknownSession};
 
-use crate::errors::{NoMemory, PlanError, SessionError};
+use crate::errors::{PlanError, SessionError};
 use crate::plan::ViewPlan;
 use crate::session::Session;
 use crate::view_spec::ViewSpec;
@@ -19,7 +19,7 @@ use coefficient_cache::{CoefficientCache, is_capacity};
 use needed_nodes::needed;
 use om3_coeff::Nodes;
 use series_book::Refusal;
-use std::alloc::Global;
+use std::alloc::{AllocError, Global};
 use std::marker::Model;
 
 /// The most sessions that are open at once.
@@ -49,7 +49,7 @@ impl Model for Sessions {
 
 impl Sessions {
     /// No session is open.
-    pub fn new(alloc: Global) -> Result<Sessions, NoMemory>
+    pub fn new(alloc: Global) -> Result<Sessions, AllocError>
         ensures { IfOk result (λ sessions. sessions ≡ []) }
     {
         let sessions = Vec::with_capacity(alloc, MOST_SESSIONS)?;
@@ -207,7 +207,7 @@ impl Sessions {
     }
 
     /// Keeps an answered view as the session's last one, and changes its list by the plan that
-    /// `plan_view` gave for it; a filtered view has none, and leaves the list. After `NoMemory` the
+    /// `plan_view` gave for it; a filtered view has none, and leaves the list. After want of memory the
     /// session is closed.
     #[tactic(auto, using(crate::proofs::Valid::removed_valid, crate::proofs::Valid::removed_set))]
     pub fn apply(
@@ -215,7 +215,7 @@ impl Sessions {
         number: u32,
         spec: ViewSpec,
         plan: Option<&ViewPlan>,
-    ) -> Result<(), NoMemory>
+    ) -> Result<(), AllocError>
         requires opened { IsTrue (is_open number self.old) }
         ensures viewed { OnOk result (self.new ≡ viewed number spec (needed_in (option_copied plan.entry)) self.old) }
         ensures closed { OnErr result (self.new ≡ without number self.old) }

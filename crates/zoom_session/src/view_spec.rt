@@ -1,11 +1,11 @@
 ghost use Rattle.std.specs.Prelude.{◌≡◌, IfOk};
 
-use crate::errors::NoMemory;
 use chart_grid::Grid;
+use std::alloc::AllocError;
 use value_filter::Filter;
 
 /// The range of values that a view shows.
-#[derive(Clone, Copy, PartialEq, Eq)]
+#[derive(Clone, Copy)]
 pub enum RangeSpec {
     /// From the least to the greatest value that the view keeps.
     Auto,
@@ -26,7 +26,7 @@ pub struct ViewSpec {
 
 impl ViewSpec {
     /// An equal view.
-    pub fn copy(&self) -> Result<ViewSpec, NoMemory>
+    pub fn copy(&self) -> Result<ViewSpec, AllocError>
         ensures { IfOk result (λ copy. copy ≡ self.now) }
     {
         let filter = copy_of(&self.filter)?;
@@ -40,7 +40,7 @@ impl ViewSpec {
 }
 
 /// An equal filter, where there is one.
-fn copy_of(filter: &Option<Filter>) -> Result<Option<Filter>, NoMemory>
+fn copy_of(filter: &Option<Filter>) -> Result<Option<Filter>, AllocError>
     ensures { IfOk result (λ copy. copy ≡ filter.now) }
 {
     match filter {
