@@ -1,6 +1,5 @@
 //! A disk that tells the moment.
 ghost use Rattle.std.specs.Prelude.{◌≡◌};
-ghost use Rattle.block_disk.specs.View.{View};
 
 use crate::Disk;
 use crate::fuse_disk::FuseDisk;

@@ -1,7 +1,6 @@
 //! A disk whose fuse blows.
 ghost use Rattle.std.specs.Prelude.{◌≡◌, ◌≤◌, ◌+◌, OnOk, OnErr};
 ghost use Rattle.block_disk.specs.Counts.{HasRisen};
-ghost use Rattle.block_disk.specs.View.{View};
 ghost use Rattle.block_disk.specs.FuseDisk.{fused};
 
 use crate::count_one::count_one;

@@ -1,5 +1,5 @@
 //! Disks in memory are made, and tell how often they were called.
-ghost use Rattle.std.specs.Prelude.{◌≡◌, ◌<◌, ◌-◌, ◌%◌, ◌/◌, ◌^◌, ℕ, [], min, length, replicate, IfOk};
+ghost use Rattle.std.specs.Prelude.{◌≡◌, ◌<◌, ◌-◌, ◌%◌, ◌/◌, ◌^◌, ℕ, min, length, replicate, IfOk};
 ghost use Rattle.block_disk.specs.Blocks.{block_size};
 ghost use Rattle.block_disk.specs.View.{Now, Only};
 ghost use Rattle.block_disk.specs.MemDisk.{mem_view, blocks_of};

@@ -1,6 +1,5 @@
 //! A stream of input and a stream of output.
-ghost use Rattle.std.specs.Prelude.{◌≡◌, ◌+◌, ◌≤◌, ◌<◌, ◌++◌, ℕ, List, Option, length, IfOk, IfSome, OnOk, OnErr};
-ghost use Rattle.std.specs.Option.{option_map};
+ghost use Rattle.std.specs.Prelude.{◌≡◌, ◌+◌, ◌≤◌, ◌<◌, ℕ, List, Option, length, IfOk, IfSome, OnOk, OnErr};
 ghost use Rattle.block_disk.specs.Counts.{HasRisen, counted};
 ghost use Rattle.block_disk.specs.Streams.{Given, PartSent, sent_after, left_after};
 

@@ -1,5 +1,5 @@
 //! What a crash makes of the pending blocks of a disk in memory.
-ghost use Rattle.std.specs.Prelude.{◌≡◌, ◌≤◌, ◌+◌, ◌-◌, ◌*◌, ◌<◌, ◌↔◌, ◌++◌, Some, length, drop, take, slice_get, IsTrue, IfOk, OnOk};
+ghost use Rattle.std.specs.Prelude.{◌≡◌, ◌≤◌, ◌+◌, ◌-◌, ◌*◌, ◌<◌, ◌↔◌, ◌++◌, length, drop, take, IsTrue, IfOk, OnOk};
 ghost use Rattle.std.specs.List.{list_all};
 ghost use Rattle.block_disk.specs.Blocks.{block_size, IsBlock};
 ghost use Rattle.block_disk.specs.MemDisk.{blocks_of, before, before_all, HasNoSync, mem_view};

@@ -1,6 +1,6 @@
 //! A disk and two streams on one clock.
 ghost use Rattle.std.specs.Prelude.{◌≡◌, ◌≤◌, ◌+◌, ℕ, length, IfSome};
-ghost use Rattle.block_disk.specs.View.{View, Now, sent_now, DiskKept, Passes};
+ghost use Rattle.block_disk.specs.View.{Now, sent_now, DiskKept, Passes};
 
 use crate::{Disk, Streams};
 

@@ -1,10 +1,9 @@
 //! What of a page first breaks its rule.
 ghost use Rattle.std.specs.Prelude.{◌≡◌, ◌≤◌, ◌<◌, ℕ, length, MatchOption};
 ghost use Rattle.block_disk.specs.Blocks.{IsBlock};
-ghost use Rattle.catalog_page.specs.Fields.{record_bytes};
 ghost use Rattle.catalog_page.specs.Layout.{IsRecord, IsFirstBadField, HasRecord, IsFirstBadRecord, IsUnused, IsFirstUsed};
 
-use crate::errors::{BadCatalog, BadField};
+use crate::errors::BadField;
 use crate::fields::bytes_of;
 use crate::layout::{MOST_RECORDS, USED};
 use crate::rules::{

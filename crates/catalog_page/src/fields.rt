@@ -2,7 +2,7 @@
 ghost use Rattle.std.specs.Prelude.{◌≡◌, ◌≤◌, ◌<◌, ◌+◌, length};
 ghost use Rattle.block_disk.specs.Blocks.{IsBlock};
 ghost use Rattle.node_page.specs.Fields.{number_at, signed_at};
-ghost use Rattle.catalog_page.specs.Fields.{record_bytes, length_at, name_at, root_at};
+ghost use Rattle.catalog_page.specs.Fields.{record_bytes, length_at, name_at};
 ghost use Rattle.catalog_page.specs.Entries.{span_in, entry_in, entry_of};
 
 use crate::layout::{MAX, MIN, NAME, RECORD, RECORDS, ROOT, SLOTS, START, STEP};

@@ -18,7 +18,7 @@ use crate::failing::first_failing;
 use crate::failure::Failure;
 use crate::held_nodes::HeldNodes;
 use chart_frames::ViewFrame;
-use chart_grid::{Axis, Grid};
+use chart_grid::Grid;
 use coefficient_cache::CoefficientCache;
 use needed_nodes::{Findings, ScanOf, survey};
 use plain_chart::ValueRange;

@@ -314,9 +314,6 @@ view_numbers_after v coefs room =
 
 -- ---- rows
 
-column_fits : (column : ℕ) → column < 4096 → column < 256 ^ 2
-column_fits column h = omega arith
-
 row_meets : (w : ℕ) (r : Row) (next : Format) (ns : List ℕ) → FitsRow w r → Meets next ns
     → Meets (row_fields next) (unsigned r.first ∷ (unsigned r.least ∷ (unsigned r.greatest ∷ (unsigned r.last ∷ ns))))
 unfolding row_fields value_field at_most_field at_least_field between_field

@@ -29,9 +29,6 @@ answer r = r
 ok_bad : (tail : List ℕ) (left : ℕ) → answer (Ok tail) ≡ answer (Err (Bad left)) → ⊥
 ok_bad tail left e = grind (arith, e)
 
-ok_more : (tail : List ℕ) → answer (Ok tail) ≡ answer (Err More) → ⊥
-ok_more tail e = grind (arith, e)
-
 more_bad : (left : ℕ) → answer (Err More) ≡ answer (Err (Bad left)) → ⊥
 more_bad left e = grind (arith, e)
 
@@ -168,7 +165,3 @@ answers_behind given start taken bytes rest now r view is h =
     let P : Pending → Type 0 = λ p. Answers p r (held (given + taken) (drop (start + taken) bytes)) in
     let Q : List ℕ → Type 0 = λ b. Answers (held given rest) r (held (given + taken) b) in
     subst P (ap (held given) is ∙ view) (subst Q behind h)
-
-pub reached_behind : (start taken : ℕ) (bytes rest : List ℕ) (place : Place) → rest ≡ drop start bytes → Reached (drop taken rest) place → Reached (drop (start + taken) bytes) place
-reached_behind start taken bytes rest place is h =
-    let P : List ℕ → Type 0 = λ b. Reached b place in subst P (ap (drop taken) is ∙ dropped start taken bytes) h

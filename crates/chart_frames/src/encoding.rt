@@ -1,8 +1,8 @@
-ghost use Rattle.std.specs.Prelude.{◌≡◌, ◌<◌, ◌≤◌, ◌+◌, ◌*◌, ◌^◌, ◌++◌, ℕ, List, [], length, IfOk, OnOk, All};
+ghost use Rattle.std.specs.Prelude.{◌≡◌, ◌<◌, ◌+◌, ◌*◌, ◌^◌, ◌++◌, ℕ, List, length, IfOk, OnOk, All};
 ghost use Rattle.om3_coeff.specs.declared.key.Key.{Key};
 ghost use Rattle.om3_coeff.specs.declared.coef.Coef.{Coef};
 ghost use Rattle.chart_frames.specs.Format.{number_bytes};
-ghost use Rattle.chart_frames.specs.Frames.{Fits, FitsView, FitsRows, spelling, flags_of, number_of_flag};
+ghost use Rattle.chart_frames.specs.Frames.{Fits, FitsView, spelling, flags_of, number_of_flag};
 ghost use Rattle.chart_frames.specs.Spelled.{signed_bytes, two_before, place_before, source_before, view_before, coef_before, coefs_before, row_before, rows_before, rows_all_before, framed, frame_before};
 
 use crate::frame::{Frame, RowsFrame, ViewFrame};

@@ -1,8 +1,7 @@
 // How far the frame at the front of a stream is read.
-ghost use Rattle.std.specs.Prelude.{◌≡◌, ◌≤◌, List, length, IfOk, IfErr, OnOk, OnErr};
+ghost use Rattle.std.specs.Prelude.{◌≡◌, IfOk, IfErr, OnOk, OnErr};
 ghost use Rattle.chart_frames.specs.Reading.{read};
 ghost use Rattle.chart_frames.specs.Fields.{frame_fields};
-ghost use Rattle.chart_frames.specs.Frames.{Fits, FitsViewHead, FitsRowsHead, FitCoefs, FitRows};
 ghost use Rattle.chart_frames.specs.Items.{Fails};
 ghost use Rattle.chart_frames.specs.Places.{Opens, Reached, ViewReached, RowsReached, IsWhole, AreAll, Leaves, view_frame, rows_frame};
 ghost use Rattle.chart_frames.specs.declared.place.Place.TheVariants.{Start};

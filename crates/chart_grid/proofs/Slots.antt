@@ -12,10 +12,6 @@ use Rattle.chart_grid.proofs.Heights.{after, distance-some}
 use Rattle.chart_grid.proofs.Columns.{before_border, below_column, steps-within}
 
 -- no slot is before a time that isn't after the first slot
-pub none-before : (a : Axis) (t : ℤ) → t ≤ℤ a.start → AreSlotsBefore a t 0
-none-before a t early = record {
-  within = omega arith;
-  before = λ i h. (λ below. absurd (omega arith), λ past. absurd (omega (arith, ints)));
 }
 
 -- the slots before a later time

@@ -1,4 +1,4 @@
-ghost use Rattle.std.specs.Prelude.{◌≡◌, ◌<◌, ◌^◌, ◌+ℤ◌, ◌↔◌, pos, FitsSigned, IfSome, IfNone, IsTrue, unsigned_abs};
+ghost use Rattle.std.specs.Prelude.{◌≡◌, ◌<◌, ◌+ℤ◌, ◌↔◌, pos, FitsSigned, IfSome, IfNone, IsTrue, unsigned_abs};
 ghost use Rattle.std.specs.Int.{w64};
 ghost use Rattle.whole_number.specs.declared.limits.TheConstants.{GREATEST_TIME};
 

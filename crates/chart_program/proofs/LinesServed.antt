@@ -27,8 +27,6 @@ use Rattle.chart_service.specs.MomentLaws.{since_none}
 use Rattle.chart_program.specs.declared.run_end.RunEnd.{RunEnd}
 use Rattle.chart_program.specs.declared.run_end.RunEnd.TheVariants as run_end
 use Rattle.chart_program.specs.Runs.{AreShown, AreShownFrom, EndsRun, EndsAtBad}
-use Rattle.stored_book.specs.Damage.{IsBadForRequest}
-use Rattle.store_commands.specs.Damaged.{IsDamagedLater}
 use Rattle.chart_program.specs.Served.{Says, Spelled, AreTexts, Faults, AnswersAll, EndsServing, EndsLines, LeavesBooks, IsAheadOn, IsLinesCause, IsRejected, ReadsFrom, SyncsFrom, ServesLines, served}
 use Rattle.store_commands.specs.Books.{OfBook, HoldsAgain, begun}
 use Rattle.store_commands.proofs.HoldsAgain.{again_from}

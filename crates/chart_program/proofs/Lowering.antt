@@ -1,6 +1,5 @@
 -- What is done over a store on a disk, in the words of the disk.
-use Rattle.std.proofs.Common.{◌≡◌, ℕ, ◌≤◌, Bool, List, [], Option, Some, None, Result, Ok, Err, IfSome, refl, sym, subst, inl, inr}
-use Rattle.std.specs.Prelude.{OnOk, IfErr}
+use Rattle.std.proofs.Common.{◌≡◌, ℕ, ◌≤◌, Bool, List, [], Option, Some, None, IfSome, refl, sym, subst, inl, inr}
 use Rattle.block_disk.specs.View.{Image, View, Honest, sent_now}
 use Rattle.chart_client.specs.Showing.{ScreenGives}
 use Rattle.chart_client.specs.declared.errors.ClientError.TheVariants as client
@@ -29,19 +28,6 @@ use Rattle.store_commands.proofs.Held.{within_held, held_after, from_book}
 use Rattle.chart_service.specs.Answering.{Telling}
 use Rattle.chart_service.proofs.Sending.{stands_on}
 use Rattle.chart_program.proofs.Telling.{OneFrame, AllDraw, OneLacks, EndsTexts, texts_end, texts_lines}
-
--- what holds of all books holds in each case of an answer
-pub done_for : {T E : Type 0} (r : Result T E) (o : Option (List ℕ)) (Pre : ℕ → List Series → Type 0) (X : ℕ → List Series → List ℕ → Type 0) → ((total : ℕ) (book : List Series) → Pre total book → OnOk r (IfSome o (λ input. X total book input)))
-    → OnOk r (IfSome o (λ input. (total : ℕ) (book : List Series) → Pre total book → X total book input))
-done_for (Ok v) None Pre X all = tt
-done_for (Ok v) (Some input) Pre X all = all
-done_for (Err e) o Pre X all = tt
-
-pub ends_for : {T E : Type 0} (r : Result T E) (o : Option (List ℕ)) (Pre : ℕ → List Series → Type 0) (X : ℕ → List Series → List ℕ → E → Type 0) → ((total : ℕ) (book : List Series) → Pre total book → IfErr r (λ e. IfSome o (λ input. X total book input e)))
-    → IfErr r (λ e. IfSome o (λ input. (total : ℕ) (book : List Series) → Pre total book → X total book input e))
-ends_for (Ok v) o Pre X all = tt
-ends_for (Err e) None Pre X all = tt
-ends_for (Err e) (Some input) Pre X all = all
 
 -- Calls over the pages of a disk, which is at rest afterwards.
 module _ (count count' : ℕ) (old new : View) (same : count' ≡ count) (told : Honest old → Honest new) where

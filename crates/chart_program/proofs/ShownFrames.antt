@@ -1,5 +1,5 @@
 -- A run gives frames to `show` that name sessions which are open.
-use Rattle.std.proofs.Common.{◌≡◌, ◌+◌, ◌≤◌, ℕ, Bool, List, [], ◌∷◌, ◌++◌, length, take, Option, Result, Ok, Err, IfErr, refl, ap, sym, ◌∙◌, arith, length-append}
+use Rattle.std.proofs.Common.{◌≡◌, ◌+◌, ℕ, Bool, List, [], ◌∷◌, ◌++◌, length, take, Option, Result, Ok, Err, IfErr, refl, ap, sym, ◌∙◌, arith, length-append}
 use Rattle.std.proofs.Math.Seq.{take-append-add, take-length}
 use Rattle.std.proofs.lemmas.List.Elements.{All-append, All-cons, All-nil}
 use Rattle.block_disk.specs.Streams.{sent_after, PartSent}
@@ -14,9 +14,9 @@ use Rattle.chart_service.specs.declared.failure.AnswerEnd.{AnswerEnd}
 use Rattle.chart_service.specs.declared.failure.AnswerEnd.TheVariants as answers
 use Rattle.chart_service.specs.declared.failure.ServeEnd.TheVariants.{ReadFault, SendFault, DiskFault, Damaged, InputTooLong, NoMemory}
 use Rattle.chart_service.proofs.Made.{made_joined}
-use Rattle.chart_service.proofs.Naming.{known_alike, name_joined, gives_kept}
+use Rattle.chart_service.proofs.Naming.{known_alike, name_joined}
 use Rattle.chart_service.proofs.Sending.{made_one}
-use Rattle.chart_program.specs.Known.{ShowsNamed, ShowStops, ShowsBy}
+use Rattle.chart_program.specs.Known.{ShowsNamed, ShowsBy}
 use Rattle.chart_program.specs.Runs.{Gives, MakesText, run_answer}
 use Rattle.chart_program.specs.declared.run_end.RunEnd.{RunEnd}
 use Rattle.chart_program.specs.declared.run_end.RunEnd.TheVariants.{Serve, Show}

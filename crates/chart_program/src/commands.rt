@@ -1,7 +1,6 @@
 //! The commands, each with its status.
 ghost use Rattle.std.specs.Prelude.{◌≡◌, ◌⊎◌, [], ◌∷◌, Contains, IfErr};
 ghost use Rattle.block_disk.specs.Counts.{HasRisen};
-ghost use Rattle.block_disk.specs.View.{View};
 ghost use Rattle.chart_grid.specs.Limits.{IsSide};
 ghost use Rattle.chart_world.specs.Faults.{CountsFault};
 ghost use Rattle.program_words.specs.declared.words.Command.TheVariants.{Plot, Draw, Init, Cover};

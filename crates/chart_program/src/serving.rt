@@ -1,5 +1,4 @@
 ghost use Rattle.std.specs.Prelude.{◌≡◌, Contains, IfErr};
-ghost use Rattle.block_disk.specs.View.{View};
 ghost use Rattle.chart_client.specs.Accepting.{HasNumber};
 ghost use Rattle.chart_world.specs.Faults.{CountsFault};
 ghost use Rattle.program_words.specs.declared.words.Command.TheVariants.{Run, Serve};

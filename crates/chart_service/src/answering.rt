@@ -1,8 +1,6 @@
 //! A service answers a view of a series in an open session.
-ghost use Rattle.std.specs.Prelude.{◌≡◌, ◌≢◌, ◌≤◌, ◌<◌, ◌+◌, ℕ, List, None, Some, length, slice_get, IfOk, IfErr, IsTrue, IsSomeAnd, OnOk};
+ghost use Rattle.std.specs.Prelude.{◌≡◌, ◌≢◌, ◌≤◌, ◌<◌, None, Some, length, slice_get, IfOk, IfErr, IsTrue, IsSomeAnd, OnOk};
 ghost use Rattle.block_disk.specs.View.{View};
-ghost use Rattle.series_book.specs.declared.one_series.Series.{Series};
-ghost use Rattle.stored_book.specs.Standing.{StandsForBook};
 ghost use Rattle.zoom_session.specs.Sessions.{is_open, session_of};
 ghost use Rattle.chart_service.specs.Holding.{IsViewIn};
 ghost use Rattle.chart_service.specs.Looking.{IsPlanCause, IsScanCause, IsOfPages, IsGoodPlan, error_of};

@@ -1,5 +1,5 @@
 //! The lines of a service's streams are answered.
-ghost use Rattle.std.specs.Prelude.{◌≡◌, ◌≢◌, ◌≤◌, ◌<◌, ◌+◌, ◌*◌, ◌^◌, ℕ, Bool, List, [], All, Some, None, length, IfErr, IfSome, OnOk};
+ghost use Rattle.std.specs.Prelude.{◌≡◌, ◌≢◌, ◌≤◌, ◌<◌, ◌+◌, ◌*◌, ◌^◌, ℕ, Bool, [], All, Some, None, length, IfErr, IfSome, OnOk};
 ghost use Rattle.block_disk.specs.Counts.{HasRisen};
 ghost use Rattle.block_disk.specs.View.{Now, Only};
 ghost use Rattle.chart_frames.specs.Frames.{Fits};

@@ -1,15 +1,12 @@
 //! A service does edits.
-ghost use Rattle.std.specs.Prelude.{◌≡◌, ◌≢◌, ◌≤◌, ◌<◌, ◌+◌, ℕ, List, length, IfOk, IfErr, OnOk, MatchResult};
-ghost use Rattle.block_disk.specs.View.{View, Passes};
+ghost use Rattle.std.specs.Prelude.{◌≡◌, ◌≢◌, ◌≤◌, ◌<◌, ◌+◌, IfOk, IfErr, OnOk};
 ghost use Rattle.chart_frames.specs.Frames.{Fits};
-ghost use Rattle.gate_pages.specs.Pages.{GoesOn, Quiet};
-ghost use Rattle.series_book.specs.declared.one_series.Series.{Series};
+ghost use Rattle.gate_pages.specs.Pages.{GoesOn};
 ghost use Rattle.series_book.specs.Edits.{IsEdit, apply};
 ghost use Rattle.series_store.specs.Results.{KeepsBook, CommitsNone};
-ghost use Rattle.stored_book.specs.Standing.{StandsForBook};
 ghost use Rattle.request_lines.specs.declared.requests.Request.TheVariants.{Edit as EditRequest};
 ghost use Rattle.chart_service.specs.Opening.{OpensBy};
-ghost use Rattle.chart_service.specs.Stepping.{StandsAfter, state_of, RepliedTo, IsBeforeOrAfter, IsStepCause, IsOutside, IsUnchangedBy, IsUnchangedFor, Steps};
+ghost use Rattle.chart_service.specs.Stepping.{RepliedTo, IsOutside, Steps};
 ghost use Rattle.chart_service.specs.Called.{AnswersSo, CommitsOnly, IsCause};
 ghost use Rattle.chart_service.specs.Shown as shown;
 

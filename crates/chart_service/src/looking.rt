@@ -1,10 +1,9 @@
 //! A service answers requests that are no edits.
-ghost use Rattle.std.specs.Prelude.{◌≡◌, ◌≢◌, ◌≤◌, ℕ, List, Some, IfOk, IfErr, OnErr, OnOk};
+ghost use Rattle.std.specs.Prelude.{◌≡◌, ◌≢◌, ◌≤◌, ℕ, List, IfOk, IfErr, OnErr, OnOk};
 ghost use Rattle.block_disk.specs.View.{View};
 ghost use Rattle.chart_frames.specs.Frames.{Fits};
 ghost use Rattle.request_lines.specs.Requests.{IsInRange};
 ghost use Rattle.series_book.specs.declared.one_series.Series.{Series};
-ghost use Rattle.stored_book.specs.Standing.{StandsForBook};
 ghost use Rattle.zoom_session.specs.Sessions.{is_open};
 ghost use Rattle.chart_service.specs.Alone.{session_in};
 ghost use Rattle.chart_service.specs.Looking.{IsNoEdit};

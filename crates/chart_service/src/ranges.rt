@@ -1,5 +1,5 @@
 //! The range of values that a view asks for.
-ghost use Rattle.std.specs.Prelude.{◌≡◌, ◌^◌, IsTrue, false, nat_lt, unsigned_abs};
+ghost use Rattle.std.specs.Prelude.{◌≡◌, IsTrue, false, nat_lt, unsigned_abs};
 ghost use Rattle.whole_number.specs.declared.limits.TheConstants.{GREATEST_VALUE};
 ghost use Rattle.whole_number.specs.Range.{IsValue};
 ghost use Rattle.zoom_session.specs.Views.{IsRangeSpec};

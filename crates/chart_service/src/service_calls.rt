@@ -1,13 +1,9 @@
 //! A service is made, and what it tells.
-ghost use Rattle.std.specs.Prelude.{◌≡◌, ◌↔◌, [], ℕ, List, IfOk, IfErr, IsTrue};
+ghost use Rattle.std.specs.Prelude.{◌≡◌, ◌↔◌, [], IfOk, IfErr, IsTrue};
 ghost use Rattle.std.specs.Option.{option_copied};
-ghost use Rattle.block_disk.specs.View.{View};
-ghost use Rattle.series_book.specs.declared.one_series.Series.{Series};
 ghost use Rattle.series_book.specs.Edits.{id_of};
-ghost use Rattle.stored_book.specs.Standing.{StandsForBook};
 ghost use Rattle.zoom_session.specs.Sessions.{session_of, last_of, cache_of, AreSessions};
 ghost use Rattle.chart_service.specs.State.{IsSound};
-ghost use Rattle.chart_service.specs.Stepping.{state_of};
 ghost use Rattle.chart_service.specs.Shown as shown;
 
 use crate::service::Service;

@@ -1,5 +1,5 @@
 //! A service answers the lines of its streams by the spellings of frames.
-ghost use Rattle.std.specs.Prelude.{◌≡◌, ◌≢◌, ◌≤◌, ◌^◌, ℕ, List, Ok, Some, None, length, IfErr, IfSome, OnOk};
+ghost use Rattle.std.specs.Prelude.{◌≡◌, ◌≢◌, ◌≤◌, ◌^◌, Ok, length, IfErr, IfSome, OnOk};
 ghost use Rattle.block_disk.specs.Counts.{HasRisen};
 ghost use Rattle.block_disk.specs.View.{Now, Only};
 ghost use Rattle.chart_frames.specs.Frames.{spelling};

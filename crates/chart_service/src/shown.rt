@@ -1,4 +1,4 @@
-ghost use Rattle.std.specs.Prelude.{◌≡◌, ◌≢◌, ◌+◌, ◌*◌, ◌≤◌, ◌<◌, ◌^◌, ℤ, List, Option, Some, length, IsTrue, IfOk, IfErr, IsSome, None, OnOk};
+ghost use Rattle.std.specs.Prelude.{◌≡◌, ◌≢◌, ◌+◌, ◌*◌, ◌≤◌, ◌<◌, ◌^◌, ℤ, List, Option, Some, length, IsTrue, IfOk, IfErr, None, OnOk};
 ghost use Rattle.om3_coeff.specs.Keys.{height};
 ghost use Rattle.om3_coeff.specs.Spans.{IsProperIfAny};
 ghost use Rattle.om3_coeff.specs.View.{Agrees, HasCause};

@@ -1,12 +1,11 @@
 //! A service answers views.
-ghost use Rattle.std.specs.Prelude.{◌≡◌, ◌≢◌, ◌≤◌, ◌+ℤ◌, ℕ, ℤ, List, None, Some, length, slice_get, IfOk, IfErr, IfSome, OnOk, IsTrue, IsSomeAnd, MatchResult, Ok, Err};
-ghost use Rattle.block_disk.specs.View.{View};
+ghost use Rattle.std.specs.Prelude.{◌≡◌, ◌≢◌, ◌≤◌, ◌+ℤ◌, ℕ, ℤ, List, None, Some, length, IfOk, IfErr, IfSome, OnOk, IsTrue, MatchResult, Ok, Err};
 ghost use Rattle.series_book.specs.declared.one_series.Series.{Series};
 ghost use Rattle.stored_book.specs.Standing.{StandsForBook};
 ghost use Rattle.zoom_session.specs.Sessions.{is_open, session_of};
 ghost use Rattle.zoom_session.specs.Views.{IsRangeSpec};
 ghost use Rattle.chart_service.specs.Holding.{IsViewIn};
-ghost use Rattle.chart_service.specs.Looking.{Replying, ReadsBy};
+ghost use Rattle.chart_service.specs.Looking.{Replying};
 ghost use Rattle.chart_service.specs.Opening.{StaysIn};
 ghost use Rattle.chart_service.specs.Planning.{IsSpecFor, IsLastOf, IsMoved, IsGridFor};
 ghost use Rattle.chart_service.specs.Replies.{Moves};

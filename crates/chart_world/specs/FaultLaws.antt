@@ -32,12 +32,6 @@ counts_then fault old mid new first then =
     let P : FaultCounts → Type 0 = λ c. CountsBy fault c (faults_of new) in
     subst P first then
 
--- before what counted no fault
-pub counts_before : (fault : Option Fault) (old mid new : View) → CountsFault fault old mid → CountsFault None mid new → CountsFault fault old new
-counts_before fault old mid new first then =
-    let P : FaultCounts → Type 0 = λ c. CountsBy fault (faults_of old) c in
-    subst P (sym then) first
-
 -- a call of the disk alone: the streams stay
 pub counts_disk : (old new : View) → new.beside ≡ old.beside → HasRisen old.faults new.faults → CountsFault (Some OfDisk) old new
 counts_disk old new beside risen = (risen, ap (λ (b : Beside). b.read_faults) beside, ap (λ (b : Beside). b.send_faults) beside)

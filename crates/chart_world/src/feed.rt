@@ -1,5 +1,5 @@
 //! The piece of input that was taken last, and the front of a line that began in an earlier one.
-ghost use Rattle.std.specs.Prelude.{false, ◌≡◌, ◌≤◌, ◌<◌, ◌+◌, ◌-◌, ◌^◌, ◌++◌, [], IfSome, IsTrue, length, take, drop, vec_len, vec_capacity, IfOk, OnOk, OnErr, slice_range};
+ghost use Rattle.std.specs.Prelude.{false, ◌≡◌, ◌≤◌, ◌<◌, ◌+◌, ◌-◌, ◌^◌, ◌++◌, IfSome, IsTrue, take, vec_len, vec_capacity, IfOk, OnOk, OnErr, slice_range};
 ghost use Rattle.std.specs.List.{position_or_len};
 ghost use Rattle.block_disk.specs.Counts.{HasRisen, counted};
 ghost use Rattle.block_disk.specs.Streams.{Given, left_after};

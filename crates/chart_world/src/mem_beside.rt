@@ -1,6 +1,6 @@
 //! A world in memory is a disk with streams beside it.
 ghost use Rattle.std.proofs.Common.{◌∙◌};
-ghost use Rattle.std.specs.Prelude.{◌≡◌, Some, refl};
+ghost use Rattle.std.specs.Prelude.{Some, refl};
 ghost use Rattle.chart_world.specs.Beside.{streams};
 ghost use Rattle.chart_world.specs.SendMoments.{sent_is};
 ghost use Rattle.chart_world.specs.Sends.{timed};

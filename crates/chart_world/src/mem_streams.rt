@@ -1,10 +1,9 @@
 //! What a world in memory takes and sends.
 ghost use Rattle.std.proofs.Common.{◌∙◌};
-ghost use Rattle.std.specs.Prelude.{◌≡◌, ◌≤◌, ◌<◌, ◌+◌, ◌++◌, ◌∷◌, ◌⊎◌, ◌/◌, ◌↔◌, ℕ, [], None, Some, min, length, take, drop, IsErr, IfOk, IfSome, OnOk, OnErr, Contains, refl, if◌then◌else◌};
+ghost use Rattle.std.specs.Prelude.{◌≡◌, ◌<◌, ◌+◌, ◌++◌, ◌∷◌, ◌⊎◌, ◌/◌, ◌↔◌, ℕ, [], Some, min, length, take, drop, IsErr, IfOk, OnOk, OnErr, Contains, refl, if◌then◌else◌};
 ghost use Rattle.std.specs.Bool.{OnTrue, OnFalse};
-ghost use Rattle.block_disk.specs.Counts.{HasRisen, counted};
+ghost use Rattle.block_disk.specs.Counts.{counted};
 ghost use Rattle.block_disk.specs.MemDisk.{alone};
-ghost use Rattle.block_disk.specs.Streams.{Given, PartSent, sent_after, left_after};
 ghost use Rattle.chart_world.specs.Sends.{timed};
 ghost use Rattle.chart_world.specs.SentOn.{SentOn, sent_none, sent_more, sent_then};
 ghost use Rattle.chart_world.specs.Worlds.{bytes_left, bytes_sent, TakesOnly, SendsOnly};

@@ -1,4 +1,3 @@
-use std::alloc::{AllocError, AllocFailed};
 use thiserror::Error;
 
 /// What a line says. Its numbers have at most 19 digits.

@@ -1,5 +1,5 @@
 -- What a workload has moved so far, and one request more.
-use Rattle.std.proofs.Common.{ℕ, suc, ◌≡◌, ◌+◌, ◌≤◌, List, ◌∷◌, length, Option, None, Some, Result, Ok, Err, refl, ap, ◌∙◌, subst, arith}
+use Rattle.std.proofs.Common.{ℕ, suc, ◌≡◌, ◌+◌, ◌≤◌, List, ◌∷◌, length, Option, None, Some, refl, ap, ◌∙◌, subst, arith}
 use Rattle.std.specs.Prelude.{MatchOption}
 use Rattle.block_disk.specs.View.{View, Passes}
 use Rattle.block_disk.proofs.Passing.{passes_weaker}

@@ -1,6 +1,5 @@
 //! One request of a workload: the service answers it, and a client draws what it is sent.
 ghost use Rattle.std.specs.Prelude.{◌≡◌, ◌≢◌, ◌+◌, ◌<◌, ◌^◌, ℕ, None, Some, IfOk, IfErr, OnOk, Err};
-ghost use Rattle.block_disk.specs.View.{View};
 ghost use Rattle.chart_world.specs.Faults.{CountsFault, fault_in};
 ghost use Rattle.gate_pages.specs.Pages.{GoesOn};
 ghost use Rattle.request_lines.specs.Requests.{IsInRange};

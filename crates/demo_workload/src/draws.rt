@@ -1,4 +1,4 @@
-ghost use Rattle.std.specs.Prelude.{◌≡◌, ◌+◌, ◌≤◌, ◌<◌, ◌^◌, IfOk, OnOk, unsigned_abs};
+ghost use Rattle.std.specs.Prelude.{◌≡◌, ◌+◌, ◌≤◌, ◌<◌, IfOk, OnOk, unsigned_abs};
 ghost use Rattle.demo_workload.specs.Draws.{next_state, number_in, moved, after_draw, walked, values};
 
 use std::alloc::{AllocError, Global};

@@ -1,4 +1,4 @@
-ghost use Rattle.std.specs.Prelude.{◌≡◌, ◌+◌, ◌≤◌, ◌<◌, ◌∷◌, ◌++◌, [], List, IfOk, IfSome, OnErr, MatchOption};
+ghost use Rattle.std.specs.Prelude.{◌≡◌, ◌+◌, ◌<◌, ◌∷◌, ◌++◌, [], IfOk, IfSome, OnErr, MatchOption};
 ghost use Rattle.request_lines.specs.declared.requests.Request.{Request};
 ghost use Rattle.request_lines.specs.Requests.{IsInRange};
 ghost use Rattle.demo_workload.specs.declared.plans.Stage.TheVariants as stage;

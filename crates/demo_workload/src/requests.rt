@@ -1,4 +1,4 @@
-ghost use Rattle.std.specs.Prelude.{◌≡◌, ◌+◌, ◌≤◌, ◌<◌, ◌^◌, ◌%◌, ◌-ℤ◌, pos, IfOk, OnOk, unsigned_abs, IsTrue, codes};
+ghost use Rattle.std.specs.Prelude.{◌≡◌, ◌+◌, ◌≤◌, ◌<◌, ◌%◌, ◌-ℤ◌, pos, IfOk, OnOk, unsigned_abs, IsTrue};
 ghost use Rattle.series_book.specs.Names.{is_name};
 ghost use Rattle.request_lines.specs.Requests.{IsInRange};
 ghost use Rattle.demo_workload.specs.Draws.{walked};

@@ -1,6 +1,6 @@
 //! A workload is given to a service and a client of it.
 ghost use Rattle.std.specs.Prelude.{◌≡◌, ◌≢◌, ◌≤◌, [], IfOk, IfErr, Err};
-ghost use Rattle.block_disk.specs.View.{View, Now, Only};
+ghost use Rattle.block_disk.specs.View.{Now, Only};
 ghost use Rattle.chart_world.specs.Faults.{CountsFault, fault_in};
 ghost use Rattle.gate_pages.specs.Pages.{GoesOn};
 ghost use Rattle.chart_service.specs.Shown as shown;

@@ -1,11 +1,9 @@
 //! What stands against a request before anything is drawn.
-ghost use Rattle.std.specs.Prelude.{◌≡◌, ◌<◌, ◌≤◌, ◌^◌, false, length, nat_lt, unsigned_abs, IfErr, IfOk, IfSome, IsTrue, MatchResult};
-ghost use Rattle.chart_service.specs.Viewing.{IsBadRange, IsGoodRange};
+ghost use Rattle.std.specs.Prelude.{◌≡◌, ◌<◌, length, IfOk, IfSome, MatchResult};
+ghost use Rattle.chart_service.specs.Viewing.{IsGoodRange};
 ghost use Rattle.derived_chart.specs.Sums.{IsSmall};
 ghost use Rattle.series_pair.specs.Derived.{MayShow};
 ghost use Rattle.series_store.specs.Shown as shown;
-ghost use Rattle.whole_number.specs.Range.{IsValue};
-ghost use Rattle.whole_number.specs.declared.limits.TheConstants.{GREATEST_VALUE};
 ghost use Rattle.derive_command.specs.Answers.{IsRefused, asked_range};
 ghost use Rattle.derive_command.specs.Doing.{AreIdsOf, IsAsked, IsViewOf};
 ghost use Rattle.derive_command.specs.Requests.{IsFactor};

@@ -1,5 +1,5 @@
 //! A line is read as a request.
-ghost use Rattle.std.specs.Prelude.{◌≡◌, ◌≢◌, ◌<◌, ◌≤◌, ◌^◌, ◌∷◌, [], ℤ, List, None, Err, length, nat_le, position, unsigned_abs, IfErr, IfNone, IfOk, IfSome, IsTrue};
+ghost use Rattle.std.specs.Prelude.{◌≡◌, ◌≢◌, ◌<◌, ◌≤◌, ◌^◌, ◌∷◌, ℤ, None, Err, length, nat_le, unsigned_abs, IfNone, IfOk, IfSome, IsTrue};
 ghost use Rattle.request_lines.specs.Spelling.{SpellsRange};
 ghost use Rattle.request_lines.specs.Tokens.{tokens};
 ghost use Rattle.request_lines.specs.declared.ranges.RangeWord.{RangeWord as RangeSaid};

@@ -22,9 +22,6 @@ pub best_clear : (best : Best) (list : List (Option ℤ)) (p q : ℕ) (found : O
 best_clear best list p q None clear = (refl, clear)
 best_clear best list p q (Some m) clear = (inl refl, beats_itself best m, λ i v low high holds. absurd (clear i v low high holds))
 
-pub best_empty : (best : Best) (list : List (Option ℤ)) (p q : ℕ) (found : Option ℤ) → p ≡ q → IsBestWith best list p q found found
-best_empty best list p q found same = best_clear best list p q found (λ i v low high holds. absurd (omega (arith, low, high, same)))
-
 -- and where nothing that is stored is better
 pub best_kept : (best : Best) (list : List (Option ℤ)) (p q : ℕ) (found : Option ℤ) (b : ℤ × ℤ) → IsNoBetter best found b → AreBetween list p q (Some b) → IsBestWith best list p q found found
 best_kept best list p q None b worse between = absurd worse

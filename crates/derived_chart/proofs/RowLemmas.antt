@@ -273,11 +273,6 @@ column_without axis g sums n from to rows own clear below = record {
   ];
 }
 
-pub shown_without : (w n : ℕ) (rows : List Row) → AreShown w n rows → AreShown w (n + 1) rows
-shown_without w n rows shown = record {
-  rising = shown.rising;
-  drawable = shown.drawable;
-  below = All-weaker (λ r. r.column < n) (λ r. r.column < n + 1) (λ r less. omega (arith, less)) rows shown.below;
 }
 
 columns_push : (rows : List Row) (r : Row) → columns_of (rows ++ r ∷ []) ≡ columns_of rows ++ r.column ∷ []

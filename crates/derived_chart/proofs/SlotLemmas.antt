@@ -5,7 +5,7 @@ use Rattle.std.proofs.Common.{to_z, of_z}
 use mir.Syntax.{w128}
 use Rattle.std.proofs.lemmas.Int.{ints, to_z-of_z, fits_signed_from_abs}
 use Rattle.std.proofs.lemmas.Option.{same_Some, slice_get_within}
-use Rattle.std.specs.Prelude.{◌≢◌, ◌↔◌, slice_get, IfSome, unsigned_abs}
+use Rattle.std.specs.Prelude.{◌≢◌, ◌↔◌, slice_get, unsigned_abs}
 use Rattle.std.specs.Int.{w64, cast_signed, cast_unsigned}
 use Rattle.whole_number.specs.Range.{IsValue}
 use Rattle.om3_coeff.specs.declared.key.Key.{Key}
@@ -190,14 +190,6 @@ on_ok (Err e) P Q on h = tt
 
 pub empty_values : (slots : List (Option ℤ)) → IsEmpty slots → HasValues slots
 empty_values slots empty = λ i v is. (let never : None ≡ Some v = sym (empty i) ∙ is in absurd (cc))
-
--- a value of an array
-pub value_at_place : (slots : List (Option ℤ)) (i : ℕ) → HasValues slots → IfSome (entry slots i) IsValue
-value_at_place slots i has = some (entry slots i) refl
-  where
-    some : (o : Option ℤ) → entry slots i ≡ o → IfSome o IsValue
-    some None is = tt
-    some (Some v) is = has i v is
 
 -- the best of one slot and of what was found before
 by_next : (best : Best) (sums : List (Option ℤ)) (n : ℕ) (found next r : Option ℤ) → ((v : ℤ) → Holds sums n v ↔ (next ≡ Some v)) → IsBetterOf best found next r → IsBestWith best sums n (n + 1) found r

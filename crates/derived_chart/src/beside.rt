@@ -1,5 +1,5 @@
 //! The slots of the second series beside those of the first one.
-ghost use Rattle.std.specs.Prelude.{◌≤◌, ◌<◌, ◌*◌, ◌^◌, unsigned_abs};
+ghost use Rattle.std.specs.Prelude.{◌≤◌, ◌<◌, ◌^◌};
 ghost use Rattle.derived_chart.specs.Bounds.{AreBefore, AreBeside};
 
 /// How many of `count` slots of the second series stand before the time of slot `slot` of the first one.

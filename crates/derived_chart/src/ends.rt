@@ -1,5 +1,5 @@
 //! The ends of the sums of a range.
-ghost use Rattle.std.specs.Prelude.{◌≡◌, ◌≢◌, ℤ, Bool, true, false, ◌+◌, ◌<◌, ◌^◌, ◌≤◌, List, Option, IfOk, IfErr, OnOk, unsigned_abs};
+ghost use Rattle.std.specs.Prelude.{◌≡◌, ◌≢◌, ℤ, true, false, ◌+◌, ◌<◌, ◌^◌, ◌≤◌, List, Option, IfOk, IfErr, OnOk, unsigned_abs};
 ghost use Rattle.derived_chart.specs.Bounds.{AreInLimits};
 ghost use Rattle.om3_coeff.specs.Walks.{IsFirstStored, IsLastStored};
 ghost use Rattle.derived_chart.specs.Searches.{AreHalves, AreShorter, IsEndOf, IsFirstLarge, IsOneFound};

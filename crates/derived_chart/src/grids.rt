@@ -1,5 +1,5 @@
 //! Two series on one grid.
-ghost use Rattle.std.specs.Prelude.{◌≡◌, ℤ, ◌*◌, ◌<◌, ◌≤◌, ◌^◌, IfSome, IfNone, unsigned_abs};
+ghost use Rattle.std.specs.Prelude.{ℤ, ◌*◌, ◌<◌, ◌≤◌, ◌^◌, IfSome, IfNone, unsigned_abs};
 ghost use Rattle.derived_chart.specs.Points.{IsShift};
 ghost use Rattle.whole_number.specs.Range.{IsValue};
 

@@ -1,6 +1,5 @@
 //! The values of a few slots in a row, read by one walk.
-ghost use Rattle.std.specs.Prelude.{◌≡◌, ◌≢◌, ℤ, true, false, ◌+◌, ◌^◌, ◌*◌, ◌<◌, ◌≤◌, ◌≤ℤ◌, ◌<ℤ◌, ◌+ℤ◌, pos, List, Option, Some, IfOk, IfErr, OnOk, length, unsigned_abs};
-ghost use Rattle.whole_number.specs.Range.{IsValue};
+ghost use Rattle.std.specs.Prelude.{◌≡◌, ◌≢◌, ℤ, true, false, ◌+◌, ◌^◌, ◌*◌, ◌<◌, ◌≤◌, ◌≤ℤ◌, ◌<ℤ◌, ◌+ℤ◌, pos, List, Option, Some, IfErr, OnOk, length, unsigned_abs};
 ghost use Rattle.om3_coeff.specs.Keys.{end_slot};
 ghost use Rattle.om3_coeff.specs.View.{Agrees, HasCause};
 ghost use Rattle.om3_coeff.specs.Walks.{IsReached};

@@ -1,5 +1,5 @@
 //! Slots, times and values in the range of a series.
-ghost use Rattle.std.specs.Prelude.{◌≡◌, ◌<◌, ◌≤◌, ◌*◌, ◌^◌, ◌+ℤ◌, pos, neg_ℤ, unsigned_abs};
+ghost use Rattle.std.specs.Prelude.{◌≡◌, ◌<◌, ◌≤◌, ◌*◌, ◌^◌, pos, neg_ℤ, unsigned_abs};
 ghost use Rattle.chart_grid.specs.Slots.{AreSlotsBefore, slot_time};
 ghost use Rattle.whole_number.specs.Range.{IsTime, IsValue};
 

@@ -7,7 +7,6 @@ use Rattle.block_disk.proofs.Passing.{passes_weaker}
 use Rattle.gate_pages.specs.GateLaws.{gate_rests, goes_by}
 use Rattle.gate_pages.specs.GatePages.{PagesOf, IsReadable, IsClosed, StandsAsBefore, pages_view}
 use Rattle.gate_pages.specs.Journal.{page_count, pages_of}
-use Rattle.gate_pages.specs.Openings.{Explains}
 use Rattle.gate_pages.specs.Pages.{Quiet, GoesOn}
 use Rattle.gate_pages.specs.Steps.{Anywhere}
 use Rattle.gate_pages.specs.declared.errors.OpenCause.{OpenCause}
@@ -248,20 +247,6 @@ pub is_large : (size total : ℕ) (image : Image) (book : List Series) → Recov
 is_large size total image book is =
     let low = is.stands.store.stands.rules.total_low in
     omega (arith, low, is.stands.total_is, is.within)
-
--- why it wasn't opened
-pub pages_prevents : (cause : OpenCause) (old new : View) → Explains cause old new → Prevents (cause_of cause) old new
-pages_prevents of_pages.DiskFault old new is = is
-pages_prevents (of_pages.TooSmall blocks) old new is = is
-pages_prevents of_pages.BadDirectory old new is = (is.0, (inl refl, λ honest. inl (refl, is.1 honest)))
-pages_prevents of_pages.NoMemory old new is = tt
-
-pub pages_outside : (cause : OpenCause) (total : ℕ) (book : List Series) (old new : View) → Explains cause old new → Honest old → RecoversTo (page_count old.size) old.image total book → IsOutside (cause_of cause)
-pages_outside of_pages.DiskFault total book old new is honest recovers = inl refl
-pages_outside (of_pages.TooSmall blocks) total book old new is honest recovers =
-    absurd (omega (arith, is.0, is.1, is_large old.size total old.image book recovers))
-pages_outside of_pages.BadDirectory total book old new is honest recovers = absurd (recovers.readable (is.1 honest))
-pages_outside of_pages.NoMemory total book old new is honest recovers = inr refl
 
 risen_before : (old mid new : ℕ) → mid ≡ old → HasRisen mid new → HasRisen old new
 risen_before old mid new same (inl risen) = inl (omega (arith, same, risen))

@@ -1,6 +1,6 @@
 //! A store on a disk is opened.
-ghost use Rattle.std.specs.Prelude.{◌≡◌, ◌≤◌, ◌<◌, ◌+◌, ◌^◌, ℕ, List, IfOk, IfErr, IsTrue, ◌≢◌};
-ghost use Rattle.block_disk.specs.View.{View, Honest};
+ghost use Rattle.std.specs.Prelude.{◌≡◌, ◌≤◌, ◌<◌, ◌+◌, IfOk, IfErr, ◌≢◌};
+ghost use Rattle.block_disk.specs.View.{Honest};
 ghost use Rattle.gate_pages.specs.Journal.{page_count};
 ghost use Rattle.stored_book.specs.Standing.{StandsForBook, book_pages};
 ghost use Rattle.disk_store.specs.Held.{HoldsBook};

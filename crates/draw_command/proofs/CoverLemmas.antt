@@ -158,10 +158,6 @@ covers_unopened every view h now e end is none ends =
 
 -- ---- a frame
 
--- a frame that has no covers
-pub covers_none : (every : Option ℕ) (f : Frame) (h : List Holding) (now : Option (List ℕ)) → AreCoversOf every f h [] → CoversFrame every f h now now
-covers_none every f h now none = record { covers = []; all = none; sent = sent_none now }
-
 -- its covers are sent, and its picture
 pub frame_drawn : (every : Option ℕ) (f : Frame) (d : Option Canvas) (h h' : List Holding) (before now later : Option (List ℕ)) → CoversFrame every f h before now
     → Accepts f d h h' → later ≡ sent_after (picture_bytes d) now → DrawsFrame every f h h' before later
@@ -171,13 +167,6 @@ frame_drawn every f d h h' before now later c accepts sends = (
   record { covers = c.covers; covered = c.all; accepted = accepts; bytes_are = refl },
   sent_more (flat_map picture c.covers) (picture_bytes d) before now later c.sent sends,
 )
-
--- it has no picture
-pub frame_bare : (every : Option ℕ) (f : Frame) (d : Option Canvas) (h h' : List Holding) (before now : Option (List ℕ)) → CoversFrame every f h before now
-    → Accepts f d h h' → d ≡ None → DrawsFrame every f h h' before now
-frame_bare every f d h h' before now c accepts none =
-    let P : Option Canvas → Type 0 = λ x. Accepts f x h h' in
-    frame_drawn every f None h h' before now now c (subst P none accepts) (sent_none now)
 
 pub frame_pictured : (every : Option ℕ) (f : Frame) (d : Option Canvas) (drawing : Canvas) (h h' : List Holding) (before now later : Option (List ℕ)) → CoversFrame every f h before now
     → Accepts f d h h' → d ≡ Some drawing → later ≡ sent_after (picture drawing) now → DrawsFrame every f h h' before later

@@ -27,9 +27,6 @@ use Rattle.draw_command.specs.Draws.{DrawsMore, DrawsFirst, DrawsFrame, FrameSto
 pub takes_so : (old new : Pending) (o : Option Frame) (f : Frame) → Answers old (Ok o) new → o ≡ Some f → Takes old new f
 takes_so old new o f answers is = let P : Option Frame → Type 0 = λ x. Answers old (Ok x) new in subst P is answers
 
-pub partial_so : (old new : Pending) (o : Option Frame) → Answers old (Ok o) new → o ≡ None → IsPartial old × (new ≡ old)
-partial_so old new o answers is = let P : Option Frame → Type 0 = λ x. Answers old (Ok x) new in subst P is answers
-
 pub shorter : (old new : Pending) (f : Frame) → ((f : Frame) (x : List ℕ) → Fits f → length (spelling f) ≡ 4 + number_in 4 (spelling f ++ x))
     → Takes old new f → length new.rest < length old.rest
 shorter old new f told takes =

@@ -1,7 +1,6 @@
 ghost use Rattle.std.specs.Prelude.{◌≡◌, ◌≢◌, ◌≤◌, ◌<◌, ◌^◌, [], length, None, Some, IfErr, IfOk, IfSome, OnErr, OnOk};
 ghost use Rattle.block_disk.specs.Counts.{HasRisen};
 ghost use Rattle.block_disk.specs.Streams.{Given, left_after};
-ghost use Rattle.block_disk.specs.View.{View};
 ghost use Rattle.chart_frames.specs.Frames.{Fits};
 ghost use Rattle.chart_frames.specs.Pending.{held};
 ghost use Rattle.chart_frames.specs.Stream.{IsPartial};

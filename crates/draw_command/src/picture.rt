@@ -3,7 +3,6 @@
 ghost use Rattle.std.specs.Prelude.{◌≡◌, ◌≢◌, ◌≤◌, IfErr, OnOk};
 ghost use Rattle.block_disk.specs.Counts.{HasRisen};
 ghost use Rattle.block_disk.specs.Streams.{sent_after};
-ghost use Rattle.block_disk.specs.View.{View};
 ghost use Rattle.pbm_writer.specs.Picture.{picture};
 ghost use Rattle.draw_command.specs.Alone.{StaysAlone};
 ghost use Rattle.draw_command.specs.Draws.{PictureStops};

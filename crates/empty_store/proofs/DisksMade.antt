@@ -32,11 +32,6 @@ sent_so old mid images passes at low high = elim (cases_lt old.clock at) [
 ]
 
 -- an opening alone
-pub leaves_opened : (count : ℕ) (old new : View) → Passes old new (StandsAsBefore count old) (Quiet old) → LeavesNew count old new
-leaves_opened count old new passes = record {
-  goes_on = goes_by old new (StandsAsBefore count old) (Quiet old) passes;
-  images = λ at image low high left. inl (stood count old new passes at image low high left);
-  sent = λ at low high. sent_so old new (StandsAsBefore count old) passes at low high;
 }
 
 -- page 0 of a store begins with the magic

@@ -1,6 +1,4 @@
 //! Why no store was made.
-use gate_pages::OpenCause;
-use page_space::SpaceError;
 use thiserror::Error;
 
 /// Why no store was made.

@@ -1,6 +1,6 @@
 //! A store is made on a disk.
 ghost use Rattle.std.specs.Prelude.{◌≡◌, ◌≢◌, ◌≤◌, IfOk, IfErr};
-ghost use Rattle.block_disk.specs.View.{View, Now, Honest, Only};
+ghost use Rattle.block_disk.specs.View.{Now, Honest, Only};
 ghost use Rattle.gate_pages.specs.GatePages.{IsBrokenNow, IsClosed};
 ghost use Rattle.gate_pages.specs.Journal.{page_count};
 ghost use Rattle.gate_pages.specs.Shown.{AreSound};

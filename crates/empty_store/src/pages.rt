@@ -1,6 +1,5 @@
 //! An empty store is written into pages.
 ghost use Rattle.std.specs.Prelude.{◌≡◌, ◌≢◌, ◌≤◌, IfOk, IfErr};
-ghost use Rattle.block_disk.specs.View.{View};
 ghost use Rattle.gate_pages.specs.Pages.{GoesOn};
 ghost use Rattle.page_space.specs.Layout.{HasMagic};
 ghost use Rattle.store_upgrade.specs.OldStores.{HasOldMagic};

@@ -1,5 +1,5 @@
 ghost use Rattle.std.specs.Prelude.{◌≡◌, ◌<◌, ◌≤◌, ◌^◌};
-ghost use Rattle.om3_coeff.specs.Keys.{first_slot, end_slot};
+ghost use Rattle.om3_coeff.specs.Keys.{end_slot};
 ghost use Rattle.om3_coeff.specs.Spans.{IsProper};
 ghost use Rattle.query_rewriter.specs.Kept.{passes};
 ghost use Rattle.filter_scan.specs.Taken.{IsSlotRow};

@@ -85,7 +85,6 @@ too_many count block many =
     and_false true = refl
     and_false false = refl
 
-pub some_above : (count : ℕ) (block ns : List ℕ) → numbers_in block (number_at block 8) ≡ ns → all_below count ns ≡ false → None ≡ directory count block
 unfolding keeps_layout
 some_above count block ns is above =
     let starts = starts_with eqb block magic in
@@ -99,7 +98,6 @@ some_above count block ns is above =
     by true false l = refl
     by false b l = refl
 
-pub some_twice : (count : ℕ) (block ns : List ℕ) → numbers_in block (number_at block 8) ≡ ns → is_distinct ns ≡ false → None ≡ directory count block
 unfolding keeps_layout
 some_twice count block ns is twice =
     let starts = starts_with eqb block magic in
@@ -115,7 +113,6 @@ some_twice count block ns is twice =
     by false b c l = refl
 
 -- and one that is
-pub keeps_all : (count : ℕ) (block ns : List ℕ) → numbers_in block (number_at block 8) ≡ ns → starts_with eqb block magic ≡ true → number_at block 8 ≤ 64 → all_below count ns ≡ true → is_distinct ns ≡ true → Some ns ≡ directory count block
 unfolding keeps_layout
 keeps_all count block ns is starts few below distinct =
     sym (ap (λ l. cond (starts_with eqb block magic && (leb (number_at block 8) 64 && (all_below count l && is_distinct l))) (Some l) None) is

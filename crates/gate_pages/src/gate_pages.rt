@@ -1,7 +1,6 @@
 //! Pages behind a gate on a disk.
 ghost use Rattle.std.specs.Prelude.{◌≤◌, ◌+◌, ◌^◌, IsTrue};
 ghost use Rattle.block_disk.specs.Blocks.{IsBlock};
-ghost use Rattle.block_disk.specs.View.{View};
 ghost use Rattle.gate_pages.specs.GatePages.{IsClosed};
 
 use block_disk::Disk;

@@ -1,5 +1,5 @@
 //! The calls of pages in memory.
-ghost use Rattle.std.specs.Prelude.{◌≡◌, ◌*◌, ◌≤◌, ◌+◌, length, IsTrue};
+ghost use Rattle.std.specs.Prelude.{◌≡◌, ◌*◌, ◌≤◌, ◌+◌, length};
 ghost use Rattle.block_disk.specs.Blocks.{block_size};
 ghost use Rattle.block_disk.specs.MemDisk.{replaced, blocks_of};
 ghost use Rattle.gate_pages.specs.Batch.{put_all, AllBelow};

@@ -1,5 +1,5 @@
 //! Pages in memory.
-ghost use Rattle.std.specs.Prelude.{◌≡◌, ◌*◌, ◌<◌, ◌≤◌, ℕ, length, replicate, IfOk};
+ghost use Rattle.std.specs.Prelude.{◌≡◌, ◌*◌, ◌<◌, ℕ, length, replicate, IfOk};
 ghost use Rattle.block_disk.specs.Blocks.{block_size};
 ghost use Rattle.block_disk.specs.MemDisk.{blocks_of};
 

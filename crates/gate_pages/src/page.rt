@@ -1,5 +1,5 @@
 //! A page with its number.
-ghost use Rattle.std.specs.Prelude.{◌≡◌, IfOk};
+ghost use Rattle.std.specs.Prelude.{◌≡◌};
 ghost use Rattle.block_disk.specs.Blocks.{IsBlock};
 
 use block_disk::BLOCK;

@@ -1,5 +1,4 @@
 //! The calls of pages on a disk.
-ghost use Rattle.std.specs.Prelude.{◌≡◌, IsTrue};
 ghost use Rattle.block_disk.specs.View.{Honest};
 ghost use Rattle.gate_pages.specs.GateLaws.{gate_rests, gate_tells};
 ghost use Rattle.gate_pages.specs.GatePages.{pages_view};

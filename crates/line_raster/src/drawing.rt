@@ -1,5 +1,5 @@
-ghost use Rattle.std.specs.Prelude.{◌≡◌, ℕ, ℤ, pos, ◌+◌, ◌*◌, ◌^◌, ◌<◌, ◌≤◌, ◌≤ℤ◌, unsigned_abs};
-ghost use Rattle.line_raster.specs.Canvas.{Canvas, Adds};
+ghost use Rattle.std.specs.Prelude.{ℤ, pos, ◌+◌, ◌^◌, ◌<◌, ◌≤◌, ◌≤ℤ◌, unsigned_abs};
+ghost use Rattle.line_raster.specs.Canvas.{Adds};
 ghost use Rattle.line_raster.specs.Segment.{On, InFill};
 
 use super::flat::draw_flat;

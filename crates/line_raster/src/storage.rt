@@ -1,4 +1,4 @@
-ghost use Rattle.std.specs.Prelude.{◌≡◌, ℕ, ◌+◌, ◌*◌, ◌<◌, ◌≤◌, ◌⊎◌, false, IfOk, count_by};
+ghost use Rattle.std.specs.Prelude.{◌≡◌, ◌+◌, ◌*◌, ◌<◌, ◌≤◌, ◌⊎◌, false, IfOk, count_by};
 ghost use Rattle.line_raster.specs.Canvas.{Canvas, black_at, Adds, IsBlank, black_pixels};
 
 use std::alloc::{AllocError, Global};
@@ -13,7 +13,7 @@ pub struct Bitmap {
 }
 
 impl Model for Bitmap {
-    ghost use Rattle.std.specs.Prelude.{◌≡◌, ◌*◌, ◌≤◌, vec_len};
+    ghost use Rattle.std.specs.Prelude.{◌≡◌, ◌*◌, ◌≤◌};
     ghost use Rattle.line_raster.specs.Canvas.{Canvas};
 
     ghost Value = { Canvas };

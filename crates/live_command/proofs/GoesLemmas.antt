@@ -1,15 +1,11 @@
 -- What calls move, whatever the pages are.
-use Rattle.std.proofs.Common.{◌≡◌, ◌∙◌, ℕ, ◌≤◌, List, None, refl, ap, sym, subst, arith}
-use Rattle.block_disk.specs.Counts.{HasRisen}
+use Rattle.std.proofs.Common.{◌≡◌, ◌∙◌, ℕ, ◌≤◌, List, None, refl, ap, sym, arith}
 use Rattle.block_disk.specs.View.{Beside, DiskKept}
 use Rattle.chart_world.specs.Faults.{CountsFault}
 use Rattle.chart_world.specs.FaultLaws.{disk_stays, sends_stay, takes_stay}
-use Rattle.chart_service.specs.Serving.{end_of_step}
-use Rattle.chart_service.specs.Stepping.{NamesBad, Steps}
+use Rattle.chart_service.specs.Stepping.{Steps}
 use Rattle.chart_service.specs.declared.failure.ServeEnd.{ServeEnd}
 use Rattle.chart_service.specs.declared.failure.ServeEnd.TheVariants.{ReadFault, SendFault, DiskFault, Damaged, InputTooLong, NoMemory}
-use Rattle.chart_service.specs.declared.failure.ServiceError.{ServiceError}
-use Rattle.chart_service.specs.declared.failure.ServiceError.TheVariants as step
 use Rattle.chart_service.proofs.DiskKept.{risen_since}
 use Rattle.gate_pages.specs.GateLaws.{goes_none, goes_then as goes_on_then}
 use Rattle.gate_pages.specs.Pages.{GoesOn}
@@ -59,15 +55,6 @@ cause_later old mid new DiskFault was are quiet is = risen_since old.view.faults
 cause_later old mid new (Damaged page) was are quiet is = is
 cause_later old mid new InputTooLong was are quiet is = tt
 cause_later old mid new NoMemory was are quiet is = tt
-
--- why an answer or a push failed
-step_cause : (old new : Side) (error : ServiceError) → (error ≡ step.DiskFault → HasRisen old.view.faults new.view.faults) → NamesBad new.told new.view.size new.view.image error → IsCause (end_of_step error) old new
-step_cause old new step.DiskFault disk bad = disk refl
-step_cause old new (step.Damaged page) disk bad = bad
-step_cause old new step.NoMemory disk bad = tt
-
-pub unmade_cause : (old new : Side) (error : ServiceError) (end : ServeEnd) → end ≡ end_of_step error → (error ≡ step.DiskFault → HasRisen old.view.faults new.view.faults) → NamesBad new.told new.view.size new.view.image error → IsCause end old new
-unmade_cause old new error end is disk bad = let P : ServeEnd → Type 0 = λ e. IsCause e old new in subst P (sym is) (step_cause old new error disk bad)
 
 -- what is held beside the pages
 abbrev pub held_of : List Session → List ℕ → List ℕ → Held

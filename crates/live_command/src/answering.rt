@@ -1,5 +1,5 @@
 //! A line is answered, and the pushes behind it are made: each frame is sent before the next is made.
-ghost use Rattle.std.specs.Prelude.{◌≡◌, ◌≢◌, ◌≤◌, ◌<◌, ◌+◌, ◌*◌, [], ◌∷◌, Some, None, Err, length, IfErr, IfOk, OnOk, OnErr};
+ghost use Rattle.std.specs.Prelude.{◌≡◌, ◌≢◌, ◌≤◌, ◌<◌, ◌+◌, ◌*◌, [], ◌∷◌, Some, None, Err, length, IfErr, OnOk};
 ghost use Rattle.block_disk.specs.Counts.{HasRisen};
 ghost use Rattle.block_disk.specs.Streams.{sent_after};
 ghost use Rattle.chart_frames.specs.Frames.{Fits, spelling};

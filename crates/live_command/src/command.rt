@@ -1,6 +1,5 @@
 //! The command `live`: the lines of the input are answered over the store of a disk, and pushes are made behind edits.
 ghost use Rattle.std.specs.Prelude.{◌≡◌, [], IfSome};
-ghost use Rattle.block_disk.specs.View.{View};
 ghost use Rattle.chart_service.specs.Faulting.{serve_fault};
 ghost use Rattle.chart_service.specs.Shown as shown;
 ghost use Rattle.chart_world.specs.Faults.{CountsFault, fault_in};

@@ -1,5 +1,5 @@
 //! Sessions are followed, and not any more.
-ghost use Rattle.std.specs.Prelude.{◌≡◌, ◌≤◌, ◌<◌, ◌^◌, ℕ, IfOk, OnErr, IsTrue, is_some};
+ghost use Rattle.std.specs.Prelude.{◌≡◌, ◌<◌, ◌^◌, IfOk, OnErr};
 ghost use Rattle.chart_frames.specs.Frames.{Fits, IsSession};
 ghost use Rattle.series_book.specs.declared.refusals.Refusal.{Refusal};
 ghost use Rattle.zoom_session.specs.Sessions.{is_open, session_of, AreSessions};

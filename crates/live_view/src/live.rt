@@ -1,5 +1,5 @@
 //! Sessions that follow their views.
-ghost use Rattle.std.specs.Prelude.{◌≡◌, ◌≤◌, ℕ, [], length, IsTrue, ◌↔◌};
+ghost use Rattle.std.specs.Prelude.{◌≡◌, ◌≤◌, [], length, IsTrue, ◌↔◌};
 ghost use Rattle.std.specs.List.Sorted.{IsStrictlyIncreasing};
 ghost use Rattle.live_view.specs.Numbers.{ArePositive};
 ghost use Rattle.live_view.specs.Sessions.{AreOpen, HaveViews};

@@ -1,6 +1,5 @@
 //! What a line that the stepper answers means for those that follow.
-ghost use Rattle.std.specs.Prelude.{◌≡◌, ◌≤◌, length, Ok, Err, IfOk};
-ghost use Rattle.request_lines.specs.Requests.{read_line};
+ghost use Rattle.std.specs.Prelude.{◌≡◌, Ok, Err, IfOk};
 ghost use Rattle.live_view.specs.Meaning.{name_of, meaning_in, meaning_of};
 
 use crate::live_lines::LONGEST_LINE;

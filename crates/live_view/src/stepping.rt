@@ -1,6 +1,6 @@
 //! Lines are answered, and frames pushed.
-ghost use Rattle.std.specs.Prelude.{◌≡◌, ◌↔◌, ℕ, Ok, None, IfOk, IfErr, IfSome, IfNone, OnOk};
-ghost use Rattle.chart_frames.specs.Frames.{Fits, IsSession};
+ghost use Rattle.std.specs.Prelude.{◌≡◌, ◌↔◌, Ok, None, IfOk, IfErr, IfSome, IfNone, OnOk};
+ghost use Rattle.chart_frames.specs.Frames.{Fits};
 ghost use Rattle.live_view.specs.declared.live_lines.LiveLine.TheVariants.{Other};
 ghost use Rattle.live_view.specs.Lines.{live_line};
 

@@ -86,10 +86,6 @@ owns_new g rows new from next t v begins ends is = λ u shown.
     )
 
 -- before the first row no time has its column
-pub owns_none : (g : Grid) (rows : List Row) (from next : ℤ) → rows ≡ [] → next ≡ from → Owns g rows from next
-owns_none g rows from next none empty = λ u shown. (
-  (λ h. absurd (no_time from next u empty h.0 h.1)),
-  (λ h. absurd (no_column (sym (ap last_column none) ∙ h))),
 )
   where
     no_time : (from next u : ℤ) → next ≡ from → from ≤ℤ u → u <ℤ next → ⊥

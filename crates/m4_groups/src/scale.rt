@@ -1,4 +1,4 @@
-ghost use Rattle.std.specs.Prelude.{◌≡◌, pos, ◌^◌, ◌≤◌, ◌≤ℤ◌, unsigned_abs};
+ghost use Rattle.std.specs.Prelude.{◌≡◌, ◌^◌, ◌≤◌, ◌≤ℤ◌, unsigned_abs};
 ghost use Rattle.chart_grid.specs.Projection.{height};
 ghost use Rattle.whole_number.specs.Range.{IsValue};
 

@@ -1,4 +1,4 @@
-ghost use Rattle.std.specs.Prelude.{◌≡◌, ◌+◌, ◌≤◌, Option, None, Some, IfOk, IfErr, OnOk, OnErr, ◌≢◌};
+ghost use Rattle.std.specs.Prelude.{◌≡◌, ◌+◌, ◌≤◌, Option, Some, IfOk, IfErr, OnOk, ◌≢◌};
 ghost use Rattle.om3_coeff.specs.Keys.{page_levels, left_of, right_of};
 ghost use Rattle.om3_coeff.specs.Spans.{hull};
 ghost use Rattle.om3_coeff.specs.View.{MayAsk, HasCause};

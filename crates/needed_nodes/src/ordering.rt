@@ -1,5 +1,4 @@
-ghost use Rattle.std.specs.Prelude.{◌≡◌, ◌+◌, ◌-◌, ◌*◌, ◌^◌, OnOk, All, IsPermutation};
-ghost use Rattle.om3_coeff.specs.Keys.{IsNode};
+ghost use Rattle.std.specs.Prelude.{◌≡◌, ◌+◌, ◌-◌, ◌*◌, OnOk, IsPermutation};
 ghost use Rattle.view_keys.specs.Listed.{AreInOrder};
 ghost use Rattle.needed_nodes.specs.Gathering.{AreApart};
 ghost use Rattle.needed_nodes.specs.Ordering.{order_number, AreSmallKeys};

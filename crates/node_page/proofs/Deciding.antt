@@ -28,10 +28,3 @@ same_test true true h = refl
 same_test false false h = refl
 same_test true false h = cc
 same_test false true h = cc
-
--- and of which it was found that they do
-pub other_test : (a b : Bool) → not (beq a b) ≡ true → a ≡ b → ⊥
-other_test true true h same = cc
-other_test false false h same = cc
-other_test true false h same = cc
-other_test false true h same = cc

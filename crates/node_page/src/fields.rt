@@ -1,7 +1,7 @@
 //! The fields of a page, read.
 ghost use Rattle.std.specs.Prelude.{◌≡◌, ◌≤◌, ◌<◌, ◌+◌};
 ghost use Rattle.block_disk.specs.Blocks.{block_size, IsBlock};
-ghost use Rattle.node_page.specs.Fields.{number_at, signed_at, flag_at, coef_at as coef_of_page, child_at as child_of_page};
+ghost use Rattle.node_page.specs.Fields.{signed_at, flag_at, coef_at as coef_of_page, child_at as child_of_page};
 
 use crate::layout::{CHILDREN, DIFFERENCES, FLAGS};
 use byteorder::{BigEndian, ByteOrder};

@@ -10,7 +10,7 @@ use Rattle.om3_coeff.specs.Keys.{height}
 use Rattle.om3_coeff.specs.Spans.{IsProperIfAny}
 use Rattle.om3_coeff.specs.Coefs.{parts}
 use Rattle.om3_coeff.specs.Known.{known}
-use Rattle.om3_coeff.specs.View.{NodesView, StaysSame}
+use Rattle.om3_coeff.specs.View.{NodesView}
 
 -- the coefficient of a key by a list of pairs: the first that has the key
 abbrev pub told_by : List (Key × Coef) → Key → Option Coef
@@ -56,14 +56,4 @@ same_error root other told after slots count e of_root of_told of_slots h =
     subst R (sym of_slots) (subst Q (sym of_told) (subst P (sym of_root) h))
 
 -- over the same slots, root and coefficients the nodes stay the same
-pub held_stays : (slots count : ℕ) (root other : Option Span) (told after : Key → Option Coef) (before now : Option Key) (asks later : ℕ) → count ≡ slots → other ≡ root → after ≡ told
-    → StaysSame (held_view slots root told before asks) (held_view count other after now later)
-held_stays slots count root other told after before now asks later of_slots of_root of_told = record {
-  slots = of_slots;
-  root = of_root;
-  tells = λ t. t;
-  has_told = λ t. t;
-  told = λ t. of_told;
-  bad = λ e. same_error root other told after slots count e of_root of_told of_slots;
-  was_bad = λ e. same_error other root after told count slots e (sym of_root) (sym of_told) (sym of_slots);
 }

@@ -1,7 +1,7 @@
-ghost use Rattle.std.specs.Prelude.{◌≡◌, ◌≢◌, ◌+◌, ◌≤◌, ◌⊎◌, None, Some, IfOk, IfErr, OnOk, OnErr, IsSome};
+ghost use Rattle.std.specs.Prelude.{◌≡◌, ◌≢◌, ◌+◌, ◌≤◌, None, Some, IfOk, IfErr, OnOk, OnErr};
 ghost use Rattle.om3_coeff.specs.Keys.{page_levels, left_of, right_of};
-ghost use Rattle.om3_coeff.specs.Spans.{IsProper, IsProperIfAny, hull};
-ghost use Rattle.om3_coeff.specs.View.{known_of, IsNodeOf, MayAsk, HasCause, NamesOnly};
+ghost use Rattle.om3_coeff.specs.Spans.{hull};
+ghost use Rattle.om3_coeff.specs.View.{IsNodeOf, MayAsk, HasCause, NamesOnly};
 ghost use Rattle.om3_coeff.specs.Walks.{IsReached};
 
 use crate::errors::NodeError;

@@ -139,11 +139,6 @@ pub copy_found : (place_now : Option Kept) (bytes : List ℕ) (kept : Kept) (p :
 copy_found place_now bytes kept p is number =
     sym (ap (λ o. copy_at o bytes p) is ∙ ap (λ b. cond b (Some (blocks_of bytes kept.copy)) None) (eq-eqb p kept.page (sym number)))
 
--- another page isn't there
-pub copy_missing : (place_now : Option Kept) (bytes : List ℕ) (kept : Kept) (p : ℕ) → place_now ≡ Some kept → kept.page ≢ p → None ≡ copy_at place_now bytes p
-copy_missing place_now bytes kept p is other =
-    sym (ap (λ o. copy_at o bytes p) is ∙ ap (λ b. cond b (Some (blocks_of bytes kept.copy)) None) (ne_eqb p kept.page (λ same. other (sym same))))
-
 -- empty places hold no page
 abbrev pub empties : ℕ → List (Option Kept)
 empties n = replicate n None
@@ -152,17 +147,6 @@ empty_at : (n at : ℕ) → get_or (empties n) at None ≡ None
 empty_at zero at = refl
 empty_at (suc n) zero = refl
 empty_at (suc n) (suc at) = empty_at n at
-
-pub all_empty : (places : List (Option Kept)) → places ≡ replicate 1024 None → (at : ℕ) → get_or places at None ≡ None
-all_empty places is at = ap (λ (l : List (Option Kept)). get_or l at None) is ∙ empty_at 1024 at
-
-pub copies_none : (places : List (Option Kept)) (bytes : List ℕ) → places ≡ replicate 1024 None → (p : ℕ) → copies_at places bytes p ≡ None
-copies_none places bytes is p = ap (λ o. copy_at o bytes p) (all_empty places is (place p))
-
--- what goes with no place is none
-pub only_none : (Goes : Option Kept → Type 0) → ((kept : Kept) → Goes (Some kept) → ⊥) → (place_now : Option Kept) → Goes place_now → place_now ≡ None
-only_none Goes never None goes = refl
-only_none Goes never (Some kept) goes = absurd (never kept goes)
 
 -- a number below the next one that isn't this one is below this one
 pub below : (n at : ℕ) → n < at + 1 → n ≢ at → n < at

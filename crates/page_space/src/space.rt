@@ -1,6 +1,5 @@
 //! Pages with their superblock.
 ghost use Rattle.std.specs.Prelude.{◌≡◌};
-ghost use Rattle.block_disk.specs.View.{View};
 ghost use Rattle.page_space.specs.Copies.{copies_in, AreCopiesOf};
 ghost use Rattle.page_space.specs.Layout.{superblock_page, IsSuperblock};
 

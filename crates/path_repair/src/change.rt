@@ -1,5 +1,5 @@
 //! A change of slots.
-ghost use Rattle.std.specs.Prelude.{◌≡◌, ◌≢◌, ◌+◌, ◌-◌, ◌*◌, ◌^◌, ◌<◌, ◌≤◌, ℕ, ℤ, List, Some, IfSome, None, Option, IsTrue, false, slice_get};
+ghost use Rattle.std.specs.Prelude.{◌≡◌, ◌≢◌, ◌+◌, ◌-◌, ◌*◌, ◌^◌, ◌<◌, ◌≤◌, ℕ, ℤ, Some, None, Option, IsTrue, false, slice_get};
 ghost use Rattle.om3_coeff.specs.Spans.{IsProperIfAny, span_of_slot};
 ghost use Rattle.whole_number.specs.Range.{IsValue};
 ghost use Rattle.om3_coeff.specs.Keys.{first_slot, end_slot};

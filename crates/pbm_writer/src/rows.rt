@@ -1,5 +1,4 @@
-ghost use Rattle.std.specs.Prelude.{◌≡◌, ℕ, ◌+◌, ◌-◌, ◌*◌, ◌<◌, ◌≤◌, length};
-ghost use Rattle.line_raster.specs.Canvas.{Canvas, black_at};
+ghost use Rattle.std.specs.Prelude.{◌≡◌, ◌+◌, ◌-◌, ◌*◌, ◌<◌, ◌≤◌, length};
 ghost use Rattle.pbm_writer.specs.Picture.{ink, byte_at, row_bytes, rows_below};
 ghost use Rattle.pbm_writer.specs.Strip.{IsStrip};
 

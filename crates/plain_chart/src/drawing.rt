@@ -1,4 +1,4 @@
-ghost use Rattle.std.specs.Prelude.{◌≡◌, ℕ, ℤ, pos, ◌<◌, ◌≤◌, ◌≤ℤ◌, ◌^◌, ◌↔◌, unsigned_abs, Option, Some, None, length, All};
+ghost use Rattle.std.specs.Prelude.{◌≡◌, ℕ, ℤ, pos, ◌<◌, ◌≤◌, ◌^◌, ◌↔◌, unsigned_abs, Option, Some, None, length, All};
 ghost use Rattle.std.specs.Option.{ForSome};
 ghost use Rattle.chart_grid.specs.Projection.{column};
 ghost use Rattle.line_raster.specs.Canvas.{Adds};

@@ -5,7 +5,7 @@ use Rattle.clap.specs.Lexer.{long_of, short_of}
 use Rattle.clap.specs.Walk.{Rule, Row, Text, Walk, walked, nothing_held, reading_by}
 use Rattle.clap.specs.Walk.Waiting.{idle, positional}
 use Rattle.clap.specs.declared.parser.matches.ValueSource.TheVariants.{CommandLine}
-use Rattle.clap.specs.Simple.{App, Shape, new_app, new_rule, with_rule, on_top, built, names_of, is_simple}
+use Rattle.clap.specs.Simple.{App, Shape, new_app, new_rule, with_rule, on_top, is_simple}
 use Rattle.clap.specs.Faults.{is_simple_and_free}
 use Rattle.clap.specs.declared.builder.action.ArgAction.TheVariants.{Set, Append}
 use Rattle.clap.specs.declared.builder.value_parser.ValueParser.TheVariants as vp
@@ -30,7 +30,6 @@ built_rule place rule = record rule { index = Some place; range = Some (record {
 abbrev pub rules : List Rule
 rules = built_rule 1 word_rule ∷ built_rule 2 operand_rule ∷ []
 
-pub built_rules : (built chart).top.rules ≡ rules
 unfolding clap_on_literals
 built_rules = refl
 
@@ -42,7 +41,6 @@ pub simple_and_free : is_simple_and_free chart ≡ true
 unfolding clap_on_literals
 simple_and_free = refl
 
-pub no_names : names_of (built chart) ≡ []
 unfolding clap_on_literals
 no_names = refl
 

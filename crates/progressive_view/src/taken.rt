@@ -1,7 +1,6 @@
 //! Which coefficients count.
 
-ghost use Rattle.std.specs.Prelude.{◌≡◌, ◌<◌, ◌^◌, AllPairs};
-ghost use Rattle.om3_coeff.specs.Keys.{end_slot};
+ghost use Rattle.std.specs.Prelude.{◌<◌, AllPairs};
 ghost use Rattle.chart_frames.specs.Frames.{Precedes};
 
 use crate::places::{coef_at, place_of};

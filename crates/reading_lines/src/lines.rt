@@ -1,4 +1,4 @@
-ghost use Rattle.std.specs.Prelude.{◌≡◌, ◌+◌, ◌<◌, ◌≤◌, ◌++◌, length, drop, codes, vec_len, vec_capacity, IsOk, OnOk, OnErr};
+ghost use Rattle.std.specs.Prelude.{◌≡◌, ◌+◌, ◌<◌, ◌≤◌, ◌++◌, length, drop, vec_len, vec_capacity, IsOk, OnOk, OnErr};
 ghost use Rattle.reading_lines.specs.Lines.{reading_line, axis_row, series_line};
 
 use crate::pieces::{put_byte, put_decimal, put_integer, put_natural};

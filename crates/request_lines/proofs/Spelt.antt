@@ -1,13 +1,9 @@
 -- Numbers, values and ranges as tokens, and the tokens that places allow.
-use Rattle.std.proofs.Common.{◌≡◌, ℕ, zero, suc, ℤ, pos, negsuc, ◌+◌, ◌*◌, ◌-◌, ◌^◌, ◌<◌, ◌≤◌, Bool, true, false, cond, ◌&&◌, ◌||◌, List, [], ◌∷◌, ◌++◌, length, map, drop, get_or, Option, Some, None, All, refl, sym, ap, subst, ◌∙◌, arith, inl, inr}
-use Rattle.std.specs.Prelude.{nat_le, ◌==◌, unsigned_abs, slice_index, if◌then◌else◌}
-use Rattle.std.specs.List.{before_first}
+use Rattle.std.proofs.Common.{◌≡◌, ℕ, ℤ, ◌+◌, ◌-◌, ◌^◌, ◌<◌, ◌≤◌, Bool, true, false, cond, ◌||◌, List, [], ◌∷◌, length, map, Option, Some, None, All, refl, sym, ap, subst, arith}
 use Rattle.std.specs.Char.{is_ascii_digit}
 use Rattle.std.specs.Str.{bytes_eq}
 use Rattle.std.specs.Fmt.{decimal, signed_decimal}
 use lib.Chars.{codes}
-use Rattle.std.proofs.lemmas.Int.{ints}
-use Rattle.std.proofs.lemmas.Bool.{and_parts, and_from, cases_Bool}
 use Rattle.std.proofs.lemmas.Bool.Decides.{nat_tests}
 use Rattle.std.proofs.lemmas.Fmt.{decimal_digit}
 use Rattle.std.proofs.lemmas.List.Elements.{All-nil, All-cons, All-head, All-tail}
@@ -16,10 +12,9 @@ use Rattle.whole_number.specs.Numbers.{is_natural, natural_value, is_integer, in
 use Rattle.whole_number.specs.Spelling.{SpellsNatural, SpellsInteger}
 use Rattle.whole_number.proofs.Tests.{natural_spelt, spelt_natural, integer_spelt, spelt_integer}
 use Rattle.whole_number.proofs.Digits.{one_natural, one_integer, below}
-use Rattle.series_book.specs.declared.limits.TheConstants.{GREATEST_START, GREATEST_STEP}
 use Rattle.request_lines.specs.declared.places.Place.{Place}
-use Rattle.request_lines.specs.declared.places.Place.TheVariants.{Name, Start, Step, Scale, Integer, Value, Natural, Session, Range, Where}
-use Rattle.request_lines.specs.Grammar.{Ending, nothing, at_most_one, one_or_more, any_behind, is_digit_token, allows, fault, ending_fault, first_misfit}
+use Rattle.request_lines.specs.declared.places.Place.TheVariants.{Integer, Value}
+use Rattle.request_lines.specs.Grammar.{Ending, is_digit_token, allows, fault, first_misfit}
 use Rattle.request_lines.specs.Requests.{value_of}
 use Rattle.request_lines.specs.Spelling.{value_text, IsEntry, IsThere}
 use Rattle.request_lines.proofs.NumberLemmas.{digit_natural, integer_not_hyphen}

@@ -1,11 +1,10 @@
 -- The lines of requests, kind by kind.
-use Rattle.std.proofs.Common.{◌≡◌, ℕ, ℤ, ◌+◌, ◌<◌, ◌≤◌, ◌^◌, Bool, true, false, cond, ◌&&◌, List, [], ◌∷◌, length, map, Option, Some, None, All, refl, sym, ap, subst, ◌∙◌, arith, inl, inr}
+use Rattle.std.proofs.Common.{◌≡◌, ℕ, ℤ, ◌+◌, ◌≤◌, true, false, cond, ◌&&◌, List, [], ◌∷◌, length, map, Option, Some, None, All, refl, sym, ap, subst, ◌∙◌, arith, inl, inr}
 use Rattle.std.specs.Prelude.{nat_le, unsigned_abs, IsTrue, ◌⊎◌, Result, Ok, Err, IfOk}
 use Rattle.request_lines.specs.declared.line_errors.LineError.{LineError}
 use Rattle.request_lines.specs.declared.line_errors.LineError.TheVariants.{BadLine, NoMemory}
 use Rattle.std.specs.Str.{bytes_eq}
 use Rattle.std.specs.Fmt.{decimal, signed_decimal}
-use Rattle.std.specs.List.{join_with_byte}
 use lib.Chars.{codes}
 use Rattle.std.proofs.lemmas.Bool.{and_parts, and_from}
 use Rattle.std.proofs.lemmas.Bool.Decides.{nat_tests}
@@ -16,16 +15,15 @@ use Rattle.whole_number.proofs.Tests.{natural_spelt, spelt_natural, integer_spel
 use Rattle.series_book.specs.Names.{is_name}
 use Rattle.series_book.specs.declared.limits.TheConstants.{GREATEST_START, GREATEST_STEP}
 use Rattle.series_book.specs.declared.edits.Edit.TheVariants.{Create as CreateEdit, Append as AppendEdit, Set as SetEdit, Clear as ClearEdit}
-use Rattle.request_lines.specs.declared.places.Place.{Place}
 use Rattle.request_lines.specs.declared.places.Place.TheVariants.{Name, Start, Step, Scale, Integer, Value, Natural, Session, Range, Where}
 use Rattle.request_lines.specs.declared.line_kinds.LineKind.{LineKind}
 use Rattle.request_lines.specs.declared.line_kinds.LineKind.TheVariants.{Create, Append, Set, Clear, Open, View, Zoom, Pan, Close}
 use Rattle.request_lines.specs.declared.requests.Request.{Request}
 use Rattle.request_lines.specs.declared.requests.Request.TheVariants.{Edit as EditRequest, Open as OpenRequest, View as ViewRequest, Zoom as ZoomRequest, Pan as PanRequest, Close as CloseRequest}
-use Rattle.request_lines.specs.Ranges.{is_range, range_of}
+use Rattle.request_lines.specs.Ranges.{is_range}
 use Rattle.request_lines.specs.Tokens.{tokens}
-use Rattle.request_lines.specs.Grammar.{Ending, nothing, at_most_one, one_or_more, any_behind, allows, kind_of, form_of, fault, ending_fault, first_misfit, kind_fault, tokens_fault, fault_of}
-use Rattle.request_lines.specs.Requests.{value_of, create_of, append_of, set_of, clear_of, open_of, view_of, filter_of, zoom_of, pan_of, close_of, request_of, named, kind_request, IsRequest, read_by, read_line, ReadsAs}
+use Rattle.request_lines.specs.Grammar.{nothing, at_most_one, one_or_more, any_behind, allows, kind_of, form_of, fault, ending_fault, kind_fault, tokens_fault, fault_of}
+use Rattle.request_lines.specs.Requests.{create_of, append_of, set_of, clear_of, open_of, view_of, filter_of, zoom_of, pan_of, close_of, request_of, named, kind_request, IsRequest, read_by, read_line, ReadsAs}
 use Rattle.request_lines.specs.Spelling.{IsNatural, IsInteger, IsSession, value_text, IsEntry, IsThere, SpellsFilter, SpellsWords, Spells}
 use Rattle.request_lines.proofs.NumberLemmas.{digit_natural}
 use Rattle.request_lines.proofs.SpeltRanges.{range_words, range_fit}

@@ -1,7 +1,6 @@
 ghost use Rattle.std.specs.Prelude.{◌≡◌, ◌<◌, ◌≤◌, ◌==◌, length, IsTrue, IfSome, position};
-ghost use Rattle.std.specs.List.{before_first};
 ghost use Rattle.whole_number.specs.Numbers.{integer_value};
-ghost use Rattle.request_lines.specs.Ranges.{low_end, after_low, is_fixed, is_range, range_of};
+ghost use Rattle.request_lines.specs.Ranges.{low_end, is_fixed, is_range, range_of};
 
 use whole_number::numbers::{integer_value, is_integer};
 

@@ -48,10 +48,6 @@ one_rule line first second one two = words_one (tokens line) first second one tw
 
 -- ---- lines that are no rule
 
--- tokens that are two aren't more
-two_one : (bytes first : List ℕ) (rest : List (List ℕ)) (name number : List ℕ) → tokens bytes ≡ name ∷ number ∷ [] → tokens bytes ≡ first ∷ rest → rest ≡ number ∷ []
-two_one bytes first rest name number two is = rest_same _ _ _ _ (sym is ∙ two)
-
 -- the second of two tokens has no space
 pub no_third : (bytes first number parts_first parts_rest : List ℕ) (name last : List ℕ) → tokens bytes ≡ first ∷ tokens number → tokens number ≡ parts_first ∷ tokens parts_rest → tokens bytes ≡ name ∷ last ∷ [] → ⊥
 no_third bytes first number parts_first parts_rest name last is more two =

@@ -1,7 +1,7 @@
 //! A line is swept and answered.
-ghost use Rattle.std.specs.Prelude.{◌≡◌, ◌≢◌, ◌≤◌, Err, length, IfErr, IfOk, OnOk, OnErr};
+ghost use Rattle.std.specs.Prelude.{◌≡◌, ◌≢◌, ◌≤◌, Err, length, IfErr, IfOk, OnOk};
 ghost use Rattle.block_disk.specs.Counts.{HasRisen};
-ghost use Rattle.block_disk.specs.Streams.{sent_after, PartSent};
+ghost use Rattle.block_disk.specs.Streams.{sent_after};
 ghost use Rattle.chart_world.specs.Faults.{CountsFault, fault_in};
 ghost use Rattle.series_store.specs.Shown as shown;
 ghost use Rattle.retain_command.specs.Answers.{swept_text};

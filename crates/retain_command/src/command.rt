@@ -1,6 +1,5 @@
 //! The command `retain`: the rules of the input are swept over the store of a disk, and each is answered.
 ghost use Rattle.std.specs.Prelude.{◌≡◌};
-ghost use Rattle.block_disk.specs.View.{View};
 ghost use Rattle.chart_world.specs.Faults.{CountsFault, fault_in};
 ghost use Rattle.gate_pages.specs.Shown.{AreSound, count, disk};
 ghost use Rattle.series_store.specs.Shown as shown;

@@ -1,5 +1,4 @@
 //! Why not all lines were swept.
-use chart_world::LineFault;
 use thiserror::Error;
 
 /// Why not all lines of the input were swept. The sweeps of the lines before stay.

@@ -1,5 +1,5 @@
 //! A line is read as a rule.
-ghost use Rattle.std.specs.Prelude.{◌≡◌, ◌<◌, ◌∷◌, [], ℕ, ℤ, List, None, Some, Err, length, position, codes, IsTrue, IfErr, IfOk, IfSome};
+ghost use Rattle.std.specs.Prelude.{◌≡◌, ◌<◌, ◌∷◌, [], ℕ, ℤ, List, None, Some, Err, codes, IsTrue, IfOk};
 ghost use Rattle.series_book.specs.Names.{is_name};
 ghost use Rattle.whole_number.specs.Spelling.{SpellsInteger, SpellsNatural};
 ghost use Rattle.request_lines.specs.Tokens.{tokens};

@@ -1,7 +1,5 @@
 //! The lines of a store's streams are swept and answered.
-ghost use Rattle.std.specs.Prelude.{◌≡◌, ◌≢◌, ◌≤◌, ◌<◌, ◌^◌, Err, length, IfErr, IfOk, IfSome, OnOk};
-ghost use Rattle.block_disk.specs.View.{sent_now};
-ghost use Rattle.chart_service.specs.Moments.{Since};
+ghost use Rattle.std.specs.Prelude.{◌≡◌, ◌≢◌, ◌≤◌, ◌<◌, ◌^◌, Err, length, IfErr, IfSome, OnOk};
 ghost use Rattle.chart_world.specs.Faults.{CountsFault, fault_in};
 ghost use Rattle.chart_world.specs.Reading.{unread_input};
 ghost use Rattle.series_store.specs.Shown as shown;

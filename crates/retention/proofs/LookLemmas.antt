@@ -3,14 +3,11 @@ use Rattle.std.proofs.Common.{◌≡◌, ℕ, ◌≤◌, length, refl, sym, ap, 
 use Rattle.block_disk.specs.Counts.{HasRisen}
 use Rattle.block_disk.specs.View.{Image, View, Now}
 use Rattle.block_disk.proofs.Passing.{passes_none, passes_weaker, now_back}
-use Rattle.gate_pages.specs.declared.pages.Pages.{Ghosts}
 use Rattle.gate_pages.specs.GateLaws.{goes_none, goes_then}
 use Rattle.gate_pages.specs.Pages.{GoesOn, Quiet}
 use Rattle.om3_coeff.specs.View.{NodesView}
 use Rattle.om3_coeff.specs.declared.errors.NodeError.TheVariants as node
 use Rattle.gate_pages.proofs.Moving.{time_then}
-use Rattle.page_space.specs.Shown as spaces
-use Rattle.page_space.specs.declared.space.Space.{Space}
 use Rattle.page_space.specs.declared.superblock.Superblock.{Superblock}
 use Rattle.series_catalog.specs.declared.catalog.Catalog.{Catalog}
 use Rattle.series_catalog.specs.Shown.{series_in}
@@ -59,14 +56,6 @@ looks_then told told' told'' old mid new under under' under'' s s' s'' catalog c
   superblock = second.superblock ∙ first.superblock;
   catalog_is = second.catalog_is ∙ first.catalog_is;
 }
-
--- the same space
-pub looks_same : {P : Type 0} → {g : Ghosts P} → (space space' : Space P g) (catalog catalog' : Catalog) → space' ≡ space → catalog' ≡ catalog
-    → Looks (spaces.IsTold space) (spaces.IsTold space') (spaces.view space) (spaces.view space') (spaces.under space) (spaces.under space') (spaces.numbers space) (spaces.numbers space') catalog catalog'
-looks_same {P} {g} space space' catalog catalog' same same_catalog =
-    let S : Space P g → Type 0 = λ x. Looks (spaces.IsTold space) (spaces.IsTold x) (spaces.view space) (spaces.view x) (spaces.under space) (spaces.under x) (spaces.numbers space) (spaces.numbers x) catalog catalog' in
-    let C : Catalog → Type 0 = λ x. Looks (spaces.IsTold space) (spaces.IsTold space) (spaces.view space) (spaces.view space) (spaces.under space) (spaces.under space) (spaces.numbers space) (spaces.numbers space) catalog x in
-    subst S (sym same) (subst C (sym same_catalog) (looks_none (spaces.IsTold space) (spaces.view space) (spaces.under space) (spaces.numbers space) catalog))
 
 -- asks of nodes
 pub looks_asked : (told told' : Type 0) (old new under under' : View) (s s' : Superblock) (tree tree' : Tree) (catalog catalog' : Catalog) → Keeps (ground told old under s tree) (ground told' new under' s' tree') → old.faults ≤ new.faults → catalog' ≡ catalog → Looks told told' old new under under' s s' catalog catalog'

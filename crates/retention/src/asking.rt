@@ -1,14 +1,11 @@
 //! A series of a store is asked for its first stored slot.
-ghost use Rattle.std.specs.Prelude.{◌≡◌, ◌≤◌, ◌<◌, ℕ, ℤ, List, None, Option, length, IfOk, IfErr, IfSome};
-ghost use Rattle.block_disk.specs.View.{View};
+ghost use Rattle.std.specs.Prelude.{◌≡◌, ◌≤◌, ◌<◌, ℤ, List, None, Option, length, IfOk, IfErr, IfSome};
 ghost use Rattle.chart_world.specs.Faults.{CountsFault, fault_in};
 ghost use Rattle.om3_coeff.specs.View.{Agrees};
 ghost use Rattle.om3_coeff.specs.Walks.{IsFirstStored};
 ghost use Rattle.series_book.specs.declared.limits.TheConstants.{MOST_SLOTS};
-ghost use Rattle.series_book.specs.declared.one_series.Series.{Series};
 ghost use Rattle.series_book.specs.Axes.{IsAxisOf};
 ghost use Rattle.series_store.specs.Shown as shown;
-ghost use Rattle.stored_book.specs.Standing.{StandsForBook};
 ghost use Rattle.retention.specs.Faults.{sweep_fault};
 ghost use Rattle.retention.specs.Moving.{LooksOnly};
 ghost use Rattle.retention.specs.Sweeping.{IsAskCause, IsOfPages, TellsBad, TellsNone, error_of};

@@ -1,11 +1,8 @@
 //! The next clear of a rule that frees pages.
-ghost use Rattle.std.specs.Prelude.{◌≡◌, ◌≤◌, ◌<◌, ◌/◌, ℕ, List, Option, Some, length, IfOk, IfErr, IfSome};
-ghost use Rattle.block_disk.specs.View.{View};
+ghost use Rattle.std.specs.Prelude.{◌≡◌, ◌<◌, ◌/◌, Option, Some, length, IfOk, IfErr, IfSome};
 ghost use Rattle.chart_world.specs.Faults.{CountsFault, fault_in};
-ghost use Rattle.series_book.specs.declared.one_series.Series.{Series};
 ghost use Rattle.series_book.specs.Edits.{IsEdit};
 ghost use Rattle.series_store.specs.Shown as shown;
-ghost use Rattle.stored_book.specs.Standing.{StandsForBook};
 ghost use Rattle.retention.specs.declared.rule.Rule.TheVariants.{Free};
 ghost use Rattle.retention.specs.Drops.{IsOldest};
 ghost use Rattle.retention.specs.Faults.{sweep_fault};

@@ -1,12 +1,8 @@
 //! The clears of a rule are done, one commit each.
-ghost use Rattle.std.specs.Prelude.{◌≡◌, ◌≢◌, ◌≤◌, ◌+◌, ◌*◌, ◌↔◌, ℕ, List, Ok, Err, true, false, length, IfOk, IfErr, IfSome, OnOk};
-ghost use Rattle.block_disk.specs.View.{View, Passes};
+ghost use Rattle.std.specs.Prelude.{◌≡◌, ◌≢◌, ◌≤◌, ◌+◌, ◌*◌, ◌↔◌, Ok, Err, true, false, IfOk, IfErr, IfSome, OnOk};
 ghost use Rattle.chart_world.specs.Faults.{CountsFault, fault_in};
-ghost use Rattle.gate_pages.specs.Pages.{Quiet};
-ghost use Rattle.series_book.specs.declared.one_series.Series.{Series};
-ghost use Rattle.series_book.specs.Edits.{IsEdit, apply};
+ghost use Rattle.series_book.specs.Edits.{IsEdit};
 ghost use Rattle.series_store.specs.Shown as shown;
-ghost use Rattle.stored_book.specs.Standing.{StandsForBook};
 ghost use Rattle.retention.specs.Faults.{sweep_fault};
 ghost use Rattle.retention.specs.Moving.{CarriesOn, LooksOnly};
 ghost use Rattle.retention.specs.Stepping.{DoesClear, StepsSo, clear_error};

@@ -1,4 +1,4 @@
-ghost use Rattle.std.specs.Prelude.{◌≡◌, ℤ, ◌<◌, List, Option, All, IfOk};
+ghost use Rattle.std.specs.Prelude.{ℤ, ◌<◌, List, Option, All, IfOk};
 ghost use Rattle.chart_grid.specs.declared.axis.Axis.{Axis};
 ghost use Rattle.plain_chart.specs.Samples.{kept, sample_points};
 ghost use Rattle.whole_number.specs.Range.{IsValue};

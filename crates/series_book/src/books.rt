@@ -1,4 +1,4 @@
-ghost use Rattle.std.specs.Prelude.{◌≡◌, ℤ, ◌+◌, ◌-◌, ◌<◌, ◌≤◌, ◌↔◌, [], ◌∷◌, ◌++◌, length, max, IsTrue, IfSome, IfOk, OnOk, OnErr, Some, None, slice_get, slice_range, take, drop, All, false, List, Option, IsSomeAnd};
+ghost use Rattle.std.specs.Prelude.{◌≡◌, ℤ, ◌+◌, ◌-◌, ◌<◌, ◌≤◌, ◌↔◌, [], ◌∷◌, ◌++◌, length, max, IsTrue, IfSome, IfOk, OnOk, OnErr, Some, None, slice_get, take, drop, All, false, List, Option, IsSomeAnd};
 ghost use Rattle.series_book.specs.Edits.{id_of, with_slots, overwritten, is_too_large};
 ghost use Rattle.series_book.specs.Books.{IsSeries, IsBook};
 ghost use Rattle.whole_number.specs.SlotTimes.{EndsInTime};

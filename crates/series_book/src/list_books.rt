@@ -1,4 +1,4 @@
-ghost use Rattle.std.specs.Prelude.{◌≡◌, ◌+◌, ◌<◌, ◌≤◌, [], ◌∷◌, ◌++◌, length, max, take, drop, slice_get, All, false, unsigned_abs, IfOk, IfErr, IfSome, IsSomeAnd, OnOk, OnErr, Ok};
+ghost use Rattle.std.specs.Prelude.{◌≡◌, ◌+◌, ◌<◌, ◌≤◌, [], length, max, take, drop, slice_get, All, false, unsigned_abs, IfOk, IfErr, IfSome, IsSomeAnd, OnOk, OnErr, Ok};
 ghost use Rattle.whole_number.specs.SlotTimes.{EndsInTime};
 ghost use Rattle.series_book.specs.declared.limits.TheConstants.{FIXED_PAGES, MOST_SLOTS, GREATEST_START, GREATEST_STEP, GREATEST_SCALE};
 ghost use Rattle.series_book.specs.declared.edits.Edit.TheVariants.{Create, Append, Set, Clear};

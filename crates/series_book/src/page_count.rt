@@ -1,7 +1,7 @@
 ghost use Rattle.std.specs.Prelude.{◌≡◌, ℕ, ◌+◌, ◌*◌, ◌^◌, ◌<◌, ◌≤◌, length, is_some};
 ghost use Rattle.std.specs.List.{list_any};
 ghost use Rattle.series_book.specs.declared.limits.TheConstants.{MOST_SLOTS};
-ghost use Rattle.series_book.specs.Pages.{ranges_with_value, level_pages, page_levels, series_pages, pages_of};
+ghost use Rattle.series_book.specs.Pages.{ranges_with_value, page_levels, series_pages, pages_of};
 
 use crate::books::Book;
 use crate::limits::{FIXED_PAGES, PAGE_SLOTS};

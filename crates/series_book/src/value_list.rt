@@ -1,4 +1,4 @@
-ghost use Rattle.std.specs.Prelude.{◌≡◌, false, All, IfOk, IfSome};
+ghost use Rattle.std.specs.Prelude.{◌≡◌, false, All, IfOk};
 ghost use Rattle.std.specs.List.{list_any};
 ghost use Rattle.series_book.specs.Edits.{is_too_large};
 

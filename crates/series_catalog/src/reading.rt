@@ -1,7 +1,7 @@
 //! A catalog is read.
-ghost use Rattle.std.specs.Prelude.{◌≡◌, ◌≢◌, ◌<◌, ◌≤◌, ◌+◌, ◌-◌, ◌++◌, ◌∷◌, [], ◌⊎◌, ℕ, None, length, map, AllPairs, IsTrue, IfOk, IfErr, OnOk};
-ghost use Rattle.block_disk.specs.View.{View, Image};
-ghost use Rattle.catalog_page.specs.Entries.{IsEntry, entry_of as entry_of_record};
+ghost use Rattle.std.specs.Prelude.{◌≡◌, ◌≢◌, ◌<◌, ◌≤◌, ◌+◌, ◌-◌, ◌++◌, ◌∷◌, [], ◌⊎◌, None, length, map, AllPairs, IsTrue, IfOk, IfErr, OnOk};
+ghost use Rattle.block_disk.specs.View.{Image};
+ghost use Rattle.catalog_page.specs.Entries.{entry_of as entry_of_record};
 ghost use Rattle.catalog_page.specs.Layout.{KeepsLayout};
 ghost use Rattle.catalog_page.specs.Places.{records_of as count_of_records};
 ghost use Rattle.series_book.specs.Names.{is_name};

@@ -1,7 +1,6 @@
 //! A series' record is written.
 ghost use Rattle.std.specs.Prelude.{◌≡◌, ◌≢◌, ◌<◌, ◌≤◌, ◌+◌, ◌↔◌, ℕ, None, length, OnOk, OnErr};
 ghost use Rattle.block_disk.specs.Counts.{HasRisen};
-ghost use Rattle.block_disk.specs.View.{View};
 ghost use Rattle.catalog_page.specs.Places.{page_of};
 ghost use Rattle.page_space.specs.Transactions.{held, held_page, told_by, HasRoom};
 ghost use Rattle.stored_book.specs.Changing.{IsRecordSet, KeepsRecords, AddsRecord};

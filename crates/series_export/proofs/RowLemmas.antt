@@ -207,9 +207,6 @@ names_no_feed = all_by (λ c. is_line_feed c ≡ false) names (refl, (refl, (ref
 names_text : text_of names ≡ Some names
 names_text = refl
 
-header_is : header ≡ names ++ 10 ∷ []
-header_is = refl
-
 all_asked : (values : List Stored) → asked None values ≡ values
 all_asked [] = refl
 all_asked (one ∷ values) = ap (λ l. one ∷ l) (all_asked values)

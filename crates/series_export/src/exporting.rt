@@ -1,7 +1,6 @@
 //! A series is sent.
 ghost use Rattle.std.specs.Prelude.{◌≡◌, ◌≤◌, ◌<◌, ◌+◌, length, IfOk, IfErr, OnOk, OnErr};
 ghost use Rattle.block_disk.specs.Streams.{sent_after, PartSent};
-ghost use Rattle.block_disk.specs.View.{View};
 ghost use Rattle.chart_world.specs.Faults.{CountsFault, fault_in};
 ghost use Rattle.series_book.specs.Pages.{series_pages};
 ghost use Rattle.series_store.specs.Sending.{SendsOn, IsSeriesCause, IsNoDamage};

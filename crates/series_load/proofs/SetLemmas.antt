@@ -20,7 +20,7 @@ use Rattle.series_store.specs.declared.errors.StoreError.TheVariants as store
 use Rattle.series_load.specs.Rows.{Reading}
 use Rattle.series_load.specs.Runs.{Run, readings}
 use Rattle.series_load.specs.Sets.{set_of, Loads, IsAfter}
-use Rattle.series_load.specs.Steps.{KeepsRun, Keeps, Closes, IsEither, StopsSo, NoBad, TooLongDone, Does, IsSetCause, IsSoundFor, end_at}
+use Rattle.series_load.specs.Steps.{KeepsRun, Keeps, Closes, IsEither, StopsSo, NoBad, TooLongDone, Does, IsSetCause, end_at}
 use Rattle.series_load.specs.declared.load_end.LoadEnd.{LoadEnd}
 use Rattle.series_load.specs.declared.load_end.LoadEnd.TheVariants.{BadLine, NoMemory}
 use Rattle.series_load.specs.declared.open_run.OpenRun.{OpenRun}
@@ -116,12 +116,6 @@ set_fails total name book (Some run) kept kept' edit error end told before now s
       moments = set_moments total name book run edit before now as_set time;
     }
 
--- no memory for the set
-pub no_room : {T : Type 0} (G H : List Run → Option Run → Type 0) (B : ℕ → Type 0) (total : ℕ) (name : List ℕ) (book : List Series) (kept : OpenRun) (end : LoadEnd) (at : View) → end ≡ NoMemory → StandsForBook at.image total book → Does {T = T} G H B total name book (Err end) kept at at
-no_room G H B total name book kept end at is stands =
-    let Q : LoadEnd → Type 0 = λ e. StopsSo H B total name book at.image e in
-    record { done = tt; stops = subst Q (sym is) (inl stands); moments = passes_none at (IsEither H total name book) (Quiet at) }
-
 -- why an edit wasn't done is why a set wasn't; the pages are as they were
 pub cause_of : (at : ℕ) (e : StoreError) (told told' : Type 0) (s : Superblock) (old new : View) → (told' → told) → new.size ≡ old.size → (told → KeepsPage old.size s (old.image 0)) → IsUnchangedFor e told old new → IsEditCause e told s old new
     → IsSetCause (end_at at e) told' s.total old new
@@ -133,13 +127,6 @@ cause_of at (store.Damaged page) told told' s old new was size keeps same cause 
     let C : ℕ → Type 0 = λ n. IsBadForEdit n new.image page in
     (cause.0, λ t. subst C (sym size) (subst I (sym (same.image (was t))) (record { numbers = s; keeps = keeps (was t); so = (cause.0, cause.1 (was t)) })))
 cause_of at store.NoMemory told told' s old new was size keeps same cause = tt
-
-pub sound_of : (at : ℕ) (e : StoreError) (told : Type 0) (old new : View) → IsUnchangedFor e told old new → old.fit → IsSoundFor (end_at at e) new
-sound_of at (store.Refused refusal) told old new same fit = same.fit fit
-sound_of at store.NotAStore told old new same fit = absurd same
-sound_of at store.DiskFault told old new same fit = tt
-sound_of at (store.Damaged page) told old new same fit = same.fit fit
-sound_of at store.NoMemory told old new same fit = same.fit fit
 
 -- there are values
 pub some_items : (n : ℕ) (values : List ℤ) (b : Bool) → n ≡ length values → b ≡ (n == 0) → b ≡ false → values ≢ []

@@ -1,5 +1,5 @@
 //! The lines of an input, one after the other, into a series.
-ghost use Rattle.std.specs.Prelude.{◌≡◌, ◌<◌, ◌≤◌, ◌+◌, ◌^◌, ℕ, List, [], ◌∷◌, Option, Some, None, true, false, length, unsigned_abs, IfOk, IfErr, OnOk};
+ghost use Rattle.std.specs.Prelude.{◌≡◌, ◌<◌, ◌≤◌, ◌+◌, ◌^◌, [], true, false, unsigned_abs, IfOk, IfErr, OnOk};
 ghost use Rattle.chart_world.specs.Faults.{CountsFault, fault_in};
 ghost use Rattle.series_load.specs.Faults.{load_fault};
 ghost use Rattle.series_load.specs.Steps.{Closes, IsSoundFor, end_at};

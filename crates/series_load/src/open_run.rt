@@ -1,5 +1,5 @@
 //! The run of readings that stands open.
-ghost use Rattle.std.specs.Prelude.{◌≡◌, ◌<◌, ◌≤◌, ◌+◌, ◌^◌, ◌-ℤ◌, ◌++◌, ◌∷◌, ◌↔◌, [], pos, length, map, Some, unsigned_abs, IsTrue, IfOk, IfErr, OnOk, OnErr};
+ghost use Rattle.std.specs.Prelude.{◌≡◌, ◌<◌, ◌≤◌, ◌+◌, ◌^◌, ◌-ℤ◌, ◌++◌, ◌∷◌, ◌↔◌, [], pos, length, map, Some, unsigned_abs, IsTrue, IfOk, IfErr, OnOk};
 ghost use Rattle.series_book.specs.declared.edits.Edit.TheVariants.{Set};
 ghost use Rattle.series_load.specs.declared.load_end.LoadEnd.TheVariants.{NoMemory};
 

@@ -1,7 +1,5 @@
 //! Whether two series of a store are on one grid.
 ghost use Rattle.std.specs.Prelude.{◌≡◌, ◌<◌, ◌≤◌, ◌*◌, ◌^◌, length, unsigned_abs, IfSome, MatchOption};
-ghost use Rattle.block_disk.specs.View.{View};
-ghost use Rattle.stored_book.specs.Standing.{StandsForBook};
 ghost use Rattle.series_store.specs.Shown as shown;
 ghost use Rattle.series_pair.specs.Derived.{AreShifted, AreUnlike};
 

@@ -13,7 +13,7 @@ use Rattle.gate_pages.specs.Pages.{Quiet, Reads, Commits, BeforeOrAfter}
 use Rattle.gate_pages.proofs.Moving.{time_then}
 use Rattle.catalog_page.specs.Layout.{KeepsLayout}
 use Rattle.catalog_page.specs.Places.{records_of}
-use Rattle.page_space.specs.Causes.{Unopened, Uninitialized}
+use Rattle.page_space.specs.Causes.{Uninitialized}
 use Rattle.page_space.specs.Firsts.{first_pages, empty_over}
 use Rattle.page_space.specs.Layout.{Keeps}
 use Rattle.page_space.specs.declared.superblock.Superblock.{Superblock}
@@ -21,10 +21,10 @@ use Rattle.page_space.specs.declared.errors.SpaceError.{SpaceError}
 use Rattle.page_space.specs.declared.errors.SpaceError.TheVariants.{NotAStore as NoStore, Full, DiskFault as AtDisk, Damaged as AtPage, NoMemory as AtMemory}
 use Rattle.path_repair.specs.Standing.{ReadsMost}
 use Rattle.series_book.specs.declared.one_series.Series.{Series}
-use Rattle.series_store.specs.Opening.{IsFirstPage, IsOpenCause, IsReadCause, IsOutside, MakesStore, space_error_of, catalog_error_of}
+use Rattle.series_store.specs.Opening.{IsFirstPage, IsReadCause, IsOutside, MakesStore, space_error_of, catalog_error_of}
 use Rattle.series_store.specs.declared.errors.StoreError.{StoreError}
 use Rattle.series_store.specs.declared.errors.StoreError.TheVariants.{Refused, NotAStore, DiskFault, Damaged, NoMemory}
-use Rattle.series_catalog.specs.Reading.{IsBadCatalog, IsCatalogCause, IsCatalogPage}
+use Rattle.series_catalog.specs.Reading.{IsBadCatalog, IsCatalogPage}
 use Rattle.series_catalog.specs.declared.errors.CatalogError.{CatalogError}
 use Rattle.series_catalog.specs.declared.errors.CatalogError.TheVariants.{DiskFault as DiskCatalog, Damaged as BadPage, NoMemory as NoRoom}
 use Rattle.stored_book.proofs.EmptyLemmas.{first_book, first_over, empty_store}
@@ -36,19 +36,6 @@ use Rattle.series_catalog.specs.declared.stored_series.StoredSeries.{StoredSerie
 use Rattle.stored_book.specs.Records.{entry}
 use Rattle.stored_book.specs.Standing.{IsStore, StandsForBook}
 
-pub read_once : (told told' : Type 0) (old new : View) → Reads told told' old new → ReadsMost 1 told told' old new
-read_once told told' old new reads = record {
-  time = reads.time;
-  told = reads.told;
-  was_told = reads.was_told;
-  image = reads.image;
-  size = reads.size;
-  beside = reads.beside;
-  fit = reads.fit;
-  faults = reads.faults;
-  reads = reads.reads;
-  syncs = reads.syncs;
-  writes = reads.writes;
 }
 
 pub reads_then : (a b most : ℕ) (told told' told'' : Type 0) (old mid new : View) → a + b ≡ most → ReadsMost a told told' old mid → ReadsMost b told' told'' mid new → ReadsMost most told told'' old new
@@ -70,14 +57,6 @@ reads_then a b most told told' told'' old mid new sum first second = record {
 pub err_so : {T E : Type 0} → (P Q : E → Type 0) (r : Result T E) → IfErr r P → ((e : E) → P e → Q e) → IfErr r Q
 err_so P Q (Ok v) is more = tt
 err_so P Q (Err e) is more = more e is
-
--- why a space wasn't opened is why the store wasn't
-pub space_cause : (told : Type 0) (old new : View) (e : SpaceError) → Unopened e told old new → IsOpenCause (space_error_of e) told old new
-space_cause told old new NoStore cause = cause
-space_cause told old new (Full needed have) cause = tt
-space_cause told old new AtDisk cause = cause
-space_cause told old new (AtPage page) cause = λ t. inl (cause.0, (cause.1 t).0, (cause.1 t).1)
-space_cause told old new AtMemory cause = tt
 
 -- why no store was made: the disk failed, or there was no memory
 module _ (old new : View) where
@@ -101,11 +80,6 @@ module _ (old new : View) where
   init_same value pages AtDisk cause same is = absurd (cc)
   init_same value pages (AtPage page) cause same is = absurd cause
   init_same value pages AtMemory cause same is = same refl
-
-pub catalog_cause : (told : Type 0) (s : Superblock) (old new : View) (e : CatalogError) → IsCatalogCause e told s old new → IsReadCause (catalog_error_of e) told s old new
-catalog_cause told s old new DiskCatalog cause = cause
-catalog_cause told s old new (BadPage page) cause = cause
-catalog_cause told s old new NoRoom cause = tt
 
 -- Where pages stand for a book, only the disk and the memory may fail.
 
@@ -152,10 +126,6 @@ keeps_of size total image book stands within =
         series_high = is.rules.series_high;
       };
     }
-
-pub space_outside : (e : SpaceError) → (e ≡ AtDisk) ⊎ (e ≡ AtMemory) → IsOutside (space_error_of e)
-space_outside e (inl is) = inl (ap (λ x. space_error_of x) is)
-space_outside e (inr is) = inr (ap (λ x. space_error_of x) is)
 
 -- a page that is called damaged is one of the catalog
 pub first_read : (e : CatalogError) → IsCatalogPage e → IsFirstPage (catalog_error_of e)

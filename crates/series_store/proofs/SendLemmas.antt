@@ -1,5 +1,5 @@
 -- What is said of the values of a list is given slot by slot.
-use Rattle.std.proofs.Common.{◌≡◌, ◌≢◌, ℕ, ℤ, zero, suc, ◌+◌, ◌-◌, ◌*◌, ◌^◌, ◌<◌, ◌≤◌, min, ltb, true, false, is_some, List, [], ◌++◌, length, take, drop, slice_get, Option, None, Some, refl, sym, ap, subst, arith, inl, inr, ◌∙◌}
+use Rattle.std.proofs.Common.{◌≡◌, ◌≢◌, ℕ, ℤ, zero, suc, ◌+◌, ◌-◌, ◌*◌, ◌^◌, ◌<◌, ◌≤◌, min, ltb, true, is_some, List, [], ◌++◌, length, take, drop, slice_get, Option, None, Some, refl, sym, ap, subst, arith, inl, inr, ◌∙◌}
 use Rattle.std.specs.Prelude.{Result, Ok, Err, IfErr}
 use Rattle.std.specs.Result.{IsErrAnd}
 use Rattle.std.proofs.lemmas.Bool.{cases_lt}
@@ -193,15 +193,7 @@ said_silent text list first end silent i low high = silent_slot text i (slot_at 
 pub is_said : (slots : ℕ) (text : ℕ → ℤ → List ℕ) (slot : ℕ) (value : ℤ) → slot < slots → first_said slots text slot value ≡ text slot value
 is_said slots text slot value within = let here : ltb slot slots ≡ true = grind (arith, nat_tests) in rw here refl
 
-pub not_said : (slots : ℕ) (text : ℕ → ℤ → List ℕ) (slot : ℕ) (value : ℤ) → slots ≤ slot → first_said slots text slot value ≡ []
-not_said slots text slot value past = let here : ltb slot slots ≡ false = grind (arith, nat_tests) in rw here refl
-
 -- nothing is said of slots of a range, where nothing is of those among the first
-pub silent_first : (slots first end most : ℕ) (text : ℕ → ℤ → List ℕ) → most ≡ min end slots → ((slot : ℕ) (value : ℤ) → first ≤ slot → slot < most → text slot value ≡ [])
-    → (slot : ℕ) (value : ℤ) → first ≤ slot → slot < end → first_said slots text slot value ≡ []
-silent_first slots first end most text is silent slot value low high = elim (cases_lt slot slots) [
-  | inl within ↦ is_said slots text slot value within ∙ silent slot value low (omega (arith, is, high, within))
-  | inr past ↦ not_said slots text slot value past
 ]
 
 slot_said : (slots : ℕ) (text : ℕ → ℤ → List ℕ) (slot : ℕ) (x : Option ℤ) → slot < slots → said_of (first_said slots text) slot x ≡ said_of text slot x

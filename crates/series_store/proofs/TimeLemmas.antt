@@ -1,12 +1,10 @@
 -- The moments that reads and a commit pass.
-use Rattle.std.proofs.Common.{◌≡◌, ℕ, ◌+◌, ◌≤◌, List, sym, ap, subst, arith, inl, inr, ◌∙◌}
-use Rattle.block_disk.specs.View.{Image, View, Now, Only, Passes, Rises}
+use Rattle.std.proofs.Common.{◌≡◌, List, sym, ap, subst, inl, inr, ◌∙◌}
+use Rattle.block_disk.specs.View.{Image, View, Now, Only, Passes}
 use Rattle.block_disk.proofs.Passing.{passes_weaker}
 use Rattle.gate_pages.specs.Batch.{Entry, put_all}
 use Rattle.gate_pages.specs.Pages.{Quiet, BeforeOrAfter, Commits}
 use Rattle.gate_pages.proofs.Moving.{time_then}
-use Rattle.path_repair.specs.Standing.{ReadsMost}
-use Rattle.series_store.specs.Results.{Moves}
 
 -- while blocks are read a crash leaves the pages
 pub reads_leave : (old new : View) (images : Image → Type 0) → Only old.image (Now old) → images old.image → Passes old new (Now old) (Quiet old) → Passes old new images (Quiet old)
@@ -26,16 +24,6 @@ commit_leaves batch told told' old mid new images only here there same time comm
     (passes_weaker mid new (BeforeOrAfter batch mid.image) images (Quiet mid) (Quiet mid) at (λ count quiet. quiet) commits.time)
 
 -- blocks that are read, in front of more moves
-pub moves_after : (most more : ℕ) (told told' told'' : Type 0) (old mid new : View) → most + more ≤ 96 → ReadsMost most told told' old mid → Moves told' told'' mid new → Rises more mid.reads new.reads → Moves told told'' old new
-moves_after most more told told' told'' old mid new few reads moves rises = record {
-  told = λ t. moves.told (reads.told t);
-  was_told = λ t. reads.was_told (moves.was_told t);
-  size = moves.size ∙ reads.size;
-  beside = moves.beside ∙ reads.beside;
-  faults = omega (arith, reads.faults, moves.faults);
-  reads = record { low = omega (arith, reads.reads.low, rises.low); high = omega (arith, reads.reads.high, rises.high, few) };
-  syncs = record { low = omega (arith, reads.syncs, moves.syncs.low); high = omega (arith, reads.syncs, moves.syncs.high) };
-  writes = record { low = omega (arith, reads.writes, moves.writes.low); high = omega (arith, reads.writes, moves.writes.high) };
 }
 
 -- what holds of the pages holds after a call that tells the same pages

@@ -29,10 +29,6 @@ pub record IsIdle (tree : Tree) (trail : Trail) : Type 0 where
 abbrev pub after_put : ℕ → List Series → ℕ → Series → ℕ → List (Option ℤ) → Result Edited Refusal
 after_put total book id series slot values = within total book id series (Ok (overwritten series.slots slot values))
 
--- the book with other slots of a series, with some of them cleared, or with a series without slots more
-abbrev pub with_changed : List Series → ℕ → Series → List (Option ℤ) → Edited
-with_changed book id series slots = record { book = with_slots book id series slots; slots = length slots }
-
 abbrev pub with_cleared : List Series → ℕ → Series → ℕ → ℕ → Edited
 with_cleared book id series slot count = record { book = with_slots book id series (cleared series.slots slot count); slots = length series.slots }
 

@@ -1,12 +1,9 @@
 //! All pages of a store that are in use or freed are read, and what they hold is counted.
-ghost use Rattle.std.specs.Prelude.{◌≡◌, ◌≤◌, ◌<◌, ◌+◌, ◌*◌, ◌^◌, ℕ, List, length, IfOk, IfErr, OnOk, ◌≢◌};
-ghost use Rattle.block_disk.specs.View.{View};
+ghost use Rattle.std.specs.Prelude.{◌≡◌, ◌≤◌, ◌<◌, ◌+◌, ℕ, List, IfOk, IfErr, OnOk, ◌≢◌};
 ghost use Rattle.page_space.specs.Spaces.{Stands};
-ghost use Rattle.series_book.specs.declared.one_series.Series.{Series};
 ghost use Rattle.series_store.specs.Counting.{values_of, ReadsTrees, ReadsOnce, AreCounts, AreNumbers, AreSound, AreSoundTrees, IsSoundChain, NamesWithin, IsCheckCause, IsTreesCause, IsChainCause};
 ghost use Rattle.series_store.specs.Opening.{IsOutside};
-ghost use Rattle.series_catalog.specs.Catalogs.{AreFit, AreAsTold};
-ghost use Rattle.stored_book.specs.Standing.{IsStore, StandsForBook};
+ghost use Rattle.series_catalog.specs.Catalogs.{AreFit};
 ghost use Rattle.series_catalog.specs.Shown.{series_in};
 ghost use Rattle.page_space.specs.Shown as spaces;
 ghost use Rattle.series_store.specs.Looking as looks;

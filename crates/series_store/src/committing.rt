@@ -1,16 +1,13 @@
 //! What is staged is committed.
-ghost use Rattle.std.specs.Prelude.{◌≡◌, ◌≤◌, ℕ, List, Bool, false, length, IfOk, IfErr, OnOk, OnErr, ◌≢◌};
+ghost use Rattle.std.specs.Prelude.{◌≡◌, ◌≤◌, false, length, IfErr, OnOk, OnErr, ◌≢◌};
 ghost use Rattle.block_disk.specs.Counts.{HasRisen};
-ghost use Rattle.block_disk.specs.View.{View};
 ghost use Rattle.page_space.specs.Shown as spaces;
 ghost use Rattle.page_space.specs.Transactions.{held, told_by};
-ghost use Rattle.series_book.specs.declared.one_series.Series.{Series};
 ghost use Rattle.series_book.specs.Edits.{IsEdit, apply};
 ghost use Rattle.series_catalog.specs.Shown.{series_in};
-ghost use Rattle.series_store.specs.Changing.{IsAnswered, IsCarriedOut};
+ghost use Rattle.series_store.specs.Changing.{IsAnswered};
 ghost use Rattle.series_store.specs.Results.{ClearsNone, CommitsNone, KeepsBook};
 ghost use Rattle.series_store.specs.Staging as stages;
-ghost use Rattle.stored_book.specs.Standing.{StandsForBook};
 
 use crate::errors::StoreError;
 use crate::staging::stage;

@@ -1,14 +1,13 @@
 //! The values of a tree are counted, and its pages checked.
-ghost use Rattle.std.specs.Prelude.{◌≡◌, ◌≢◌, ◌<◌, ◌≤◌, ◌+◌, ◌*◌, ◌^◌, ◌↔◌, ℕ, ℤ, suc, false, Some, Option, List, length, is_some, IsTrue, IsOk, IfOk, IfErr, OnOk, OnErr};
-ghost use Rattle.block_disk.specs.View.{View, Rises};
-ghost use Rattle.om3_coeff.specs.Spans.{AreSlots, IsProper, IsProperIfAny, span};
+ghost use Rattle.std.specs.Prelude.{◌≡◌, ◌≢◌, ◌<◌, ◌≤◌, ◌+◌, ◌*◌, ◌^◌, ◌↔◌, ℕ, false, Some, Option, length, is_some, IsTrue, IsOk, IfOk, IfErr, OnOk, OnErr};
+ghost use Rattle.block_disk.specs.View.{Rises};
+ghost use Rattle.om3_coeff.specs.Spans.{IsProper, IsProperIfAny, span};
 ghost use Rattle.node_page.specs.Layout.{has_child};
 ghost use Rattle.page_spans.specs.Heaps.{span_at};
 ghost use Rattle.path_repair.specs.Damage.{AreBelow};
 ghost use Rattle.path_repair.specs.Forms.{AreTops};
 ghost use Rattle.path_repair.specs.Keeping.{IsMatched};
 ghost use Rattle.path_repair.specs.TreePages.{tree_pages};
-ghost use Rattle.tree_walk.specs.Trees.{top_of_page, HoldsNodes, IsTree};
 ghost use Rattle.series_book.specs.declared.limits.TheConstants.{MOST_SLOTS};
 ghost use Rattle.series_store.specs.Counting.{values_below, NamesBelow, IsSlot, AreParts, HasNoSlot, IsBadFor, IsSoundPage, IsSoundTree, NamesWithin, IsPageCause, IsTreeCause};
 ghost use Rattle.page_space.specs.Shown as spaces;

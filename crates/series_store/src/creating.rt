@@ -1,12 +1,9 @@
 //! A series that is to be added is staged.
-ghost use Rattle.std.specs.Prelude.{◌≡◌, ◌≤◌, ◌<◌, ℕ, List, length, ◌≢◌, OnOk, IfErr};
-ghost use Rattle.block_disk.specs.View.{View};
+ghost use Rattle.std.specs.Prelude.{◌≡◌, ◌≤◌, ◌<◌, length, ◌≢◌, OnOk, IfErr};
 ghost use Rattle.page_space.specs.Shown as spaces;
-ghost use Rattle.page_space.specs.Transactions.{held, left_by, told_by};
-ghost use Rattle.series_book.specs.declared.one_series.Series.{Series};
+ghost use Rattle.page_space.specs.Transactions.{held, told_by};
 ghost use Rattle.series_catalog.specs.Shown.{series_in};
 ghost use Rattle.series_store.specs.Staging as stages;
-ghost use Rattle.stored_book.specs.Standing.{StandsForBook};
 ghost use Rattle.catalog_page.specs.Entries.{IsEntry};
 ghost use Rattle.series_book.specs.declared.edits.Edit.TheVariants.{Create};
 ghost use Rattle.series_book.specs.Edits.{IsEdit, apply};

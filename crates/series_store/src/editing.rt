@@ -1,14 +1,12 @@
 //! A store is edited.
-ghost use Rattle.std.specs.Prelude.{◌≡◌, ◌≤◌, ◌<◌, ◌^◌, ℕ, List, None, length, IfOk, IfErr, OnOk, ◌≢◌};
-ghost use Rattle.block_disk.specs.View.{View, Passes};
-ghost use Rattle.gate_pages.specs.Pages.{GoesOn, Quiet};
+ghost use Rattle.std.specs.Prelude.{◌≡◌, ◌≤◌, ◌<◌, None, length, IfOk, IfErr, OnOk, ◌≢◌};
+ghost use Rattle.block_disk.specs.View.{Passes};
+ghost use Rattle.gate_pages.specs.Pages.{Quiet};
 ghost use Rattle.page_space.specs.Transactions.{held, left_by, told_by};
 ghost use Rattle.series_book.specs.declared.limits.TheConstants.{MOST_SLOTS};
-ghost use Rattle.series_book.specs.declared.one_series.Series.{Series};
 ghost use Rattle.series_book.specs.Edits.{IsEdit, apply};
 ghost use Rattle.series_store.specs.Results.{IsDone, IsRefusedWith, IsBeforeOrAfter, IsEditCause, IsUnchangedFor, ClearsNone, CommitsNone, KeepsBook};
 ghost use Rattle.series_store.specs.Shown as shown;
-ghost use Rattle.stored_book.specs.Standing.{StandsForBook};
 
 use crate::committing::commit_one;
 use crate::errors::StoreError;

@@ -1,21 +1,16 @@
 //! Edits that stand ready are done together, in one commit.
-ghost use Rattle.std.specs.Prelude.{◌≡◌, ◌≤◌, ◌<◌, ◌+◌, ◌*◌, ◌∷◌, [], ℕ, List, None, Bool, true, false, IsTrue, All, length, take, IfOk, IfErr, OnOk, OnErr, ◌≢◌};
+ghost use Rattle.std.specs.Prelude.{◌≡◌, ◌≤◌, ◌<◌, ◌+◌, ◌*◌, ◌∷◌, [], None, true, false, IsTrue, All, length, take, IfOk, IfErr, OnOk, OnErr, ◌≢◌};
 ghost use Rattle.block_disk.specs.Counts.{HasRisen};
-ghost use Rattle.block_disk.specs.View.{View, Passes};
-ghost use Rattle.gate_pages.specs.Pages.{GoesOn, Quiet};
 ghost use Rattle.page_space.specs.Shown as spaces;
 ghost use Rattle.page_space.specs.Transactions.{held, told_by};
 ghost use Rattle.series_book.specs.declared.edits.Edit.{Edit};
-ghost use Rattle.series_book.specs.declared.one_series.Series.{Series};
 ghost use Rattle.series_book.specs.Edits.{IsEdit};
-ghost use Rattle.series_catalog.specs.Shown.{series_in};
 ghost use Rattle.series_store.specs.Grouping as grouping;
-ghost use Rattle.series_store.specs.Groups.{AreDone, AreSome, AreMany, IsNoneOrAll, PassesWhole, IsGroupCause, ChangeNone, HaveFewSlots};
+ghost use Rattle.series_store.specs.Groups.{AreDone, AreSome, AreMany, PassesWhole, IsGroupCause, ChangeNone, HaveFewSlots};
 ghost use Rattle.series_store.specs.Opening.{IsOutside};
-ghost use Rattle.series_store.specs.Results.{IsUnchangedFor, CommitsNone};
+ghost use Rattle.series_store.specs.Results.{IsUnchangedFor};
 ghost use Rattle.series_store.specs.Shown as shown;
 ghost use Rattle.series_store.specs.Staging as stages;
-ghost use Rattle.stored_book.specs.Standing.{StandsForBook};
 
 use crate::errors::StoreError;
 use crate::staged::Undo;
@@ -25,7 +20,6 @@ use gate_pages::Pages;
 use page_space::{Space, Txn};
 use series_book::{Edit, Outcome, Refusal};
 use series_catalog::Catalog;
-use std::alloc::Global;
 
 /// An edit is staged only where the transaction holds no more pages: it may put 41 into it, and there is room for 64.
 const MOST_HELD: usize = 22;

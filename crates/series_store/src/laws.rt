@@ -1,7 +1,4 @@
 //! What follows for a store. The functions do nothing: their contracts are the laws.
-ghost use Rattle.std.specs.Prelude.{◌≡◌, ℕ, List};
-ghost use Rattle.block_disk.specs.View.{View};
-ghost use Rattle.tree_walk.specs.PagedNodes.{ground, paged_view};
 ghost use Rattle.series_store.specs.Shown as shown;
 
 use crate::store::Store;

@@ -1,7 +1,5 @@
 //! What is told of a series by its id.
-ghost use Rattle.std.specs.Prelude.{◌≡◌, ◌≤◌, ◌<◌, ◌↔◌, None, length, slice_get, IsTrue, is_some, MatchOption};
-ghost use Rattle.block_disk.specs.View.{View};
-ghost use Rattle.stored_book.specs.Standing.{StandsForBook};
+ghost use Rattle.std.specs.Prelude.{◌≡◌, ◌<◌, ◌↔◌, None, length, slice_get, IsTrue, is_some, MatchOption};
 ghost use Rattle.series_store.specs.Naming.{IsNamedSeries};
 ghost use Rattle.series_store.specs.Shown as shown;
 

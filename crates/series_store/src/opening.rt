@@ -1,7 +1,6 @@
 //! A store is made, and opened.
-ghost use Rattle.std.specs.Prelude.{◌≡◌, ◌≢◌, ◌≤◌, ◌<◌, ◌^◌, ℕ, List, [], IfOk, IfErr};
+ghost use Rattle.std.specs.Prelude.{◌≡◌, ◌≢◌, ◌≤◌, ◌<◌, ℕ, List, [], IfOk, IfErr};
 ghost use Rattle.block_disk.specs.Counts.{HasRisen};
-ghost use Rattle.block_disk.specs.View.{View};
 ghost use Rattle.gate_pages.specs.Pages.{GoesOn};
 ghost use Rattle.path_repair.specs.Standing.{ReadsMost};
 ghost use Rattle.series_book.specs.declared.one_series.Series.{Series};

@@ -1,18 +1,15 @@
 //! Changes of the slots of a series are staged.
-ghost use Rattle.std.specs.Prelude.{◌≡◌, ◌≢◌, ◌≤◌, ◌<◌, ◌+◌, ◌^◌, ◌⊎◌, ◌↔◌, ℕ, ℤ, max, List, Option, Some, Ok, All, false, IsTrue, IsSome, length, slice_get, IfOk, IfErr, OnOk, OnErr, IfSome};
+ghost use Rattle.std.specs.Prelude.{◌≡◌, ◌≢◌, ◌≤◌, ◌<◌, ◌+◌, ◌⊎◌, ◌↔◌, max, Option, Ok, All, false, IsTrue, IsSome, length, slice_get, IfOk, IfErr, OnOk, OnErr, IfSome};
 ghost use Rattle.whole_number.specs.SlotTimes.{EndsInTime};
 ghost use Rattle.block_disk.specs.Counts.{HasRisen};
-ghost use Rattle.block_disk.specs.View.{View};
 ghost use Rattle.page_space.specs.Shown as spaces;
-ghost use Rattle.page_space.specs.Transactions.{held, left_by, told_by};
+ghost use Rattle.page_space.specs.Transactions.{held, told_by};
 ghost use Rattle.series_book.specs.declared.limits.TheConstants.{MOST_SLOTS};
-ghost use Rattle.series_book.specs.declared.one_series.Series.{Series};
 ghost use Rattle.series_catalog.specs.Shown.{series_in};
 ghost use Rattle.series_store.specs.Staging as stages;
 ghost use Rattle.series_store.specs.Staging.{TakesBack};
 ghost use Rattle.series_store.specs.declared.staged.Undo.{Undo};
 ghost use Rattle.catalog_page.specs.Entries.{IsEntry};
-ghost use Rattle.path_repair.specs.Edits.{passed, run_in, clear_in};
 ghost use Rattle.series_book.specs.Edits.{is_too_large};
 ghost use Rattle.series_catalog.specs.Catalogs.{entry_of};
 ghost use Rattle.series_store.specs.Changing.{after_put, with_cleared};

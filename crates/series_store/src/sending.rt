@@ -1,6 +1,5 @@
 //! The values of a tree are sent as texts, page by page.
-ghost use Rattle.std.specs.Prelude.{◌≡◌, ◌<◌, ◌≤◌, ◌+◌, ◌++◌, List, [], length, false, IsTrue, Err, IfErr, OnOk, ◌≢◌};
-ghost use Rattle.block_disk.specs.View.{View};
+ghost use Rattle.std.specs.Prelude.{◌≡◌, ◌<◌, ◌≤◌, ◌+◌, ◌++◌, [], length, false, IsTrue, Err, IfErr, OnOk, ◌≢◌};
 ghost use Rattle.om3_coeff.specs.Keys.{first_slot, end_slot};
 ghost use Rattle.om3_coeff.specs.Spans.{IsProperIfAny};
 ghost use Rattle.page_space.specs.Shown as spaces;

@@ -1,12 +1,8 @@
 //! Edits are staged: done in a transaction and in the catalog, and not committed.
-ghost use Rattle.std.specs.Prelude.{◌≡◌, ◌≤◌, ℕ, ℤ, List, length, IfOk, ◌≢◌, OnOk, IfErr};
-ghost use Rattle.block_disk.specs.View.{View};
+ghost use Rattle.std.specs.Prelude.{◌≡◌, ◌≤◌, length, IfOk, ◌≢◌, OnOk, IfErr};
 ghost use Rattle.page_space.specs.Shown as spaces;
-ghost use Rattle.page_space.specs.Transactions.{held, left_by};
-ghost use Rattle.series_book.specs.declared.one_series.Series.{Series};
-ghost use Rattle.series_catalog.specs.Shown.{series_in};
+ghost use Rattle.page_space.specs.Transactions.{held};
 ghost use Rattle.series_store.specs.Staging as stages;
-ghost use Rattle.stored_book.specs.Standing.{StandsForBook};
 ghost use Rattle.series_book.specs.declared.edits.Edit.TheVariants.{Append, Set, Clear};
 ghost use Rattle.series_book.specs.Edits.{IsEdit, apply};
 ghost use Rattle.series_store.specs.Results.{ClearsNone, KeepsBook};

@@ -1,7 +1,6 @@
 //! A store.
 ghost use Rattle.std.proofs.Props.{props};
 ghost use Rattle.std.specs.Prelude.{◌≡◌, ◌<◌, ◌≤◌, ◌^◌, length};
-ghost use Rattle.block_disk.specs.View.{View};
 ghost use Rattle.om3_coeff.specs.Spans.{IsProperIfAny};
 ghost use Rattle.stored_book.proofs.TrailLemmas.{trail_prop};
 ghost use Rattle.series_book.specs.declared.limits.TheConstants.{MOST_SLOTS};

@@ -1,20 +1,15 @@
 //! What a store tells of itself, and the selection of a series.
-ghost use Rattle.std.specs.Prelude.{◌≡◌, ◌≤◌, ◌<◌, ◌^◌, ◌↔◌, ℕ, List, Some, None, length, slice_get, unsigned_abs, IsTrue, IfSome, MatchOption};
+ghost use Rattle.std.specs.Prelude.{◌≡◌, ◌≤◌, ◌<◌, ◌^◌, ◌↔◌, Some, None, length, slice_get, IsTrue, IfSome, MatchOption};
 ghost use Rattle.whole_number.specs.Range.{IsValue};
-ghost use Rattle.block_disk.specs.View.{View};
 ghost use Rattle.om3_coeff.specs.Spans.{IsProperIfAny};
 ghost use Rattle.om3_coeff.specs.View.{Agrees};
 ghost use Rattle.whole_number.specs.SlotTimes.{EndsInTime};
 ghost use Rattle.series_book.specs.declared.limits.TheConstants.{MOST_SLOTS};
-ghost use Rattle.series_book.specs.declared.one_series.Series.{Series};
 ghost use Rattle.series_book.specs.Edits.{id_of};
 ghost use Rattle.series_book.specs.Pages.{pages_of};
 ghost use Rattle.page_space.specs.Layout.{in_use};
 ghost use Rattle.series_store.specs.Asking.{IsFound, IsInfo};
-ghost use Rattle.series_store.specs.Changing.{IsIdle};
 ghost use Rattle.series_catalog.specs.declared.stored_series.StoredSeries.{StoredSeries};
-ghost use Rattle.stored_book.specs.Standing.{StandsForBook};
-ghost use Rattle.tree_walk.specs.PagedNodes.{ground, paged_view};
 ghost use Rattle.series_store.specs.Shown as shown;
 
 use crate::opening::NO_TREE;

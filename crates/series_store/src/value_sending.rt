@@ -1,7 +1,6 @@
 //! The values of a series are sent as texts.
 ghost use Rattle.std.specs.Prelude.{◌≡◌, ◌<◌, ◌≤◌, ◌+◌, ◌++◌, ℤ, List, Option, Some, length, slice_get, Err, IfErr, OnOk, OnErr, ◌≢◌};
 ghost use Rattle.block_disk.specs.Streams.{sent_after, PartSent};
-ghost use Rattle.block_disk.specs.View.{View};
 ghost use Rattle.om3_coeff.specs.Spans.{IsProperIfAny};
 ghost use Rattle.page_space.specs.Shown as spaces;
 ghost use Rattle.path_repair.specs.Keeping.{IsMatched};

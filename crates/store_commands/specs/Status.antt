@@ -1,13 +1,9 @@
 -- Statuses of commands.
-use Rattle.std.specs.Prelude.{ℕ, ◌==◌, if◌then◌else◌, List, [], ◌∷◌, Option, None, Some}
+use Rattle.std.specs.Prelude.{ℕ, ◌==◌, if◌then◌else◌, Option, None, Some}
 use Rattle.chart_world.specs.Faults.{Fault, OfDisk, OfTake, OfSend}
 use Rattle.disk_store.specs.declared.causes.OpeningCause.{OpeningCause}
 use Rattle.disk_store.specs.declared.causes.OpeningCause.TheVariants as opening
 use Rattle.store_commands.specs.declared.status.Status.{Status}
-
--- the codes of all statuses
-abbrev pub status_codes : List ℕ
-status_codes = 0 ∷ 2 ∷ 3 ∷ 4 ∷ 5 ∷ 6 ∷ 7 ∷ 8 ∷ 9 ∷ 10 ∷ 11 ∷ 12 ∷ 13 ∷ 14 ∷ 15 ∷ []
 
 abbrev pub status : ℕ → ℕ → Status
 status code place = record { code = code; place = place }

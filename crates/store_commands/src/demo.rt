@@ -1,6 +1,5 @@
 //! The command `demo`: the workload that a number makes is answered, and the summary of its replies is sent.
 ghost use Rattle.std.specs.Prelude.{◌≡◌, ◌≢◌, ◌≤◌, []};
-ghost use Rattle.block_disk.specs.View.{View};
 ghost use Rattle.chart_world.specs.Faults.{CountsFault, fault_in};
 ghost use Rattle.gate_pages.specs.Shown.{AreSound, count, disk};
 ghost use Rattle.gate_pages.specs.Journal.{page_count};

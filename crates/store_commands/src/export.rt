@@ -1,6 +1,5 @@
 //! The command `export`: the stored values of a series are sent as lines that a load reads.
 ghost use Rattle.std.specs.Prelude.{◌≡◌};
-ghost use Rattle.block_disk.specs.View.{View};
 ghost use Rattle.chart_world.specs.Faults.{CountsFault};
 ghost use Rattle.gate_pages.specs.Shown.{AreSound, disk};
 ghost use Rattle.series_store.specs.Shown as shown;

@@ -1,5 +1,4 @@
 //! What follows of several commands together. The functions do nothing: their contracts are the laws.
-ghost use Rattle.block_disk.specs.View.{View};
 ghost use Rattle.store_commands.specs.Laws.{CopiesExportTheSame, CopiesFit, CopiesHoldTheSame};
 
 use block_disk::World;

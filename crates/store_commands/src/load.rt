@@ -1,6 +1,5 @@
 //! The command `load`: the readings of the input are stored in a series, and their number is sent.
 ghost use Rattle.std.specs.Prelude.{◌≡◌, ◌≢◌, IfOk};
-ghost use Rattle.block_disk.specs.View.{View};
 ghost use Rattle.chart_world.specs.Faults.{CountsFault, fault_in};
 ghost use Rattle.gate_pages.specs.Shown.{AreSound, disk};
 ghost use Rattle.gate_pages.specs.Journal.{page_count};

@@ -1,6 +1,5 @@
 //! The text of a command is sent.
 ghost use Rattle.std.specs.Prelude.{◌≡◌};
-ghost use Rattle.block_disk.specs.View.{View};
 ghost use Rattle.chart_world.specs.Faults.{CountsFault};
 ghost use Rattle.store_commands.specs.Sending.{SendsMade};
 ghost use Rattle.store_commands.specs.Status.{code_fault};

@@ -1,6 +1,6 @@
 -- Slots behind slots.
-use Rattle.std.proofs.Common.{◌≡◌, ℕ, zero, suc, ℤ, List, [], ◌∷◌, ◌++◌, Option, Some, subst}
-use Rattle.om3_coeff.specs.Spans.{Holds, AreSlots}
+use Rattle.std.proofs.Common.{◌≡◌, zero, suc, ℤ, List, [], ◌∷◌, ◌++◌, Option, Some, subst}
+use Rattle.om3_coeff.specs.Spans.{AreSlots}
 use Rattle.whole_number.specs.Range.{IsValue}
 
 same_value : (u v : ℤ) → Some (Some u) ≡ Some (Some v) → u ≡ v

@@ -1,5 +1,5 @@
 //! The rows of sums of two lists, and how many coefficients they ask.
-ghost use Rattle.std.specs.Prelude.{◌≡◌, ◌≤◌, ◌<◌, ◌^◌, length, IfOk};
+ghost use Rattle.std.specs.Prelude.{◌≡◌, ◌<◌, length, IfOk};
 ghost use Rattle.om3_coeff.specs.Spans.{AreSlots};
 ghost use Rattle.whole_number.specs.Range.{IsValue};
 

@@ -1,4 +1,4 @@
-ghost use Rattle.std.specs.Prelude.{◌≡◌, ℕ, ◌<◌, ◌≤ℤ◌, List, [], ◌∷◌, length, Some};
+ghost use Rattle.std.specs.Prelude.{◌≡◌, ◌<◌, ◌≤ℤ◌, List, [], ◌∷◌, length, Some};
 ghost use Rattle.value_filter.specs.declared.steps.TheConstants.{PENDING};
 ghost use Rattle.value_filter.specs.Expressions.{Expression};
 ghost use Rattle.value_filter.specs.declared.box_answers.BoxAnswer.{BoxAnswer as AnswerOf};

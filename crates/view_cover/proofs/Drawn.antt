@@ -39,11 +39,6 @@ steps-fit w i n fits from to is =
     steps-below w.axis.start (slot_time w.axis i) (i * w.axis.step) fits refl (omega (arith, ints, shown.to, w.grid.window.to_size)) in
     omega (arith, below, ap (λ m. i * m) is)
 
-pub slot-column : (w : Scope) (i c : ℕ) (t : ℤ) → w.from ≤ i → i < w.end → t ≡ slot_time w.axis i → c ≡ column w.grid t → IsInColumn w.axis w.grid c i
-slot-column w i c t from to time is = record {
-  slot = omega (arith, to, w.stop.within);
-  shown = slot-shown w i from to;
-  place = grind (arith, is, time);
 }
 
 time-rises : (w : Scope) (i j : ℕ) → i ≤ j → slot_time w.axis i ≤ℤ slot_time w.axis j

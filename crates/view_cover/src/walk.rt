@@ -1,6 +1,6 @@
 //! The walk that draws a cover: over the seen keys that meet the window, from left to right.
 
-ghost use Rattle.std.specs.Prelude.{◌≡◌, pos, ◌<◌, ◌≤◌, ◌^◌, ◌≤ℤ◌, IfOk, IfSome, IfNone, Some};
+ghost use Rattle.std.specs.Prelude.{◌≡◌, pos, ◌<◌, ◌≤◌, ◌≤ℤ◌, IfOk, IfSome, IfNone, Some};
 ghost use Rattle.line_raster.specs.Canvas.{Adds};
 ghost use Rattle.om3_coeff.specs.Keys.{first_slot, end_slot, left_of, right_of};
 ghost use Rattle.om3_coeff.specs.Spans.{IsProperIfAny};

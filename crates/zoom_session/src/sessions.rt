@@ -1,4 +1,4 @@
-ghost use Rattle.std.specs.Prelude.{◌≡◌, ◌==◌, ◌≤◌, ◌≤ℤ◌, ◌<◌, ◌+◌, ◌++◌, [], ◌∷◌, ℕ, ℤ, List, length, Option, None, Some, IsTrue, IfOk, IfErr, IfSome, IfNone, OnOk, OnErr, false, position, ◌≢◌};
+ghost use Rattle.std.specs.Prelude.{◌≡◌, ◌==◌, ◌≤◌, ◌≤ℤ◌, ◌<◌, ◌+◌, ◌++◌, [], ◌∷◌, ℤ, List, length, Option, None, Some, IsTrue, IfOk, IfErr, IfSome, IfNone, OnOk, OnErr, false, position, ◌≢◌};
 ghost use Rattle.om3_coeff.specs.declared.errors.NodeError.TheVariants.{DiskFault};
 ghost use Rattle.std.specs.Option.{option_copied};
 ghost use Rattle.needed_nodes.specs.Answers.{AgreesForView, most_needed, most_reads};
