@@ -11,9 +11,6 @@ use Rattle.chart_grid.proofs.Floors.{div_ceil-lt, lt-div_ceil, div_ceil-rising}
 use Rattle.chart_grid.proofs.Heights.{after, distance-some}
 use Rattle.chart_grid.proofs.Columns.{before_border, below_column, steps-within}
 
--- no slot is before a time that isn't after the first slot
-}
-
 -- the slots before a later time
 pub some-before : (a : Axis) (t : ℤ) (d n : ℕ) → 0 < a.step → a.start ≤ℤ t → d ≡ distance a.start t → n ≡ min (div_ceil d a.step) a.slots → AreSlotsBefore a t n
 some-before a t d n step late de ne = record {

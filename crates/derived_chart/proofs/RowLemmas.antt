@@ -273,8 +273,6 @@ column_without axis g sums n from to rows own clear below = record {
   ];
 }
 
-}
-
 columns_push : (rows : List Row) (r : Row) → columns_of (rows ++ r ∷ []) ≡ columns_of rows ++ r.column ∷ []
 columns_push rows r = map-append (λ r. r.column) rows (r ∷ [])
 

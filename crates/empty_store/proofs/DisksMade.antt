@@ -31,9 +31,6 @@ sent_so old mid images passes at low high = elim (cases_lt old.clock at) [
       passes.sent_past at stands ∙ ap (λ time. old.sent_by time) same
 ]
 
--- an opening alone
-}
-
 -- page 0 of a store begins with the magic
 pub marked : (s : Superblock) → HasMagic (superblock_page s)
 marked s = unfold superblock_page in refl

@@ -28,9 +28,6 @@ first_at count (suc n) p low = elim (eqb_tells p n) [
       ]
 ]
 
--- the batch of an empty store, put on any pages
-}
-
 -- pages that were read alone stay
 pub stays_read : (told told' : Type 0) (old new : View) → Only old.image (Now old) → Reads told told' old new → Stays old new
 stays_read told told' old new only reads =

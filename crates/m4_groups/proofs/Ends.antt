@@ -1,6 +1,5 @@
 -- The last row.
 use Rattle.std.proofs.Common.{ℕ, ℤ, zero, suc, set, ◌≡◌, ◌≢◌, ◌+◌, ◌<◌, ◌≤ℤ◌, ◌<ℤ◌, ◌↔◌, arith, refl, subst, length, get_or, ap, sym, ◌∙◌, List, [], ◌∷◌, ◌++◌, Option, Some, true, false, cond, ◌==◌, eqb-true}
-use Rattle.std.proofs.lemmas.Int.{ints}
 use Rattle.chart_grid.specs.declared.grid.Grid.{Grid}
 use Rattle.chart_grid.specs.Projection.{InWindow, column}
 use Rattle.chart_grid.specs.Slots.{border}
@@ -84,12 +83,3 @@ owns_new g rows new from next t v begins ends is = λ u shown.
       (λ h. last ∙ ap Some (sym (between.1 (subst F begins (subst N ends h))))),
       (λ h. subst N (sym ends) (subst F (sym begins) (between.0 (sym (inside_some (column g t) (column g u) (sym last ∙ h)))))),
     )
-
--- before the first row no time has its column
-)
-  where
-    no_time : (from next u : ℤ) → next ≡ from → from ≤ℤ u → u <ℤ next → ⊥
-    no_time from next u empty a b = omega (arith, ints, empty, a, b)
-
-    no_column : {c : ℕ} → last_column [] ≡ Some c → ⊥
-    no_column e = cc

@@ -54,6 +54,3 @@ same_error root other told after slots count e of_root of_told of_slots h =
     let Q : (Key → Option Coef) → Type 0 = λ t. IsHeldError other t (height slots) e in
     let R : ℕ → Type 0 = λ n. IsHeldError other after (height n) e in
     subst R (sym of_slots) (subst Q (sym of_told) (subst P (sym of_root) h))
-
--- over the same slots, root and coefficients the nodes stay the same
-}

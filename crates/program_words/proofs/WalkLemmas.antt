@@ -30,9 +30,6 @@ built_rule place rule = record rule { index = Some place; range = Some (record {
 abbrev pub rules : List Rule
 rules = built_rule 1 word_rule ∷ built_rule 2 operand_rule ∷ []
 
-unfolding clap_on_literals
-built_rules = refl
-
 pub simple : is_simple chart ≡ true
 unfolding clap_on_literals
 simple = refl
@@ -40,9 +37,6 @@ simple = refl
 pub simple_and_free : is_simple_and_free chart ≡ true
 unfolding clap_on_literals
 simple_and_free = refl
-
-unfolding clap_on_literals
-no_names = refl
 
 -- what is found: the command, and its operands where there are some
 abbrev pub row : Text → List Text → Row

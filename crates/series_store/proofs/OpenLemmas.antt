@@ -36,8 +36,6 @@ use Rattle.series_catalog.specs.declared.stored_series.StoredSeries.{StoredSerie
 use Rattle.stored_book.specs.Records.{entry}
 use Rattle.stored_book.specs.Standing.{IsStore, StandsForBook}
 
-}
-
 pub reads_then : (a b most : ℕ) (told told' told'' : Type 0) (old mid new : View) → a + b ≡ most → ReadsMost a told told' old mid → ReadsMost b told' told'' mid new → ReadsMost most told told'' old new
 reads_then a b most told told' told'' old mid new sum first second = record {
   time = time_then old mid new (Now old) first.time

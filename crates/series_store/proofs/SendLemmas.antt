@@ -193,9 +193,6 @@ said_silent text list first end silent i low high = silent_slot text i (slot_at 
 pub is_said : (slots : ℕ) (text : ℕ → ℤ → List ℕ) (slot : ℕ) (value : ℤ) → slot < slots → first_said slots text slot value ≡ text slot value
 is_said slots text slot value within = let here : ltb slot slots ≡ true = grind (arith, nat_tests) in rw here refl
 
--- nothing is said of slots of a range, where nothing is of those among the first
-]
-
 slot_said : (slots : ℕ) (text : ℕ → ℤ → List ℕ) (slot : ℕ) (x : Option ℤ) → slot < slots → said_of (first_said slots text) slot x ≡ said_of text slot x
 slot_said slots text slot None within = refl
 slot_said slots text slot (Some v) within = is_said slots text slot v within

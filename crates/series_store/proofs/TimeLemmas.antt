@@ -23,9 +23,6 @@ commit_leaves batch told told' old mid new images only here there same time comm
     time_then old mid new images (reads_leave old mid images only here time)
     (passes_weaker mid new (BeforeOrAfter batch mid.image) images (Quiet mid) (Quiet mid) at (λ count quiet. quiet) commits.time)
 
--- blocks that are read, in front of more moves
-}
-
 -- what holds of the pages holds after a call that tells the same pages
 pub told_on : (P : Image → Type 0) (told told' : Type 0) (old new : View) → (told' → told) → (told → new.image ≡ old.image) → (told → P old.image) → told' → P new.image
 told_on P told told' old new back same holds now = subst P (sym (same (back now))) (holds (back now))

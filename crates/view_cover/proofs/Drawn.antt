@@ -39,8 +39,6 @@ steps-fit w i n fits from to is =
     steps-below w.axis.start (slot_time w.axis i) (i * w.axis.step) fits refl (omega (arith, ints, shown.to, w.grid.window.to_size)) in
     omega (arith, below, ap (λ m. i * m) is)
 
-}
-
 time-rises : (w : Scope) (i j : ℕ) → i ≤ j → slot_time w.axis i ≤ℤ slot_time w.axis j
 time-rises w i j low =
     let steps : i * w.axis.step ≤ j * w.axis.step = mul-le-mul_right w.axis.step low in omega (arith, ints, steps)

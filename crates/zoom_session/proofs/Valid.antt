@@ -26,9 +26,6 @@ other_number number (s ∷ ss) none (suc k) d below =
     ]) none in
     other_number number ss later k d (omega (arith, below))
 
--- one more
-}
-
 all_removed : (P : Session → Type 0) (ss : List Session) (i : ℕ) → All P ss → All P (remove ss i)
 all_removed P ss i all = All-append P (take i ss) (drop (suc i) ss) (All-take P i ss all) (All-drop P (suc i) ss all)
 
