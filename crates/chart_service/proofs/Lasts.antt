@@ -1,7 +1,7 @@
 -- The last view of a session, or why there is none.
 use Rattle.std.proofs.Common.{◌≡◌, ℕ, true, false, ◌==◌, if◌then◌else◌, List, [], ◌∷◌, Option, None, Some, Ok, Err, refl, sym, subst}
 use Rattle.std.specs.Prelude.{◌||◌}
-use Rattle.series_book.specs.declared.refusals.Refusal.TheVariants.{UnknownSession}
+use Rattle.series_book.specs.declared.refusals.Refusal.TheVariants.{UnknownSession, NoView}
 use Rattle.zoom_session.specs.declared.session.Session.{Session}
 use Rattle.zoom_session.specs.declared.view_spec.ViewSpec.{ViewSpec}
 use Rattle.zoom_session.specs.Sessions.{is_open, session_of, last_of}
@@ -28,9 +28,21 @@ somebody number (s ∷ ss) there = (elim (s.number == number) as (λ b. (b || is
 pub none_of : (number : ℕ) (ss : List Session) → is_open number ss ≡ false → IsLastOf (session_of number ss) (Err UnknownSession)
 none_of number ss none = let P : Option Session → Type 0 = λ o. IsLastOf o (Err UnknownSession) in subst P (sym (nobody number ss none)) refl
 
+no_last_of : (o : Option Session) (s : Session) → o ≡ Some s → None ≡ last_of o → IsLastOf o (Err NoView)
+no_last_of None s is none = cc
+no_last_of (Some t) s is none = let P : Option ViewSpec → Type 0 = λ l. IsLastOf (Some (record t { last = l })) (Err NoView) in subst P none refl
+
+-- it has had no view
+pub no_last : (number : ℕ) (ss : List Session) → is_open number ss ≡ true → None ≡ last_of (session_of number ss) → IsLastOf (session_of number ss) (Err NoView)
+no_last number ss there none = let one = somebody number ss there in no_last_of (session_of number ss) one.0 one.1 none
+
 last_is : (o : Option Session) (spec : ViewSpec) → Some spec ≡ last_of o → IsLastOf o (Ok spec)
 last_is None spec is = cc
 last_is (Some t) spec is = let P : Option ViewSpec → Type 0 = λ l. IsLastOf (Some (record t { last = l })) (Ok spec) in subst P is refl
+
+-- it has had one
+pub last_so : (number : ℕ) (ss : List Session) (spec : ViewSpec) → Some spec ≡ last_of (session_of number ss) → IsLastOf (session_of number ss) (Ok spec)
+last_so number ss spec is = last_is (session_of number ss) spec is
 
 view_in : (count : ℕ) (o : Option Session) (spec : ViewSpec) → ((s : Session) → o ≡ Some s → HasViewIn count s.last) → Some spec ≡ last_of o → IsViewIn count spec
 view_in count None spec views is = cc

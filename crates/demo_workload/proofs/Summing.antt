@@ -1,8 +1,10 @@
 -- The summary of one more frame, and the limit of a picture's black pixels.
-use Rattle.std.proofs.Common.{ℕ, ◌≡◌, ◌+◌, ◌++◌, [], ◌∷◌, List, Option, length, cond, refl, sym, ap, ◌∙◌, subst, append_assoc, length-append, ap₂, codes}
+use Rattle.std.proofs.Common.{ℕ, ◌≡◌, ◌+◌, ◌*◌, ◌^◌, ◌≤◌, ◌++◌, [], ◌∷◌, List, Option, All, length, cond, slice_index_or, refl, sym, ap, ◌∙◌, subst, append_assoc, length-append, ap₂, codes, arith}
 use Rattle.std.specs.Fmt.{decimal}
-use Rattle.std.proofs.lemmas.List.Sums.{sum_by_push}
-use Rattle.line_raster.specs.Canvas.{Canvas}
+use Rattle.std.specs.List.{range_with_len}
+use Rattle.std.proofs.lemmas.List.Sums.{sum_by_push, count_by-le-length, sum_by-le}
+use Rattle.std.proofs.lemmas.List.FromFn.{length-range_with_len}
+use Rattle.line_raster.specs.Canvas.{Canvas, black_at, black_in_column, black_pixels}
 use Rattle.chart_frames.specs.declared.frame.Frame.{Frame}
 use Rattle.demo_workload.specs.declared.summaries.Summary.{Summary}
 use Rattle.demo_workload.specs.Summaries.{is_done, is_refused, is_view, view_bytes, picture_pixels, summary_of, summary_line}
@@ -55,6 +57,19 @@ added_so frames pictures frame picture kind old done refused views sent black is
     let S : Frame → Type 0 = λ k. sent ≡ old.sent + view_bytes k in
     added frames pictures frame picture old done refused views sent (old.black + black) is (subst D (sym same) d) (subst F (sym same) f) (subst V (sym same) v) (subst S (sym same) s)
     (ap (λ n. old.black + n) b)
+
+each_column : (c : Canvas) (columns : List ℕ) → c.h ≤ 4096 → All (λ x. black_in_column c x ≤ 4096) columns
+each_column c columns high k d lt =
+    let x : ℕ = slice_index_or columns k d in
+    let some : black_in_column c x ≤ length (range_with_len 0 c.h) = count_by-le-length (black_at c x) (range_with_len 0 c.h) in
+    let all : length (range_with_len 0 c.h) ≡ c.h = length-range_with_len 0 c.h in
+    omega arith
+
+pub few_black : (c : Canvas) → c.w ≤ 4096 → c.h ≤ 4096 → black_pixels c ≤ 2 ^ 24
+few_black c wide high =
+    let columns : length (range_with_len 0 c.w) ≡ c.w = length-range_with_len 0 c.w in
+    let sum : black_pixels c ≤ length (range_with_len 0 c.w) * 4096 = sum_by-le (black_in_column c) 4096 (range_with_len 0 c.w) (each_column c (range_with_len 0 c.w) high) in
+    omega arith
 
 halves : (a b c d e f rest : List ℕ) → (a ++ (b ++ (c ++ (d ++ (e ++ f))))) ++ rest ≡ a ++ (b ++ (c ++ (d ++ (e ++ (f ++ rest)))))
 halves a b c d e f rest = simp append_assoc

@@ -3,6 +3,10 @@ use Rattle.std.proofs.Common.{ℕ, ℤ, zero, suc, ◌≡◌, ◌+◌, ◌++◌,
 use Rattle.demo_workload.specs.declared.draws.Walk.{Walk}
 use Rattle.demo_workload.specs.Draws.{next_state, number_in, moved, after_draw, walked, values}
 
+pub walked_more : (k : ℕ) (walk : Walk) → walked (k + 1) walk ≡ after_draw (walked k walk)
+unfolding walked
+walked_more k walk = rw add-one refl
+
 pub values_more : (k : ℕ) (walk : Walk) → values (k + 1) walk ≡ values k walk ++ Some (walked (k + 1) walk).value ∷ []
 unfolding values
 values_more k walk = rw add-one refl

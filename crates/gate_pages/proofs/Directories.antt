@@ -85,6 +85,45 @@ too_many count block many =
     and_false true = refl
     and_false false = refl
 
+pub some_above : (count : ℕ) (block ns : List ℕ) → numbers_in block (number_at block 8) ≡ ns → all_below count ns ≡ false → None ≡ directory count block
+unfolding keeps_layout
+some_above count block ns is above =
+    let starts = starts_with eqb block magic in
+    let few = leb (number_at block 8) 64 in
+    sym (ap (λ l. cond (starts && (few && (all_below count l && is_distinct l))) (Some l) None) is
+    ∙ ap (λ b. cond (starts && (few && (b && is_distinct ns))) (Some ns) None) above
+    ∙ by starts few ns)
+  where
+    by : (a b : Bool) (l : List ℕ) → cond (a && (b && false)) (Some l) None ≡ None
+    by true true l = refl
+    by true false l = refl
+    by false b l = refl
+
+pub some_twice : (count : ℕ) (block ns : List ℕ) → numbers_in block (number_at block 8) ≡ ns → is_distinct ns ≡ false → None ≡ directory count block
+unfolding keeps_layout
+some_twice count block ns is twice =
+    let starts = starts_with eqb block magic in
+    let few = leb (number_at block 8) 64 in
+    sym (ap (λ l. cond (starts && (few && (all_below count l && is_distinct l))) (Some l) None) is
+    ∙ ap (λ b. cond (starts && (few && (all_below count ns && b))) (Some ns) None) twice
+    ∙ by starts few (all_below count ns) ns)
+  where
+    by : (a b c : Bool) (l : List ℕ) → cond (a && (b && (c && false))) (Some l) None ≡ None
+    by true true true l = refl
+    by true true false l = refl
+    by true false c l = refl
+    by false b c l = refl
+
+-- and one that is
+pub keeps_all : (count : ℕ) (block ns : List ℕ) → numbers_in block (number_at block 8) ≡ ns → starts_with eqb block magic ≡ true → number_at block 8 ≤ 64 → all_below count ns ≡ true → is_distinct ns ≡ true → Some ns ≡ directory count block
+unfolding keeps_layout
+keeps_all count block ns is starts few below distinct =
+    sym (ap (λ l. cond (starts_with eqb block magic && (leb (number_at block 8) 64 && (all_below count l && is_distinct l))) (Some l) None) is
+    ∙ ap (λ b. cond (b && (leb (number_at block 8) 64 && (all_below count ns && is_distinct ns))) (Some ns) None) starts
+    ∙ ap (λ b. cond (b && (all_below count ns && is_distinct ns)) (Some ns) None) (le_true (number_at block 8) 64 few)
+    ∙ ap (λ b. cond (b && is_distinct ns) (Some ns) None) below
+    ∙ ap (λ b. cond b (Some ns) None) distinct)
+
 -- the images of a journal, one by one
 pub images_from : (batch : List Entry) (block : ℕ) (image : Image) → ((k : ℕ) → k < length batch → image (block + k) ≡ (get_or batch k (0, [])).1) → images (numbers batch) block image ≡ batch
 images_from [] block image each = refl
