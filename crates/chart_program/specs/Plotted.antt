@@ -9,8 +9,8 @@ use Rattle.pbm_writer.specs.Picture.{picture}
 use Rattle.plain_chart.specs.declared.value_range.ValueRange.{ValueRange}
 use Rattle.plain_chart.specs.Samples.{kept, values_of, IsRange}
 use Rattle.plain_chart.specs.Chart.{IsChart}
-use Rattle.store_commands.specs.declared.status.Status.{Status}
-use Rattle.store_commands.specs.Status.{status}
+use Rattle.run_ends.specs.declared.status.Status.{Status}
+use Rattle.run_ends.specs.Statuses.{status}
 use Rattle.chart_program.specs.declared.input.InputEnd.TheVariants as input
 use Rattle.chart_program.specs.declared.plot.PlotEnd.{PlotEnd}
 use Rattle.chart_program.specs.declared.plot.PlotEnd.TheVariants.{Input, SendFault}

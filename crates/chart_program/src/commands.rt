@@ -31,14 +31,10 @@ use empty_store::{InitCause, make_store};
 use live_command::live;
 use program_words::Command;
 use retain_command::retain;
+use run_ends::codes::{DISK_FAULT, DONE, IS_STORE, NO_MEMORY, TOO_SMALL};
+use run_ends::{End, Status, status_of};
 use std::alloc::Global;
-use store_commands::status::{
-    BAD_COEFFICIENT, BAD_INPUT, DISK_FAULT, DONE, FIRST_PAGE, IS_STORE, MISSING, MOST_BYTES,
-    NO_MEMORY, READ_FAULT, SEND_FAULT, TOO_MUCH, TOO_SMALL, UNKNOWN_SESSION,
-};
-use store_commands::{
-    Status, check_store, ended, export_values, list_series, load_series, run_demo,
-};
+use store_commands::{check_store, export_values, list_series, load_series, run_demo};
 
 /// Does a command with the world's input, output and disk, and says how that ended.
 pub(crate) fn status_of_command<W: World>(
@@ -93,13 +89,13 @@ fn init_status<W: World>(alloc: Global, world: W) -> (Status, W)
     ensures ready { IsFree (W.view world) → (HasRisen (W.view world).faults (W.view result.1).faults → ⊥) → (result.0.code ≡ DONE) ⊎ (result.0.code ≡ NO_MEMORY) }
 {
     match make_store(alloc, world) {
-        Ok(world) => (ended(DONE, 0), world),
+        Ok(world) => (status_of(End::Done), world),
         Err(Back { value, cause }) => {
             let status = match cause {
-                InitCause::NoMemory => ended(NO_MEMORY, 0),
-                InitCause::DiskFault => ended(DISK_FAULT, 0),
-                InitCause::TooSmall(blocks) => ended(TOO_SMALL, u64::from(blocks)),
-                InitCause::IsStore => ended(IS_STORE, FIRST_PAGE),
+                InitCause::NoMemory => status_of(End::NoMemory),
+                InitCause::DiskFault => status_of(End::DiskFault),
+                InitCause::TooSmall(blocks) => status_of(End::TooSmall { blocks }),
+                InitCause::IsStore => status_of(End::IsStore),
             };
             (status, value)
         }
@@ -122,13 +118,13 @@ fn plotting_status(answer: Result<(), PlotEnd>) -> Status
     ensures { result ≡ plotting_status answer }
 {
     match answer {
-        Ok(()) => ended(DONE, 0),
-        Err(PlotEnd::SendFault) => ended(SEND_FAULT, 0),
-        Err(PlotEnd::Input(InputEnd::NoMemory)) => ended(NO_MEMORY, 0),
-        Err(PlotEnd::Input(InputEnd::ReadFault)) => ended(READ_FAULT, 0),
-        Err(PlotEnd::Input(InputEnd::InputTooLong)) => ended(TOO_MUCH, MOST_BYTES),
-        Err(PlotEnd::Input(InputEnd::BadLine { at })) => ended(BAD_INPUT, at),
-        Err(PlotEnd::Input(InputEnd::TooManySlots)) => ended(TOO_MUCH, MOST_SLOTS as u64),
+        Ok(()) => status_of(End::Done),
+        Err(PlotEnd::SendFault) => status_of(End::SendFault),
+        Err(PlotEnd::Input(InputEnd::NoMemory)) => status_of(End::NoMemory),
+        Err(PlotEnd::Input(InputEnd::ReadFault)) => status_of(End::ReadFault),
+        Err(PlotEnd::Input(InputEnd::InputTooLong)) => status_of(End::InputTooLong),
+        Err(PlotEnd::Input(InputEnd::BadLine { at })) => status_of(End::BadInput { at }),
+        Err(PlotEnd::Input(InputEnd::TooManySlots)) => status_of(End::TooManySlots { most: MOST_SLOTS as u64 }),
     }
 }
 
@@ -170,14 +166,14 @@ fn drawing_status(answer: Result<(), DrawEnd>) -> Status
     ensures { result ≡ drawing_status answer }
 {
     match answer {
-        Ok(()) => ended(DONE, 0),
-        Err(DrawEnd::NoMemory) => ended(NO_MEMORY, 0),
-        Err(DrawEnd::ReadFault) => ended(READ_FAULT, 0),
-        Err(DrawEnd::SendFault) => ended(SEND_FAULT, 0),
-        Err(DrawEnd::InputTooLong) => ended(TOO_MUCH, MOST_BYTES),
-        Err(DrawEnd::BadFrame { at }) => ended(BAD_INPUT, at),
-        Err(DrawEnd::Missing { key }) => ended(MISSING, key.number()),
-        Err(DrawEnd::BadCoefficient { key }) => ended(BAD_COEFFICIENT, key.number()),
-        Err(DrawEnd::UnknownSession { session }) => ended(UNKNOWN_SESSION, u64::from(session)),
+        Ok(()) => status_of(End::Done),
+        Err(DrawEnd::NoMemory) => status_of(End::NoMemory),
+        Err(DrawEnd::ReadFault) => status_of(End::ReadFault),
+        Err(DrawEnd::SendFault) => status_of(End::SendFault),
+        Err(DrawEnd::InputTooLong) => status_of(End::InputTooLong),
+        Err(DrawEnd::BadFrame { at }) => status_of(End::BadInput { at }),
+        Err(DrawEnd::Missing { key }) => status_of(End::Missing { key: key.number() }),
+        Err(DrawEnd::BadCoefficient { key }) => status_of(End::BadCoefficient { key: key.number() }),
+        Err(DrawEnd::UnknownSession { session }) => status_of(End::UnknownSession { session }),
     }
 }

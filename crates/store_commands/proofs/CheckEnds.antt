@@ -19,7 +19,7 @@ use Rattle.stored_book.specs.Standing.{AreCatalog, book_pages, RecoversTo}
 use Rattle.store_commands.specs.Books.{OfBook, Never, LeavesSame}
 use Rattle.store_commands.specs.Status.{opening_status}
 use Rattle.store_commands.specs.Codes.{low_of_four, unopened}
-use Rattle.store_commands.specs.declared.status.Status.{Status}
+use Rattle.run_ends.specs.declared.status.Status.{Status}
 use Rattle.store_commands.proofs.Held.{held}
 use Rattle.store_commands.proofs.Moments.{opened_since, opened_goes, since_on}
 use Rattle.store_commands.specs.Checked.{AreWhole, SendsCounts, SendsCountsPart, IsBadForCheck, CheckEnds}

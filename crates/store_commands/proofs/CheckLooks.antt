@@ -21,7 +21,7 @@ use Rattle.stored_book.proofs.CurrentLemmas.{recovers_new, spelled_current}
 use Rattle.tree_walk.specs.Holding.{KeptWalking}
 use Rattle.chart_service.specs.MomentLaws.{since_none}
 use Rattle.store_commands.specs.Books.{OfBook, LeavesSame}
-use Rattle.store_commands.specs.declared.status.Status.{Status}
+use Rattle.run_ends.specs.declared.status.Status.{Status}
 use Rattle.store_commands.proofs.Held.{RestsNew, within_held, stands_held, holds_same, holds_sent}
 use Rattle.store_commands.proofs.Moments.{since_worked, since_sent}
 use Rattle.store_commands.specs.Checked.{counts_text, AreWhole, IsBadForCheck}

@@ -13,7 +13,7 @@ use Rattle.demo_workload.specs.declared.demo_end.DemoEnd.{DemoEnd}
 use Rattle.demo_workload.specs.declared.demo_end.DemoEnd.TheVariants.{DiskFault, Damaged, Missing, BadCoefficient, NoMemory}
 use Rattle.demo_workload.specs.Ending.{IsOutside}
 use Rattle.demo_workload.specs.Workload.{workload}
-use Rattle.store_commands.specs.declared.status.Status.{Status}
+use Rattle.run_ends.specs.declared.status.Status.{Status}
 use Rattle.store_commands.specs.Books.{begun}
 use Rattle.store_commands.specs.Status.{opening_status}
 use Rattle.store_commands.specs.Codes.{low_of_four, unopened}

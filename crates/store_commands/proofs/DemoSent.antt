@@ -16,7 +16,7 @@ use Rattle.store_commands.specs.Books.{begun, FromBook}
 use Rattle.store_commands.proofs.Moments.{since_sent}
 use Rattle.store_commands.specs.Demonstrated.{AnswersFirst, DemoEnds, IsAheadDemo, LeavesDemo, SendsSummary, SendsSummaryPart}
 use Rattle.store_commands.specs.Answering.{Answered}
-use Rattle.store_commands.specs.declared.status.Status.{Status}
+use Rattle.run_ends.specs.declared.status.Status.{Status}
 use Rattle.store_commands.specs.Sending.{SendsText}
 use Rattle.store_commands.specs.Codes.{sent_code, unsent}
 use Rattle.store_commands.proofs.Held.{holds_sent}

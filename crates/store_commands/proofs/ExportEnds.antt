@@ -38,8 +38,8 @@ use Rattle.store_commands.specs.Damaged.{IsDamagedLater}
 use Rattle.store_commands.specs.Exported.{ExportEnds, ExportsAll, ExportsPart, IsBadForExport}
 use Rattle.store_commands.specs.Exporting.{ExportsStore, export_status}
 use Rattle.store_commands.specs.Loaded.{OfSeries}
-use Rattle.store_commands.specs.Status.{status}
-use Rattle.store_commands.specs.declared.status.Status.{Status}
+use Rattle.run_ends.specs.Statuses.{status}
+use Rattle.run_ends.specs.declared.status.Status.{Status}
 use Rattle.store_commands.proofs.Held.{RestsNew, stands_held, within_held, held, holds_same}
 use Rattle.store_commands.proofs.Moments.{opened_goes, since_on, on_at}
 use Rattle.store_commands.proofs.CheckEnds.{since_both}

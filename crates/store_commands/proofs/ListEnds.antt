@@ -15,7 +15,7 @@ use Rattle.store_commands.specs.Books.{OfBook}
 use Rattle.store_commands.specs.Codes.{sent_code, unsent}
 use Rattle.store_commands.specs.Listed.{ListEnds, axis_of, line_of, list_text}
 use Rattle.store_commands.specs.Sending.{SendsText}
-use Rattle.store_commands.specs.declared.status.Status.{Status}
+use Rattle.run_ends.specs.declared.status.Status.{Status}
 use Rattle.store_commands.proofs.Held.{held, holds_sent}
 use Rattle.store_commands.proofs.Moments.{opened_since, opened_goes, opened_quiet, since_sent}
 use Rattle.store_commands.proofs.Unopened.{EndsUnopened, opening_code, of_opening}

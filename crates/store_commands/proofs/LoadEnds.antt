@@ -28,7 +28,7 @@ use Rattle.series_load.specs.declared.load_end.LoadEnd.{LoadEnd}
 use Rattle.series_load.specs.declared.load_end.LoadEnd.TheVariants.{UnknownSeries, BadLine, Refused, ReadFault, InputTooLong, DiskFault, Damaged, NoMemory}
 use Rattle.series_load.proofs.Knowing.{some_at_first}
 use Rattle.chart_world.specs.LineLaws.{told_so}
-use Rattle.store_commands.specs.declared.status.Status.{Status}
+use Rattle.run_ends.specs.declared.status.Status.{Status}
 use Rattle.store_commands.specs.Books.{OfBook, IsOn, IsOnBook, HoldsPages}
 use Rattle.store_commands.specs.Status.{opening_status}
 use Rattle.store_commands.specs.Sending.{SendsText}

@@ -16,7 +16,7 @@ use Rattle.store_commands.specs.Damaged.{IsDamagedAtFirst}
 use Rattle.store_commands.specs.Listed.{ReadsOpening}
 use Rattle.store_commands.specs.Status.{opening_status}
 use Rattle.store_commands.specs.Codes.{low_of_four, unopened}
-use Rattle.store_commands.specs.declared.status.Status.{Status}
+use Rattle.run_ends.specs.declared.status.Status.{Status}
 use Rattle.store_commands.proofs.Held.{held}
 use Rattle.store_commands.proofs.Moments.{opened_since, opened_goes}
 

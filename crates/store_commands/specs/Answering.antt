@@ -11,11 +11,11 @@ use Rattle.demo_workload.specs.declared.demo_end.DemoEnd.TheVariants.{DiskFault,
 use Rattle.demo_workload.specs.declared.summaries.Summary.{Summary}
 use Rattle.demo_workload.specs.Ending.{IsOutside, MeetsError}
 use Rattle.demo_workload.specs.Replying.{Summarizes}
-use Rattle.store_commands.specs.declared.status.Status.{Status}
+use Rattle.run_ends.specs.declared.status.Status.{Status}
 use Rattle.stored_book.specs.Damage.{IsBadForRequest}
 use Rattle.store_commands.specs.Damaged.{IsDamagedLater}
 use Rattle.store_commands.specs.Books.{OfBook, FromBook}
-use Rattle.store_commands.specs.Status.{status}
+use Rattle.run_ends.specs.Statuses.{status}
 use Rattle.store_commands.specs.Demonstrated.{AnswersFirst, LeavesDemo}
 
 -- the status of why a workload wasn't answered to its end

@@ -8,9 +8,9 @@ use Rattle.series_store.specs.declared.errors.StoreError.TheVariants as of_store
 use Rattle.disk_store.specs.Held.{HoldsBook}
 use Rattle.store_commands.specs.Damaged.{IsDamagedLater}
 use Rattle.store_commands.specs.Books.{OfBook, Never, LeavesSame}
-use Rattle.store_commands.specs.Status.{status}
+use Rattle.run_ends.specs.Statuses.{status}
 use Rattle.store_commands.specs.Traffic.{Traffic}
-use Rattle.store_commands.specs.declared.status.Status.{Status}
+use Rattle.run_ends.specs.declared.status.Status.{Status}
 use Rattle.store_commands.specs.Checked.{SendsCounts, SendsCountsPart, IsBadForCheck}
 
 -- the status of why a store wasn't counted

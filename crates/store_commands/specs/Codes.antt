@@ -3,8 +3,8 @@ use Rattle.std.proofs.Common.{◌≡◌, ◌≢◌, ℕ, zero, suc, ◌≤◌, �
 use Rattle.std.specs.Prelude.{Contains}
 use Rattle.disk_store.specs.declared.causes.OpeningCause.TheVariants as opening
 use Rattle.disk_store.specs.Openings.{IsOutside}
-use Rattle.store_commands.specs.declared.status.Status.{Status}
-use Rattle.store_commands.specs.Status.{status}
+use Rattle.run_ends.specs.declared.status.Status.{Status}
+use Rattle.run_ends.specs.Statuses.{status}
 
 -- a status is that of its code and its place
 pub status_is : (end : Status) (code place : ℕ) → end.code ≡ code → end.place ≡ place → end ≡ status code place

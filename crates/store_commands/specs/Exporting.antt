@@ -11,12 +11,12 @@ use Rattle.series_export.specs.declared.window.Window.{Window}
 use Rattle.series_store.specs.declared.send_errors.SendError.{SendError}
 use Rattle.series_store.specs.declared.send_errors.SendError.TheVariants.{SendFault, DiskFault, Damaged, NoMemory}
 use Rattle.disk_store.specs.Held.{HoldsBook}
-use Rattle.store_commands.specs.declared.status.Status.{Status}
+use Rattle.run_ends.specs.declared.status.Status.{Status}
 use Rattle.store_commands.specs.Books.{OfBook, Never, LeavesSame}
 use Rattle.store_commands.specs.Damaged.{IsDamagedLater}
 use Rattle.store_commands.specs.Exported.{ExportsAll, ExportsPart, HasNone, IsBadForExport}
 use Rattle.store_commands.specs.Loaded.{OfSeries, Unnamed}
-use Rattle.store_commands.specs.Status.{status}
+use Rattle.run_ends.specs.Statuses.{status}
 use Rattle.store_commands.specs.Traffic.{Traffic}
 
 -- the status of what sending a series answers

@@ -7,7 +7,7 @@ use Rattle.disk_store.specs.Openings.{Prevents}
 use Rattle.disk_store.specs.declared.causes.OpeningCause.{OpeningCause}
 use Rattle.disk_store.specs.declared.causes.OpeningCause.TheVariants as opening
 use Rattle.store_commands.specs.Status.{code_fault, opening_status}
-use Rattle.store_commands.specs.declared.status.Status.{Status}
+use Rattle.run_ends.specs.declared.status.Status.{Status}
 
 -- by a status that is this one
 pub counts_as : (end this : Status) (old new : View) → end ≡ this → CountsFault (code_fault this.code) old new → CountsFault (code_fault end.code) old new

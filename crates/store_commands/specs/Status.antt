@@ -1,12 +1,10 @@
--- Statuses of commands.
+-- The status of why a store was not opened, and the failed call that a code tells of.
 use Rattle.std.specs.Prelude.{ℕ, ◌==◌, if◌then◌else◌, Option, None, Some}
 use Rattle.chart_world.specs.Faults.{Fault, OfDisk, OfTake, OfSend}
 use Rattle.disk_store.specs.declared.causes.OpeningCause.{OpeningCause}
 use Rattle.disk_store.specs.declared.causes.OpeningCause.TheVariants as opening
-use Rattle.store_commands.specs.declared.status.Status.{Status}
-
-abbrev pub status : ℕ → ℕ → Status
-status code place = record { code = code; place = place }
+use Rattle.run_ends.specs.Statuses.{status}
+use Rattle.run_ends.specs.declared.status.Status.{Status}
 
 -- the status of why a store wasn't opened
 abbrev pub opening_status : OpeningCause → Status

@@ -10,10 +10,11 @@ ghost use Rattle.store_commands.specs.Status.{code_fault};
 ghost use Rattle.store_commands.specs.Traffic.{traffic};
 
 use crate::sending::send_text;
-use crate::status::{DAMAGED, DISK_FAULT, FIRST_PAGE, NO_MEMORY, Status, ended, opening_status};
+use crate::opening::opening_status;
 use block_disk::{Back, World};
 use disk_store::{disk_of, open_store};
 use gate_pages::GatePages;
+use run_ends::{End, Status, status_of};
 use series_store::{Counts, Store, StoreError};
 use std::alloc::{AllocError, Global};
 
@@ -63,10 +64,10 @@ fn check_status(error: StoreError) -> Status
     ensures { result ≡ check_status error }
 {
     match error {
-        StoreError::Damaged { page } => ended(DAMAGED, FIRST_PAGE + u64::from(page)),
-        StoreError::DiskFault => ended(DISK_FAULT, 0),
+        StoreError::Damaged { page } => status_of(End::DamagedPage { page }),
+        StoreError::DiskFault => status_of(End::DiskFault),
         StoreError::NotAStore | StoreError::Refused(_) | StoreError::NoMemory => {
-            ended(NO_MEMORY, 0)
+            status_of(End::NoMemory)
         }
     }
 }

@@ -15,16 +15,15 @@ ghost use Rattle.store_commands.specs.Status.{code_fault};
 ghost use Rattle.store_commands.specs.Traffic.{traffic};
 
 use crate::sending::send_text;
-use crate::status::{
-    BAD_COEFFICIENT, DAMAGED, DISK_FAULT, FIRST_PAGE, MISSING, NO_MEMORY, Status, ended,
-    opening_status,
-};
+use crate::opening::opening_status;
 use block_disk::{Back, World};
 use chart_client::laws::frames_have_one_answer;
 use chart_service::Service;
 use demo_workload::{DemoEnd, Summary, run_workload};
 use disk_store::{disk_of, open_store};
 use gate_pages::GatePages;
+use run_ends::codes::DISK_FAULT;
+use run_ends::{End, Status, status_of};
 use series_store::Store;
 use std::alloc::Global;
 
@@ -92,10 +91,10 @@ fn end_status(end: DemoEnd) -> Status
     ensures { result ≡ end_status end }
 {
     match end {
-        DemoEnd::DiskFault => ended(DISK_FAULT, 0),
-        DemoEnd::Damaged { page } => ended(DAMAGED, FIRST_PAGE + u64::from(page)),
-        DemoEnd::Missing { key } => ended(MISSING, key.number()),
-        DemoEnd::BadCoefficient { key } => ended(BAD_COEFFICIENT, key.number()),
-        DemoEnd::NoMemory => ended(NO_MEMORY, 0),
+        DemoEnd::DiskFault => status_of(End::DiskFault),
+        DemoEnd::Damaged { page } => status_of(End::DamagedPage { page }),
+        DemoEnd::Missing { key } => status_of(End::Missing { key: key.number() }),
+        DemoEnd::BadCoefficient { key } => status_of(End::BadCoefficient { key: key.number() }),
+        DemoEnd::NoMemory => status_of(End::NoMemory),
     }
 }

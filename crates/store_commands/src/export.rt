@@ -9,13 +9,11 @@ ghost use Rattle.store_commands.specs.Exported.{ExportEnds};
 ghost use Rattle.store_commands.specs.Exporting.{ExportsOn, export_status};
 ghost use Rattle.store_commands.specs.Traffic.{traffic};
 
-use crate::status::{
-    DAMAGED, DISK_FAULT, DONE, FIRST_PAGE, NO_MEMORY, REFUSED, SEND_FAULT, Status, UNKNOWN_SERIES,
-    ended, opening_status,
-};
+use crate::opening::opening_status;
 use block_disk::{Back, World};
 use disk_store::{disk_of, open_store};
 use gate_pages::GatePages;
+use run_ends::{End, Status, status_of};
 use series_book::Name;
 use series_export::{Window, export_series};
 use series_store::{SendError, Store};
@@ -53,7 +51,7 @@ fn export_opened<W: World>(
     ensures faults { CountsFault (code_fault result.0.code) (W.view (disk (shown.pages store))) (W.view result.1) }
 {
     let Some(info) = store.series(name) else {
-        return (ended(REFUSED, UNKNOWN_SERIES), disk_of(store));
+        return (status_of(End::UnknownSeries), disk_of(store));
     };
     let answer = export_series(alloc, &mut store, info.id, window);
     (export_status(answer), disk_of(store))
@@ -64,10 +62,10 @@ fn export_status(answer: Result<(), SendError>) -> Status
     ensures { result ≡ export_status answer }
 {
     match answer {
-        Ok(()) => ended(DONE, 0),
-        Err(SendError::SendFault) => ended(SEND_FAULT, 0),
-        Err(SendError::DiskFault) => ended(DISK_FAULT, 0),
-        Err(SendError::Damaged { page }) => ended(DAMAGED, FIRST_PAGE + u64::from(page)),
-        Err(SendError::NoMemory) => ended(NO_MEMORY, 0),
+        Ok(()) => status_of(End::Done),
+        Err(SendError::SendFault) => status_of(End::SendFault),
+        Err(SendError::DiskFault) => status_of(End::DiskFault),
+        Err(SendError::Damaged { page }) => status_of(End::DamagedPage { page }),
+        Err(SendError::NoMemory) => status_of(End::NoMemory),
     }
 }

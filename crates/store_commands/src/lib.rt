@@ -1,5 +1,4 @@
-//! The commands `load`, `check`, `list`, `export` and `demo` over the store of a disk, and how a command ended: a code with
-//! its place.
+//! The commands `load`, `check`, `list`, `export` and `demo` over the store of a disk.
 //!
 //! Each opens the store, does its work, and sends its text last: `load_series` stores the readings of the input
 //! (series_load), `check_store` reads every page of the store (series_store), and `run_demo` answers the workload that a
@@ -14,12 +13,12 @@ mod export;
 pub mod laws;
 mod list;
 mod load;
+mod opening;
 mod sending;
-pub mod status;
 
 pub use check::check_store;
 pub use demo::run_demo;
 pub use export::export_values;
 pub use list::list_series;
 pub use load::load_series;
-pub use status::{Status, ended, opening_status};
+pub use opening::opening_status;

@@ -8,11 +8,12 @@ ghost use Rattle.store_commands.specs.Status.{code_fault};
 ghost use Rattle.store_commands.specs.Traffic.{traffic};
 
 use crate::sending::send_text;
-use crate::status::{Status, opening_status};
+use crate::opening::opening_status;
 use block_disk::{Back, World};
 use disk_store::{disk_of, open_store};
 use gate_pages::Pages;
 use reading_lines::add_series;
+use run_ends::Status;
 use series_store::Store;
 use std::alloc::{AllocError, Global};
 

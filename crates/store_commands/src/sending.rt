@@ -4,8 +4,8 @@ ghost use Rattle.chart_world.specs.Faults.{CountsFault};
 ghost use Rattle.store_commands.specs.Sending.{SendsMade};
 ghost use Rattle.store_commands.specs.Status.{code_fault};
 
-use crate::status::{DONE, NO_MEMORY, SEND_FAULT, Status, ended};
 use block_disk::World;
+use run_ends::{End, Status, status_of};
 
 /// Sends a text, where there was memory to make it, and says how that ended.
 pub(crate) fn send_text<W: World, E: Drop>(made: Result<Vec<u8>, E>, mut world: W) -> (Status, W)
@@ -14,10 +14,10 @@ pub(crate) fn send_text<W: World, E: Drop>(made: Result<Vec<u8>, E>, mut world: 
     ensures faults { CountsFault (code_fault result.0.code) (W.view world) (W.view result.1) }
 {
     let Ok(text) = made else {
-        return (ended(NO_MEMORY, 0), world);
+        return (status_of(End::NoMemory), world);
     };
     match world.send(text.as_slice()) {
-        Ok(()) => (ended(DONE, 0), world),
-        Err(_) => (ended(SEND_FAULT, 0), world),
+        Ok(()) => (status_of(End::Done), world),
+        Err(_) => (status_of(End::SendFault), world),
     }
 }

@@ -1,6 +1,6 @@
 use Rattle.std.proofs.Common.{sym, subst}
 use Rattle.store_commands.specs.Faulting.{counts_as}
-use Rattle.store_commands.specs.declared.status.Status.{Status}
+use Rattle.run_ends.specs.declared.status.Status.{Status}
 use Rattle.program_words.specs.declared.words.Command.TheVariants.{Draw}
 use Rattle.chart_program.specs.CommandStatuses.{drawing_status}
 use Rattle.chart_program.specs.Served.{faults_of}

@@ -2,7 +2,7 @@ use Rattle.std.proofs.Common.{sym, subst}
 use Rattle.chart_world.specs.Faults.{fault_in}
 use Rattle.store_commands.specs.Faulting.{counts_as, counts_told}
 use Rattle.store_commands.specs.Status.{code_fault}
-use Rattle.store_commands.specs.declared.status.Status.{Status}
+use Rattle.run_ends.specs.declared.status.Status.{Status}
 use Rattle.program_words.specs.declared.words.Command.TheVariants.{Plot}
 use Rattle.chart_program.specs.Faulting.{plot_fault}
 use Rattle.chart_program.specs.Plotted.{plotting_status}

@@ -18,7 +18,7 @@ use Rattle.gate_pages.specs.Journal.{page_count}
 use Rattle.demo_workload.specs.declared.demo_end.DemoEnd.{DemoEnd}
 use Rattle.demo_workload.specs.declared.summaries.Summary.{Summary}
 use Rattle.demo_workload.specs.declared.demo_end.DemoEnd.TheVariants as demo_end
-use Rattle.store_commands.specs.declared.status.Status.{Status}
+use Rattle.run_ends.specs.declared.status.Status.{Status}
 use Rattle.store_commands.specs.Answering.{end_status}
 use Rattle.store_commands.proofs.HoldsAgain.{again_opened, again_sent, again_answered}
 use Rattle.store_commands.proofs.TurnedAway.{away_never}

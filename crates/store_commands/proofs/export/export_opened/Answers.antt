@@ -6,9 +6,10 @@ use Rattle.series_export.specs.Faults.{send_fault}
 use Rattle.series_store.specs.Shown as shown
 use Rattle.store_commands.specs.Exporting.{ExportsStore, export_status}
 use Rattle.store_commands.specs.Faulting.{counts_as, counts_told}
-use Rattle.store_commands.specs.Status.{code_fault, status}
+use Rattle.run_ends.specs.Statuses.{status}
+use Rattle.store_commands.specs.Status.{code_fault}
 use Rattle.store_commands.proofs.FaultLemmas.{send_fault_is}
-use Rattle.store_commands.specs.declared.status.Status.{Status}
+use Rattle.run_ends.specs.declared.status.Status.{Status}
 use Rattle.store_commands.proofs.Held.{rests_new}
 use Rattle.store_commands.proofs.ExportEnds.{series_sent, none_found}
 use Rattle.store_commands.proofs.export.export_opened.Goals as goal
@@ -22,10 +23,10 @@ returns-in_default-clause-exports g c =
     let window = c.args.window in
     let pages = shown.pages c.args.store in
     let disk = pages.disk in
-    let D : g.row.W.Denot → Type 0 = λ d. ExportsStore name window pages.count (view disk) (view d) (sent disk) (sent d) (sends disk) (sends d) c.ended.result in
+    let D : g.row.W.Denot → Type 0 = λ d. ExportsStore name window pages.count (view disk) (view d) (sent disk) (sent d) (sends disk) (sends d) c.status_of.result in
     let E : Status → Type 0 = λ s. ExportsStore name window pages.count (view disk) (view disk) (sent disk) (sent disk) (sends disk) (sends disk) s in
     subst D (sym c.disk_of.ensures.disk)
-    (subst E (sym c.ended.ensures.status)
+    (subst E (sym c.status_of.ensures.status)
     (none_found name window pages.count (view disk) (sent disk) (sends disk) (rests_new pages.count (view disk) (shown.numbers c.args.store) (pages.at_rest c.requires) (c.args.store.space.spelled c.requires)) (λ total book honest stands. c.in_default.ensures.info total book c.requires honest stands)))
 
 pub returns-clause-exports : goal.returns-clause-exports
@@ -75,8 +76,8 @@ pub returns-in_default-clause-faults : goal.returns-in_default-clause-faults
 returns-in_default-clause-faults g c =
     let view = g.W.Disk.view in
     let old = view (shown.pages c.args.store).disk in
-    let D : g.row.W.Denot → Type 0 = λ d. CountsFault (code_fault c.ended.result.code) old (view d) in
-    subst D (sym c.disk_of.ensures.disk) (counts_as c.ended.result (status 14 8) old old c.ended.ensures.status (counts_none old old refl refl refl))
+    let D : g.row.W.Denot → Type 0 = λ d. CountsFault (code_fault c.status_of.result.code) old (view d) in
+    subst D (sym c.disk_of.ensures.disk) (counts_as c.status_of.result (status 14 8) old old c.status_of.ensures.status (counts_none old old refl refl refl))
 
 pub returns-clause-faults : goal.returns-clause-faults
 returns-clause-faults g c =

@@ -14,7 +14,7 @@ use Rattle.block_disk.specs.View.{sent_now}
 use Rattle.gate_pages.specs.Journal.{page_count}
 use Rattle.series_load.specs.declared.load_end.LoadEnd.{LoadEnd}
 use Rattle.series_load.specs.declared.load_end.LoadEnd.TheVariants as load_end
-use Rattle.store_commands.specs.declared.status.Status.{Status}
+use Rattle.run_ends.specs.declared.status.Status.{Status}
 use Rattle.store_commands.specs.Storing.{end_status}
 use Rattle.store_commands.proofs.HoldsAgain.{again_opened, again_sent, again_loaded}
 use Rattle.store_commands.proofs.TurnedAway.{away_never}
