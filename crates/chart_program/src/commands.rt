@@ -1,5 +1,5 @@
 //! The commands, each with its status.
-ghost use Rattle.std.specs.Prelude.{◌≡◌, ◌⊎◌, [], ◌∷◌, Contains, IfErr};
+ghost use Rattle.std.specs.Prelude.{◌≡◌, ◌⊎◌, IfErr};
 ghost use Rattle.block_disk.specs.Counts.{HasRisen};
 ghost use Rattle.chart_grid.specs.Limits.{IsSide};
 ghost use Rattle.chart_world.specs.Faults.{CountsFault};
@@ -9,9 +9,10 @@ ghost use Rattle.draw_command.specs.Draws.{IsNumbered};
 ghost use Rattle.program_words.specs.Words.{IsEvery};
 ghost use Rattle.chart_program.specs.CommandStatuses.{drawing_status};
 ghost use Rattle.store_commands.specs.Away.{TurnsAway};
-ghost use Rattle.store_commands.specs.Status.{code_fault};
+ghost use Rattle.run_ends.specs.Statuses.{status_of};
+ghost use Rattle.store_commands.specs.Status.{code_fault, end_fault};
 ghost use Rattle.store_commands.specs.Traffic.{traffic};
-ghost use Rattle.chart_program.specs.Ran.{EndsCommand, HasOperands, LeavesDisk, IsFree, IsMade, IsTooSmall, IsThere};
+ghost use Rattle.chart_program.specs.Ran.{EndsCommand, HasOperands, LeavesDisk, IsFree, IsInitEnd, init_end};
 
 use crate::input::{InputEnd, MOST_SLOTS};
 use crate::plot::{PlotEnd, plot};
@@ -31,7 +32,6 @@ use empty_store::{InitCause, make_store};
 use live_command::live;
 use program_words::Command;
 use retain_command::retain;
-use run_ends::codes::{DISK_FAULT, DONE, IS_STORE, NO_MEMORY, TOO_SMALL};
 use run_ends::{End, Status, status_of};
 use std::alloc::Global;
 use store_commands::{check_store, export_values, list_series, load_series, run_demo};
@@ -52,17 +52,32 @@ pub(crate) fn status_of_command<W: World>(
             (status, world)
         }
         Command::Load { name } => load_series(alloc, &name, world),
-        Command::Demo { seed, count } => run_demo(alloc, seed, count, world),
+        Command::Demo { seed, count } => {
+            let (end, world) = run_demo(alloc, seed, count, world);
+            (status_of(end), world)
+        }
         Command::Run => run_status(alloc, world),
         Command::Serve => serve_status(alloc, world),
         Command::Draw => {
             let status = draw_status(alloc, &mut world);
             (status, world)
         }
-        Command::Init => init_status(alloc, world),
-        Command::Check => check_store(alloc, world),
-        Command::ListSeries => list_series(alloc, world),
-        Command::Export { name, window } => export_values(alloc, &name, window, world),
+        Command::Init => {
+            let (end, world) = init(alloc, world);
+            (status_of(end), world)
+        }
+        Command::Check => {
+            let (end, world) = check_store(alloc, world);
+            (status_of(end), world)
+        }
+        Command::ListSeries => {
+            let (end, world) = list_series(alloc, world);
+            (status_of(end), world)
+        }
+        Command::Export { name, window } => {
+            let (end, world) = export_values(alloc, &name, window, world);
+            (status_of(end), world)
+        }
         Command::Retain => retain(alloc, world),
         Command::Cover { every } => {
             let status = cover_status(alloc, every, &mut world);
@@ -74,31 +89,30 @@ pub(crate) fn status_of_command<W: World>(
 }
 
 /// Makes the disk an empty store, and says how that ended.
-fn init_status<W: World>(alloc: Global, world: W) -> (Status, W)
-    ensures codes { Contains (DONE ∷ NO_MEMORY ∷ DISK_FAULT ∷ TOO_SMALL ∷ IS_STORE ∷ []) result.0.code }
-    ensures away { TurnsAway (W.view world) (traffic W.left W.sent W.read_faults W.send_faults world result.1) result.0 }
+fn init<W: World>(alloc: Global, world: W) -> (End, W)
+    ensures ends { IsInitEnd result.0 (W.view world) (W.view result.1) }
+    ensures away { TurnsAway (W.view world) (traffic W.left W.sent W.read_faults W.send_faults world result.1) (status_of result.0) }
     ensures untaken { W.left result.1 ≡ W.left world }
-    ensures fault { result.0.code ≡ DISK_FAULT → HasRisen (W.view world).faults (W.view result.1).faults }
-    ensures small { result.0.code ≡ TOO_SMALL → IsTooSmall Init (W.view world) result.0.place }
-    ensures there { result.0.code ≡ IS_STORE → IsThere Init (W.view world) result.0.place }
-    ensures place { Contains (DONE ∷ NO_MEMORY ∷ DISK_FAULT ∷ []) result.0.code → result.0.place ≡ 0 }
     ensures sent { W.sent result.1 ≡ W.sent world }
     ensures disk { LeavesDisk Init (W.view world) (W.view result.1) }
-    ensures made { result.0.code ≡ DONE → IsMade Init (W.view world) (W.view result.1) }
-    ensures faults { CountsFault (code_fault result.0.code) (W.view world) (W.view result.1) }
-    ensures ready { IsFree (W.view world) → (HasRisen (W.view world).faults (W.view result.1).faults → ⊥) → (result.0.code ≡ DONE) ⊎ (result.0.code ≡ NO_MEMORY) }
+    ensures faults { CountsFault (end_fault result.0) (W.view world) (W.view result.1) }
+    ensures ready { IsFree (W.view world) → (HasRisen (W.view world).faults (W.view result.1).faults → ⊥) → (result.0 ≡ End.Done) ⊎ (result.0 ≡ End.NoMemory) }
 {
     match make_store(alloc, world) {
-        Ok(world) => (status_of(End::Done), world),
-        Err(Back { value, cause }) => {
-            let status = match cause {
-                InitCause::NoMemory => status_of(End::NoMemory),
-                InitCause::DiskFault => status_of(End::DiskFault),
-                InitCause::TooSmall(blocks) => status_of(End::TooSmall { blocks }),
-                InitCause::IsStore => status_of(End::IsStore),
-            };
-            (status, value)
-        }
+        Ok(world) => (End::Done, world),
+        Err(Back { value, cause }) => (init_end(cause), value),
+    }
+}
+
+/// The end where no store was made.
+fn init_end(cause: InitCause) -> End
+    ensures { result ≡ init_end cause }
+{
+    match cause {
+        InitCause::NoMemory => End::NoMemory,
+        InitCause::DiskFault => End::DiskFault,
+        InitCause::TooSmall(blocks) => End::TooSmall { blocks },
+        InitCause::IsStore => End::IsStore,
     }
 }
 

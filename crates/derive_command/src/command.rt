@@ -55,7 +55,10 @@ fn answer_status(answer: Result<(), DeriveEnd>) -> Status
         Ok(()) => status_of(End::Done),
         Err(DeriveEnd::BadLine { at }) => status_of(End::BadInput { at: u64::from(at) }),
         Err(DeriveEnd::Refused { at, refusal }) => {
-            status_of(End::RefusedLine { at, refusal: refusal.number() })
+            status_of(End::RefusedLine {
+                at,
+                refusal: refusal.number(),
+            })
         }
         Err(DeriveEnd::ReadFault) => status_of(End::ReadFault),
         Err(DeriveEnd::SendFault) => status_of(End::SendFault),

@@ -12,8 +12,8 @@ ghost use Rattle.store_commands.specs.Status.{code_fault};
 ghost use Rattle.store_commands.specs.Books.{HoldsAgain};
 ghost use Rattle.store_commands.specs.Traffic.{traffic};
 
-use crate::sending::send_text;
 use crate::opening::opening_status;
+use crate::sending::send_text;
 use block_disk::{Back, World};
 use disk_store::{disk_of, open_store};
 use gate_pages::GatePages;
@@ -36,7 +36,10 @@ pub fn load_series<W: World>(alloc: Global, name: &Name, world: W) -> (Status, W
         Ok(store) => {
             let (answer, world) = load_store(alloc, name, store);
             match answer {
-                Ok(readings) => send_text(loaded_text(alloc, readings), world),
+                Ok(readings) => {
+                    let (end, world) = send_text(loaded_text(alloc, readings), world);
+                    (status_of(end), world)
+                }
                 Err(end) => (end_status(end), world),
             }
         }
@@ -73,7 +76,10 @@ fn end_status(end: LoadEnd) -> Status
         LoadEnd::UnknownSeries => status_of(End::UnknownSeries),
         LoadEnd::BadLine { at } => status_of(End::BadInput { at: u64::from(at) }),
         LoadEnd::Refused { at, refusal } => {
-            status_of(End::Refused { at, refusal: refusal.number() })
+            status_of(End::Refused {
+                at,
+                refusal: refusal.number(),
+            })
         }
         LoadEnd::ReadFault => status_of(End::ReadFault),
         LoadEnd::InputTooLong => status_of(End::InputTooLong),
