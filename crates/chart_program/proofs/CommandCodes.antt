@@ -36,35 +36,6 @@ never l code n inside outside is =
     let both : true ≡ false = sym (subst P is (contains_has l code inside)) ∙ outside in
     cc
 
--- codes of the command `plot` are codes of a command
-abbrev pub of_plot : List ℕ
-of_plot = 0 ∷ 3 ∷ 4 ∷ 5 ∷ 8 ∷ 9 ∷ []
-
-pub plot_codes : (code : ℕ) → Contains of_plot code → Contains (0 ∷ 3 ∷ 4 ∷ 5 ∷ 6 ∷ 7 ∷ 8 ∷ 9 ∷ 10 ∷ 11 ∷ 12 ∷ 13 ∷ 14 ∷ 15 ∷ 16 ∷ 17 ∷ []) code
-plot_codes code (zero, inside, is) = (0, omega arith, is)
-plot_codes code (suc zero, inside, is) = (1, omega arith, is)
-plot_codes code (suc (suc zero), inside, is) = (2, omega arith, is)
-plot_codes code (suc (suc (suc zero)), inside, is) = (3, omega arith, is)
-plot_codes code (suc (suc (suc (suc zero))), inside, is) = (6, omega arith, is)
-plot_codes code (suc (suc (suc (suc (suc zero)))), inside, is) = (7, omega arith, is)
-plot_codes code (suc (suc (suc (suc (suc (suc k))))), inside, is) = absurd (omega (arith, inside))
-
--- codes of the command `draw` are codes of a command
-abbrev pub of_draw : List ℕ
-of_draw = 0 ∷ 3 ∷ 4 ∷ 5 ∷ 8 ∷ 9 ∷ 10 ∷ 11 ∷ 15 ∷ []
-
-pub draw_codes : (code : ℕ) → Contains of_draw code → Contains (0 ∷ 3 ∷ 4 ∷ 5 ∷ 6 ∷ 7 ∷ 8 ∷ 9 ∷ 10 ∷ 11 ∷ 12 ∷ 13 ∷ 14 ∷ 15 ∷ 16 ∷ 17 ∷ []) code
-draw_codes code (zero, inside, is) = (0, omega arith, is)
-draw_codes code (suc zero, inside, is) = (1, omega arith, is)
-draw_codes code (suc (suc zero), inside, is) = (2, omega arith, is)
-draw_codes code (suc (suc (suc zero)), inside, is) = (3, omega arith, is)
-draw_codes code (suc (suc (suc (suc zero))), inside, is) = (6, omega arith, is)
-draw_codes code (suc (suc (suc (suc (suc zero)))), inside, is) = (7, omega arith, is)
-draw_codes code (suc (suc (suc (suc (suc (suc zero))))), inside, is) = (8, omega arith, is)
-draw_codes code (suc (suc (suc (suc (suc (suc (suc zero)))))), inside, is) = (9, omega arith, is)
-draw_codes code (suc (suc (suc (suc (suc (suc (suc (suc zero))))))), inside, is) = (13, omega arith, is)
-draw_codes code (suc (suc (suc (suc (suc (suc (suc (suc (suc k)))))))), inside, is) = absurd (omega (arith, inside))
-
 -- the codes of the commands that serve lines
 abbrev pub of_lines : List ℕ
 of_lines = 0 ∷ 3 ∷ 4 ∷ 5 ∷ 6 ∷ 7 ∷ 9 ∷ 10 ∷ 11 ∷ 12 ∷ 15 ∷ []

@@ -1,29 +1,22 @@
 -- Each command ends as its own clauses say.
-use Rattle.std.proofs.Common.{◌≡◌, ℕ, ◌<◌, ◌≤◌, ◌^◌, zero, suc, ◌⊎◌, List, [], ◌∷◌, Option, Some, None, IfSome, length, refl, sym, arith}
+use Rattle.std.proofs.Common.{◌≡◌, ℕ, ◌<◌, ◌≤◌, zero, suc, List, Option, Some, None, IfSome, refl, sym, arith}
 use Rattle.std.specs.Prelude.{Contains, ◌≢◌}
-use Rattle.block_disk.specs.Counts.{HasRisen}
 use Rattle.block_disk.specs.View.{View}
-use Rattle.draw_command.specs.Alone.{StaysAlone}
-use Rattle.chart_program.proofs.DiskKept.{alone_leaves, alone_holds}
 use Rattle.disk_store.specs.Held.{HoldsBook}
 use Rattle.disk_store.proofs.Opened.{is_large}
 use Rattle.series_book.specs.declared.one_series.Series.{Series}
 use Rattle.gate_pages.specs.Journal.{page_count}
 use Rattle.store_commands.specs.Loaded.{LoadEnds, RefusesSet, Unnamed}
-use Rattle.program_words.specs.declared.words.Command.TheVariants.{Plot, Load, Run, Serve, Draw, Cover}
+use Rattle.program_words.specs.declared.words.Command.TheVariants.{Load, Run, Serve}
 use Rattle.chart_program.specs.Served.{Says, Faults, Spelled, AreTexts}
 use Rattle.store_commands.specs.Away.{IsTurnedAway}
 use Rattle.store_commands.specs.Books.{HoldsAgain}
 use Rattle.chart_program.specs.CommandStatuses.{codes_of, IsBarred}
 use Rattle.chart_program.specs.Ended.{EndsBy}
-use Rattle.chart_program.specs.Ran.{CommandEnds, AreLines, AreReadings, IsRefused, IsBadInput, HasTooMuch, Lacks, Misfits, NamesUnopened, IsFrames, IsOfReplies, DrawsReplies, of_done}
-use Rattle.draw_command.specs.declared.draw_end.DrawEnd.TheVariants as draw_end
-use Rattle.chart_program.specs.Slots.{FirstBad, StoppedBefore}
-use Rattle.chart_program.specs.Plotted.{SendsPlot, SendsFront}
-use Rattle.draw_command.specs.Draws.{DrawsAll, DrawsTaken, DrawsWithin, StopsAtFrame}
-use Rattle.chart_program.proofs.Codes.{plot_complete, told_all, told_both}
+use Rattle.chart_program.specs.Ran.{CommandEnds, AreLines, AreReadings, IsRefused, of_done}
+use Rattle.chart_program.proofs.Codes.{told_all, told_both}
 use Rattle.chart_program.proofs.Counts.{told_any}
-use Rattle.chart_program.proofs.CommandCodes.{never, of_plot, plot_codes, of_draw, draw_codes, of_lines, lines_codes, of_load, load_codes}
+use Rattle.chart_program.proofs.CommandCodes.{never, of_lines, lines_codes, of_load, load_codes}
 
 both_told : (o b : Option (List ℕ)) (P : List ℕ → Type 0) (Q : Type 0) → IfSome o P → Q → IfSome o (λ input. IfSome b (λ bytes. P input × Q))
 both_told None b P Q first second = tt
@@ -212,150 +205,6 @@ load_ends name old new left left' before now faults code place e away holds = re
   disk = e.goes_on;
   made = λ is. tt;
   complete = load_complete name old new left left' before now faults code place e;
-  drawn = λ command. cc;
-  ready = λ command. cc;
-}
-
--- of the codes whose place is 0
-zeros_of_draw : (code : ℕ) → (code ≡ 6 → ⊥) → Contains (0 ∷ 3 ∷ 4 ∷ 5 ∷ 6 ∷ []) code → Contains (0 ∷ 3 ∷ 4 ∷ 5 ∷ []) code
-zeros_of_draw code other (zero, inside, is) = (0, omega arith, is)
-zeros_of_draw code other (suc zero, inside, is) = (1, omega arith, is)
-zeros_of_draw code other (suc (suc zero), inside, is) = (2, omega arith, is)
-zeros_of_draw code other (suc (suc (suc zero)), inside, is) = (3, omega arith, is)
-zeros_of_draw code other (suc (suc (suc (suc zero))), inside, is) = absurd (other (sym is))
-zeros_of_draw code other (suc (suc (suc (suc (suc k)))), inside, is) = absurd (omega (arith, inside))
-
-pub plot_ends : (w h : ℕ) (old new : View) (left left' before now : Option (List ℕ)) (faults : Faults) (code place : ℕ) → Contains of_plot code → (code ≡ 4 → HasRisen faults.reads faults.reads_now) → (code ≡ 4 → IfSome left (λ input. IfSome left' (StoppedBefore input))) → (code ≡ 5 → HasRisen faults.sends faults.sends_now) → (code ≡ 8 → IfSome left (λ input. FirstBad input place)) → (code ≡ 9 → IfSome left (λ input. HasTooMuch input place)) → (code ≢ 8 → code ≢ 9 → place ≡ 0) → (code ≡ 0 → IfSome left (λ input. SendsPlot w h input before now)) → (code ≡ 0 → IfSome left (λ input. length input ≤ 2 ^ 32)) → (code ≡ 5 → IfSome left (λ input. SendsFront w h input before now)) → (code ≢ 0 → code ≢ 5 → now ≡ before) → StaysAlone old new → CommandEnds (Plot w h) old new left left' before now faults code place
-plot_ends w h old new left left' before now faults code place codes read stopped send bad much zeros done within part nothing disk = record {
-  codes = plot_codes code codes;
-  own = codes;
-  away = λ over. absurd over;
-  untaken = λ none. absurd none;
-  bars = λ is. absurd (never of_plot code 7 codes refl is);
-  reads = tt;
-  reads_lines = told_any left;
-  syncs = told_any left;
-  unsent = λ is. absurd (never of_plot code 14 codes refl is);
-  read = read;
-  stopped = stopped;
-  send = send;
-  bad = bad;
-  much = much;
-  missing = λ is. absurd (never of_plot code 10 codes refl is);
-  misfit = λ is. absurd (never of_plot code 11 codes refl is);
-  unopened = λ is. absurd (never of_plot code 15 codes refl is);
-  memory = λ is. told_all left _ (nothing (omega (arith, is)) (omega (arith, is)));
-  within = within;
-  fault = λ is. absurd (never of_plot code 6 codes refl is);
-  faulted = λ is. absurd (never of_plot code 6 codes refl is);
-  damaged = λ is. absurd (never of_plot code 7 codes refl is);
-  undamaged = λ is. absurd (never of_plot code 7 codes refl is);
-  small = λ is. absurd (never of_plot code 12 codes refl is);
-  there = λ is. absurd (never of_plot code 13 codes refl is);
-  refused = λ is. absurd (never of_plot code 14 codes refl is);
-  unnamed = tt;
-  unknown = λ is. absurd (never of_plot code 17 codes refl is);
-  refused_line = λ is. absurd (never of_plot code 16 codes refl is);
-  zero_place = λ zero. zeros (λ is. never (0 ∷ 3 ∷ 4 ∷ 5 ∷ 6 ∷ []) code 8 zero refl is) (λ is. never (0 ∷ 3 ∷ 4 ∷ 5 ∷ 6 ∷ []) code 9 zero refl is);
-  done = done;
-  part = part;
-  nothing = λ some unsent quiet. nothing some unsent;
-  pictures = λ is command. cc;
-  holds = λ other. told_all left _ (alone_holds old new disk);
-  crash = all_told left before _ (alone_leaves old new disk);
-  disk = disk.kept;
-  made = λ is. tt;
-  complete = plot_complete left code place codes bad much;
-  drawn = λ command. cc;
-  ready = λ command. cc;
-}
-
-pub draw_ends : (old new : View) (left left' before now : Option (List ℕ)) (faults : Faults) (code place : ℕ) → Contains of_draw code → (code ≡ 4 → HasRisen faults.reads faults.reads_now) → (code ≡ 5 → HasRisen faults.sends faults.sends_now) → (Contains (0 ∷ 3 ∷ 4 ∷ 5 ∷ []) code → place ≡ 0) → (code ≡ 0 → IfSome left (λ input. DrawsAll None input before now)) → (code ≡ 0 → IfSome left (λ input. length input ≤ 2 ^ 32)) → (code ≡ 0 → IfSome left (λ input. DrawsReplies input before now)) → (code ≡ 5 → IfSome left (λ input. StopsAtFrame None input before now draw_end.SendFault)) → (code ≡ 4 → IfSome left (λ input. IfSome left' (λ bytes. DrawsTaken None input bytes before now))) → (code ≡ 3 → IfSome left (λ input. StopsAtFrame None input before now draw_end.NoMemory)) → (code ≡ 9 → place ≡ 2 ^ 32) → (code ≡ 9 → IfSome left (λ input. DrawsWithin None input before now)) → (code ≡ 8 → IfSome left (λ input. IsBadInput Draw old new input place before now)) → (code ≡ 10 → IfSome left (λ input. Lacks Draw old input place before now)) → (code ≡ 11 → IfSome left (λ input. Misfits Draw old input place before now)) → (code ≡ 15 → IfSome left (λ input. NamesUnopened Draw old input place before now)) → (IfSome left (λ input. IsFrames input → Contains (0 ∷ 3 ∷ 4 ∷ 5 ∷ []) code)) → (IfSome left (λ input. IsOfReplies input → Contains (0 ∷ 3 ∷ 4 ∷ 5 ∷ []) code)) → StaysAlone old new → CommandEnds Draw old new left left' before now faults code place
-draw_ends old new left left' before now faults code place codes read send zeros done within pictures part stopped memory much past bad missing misfit unopened good replied disk = record {
-  codes = draw_codes code codes;
-  own = codes;
-  away = λ over. absurd over;
-  untaken = λ none. absurd none;
-  bars = λ is. absurd (never of_draw code 7 codes refl is);
-  reads = tt;
-  reads_lines = told_any left;
-  syncs = told_any left;
-  unsent = λ is. absurd (never of_draw code 14 codes refl is);
-  read = read;
-  stopped = stopped;
-  send = send;
-  bad = bad;
-  much = λ is. told_both left _ _ (much is) (past is);
-  missing = missing;
-  misfit = misfit;
-  unopened = unopened;
-  memory = memory;
-  within = within;
-  fault = λ is. absurd (never of_draw code 6 codes refl is);
-  faulted = λ is. absurd (never of_draw code 6 codes refl is);
-  damaged = λ is. absurd (never of_draw code 7 codes refl is);
-  undamaged = λ is. absurd (never of_draw code 7 codes refl is);
-  small = λ is. absurd (never of_draw code 12 codes refl is);
-  there = λ is. absurd (never of_draw code 13 codes refl is);
-  refused = λ is. absurd (never of_draw code 14 codes refl is);
-  unnamed = tt;
-  unknown = λ is. absurd (never of_draw code 17 codes refl is);
-  refused_line = λ is. absurd (never of_draw code 16 codes refl is);
-  zero_place = λ zero. zeros (zeros_of_draw code (never of_draw code 6 codes refl) zero);
-  done = done;
-  part = part;
-  nothing = λ some unsent quiet. absurd (quiet tt);
-  pictures = λ is command. pictures is;
-  holds = λ other. told_all left _ (alone_holds old new disk);
-  crash = all_told left before _ (alone_leaves old new disk);
-  disk = disk.kept;
-  made = λ is. tt;
-  complete = good;
-  drawn = λ command. replied;
-  ready = λ command. cc;
-}
-
-pub cover_ends : (every : ℕ) (old new : View) (left left' before now : Option (List ℕ)) (faults : Faults) (code place : ℕ) → Contains of_draw code → (code ≡ 4 → HasRisen faults.reads faults.reads_now) → (code ≡ 5 → HasRisen faults.sends faults.sends_now) → (Contains (0 ∷ 3 ∷ 4 ∷ 5 ∷ []) code → place ≡ 0) → (code ≡ 0 → IfSome left (λ input. DrawsAll (Some every) input before now)) → (code ≡ 0 → IfSome left (λ input. length input ≤ 2 ^ 32)) → (code ≡ 5 → IfSome left (λ input. StopsAtFrame (Some every) input before now draw_end.SendFault)) → (code ≡ 4 → IfSome left (λ input. IfSome left' (λ bytes. DrawsTaken (Some every) input bytes before now))) → (code ≡ 3 → IfSome left (λ input. StopsAtFrame (Some every) input before now draw_end.NoMemory)) → (code ≡ 9 → place ≡ 2 ^ 32) → (code ≡ 9 → IfSome left (λ input. DrawsWithin (Some every) input before now)) → (code ≡ 8 → IfSome left (λ input. IsBadInput (Cover every) old new input place before now)) → (code ≡ 10 → IfSome left (λ input. Lacks (Cover every) old input place before now)) → (code ≡ 11 → IfSome left (λ input. Misfits (Cover every) old input place before now)) → (code ≡ 15 → IfSome left (λ input. NamesUnopened (Cover every) old input place before now)) → (IfSome left (λ input. IsFrames input → Contains (0 ∷ 3 ∷ 4 ∷ 5 ∷ []) code)) → StaysAlone old new → CommandEnds (Cover every) old new left left' before now faults code place
-cover_ends every old new left left' before now faults code place codes read send zeros done within part stopped memory much past bad missing misfit unopened good disk = record {
-  codes = draw_codes code codes;
-  own = codes;
-  away = λ over. absurd over;
-  untaken = λ none. absurd none;
-  bars = λ is. absurd (never of_draw code 7 codes refl is);
-  reads = tt;
-  reads_lines = told_any left;
-  syncs = told_any left;
-  unsent = λ is. absurd (never of_draw code 14 codes refl is);
-  read = read;
-  stopped = stopped;
-  send = send;
-  bad = bad;
-  much = λ is. told_both left _ _ (much is) (past is);
-  missing = missing;
-  misfit = misfit;
-  unopened = unopened;
-  memory = memory;
-  within = within;
-  fault = λ is. absurd (never of_draw code 6 codes refl is);
-  faulted = λ is. absurd (never of_draw code 6 codes refl is);
-  damaged = λ is. absurd (never of_draw code 7 codes refl is);
-  undamaged = λ is. absurd (never of_draw code 7 codes refl is);
-  small = λ is. absurd (never of_draw code 12 codes refl is);
-  there = λ is. absurd (never of_draw code 13 codes refl is);
-  refused = λ is. absurd (never of_draw code 14 codes refl is);
-  unnamed = tt;
-  unknown = λ is. absurd (never of_draw code 17 codes refl is);
-  refused_line = λ is. absurd (never of_draw code 16 codes refl is);
-  zero_place = λ zero. zeros (zeros_of_draw code (never of_draw code 6 codes refl) zero);
-  done = done;
-  part = part;
-  nothing = λ some unsent quiet. absurd (quiet tt);
-  pictures = λ is command. cc;
-  holds = λ other. told_all left _ (alone_holds old new disk);
-  crash = all_told left before _ (alone_leaves old new disk);
-  disk = disk.kept;
-  made = λ is. tt;
-  complete = good;
   drawn = λ command. cc;
   ready = λ command. cc;
 }

@@ -22,7 +22,7 @@ pub mod CommandsEnd
 pub mod StoreShown
 pub mod LivesLemmas
 pub mod Knowing
-pub mod Statuses
+pub mod Drawings
 pub mod InitLemmas
 pub mod InitEnds
 pub mod RetainEnds

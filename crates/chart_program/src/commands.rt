@@ -4,10 +4,10 @@ ghost use Rattle.block_disk.specs.Counts.{HasRisen};
 ghost use Rattle.chart_grid.specs.Limits.{IsSide};
 ghost use Rattle.chart_world.specs.Faults.{CountsFault};
 ghost use Rattle.program_words.specs.declared.words.Command.TheVariants.{Plot, Draw, Init, Cover};
-ghost use Rattle.chart_program.specs.Plotted.{plotting_status};
+ghost use Rattle.chart_program.specs.Plotted.{plotting_end};
 ghost use Rattle.draw_command.specs.Draws.{IsNumbered};
 ghost use Rattle.program_words.specs.Words.{IsEvery};
-ghost use Rattle.chart_program.specs.CommandStatuses.{drawing_status};
+ghost use Rattle.chart_program.specs.CommandStatuses.{drawing_end};
 ghost use Rattle.store_commands.specs.Away.{TurnsAway};
 ghost use Rattle.run_ends.specs.Statuses.{status_of};
 ghost use Rattle.store_commands.specs.Status.{code_fault, end_fault};
@@ -124,21 +124,23 @@ fn plot_status<W: World>(alloc: Global, w: u16, h: u16, world: &mut W) -> Status
     ensures faults { CountsFault (code_fault result.code) (W.view world.old) (W.view world.new) }
 {
     let answer = plot(alloc, w, h, world);
-    plotting_status(answer)
+    status_of(plotting_end(answer))
 }
 
-/// The status of what a plot answers.
-fn plotting_status(answer: Result<(), PlotEnd>) -> Status
-    ensures { result ≡ plotting_status answer }
+/// How a run ended by what a plot answers.
+fn plotting_end(answer: Result<(), PlotEnd>) -> End
+    ensures { result ≡ plotting_end answer }
 {
     match answer {
-        Ok(()) => status_of(End::Done),
-        Err(PlotEnd::SendFault) => status_of(End::SendFault),
-        Err(PlotEnd::Input(InputEnd::NoMemory)) => status_of(End::NoMemory),
-        Err(PlotEnd::Input(InputEnd::ReadFault)) => status_of(End::ReadFault),
-        Err(PlotEnd::Input(InputEnd::InputTooLong)) => status_of(End::InputTooLong),
-        Err(PlotEnd::Input(InputEnd::BadLine { at })) => status_of(End::BadInput { at }),
-        Err(PlotEnd::Input(InputEnd::TooManySlots)) => status_of(End::TooManySlots { most: MOST_SLOTS as u64 }),
+        Ok(()) => End::Done,
+        Err(PlotEnd::SendFault) => End::SendFault,
+        Err(PlotEnd::Input(InputEnd::NoMemory)) => End::NoMemory,
+        Err(PlotEnd::Input(InputEnd::ReadFault)) => End::ReadFault,
+        Err(PlotEnd::Input(InputEnd::InputTooLong)) => End::InputTooLong,
+        Err(PlotEnd::Input(InputEnd::BadLine { at })) => End::BadInput { at },
+        Err(PlotEnd::Input(InputEnd::TooManySlots)) => End::TooManySlots {
+            most: MOST_SLOTS as u64,
+        },
     }
 }
 
@@ -156,7 +158,7 @@ fn draw_status<W: World>(alloc: Global, world: &mut W) -> Status
     replies_are_accepted();
     own_replies_are_accepted();
     let answer = draw(alloc, world);
-    drawing_status(answer)
+    status_of(drawing_end(answer))
 }
 
 /// Sends the pictures of the input's frames, each behind its covers, and says how that ended.
@@ -171,23 +173,23 @@ fn cover_status<W: World>(alloc: Global, every: u32, world: &mut W) -> Status
     more_bytes_mend_nothing();
     covers_narrow_to_the_picture();
     let answer = cover(alloc, every, world);
-    drawing_status(answer)
+    status_of(drawing_end(answer))
 }
 
-/// The status of what a drawing answers.
-fn drawing_status(answer: Result<(), DrawEnd>) -> Status
+/// How a run ended by what a drawing answers.
+fn drawing_end(answer: Result<(), DrawEnd>) -> End
     requires { IfErr answer IsNumbered }
-    ensures { result ≡ drawing_status answer }
+    ensures { result ≡ drawing_end answer }
 {
     match answer {
-        Ok(()) => status_of(End::Done),
-        Err(DrawEnd::NoMemory) => status_of(End::NoMemory),
-        Err(DrawEnd::ReadFault) => status_of(End::ReadFault),
-        Err(DrawEnd::SendFault) => status_of(End::SendFault),
-        Err(DrawEnd::InputTooLong) => status_of(End::InputTooLong),
-        Err(DrawEnd::BadFrame { at }) => status_of(End::BadInput { at }),
-        Err(DrawEnd::Missing { key }) => status_of(End::Missing { key: key.number() }),
-        Err(DrawEnd::BadCoefficient { key }) => status_of(End::BadCoefficient { key: key.number() }),
-        Err(DrawEnd::UnknownSession { session }) => status_of(End::UnknownSession { session }),
+        Ok(()) => End::Done,
+        Err(DrawEnd::NoMemory) => End::NoMemory,
+        Err(DrawEnd::ReadFault) => End::ReadFault,
+        Err(DrawEnd::SendFault) => End::SendFault,
+        Err(DrawEnd::InputTooLong) => End::InputTooLong,
+        Err(DrawEnd::BadFrame { at }) => End::BadInput { at },
+        Err(DrawEnd::Missing { key }) => End::Missing { key: key.number() },
+        Err(DrawEnd::BadCoefficient { key }) => End::BadCoefficient { key: key.number() },
+        Err(DrawEnd::UnknownSession { session }) => End::UnknownSession { session },
     }
 }
