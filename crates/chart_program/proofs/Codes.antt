@@ -1,6 +1,6 @@
 -- The codes of a run, and when they can't come.
-use Rattle.std.proofs.Common.{◌≡◌, ℕ, ℤ, zero, suc, ◌⊎◌, List, [], ◌∷◌, ◌++◌, length, map, Option, Some, None, ap, inl, inr, sym, ◌∙◌, arith, length-append}
-use Rattle.std.specs.Prelude.{Contains, All, true, IfSome, if◌then◌else◌}
+use Rattle.std.proofs.Common.{◌≡◌, ℕ, ℤ, ◌⊎◌, List, [], ◌∷◌, ◌++◌, length, map, Option, Some, None, ap, inl, inr, sym, ◌∙◌, arith, length-append}
+use Rattle.std.specs.Prelude.{All, true, IfSome, if◌then◌else◌}
 use Rattle.std.specs.List.{filter}
 use Rattle.std.proofs.lemmas.List.{length-map}
 use Rattle.std.proofs.lemmas.List.Elements.{filter-append, All-head, All-tail}
@@ -9,7 +9,7 @@ use Rattle.chart_world.specs.LineLaws.{lines_none, lines_joined}
 use Rattle.chart_world.specs.Fronts.{says, IsWhole}
 use Rattle.plain_chart.specs.Samples.{IsSlot}
 use Rattle.chart_program.specs.Slots.{spelling, SpellsSlot, Behind, FirstBad, HasTooMany}
-use Rattle.chart_program.specs.Ran.{HasTooMuch, IsSlots, of_done}
+use Rattle.chart_program.specs.Ran.{HasTooMuch, IsSlots}
 use Rattle.chart_program.proofs.Ending.{says_true}
 
 some_line : (rest : List ℕ) (line : Option (List ℕ)) (later : List (Option (List ℕ))) → lines rest ≡ line ∷ later → rest ≡ [] → ⊥
@@ -71,23 +71,6 @@ no_many input good many =
 pub no_much : (input : List ℕ) (place : ℕ) → IsSlots input → HasTooMuch input place → ⊥
 no_much input place good (inl many) = no_many input good many.1
 no_much input place good (inr long) = omega (arith, good.short, long.1.past)
-
--- so it is done, a stream fails, or there is no memory
-pub completed : (code : ℕ) (B M : Type 0) → Contains (0 ∷ 3 ∷ 4 ∷ 5 ∷ 8 ∷ 9 ∷ []) code → (code ≡ 8 → B) → (code ≡ 9 → M) → (B → ⊥) → (M → ⊥) → Contains of_done code
-completed code B M (zero, inside, is) bad much no_bad no_much = (0, omega arith, is)
-completed code B M (suc zero, inside, is) bad much no_bad no_much = (1, omega arith, is)
-completed code B M (suc (suc zero), inside, is) bad much no_bad no_much = (2, omega arith, is)
-completed code B M (suc (suc (suc zero)), inside, is) bad much no_bad no_much = (3, omega arith, is)
-completed code B M (suc (suc (suc (suc zero))), inside, is) bad much no_bad no_much = absurd (no_bad (bad (sym is)))
-completed code B M (suc (suc (suc (suc (suc zero)))), inside, is) bad much no_bad no_much = absurd (no_much (much (sym is)))
-completed code B M (suc (suc (suc (suc (suc (suc k))))), inside, is) bad much no_bad no_much = absurd (omega (arith, inside))
-
--- where a plot's input is told
-pub plot_complete : (o : Option (List ℕ)) (code place : ℕ) → Contains (0 ∷ 3 ∷ 4 ∷ 5 ∷ 8 ∷ 9 ∷ []) code → (code ≡ 8 → IfSome o (λ input. FirstBad input place)) → (code ≡ 9 → IfSome o (λ input. HasTooMuch input place))
-    → IfSome o (λ input. IsSlots input → Contains of_done code)
-plot_complete None code place codes bad much = tt
-plot_complete (Some input) code place codes bad much = λ slots.
-    completed code (FirstBad input place) (HasTooMuch input place) codes bad much (no_bad input place slots) (no_much input place slots)
 
 -- what holds at all holds where an input is told
 pub told_all : (o : Option (List ℕ)) (P : Type 0) → P → IfSome o (λ input. P)

@@ -36,47 +36,6 @@ never l code n inside outside is =
     let both : true ≡ false = sym (subst P is (contains_has l code inside)) ∙ outside in
     cc
 
--- codes of the command `plot` are codes of a command
-abbrev pub of_plot : List ℕ
-of_plot = 0 ∷ 3 ∷ 4 ∷ 5 ∷ 8 ∷ 9 ∷ []
-
-pub plot_codes : (code : ℕ) → Contains of_plot code → Contains (0 ∷ 3 ∷ 4 ∷ 5 ∷ 6 ∷ 7 ∷ 8 ∷ 9 ∷ 10 ∷ 11 ∷ 12 ∷ 13 ∷ 14 ∷ 15 ∷ 16 ∷ 17 ∷ []) code
-plot_codes code (zero, inside, is) = (0, omega arith, is)
-plot_codes code (suc zero, inside, is) = (1, omega arith, is)
-plot_codes code (suc (suc zero), inside, is) = (2, omega arith, is)
-plot_codes code (suc (suc (suc zero)), inside, is) = (3, omega arith, is)
-plot_codes code (suc (suc (suc (suc zero))), inside, is) = (6, omega arith, is)
-plot_codes code (suc (suc (suc (suc (suc zero)))), inside, is) = (7, omega arith, is)
-plot_codes code (suc (suc (suc (suc (suc (suc k))))), inside, is) = absurd (omega (arith, inside))
-
--- codes of the command `draw` are codes of a command
-abbrev pub of_draw : List ℕ
-of_draw = 0 ∷ 3 ∷ 4 ∷ 5 ∷ 8 ∷ 9 ∷ 10 ∷ 11 ∷ 15 ∷ []
-
-pub draw_codes : (code : ℕ) → Contains of_draw code → Contains (0 ∷ 3 ∷ 4 ∷ 5 ∷ 6 ∷ 7 ∷ 8 ∷ 9 ∷ 10 ∷ 11 ∷ 12 ∷ 13 ∷ 14 ∷ 15 ∷ 16 ∷ 17 ∷ []) code
-draw_codes code (zero, inside, is) = (0, omega arith, is)
-draw_codes code (suc zero, inside, is) = (1, omega arith, is)
-draw_codes code (suc (suc zero), inside, is) = (2, omega arith, is)
-draw_codes code (suc (suc (suc zero)), inside, is) = (3, omega arith, is)
-draw_codes code (suc (suc (suc (suc zero))), inside, is) = (6, omega arith, is)
-draw_codes code (suc (suc (suc (suc (suc zero)))), inside, is) = (7, omega arith, is)
-draw_codes code (suc (suc (suc (suc (suc (suc zero))))), inside, is) = (8, omega arith, is)
-draw_codes code (suc (suc (suc (suc (suc (suc (suc zero)))))), inside, is) = (9, omega arith, is)
-draw_codes code (suc (suc (suc (suc (suc (suc (suc (suc zero))))))), inside, is) = (13, omega arith, is)
-draw_codes code (suc (suc (suc (suc (suc (suc (suc (suc (suc k)))))))), inside, is) = absurd (omega (arith, inside))
-
--- codes of the command `init` are codes of a command
-abbrev pub of_init : List ℕ
-of_init = 0 ∷ 3 ∷ 6 ∷ 12 ∷ 13 ∷ []
-
-pub init_codes : (code : ℕ) → Contains of_init code → Contains (0 ∷ 3 ∷ 4 ∷ 5 ∷ 6 ∷ 7 ∷ 8 ∷ 9 ∷ 10 ∷ 11 ∷ 12 ∷ 13 ∷ 14 ∷ 15 ∷ 16 ∷ 17 ∷ []) code
-init_codes code (zero, inside, is) = (0, omega arith, is)
-init_codes code (suc zero, inside, is) = (1, omega arith, is)
-init_codes code (suc (suc zero), inside, is) = (4, omega arith, is)
-init_codes code (suc (suc (suc zero)), inside, is) = (10, omega arith, is)
-init_codes code (suc (suc (suc (suc zero))), inside, is) = (11, omega arith, is)
-init_codes code (suc (suc (suc (suc (suc k)))), inside, is) = absurd (omega (arith, inside))
-
 -- the codes of the commands that serve lines
 abbrev pub of_lines : List ℕ
 of_lines = 0 ∷ 3 ∷ 4 ∷ 5 ∷ 6 ∷ 7 ∷ 9 ∷ 10 ∷ 11 ∷ 12 ∷ 15 ∷ []
@@ -146,57 +105,6 @@ load_codes code (suc (suc (suc (suc (suc (suc (suc zero)))))), inside, is) = (7,
 load_codes code (suc (suc (suc (suc (suc (suc (suc (suc zero))))))), inside, is) = (10, omega arith, is)
 load_codes code (suc (suc (suc (suc (suc (suc (suc (suc (suc zero)))))))), inside, is) = (12, omega arith, is)
 load_codes code (suc (suc (suc (suc (suc (suc (suc (suc (suc (suc k))))))))), inside, is) = absurd (omega (arith, inside))
-
--- codes of the command `check` are codes of a command
-abbrev pub of_check : List ℕ
-of_check = 0 ∷ 3 ∷ 5 ∷ 6 ∷ 7 ∷ 12 ∷ []
-
-pub check_codes : (code : ℕ) → Contains of_check code → Contains (0 ∷ 3 ∷ 4 ∷ 5 ∷ 6 ∷ 7 ∷ 8 ∷ 9 ∷ 10 ∷ 11 ∷ 12 ∷ 13 ∷ 14 ∷ 15 ∷ 16 ∷ 17 ∷ []) code
-check_codes code (zero, inside, is) = (0, omega arith, is)
-check_codes code (suc zero, inside, is) = (1, omega arith, is)
-check_codes code (suc (suc zero), inside, is) = (3, omega arith, is)
-check_codes code (suc (suc (suc zero)), inside, is) = (4, omega arith, is)
-check_codes code (suc (suc (suc (suc zero))), inside, is) = (5, omega arith, is)
-check_codes code (suc (suc (suc (suc (suc zero)))), inside, is) = (10, omega arith, is)
-check_codes code (suc (suc (suc (suc (suc (suc k))))), inside, is) = absurd (omega (arith, inside))
-
--- codes of the command `export` are codes of a command
-abbrev pub of_export : List ℕ
-of_export = 0 ∷ 3 ∷ 5 ∷ 6 ∷ 7 ∷ 12 ∷ 14 ∷ []
-
-pub export_codes : (code : ℕ) → Contains of_export code → Contains (0 ∷ 3 ∷ 4 ∷ 5 ∷ 6 ∷ 7 ∷ 8 ∷ 9 ∷ 10 ∷ 11 ∷ 12 ∷ 13 ∷ 14 ∷ 15 ∷ 16 ∷ 17 ∷ []) code
-export_codes code (zero, inside, is) = (0, omega arith, is)
-export_codes code (suc zero, inside, is) = (1, omega arith, is)
-export_codes code (suc (suc zero), inside, is) = (3, omega arith, is)
-export_codes code (suc (suc (suc zero)), inside, is) = (4, omega arith, is)
-export_codes code (suc (suc (suc (suc zero))), inside, is) = (5, omega arith, is)
-export_codes code (suc (suc (suc (suc (suc zero)))), inside, is) = (10, omega arith, is)
-export_codes code (suc (suc (suc (suc (suc (suc zero))))), inside, is) = (12, omega arith, is)
-export_codes code (suc (suc (suc (suc (suc (suc (suc k)))))), inside, is) = absurd (omega (arith, inside))
-
--- codes of the command `demo` are codes of a command
-abbrev pub of_demo : List ℕ
-of_demo = 0 ∷ 3 ∷ 5 ∷ 6 ∷ 7 ∷ 10 ∷ 11 ∷ 12 ∷ []
-
-pub demo_codes : (code : ℕ) → Contains of_demo code → Contains (0 ∷ 3 ∷ 4 ∷ 5 ∷ 6 ∷ 7 ∷ 8 ∷ 9 ∷ 10 ∷ 11 ∷ 12 ∷ 13 ∷ 14 ∷ 15 ∷ 16 ∷ 17 ∷ []) code
-demo_codes code (zero, inside, is) = (0, omega arith, is)
-demo_codes code (suc zero, inside, is) = (1, omega arith, is)
-demo_codes code (suc (suc zero), inside, is) = (3, omega arith, is)
-demo_codes code (suc (suc (suc zero)), inside, is) = (4, omega arith, is)
-demo_codes code (suc (suc (suc (suc zero))), inside, is) = (5, omega arith, is)
-demo_codes code (suc (suc (suc (suc (suc zero)))), inside, is) = (8, omega arith, is)
-demo_codes code (suc (suc (suc (suc (suc (suc zero))))), inside, is) = (9, omega arith, is)
-demo_codes code (suc (suc (suc (suc (suc (suc (suc zero)))))), inside, is) = (10, omega arith, is)
-demo_codes code (suc (suc (suc (suc (suc (suc (suc (suc k))))))), inside, is) = absurd (omega (arith, inside))
-
--- the codes whose place is 0, without that of a read fault
-pub zero_of : (code : ℕ) → (code ≡ 4 → ⊥) → Contains (0 ∷ 3 ∷ 4 ∷ 5 ∷ 6 ∷ []) code → Contains (0 ∷ 3 ∷ 5 ∷ 6 ∷ []) code
-zero_of code unread (zero, inside, is) = (0, omega arith, is)
-zero_of code unread (suc zero, inside, is) = (1, omega arith, is)
-zero_of code unread (suc (suc zero), inside, is) = absurd (unread (sym is))
-zero_of code unread (suc (suc (suc zero)), inside, is) = (2, omega arith, is)
-zero_of code unread (suc (suc (suc (suc zero))), inside, is) = (3, omega arith, is)
-zero_of code unread (suc (suc (suc (suc (suc k)))), inside, is) = absurd (omega (arith, inside))
 
 -- codes of the command `retain` are codes of a command
 abbrev pub of_retain : List ℕ

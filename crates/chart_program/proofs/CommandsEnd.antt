@@ -1,32 +1,22 @@
 -- Each command ends as its own clauses say.
-use Rattle.std.proofs.Common.{◌≡◌, ℕ, ◌<◌, ◌≤◌, ◌^◌, zero, suc, ◌⊎◌, List, [], ◌∷◌, Option, Some, None, IfSome, length, refl, sym, arith}
+use Rattle.std.proofs.Common.{◌≡◌, ℕ, ◌<◌, ◌≤◌, zero, suc, List, Option, Some, None, IfSome, refl, sym, arith}
 use Rattle.std.specs.Prelude.{Contains, ◌≢◌}
-use Rattle.block_disk.specs.Counts.{HasRisen}
 use Rattle.block_disk.specs.View.{View}
-use Rattle.draw_command.specs.Alone.{StaysAlone}
-use Rattle.chart_program.proofs.DiskKept.{alone_leaves, alone_holds}
 use Rattle.disk_store.specs.Held.{HoldsBook}
 use Rattle.disk_store.proofs.Opened.{is_large}
 use Rattle.series_book.specs.declared.one_series.Series.{Series}
 use Rattle.gate_pages.specs.Journal.{page_count}
 use Rattle.store_commands.specs.Loaded.{LoadEnds, RefusesSet, Unnamed}
-use Rattle.store_commands.specs.Checked.{CheckEnds}
-use Rattle.store_commands.specs.Demonstrated.{DemoEnds}
-use Rattle.program_words.specs.declared.words.Command.TheVariants.{Plot, Load, Demo, Run, Serve, Draw, Init, Check, Cover}
+use Rattle.program_words.specs.declared.words.Command.TheVariants.{Load, Run, Serve}
 use Rattle.chart_program.specs.Served.{Says, Faults, Spelled, AreTexts}
 use Rattle.store_commands.specs.Away.{IsTurnedAway}
 use Rattle.store_commands.specs.Books.{HoldsAgain}
 use Rattle.chart_program.specs.CommandStatuses.{codes_of, IsBarred}
 use Rattle.chart_program.specs.Ended.{EndsBy}
-use Rattle.chart_program.specs.Ran.{CommandEnds, AreLines, AreReadings, StandsOn, IsRefused, IsBadInput, HasTooMuch, Lacks, Misfits, NamesUnopened, IsFrames, IsOfReplies, DrawsReplies, LeavesDisk, IsMade, IsTooSmall, IsThere, IsFree, of_done}
-use Rattle.draw_command.specs.declared.draw_end.DrawEnd.TheVariants as draw_end
-use Rattle.chart_program.specs.Slots.{FirstBad, StoppedBefore}
-use Rattle.chart_program.specs.Plotted.{SendsPlot, SendsFront}
-use Rattle.draw_command.specs.Draws.{DrawsAll, DrawsTaken, DrawsWithin, StopsAtFrame}
-use Rattle.chart_program.proofs.InitLemmas.{init_leaves, init_holds}
-use Rattle.chart_program.proofs.Codes.{plot_complete, told_all, told_both}
+use Rattle.chart_program.specs.Ran.{CommandEnds, AreLines, AreReadings, IsRefused, of_done}
+use Rattle.chart_program.proofs.Codes.{told_all, told_both}
 use Rattle.chart_program.proofs.Counts.{told_any}
-use Rattle.chart_program.proofs.CommandCodes.{never, zero_of, of_plot, plot_codes, of_draw, draw_codes, of_init, init_codes, of_lines, lines_codes, of_load, load_codes, of_check, check_codes, of_demo, demo_codes}
+use Rattle.chart_program.proofs.CommandCodes.{never, of_lines, lines_codes, of_load, load_codes}
 
 both_told : (o b : Option (List ℕ)) (P : List ℕ → Type 0) (Q : Type 0) → IfSome o P → Q → IfSome o (λ input. IfSome b (λ bytes. P input × Q))
 both_told None b P Q first second = tt
@@ -71,28 +61,6 @@ load_completed name old new input left' before now faults code place r e (suc (s
 load_completed name old new input left' before now faults code place r e (suc (suc (suc (suc (suc (suc (suc (suc (suc zero)))))))), inside, is) = let refused = e.refused (sym is) r.total r.book r.holds r.series r.named in absurd (r.none_refused refused.0 refused.1 _ refused.3.on.so)
 load_completed name old new input left' before now faults code place r e (suc (suc (suc (suc (suc (suc (suc (suc (suc (suc k))))))))), inside, is) = absurd (omega (arith, inside))
 
--- with a good input it is done, a stream fails, or there is no memory
-check_completed : (old new : View) (input : List ℕ) (left' before now : Option (List ℕ)) (faults : Faults) (code place : ℕ) → StandsOn old new → CheckEnds old new before now faults.sends faults.sends_now code place → Contains of_check code → Contains of_done code
-check_completed old new input left' before now faults code place r e (zero, inside, is) = (0, omega arith, is)
-check_completed old new input left' before now faults code place r e (suc zero, inside, is) = (1, omega arith, is)
-check_completed old new input left' before now faults code place r e (suc (suc zero), inside, is) = (3, omega arith, is)
-check_completed old new input left' before now faults code place r e (suc (suc (suc zero)), inside, is) = absurd (r.whole (e.fault (sym is)))
-check_completed old new input left' before now faults code place r e (suc (suc (suc (suc zero))), inside, is) = absurd (e.undamaged (sym is) r.total r.book r.holds)
-check_completed old new input left' before now faults code place r e (suc (suc (suc (suc (suc zero)))), inside, is) = absurd (small_never old r.total r.book r.holds (omega (arith, (e.small (sym is)).1)))
-check_completed old new input left' before now faults code place r e (suc (suc (suc (suc (suc (suc k))))), inside, is) = absurd (omega (arith, inside))
-
--- with a good input it is done, a stream fails, or there is no memory
-demo_completed : (seed rounds : ℕ) (old new : View) (input : List ℕ) (left' before now : Option (List ℕ)) (faults : Faults) (code place : ℕ) → StandsOn old new → DemoEnds seed rounds old new before now faults.sends faults.sends_now code place → Contains of_demo code → Contains of_done code
-demo_completed seed rounds old new input left' before now faults code place r e (zero, inside, is) = (0, omega arith, is)
-demo_completed seed rounds old new input left' before now faults code place r e (suc zero, inside, is) = (1, omega arith, is)
-demo_completed seed rounds old new input left' before now faults code place r e (suc (suc zero), inside, is) = (3, omega arith, is)
-demo_completed seed rounds old new input left' before now faults code place r e (suc (suc (suc zero)), inside, is) = absurd (r.whole (e.fault (sym is)))
-demo_completed seed rounds old new input left' before now faults code place r e (suc (suc (suc (suc zero))), inside, is) = absurd (e.undamaged (sym is) r.total r.book r.holds)
-demo_completed seed rounds old new input left' before now faults code place r e (suc (suc (suc (suc (suc zero)))), inside, is) = absurd ((e.missing (sym is)).0 r.total r.book r.holds)
-demo_completed seed rounds old new input left' before now faults code place r e (suc (suc (suc (suc (suc (suc zero))))), inside, is) = absurd ((e.misfit (sym is)).0 r.total r.book r.holds)
-demo_completed seed rounds old new input left' before now faults code place r e (suc (suc (suc (suc (suc (suc (suc zero)))))), inside, is) = absurd (small_never old r.total r.book r.holds (omega (arith, (e.small (sym is)).1)))
-demo_completed seed rounds old new input left' before now faults code place r e (suc (suc (suc (suc (suc (suc (suc (suc k))))))), inside, is) = absurd (omega (arith, inside))
-
 lines_complete : (IsText : Says) (CanShow : Type 0) (old new : View) (left left' before now : Option (List ℕ)) (faults : Faults) (code place : ℕ) → EndsBy IsText CanShow old new left left' before now faults code place → IfSome left (λ input. AreLines old new input → Contains of_done code)
 lines_complete IsText CanShow old new None left' before now faults code place e = tt
 lines_complete IsText CanShow old new (Some input) left' before now faults code place e = λ good. lines_completed IsText CanShow old new input left' before now faults code place good e e.codes
@@ -100,14 +68,6 @@ lines_complete IsText CanShow old new (Some input) left' before now faults code 
 load_complete : (name : List ℕ) (old new : View) (left left' before now : Option (List ℕ)) (faults : Faults) (code place : ℕ) → LoadEnds name old new left left' before now faults.reads faults.reads_now faults.sends faults.sends_now code place → IfSome left (λ input. AreReadings name old new input → Contains of_done code)
 load_complete name old new None left' before now faults code place e = tt
 load_complete name old new (Some input) left' before now faults code place e = λ good. load_completed name old new input left' before now faults code place good e e.codes
-
-check_complete : (old new : View) (left left' before now : Option (List ℕ)) (faults : Faults) (code place : ℕ) → CheckEnds old new before now faults.sends faults.sends_now code place → IfSome left (λ input. StandsOn old new → Contains of_done code)
-check_complete old new None left' before now faults code place e = tt
-check_complete old new (Some input) left' before now faults code place e = λ good. check_completed old new input left' before now faults code place good e e.codes
-
-demo_complete : (seed rounds : ℕ) (old new : View) (left left' before now : Option (List ℕ)) (faults : Faults) (code place : ℕ) → DemoEnds seed rounds old new before now faults.sends faults.sends_now code place → IfSome left (λ input. StandsOn old new → Contains of_done code)
-demo_complete seed rounds old new None left' before now faults code place e = tt
-demo_complete seed rounds old new (Some input) left' before now faults code place e = λ good. demo_completed seed rounds old new input left' before now faults code place good e e.codes
 
 pub run_ends : (old new : View) (left left' before now : Option (List ℕ)) (faults : Faults) (code place : ℕ) → EndsBy AreTexts (Unit {0}) old new left left' before now faults code place → Contains (codes_of Run) code → (old.size < 128 → IsTurnedAway left left' before now code) → (code ≡ 7 → IsBarred (page_count old.size) new left left' before now place) → CommandEnds Run old new left left' before now faults code place
 run_ends old new left left' before now faults code place e own away bars = record {
@@ -247,295 +207,4 @@ load_ends name old new left left' before now faults code place e away holds = re
   complete = load_complete name old new left left' before now faults code place e;
   drawn = λ command. cc;
   ready = λ command. cc;
-}
-
-pub check_ends : (old new : View) (left left' before now : Option (List ℕ)) (faults : Faults) (code place : ℕ) → CheckEnds old new before now faults.sends faults.sends_now code place → (old.size < 128 → IsTurnedAway left left' before now code) → left' ≡ left → CommandEnds Check old new left left' before now faults code place
-check_ends old new left left' before now faults code place e away untaken = record {
-  codes = check_codes code e.codes;
-  own = e.codes;
-  away = λ over. away;
-  untaken = λ none. untaken;
-  bars = λ is. e.nothing (omega (arith, is)) (omega (arith, is));
-  reads = tt;
-  reads_lines = told_any left;
-  syncs = told_any left;
-  unsent = λ is. absurd (never of_check code 14 e.codes refl is);
-  read = λ is. absurd (never of_check code 4 e.codes refl is);
-  stopped = λ is. absurd (never of_check code 4 e.codes refl is);
-  send = e.send;
-  bad = λ is. absurd (never of_check code 8 e.codes refl is);
-  much = λ is. absurd (never of_check code 9 e.codes refl is);
-  missing = λ is. absurd (never of_check code 10 e.codes refl is);
-  misfit = λ is. absurd (never of_check code 11 e.codes refl is);
-  unopened = λ is. absurd (never of_check code 15 e.codes refl is);
-  memory = λ is. told_all left _ (e.nothing (omega (arith, is)) (omega (arith, is)));
-  within = λ is. told_all left _ tt;
-  fault = e.fault;
-  faulted = λ is. told_all left _ (e.nothing (omega (arith, is)) (omega (arith, is)));
-  damaged = e.damaged;
-  undamaged = λ is. told_all left _ (e.undamaged is);
-  small = e.small;
-  there = λ is. absurd (never of_check code 13 e.codes refl is);
-  refused = λ is. absurd (never of_check code 14 e.codes refl is);
-  unnamed = tt;
-  unknown = λ is. absurd (never of_check code 17 e.codes refl is);
-  refused_line = λ is. absurd (never of_check code 16 e.codes refl is);
-  zero_place = λ zero. e.zero_place (zero_of code (never of_check code 4 e.codes refl) zero);
-  done = λ is. told_all left _ (e.done is);
-  part = λ is. told_all left _ (e.part is);
-  nothing = λ some unsent quiet. e.nothing some unsent;
-  pictures = λ is command. cc;
-  holds = λ other. told_all left _ (λ total book held. (book, e.holds total book held));
-  crash = all_told left before _ e.crash;
-  disk = e.goes_on;
-  made = λ is. tt;
-  complete = check_complete old new left left' before now faults code place e;
-  drawn = λ command. cc;
-  ready = λ command. cc;
-}
-
-pub demo_ends : (seed rounds : ℕ) (old new : View) (left left' before now : Option (List ℕ)) (faults : Faults) (code place : ℕ) → DemoEnds seed rounds old new before now faults.sends faults.sends_now code place → (old.size < 128 → IsTurnedAway left left' before now code) → left' ≡ left → (code ≢ 6 → HoldsAgain (page_count old.size) old new) → CommandEnds (Demo seed rounds) old new left left' before now faults code place
-demo_ends seed rounds old new left left' before now faults code place e away untaken holds = record {
-  codes = demo_codes code e.codes;
-  own = e.codes;
-  away = λ over. away;
-  untaken = λ none. untaken;
-  bars = λ is. e.nothing (omega (arith, is)) (omega (arith, is));
-  reads = tt;
-  reads_lines = told_any left;
-  syncs = told_any left;
-  unsent = λ is. absurd (never of_demo code 14 e.codes refl is);
-  read = λ is. absurd (never of_demo code 4 e.codes refl is);
-  stopped = λ is. absurd (never of_demo code 4 e.codes refl is);
-  send = e.send;
-  bad = λ is. absurd (never of_demo code 8 e.codes refl is);
-  much = λ is. absurd (never of_demo code 9 e.codes refl is);
-  missing = λ is. told_all left _ (e.missing is);
-  misfit = λ is. told_all left _ (e.misfit is);
-  unopened = λ is. absurd (never of_demo code 15 e.codes refl is);
-  memory = λ is. told_all left _ (e.memory is);
-  within = λ is. told_all left _ tt;
-  fault = e.fault;
-  faulted = λ is. told_all left _ (e.nothing (omega (arith, is)) (omega (arith, is)));
-  damaged = e.damaged;
-  undamaged = λ is. told_all left _ (e.undamaged is);
-  small = e.small;
-  there = λ is. absurd (never of_demo code 13 e.codes refl is);
-  refused = λ is. absurd (never of_demo code 14 e.codes refl is);
-  unnamed = tt;
-  unknown = λ is. absurd (never of_demo code 17 e.codes refl is);
-  refused_line = λ is. absurd (never of_demo code 16 e.codes refl is);
-  zero_place = λ zero. e.zero_place (zero_of code (never of_demo code 4 e.codes refl) zero);
-  done = λ is. told_all left _ (e.done is);
-  part = λ is. told_all left _ (e.part is);
-  nothing = λ some unsent quiet. e.nothing some unsent;
-  pictures = λ is command. cc;
-  holds = λ other. told_all left _ (holds other);
-  crash = all_told left before _ e.crash;
-  disk = e.goes_on;
-  made = λ is. tt;
-  complete = demo_complete seed rounds old new left left' before now faults code place e;
-  drawn = λ command. cc;
-  ready = λ command. cc;
-}
-
--- of the codes whose place is 0
-zeros_of_draw : (code : ℕ) → (code ≡ 6 → ⊥) → Contains (0 ∷ 3 ∷ 4 ∷ 5 ∷ 6 ∷ []) code → Contains (0 ∷ 3 ∷ 4 ∷ 5 ∷ []) code
-zeros_of_draw code other (zero, inside, is) = (0, omega arith, is)
-zeros_of_draw code other (suc zero, inside, is) = (1, omega arith, is)
-zeros_of_draw code other (suc (suc zero), inside, is) = (2, omega arith, is)
-zeros_of_draw code other (suc (suc (suc zero)), inside, is) = (3, omega arith, is)
-zeros_of_draw code other (suc (suc (suc (suc zero))), inside, is) = absurd (other (sym is))
-zeros_of_draw code other (suc (suc (suc (suc (suc k)))), inside, is) = absurd (omega (arith, inside))
-
-zeros_of_init : (code : ℕ) → (code ≡ 4 → ⊥) → (code ≡ 5 → ⊥) → Contains (0 ∷ 3 ∷ 4 ∷ 5 ∷ 6 ∷ []) code → Contains (0 ∷ 3 ∷ 6 ∷ []) code
-zeros_of_init code other more (zero, inside, is) = (0, omega arith, is)
-zeros_of_init code other more (suc zero, inside, is) = (1, omega arith, is)
-zeros_of_init code other more (suc (suc zero), inside, is) = absurd (other (sym is))
-zeros_of_init code other more (suc (suc (suc zero)), inside, is) = absurd (more (sym is))
-zeros_of_init code other more (suc (suc (suc (suc zero))), inside, is) = (2, omega arith, is)
-zeros_of_init code other more (suc (suc (suc (suc (suc k)))), inside, is) = absurd (omega (arith, inside))
-
-never_input : (o : Option (List ℕ)) (D : Type 0) → IfSome o (λ input. ⊥ → D)
-never_input None D = tt
-never_input (Some input) D = λ none. absurd none
-
-pub plot_ends : (w h : ℕ) (old new : View) (left left' before now : Option (List ℕ)) (faults : Faults) (code place : ℕ) → Contains of_plot code → (code ≡ 4 → HasRisen faults.reads faults.reads_now) → (code ≡ 4 → IfSome left (λ input. IfSome left' (StoppedBefore input))) → (code ≡ 5 → HasRisen faults.sends faults.sends_now) → (code ≡ 8 → IfSome left (λ input. FirstBad input place)) → (code ≡ 9 → IfSome left (λ input. HasTooMuch input place)) → (code ≢ 8 → code ≢ 9 → place ≡ 0) → (code ≡ 0 → IfSome left (λ input. SendsPlot w h input before now)) → (code ≡ 0 → IfSome left (λ input. length input ≤ 2 ^ 32)) → (code ≡ 5 → IfSome left (λ input. SendsFront w h input before now)) → (code ≢ 0 → code ≢ 5 → now ≡ before) → StaysAlone old new → CommandEnds (Plot w h) old new left left' before now faults code place
-plot_ends w h old new left left' before now faults code place codes read stopped send bad much zeros done within part nothing disk = record {
-  codes = plot_codes code codes;
-  own = codes;
-  away = λ over. absurd over;
-  untaken = λ none. absurd none;
-  bars = λ is. absurd (never of_plot code 7 codes refl is);
-  reads = tt;
-  reads_lines = told_any left;
-  syncs = told_any left;
-  unsent = λ is. absurd (never of_plot code 14 codes refl is);
-  read = read;
-  stopped = stopped;
-  send = send;
-  bad = bad;
-  much = much;
-  missing = λ is. absurd (never of_plot code 10 codes refl is);
-  misfit = λ is. absurd (never of_plot code 11 codes refl is);
-  unopened = λ is. absurd (never of_plot code 15 codes refl is);
-  memory = λ is. told_all left _ (nothing (omega (arith, is)) (omega (arith, is)));
-  within = within;
-  fault = λ is. absurd (never of_plot code 6 codes refl is);
-  faulted = λ is. absurd (never of_plot code 6 codes refl is);
-  damaged = λ is. absurd (never of_plot code 7 codes refl is);
-  undamaged = λ is. absurd (never of_plot code 7 codes refl is);
-  small = λ is. absurd (never of_plot code 12 codes refl is);
-  there = λ is. absurd (never of_plot code 13 codes refl is);
-  refused = λ is. absurd (never of_plot code 14 codes refl is);
-  unnamed = tt;
-  unknown = λ is. absurd (never of_plot code 17 codes refl is);
-  refused_line = λ is. absurd (never of_plot code 16 codes refl is);
-  zero_place = λ zero. zeros (λ is. never (0 ∷ 3 ∷ 4 ∷ 5 ∷ 6 ∷ []) code 8 zero refl is) (λ is. never (0 ∷ 3 ∷ 4 ∷ 5 ∷ 6 ∷ []) code 9 zero refl is);
-  done = done;
-  part = part;
-  nothing = λ some unsent quiet. nothing some unsent;
-  pictures = λ is command. cc;
-  holds = λ other. told_all left _ (alone_holds old new disk);
-  crash = all_told left before _ (alone_leaves old new disk);
-  disk = disk.kept;
-  made = λ is. tt;
-  complete = plot_complete left code place codes bad much;
-  drawn = λ command. cc;
-  ready = λ command. cc;
-}
-
-pub draw_ends : (old new : View) (left left' before now : Option (List ℕ)) (faults : Faults) (code place : ℕ) → Contains of_draw code → (code ≡ 4 → HasRisen faults.reads faults.reads_now) → (code ≡ 5 → HasRisen faults.sends faults.sends_now) → (Contains (0 ∷ 3 ∷ 4 ∷ 5 ∷ []) code → place ≡ 0) → (code ≡ 0 → IfSome left (λ input. DrawsAll None input before now)) → (code ≡ 0 → IfSome left (λ input. length input ≤ 2 ^ 32)) → (code ≡ 0 → IfSome left (λ input. DrawsReplies input before now)) → (code ≡ 5 → IfSome left (λ input. StopsAtFrame None input before now draw_end.SendFault)) → (code ≡ 4 → IfSome left (λ input. IfSome left' (λ bytes. DrawsTaken None input bytes before now))) → (code ≡ 3 → IfSome left (λ input. StopsAtFrame None input before now draw_end.NoMemory)) → (code ≡ 9 → place ≡ 2 ^ 32) → (code ≡ 9 → IfSome left (λ input. DrawsWithin None input before now)) → (code ≡ 8 → IfSome left (λ input. IsBadInput Draw old new input place before now)) → (code ≡ 10 → IfSome left (λ input. Lacks Draw old input place before now)) → (code ≡ 11 → IfSome left (λ input. Misfits Draw old input place before now)) → (code ≡ 15 → IfSome left (λ input. NamesUnopened Draw old input place before now)) → (IfSome left (λ input. IsFrames input → Contains (0 ∷ 3 ∷ 4 ∷ 5 ∷ []) code)) → (IfSome left (λ input. IsOfReplies input → Contains (0 ∷ 3 ∷ 4 ∷ 5 ∷ []) code)) → StaysAlone old new → CommandEnds Draw old new left left' before now faults code place
-draw_ends old new left left' before now faults code place codes read send zeros done within pictures part stopped memory much past bad missing misfit unopened good replied disk = record {
-  codes = draw_codes code codes;
-  own = codes;
-  away = λ over. absurd over;
-  untaken = λ none. absurd none;
-  bars = λ is. absurd (never of_draw code 7 codes refl is);
-  reads = tt;
-  reads_lines = told_any left;
-  syncs = told_any left;
-  unsent = λ is. absurd (never of_draw code 14 codes refl is);
-  read = read;
-  stopped = stopped;
-  send = send;
-  bad = bad;
-  much = λ is. told_both left _ _ (much is) (past is);
-  missing = missing;
-  misfit = misfit;
-  unopened = unopened;
-  memory = memory;
-  within = within;
-  fault = λ is. absurd (never of_draw code 6 codes refl is);
-  faulted = λ is. absurd (never of_draw code 6 codes refl is);
-  damaged = λ is. absurd (never of_draw code 7 codes refl is);
-  undamaged = λ is. absurd (never of_draw code 7 codes refl is);
-  small = λ is. absurd (never of_draw code 12 codes refl is);
-  there = λ is. absurd (never of_draw code 13 codes refl is);
-  refused = λ is. absurd (never of_draw code 14 codes refl is);
-  unnamed = tt;
-  unknown = λ is. absurd (never of_draw code 17 codes refl is);
-  refused_line = λ is. absurd (never of_draw code 16 codes refl is);
-  zero_place = λ zero. zeros (zeros_of_draw code (never of_draw code 6 codes refl) zero);
-  done = done;
-  part = part;
-  nothing = λ some unsent quiet. absurd (quiet tt);
-  pictures = λ is command. pictures is;
-  holds = λ other. told_all left _ (alone_holds old new disk);
-  crash = all_told left before _ (alone_leaves old new disk);
-  disk = disk.kept;
-  made = λ is. tt;
-  complete = good;
-  drawn = λ command. replied;
-  ready = λ command. cc;
-}
-
-pub cover_ends : (every : ℕ) (old new : View) (left left' before now : Option (List ℕ)) (faults : Faults) (code place : ℕ) → Contains of_draw code → (code ≡ 4 → HasRisen faults.reads faults.reads_now) → (code ≡ 5 → HasRisen faults.sends faults.sends_now) → (Contains (0 ∷ 3 ∷ 4 ∷ 5 ∷ []) code → place ≡ 0) → (code ≡ 0 → IfSome left (λ input. DrawsAll (Some every) input before now)) → (code ≡ 0 → IfSome left (λ input. length input ≤ 2 ^ 32)) → (code ≡ 5 → IfSome left (λ input. StopsAtFrame (Some every) input before now draw_end.SendFault)) → (code ≡ 4 → IfSome left (λ input. IfSome left' (λ bytes. DrawsTaken (Some every) input bytes before now))) → (code ≡ 3 → IfSome left (λ input. StopsAtFrame (Some every) input before now draw_end.NoMemory)) → (code ≡ 9 → place ≡ 2 ^ 32) → (code ≡ 9 → IfSome left (λ input. DrawsWithin (Some every) input before now)) → (code ≡ 8 → IfSome left (λ input. IsBadInput (Cover every) old new input place before now)) → (code ≡ 10 → IfSome left (λ input. Lacks (Cover every) old input place before now)) → (code ≡ 11 → IfSome left (λ input. Misfits (Cover every) old input place before now)) → (code ≡ 15 → IfSome left (λ input. NamesUnopened (Cover every) old input place before now)) → (IfSome left (λ input. IsFrames input → Contains (0 ∷ 3 ∷ 4 ∷ 5 ∷ []) code)) → StaysAlone old new → CommandEnds (Cover every) old new left left' before now faults code place
-cover_ends every old new left left' before now faults code place codes read send zeros done within part stopped memory much past bad missing misfit unopened good disk = record {
-  codes = draw_codes code codes;
-  own = codes;
-  away = λ over. absurd over;
-  untaken = λ none. absurd none;
-  bars = λ is. absurd (never of_draw code 7 codes refl is);
-  reads = tt;
-  reads_lines = told_any left;
-  syncs = told_any left;
-  unsent = λ is. absurd (never of_draw code 14 codes refl is);
-  read = read;
-  stopped = stopped;
-  send = send;
-  bad = bad;
-  much = λ is. told_both left _ _ (much is) (past is);
-  missing = missing;
-  misfit = misfit;
-  unopened = unopened;
-  memory = memory;
-  within = within;
-  fault = λ is. absurd (never of_draw code 6 codes refl is);
-  faulted = λ is. absurd (never of_draw code 6 codes refl is);
-  damaged = λ is. absurd (never of_draw code 7 codes refl is);
-  undamaged = λ is. absurd (never of_draw code 7 codes refl is);
-  small = λ is. absurd (never of_draw code 12 codes refl is);
-  there = λ is. absurd (never of_draw code 13 codes refl is);
-  refused = λ is. absurd (never of_draw code 14 codes refl is);
-  unnamed = tt;
-  unknown = λ is. absurd (never of_draw code 17 codes refl is);
-  refused_line = λ is. absurd (never of_draw code 16 codes refl is);
-  zero_place = λ zero. zeros (zeros_of_draw code (never of_draw code 6 codes refl) zero);
-  done = done;
-  part = part;
-  nothing = λ some unsent quiet. absurd (quiet tt);
-  pictures = λ is command. cc;
-  holds = λ other. told_all left _ (alone_holds old new disk);
-  crash = all_told left before _ (alone_leaves old new disk);
-  disk = disk.kept;
-  made = λ is. tt;
-  complete = good;
-  drawn = λ command. cc;
-  ready = λ command. cc;
-}
-
-pub init_ends : (old new : View) (left left' before now : Option (List ℕ)) (faults : Faults) (code place : ℕ) → Contains of_init code → (old.size < 128 → IsTurnedAway left left' before now code) → left' ≡ left → (code ≡ 6 → HasRisen old.faults new.faults) → (code ≡ 12 → IsTooSmall Init old place) → (code ≡ 13 → IsThere Init old place) → (Contains (0 ∷ 3 ∷ 6 ∷ []) code → place ≡ 0) → now ≡ before → LeavesDisk Init old new → (code ≡ 0 → IsMade Init old new) → (IsFree old → (HasRisen old.faults new.faults → ⊥) → (code ≡ 0) ⊎ (code ≡ 3)) → CommandEnds Init old new left left' before now faults code place
-init_ends old new left left' before now faults code place codes away untaken fault small there zeros sent disk made ready = record {
-  codes = init_codes code codes;
-  own = codes;
-  away = λ over. away;
-  untaken = λ none. untaken;
-  bars = λ is. absurd (never of_init code 7 codes refl is);
-  reads = tt;
-  reads_lines = told_any left;
-  syncs = told_any left;
-  unsent = λ is. absurd (never of_init code 14 codes refl is);
-  read = λ is. absurd (never of_init code 4 codes refl is);
-  stopped = λ is. absurd (never of_init code 4 codes refl is);
-  send = λ is. absurd (never of_init code 5 codes refl is);
-  bad = λ is. absurd (never of_init code 8 codes refl is);
-  much = λ is. absurd (never of_init code 9 codes refl is);
-  missing = λ is. absurd (never of_init code 10 codes refl is);
-  misfit = λ is. absurd (never of_init code 11 codes refl is);
-  unopened = λ is. absurd (never of_init code 15 codes refl is);
-  memory = λ is. told_all left _ sent;
-  within = λ is. told_all left _ tt;
-  fault = fault;
-  faulted = λ is. told_all left _ sent;
-  damaged = λ is. absurd (never of_init code 7 codes refl is);
-  undamaged = λ is. absurd (never of_init code 7 codes refl is);
-  small = small;
-  there = there;
-  refused = λ is. absurd (never of_init code 14 codes refl is);
-  unnamed = tt;
-  unknown = λ is. absurd (never of_init code 17 codes refl is);
-  refused_line = λ is. absurd (never of_init code 16 codes refl is);
-  zero_place = λ zero. zeros (zeros_of_init code (never of_init code 4 codes refl) (never of_init code 5 codes refl) zero);
-  done = λ is. told_all left _ sent;
-  part = λ is. absurd (never of_init code 5 codes refl is);
-  nothing = λ some unsent quiet. sent;
-  pictures = λ is command. cc;
-  holds = λ other. told_all left _ (init_holds old new disk);
-  crash = all_told left before _ (init_leaves old new disk);
-  disk = disk;
-  made = made;
-  complete = never_input left _;
-  drawn = λ command. cc;
-  ready = λ command. ready;
 }

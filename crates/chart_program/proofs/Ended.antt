@@ -9,7 +9,7 @@ use Rattle.chart_program.specs.declared.lines_end.LinesEnd.{LinesEnd}
 use Rattle.chart_program.specs.declared.lines_end.LinesEnd.TheVariants as lines_end
 use Rattle.chart_program.specs.declared.run_end.RunEnd.TheVariants as run_end
 use Rattle.store_commands.specs.Codes.{low_code}
-use Rattle.store_commands.specs.declared.status.Status.{Status}
+use Rattle.run_ends.specs.declared.status.Status.{Status}
 use Rattle.chart_program.specs.Ended.{EndsBy, HasNumberedKey, status_by}
 use Rattle.chart_program.specs.Served.{Says, Faults, IsWorldCause, ServesWorld}
 use Rattle.chart_program.proofs.Codes.{told_both}

@@ -13,11 +13,11 @@ use Rattle.chart_world.specs.declared.line_answer.LineFault.{LineFault}
 use Rattle.chart_world.specs.declared.line_answer.LineFault.TheVariants as fault
 use Rattle.draw_command.specs.declared.draw_end.DrawEnd.{DrawEnd}
 use Rattle.draw_command.specs.declared.draw_end.DrawEnd.TheVariants as draw_end
-use Rattle.store_commands.specs.Status.{code_fault}
-use Rattle.chart_program.specs.CommandStatuses.{drawing_status}
+use Rattle.store_commands.specs.Status.{code_fault, end_fault}
+use Rattle.chart_program.specs.CommandStatuses.{drawing_end}
 use Rattle.chart_program.specs.Ended.{status_by}
 use Rattle.chart_program.specs.Faulting.{plot_fault, run_fault}
-use Rattle.chart_program.specs.Plotted.{plotting_status}
+use Rattle.chart_program.specs.Plotted.{plotting_end}
 use Rattle.chart_program.specs.Reads.{end_of}
 use Rattle.chart_program.specs.Runs.{run_answer}
 use Rattle.chart_program.specs.Served.{in_world, served}
@@ -60,7 +60,7 @@ told_run (Err (answers.Reply (Serve serve_end.InputTooLong))) made = refl
 told_run (Err (answers.Reply (Serve serve_end.NoMemory))) made = refl
 told_run (Err (answers.Reply (Show error))) made = refl
 
-pub told_plotted : {T : Type 0} (answer : Result T PlotEnd) → code_fault (plotting_status answer).code ≡ fault_in plot_fault answer
+pub told_plotted : {T : Type 0} (answer : Result T PlotEnd) → end_fault (plotting_end answer) ≡ fault_in plot_fault answer
 told_plotted (Ok done) = refl
 told_plotted (Err SendFault) = refl
 told_plotted (Err (Input input.NoMemory)) = refl
@@ -87,7 +87,7 @@ module _ {W : Type 0} (view : W → View) (reads sends : W → ℕ) (beside_read
   counts_slots input.TooManySlots risen quiet send = none (quiet (λ is. cc)) send
 
   -- pictures that are sent
-  pub counts_drawn : {T : Type 0} (answer : Result T DrawEnd) → (answer ≡ Err draw_end.ReadFault → HasRisen (reads old) (reads new)) → (answer ≡ Err draw_end.SendFault → HasRisen (sends old) (sends new)) → (answer ≢ Err draw_end.ReadFault → reads new ≡ reads old) → (answer ≢ Err draw_end.SendFault → sends new ≡ sends old) → CountsFault (code_fault (drawing_status answer).code) (view old) (view new)
+  pub counts_drawn : {T : Type 0} (answer : Result T DrawEnd) → (answer ≡ Err draw_end.ReadFault → HasRisen (reads old) (reads new)) → (answer ≡ Err draw_end.SendFault → HasRisen (sends old) (sends new)) → (answer ≢ Err draw_end.ReadFault → reads new ≡ reads old) → (answer ≢ Err draw_end.SendFault → sends new ≡ sends old) → CountsFault (end_fault (drawing_end answer)) (view old) (view new)
   counts_drawn (Ok done) read send no_read no_send = none (no_read (λ is. cc)) (no_send (λ is. cc))
   counts_drawn (Err draw_end.ReadFault) read send no_read no_send = counts_untaken view reads sends beside_reads beside_sends old new kept (read refl) (no_send (λ is. cc))
   counts_drawn (Err draw_end.SendFault) read send no_read no_send = counts_unsent view reads sends beside_reads beside_sends old new kept (no_read (λ is. cc)) (send refl)

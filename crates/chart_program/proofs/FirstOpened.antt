@@ -5,7 +5,7 @@ use Rattle.block_disk.specs.View.{View}
 use Rattle.chart_client.specs.declared.errors.ClientError.TheVariants as client
 use Rattle.disk_store.specs.declared.causes.OpeningCause.TheVariants as opening
 use Rattle.chart_service.specs.declared.failure.ServeEnd.TheVariants as serve_end
-use Rattle.store_commands.specs.declared.status.Status.{Status}
+use Rattle.run_ends.specs.declared.status.Status.{Status}
 use Rattle.store_commands.specs.Traffic.{Traffic}
 use Rattle.store_commands.specs.Away.{IsTurnedAway, TurnsAway}
 use Rattle.store_commands.proofs.TurnedAway.{away_by}

@@ -17,12 +17,14 @@ pub mod Lowering
 pub mod LinesServed
 pub mod Words
 pub mod CommandCodes
+pub mod EndsByCode
 pub mod CommandsEnd
 pub mod StoreShown
 pub mod LivesLemmas
 pub mod Knowing
-pub mod Statuses
+pub mod Drawings
 pub mod InitLemmas
+pub mod InitEnds
 pub mod RetainEnds
 pub mod LiveEnds
 pub mod DeriveEnds

@@ -1,134 +1,262 @@
--- The commands that show what a store holds end as their own clauses say.
-use Rattle.std.proofs.Common.{◌≡◌, ℕ, zero, suc, ◌<◌, List, Option, Some, None, IfSome, refl, sym, arith, inl, inr}
+-- The commands that take no input, but `init`, end as their own clauses say.
+use Rattle.std.proofs.Common.{◌≡◌, ◌≢◌, ℕ, zero, suc, ◌<◌, List, [], ◌∷◌, Option, IfSome, refl, ap, arith, inl, inr}
 use Rattle.std.specs.Prelude.{Contains}
 use Rattle.block_disk.specs.View.{View}
+use Rattle.gate_pages.specs.Journal.{page_count}
 use Rattle.series_export.specs.declared.window.Window.{Window}
+use Rattle.run_ends.specs.Statuses.{code_of, place_of}
+use Rattle.run_ends.specs.declared.ending.End.{End}
+use Rattle.run_ends.specs.declared.ending.End.TheVariants.{Done, NoMemory, SendFault, DiskFault, DamagedBlock, DamagedPage}
+use Rattle.run_ends.specs.declared.ending.End.TheVariants.{Missing, BadCoefficient, TooSmall, UnknownSeries}
 use Rattle.store_commands.specs.Away.{IsTurnedAway}
-use Rattle.store_commands.specs.Listed.{ListEnds}
-use Rattle.store_commands.specs.Exported.{ExportEnds}
-use Rattle.program_words.specs.declared.words.Command.TheVariants.{ListSeries, Export}
+use Rattle.store_commands.specs.Books.{HoldsAgain}
+use Rattle.store_commands.specs.Checked.{CheckEnds, IsCheckEnd}
+use Rattle.store_commands.specs.Demonstrated.{DemoEnds, IsDemoEnd}
+use Rattle.store_commands.specs.Exported.{ExportEnds, ExportsPart, IsExportEnd, unnamed_ends}
+use Rattle.store_commands.specs.Listed.{IsListEnd, ListEnds}
+use Rattle.store_commands.specs.Unopened.{IsUnopenedEnd}
+use Rattle.program_words.specs.declared.words.Command.TheVariants.{Check, Demo, Export, ListSeries}
+use Rattle.chart_program.specs.CommandStatuses.{codes_of}
 use Rattle.chart_program.specs.Served.{Faults}
-use Rattle.chart_program.specs.Ran.{CommandEnds, StandsOn, HoldsNamed, of_done}
+use Rattle.chart_program.specs.Ran.{CommandEnds, HoldsNamed, StandsOn, of_done}
 use Rattle.chart_program.proofs.Codes.{told_all}
-use Rattle.chart_program.proofs.Counts.{told_any}
-use Rattle.chart_program.proofs.CommandCodes.{never, zero_of, of_check, check_codes, of_export, export_codes}
 use Rattle.chart_program.proofs.CommandsEnd.{all_told, small_never}
+use Rattle.chart_program.proofs.Counts.{told_any}
+use Rattle.chart_program.proofs.EndsByCode.{Came, by_code}
 
--- with a good input it is done, a stream fails, or there is no memory
-list_completed : (old new : View) (before now : Option (List ℕ)) (faults : Faults) (code place : ℕ) → StandsOn old new → ListEnds old new before now faults.sends faults.sends_now code place → Contains of_check code → Contains of_done code
-list_completed old new before now faults code place r e (zero, inside, is) = (0, omega arith, is)
-list_completed old new before now faults code place r e (suc zero, inside, is) = (1, omega arith, is)
-list_completed old new before now faults code place r e (suc (suc zero), inside, is) = (3, omega arith, is)
-list_completed old new before now faults code place r e (suc (suc (suc zero)), inside, is) = absurd (r.whole (e.fault (sym is)))
-list_completed old new before now faults code place r e (suc (suc (suc (suc zero))), inside, is) = absurd (e.undamaged (sym is) r.total r.book r.holds)
-list_completed old new before now faults code place r e (suc (suc (suc (suc (suc zero)))), inside, is) = absurd (small_never old r.total r.book r.holds (omega (arith, (e.small (sym is)).1)))
-list_completed old new before now faults code place r e (suc (suc (suc (suc (suc (suc k))))), inside, is) = absurd (omega (arith, inside))
+-- with a good input it is done, a stream fails, or there is no memory: so where no store is opened
+unopened_completes : (old new : View) → StandsOn old new → (end : End) → IsUnopenedEnd end old new → Contains of_done (code_of end)
+unopened_completes old new r NoMemory is = (1, omega arith, refl)
+unopened_completes old new r DiskFault is = absurd (r.whole is)
+unopened_completes old new r (DamagedBlock block) is = absurd (is.1 r.total r.book r.holds)
+unopened_completes old new r (TooSmall blocks) is = absurd (small_never old r.total r.book r.holds (omega (arith, is.1)))
+unopened_completes old new r end is = absurd is
 
-list_complete : (old new : View) (left before now : Option (List ℕ)) (faults : Faults) (code place : ℕ) → ListEnds old new before now faults.sends faults.sends_now code place → IfSome left (λ input. StandsOn old new → Contains of_done code)
-list_complete old new None before now faults code place e = tt
-list_complete old new (Some input) before now faults code place e = λ good. list_completed old new before now faults code place good e e.codes
+module _ (old new : View) (left left' before now : Option (List ℕ)) (faults : Faults) where
+  -- ---- `list`
 
-pub list_ends : (old new : View) (left left' before now : Option (List ℕ)) (faults : Faults) (code place : ℕ) → ListEnds old new before now faults.sends faults.sends_now code place → (old.size < 128 → IsTurnedAway left left' before now code) → left' ≡ left → CommandEnds ListSeries old new left left' before now faults code place
-list_ends old new left left' before now faults code place e away untaken = record {
-  codes = check_codes code e.codes;
-  own = e.codes;
-  away = λ over. away;
-  untaken = λ none. untaken;
-  bars = λ is. e.nothing (omega (arith, is)) (omega (arith, is));
-  reads = e.reads;
-  reads_lines = told_any left;
-  syncs = told_any left;
-  unsent = λ is. absurd (never of_check code 14 e.codes refl is);
-  read = λ is. absurd (never of_check code 4 e.codes refl is);
-  stopped = λ is. absurd (never of_check code 4 e.codes refl is);
-  send = e.send;
-  bad = λ is. absurd (never of_check code 8 e.codes refl is);
-  much = λ is. absurd (never of_check code 9 e.codes refl is);
-  missing = λ is. absurd (never of_check code 10 e.codes refl is);
-  misfit = λ is. absurd (never of_check code 11 e.codes refl is);
-  unopened = λ is. absurd (never of_check code 15 e.codes refl is);
-  memory = λ is. told_all left _ (e.nothing (omega (arith, is)) (omega (arith, is)));
-  within = λ is. told_all left _ tt;
-  fault = e.fault;
-  faulted = λ is. told_all left _ (e.nothing (omega (arith, is)) (omega (arith, is)));
-  damaged = e.damaged;
-  undamaged = λ is. told_all left _ (e.undamaged is);
-  small = e.small;
-  there = λ is. absurd (never of_check code 13 e.codes refl is);
-  refused = λ is. absurd (never of_check code 14 e.codes refl is);
-  unnamed = tt;
-  unknown = λ is. absurd (never of_check code 17 e.codes refl is);
-  refused_line = λ is. absurd (never of_check code 16 e.codes refl is);
-  zero_place = λ zero. e.zero_place (zero_of code (never of_check code 4 e.codes refl) zero);
-  done = λ is. told_all left _ (e.done is);
-  part = λ is. told_all left _ (e.part is);
-  nothing = λ some unsent quiet. e.nothing some unsent;
-  pictures = λ is command. cc;
-  holds = λ other. told_all left _ (λ total book held. (book, e.holds total book held));
-  crash = all_told left before _ e.crash;
-  disk = e.goes_on;
-  made = λ is. tt;
-  complete = list_complete old new left before now faults code place e;
-  drawn = λ command. cc;
-  ready = λ command. cc;
-}
+  list_came : (end : End) → IsListEnd end old new before now faults.sends faults.sends_now → Came ListSeries old new left left' before now faults end
+  list_came Done is = (told_all left _ tt, told_all left _ is, tt)
+  list_came NoMemory is = told_all left _ is.1
+  list_came SendFault is = (is.0, told_all left _ is.1)
+  list_came DiskFault is = (is.0, told_all left _ is.1)
+  list_came (DamagedBlock block) is = (is.0.0, told_all left _ is.0.1, is.1)
+  list_came (TooSmall blocks) is = is.0
+  list_came end is = absurd is.0
 
--- with a good input it is done, a stream fails, or there is no memory
-export_completed : (name : List ℕ) (window : Option Window) (old new : View) (before now : Option (List ℕ)) (faults : Faults) (code place : ℕ) → HoldsNamed name old new → ExportEnds name window old new before now faults.sends faults.sends_now code place → Contains of_export code → Contains of_done code
-export_completed name window old new before now faults code place r e (zero, inside, is) = (0, omega arith, is)
-export_completed name window old new before now faults code place r e (suc zero, inside, is) = (1, omega arith, is)
-export_completed name window old new before now faults code place r e (suc (suc zero), inside, is) = (3, omega arith, is)
-export_completed name window old new before now faults code place r e (suc (suc (suc zero)), inside, is) = absurd (r.whole (e.fault (sym is)))
-export_completed name window old new before now faults code place r e (suc (suc (suc (suc zero))), inside, is) = absurd (e.undamaged (sym is) r.total r.book r.holds)
-export_completed name window old new before now faults code place r e (suc (suc (suc (suc (suc zero)))), inside, is) = absurd (small_never old r.total r.book r.holds (omega (arith, (e.small (sym is)).1)))
-export_completed name window old new before now faults code place r e (suc (suc (suc (suc (suc (suc zero))))), inside, is) = absurd ((e.unknown (sym is)).1 r.total r.book r.holds r.series r.named)
-export_completed name window old new before now faults code place r e (suc (suc (suc (suc (suc (suc (suc k)))))), inside, is) = absurd (omega (arith, inside))
+  list_own : (end : End) → IsListEnd end old new before now faults.sends faults.sends_now → Contains (codes_of ListSeries) (code_of end)
+  list_own Done is = (0, omega arith, refl)
+  list_own NoMemory is = (1, omega arith, refl)
+  list_own SendFault is = (2, omega arith, refl)
+  list_own DiskFault is = (3, omega arith, refl)
+  list_own (DamagedBlock block) is = (4, omega arith, refl)
+  list_own (TooSmall blocks) is = (5, omega arith, refl)
+  list_own end is = absurd is.0
 
-export_complete : (name : List ℕ) (window : Option Window) (old new : View) (left before now : Option (List ℕ)) (faults : Faults) (code place : ℕ) → ExportEnds name window old new before now faults.sends faults.sends_now code place → IfSome left (λ input. HoldsNamed name old new → Contains of_done code)
-export_complete name window old new None before now faults code place e = tt
-export_complete name window old new (Some input) before now faults code place e = λ good. export_completed name window old new before now faults code place good e e.codes
+  list_unsent : (end : End) → IsListEnd end old new before now faults.sends faults.sends_now → code_of end ≢ 0 → code_of end ≢ 5 → now ≡ before
+  list_unsent Done is whole part = absurd (whole refl)
+  list_unsent SendFault is whole part = absurd (part refl)
+  list_unsent end is whole part = is.1
 
-pub export_ends : (name : List ℕ) (window : Option Window) (old new : View) (left left' before now : Option (List ℕ)) (faults : Faults) (code place : ℕ) → ExportEnds name window old new before now faults.sends faults.sends_now code place → (old.size < 128 → IsTurnedAway left left' before now code) → left' ≡ left → CommandEnds (Export name window) old new left left' before now faults code place
-export_ends name window old new left left' before now faults code place e away untaken = record {
-  codes = export_codes code e.codes;
-  own = e.codes;
-  away = λ over. away;
-  untaken = λ none. untaken;
-  bars = e.damaged;
-  reads = e.reads;
-  reads_lines = told_any left;
-  syncs = told_any left;
-  unsent = λ is. e.nothing (1, omega arith, sym is);
-  read = λ is. absurd (never of_export code 4 e.codes refl is);
-  stopped = λ is. absurd (never of_export code 4 e.codes refl is);
-  send = e.send;
-  bad = λ is. absurd (never of_export code 8 e.codes refl is);
-  much = λ is. absurd (never of_export code 9 e.codes refl is);
-  missing = λ is. absurd (never of_export code 10 e.codes refl is);
-  misfit = λ is. absurd (never of_export code 11 e.codes refl is);
-  unopened = λ is. absurd (never of_export code 15 e.codes refl is);
-  memory = λ is. told_all left _ e.part;
-  within = λ is. told_all left _ tt;
-  fault = e.fault;
-  faulted = λ is. told_all left _ e.part;
-  damaged = λ is. elim (e.damaged is) [ inl first ↦ inl first.0 | inr bad ↦ inr bad ];
-  undamaged = λ is. told_all left _ (e.undamaged is);
-  small = e.small;
-  there = λ is. absurd (never of_export code 13 e.codes refl is);
-  refused = λ is. told_all left _ (e.unknown is);
-  unnamed = e.unnamed;
-  unknown = λ is. absurd (never of_export code 17 e.codes refl is);
-  refused_line = λ is. absurd (never of_export code 16 e.codes refl is);
-  zero_place = λ zero. e.zero_place (zero_of code (never of_export code 4 e.codes refl) zero);
-  done = λ is. told_all left _ (e.done is);
-  part = λ is. told_all left _ e.part;
-  nothing = λ some unsent quiet. absurd (quiet tt);
-  pictures = λ is command. cc;
-  holds = λ other. told_all left _ (λ total book held. (book, e.holds total book held));
-  crash = all_told left before _ e.crash;
-  disk = e.goes_on;
-  made = λ is. tt;
-  complete = export_complete name window old new left before now faults code place e;
-  drawn = λ command. cc;
-  ready = λ command. cc;
-}
+  list_completes : StandsOn old new → (end : End) → IsListEnd end old new before now faults.sends faults.sends_now → Contains of_done (code_of end)
+  list_completes r Done is = (0, omega arith, refl)
+  list_completes r SendFault is = (3, omega arith, refl)
+  list_completes r end is = unopened_completes old new r end is.0
+
+  pub list_ends : (end : End) → ListEnds old new before now faults.sends faults.sends_now end → (old.size < 128 → IsTurnedAway left left' before now (code_of end)) → left' ≡ left → CommandEnds ListSeries old new left left' before now faults (code_of end) (place_of end)
+  list_ends end e away untaken = by_code ListSeries old new left left' before now faults end (record {
+    came = list_came end e.is;
+    own = list_own end e.is;
+    away = λ over. away;
+    untaken = λ none. untaken;
+    reads = e.reads;
+    reads_lines = told_any left;
+    syncs = told_any left;
+    unnamed = tt;
+    nothing = λ whole part quiet. list_unsent end e.is whole part;
+    pictures = λ is command. cc;
+    holds = λ other. told_all left _ (λ total book held. (book, e.holds total book held));
+    crash = all_told left before _ e.crash;
+    disk = e.goes_on;
+    complete = told_all left _ (λ good. list_completes good end e.is);
+    drawn = λ command. cc;
+    ready = λ command. cc;
+  })
+
+  -- ---- `check`
+
+  check_came : (end : End) → IsCheckEnd end old new before now faults.sends faults.sends_now → Came Check old new left left' before now faults end
+  check_came Done is = (told_all left _ tt, told_all left _ is, tt)
+  check_came NoMemory is = told_all left _ is.1
+  check_came SendFault is = (is.0, told_all left _ is.1)
+  check_came DiskFault is = (is.0, told_all left _ is.1)
+  check_came (DamagedBlock block) is = (inl is.0.0, told_all left _ is.0.1, is.1)
+  check_came (DamagedPage page) is = (inr is.0, told_all left _ is.1, is.2)
+  check_came (TooSmall blocks) is = is.0
+  check_came end is = absurd is.0
+
+  check_own : (end : End) → IsCheckEnd end old new before now faults.sends faults.sends_now → Contains (codes_of Check) (code_of end)
+  check_own Done is = (0, omega arith, refl)
+  check_own NoMemory is = (1, omega arith, refl)
+  check_own SendFault is = (2, omega arith, refl)
+  check_own DiskFault is = (3, omega arith, refl)
+  check_own (DamagedBlock block) is = (4, omega arith, refl)
+  check_own (DamagedPage page) is = (4, omega arith, refl)
+  check_own (TooSmall blocks) is = (5, omega arith, refl)
+  check_own end is = absurd is.0
+
+  check_unsent : (end : End) → IsCheckEnd end old new before now faults.sends faults.sends_now → code_of end ≢ 0 → code_of end ≢ 5 → now ≡ before
+  check_unsent Done is whole part = absurd (whole refl)
+  check_unsent SendFault is whole part = absurd (part refl)
+  check_unsent (DamagedPage page) is whole part = is.2
+  check_unsent end is whole part = is.1
+
+  check_completes : StandsOn old new → (end : End) → IsCheckEnd end old new before now faults.sends faults.sends_now → Contains of_done (code_of end)
+  check_completes r Done is = (0, omega arith, refl)
+  check_completes r SendFault is = (3, omega arith, refl)
+  check_completes r (DamagedPage page) is = absurd (is.1 r.total r.book r.holds)
+  check_completes r end is = unopened_completes old new r end is.0
+
+  pub check_ends : (end : End) → CheckEnds old new before now faults.sends faults.sends_now end → (old.size < 128 → IsTurnedAway left left' before now (code_of end)) → left' ≡ left → CommandEnds Check old new left left' before now faults (code_of end) (place_of end)
+  check_ends end e away untaken = by_code Check old new left left' before now faults end (record {
+    came = check_came end e.is;
+    own = check_own end e.is;
+    away = λ over. away;
+    untaken = λ none. untaken;
+    reads = tt;
+    reads_lines = told_any left;
+    syncs = told_any left;
+    unnamed = tt;
+    nothing = λ whole part quiet. check_unsent end e.is whole part;
+    pictures = λ is command. cc;
+    holds = λ other. told_all left _ (λ total book held. (book, e.holds total book held));
+    crash = all_told left before _ e.crash;
+    disk = e.goes_on;
+    complete = told_all left _ (λ good. check_completes good end e.is);
+    drawn = λ command. cc;
+    ready = λ command. cc;
+  })
+
+  -- ---- `demo`
+
+  module _ (seed rounds : ℕ) where
+    demo_came : (end : End) → IsDemoEnd end seed rounds old new before now faults.sends faults.sends_now → Came (Demo seed rounds) old new left left' before now faults end
+    demo_came Done is = (told_all left _ tt, told_all left _ is, tt)
+    demo_came NoMemory is = told_all left _ is.0
+    demo_came SendFault is = (is.0, told_all left _ is.1)
+    demo_came DiskFault is = (is.0, told_all left _ is.1)
+    demo_came (DamagedBlock block) is = (inl is.0.0, told_all left _ is.0.1, is.1)
+    demo_came (DamagedPage page) is = (inr is.0, told_all left _ is.1, is.2)
+    demo_came (Missing key) is = told_all left _ (is.0, is.1)
+    demo_came (BadCoefficient key) is = told_all left _ (is.0, is.1)
+    demo_came (TooSmall blocks) is = is.0
+    demo_came end is = absurd is.0
+
+    demo_own : (end : End) → IsDemoEnd end seed rounds old new before now faults.sends faults.sends_now → Contains (codes_of (Demo seed rounds)) (code_of end)
+    demo_own Done is = (0, omega arith, refl)
+    demo_own NoMemory is = (1, omega arith, refl)
+    demo_own SendFault is = (2, omega arith, refl)
+    demo_own DiskFault is = (3, omega arith, refl)
+    demo_own (DamagedBlock block) is = (4, omega arith, refl)
+    demo_own (DamagedPage page) is = (4, omega arith, refl)
+    demo_own (Missing key) is = (5, omega arith, refl)
+    demo_own (BadCoefficient key) is = (6, omega arith, refl)
+    demo_own (TooSmall blocks) is = (7, omega arith, refl)
+    demo_own end is = absurd is.0
+
+    demo_unsent : (end : End) → IsDemoEnd end seed rounds old new before now faults.sends faults.sends_now → code_of end ≢ 0 → code_of end ≢ 5 → now ≡ before
+    demo_unsent Done is whole part = absurd (whole refl)
+    demo_unsent SendFault is whole part = absurd (part refl)
+    demo_unsent (DamagedPage page) is whole part = is.2
+    demo_unsent (Missing key) is whole part = is.2
+    demo_unsent (BadCoefficient key) is whole part = is.2
+    demo_unsent end is whole part = is.1
+
+    demo_completes : StandsOn old new → (end : End) → IsDemoEnd end seed rounds old new before now faults.sends faults.sends_now → Contains of_done (code_of end)
+    demo_completes r Done is = (0, omega arith, refl)
+    demo_completes r NoMemory is = (1, omega arith, refl)
+    demo_completes r SendFault is = (3, omega arith, refl)
+    demo_completes r (DamagedPage page) is = absurd (is.1 r.total r.book r.holds)
+    demo_completes r (Missing key) is = absurd (is.0 r.total r.book r.holds)
+    demo_completes r (BadCoefficient key) is = absurd (is.0 r.total r.book r.holds)
+    demo_completes r end is = unopened_completes old new r end is.0
+
+    pub demo_ends : (end : End) → DemoEnds seed rounds old new before now faults.sends faults.sends_now end → (old.size < 128 → IsTurnedAway left left' before now (code_of end)) → left' ≡ left → (end ≢ DiskFault → HoldsAgain (page_count old.size) old new) → CommandEnds (Demo seed rounds) old new left left' before now faults (code_of end) (place_of end)
+    demo_ends end e away untaken holds = by_code (Demo seed rounds) old new left left' before now faults end (record {
+      came = demo_came end e.is;
+      own = demo_own end e.is;
+      away = λ over. away;
+      untaken = λ none. untaken;
+      reads = tt;
+      reads_lines = told_any left;
+      syncs = told_any left;
+      unnamed = tt;
+      nothing = λ whole part quiet. demo_unsent end e.is whole part;
+      pictures = λ is command. cc;
+      holds = λ other. told_all left _ (holds (λ is. other (ap (λ (x : End). code_of x) is)));
+      crash = all_told left before _ e.crash;
+      disk = e.goes_on;
+      complete = told_all left _ (λ good. demo_completes good end e.is);
+      drawn = λ command. cc;
+      ready = λ command. cc;
+    })
+
+  -- ---- `export`
+
+  module _ (name : List ℕ) (window : Option Window) where
+    export_came : (end : End) → IsExportEnd end name window old new before now faults.sends faults.sends_now → ExportsPart name window (page_count old.size) old before now → Came (Export name window) old new left left' before now faults end
+    export_came Done is part = (told_all left _ tt, told_all left _ is, tt)
+    export_came NoMemory is part = told_all left _ part
+    export_came SendFault is part = (is, told_all left _ part)
+    export_came DiskFault is part = (is, told_all left _ part)
+    export_came (DamagedBlock block) is part = (inl is.0.0, told_all left _ is.0.1, inl (is.0.0, is.1))
+    export_came (DamagedPage page) is part = (inr is.0, told_all left _ is.1, inr is.0)
+    export_came (TooSmall blocks) is part = is.0
+    export_came UnknownSeries is part = (is.1, told_all left _ (refl, is.0))
+    export_came end is part = absurd is.0
+
+    export_own : (end : End) → IsExportEnd end name window old new before now faults.sends faults.sends_now → Contains (codes_of (Export name window)) (code_of end)
+    export_own Done is = (0, omega arith, refl)
+    export_own NoMemory is = (1, omega arith, refl)
+    export_own SendFault is = (2, omega arith, refl)
+    export_own DiskFault is = (3, omega arith, refl)
+    export_own (DamagedBlock block) is = (4, omega arith, refl)
+    export_own (DamagedPage page) is = (4, omega arith, refl)
+    export_own (TooSmall blocks) is = (5, omega arith, refl)
+    export_own UnknownSeries is = (6, omega arith, refl)
+    export_own end is = absurd is.0
+
+    unnamed_codes : (end : End) → Contains unnamed_ends end → Contains (3 ∷ 6 ∷ 14 ∷ []) (code_of end)
+    unnamed_codes end (zero, inside, is) = (0, omega arith, ap (λ (x : End). code_of x) is)
+    unnamed_codes end (suc zero, inside, is) = (1, omega arith, ap (λ (x : End). code_of x) is)
+    unnamed_codes end (suc (suc zero), inside, is) = (2, omega arith, ap (λ (x : End). code_of x) is)
+    unnamed_codes end (suc (suc (suc k)), inside, is) = absurd (omega (arith, inside))
+
+    export_completes : HoldsNamed name old new → (end : End) → IsExportEnd end name window old new before now faults.sends faults.sends_now → Contains of_done (code_of end)
+    export_completes r Done is = (0, omega arith, refl)
+    export_completes r NoMemory is = (1, omega arith, refl)
+    export_completes r SendFault is = (3, omega arith, refl)
+    export_completes r DiskFault is = absurd (r.whole is)
+    export_completes r (DamagedPage page) is = absurd (is.1 r.total r.book r.holds)
+    export_completes r UnknownSeries is = absurd (is.0 r.total r.book r.holds r.series r.named)
+    export_completes r end is = unopened_completes old new (record { total = r.total; book = r.book; holds = r.holds; whole = r.whole }) end is.0
+
+    pub export_ends : (end : End) → ExportEnds name window old new before now faults.sends faults.sends_now end → (old.size < 128 → IsTurnedAway left left' before now (code_of end)) → left' ≡ left → CommandEnds (Export name window) old new left left' before now faults (code_of end) (place_of end)
+    export_ends end e away untaken = by_code (Export name window) old new left left' before now faults end (record {
+      came = export_came end e.is e.part;
+      own = export_own end e.is;
+      away = λ over. away;
+      untaken = λ none. untaken;
+      reads = e.reads;
+      reads_lines = told_any left;
+      syncs = told_any left;
+      unnamed = λ total book holds none. unnamed_codes end (e.unnamed total book holds none);
+      nothing = λ whole part quiet. absurd (quiet tt);
+      pictures = λ is command. cc;
+      holds = λ other. told_all left _ (λ total book held. (book, e.holds total book held));
+      crash = all_told left before _ e.crash;
+      disk = e.goes_on;
+      complete = told_all left _ (λ good. export_completes good end e.is);
+      drawn = λ command. cc;
+      ready = λ command. cc;
+    })

@@ -1,13 +1,14 @@
 -- Which statuses each command has, and which commands open a store and take input.
-use Rattle.std.specs.Prelude.{ℕ, ◌≡◌, ◌≤◌, ◌^◌, ◌⊎◌, List, [], ◌∷◌, Option, Result, Ok, Err, ⊤}
+use Rattle.std.specs.Prelude.{ℕ, ◌≡◌, ◌≤◌, ◌⊎◌, List, [], ◌∷◌, Option, Result, Ok, Err, ⊤}
 use Rattle.block_disk.specs.View.{View}
 use Rattle.gate_pages.specs.Journal.{page_count}
 use Rattle.disk_store.specs.Openings.{IsOpeningPlace}
 use Rattle.disk_store.specs.declared.causes.OpeningCause.{OpeningCause}
 use Rattle.program_words.specs.declared.words.Command.{Command}
 use Rattle.program_words.specs.declared.words.Command.TheVariants.{Plot, Load, Demo, Run, Serve, Draw, Init, Check, ListSeries, Export, Retain, Cover, Live, Derive}
-use Rattle.store_commands.specs.declared.status.Status.{Status}
-use Rattle.store_commands.specs.Status.{status}
+use Rattle.run_ends.specs.declared.status.Status.{Status}
+use Rattle.run_ends.specs.declared.ending.End.{End}
+use Rattle.run_ends.specs.declared.ending.End.TheVariants as ends
 use Rattle.chart_frames.specs.Frames.{key_number}
 use Rattle.draw_command.specs.declared.draw_end.DrawEnd.{DrawEnd}
 use Rattle.draw_command.specs.declared.draw_end.DrawEnd.TheVariants as draw_end
@@ -90,14 +91,14 @@ Bars command old new left left' before now place = now ≡ before
 abbrev pub BarsBy : View → View → Status → Command → Option (List ℕ) → Option (List ℕ) → Option (List ℕ) → Option (List ℕ) → Type 0
 BarsBy old new end command left left' before now = Bars command old new left left' before now end.place
 
--- the status of what `draw` and `cover` answer
-abbrev pub drawing_status : {T : Type 0} → Result T DrawEnd → Status
-drawing_status (Ok done) = status 0 0
-drawing_status (Err draw_end.NoMemory) = status 3 0
-drawing_status (Err draw_end.ReadFault) = status 4 0
-drawing_status (Err draw_end.SendFault) = status 5 0
-drawing_status (Err draw_end.InputTooLong) = status 9 (2 ^ 32)
-drawing_status (Err (draw_end.BadFrame at)) = status 8 at
-drawing_status (Err (draw_end.Missing key)) = status 10 (key_number key)
-drawing_status (Err (draw_end.BadCoefficient key)) = status 11 (key_number key)
-drawing_status (Err (draw_end.UnknownSession number)) = status 15 number
+-- how a run ended by what `draw` and `cover` answer
+abbrev pub drawing_end : {T : Type 0} → Result T DrawEnd → End
+drawing_end (Ok done) = ends.Done
+drawing_end (Err draw_end.NoMemory) = ends.NoMemory
+drawing_end (Err draw_end.ReadFault) = ends.ReadFault
+drawing_end (Err draw_end.SendFault) = ends.SendFault
+drawing_end (Err draw_end.InputTooLong) = ends.InputTooLong
+drawing_end (Err (draw_end.BadFrame at)) = ends.BadInput at
+drawing_end (Err (draw_end.Missing key)) = ends.Missing (key_number key)
+drawing_end (Err (draw_end.BadCoefficient key)) = ends.BadCoefficient (key_number key)
+drawing_end (Err (draw_end.UnknownSession number)) = ends.UnknownSession number

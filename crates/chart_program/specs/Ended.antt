@@ -14,8 +14,9 @@ use Rattle.chart_service.specs.declared.failure.ServeEnd.TheVariants as serve_en
 use Rattle.chart_program.specs.declared.lines_end.LinesEnd.{LinesEnd}
 use Rattle.chart_program.specs.declared.lines_end.LinesEnd.TheVariants as lines_end
 use Rattle.chart_program.specs.declared.run_end.RunEnd.TheVariants as run_end
-use Rattle.store_commands.specs.declared.status.Status.{Status}
-use Rattle.store_commands.specs.Status.{status, opening_status}
+use Rattle.run_ends.specs.declared.status.Status.{Status}
+use Rattle.run_ends.specs.Statuses.{status}
+use Rattle.store_commands.specs.Status.{opening_status}
 use Rattle.chart_program.specs.Served.{Says, Faults, AnswersAll, AnswersFront, AnswersTaken, AnswersWithin, AnswersSome, AnswersLines, LeavesBooks, IsRejected, ReadsServing, SyncsServing}
 use Rattle.stored_book.specs.Damage.{IsBadForRequest}
 use Rattle.store_commands.specs.Damaged.{IsDamagedPlace}

@@ -1,5 +1,5 @@
 -- The picture that `plot` sends.
-use Rattle.std.specs.Prelude.{◌≡◌, ℕ, ℤ, pos, ◌≤◌, ◌^◌, max, List, length, take, Option, Result, Ok, Err}
+use Rattle.std.specs.Prelude.{◌≡◌, ℕ, ℤ, pos, ◌≤◌, max, List, length, take, Option, Result, Ok, Err}
 use Rattle.block_disk.specs.Streams.{sent_after}
 use Rattle.chart_grid.specs.declared.axis.Axis.{Axis}
 use Rattle.chart_grid.specs.declared.grid.Grid.{Grid}
@@ -9,8 +9,8 @@ use Rattle.pbm_writer.specs.Picture.{picture}
 use Rattle.plain_chart.specs.declared.value_range.ValueRange.{ValueRange}
 use Rattle.plain_chart.specs.Samples.{kept, values_of, IsRange}
 use Rattle.plain_chart.specs.Chart.{IsChart}
-use Rattle.store_commands.specs.declared.status.Status.{Status}
-use Rattle.store_commands.specs.Status.{status}
+use Rattle.run_ends.specs.declared.ending.End.{End}
+use Rattle.run_ends.specs.declared.ending.End.TheVariants as ends
 use Rattle.chart_program.specs.declared.input.InputEnd.TheVariants as input
 use Rattle.chart_program.specs.declared.plot.PlotEnd.{PlotEnd}
 use Rattle.chart_program.specs.declared.plot.PlotEnd.TheVariants.{Input, SendFault}
@@ -59,12 +59,12 @@ abbrev pub EndsPlot : ℕ → ℕ → List ℕ → Option (List ℕ) → Option 
 EndsPlot w h input left before now (Input end) = Stops input left end
 EndsPlot w h input left before now SendFault = SendsFront w h input before now
 
--- the status of what a plot answers
-abbrev pub plotting_status : {T : Type 0} → Result T PlotEnd → Status
-plotting_status (Ok done) = status 0 0
-plotting_status (Err SendFault) = status 5 0
-plotting_status (Err (Input input.NoMemory)) = status 3 0
-plotting_status (Err (Input input.ReadFault)) = status 4 0
-plotting_status (Err (Input input.InputTooLong)) = status 9 (2 ^ 32)
-plotting_status (Err (Input (input.BadLine at))) = status 8 at
-plotting_status (Err (Input input.TooManySlots)) = status 9 most_slots
+-- how a run ended by what a plot answers
+abbrev pub plotting_end : {T : Type 0} → Result T PlotEnd → End
+plotting_end (Ok done) = ends.Done
+plotting_end (Err SendFault) = ends.SendFault
+plotting_end (Err (Input input.NoMemory)) = ends.NoMemory
+plotting_end (Err (Input input.ReadFault)) = ends.ReadFault
+plotting_end (Err (Input input.InputTooLong)) = ends.InputTooLong
+plotting_end (Err (Input (input.BadLine at))) = ends.BadInput at
+plotting_end (Err (Input input.TooManySlots)) = ends.TooManySlots most_slots

@@ -5,6 +5,8 @@ use Rattle.block_disk.specs.Streams.{sent_after}
 use Rattle.block_disk.specs.View.{Image, View, DiskKept, Honest, Now, Only}
 use Rattle.gate_pages.specs.Journal.{page_count}
 use Rattle.empty_store.specs.Kept.{LeavesOld}
+use Rattle.empty_store.specs.declared.errors.InitCause.{InitCause}
+use Rattle.empty_store.specs.declared.errors.InitCause.TheVariants as init
 use Rattle.empty_store.specs.Stores.{HasStore, IsNewStore, LeavesNew}
 use Rattle.line_raster.specs.Canvas.{Canvas}
 use Rattle.om3_coeff.specs.declared.key.Key.{Key}
@@ -23,7 +25,9 @@ use Rattle.program_words.specs.declared.words.Command.TheVariants.{Plot, Load, D
 use Rattle.draw_command.specs.declared.draw_end.DrawEnd.TheVariants as draw_end
 use Rattle.program_words.specs.CommandLine.{plain_words}
 use Rattle.program_words.specs.Words.{AreCommand, ByCommand, IsEvery, Spells}
-use Rattle.store_commands.specs.declared.status.Status.{Status}
+use Rattle.run_ends.specs.declared.ending.End.{End}
+use Rattle.run_ends.specs.declared.ending.End.TheVariants as ends
+use Rattle.run_ends.specs.declared.status.Status.{Status}
 use Rattle.store_commands.specs.Traffic.{Traffic}
 use Rattle.store_commands.specs.Away.{IsTurnedAway}
 use Rattle.chart_grid.specs.Limits.{IsSide}
@@ -301,6 +305,22 @@ pub record MakesStore (old new : View) : Type 0 where
   pub fresh : Honest old → HasStore (page_count old.size) old.image → ⊥
   pub store : Honest old → IsNewStore (page_count old.size) new.image
   pub rests : Only new.image (Now new)
+
+-- the end where no store was made
+abbrev pub init_end : InitCause → End
+init_end init.NoMemory = ends.NoMemory
+init_end init.DiskFault = ends.DiskFault
+init_end (init.TooSmall blocks) = ends.TooSmall blocks
+init_end init.IsStore = ends.IsStore
+
+-- why `init` ended, and what it made
+abbrev pub IsInitEnd : End → View → View → Type 0
+IsInitEnd ends.Done old new = MakesStore old new
+IsInitEnd ends.NoMemory old new = ⊤
+IsInitEnd ends.DiskFault old new = HasRisen old.faults new.faults
+IsInitEnd (ends.TooSmall blocks) old new = (blocks ≡ old.size) × (old.size < 128)
+IsInitEnd ends.IsStore old new = (128 ≤ old.size) × (Honest old → HasStore (page_count old.size) old.image)
+IsInitEnd end old new = ⊥
 
 -- the command did what it does to the disk
 abbrev pub IsMade : Command → View → View → Type 0

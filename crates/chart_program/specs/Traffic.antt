@@ -5,7 +5,7 @@ use Rattle.block_disk.specs.declared.disk.Disk.{Ghosts}
 use Rattle.gate_pages.specs.Shown as gate
 use Rattle.gate_pages.specs.declared.gate_pages.GatePages.{GatePages}
 use Rattle.store_commands.specs.Traffic.{Traffic}
-use Rattle.store_commands.specs.declared.status.Status.{Status}
+use Rattle.run_ends.specs.declared.status.Status.{Status}
 use Rattle.chart_program.specs.Ended.{EndsBy}
 use Rattle.chart_program.specs.Served.{Says, ServesLines, ServesWorld, faults_of}
 use Rattle.chart_program.specs.declared.lines_end.LinesEnd.{LinesEnd}

@@ -1,17 +1,18 @@
 //! The commands, each with its status.
-ghost use Rattle.std.specs.Prelude.{◌≡◌, ◌⊎◌, [], ◌∷◌, Contains, IfErr};
+ghost use Rattle.std.specs.Prelude.{◌≡◌, ◌⊎◌, IfErr};
 ghost use Rattle.block_disk.specs.Counts.{HasRisen};
 ghost use Rattle.chart_grid.specs.Limits.{IsSide};
 ghost use Rattle.chart_world.specs.Faults.{CountsFault};
 ghost use Rattle.program_words.specs.declared.words.Command.TheVariants.{Plot, Draw, Init, Cover};
-ghost use Rattle.chart_program.specs.Plotted.{plotting_status};
+ghost use Rattle.chart_program.specs.Plotted.{plotting_end};
 ghost use Rattle.draw_command.specs.Draws.{IsNumbered};
 ghost use Rattle.program_words.specs.Words.{IsEvery};
-ghost use Rattle.chart_program.specs.CommandStatuses.{drawing_status};
+ghost use Rattle.chart_program.specs.CommandStatuses.{drawing_end};
 ghost use Rattle.store_commands.specs.Away.{TurnsAway};
-ghost use Rattle.store_commands.specs.Status.{code_fault};
+ghost use Rattle.run_ends.specs.Statuses.{status_of};
+ghost use Rattle.store_commands.specs.Status.{code_fault, end_fault};
 ghost use Rattle.store_commands.specs.Traffic.{traffic};
-ghost use Rattle.chart_program.specs.Ran.{EndsCommand, HasOperands, LeavesDisk, IsFree, IsMade, IsTooSmall, IsThere};
+ghost use Rattle.chart_program.specs.Ran.{EndsCommand, HasOperands, LeavesDisk, IsFree, IsInitEnd, init_end};
 
 use crate::input::{InputEnd, MOST_SLOTS};
 use crate::plot::{PlotEnd, plot};
@@ -31,14 +32,9 @@ use empty_store::{InitCause, make_store};
 use live_command::live;
 use program_words::Command;
 use retain_command::retain;
+use run_ends::{End, Status, status_of};
 use std::alloc::Global;
-use store_commands::status::{
-    BAD_COEFFICIENT, BAD_INPUT, DISK_FAULT, DONE, FIRST_PAGE, IS_STORE, MISSING, MOST_BYTES,
-    NO_MEMORY, READ_FAULT, SEND_FAULT, TOO_MUCH, TOO_SMALL, UNKNOWN_SESSION,
-};
-use store_commands::{
-    Status, check_store, ended, export_values, list_series, load_series, run_demo,
-};
+use store_commands::{check_store, export_values, list_series, load_series, run_demo};
 
 /// Does a command with the world's input, output and disk, and says how that ended.
 pub(crate) fn status_of_command<W: World>(
@@ -56,17 +52,32 @@ pub(crate) fn status_of_command<W: World>(
             (status, world)
         }
         Command::Load { name } => load_series(alloc, &name, world),
-        Command::Demo { seed, count } => run_demo(alloc, seed, count, world),
+        Command::Demo { seed, count } => {
+            let (end, world) = run_demo(alloc, seed, count, world);
+            (status_of(end), world)
+        }
         Command::Run => run_status(alloc, world),
         Command::Serve => serve_status(alloc, world),
         Command::Draw => {
             let status = draw_status(alloc, &mut world);
             (status, world)
         }
-        Command::Init => init_status(alloc, world),
-        Command::Check => check_store(alloc, world),
-        Command::ListSeries => list_series(alloc, world),
-        Command::Export { name, window } => export_values(alloc, &name, window, world),
+        Command::Init => {
+            let (end, world) = init(alloc, world);
+            (status_of(end), world)
+        }
+        Command::Check => {
+            let (end, world) = check_store(alloc, world);
+            (status_of(end), world)
+        }
+        Command::ListSeries => {
+            let (end, world) = list_series(alloc, world);
+            (status_of(end), world)
+        }
+        Command::Export { name, window } => {
+            let (end, world) = export_values(alloc, &name, window, world);
+            (status_of(end), world)
+        }
         Command::Retain => retain(alloc, world),
         Command::Cover { every } => {
             let status = cover_status(alloc, every, &mut world);
@@ -78,31 +89,30 @@ pub(crate) fn status_of_command<W: World>(
 }
 
 /// Makes the disk an empty store, and says how that ended.
-fn init_status<W: World>(alloc: Global, world: W) -> (Status, W)
-    ensures codes { Contains (DONE ∷ NO_MEMORY ∷ DISK_FAULT ∷ TOO_SMALL ∷ IS_STORE ∷ []) result.0.code }
-    ensures away { TurnsAway (W.view world) (traffic W.left W.sent W.read_faults W.send_faults world result.1) result.0 }
+fn init<W: World>(alloc: Global, world: W) -> (End, W)
+    ensures ends { IsInitEnd result.0 (W.view world) (W.view result.1) }
+    ensures away { TurnsAway (W.view world) (traffic W.left W.sent W.read_faults W.send_faults world result.1) (status_of result.0) }
     ensures untaken { W.left result.1 ≡ W.left world }
-    ensures fault { result.0.code ≡ DISK_FAULT → HasRisen (W.view world).faults (W.view result.1).faults }
-    ensures small { result.0.code ≡ TOO_SMALL → IsTooSmall Init (W.view world) result.0.place }
-    ensures there { result.0.code ≡ IS_STORE → IsThere Init (W.view world) result.0.place }
-    ensures place { Contains (DONE ∷ NO_MEMORY ∷ DISK_FAULT ∷ []) result.0.code → result.0.place ≡ 0 }
     ensures sent { W.sent result.1 ≡ W.sent world }
     ensures disk { LeavesDisk Init (W.view world) (W.view result.1) }
-    ensures made { result.0.code ≡ DONE → IsMade Init (W.view world) (W.view result.1) }
-    ensures faults { CountsFault (code_fault result.0.code) (W.view world) (W.view result.1) }
-    ensures ready { IsFree (W.view world) → (HasRisen (W.view world).faults (W.view result.1).faults → ⊥) → (result.0.code ≡ DONE) ⊎ (result.0.code ≡ NO_MEMORY) }
+    ensures faults { CountsFault (end_fault result.0) (W.view world) (W.view result.1) }
+    ensures ready { IsFree (W.view world) → (HasRisen (W.view world).faults (W.view result.1).faults → ⊥) → (result.0 ≡ End.Done) ⊎ (result.0 ≡ End.NoMemory) }
 {
     match make_store(alloc, world) {
-        Ok(world) => (ended(DONE, 0), world),
-        Err(Back { value, cause }) => {
-            let status = match cause {
-                InitCause::NoMemory => ended(NO_MEMORY, 0),
-                InitCause::DiskFault => ended(DISK_FAULT, 0),
-                InitCause::TooSmall(blocks) => ended(TOO_SMALL, u64::from(blocks)),
-                InitCause::IsStore => ended(IS_STORE, FIRST_PAGE),
-            };
-            (status, value)
-        }
+        Ok(world) => (End::Done, world),
+        Err(Back { value, cause }) => (init_end(cause), value),
+    }
+}
+
+/// The end where no store was made.
+fn init_end(cause: InitCause) -> End
+    ensures { result ≡ init_end cause }
+{
+    match cause {
+        InitCause::NoMemory => End::NoMemory,
+        InitCause::DiskFault => End::DiskFault,
+        InitCause::TooSmall(blocks) => End::TooSmall { blocks },
+        InitCause::IsStore => End::IsStore,
     }
 }
 
@@ -114,21 +124,23 @@ fn plot_status<W: World>(alloc: Global, w: u16, h: u16, world: &mut W) -> Status
     ensures faults { CountsFault (code_fault result.code) (W.view world.old) (W.view world.new) }
 {
     let answer = plot(alloc, w, h, world);
-    plotting_status(answer)
+    status_of(plotting_end(answer))
 }
 
-/// The status of what a plot answers.
-fn plotting_status(answer: Result<(), PlotEnd>) -> Status
-    ensures { result ≡ plotting_status answer }
+/// How a run ended by what a plot answers.
+fn plotting_end(answer: Result<(), PlotEnd>) -> End
+    ensures { result ≡ plotting_end answer }
 {
     match answer {
-        Ok(()) => ended(DONE, 0),
-        Err(PlotEnd::SendFault) => ended(SEND_FAULT, 0),
-        Err(PlotEnd::Input(InputEnd::NoMemory)) => ended(NO_MEMORY, 0),
-        Err(PlotEnd::Input(InputEnd::ReadFault)) => ended(READ_FAULT, 0),
-        Err(PlotEnd::Input(InputEnd::InputTooLong)) => ended(TOO_MUCH, MOST_BYTES),
-        Err(PlotEnd::Input(InputEnd::BadLine { at })) => ended(BAD_INPUT, at),
-        Err(PlotEnd::Input(InputEnd::TooManySlots)) => ended(TOO_MUCH, MOST_SLOTS as u64),
+        Ok(()) => End::Done,
+        Err(PlotEnd::SendFault) => End::SendFault,
+        Err(PlotEnd::Input(InputEnd::NoMemory)) => End::NoMemory,
+        Err(PlotEnd::Input(InputEnd::ReadFault)) => End::ReadFault,
+        Err(PlotEnd::Input(InputEnd::InputTooLong)) => End::InputTooLong,
+        Err(PlotEnd::Input(InputEnd::BadLine { at })) => End::BadInput { at },
+        Err(PlotEnd::Input(InputEnd::TooManySlots)) => End::TooManySlots {
+            most: MOST_SLOTS as u64,
+        },
     }
 }
 
@@ -146,7 +158,7 @@ fn draw_status<W: World>(alloc: Global, world: &mut W) -> Status
     replies_are_accepted();
     own_replies_are_accepted();
     let answer = draw(alloc, world);
-    drawing_status(answer)
+    status_of(drawing_end(answer))
 }
 
 /// Sends the pictures of the input's frames, each behind its covers, and says how that ended.
@@ -161,23 +173,23 @@ fn cover_status<W: World>(alloc: Global, every: u32, world: &mut W) -> Status
     more_bytes_mend_nothing();
     covers_narrow_to_the_picture();
     let answer = cover(alloc, every, world);
-    drawing_status(answer)
+    status_of(drawing_end(answer))
 }
 
-/// The status of what a drawing answers.
-fn drawing_status(answer: Result<(), DrawEnd>) -> Status
+/// How a run ended by what a drawing answers.
+fn drawing_end(answer: Result<(), DrawEnd>) -> End
     requires { IfErr answer IsNumbered }
-    ensures { result ≡ drawing_status answer }
+    ensures { result ≡ drawing_end answer }
 {
     match answer {
-        Ok(()) => ended(DONE, 0),
-        Err(DrawEnd::NoMemory) => ended(NO_MEMORY, 0),
-        Err(DrawEnd::ReadFault) => ended(READ_FAULT, 0),
-        Err(DrawEnd::SendFault) => ended(SEND_FAULT, 0),
-        Err(DrawEnd::InputTooLong) => ended(TOO_MUCH, MOST_BYTES),
-        Err(DrawEnd::BadFrame { at }) => ended(BAD_INPUT, at),
-        Err(DrawEnd::Missing { key }) => ended(MISSING, key.number()),
-        Err(DrawEnd::BadCoefficient { key }) => ended(BAD_COEFFICIENT, key.number()),
-        Err(DrawEnd::UnknownSession { session }) => ended(UNKNOWN_SESSION, u64::from(session)),
+        Ok(()) => End::Done,
+        Err(DrawEnd::NoMemory) => End::NoMemory,
+        Err(DrawEnd::ReadFault) => End::ReadFault,
+        Err(DrawEnd::SendFault) => End::SendFault,
+        Err(DrawEnd::InputTooLong) => End::InputTooLong,
+        Err(DrawEnd::BadFrame { at }) => End::BadInput { at },
+        Err(DrawEnd::Missing { key }) => End::Missing { key: key.number() },
+        Err(DrawEnd::BadCoefficient { key }) => End::BadCoefficient { key: key.number() },
+        Err(DrawEnd::UnknownSession { session }) => End::UnknownSession { session },
     }
 }

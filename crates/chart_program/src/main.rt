@@ -28,13 +28,13 @@ use block_disk::FileDisk;
 use chart_world::StdWorld;
 pub use run::run_on;
 pub use run_end::RunEnd;
+pub use run_ends::Status;
+use run_ends::codes;
 use std::alloc::Global;
 use std::fs::OpenOptions;
 use std::process::ExitCode;
 use std::rt::{Env, Files};
 use std::{env, io};
-pub use store_commands::Status;
-use store_commands::status;
 pub use top::chart;
 
 fn main(rt: HostRuntime) -> ExitCode {
@@ -80,8 +80,8 @@ fn all_words(rt: &(impl Env + Alloc<A = Global>)) -> io::Result<Vec<String>> {
 /// The status where the words can't be read: they are no text, or there is no memory.
 fn unread_words(error: io::Error) -> Status {
     let code = match error.kind() {
-        io::ErrorKind::OutOfMemory => status::NO_MEMORY,
-        _ => status::WRONG_WORDS,
+        io::ErrorKind::OutOfMemory => codes::NO_MEMORY,
+        _ => codes::WRONG_WORDS,
     };
     Status { code, place: 0 }
 }
@@ -89,7 +89,7 @@ fn unread_words(error: io::Error) -> Status {
 /// Tells the status on standard error where it isn't 0, and makes it the program's own.
 fn report(rt: &impl Eprint, status: Status) -> ExitCode {
     let Status { code, place } = status;
-    if code != status::DONE {
+    if code != codes::DONE {
         let _ = eprintln!(rt; "chart: status {code} at {place}");
     }
     ExitCode::from(code)

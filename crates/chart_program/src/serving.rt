@@ -3,7 +3,8 @@ ghost use Rattle.chart_client.specs.Accepting.{HasNumber};
 ghost use Rattle.chart_world.specs.Faults.{CountsFault};
 ghost use Rattle.program_words.specs.declared.words.Command.TheVariants.{Run, Serve};
 ghost use Rattle.store_commands.specs.Away.{TurnsAway};
-ghost use Rattle.store_commands.specs.Status.{code_fault, status};
+ghost use Rattle.run_ends.specs.Statuses.{status};
+ghost use Rattle.store_commands.specs.Status.{code_fault};
 ghost use Rattle.store_commands.specs.Traffic.{traffic};
 ghost use Rattle.chart_program.specs.CommandStatuses.{codes_of, IsBarredBy};
 ghost use Rattle.chart_program.specs.Ended.{HasNumberedKey, client_status, serve_end_status, status_by};
@@ -16,12 +17,9 @@ use crate::run_end::RunEnd;
 use block_disk::World;
 use chart_client::ClientError;
 use chart_service::ServeEnd;
+use run_ends::{End, Status, status_of};
 use std::alloc::Global;
-use store_commands::status::{
-    BAD_COEFFICIENT, DAMAGED, DISK_FAULT, DONE, FIRST_PAGE, MISSING, MOST_BYTES, NO_MEMORY,
-    READ_FAULT, SEND_FAULT, TOO_MUCH, UNKNOWN_SESSION,
-};
-use store_commands::{Status, ended, opening_status};
+use store_commands::opening_status;
 
 /// Sends the frames that answer the lines of the input, over the store of the world's disk, and says how
 /// that ended.
@@ -33,7 +31,7 @@ pub(crate) fn serve_status<W: World>(alloc: Global, world: W) -> (Status, W)
     ensures faults { CountsFault (code_fault result.0.code) (W.view world) (W.view result.1) }
 {
     let (answer, world) = serve_world(alloc, world);
-    (status_of(answer), world)
+    (lines_status(answer), world)
 }
 
 /// Sends the texts that answer the lines of the input, each with the picture of what it shows, over the
@@ -46,16 +44,16 @@ pub(crate) fn run_status<W: World>(alloc: Global, world: W) -> (Status, W)
     ensures faults { CountsFault (code_fault result.0.code) (W.view world) (W.view result.1) }
 {
     let (answer, world) = run_world(alloc, world);
-    (status_of(answer), world)
+    (lines_status(answer), world)
 }
 
 /// The status of what a serving command answers.
-fn status_of(answer: Result<(), LinesEnd>) -> Status
+fn lines_status(answer: Result<(), LinesEnd>) -> Status
     requires { IfErr answer HasNumberedKey }
     ensures { result ≡ status_by answer }
 {
     match answer {
-        Ok(()) => ended(DONE, 0),
+        Ok(()) => status_of(End::Done),
         Err(LinesEnd::Opening(cause)) => opening_status(cause),
         Err(LinesEnd::Answering(RunEnd::Serve(end))) => serve_end_status(end),
         Err(LinesEnd::Answering(RunEnd::Show(error))) => client_status(error),
@@ -67,12 +65,12 @@ fn serve_end_status(end: ServeEnd) -> Status
     ensures { result ≡ serve_end_status end }
 {
     match end {
-        ServeEnd::ReadFault => ended(READ_FAULT, 0),
-        ServeEnd::SendFault => ended(SEND_FAULT, 0),
-        ServeEnd::DiskFault => ended(DISK_FAULT, 0),
-        ServeEnd::Damaged { page } => ended(DAMAGED, FIRST_PAGE + u64::from(page)),
-        ServeEnd::InputTooLong => ended(TOO_MUCH, MOST_BYTES),
-        ServeEnd::NoMemory => ended(NO_MEMORY, 0),
+        ServeEnd::ReadFault => status_of(End::ReadFault),
+        ServeEnd::SendFault => status_of(End::SendFault),
+        ServeEnd::DiskFault => status_of(End::DiskFault),
+        ServeEnd::Damaged { page } => status_of(End::DamagedPage { page }),
+        ServeEnd::InputTooLong => status_of(End::InputTooLong),
+        ServeEnd::NoMemory => status_of(End::NoMemory),
     }
 }
 
@@ -82,9 +80,9 @@ fn client_status(error: ClientError) -> Status
     ensures { result ≡ client_status error }
 {
     match error {
-        ClientError::Missing { key } => ended(MISSING, key.number()),
-        ClientError::BadCoefficient { key } => ended(BAD_COEFFICIENT, key.number()),
-        ClientError::UnknownSession { session } => ended(UNKNOWN_SESSION, u64::from(session)),
-        ClientError::NoMemory => ended(NO_MEMORY, 0),
+        ClientError::Missing { key } => status_of(End::Missing { key: key.number() }),
+        ClientError::BadCoefficient { key } => status_of(End::BadCoefficient { key: key.number() }),
+        ClientError::UnknownSession { session } => status_of(End::UnknownSession { session }),
+        ClientError::NoMemory => status_of(End::NoMemory),
     }
 }

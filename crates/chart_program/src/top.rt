@@ -12,19 +12,18 @@ ghost use Rattle.chart_program.specs.Ran.{ForCommand, ForStreams, IsUnread, IsAw
 use crate::commands::status_of_command;
 use block_disk::World;
 use chart_frames::laws::{length_is_told, one_frame_a_spelling, spellings_are_good};
-use derive_command::REFUSED_LINE;
 use drawn_replies::laws::{
     one_session_draws_the_book, own_replies_are_accepted, replies_are_accepted,
     replies_draw_the_book,
 };
 use program_words::{WordsEnd, command_of};
-use retain_command::NO_SERIES;
-use std::alloc::Global;
-use store_commands::status::{
-    BAD_COEFFICIENT, BAD_INPUT, DAMAGED, DISK_FAULT, DONE, IS_STORE, MISSING, NO_MEMORY,
-    READ_FAULT, REFUSED, SEND_FAULT, TOO_MUCH, TOO_SMALL, UNKNOWN_SESSION, WRONG_WORDS,
+use run_ends::codes::{
+    BAD_COEFFICIENT, BAD_INPUT, DAMAGED, DISK_FAULT, DONE, IS_STORE, MISSING, NO_MEMORY, NO_SERIES,
+    READ_FAULT, REFUSED, REFUSED_LINE, SEND_FAULT, TOO_MUCH, TOO_SMALL, UNKNOWN_SESSION,
+    WRONG_WORDS,
 };
-use store_commands::{Status, ended};
+use run_ends::{End, Status, status_of};
+use std::alloc::Global;
 
 /// Does the command of the words, with the world's input and output, and gives the world back.
 ///
@@ -111,8 +110,8 @@ pub fn chart<W: World>(alloc: Global, words: &[String], world: W) -> (Status, W)
     replies_are_accepted();
     own_replies_are_accepted();
     match command_of(alloc, words) {
-        Err(WordsEnd::Wrong { place }) => (ended(WRONG_WORDS, place), world),
-        Err(WordsEnd::NoMemory) => (ended(NO_MEMORY, 0), world),
+        Err(WordsEnd::Wrong { place }) => (status_of(End::WrongWords { word: place }), world),
+        Err(WordsEnd::NoMemory) => (status_of(End::NoMemory), world),
         Ok(command) => status_of_command(alloc, command, world),
     }
 }

@@ -15,7 +15,7 @@ use Rattle.store_commands.proofs.Moments.{opened_goes, opened_since}
 use Rattle.store_commands.specs.Books.{Never}
 use Rattle.store_commands.specs.Codes.{low_code, unopened}
 use Rattle.store_commands.specs.Status.{opening_status}
-use Rattle.store_commands.specs.declared.status.Status.{Status}
+use Rattle.run_ends.specs.declared.status.Status.{Status}
 use Rattle.chart_world.specs.LineLaws.{told_so}
 use Rattle.derive_command.specs.Answers.{number_of}
 use Rattle.derive_command.specs.Derived.{DeriveEnds, DerivesFirst, DerivesToRefused}

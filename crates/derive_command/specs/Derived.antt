@@ -10,7 +10,7 @@ use Rattle.stored_book.specs.Damage.{IsBadForRequest}
 use Rattle.store_commands.specs.Books.{LeavesSame, Never, OfBook}
 use Rattle.store_commands.specs.Damaged.{IsDamagedAtFirst, IsDamagedLater}
 use Rattle.store_commands.specs.Traffic.{Traffic}
-use Rattle.store_commands.specs.declared.status.Status.{Status}
+use Rattle.run_ends.specs.declared.status.Status.{Status}
 use Rattle.derive_command.specs.Answers.{number_of}
 use Rattle.derive_command.specs.Lines.{DrawsAll, DrawsFirst, DrawsPart, DrawsTaken, DrawsToBad, DrawsToRefused, DrawsWithin}
 use Rattle.derive_command.specs.declared.derive_refusal.DeriveRefusal.{DeriveRefusal}

@@ -7,9 +7,9 @@ use Rattle.gate_pages.specs.Pages.{GoesOn}
 use Rattle.stored_book.specs.Damage.{IsBadForRequest}
 use Rattle.store_commands.specs.Books.{LeavesSame, OfBook}
 use Rattle.store_commands.specs.Damaged.{IsDamagedLater}
-use Rattle.store_commands.specs.Status.{status}
+use Rattle.run_ends.specs.Statuses.{status}
 use Rattle.store_commands.specs.Traffic.{Traffic}
-use Rattle.store_commands.specs.declared.status.Status.{Status}
+use Rattle.run_ends.specs.declared.status.Status.{Status}
 use Rattle.derive_command.specs.Answers.{number_of}
 use Rattle.derive_command.specs.Derived.{DerivesAll}
 use Rattle.derive_command.specs.Lines.{EndsSo}

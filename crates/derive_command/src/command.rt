@@ -1,32 +1,24 @@
 //! The command `derive`: a picture for each line of the input, drawn of the store of a disk.
-ghost use Rattle.std.specs.Prelude.{◌≡◌, ◌+◌, ◌*◌};
+ghost use Rattle.std.specs.Prelude.{◌≡◌};
 ghost use Rattle.chart_world.specs.Faults.{CountsFault, fault_in};
 ghost use Rattle.gate_pages.specs.Shown.{AreSound, count, disk};
 ghost use Rattle.series_store.specs.Shown as shown;
 ghost use Rattle.store_commands.specs.Away.{TurnsAway};
 ghost use Rattle.store_commands.specs.Status.{code_fault};
 ghost use Rattle.store_commands.specs.Traffic.{traffic};
-ghost use Rattle.derive_command.specs.Answers.{number_of};
 ghost use Rattle.derive_command.specs.Derived.{EndsDerive};
 ghost use Rattle.derive_command.specs.Deriving.{DrawnOn, answer_status};
 ghost use Rattle.derive_command.specs.Doing.{derive_fault};
 
 use crate::derive_end::DeriveEnd;
-use crate::derive_refusal::DeriveRefusal;
 use crate::drawing::draw_lines;
 use block_disk::{Back, World};
 use disk_store::{disk_of, open_store};
 use gate_pages::GatePages;
+use run_ends::{End, Status, status_of};
 use series_store::Store;
 use std::alloc::Global;
-use store_commands::status::{
-    BAD_INPUT, DAMAGED, DISK_FAULT, DONE, FIRST_PAGE, MOST_BYTES, NO_MEMORY, READ_FAULT,
-    SEND_FAULT, TOO_MUCH,
-};
-use store_commands::{Status, ended, opening_status};
-
-/// The status where a line is refused. The place is 256 times the offset of the line, and the number of the refusal.
-pub const REFUSED_LINE: u8 = 16;
+use store_commands::opening_status;
 
 /// Sends a raw PBM for each line `NAME NAME A B W H T0 T1 RANGE` of the input: the chart of A times the first series and B
 /// times the second, of the store of the world's disk. It says how that ended.
@@ -55,28 +47,24 @@ fn draw_store<W: World>(alloc: Global, store: Store<GatePages<W>>) -> (Result<()
     (answer, disk_of(store))
 }
 
-/// The place of a line that is refused.
-fn refused_place(at: u32, refusal: DeriveRefusal) -> u64
-    ensures { result ≡ 256 * at + number_of refusal }
-{
-    256 * u64::from(at) + u64::from(refusal.number())
-}
-
 /// The status of what answering the lines answers.
 fn answer_status(answer: Result<(), DeriveEnd>) -> Status
     ensures { result ≡ answer_status answer }
 {
     match answer {
-        Ok(()) => ended(DONE, 0),
-        Err(DeriveEnd::BadLine { at }) => ended(BAD_INPUT, u64::from(at)),
+        Ok(()) => status_of(End::Done),
+        Err(DeriveEnd::BadLine { at }) => status_of(End::BadInput { at: u64::from(at) }),
         Err(DeriveEnd::Refused { at, refusal }) => {
-            ended(REFUSED_LINE, refused_place(at, refusal))
+            status_of(End::RefusedLine {
+                at,
+                refusal: refusal.number(),
+            })
         }
-        Err(DeriveEnd::ReadFault) => ended(READ_FAULT, 0),
-        Err(DeriveEnd::SendFault) => ended(SEND_FAULT, 0),
-        Err(DeriveEnd::InputTooLong) => ended(TOO_MUCH, MOST_BYTES),
-        Err(DeriveEnd::DiskFault) => ended(DISK_FAULT, 0),
-        Err(DeriveEnd::Damaged { page }) => ended(DAMAGED, FIRST_PAGE + u64::from(page)),
-        Err(DeriveEnd::NoMemory) => ended(NO_MEMORY, 0),
+        Err(DeriveEnd::ReadFault) => status_of(End::ReadFault),
+        Err(DeriveEnd::SendFault) => status_of(End::SendFault),
+        Err(DeriveEnd::InputTooLong) => status_of(End::InputTooLong),
+        Err(DeriveEnd::DiskFault) => status_of(End::DiskFault),
+        Err(DeriveEnd::Damaged { page }) => status_of(End::DamagedPage { page }),
+        Err(DeriveEnd::NoMemory) => status_of(End::NoMemory),
     }
 }

@@ -21,7 +21,7 @@ mod request_error;
 mod requests;
 mod tokens;
 
-pub use command::{REFUSED_LINE, derive};
+pub use command::derive;
 pub use derive_end::DeriveEnd;
 pub use derive_refusal::DeriveRefusal;
 pub use drawing::draw_lines;

@@ -13,7 +13,7 @@ use Rattle.stored_book.specs.Standing.{RecoversTo}
 use Rattle.store_commands.specs.Books.{HoldsAgain, Never, OfBook, begun, Holds}
 use Rattle.store_commands.specs.Damaged.{IsDamagedAtFirst, IsDamagedLater}
 use Rattle.store_commands.specs.Traffic.{Traffic}
-use Rattle.store_commands.specs.declared.status.Status.{Status}
+use Rattle.run_ends.specs.declared.status.Status.{Status}
 use Rattle.live_command.specs.Reads.{ReadsLines}
 use Rattle.live_command.specs.Syncs.{SyncsLines}
 use Rattle.live_command.specs.Running.{IsAhead, SendsAll, SendsLines, SendsPart, SendsSome, SendsTaken, SendsWithin}

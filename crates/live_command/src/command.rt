@@ -19,12 +19,10 @@ use disk_store::{disk_of, open_store};
 use gate_pages::GatePages;
 use live_service::ServiceStepper;
 use live_view::Live;
+use run_ends::{End, Status, status_of};
 use series_store::Store;
 use std::alloc::Global;
-use store_commands::status::{
-    DAMAGED, DISK_FAULT, DONE, FIRST_PAGE, MOST_BYTES, NO_MEMORY, READ_FAULT, SEND_FAULT, TOO_MUCH,
-};
-use store_commands::{Status, ended, opening_status};
+use store_commands::opening_status;
 
 /// Sends the frames that answer the lines of the input over the store of the world's disk, and those that are pushed
 /// behind edits to the sessions that follow them, and says how that ended.
@@ -85,12 +83,12 @@ fn answer_status(answer: Result<(), ServeEnd>) -> Status
     ensures { result ≡ answer_status answer }
 {
     match answer {
-        Ok(()) => ended(DONE, 0),
-        Err(ServeEnd::ReadFault) => ended(READ_FAULT, 0),
-        Err(ServeEnd::SendFault) => ended(SEND_FAULT, 0),
-        Err(ServeEnd::DiskFault) => ended(DISK_FAULT, 0),
-        Err(ServeEnd::Damaged { page }) => ended(DAMAGED, FIRST_PAGE + u64::from(page)),
-        Err(ServeEnd::InputTooLong) => ended(TOO_MUCH, MOST_BYTES),
-        Err(ServeEnd::NoMemory) => ended(NO_MEMORY, 0),
+        Ok(()) => status_of(End::Done),
+        Err(ServeEnd::ReadFault) => status_of(End::ReadFault),
+        Err(ServeEnd::SendFault) => status_of(End::SendFault),
+        Err(ServeEnd::DiskFault) => status_of(End::DiskFault),
+        Err(ServeEnd::Damaged { page }) => status_of(End::DamagedPage { page }),
+        Err(ServeEnd::InputTooLong) => status_of(End::InputTooLong),
+        Err(ServeEnd::NoMemory) => status_of(End::NoMemory),
     }
 }

@@ -16,7 +16,7 @@ use Rattle.store_commands.proofs.Moments.{opened_goes, since_opened}
 use Rattle.store_commands.specs.Books.{HoldsAgain, Never}
 use Rattle.store_commands.specs.Codes.{low_code, unopened}
 use Rattle.store_commands.specs.Status.{opening_status}
-use Rattle.store_commands.specs.declared.status.Status.{Status}
+use Rattle.run_ends.specs.declared.status.Status.{Status}
 use Rattle.store_commands.proofs.HoldsAgain.{again_told}
 use Rattle.chart_world.specs.LineLaws.{told_so}
 use Rattle.retain_command.specs.Retained.{LeavesSwept, RetainEnds, RetainsAll, RetainsSome}

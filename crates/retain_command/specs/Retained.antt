@@ -10,7 +10,7 @@ use Rattle.stored_book.specs.Standing.{RecoversTo}
 use Rattle.store_commands.specs.Books.{HoldsAgain, Never, OfBook, Holds}
 use Rattle.store_commands.specs.Damaged.{IsDamagedAtFirst, IsDamagedLater}
 use Rattle.store_commands.specs.Traffic.{Traffic}
-use Rattle.store_commands.specs.declared.status.Status.{Status}
+use Rattle.run_ends.specs.declared.status.Status.{Status}
 use Rattle.retain_command.specs.Sweeping.{IsAhead, SweepsAll, SweepsLines, SweepsPart, SweepsSome, SweepsTaken, SweepsToBad, SweepsToUnknown, SweepsWithin}
 
 -- all lines of the input are rules, they were swept, and their answers were sent

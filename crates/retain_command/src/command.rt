@@ -15,16 +15,10 @@ use crate::sweeping::sweep_lines;
 use block_disk::{Back, World};
 use disk_store::{disk_of, open_store};
 use gate_pages::GatePages;
+use run_ends::{End, Status, status_of};
 use series_store::Store;
 use std::alloc::Global;
-use store_commands::status::{
-    BAD_INPUT, DAMAGED, DISK_FAULT, DONE, FIRST_PAGE, MOST_BYTES, NO_MEMORY, READ_FAULT,
-    SEND_FAULT, TOO_MUCH,
-};
-use store_commands::{Status, ended, opening_status};
-
-/// The status where a line names a series that isn't there. The place is the offset of the line.
-pub const NO_SERIES: u8 = 17;
+use store_commands::opening_status;
 
 /// Sweeps the rule of each line of the input over the store of the world's disk, sends `swept CLEARS USED` for each, and
 /// says how that ended.
@@ -61,14 +55,14 @@ fn answer_status(answer: Result<(), RetainEnd>) -> Status
     ensures { result ≡ answer_status answer }
 {
     match answer {
-        Ok(()) => ended(DONE, 0),
-        Err(RetainEnd::BadLine { at }) => ended(BAD_INPUT, u64::from(at)),
-        Err(RetainEnd::UnknownSeries { at }) => ended(NO_SERIES, u64::from(at)),
-        Err(RetainEnd::ReadFault) => ended(READ_FAULT, 0),
-        Err(RetainEnd::SendFault) => ended(SEND_FAULT, 0),
-        Err(RetainEnd::InputTooLong) => ended(TOO_MUCH, MOST_BYTES),
-        Err(RetainEnd::DiskFault) => ended(DISK_FAULT, 0),
-        Err(RetainEnd::Damaged { page }) => ended(DAMAGED, FIRST_PAGE + u64::from(page)),
-        Err(RetainEnd::NoMemory) => ended(NO_MEMORY, 0),
+        Ok(()) => status_of(End::Done),
+        Err(RetainEnd::BadLine { at }) => status_of(End::BadInput { at: u64::from(at) }),
+        Err(RetainEnd::UnknownSeries { at }) => status_of(End::NoSeries { at }),
+        Err(RetainEnd::ReadFault) => status_of(End::ReadFault),
+        Err(RetainEnd::SendFault) => status_of(End::SendFault),
+        Err(RetainEnd::InputTooLong) => status_of(End::InputTooLong),
+        Err(RetainEnd::DiskFault) => status_of(End::DiskFault),
+        Err(RetainEnd::Damaged { page }) => status_of(End::DamagedPage { page }),
+        Err(RetainEnd::NoMemory) => status_of(End::NoMemory),
     }
 }

@@ -16,7 +16,7 @@ mod rule_error;
 mod rules;
 mod sweeping;
 
-pub use command::{NO_SERIES, retain};
+pub use command::retain;
 pub use retain_end::RetainEnd;
 pub use rule_error::RuleError;
 pub use rules::rule_of;

@@ -21,13 +21,13 @@ use Rattle.stored_book.proofs.CurrentLemmas.{recovers_new, spelled_current}
 use Rattle.tree_walk.specs.Holding.{KeptWalking}
 use Rattle.chart_service.specs.MomentLaws.{since_none}
 use Rattle.store_commands.specs.Books.{OfBook, LeavesSame}
-use Rattle.store_commands.specs.declared.status.Status.{Status}
+use Rattle.run_ends.specs.declared.ending.End.{End}
+use Rattle.run_ends.specs.declared.ending.End.TheVariants.{Done, NoMemory, SendFault}
 use Rattle.store_commands.proofs.Held.{RestsNew, within_held, stands_held, holds_same, holds_sent}
 use Rattle.store_commands.proofs.Moments.{since_worked, since_sent}
 use Rattle.store_commands.specs.Checked.{counts_text, AreWhole, IsBadForCheck}
-use Rattle.store_commands.specs.Checking.{check_status, EndsCheck, ChecksStore}
-use Rattle.store_commands.specs.Sending.{SendsText}
-use Rattle.store_commands.specs.Codes.{status_is}
+use Rattle.store_commands.specs.Checking.{check_end, EndsCheck, ChecksStore}
+use Rattle.store_commands.specs.Sending.{IsSent, SendsText}
 
 -- what may be left of the pages stands for the book
 pub left_stands : (count total : ℕ) (book : List Series) (disk : View) → RestsNew count disk → HoldsBook count total book disk → (pages : Image) → PagesOf count (Now disk) pages → StandsForBook pages total book
@@ -54,56 +54,53 @@ module _ (count count' : ℕ) (sound sound' : Bool) (old mid : View) (kept : Kep
   looked_quiet = sent_same (pages_view count sound old) (pages_view count' sound' mid) (PagesOf count (Now old)) kept.time
 
 -- how the sending of counts ends a check
-counts_sent : (count : ℕ) (old mid new : View) (counts : Counts) (before now : Option (List ℕ)) (sends sends_now : ℕ) (end : Status) → OfBook count old (λ total book. AreCounts total book counts) → AreWhole count old counts → SendsText (counts_text counts) mid new before now sends sends_now end
-    → EndsCheck count old new before now sends sends_now end
-counts_sent count old mid new counts before now sends sends_now end of_book whole s = elim s.codes [
-  | inl all ↦ inl (status_is end 0 0 all s.place, record { counts = counts; of_book = of_book; whole = whole; sent = s.whole all })
-  | inr (inl none) ↦ inr (inr (inl (status_is end 3 0 none s.place, s.none none)))
-  | inr (inr part) ↦ inr (inl (status_is end 5 0 part s.place, (s.send part, record { counts = counts; of_book = of_book; whole = whole; sent = s.part part })))
-]
+counts_sent : (count : ℕ) (old new : View) (counts : Counts) (before now : Option (List ℕ)) (sends sends_now : ℕ) → OfBook count old (λ total book. AreCounts total book counts) → AreWhole count old counts → (end : End) → IsSent end (counts_text counts) before now sends sends_now
+    → EndsCheck end count old new before now sends sends_now
+counts_sent count old new counts before now sends sends_now of_book whole Done is = record { counts = counts; of_book = of_book; whole = whole; sent = is }
+counts_sent count old new counts before now sends sends_now of_book whole NoMemory is = is
+counts_sent count old new counts before now sends sends_now of_book whole SendFault is = (is.0, record { counts = counts; of_book = of_book; whole = whole; sent = is.1 })
+counts_sent count old new counts before now sends sends_now of_book whole end is = absurd is
 
 -- how a store that isn't counted does
 not_counted : (count count' : ℕ) (sound sound' : Bool) (old new : View) (s : Superblock) (before now : Option (List ℕ)) (sends sends_now : ℕ) (error : StoreError) → now ≡ before → (Honest old → Keeps count s (pages_of count old.image 0)) → s.total ≤ count → NamesWithin s.total error
-    → IsCheckCause error (Honest old) s (pages_view count sound old) (pages_view count' sound' new) → OfBook count old (λ total book. IsOutside error) → EndsCheck count old new before now sends sends_now (check_status error)
+    → IsCheckCause error (Honest old) s (pages_view count sound old) (pages_view count' sound' new) → OfBook count old (λ total book. IsOutside error) → EndsCheck (check_end error) count old new before now sends sends_now
 not_counted count count' sound sound' old new s before now sends sends_now (of_store.Refused refusal) same keeps few low is outside = absurd is
 not_counted count count' sound sound' old new s before now sends sends_now of_store.NotAStore same keeps few low is outside = absurd is
-not_counted count count' sound sound' old new s before now sends sends_now of_store.DiskFault same keeps few low is outside = inr (inr (inr (inl (refl, (is, same)))))
-not_counted count count' sound sound' old new s before now sends sends_now (of_store.Damaged page) same keeps few low is outside = inr (inr (inr (inr (record {
-  page = page;
-  end_is = refl;
-  bad = record {
+not_counted count count' sound sound' old new s before now sends sends_now of_store.DiskFault same keeps few low is outside = (is, same)
+not_counted count count' sound sound' old new s before now sends sends_now (of_store.Damaged page) same keeps few low is outside = (
+  record {
     page = page;
     place_is = refl;
     within = omega (arith, low, few);
     bad = λ honest.
         let B : Image → Type 0 = λ image. IsBadForCheck count image page in
         subst B (sym (spelled_current (pages_of count old.image) s (keeps honest).spelled)) (record { numbers = s; keeps = keeps honest; so = (low, is honest) });
-  };
-  none = λ total book holds. elim (outside total book holds) [ inl fault ↦ cc | inr memory ↦ cc ];
-  unsent = same;
-}))))
-not_counted count count' sound sound' old new s before now sends sends_now of_store.NoMemory same keeps few low is outside = inr (inr (inl (refl, same)))
+  },
+  λ total book holds. elim (outside total book holds) [ inl fault ↦ cc | inr memory ↦ cc ],
+  same,
+)
+not_counted count count' sound sound' old new s before now sends sends_now of_store.NoMemory same keeps few low is outside = same
 
 -- A store was read, and then its disk is at rest.
 module _ (count count' : ℕ) (sound sound' : Bool) (old mid : View) (kept : KeptWalking (Honest old) (Honest mid) (pages_view count sound old) (pages_view count' sound' mid)) (goes : GoesOn old mid) (rests : RestsNew count old) (closed : IsClosed mid) where
-  pub checks_not : (s : Superblock) (before now : Option (List ℕ)) (sends sends_now : ℕ) (error : StoreError) (end : Status) → end ≡ check_status error → now ≡ before → (Honest old → Keeps count s (pages_of count old.image 0)) → s.total ≤ count → NamesWithin s.total error
+  pub checks_not : (s : Superblock) (before now : Option (List ℕ)) (sends sends_now : ℕ) (error : StoreError) (end : End) → end ≡ check_end error → now ≡ before → (Honest old → Keeps count s (pages_of count old.image 0)) → s.total ≤ count → NamesWithin s.total error
       → IsCheckCause error (Honest old) s (pages_view count sound old) (pages_view count' sound' mid) → OfBook count old (λ total book. IsOutside error) → ChecksStore count old mid before now sends sends_now end
   checks_not s before now sends sends_now error end end_is same keeps few low cause outside = record {
-    ends =
-        let P : Status → Type 0 = λ e. EndsCheck count old mid before now sends sends_now e in
+    is =
+        let P : End → Type 0 = λ e. EndsCheck e count old mid before now sends sends_now in
         subst P (sym end_is) (not_counted count count' sound sound' old mid s before now sends sends_now error same keeps few low cause outside);
     crash = looked_since count count' sound sound' old mid kept goes rests;
     holds = looked_holds count count' sound sound' old mid kept goes rests closed;
     goes_on = goes;
   }
 
-  pub checks_sent : (new : View) (counts : Counts) (before mid_before now : Option (List ℕ)) (sends mid_sends sends_now : ℕ) (end : Status) → mid_before ≡ before → mid_sends ≡ sends
+  pub checks_sent : (new : View) (counts : Counts) (before mid_before now : Option (List ℕ)) (sends mid_sends sends_now : ℕ) (end : End) → mid_before ≡ before → mid_sends ≡ sends
       → OfBook count old (λ total book. AreCounts total book counts) → AreWhole count old counts → SendsText (counts_text counts) mid new mid_before now mid_sends sends_now end → ChecksStore count old new before now sends sends_now end
   checks_sent new counts before mid_before now sends mid_sends sends_now end same same_sends of_book whole sent = record {
-    ends =
-        let P : Option (List ℕ) → Type 0 = λ b. EndsCheck count old new b now mid_sends sends_now end in
-        let S : ℕ → Type 0 = λ s. EndsCheck count old new before now s sends_now end in
-        subst S same_sends (subst P same (counts_sent count old mid new counts mid_before now mid_sends sends_now end of_book whole sent));
+    is =
+        let P : Option (List ℕ) → Type 0 = λ b. EndsCheck end count old new b now mid_sends sends_now in
+        let S : ℕ → Type 0 = λ s. EndsCheck end count old new before now s sends_now in
+        subst S same_sends (subst P same (counts_sent count old new counts mid_before now mid_sends sends_now of_book whole end sent.is));
     crash = λ total book holds.
         since_sent (λ image bytes. RecoversTo count image total book) old mid new sent.time (looked_quiet count count' sound sound' old mid kept goes rests)
         (λ image bytes left low. (looked_holds count count' sound sound' old mid kept goes rests closed total book holds).images image left)

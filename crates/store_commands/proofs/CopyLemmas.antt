@@ -21,7 +21,7 @@ use Rattle.store_commands.specs.Copied.{IsCopied, HoldsRoomFor, EndsFitting, Fit
 use Rattle.store_commands.specs.Exported.{ExportsAll}
 use Rattle.store_commands.specs.Loaded.{LoadsAll, LoadsToBad, LoadsWithin, RefusesSet, EndsLoad}
 use Rattle.store_commands.specs.Traffic.{Traffic}
-use Rattle.store_commands.specs.declared.status.Status.{Status}
+use Rattle.run_ends.specs.declared.status.Status.{Status}
 use Rattle.store_commands.proofs.LoadEnds.{small_never}
 
 pages_so : (count total : ℕ) (P Q : Image → Type 0) (disk : View) → ((image : Image) → P image → Q image) → HoldsPages count total P disk → HoldsPages count total Q disk

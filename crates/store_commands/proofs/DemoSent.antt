@@ -1,6 +1,5 @@
 -- How a demo ends whose requests were all answered, by the sending of its summary.
-use Rattle.std.proofs.Common.{◌≡◌, ℕ, ◌≤◌, ◌⊎◌, List, [], ◌∷◌, Option, Ok, sym, subst, inl, inr, arith}
-use Rattle.std.specs.Prelude.{Contains}
+use Rattle.std.proofs.Common.{◌≡◌, ℕ, ◌≤◌, List, [], Option, Ok, sym, subst}
 use Rattle.std.proofs.lemmas.List.{append-nil}
 use Rattle.block_disk.specs.View.{View, Now, DiskKept, Passes, sent_now}
 use Rattle.gate_pages.specs.GateLaws.{goes_by, goes_then}
@@ -14,11 +13,11 @@ use Rattle.demo_workload.specs.Workload.{workload}
 use Rattle.demo_workload.proofs.Replies.{pictures_answers}
 use Rattle.store_commands.specs.Books.{begun, FromBook}
 use Rattle.store_commands.proofs.Moments.{since_sent}
-use Rattle.store_commands.specs.Demonstrated.{AnswersFirst, DemoEnds, IsAheadDemo, LeavesDemo, SendsSummary, SendsSummaryPart}
+use Rattle.store_commands.specs.Demonstrated.{AnswersFirst, DemoEnds, IsAheadDemo, IsDemoEnd, LeavesDemo, SendsSummary, SendsSummaryPart}
 use Rattle.store_commands.specs.Answering.{Answered}
-use Rattle.store_commands.specs.declared.status.Status.{Status}
-use Rattle.store_commands.specs.Sending.{SendsText}
-use Rattle.store_commands.specs.Codes.{sent_code, unsent}
+use Rattle.run_ends.specs.declared.ending.End.{End}
+use Rattle.run_ends.specs.declared.ending.End.TheVariants as ends
+use Rattle.store_commands.specs.Sending.{IsSent, SendsText}
 use Rattle.store_commands.proofs.Held.{holds_sent}
 
 -- all requests are some first ones
@@ -30,12 +29,6 @@ first_all requests start state summary sums = record {
   frames = sums.frames;
   answered = pictures_answers requests sums.frames sums.pictures start state sums.replied;
 }
-
--- a code is one of those of a demo
-one_code : (code : ℕ) → (code ≡ 0) ⊎ ((code ≡ 3) ⊎ (code ≡ 5)) → Contains (0 ∷ 3 ∷ 5 ∷ 6 ∷ 7 ∷ 10 ∷ 11 ∷ 12 ∷ []) code
-one_code code (inl is) = (0, omega arith, sym is)
-one_code code (inr (inl is)) = (1, omega arith, sym is)
-one_code code (inr (inr is)) = (2, omega arith, sym is)
 
 module _ (requests : List Request) (count : ℕ) (old mid new : View) (summary : Summary) (a : Answered requests count old mid (Ok summary)) (kept : DiskKept mid new) (time : Passes mid new (Now mid) (λ sent. (sent_now mid ≤ sent) × (sent ≤ sent_now new))) where
   -- all requests were answered, and so is this
@@ -61,29 +54,24 @@ module _ (requests : List Request) (count : ℕ) (old mid new : View) (summary :
       (a.crash total book holds)
 
 -- the summary was sent, in part or not at all
-pub sent_ends : (seed rounds : ℕ) (old mid new : View) (before between now : Option (List ℕ)) (sends sends_mid sends_now : ℕ) (end : Status) (summary : Summary) → Answered (workload seed rounds) (page_count old.size) old mid (Ok summary)
-    → between ≡ before → sends_mid ≡ sends → SendsText (summary_line summary) mid new between now sends_mid sends_now end → DemoEnds seed rounds old new before now sends sends_now end.code end.place
+module _ (seed rounds : ℕ) (old mid new : View) (summary : Summary) (a : Answered (workload seed rounds) (page_count old.size) old mid (Ok summary)) (kept : DiskKept mid new) (time : Passes mid new (Now mid) (λ sent. (sent_now mid ≤ sent) × (sent ≤ sent_now new))) where
+  summary_sent : (before now : Option (List ℕ)) (sends sends_now : ℕ) (end : End) → IsSent end (summary_line summary) before now sends sends_now → IsDemoEnd end seed rounds old new before now sends sends_now
+  summary_sent before now sends sends_now ends.Done is =
+      all_done (workload seed rounds) (page_count old.size) old mid new summary a kept time (λ start state. SendsSummary (workload seed rounds) start state before now) (λ start state sums. record { summary = summary; sums = sums; sent = is })
+  summary_sent before now sends sends_now ends.NoMemory is =
+      (all_done (workload seed rounds) (page_count old.size) old mid new summary a kept time (AnswersFirst (workload seed rounds)) (λ start state sums. first_all (workload seed rounds) start state summary sums), is)
+  summary_sent before now sends sends_now ends.SendFault is =
+      (is.0, all_done (workload seed rounds) (page_count old.size) old mid new summary a kept time (λ start state. SendsSummaryPart (workload seed rounds) start state before now) (λ start state sums. record { summary = summary; sums = sums; sent = is.1 }))
+  summary_sent before now sends sends_now end is = absurd is
+
+pub sent_ends : (seed rounds : ℕ) (old mid new : View) (before between now : Option (List ℕ)) (sends sends_mid sends_now : ℕ) (end : End) (summary : Summary) → Answered (workload seed rounds) (page_count old.size) old mid (Ok summary)
+    → between ≡ before → sends_mid ≡ sends → SendsText (summary_line summary) mid new between now sends_mid sends_now end → DemoEnds seed rounds old new before now sends sends_now end
 sent_ends seed rounds old mid new before between now sends sends_mid sends_now end summary a same same_sends s =
-    let requests = workload seed rounds in
-    let count = page_count old.size in
-    let low = (sent_code end.code s.codes).0 in
     let B : Option (List ℕ) → Type 0 = λ b. SendsText (summary_line summary) mid new b now sends_mid sends_now end in
     let S : ℕ → Type 0 = λ n. SendsText (summary_line summary) mid new before now n sends_now end in
     let t = subst S same_sends (subst B same s) in
     record {
-      codes = one_code end.code t.codes;
-      done = λ is. all_done requests count old mid new summary a t.kept t.time (λ start state. SendsSummary requests start state before now) (λ start state sums. record { summary = summary; sums = sums; sent = t.whole is });
-      memory = λ is. all_done requests count old mid new summary a t.kept t.time (AnswersFirst requests) (λ start state sums. first_all requests start state summary sums);
-      send = t.send;
-      part = λ is. all_done requests count old mid new summary a t.kept t.time (λ start state. SendsSummaryPart requests start state before now) (λ start state sums. record { summary = summary; sums = sums; sent = t.part is });
-      fault = λ is. absurd (omega (arith, is, low));
-      damaged = λ is. absurd (omega (arith, is, low));
-      undamaged = λ is. absurd (omega (arith, is, low));
-      missing = λ is. absurd (omega (arith, is, low));
-      misfit = λ is. absurd (omega (arith, is, low));
-      small = λ is. absurd (omega (arith, is, low));
-      nothing = λ whole part. unsent end.code before now t.codes t.none whole part;
-      zero_place = λ is. t.place;
-      crash = all_leave requests count old mid new summary a t.kept t.time;
+      is = summary_sent seed rounds old mid new summary a t.kept t.time before now sends sends_now end t.is;
+      crash = all_leave (workload seed rounds) (page_count old.size) old mid new summary a t.kept t.time;
       goes_on = goes_then old mid new a.goes_on (goes_by mid new (Now mid) (λ sent. (sent_now mid ≤ sent) × (sent ≤ sent_now new)) t.time);
     }

@@ -1,4 +1,4 @@
--- The failed call that an end tells is the one of its status.
+-- The failed call that an end tells is the one of the end of the run.
 use Rattle.std.proofs.Common.{◌≡◌, ◌≢◌, Result, Ok, Err, refl}
 use Rattle.block_disk.specs.View.{View}
 use Rattle.chart_world.specs.Faults.{CountsFault, fault_in}
@@ -17,13 +17,13 @@ use Rattle.demo_workload.specs.Ending.{demo_fault}
 use Rattle.demo_workload.specs.declared.demo_end.DemoEnd.{DemoEnd}
 use Rattle.demo_workload.specs.declared.demo_end.DemoEnd.TheVariants as demo_end
 use Rattle.store_commands.specs.Answering as demo
-use Rattle.store_commands.specs.Checking.{check_status}
-use Rattle.store_commands.specs.Exporting.{export_status}
+use Rattle.store_commands.specs.Checking.{check_end}
+use Rattle.store_commands.specs.Exporting.{export_end}
 use Rattle.store_commands.specs.Storing as loading
-use Rattle.store_commands.specs.Status.{code_fault}
+use Rattle.store_commands.specs.Status.{code_fault, end_fault}
 
 -- a store that wasn't checked
-pub counts_unchecked : (error : StoreError) (told : Type 0) (s : Superblock) (old new : View) → new.beside ≡ old.beside → IsCheckCause error told s old new → (error ≢ store.DiskFault → new.faults ≡ old.faults) → CountsFault (code_fault (check_status error).code) old new
+pub counts_unchecked : (error : StoreError) (told : Type 0) (s : Superblock) (old new : View) → new.beside ≡ old.beside → IsCheckCause error told s old new → (error ≢ store.DiskFault → new.faults ≡ old.faults) → CountsFault (end_fault (check_end error)) old new
 counts_unchecked (store.Refused refusal) told s old new beside cause quiet = absurd cause
 counts_unchecked store.NotAStore told s old new beside cause quiet = absurd cause
 counts_unchecked store.DiskFault told s old new beside cause quiet = counts_disk old new beside cause
@@ -41,14 +41,14 @@ load_fault_is load.DiskFault = refl
 load_fault_is (load.Damaged page) = refl
 load_fault_is load.NoMemory = refl
 
-pub demo_fault_is : (end : DemoEnd) → code_fault (demo.end_status end).code ≡ demo_fault end
+pub demo_fault_is : (end : DemoEnd) → end_fault (demo.demo_end end) ≡ demo_fault end
 demo_fault_is demo_end.DiskFault = refl
 demo_fault_is (demo_end.Damaged page) = refl
 demo_fault_is (demo_end.Missing key) = refl
 demo_fault_is (demo_end.BadCoefficient key) = refl
 demo_fault_is demo_end.NoMemory = refl
 
-pub send_fault_is : (answer : Result (Unit {0}) SendError) → code_fault (export_status answer).code ≡ fault_in send_fault answer
+pub send_fault_is : (answer : Result (Unit {0}) SendError) → end_fault (export_end answer) ≡ fault_in send_fault answer
 send_fault_is (Ok done) = refl
 send_fault_is (Err send.SendFault) = refl
 send_fault_is (Err send.DiskFault) = refl

@@ -1,55 +1,46 @@
--- How a list ends, by its status.
-use Rattle.std.proofs.Common.{◌≡◌, ℕ, ℤ, zero, suc, ◌+◌, ◌<◌, ◌≤◌, ◌⊎◌, List, [], ◌∷◌, ◌++◌, Option, Some, None, Result, Ok, Err, Vec, IfOk, length, refl, sym, ap, subst, arith, inl, inr, ◌∙◌}
-use Rattle.std.specs.Prelude.{Contains, take, slice_get}
+-- How a list ends.
+use Rattle.std.proofs.Common.{◌≡◌, ℕ, ℤ, zero, suc, ◌+◌, ◌<◌, ◌≤◌, List, [], ◌∷◌, ◌++◌, Option, Some, None, Result, Ok, Err, Vec, IfOk, length, refl, sym, ap, subst, arith, ◌∙◌}
+use Rattle.std.specs.Prelude.{take, slice_get}
 use Rattle.std.proofs.lemmas.List.{append_assoc, append-nil, take_all}
 use Rattle.block_disk.specs.View.{View, Now, sent_now}
 use Rattle.gate_pages.specs.GateLaws.{goes_by, goes_then}
 use Rattle.gate_pages.specs.Journal.{page_count}
 use Rattle.reading_lines.specs.Lines.{series_line}
+use Rattle.run_ends.specs.declared.ending.End.{End}
+use Rattle.run_ends.specs.declared.ending.End.TheVariants.{Done, NoMemory, SendFault}
 use Rattle.series_book.specs.Axes.{IsAxisOf}
 use Rattle.series_book.specs.declared.axis.Axis.{Axis}
 use Rattle.series_book.specs.declared.one_series.Series.{Series}
 use Rattle.disk_store.specs.Openings.{Opens}
+use Rattle.disk_store.specs.declared.causes.OpeningCause.{OpeningCause}
+use Rattle.disk_store.specs.declared.causes.OpeningCause.TheVariants as opening
 use Rattle.stored_book.specs.Standing.{RecoversTo}
 use Rattle.store_commands.specs.Books.{OfBook}
-use Rattle.store_commands.specs.Codes.{sent_code, unsent}
-use Rattle.store_commands.specs.Listed.{ListEnds, axis_of, line_of, list_text}
-use Rattle.store_commands.specs.Sending.{SendsText}
-use Rattle.store_commands.specs.declared.status.Status.{Status}
+use Rattle.store_commands.specs.Listed.{IsListEnd, ListEnds, axis_of, line_of, list_text}
+use Rattle.store_commands.specs.Sending.{IsSent, SendsText}
+use Rattle.store_commands.specs.Status.{opening_end}
+use Rattle.store_commands.specs.Unopened.{IsUnopenedEnd}
 use Rattle.store_commands.proofs.Held.{held, holds_sent}
 use Rattle.store_commands.proofs.Moments.{opened_since, opened_goes, opened_quiet, since_sent}
-use Rattle.store_commands.proofs.Unopened.{EndsUnopened, opening_code, of_opening}
-
-codes_of : (code : ℕ) → Contains of_opening code → Contains (0 ∷ 3 ∷ 5 ∷ 6 ∷ 7 ∷ 12 ∷ []) code
-codes_of code (zero, inside, is) = (1, omega arith, is)
-codes_of code (suc zero, inside, is) = (3, omega arith, is)
-codes_of code (suc (suc zero), inside, is) = (4, omega arith, is)
-codes_of code (suc (suc (suc zero)), inside, is) = (5, omega arith, is)
-codes_of code (suc (suc (suc (suc k))), inside, is) = absurd (omega (arith, inside))
+use Rattle.store_commands.proofs.Unopened.{unopened_end}
+use Rattle.store_commands.proofs.WorldLemmas.{IsUnopened}
 
 -- no store was opened
-pub unlisted : (old new : View) (before now : Option (List ℕ)) (sends sends_now code place : ℕ) → EndsUnopened old new before now code place → ListEnds old new before now sends sends_now code place
-unlisted old new before now sends sends_now code place e = record {
-  codes = codes_of code e.codes;
-  done = λ is. absurd ((opening_code code e.codes).0 is);
-  send = λ is. absurd ((opening_code code e.codes).1 is);
-  part = λ is. absurd ((opening_code code e.codes).1 is);
-  fault = e.fault;
-  damaged = e.damaged;
-  undamaged = e.undamaged;
-  small = e.small;
-  nothing = λ some other. e.nothing;
-  zero_place = e.zero_place;
-  crash = e.crash;
-  holds = e.holds;
-  reads = e.reads;
-  goes_on = e.goes_on;
+pub unlisted : (old new : View) (left left' before now : Option (List ℕ)) (sends sends_now : ℕ) (cause : OpeningCause) (end : End) → IsUnopened old new left left' before now cause → end ≡ opening_end cause
+    → ListEnds old new before now sends sends_now end
+unlisted old new left left' before now sends sends_now cause end u same = record {
+  is =
+      let P : End → Type 0 = λ e. IsListEnd e old new before now sends sends_now in
+      subst P (sym same) (by cause (unopened_end old new left left' before now cause u));
+  crash = opened_since old new u.opens;
+  holds = held old new u.opens;
+  reads = u.opens.reads.high;
+  goes_on = opened_goes old new u.opens;
 }
-
-sending_codes : (code : ℕ) → (code ≡ 0) ⊎ ((code ≡ 3) ⊎ (code ≡ 5)) → Contains (0 ∷ 3 ∷ 5 ∷ 6 ∷ 7 ∷ 12 ∷ []) code
-sending_codes code (inl is) = (0, omega arith, sym is)
-sending_codes code (inr (inl is)) = (1, omega arith, sym is)
-sending_codes code (inr (inr is)) = (2, omega arith, sym is)
+  where
+    by : (cause : OpeningCause) → IsUnopenedEnd (opening_end cause) old new × (now ≡ before) → IsListEnd (opening_end cause) old new before now sends sends_now
+    by opening.NoMemory is = is
+    by cause is = is
 
 -- the text that was made, if there was memory
 abbrev pub text_in : {E Z : Type 0} → Result (Vec ℕ Z) E → List ℕ
@@ -60,24 +51,22 @@ pub made_is : {E Z : Type 0} (made : Result (Vec ℕ Z) E) → IfOk made (λ tex
 made_is (Ok text) = refl
 made_is (Err e) = tt
 
+-- what was sent of the lines
+lines_sent : (old new : View) (text : List ℕ) (before now : Option (List ℕ)) (sends sends_now : ℕ) (end : End) → IsSent end text before now sends sends_now → OfBook (page_count old.size) old (λ total book. IsSent end (list_text book) before now sends sends_now)
+    → IsListEnd end old new before now sends sends_now
+lines_sent old new text before now sends sends_now Done is books = books
+lines_sent old new text before now sends sends_now NoMemory is books = (tt, is)
+lines_sent old new text before now sends sends_now SendFault is books = (is.0, λ total book holds. (books total book holds).1)
+lines_sent old new text before now sends sends_now end is books = absurd is
+
 -- a store was opened, and its lines were sent
-pub listed : (old mid new : View) (before mid_before now : Option (List ℕ)) (sends mid_sends sends_now : ℕ) (end : Status) (text : List ℕ) → Opens (page_count old.size) old mid → mid_before ≡ before → mid_sends ≡ sends
-    → SendsText text mid new mid_before now mid_sends sends_now end → OfBook (page_count old.size) old (λ total book. SendsText (list_text book) mid new mid_before now mid_sends sends_now end) → ListEnds old new before now sends sends_now end.code end.place
+pub listed : (old mid new : View) (before mid_before now : Option (List ℕ)) (sends mid_sends sends_now : ℕ) (end : End) (text : List ℕ) → Opens (page_count old.size) old mid → mid_before ≡ before → mid_sends ≡ sends
+    → SendsText text mid new mid_before now mid_sends sends_now end → OfBook (page_count old.size) old (λ total book. SendsText (list_text book) mid new mid_before now mid_sends sends_now end) → ListEnds old new before now sends sends_now end
 listed old mid new before mid_before now sends mid_sends sends_now end text opens same same_sends sent book_sent =
-    let B : Option (List ℕ) → Type 0 = λ b. ListEnds old new b now mid_sends sends_now end.code end.place in
-    let S : ℕ → Type 0 = λ n. ListEnds old new before now n sends_now end.code end.place in
-    let low = (sent_code end.code sent.codes).0 in
-    let all : ListEnds old new mid_before now mid_sends sends_now end.code end.place = record {
-      codes = sending_codes end.code sent.codes;
-      done = λ is total book holds. (book_sent total book holds).whole is;
-      send = sent.send;
-      part = λ is total book holds. (book_sent total book holds).part is;
-      fault = λ is. absurd (omega (arith, is, low));
-      damaged = λ is. absurd (omega (arith, is, low));
-      undamaged = λ is. absurd (omega (arith, is, low));
-      small = λ is. absurd (omega (arith, is, low));
-      nothing = λ some other. unsent end.code mid_before now sent.codes sent.none some other;
-      zero_place = λ is. sent.place;
+    let B : Option (List ℕ) → Type 0 = λ b. ListEnds old new b now mid_sends sends_now end in
+    let S : ℕ → Type 0 = λ n. ListEnds old new before now n sends_now end in
+    let all : ListEnds old new mid_before now mid_sends sends_now end = record {
+      is = lines_sent old new text mid_before now mid_sends sends_now end sent.is (λ total book holds. (book_sent total book holds).is);
       crash = λ total book holds.
           since_sent (λ image count. RecoversTo (page_count old.size) image total book) old mid new sent.time (opened_quiet old mid opens)
           (λ image count left low. (held old mid opens total book holds).images image left)

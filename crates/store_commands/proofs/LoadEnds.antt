@@ -28,11 +28,13 @@ use Rattle.series_load.specs.declared.load_end.LoadEnd.{LoadEnd}
 use Rattle.series_load.specs.declared.load_end.LoadEnd.TheVariants.{UnknownSeries, BadLine, Refused, ReadFault, InputTooLong, DiskFault, Damaged, NoMemory}
 use Rattle.series_load.proofs.Knowing.{some_at_first}
 use Rattle.chart_world.specs.LineLaws.{told_so}
-use Rattle.store_commands.specs.declared.status.Status.{Status}
+use Rattle.run_ends.specs.declared.status.Status.{Status}
 use Rattle.store_commands.specs.Books.{OfBook, IsOn, IsOnBook, HoldsPages}
 use Rattle.store_commands.specs.Status.{opening_status}
 use Rattle.store_commands.specs.Sending.{SendsText}
-use Rattle.store_commands.specs.Codes.{low_code, sent_code, unsent, unopened}
+use Rattle.run_ends.specs.Statuses.{code_of, place_of}
+use Rattle.run_ends.specs.declared.ending.End.{End}
+use Rattle.store_commands.specs.Codes.{low_code, sent_as, sent_code, unsent, unopened}
 use Rattle.store_commands.proofs.Held.{held}
 use Rattle.store_commands.proofs.Moments.{since_opened, since_sent, opened_since, opened_goes, opened_quiet}
 use Rattle.store_commands.specs.Loaded.{OfSeries, Unnamed, LoadEnds, IsAheadLoad, LeavesLoads, RefusesSet, KeepsUnnamed, HoldsSome, LoadsSome, loaded_text}
@@ -542,25 +544,26 @@ sent_ahead name count old mid new (Some input) readings time quiet moments some 
     })
     first
 
-pub sent_ends : (name : List ℕ) (old mid new : View) (left left_mid left' before between now : Option (List ℕ)) (reads reads_mid reads_now sends sends_mid sends_now readings : ℕ) (end : Status) → Stores name (page_count old.size) old mid left left_mid before between reads reads_mid sends sends_mid (Ok readings)
-    → SendsText (loaded_text readings) mid new between now sends_mid sends_now end → LoadEnds name old new left left' before now reads reads_now sends sends_now end.code end.place
+pub sent_ends : (name : List ℕ) (old mid new : View) (left left_mid left' before between now : Option (List ℕ)) (reads reads_mid reads_now sends sends_mid sends_now readings : ℕ) (end : End) → Stores name (page_count old.size) old mid left left_mid before between reads reads_mid sends sends_mid (Ok readings)
+    → SendsText (loaded_text readings) mid new between now sends_mid sends_now end → LoadEnds name old new left left' before now reads reads_now sends sends_now (code_of end) (place_of end)
 sent_ends name old mid new left left_mid left' before between now reads reads_mid reads_now sends sends_mid sends_now readings end s text =
     let count = page_count old.size in
     let B : Option (List ℕ) → Type 0 = λ b. SendsText (loaded_text readings) mid new b now sends_mid sends_now end in
     let C : ℕ → Type 0 = λ n. SendsText (loaded_text readings) mid new before now n sends_now end in
     let t = subst C s.sends_is (subst B s.sent_is text) in
-    let few = sent_code end.code t.codes in
+    let d = sent_as end (loaded_text readings) before now sends sends_now t.is in
+    let few = sent_code (code_of end) d.codes in
     let HELD = λ (input : List ℕ) (all : OfSeries count old name (λ total book series. HoldsPages count total (IsLoaded total name book series input readings) mid)) (total : ℕ) (book : List Series) (holds : HoldsBook count total book old) (series : Series) (named : IsNamed book name series).
     pages_kept count total (IsLoaded total name book series input readings) mid new t.kept t.time (all total book holds series named) in
     record {
-      codes = one_code end.code t.codes;
-      done = λ is. told_so _ _ left (λ input all total book holds series named. (readings, HELD input all total book holds series named, t.whole is)) s.done;
+      codes = one_code (code_of end) d.codes;
+      done = λ is. told_so _ _ left (λ input all total book holds series named. (readings, HELD input all total book holds series named, d.whole is)) s.done;
       within = λ is. s.within;
       memory = λ is. some_told name count old new left (λ total book holds series named. pages_kept count total (IsAfterSome total name book series left) mid new t.kept t.time (s.some (λ same. cc) total book holds series named));
       read = λ is. absurd (few.1 is);
       stopped = λ is. absurd (few.1 is);
-      send = t.send;
-      part = λ is. told_so _ _ left (λ input all total book holds series named. (readings, HELD input all total book holds series named, t.part is)) s.done;
+      send = d.send;
+      part = λ is. told_so _ _ left (λ input all total book holds series named. (readings, HELD input all total book holds series named, d.part is)) s.done;
       fault = λ is. absurd (omega (arith, is, few.0));
       damaged = λ is. absurd (omega (arith, is, few.0));
       undamaged = λ is. absurd (omega (arith, is, few.0));
@@ -571,8 +574,8 @@ sent_ends name old mid new left left_mid left' before between now reads reads_mi
       refused = λ is. absurd (omega (arith, is, few.0));
       unknown = λ is. absurd (omega (arith, is, few.0));
       unnamed = λ total book holds none. let same = s.unnamed total book holds none in cc;
-      nothing = λ whole part. unsent end.code before now t.codes t.none whole part;
-      zero_place = λ is. t.place;
+      nothing = λ whole part. unsent (code_of end) before now d.codes d.none whole part;
+      zero_place = λ is. d.place_is;
       crash = sent_ahead name count old mid new left readings t.time s.quiet s.moments (s.some (λ same. cc)) s.done;
       goes_on = goes_then old mid new s.goes_on (goes_by mid new (Now mid) (λ sent. (sent_now mid ≤ sent) × (sent ≤ sent_now new)) t.time);
     }

@@ -4,7 +4,7 @@ use Rattle.block_disk.specs.View.{View}
 use Rattle.disk_store.specs.Openings.{Prevents}
 use Rattle.disk_store.specs.declared.causes.OpeningCause.{OpeningCause}
 use Rattle.disk_store.specs.declared.causes.OpeningCause.TheVariants as opening
-use Rattle.store_commands.specs.declared.status.Status.{Status}
+use Rattle.run_ends.specs.declared.status.Status.{Status}
 use Rattle.store_commands.specs.Status.{opening_status}
 use Rattle.store_commands.specs.Away.{IsTurnedAway}
 

@@ -10,7 +10,7 @@ use Rattle.store_commands.proofs.TurnedAway.{away_so}
 use Rattle.store_commands.specs.Away.{IsTurnedAway}
 use Rattle.store_commands.specs.Books.{OfBook}
 use Rattle.store_commands.specs.Status.{opening_status}
-use Rattle.store_commands.specs.declared.status.Status.{Status}
+use Rattle.run_ends.specs.declared.status.Status.{Status}
 
 -- why no store was opened, and that nothing was taken or sent
 pub record IsUnopened (old new : View) (left left' before now : Option (List ℕ)) (cause : OpeningCause) : Type 0 where

@@ -11,20 +11,20 @@ use Rattle.demo_workload.specs.declared.demo_end.DemoEnd.TheVariants.{DiskFault,
 use Rattle.demo_workload.specs.declared.summaries.Summary.{Summary}
 use Rattle.demo_workload.specs.Ending.{IsOutside, MeetsError}
 use Rattle.demo_workload.specs.Replying.{Summarizes}
-use Rattle.store_commands.specs.declared.status.Status.{Status}
+use Rattle.run_ends.specs.declared.ending.End.{End}
+use Rattle.run_ends.specs.declared.ending.End.TheVariants as ends
 use Rattle.stored_book.specs.Damage.{IsBadForRequest}
 use Rattle.store_commands.specs.Damaged.{IsDamagedLater}
 use Rattle.store_commands.specs.Books.{OfBook, FromBook}
-use Rattle.store_commands.specs.Status.{status}
 use Rattle.store_commands.specs.Demonstrated.{AnswersFirst, LeavesDemo}
 
--- the status of why a workload wasn't answered to its end
-abbrev pub end_status : DemoEnd → Status
-end_status DiskFault = status 6 0
-end_status (Damaged page) = status 7 (66 + page)
-end_status (Missing key) = status 10 (key_number key)
-end_status (BadCoefficient key) = status 11 (key_number key)
-end_status NoMemory = status 3 0
+-- the end where a workload wasn't answered to its end
+abbrev pub demo_end : DemoEnd → End
+demo_end DiskFault = ends.DiskFault
+demo_end (Damaged page) = ends.DamagedPage page
+demo_end (Missing key) = ends.Missing (key_number key)
+demo_end (BadCoefficient key) = ends.BadCoefficient (key_number key)
+demo_end NoMemory = ends.NoMemory
 
 -- a key that the end names has a number
 abbrev pub HasNumberedKey : DemoEnd → Type 0

@@ -1,7 +1,7 @@
 -- A disk with too few blocks for a store turns a command away.
 use Rattle.std.specs.Prelude.{ℕ, ◌≡◌, ◌<◌, List, [], ◌∷◌, Contains, Option}
 use Rattle.block_disk.specs.View.{View}
-use Rattle.store_commands.specs.declared.status.Status.{Status}
+use Rattle.run_ends.specs.declared.status.Status.{Status}
 use Rattle.store_commands.specs.Traffic.{Traffic}
 
 -- The status says that the disk is too small, unless a call of it failed or there was no memory. No input was taken, and

@@ -1,5 +1,5 @@
--- How a check of the disk's store ends, by its status.
-use Rattle.std.specs.Prelude.{◌≡◌, ◌≢◌, ℕ, ◌<◌, ◌⊎◌, List, [], ◌∷◌, ◌++◌, Contains, Option, codes}
+-- How a check of the disk's store ends.
+use Rattle.std.specs.Prelude.{◌≡◌, ℕ, ◌+◌, ◌<◌, ◌⊎◌, List, ◌++◌, Option, codes}
 use Rattle.std.specs.Fmt.{decimal}
 use Rattle.block_disk.specs.Counts.{HasRisen}
 use Rattle.block_disk.specs.Streams.{sent_after}
@@ -14,7 +14,10 @@ use Rattle.series_store.specs.declared.counts.Counts.{Counts}
 use Rattle.disk_store.specs.Held.{HoldsBook}
 use Rattle.stored_book.specs.Damage.{SaysNumbers}
 use Rattle.stored_book.specs.Standing.{AreCatalog, book_pages}
-use Rattle.store_commands.specs.Damaged.{IsDamagedPlace}
+use Rattle.run_ends.specs.declared.ending.End.{End}
+use Rattle.run_ends.specs.declared.ending.End.TheVariants.{Done, SendFault, DamagedPage}
+use Rattle.store_commands.specs.Damaged.{IsDamagedLater}
+use Rattle.store_commands.specs.Unopened.{IsUnopenedEnd}
 use Rattle.store_commands.specs.Books.{OfBook, Never, LeavesSame, SendsPartOf}
 
 -- the three lines of a check
@@ -50,18 +53,17 @@ pub record SendsCountsPart (count : ℕ) (disk : View) (before now : Option (Lis
 abbrev pub IsBadForCheck : ℕ → Image → ℕ → Type 0
 IsBadForCheck count image page = SaysNumbers count image (λ s. (page < s.total) × (HasBadTree image s page ⊎ HasBadLink image s s.chain page))
 
--- What a check sent and left, and why it ended, by the status.
-pub record CheckEnds (old new : View) (before now : Option (List ℕ)) (sends sends_now code place : ℕ) : Type 0 where
-  pub codes : Contains (0 ∷ 3 ∷ 5 ∷ 6 ∷ 7 ∷ 12 ∷ []) code
-  pub done : code ≡ 0 → SendsCounts (page_count old.size) old before now
-  pub send : code ≡ 5 → HasRisen sends sends_now
-  pub part : code ≡ 5 → SendsCountsPart (page_count old.size) old before now
-  pub fault : code ≡ 6 → HasRisen old.faults new.faults
-  pub damaged : code ≡ 7 → IsDamagedPlace IsBadForCheck old old place
-  pub undamaged : code ≡ 7 → Never (page_count old.size) old
-  pub small : code ≡ 12 → (place ≡ old.size) × (old.size < 128)
-  pub nothing : code ≢ 0 → code ≢ 5 → now ≡ before
-  pub zero_place : Contains (0 ∷ 3 ∷ 5 ∷ 6 ∷ []) code → place ≡ 0
+-- what a check sent, and why it ended
+abbrev pub IsCheckEnd : End → View → View → Option (List ℕ) → Option (List ℕ) → ℕ → ℕ → Type 0
+IsCheckEnd Done old new before now sends sends_now = SendsCounts (page_count old.size) old before now
+IsCheckEnd SendFault old new before now sends sends_now = HasRisen sends sends_now × SendsCountsPart (page_count old.size) old before now
+IsCheckEnd (DamagedPage page) old new before now sends sends_now =
+    IsDamagedLater IsBadForCheck (page_count old.size) old (66 + page) × Never (page_count old.size) old × (now ≡ before)
+IsCheckEnd end old new before now sends sends_now = IsUnopenedEnd end old new × (now ≡ before)
+
+-- the same, and what it left
+pub record CheckEnds (old new : View) (before now : Option (List ℕ)) (sends sends_now : ℕ) (end : End) : Type 0 where
+  pub is : IsCheckEnd end old new before now sends sends_now
   pub crash : LeavesSame (page_count old.size) old new
   pub holds : OfBook (page_count old.size) old (λ total book. HoldsBook (page_count old.size) total book new)
   pub goes_on : GoesOn old new

@@ -1,5 +1,5 @@
--- How the workload of a seed ends over the disk's store, by its status.
-use Rattle.std.specs.Prelude.{◌≡◌, ◌≢◌, ℕ, ◌<◌, ◌≤◌, List, [], ◌∷◌, ◌++◌, Contains, Option}
+-- How the workload of a seed ends over the disk's store.
+use Rattle.std.specs.Prelude.{◌≡◌, ℕ, ◌+◌, ◌<◌, ◌≤◌, List, ◌++◌, Option}
 use Rattle.block_disk.specs.Counts.{HasRisen}
 use Rattle.block_disk.specs.Streams.{sent_after}
 use Rattle.block_disk.specs.View.{Image, View, sent_now}
@@ -20,7 +20,10 @@ use Rattle.demo_workload.specs.Ending.{MeetsError}
 use Rattle.demo_workload.specs.Replying.{AnswersEach, Summarizes, IsPartWay}
 use Rattle.demo_workload.specs.Summaries.{summary_line}
 use Rattle.demo_workload.specs.Workload.{workload}
-use Rattle.store_commands.specs.Damaged.{IsDamagedPlace}
+use Rattle.run_ends.specs.declared.ending.End.{End}
+use Rattle.run_ends.specs.declared.ending.End.TheVariants.{Done, NoMemory, SendFault, DamagedPage, Missing, BadCoefficient}
+use Rattle.store_commands.specs.Damaged.{IsDamagedLater}
+use Rattle.store_commands.specs.Unopened.{IsUnopenedEnd}
 use Rattle.store_commands.specs.Books.{OfBook, FromBook, Never, SendsPartOf, begun}
 
 -- all requests were answered, and their summary was sent
@@ -55,20 +58,24 @@ pub record IsAheadDemo (requests : List Request) (count total : ℕ) (start : St
 abbrev pub LeavesDemo : List Request → ℕ → View → View → Type 0
 LeavesDemo requests count old new = OfBook count old (λ total book. Since old new (IsAheadDemo requests count total (begun total book) (sent_now old)))
 
--- What the workload did, sent and left, and why it ended, by the status.
-pub record DemoEnds (seed rounds : ℕ) (old new : View) (before now : Option (List ℕ)) (sends sends_now code place : ℕ) : Type 0 where
-  pub codes : Contains (0 ∷ 3 ∷ 5 ∷ 6 ∷ 7 ∷ 10 ∷ 11 ∷ 12 ∷ []) code
-  pub done : code ≡ 0 → FromBook (page_count old.size) old new (λ start state. SendsSummary (workload seed rounds) start state before now)
-  pub memory : code ≡ 3 → FromBook (page_count old.size) old new (AnswersFirst (workload seed rounds))
-  pub send : code ≡ 5 → HasRisen sends sends_now
-  pub part : code ≡ 5 → FromBook (page_count old.size) old new (λ start state. SendsSummaryPart (workload seed rounds) start state before now)
-  pub fault : code ≡ 6 → HasRisen old.faults new.faults
-  pub damaged : code ≡ 7 → IsDamagedPlace IsBadForRequest old new place
-  pub undamaged : code ≡ 7 → Never (page_count old.size) old
-  pub missing : code ≡ 10 → Never (page_count old.size) old × ((key : Key) × (place ≡ key_number key) × MeetsError (client.Missing key))
-  pub misfit : code ≡ 11 → Never (page_count old.size) old × ((key : Key) × (place ≡ key_number key) × MeetsError (client.BadCoefficient key))
-  pub small : code ≡ 12 → (place ≡ old.size) × (old.size < 128)
-  pub nothing : code ≢ 0 → code ≢ 5 → now ≡ before
-  pub zero_place : Contains (0 ∷ 3 ∷ 5 ∷ 6 ∷ []) code → place ≡ 0
+-- What the workload did and sent, and why it ended.
+abbrev pub IsDemoEnd : End → ℕ → ℕ → View → View → Option (List ℕ) → Option (List ℕ) → ℕ → ℕ → Type 0
+IsDemoEnd Done seed rounds old new before now sends sends_now =
+    FromBook (page_count old.size) old new (λ start state. SendsSummary (workload seed rounds) start state before now)
+IsDemoEnd NoMemory seed rounds old new before now sends sends_now =
+    FromBook (page_count old.size) old new (AnswersFirst (workload seed rounds)) × (now ≡ before)
+IsDemoEnd SendFault seed rounds old new before now sends sends_now =
+    HasRisen sends sends_now × FromBook (page_count old.size) old new (λ start state. SendsSummaryPart (workload seed rounds) start state before now)
+IsDemoEnd (DamagedPage page) seed rounds old new before now sends sends_now =
+    IsDamagedLater IsBadForRequest (page_count old.size) new (66 + page) × Never (page_count old.size) old × (now ≡ before)
+IsDemoEnd (Missing number) seed rounds old new before now sends sends_now =
+    Never (page_count old.size) old × ((key : Key) × (number ≡ key_number key) × MeetsError (client.Missing key)) × (now ≡ before)
+IsDemoEnd (BadCoefficient number) seed rounds old new before now sends sends_now =
+    Never (page_count old.size) old × ((key : Key) × (number ≡ key_number key) × MeetsError (client.BadCoefficient key)) × (now ≡ before)
+IsDemoEnd end seed rounds old new before now sends sends_now = IsUnopenedEnd end old new × (now ≡ before)
+
+-- the same, and what it left
+pub record DemoEnds (seed rounds : ℕ) (old new : View) (before now : Option (List ℕ)) (sends sends_now : ℕ) (end : End) : Type 0 where
+  pub is : IsDemoEnd end seed rounds old new before now sends sends_now
   pub crash : LeavesDemo (workload seed rounds) (page_count old.size) old new
   pub goes_on : GoesOn old new

@@ -1,5 +1,5 @@
--- How an export of a series of the disk's store ends, by its status.
-use Rattle.std.specs.Prelude.{◌≡◌, ℕ, ◌+◌, ◌<◌, ◌≤◌, ◌⊎◌, List, [], ◌∷◌, Contains, Option}
+-- How an export of a series of the disk's store ends.
+use Rattle.std.specs.Prelude.{◌≡◌, ℕ, ◌+◌, ◌<◌, ◌≤◌, ◌⊎◌, List, [], ◌∷◌, Contains, Option, ⊤}
 use Rattle.block_disk.specs.Counts.{HasRisen}
 use Rattle.block_disk.specs.Streams.{sent_after}
 use Rattle.block_disk.specs.View.{Image, View}
@@ -13,7 +13,10 @@ use Rattle.disk_store.specs.Held.{HoldsBook}
 use Rattle.stored_book.specs.Damage.{SaysNumbers}
 use Rattle.store_commands.specs.Books.{OfBook, Never, LeavesSame, SendsPartOf}
 use Rattle.store_commands.specs.Damaged.{IsDamagedAtFirst, IsDamagedLater}
+use Rattle.run_ends.specs.declared.ending.End.{End}
+use Rattle.run_ends.specs.declared.ending.End.TheVariants.{Done, NoMemory, SendFault, DiskFault, DamagedPage, UnknownSeries}
 use Rattle.store_commands.specs.Loaded.{OfSeries, Unnamed}
+use Rattle.store_commands.specs.Unopened.{IsUnopenedEnd}
 
 -- the text of the series of this name was sent, in the window if there is one
 abbrev pub ExportsAll : List ℕ → Option Window → ℕ → View → Option (List ℕ) → Option (List ℕ) → Type 0
@@ -39,20 +42,26 @@ IsBadForExport count image page = SaysNumbers count image (λ s. (page < s.total
 abbrev pub IsDamagedForExport : View → Option (List ℕ) → Option (List ℕ) → ℕ → Type 0
 IsDamagedForExport old before now place = (IsDamagedAtFirst old place × (now ≡ before)) ⊎ IsDamagedLater IsBadForExport (page_count old.size) old place
 
--- What an export sent and left, and why it ended, by the status.
-pub record ExportEnds (name : List ℕ) (window : Option Window) (old new : View) (before now : Option (List ℕ)) (sends sends_now code place : ℕ) : Type 0 where
-  pub codes : Contains (0 ∷ 3 ∷ 5 ∷ 6 ∷ 7 ∷ 12 ∷ 14 ∷ []) code
-  pub done : code ≡ 0 → ExportsAll name window (page_count old.size) old before now
-  pub send : code ≡ 5 → HasRisen sends sends_now
+-- where no series has the name, an export tells so unless a call of the disk fails or there is no memory
+abbrev pub unnamed_ends : List End
+unnamed_ends = NoMemory ∷ DiskFault ∷ UnknownSeries ∷ []
+
+-- why an export ended, and what it sent where no series was read
+abbrev pub IsExportEnd : End → List ℕ → Option Window → View → View → Option (List ℕ) → Option (List ℕ) → ℕ → ℕ → Type 0
+IsExportEnd Done name window old new before now sends sends_now = ExportsAll name window (page_count old.size) old before now
+IsExportEnd NoMemory name window old new before now sends sends_now = ⊤
+IsExportEnd SendFault name window old new before now sends sends_now = HasRisen sends sends_now
+IsExportEnd DiskFault name window old new before now sends sends_now = HasRisen old.faults new.faults
+IsExportEnd (DamagedPage page) name window old new before now sends sends_now =
+    IsDamagedLater IsBadForExport (page_count old.size) old (66 + page) × Never (page_count old.size) old
+IsExportEnd UnknownSeries name window old new before now sends sends_now = HasNone (page_count old.size) old name × (now ≡ before)
+IsExportEnd end name window old new before now sends sends_now = IsUnopenedEnd end old new × (now ≡ before)
+
+-- the same, and what an export sent and left
+pub record ExportEnds (name : List ℕ) (window : Option Window) (old new : View) (before now : Option (List ℕ)) (sends sends_now : ℕ) (end : End) : Type 0 where
+  pub is : IsExportEnd end name window old new before now sends sends_now
   pub part : ExportsPart name window (page_count old.size) old before now
-  pub fault : code ≡ 6 → HasRisen old.faults new.faults
-  pub damaged : code ≡ 7 → IsDamagedForExport old before now place
-  pub undamaged : code ≡ 7 → Never (page_count old.size) old
-  pub small : code ≡ 12 → (place ≡ old.size) × (old.size < 128)
-  pub unknown : code ≡ 14 → (place ≡ 8) × HasNone (page_count old.size) old name
-  pub unnamed : Unnamed (page_count old.size) old name (λ total book. Contains (3 ∷ 6 ∷ 14 ∷ []) code)
-  pub nothing : Contains (12 ∷ 14 ∷ []) code → now ≡ before
-  pub zero_place : Contains (0 ∷ 3 ∷ 5 ∷ 6 ∷ []) code → place ≡ 0
+  pub unnamed : Unnamed (page_count old.size) old name (λ total book. Contains unnamed_ends end)
   pub crash : LeavesSame (page_count old.size) old new
   pub holds : OfBook (page_count old.size) old (λ total book. HoldsBook (page_count old.size) total book new)
   pub reads : ReadsSeries name (page_count old.size) old new

@@ -11,7 +11,7 @@ use Rattle.store_commands.specs.Copied.{IsCopied, FitsInto}
 use Rattle.store_commands.specs.Exported.{ExportsAll}
 use Rattle.store_commands.specs.Loaded.{EndsLoad, LoadsAll}
 use Rattle.store_commands.specs.Traffic.{Traffic}
-use Rattle.store_commands.specs.declared.status.Status.{Status}
+use Rattle.run_ends.specs.declared.status.Status.{Status}
 
 -- Where all that an export sent was loaded into a new series of the same start, step and scale, that one holds the same.
 abbrev pub CopiesHoldTheSame : View → View → View → Type 0

@@ -7,6 +7,7 @@ pub mod Sides
 pub mod Sending
 pub mod Codes
 pub mod Damaged
+pub mod Unopened
 pub mod Loaded
 pub mod Storing
 pub mod Checked

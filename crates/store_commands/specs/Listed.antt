@@ -1,5 +1,5 @@
--- How a list of the series of the disk's store ends, by its status.
-use Rattle.std.specs.Prelude.{◌≡◌, ◌≢◌, ℕ, ◌+◌, ◌<◌, ◌≤◌, List, [], ◌∷◌, length, flat_map, Contains, Option}
+-- How a list of the series of the disk's store ends.
+use Rattle.std.specs.Prelude.{◌≡◌, ℕ, ◌+◌, ◌≤◌, List, length, flat_map, Option}
 use Rattle.block_disk.specs.Counts.{HasRisen}
 use Rattle.block_disk.specs.Streams.{sent_after}
 use Rattle.block_disk.specs.View.{View}
@@ -9,8 +9,10 @@ use Rattle.reading_lines.specs.Lines.{series_line}
 use Rattle.series_book.specs.declared.axis.Axis.{Axis}
 use Rattle.series_book.specs.declared.one_series.Series.{Series}
 use Rattle.disk_store.specs.Held.{HoldsBook}
-use Rattle.store_commands.specs.Books.{OfBook, Never, LeavesSame, SendsPartOf}
-use Rattle.store_commands.specs.Damaged.{IsDamagedAtFirst}
+use Rattle.store_commands.specs.Books.{OfBook, LeavesSame, SendsPartOf}
+use Rattle.run_ends.specs.declared.ending.End.{End}
+use Rattle.run_ends.specs.declared.ending.End.TheVariants.{Done, SendFault}
+use Rattle.store_commands.specs.Unopened.{IsUnopenedEnd}
 
 -- the axis of a series' slots
 abbrev pub axis_of : Series → Axis
@@ -36,18 +38,15 @@ SendsListPart count disk before now = OfBook count disk (λ total book. SendsPar
 abbrev pub ReadsOpening : View → View → Type 0
 ReadsOpening old new = new.reads ≤ old.reads + 200
 
--- What a list sent and left, and why it ended, by the status.
-pub record ListEnds (old new : View) (before now : Option (List ℕ)) (sends sends_now code place : ℕ) : Type 0 where
-  pub codes : Contains (0 ∷ 3 ∷ 5 ∷ 6 ∷ 7 ∷ 12 ∷ []) code
-  pub done : code ≡ 0 → SendsList (page_count old.size) old before now
-  pub send : code ≡ 5 → HasRisen sends sends_now
-  pub part : code ≡ 5 → SendsListPart (page_count old.size) old before now
-  pub fault : code ≡ 6 → HasRisen old.faults new.faults
-  pub damaged : code ≡ 7 → IsDamagedAtFirst old place
-  pub undamaged : code ≡ 7 → Never (page_count old.size) old
-  pub small : code ≡ 12 → (place ≡ old.size) × (old.size < 128)
-  pub nothing : code ≢ 0 → code ≢ 5 → now ≡ before
-  pub zero_place : Contains (0 ∷ 3 ∷ 5 ∷ 6 ∷ []) code → place ≡ 0
+-- what a list sent, and why it ended
+abbrev pub IsListEnd : End → View → View → Option (List ℕ) → Option (List ℕ) → ℕ → ℕ → Type 0
+IsListEnd Done old new before now sends sends_now = SendsList (page_count old.size) old before now
+IsListEnd SendFault old new before now sends sends_now = HasRisen sends sends_now × SendsListPart (page_count old.size) old before now
+IsListEnd end old new before now sends sends_now = IsUnopenedEnd end old new × (now ≡ before)
+
+-- the same, and what it left
+pub record ListEnds (old new : View) (before now : Option (List ℕ)) (sends sends_now : ℕ) (end : End) : Type 0 where
+  pub is : IsListEnd end old new before now sends sends_now
   pub crash : LeavesSame (page_count old.size) old new
   pub holds : OfBook (page_count old.size) old (λ total book. HoldsBook (page_count old.size) total book new)
   pub reads : ReadsOpening old new

@@ -15,11 +15,11 @@ use Rattle.series_load.specs.Sets.{IsAfterSome}
 use Rattle.series_load.specs.Ends.{IsLoaded, IsAtBad, IsAtRefusal, IsTaken, IsPast}
 use Rattle.series_load.specs.declared.load_end.LoadEnd.{LoadEnd}
 use Rattle.series_load.specs.declared.load_end.LoadEnd.TheVariants.{UnknownSeries, BadLine, Refused, ReadFault, InputTooLong, DiskFault, Damaged, NoMemory}
-use Rattle.store_commands.specs.declared.status.Status.{Status}
+use Rattle.run_ends.specs.declared.status.Status.{Status}
 use Rattle.store_commands.specs.Traffic.{Traffic}
 use Rattle.store_commands.specs.Damaged.{IsDamagedLater}
 use Rattle.store_commands.specs.Books.{OfBook, Never, IsOnBook, HoldsPages}
-use Rattle.store_commands.specs.Status.{status}
+use Rattle.run_ends.specs.Statuses.{status}
 use Rattle.store_commands.specs.Loaded.{OfSeries, Unnamed}
 
 -- the status of why not all of the input was loaded

@@ -7,46 +7,45 @@ ghost use Rattle.series_store.specs.Shown as shown;
 ghost use Rattle.chart_service.specs.Shown as service_shown;
 ghost use Rattle.demo_workload.specs.Ending.{demo_fault};
 ghost use Rattle.demo_workload.specs.Workload.{workload};
-ghost use Rattle.store_commands.specs.Answering.{Answered, HasNumberedKey, end_status};
+ghost use Rattle.store_commands.specs.Answering.{Answered, HasNumberedKey, demo_end};
+ghost use Rattle.run_ends.specs.Statuses.{status_of};
 ghost use Rattle.store_commands.specs.Away.{TurnsAway};
 ghost use Rattle.store_commands.specs.Books.{HoldsAgain};
 ghost use Rattle.store_commands.specs.Demonstrated.{DemoEnds};
-ghost use Rattle.store_commands.specs.Status.{code_fault};
+ghost use Rattle.store_commands.specs.Status.{end_fault};
 ghost use Rattle.store_commands.specs.Traffic.{traffic};
 
+use crate::opening::opening_end;
 use crate::sending::send_text;
-use crate::status::{
-    BAD_COEFFICIENT, DAMAGED, DISK_FAULT, FIRST_PAGE, MISSING, NO_MEMORY, Status, ended,
-    opening_status,
-};
 use block_disk::{Back, World};
 use chart_client::laws::frames_have_one_answer;
 use chart_service::Service;
 use demo_workload::{DemoEnd, Summary, run_workload};
 use disk_store::{disk_of, open_store};
 use gate_pages::GatePages;
+use run_ends::End;
 use series_store::Store;
 use std::alloc::Global;
 
 /// Answers the workload of a seed with so many rounds over the store of the world's disk, draws what is sent
 /// for it, and sends one line: `requests R done D refused F views V sent S black P`.
-pub fn run_demo<W: World>(alloc: Global, seed: u64, rounds: u16, world: W) -> (Status, W)
+pub fn run_demo<W: World>(alloc: Global, seed: u64, rounds: u16, world: W) -> (End, W)
     requires { rounds ≤ 4096 }
-    ensures ends { DemoEnds seed rounds (W.view world) (W.view result.1) (W.sent world) (W.sent result.1) (W.send_faults world) (W.send_faults result.1) result.0.code result.0.place }
-    ensures holds { result.0.code ≢ DISK_FAULT → HoldsAgain (page_count (W.view world).size) (W.view world) (W.view result.1) }
-    ensures away { TurnsAway (W.view world) (traffic W.left W.sent W.read_faults W.send_faults world result.1) result.0 }
+    ensures ends { DemoEnds seed rounds (W.view world) (W.view result.1) (W.sent world) (W.sent result.1) (W.send_faults world) (W.send_faults result.1) result.0 }
+    ensures holds { result.0 ≢ End.DiskFault → HoldsAgain (page_count (W.view world).size) (W.view world) (W.view result.1) }
+    ensures away { TurnsAway (W.view world) (traffic W.left W.sent W.read_faults W.send_faults world result.1) (status_of result.0) }
     ensures untaken { W.left result.1 ≡ W.left world }
-    ensures faults { CountsFault (code_fault result.0.code) (W.view world) (W.view result.1) }
+    ensures faults { CountsFault (end_fault result.0) (W.view world) (W.view result.1) }
 {
     match open_store(alloc, world) {
         Ok(store) => {
             let (answer, world) = answer_store(alloc, seed, rounds, store);
             match answer {
                 Ok(summary) => send_text(summary.line(alloc), world),
-                Err(end) => (end_status(end), world),
+                Err(end) => (demo_end(end), world),
             }
         }
-        Err(Back { value, cause }) => (opening_status(cause), value),
+        Err(Back { value, cause }) => (opening_end(cause), value),
     }
 }
 
@@ -86,16 +85,16 @@ fn answer_all<W: World>(
     (answer, disk_of(service.into_store()))
 }
 
-/// The status of why a workload wasn't answered to its end.
-fn end_status(end: DemoEnd) -> Status
+/// The end where a workload wasn't answered to its end.
+fn demo_end(end: DemoEnd) -> End
     requires { HasNumberedKey end }
-    ensures { result ≡ end_status end }
+    ensures { result ≡ demo_end end }
 {
     match end {
-        DemoEnd::DiskFault => ended(DISK_FAULT, 0),
-        DemoEnd::Damaged { page } => ended(DAMAGED, FIRST_PAGE + u64::from(page)),
-        DemoEnd::Missing { key } => ended(MISSING, key.number()),
-        DemoEnd::BadCoefficient { key } => ended(BAD_COEFFICIENT, key.number()),
-        DemoEnd::NoMemory => ended(NO_MEMORY, 0),
+        DemoEnd::DiskFault => End::DiskFault,
+        DemoEnd::Damaged { page } => End::DamagedPage { page },
+        DemoEnd::Missing { key } => End::Missing { key: key.number() },
+        DemoEnd::BadCoefficient { key } => End::BadCoefficient { key: key.number() },
+        DemoEnd::NoMemory => End::NoMemory,
     }
 }

@@ -2,34 +2,36 @@
 ghost use Rattle.std.specs.Prelude.{◌≡◌, IfOk};
 ghost use Rattle.chart_world.specs.Faults.{CountsFault};
 ghost use Rattle.series_store.specs.Shown as shown;
+ghost use Rattle.run_ends.specs.Statuses.{status_of};
 ghost use Rattle.store_commands.specs.Away.{TurnsAway};
 ghost use Rattle.store_commands.specs.Listed.{ListEnds, list_text};
-ghost use Rattle.store_commands.specs.Status.{code_fault};
+ghost use Rattle.store_commands.specs.Status.{end_fault};
 ghost use Rattle.store_commands.specs.Traffic.{traffic};
 
+use crate::opening::opening_end;
 use crate::sending::send_text;
-use crate::status::{Status, opening_status};
 use block_disk::{Back, World};
 use disk_store::{disk_of, open_store};
 use gate_pages::Pages;
 use reading_lines::add_series;
+use run_ends::End;
 use series_store::Store;
 use std::alloc::{AllocError, Global};
 
 /// Sends a line for each series in the store of the world's disk, in the order of their creation:
 /// `NAME START STEP SCALE SLOTS`.
-pub fn list_series<W: World>(alloc: Global, world: W) -> (Status, W)
-    ensures ends { ListEnds (W.view world) (W.view result.1) (W.sent world) (W.sent result.1) (W.send_faults world) (W.send_faults result.1) result.0.code result.0.place }
-    ensures away { TurnsAway (W.view world) (traffic W.left W.sent W.read_faults W.send_faults world result.1) result.0 }
+pub fn list_series<W: World>(alloc: Global, world: W) -> (End, W)
+    ensures ends { ListEnds (W.view world) (W.view result.1) (W.sent world) (W.sent result.1) (W.send_faults world) (W.send_faults result.1) result.0 }
+    ensures away { TurnsAway (W.view world) (traffic W.left W.sent W.read_faults W.send_faults world result.1) (status_of result.0) }
     ensures untaken { W.left result.1 ≡ W.left world }
-    ensures faults { CountsFault (code_fault result.0.code) (W.view world) (W.view result.1) }
+    ensures faults { CountsFault (end_fault result.0) (W.view world) (W.view result.1) }
 {
     match open_store(alloc, world) {
         Ok(store) => {
             let text = list_text(alloc, &store);
             send_text(text, disk_of(store))
         }
-        Err(Back { value, cause }) => (opening_status(cause), value),
+        Err(Back { value, cause }) => (opening_end(cause), value),
     }
 }
 

@@ -12,14 +12,13 @@ ghost use Rattle.store_commands.specs.Status.{code_fault};
 ghost use Rattle.store_commands.specs.Books.{HoldsAgain};
 ghost use Rattle.store_commands.specs.Traffic.{traffic};
 
+use crate::opening::opening_status;
 use crate::sending::send_text;
-use crate::status::{
-    BAD_INPUT, DAMAGED, DISK_FAULT, FIRST_PAGE, MOST_BYTES, NO_MEMORY, READ_FAULT, REFUSED, Status,
-    TOO_MUCH, ended, opening_status,
-};
 use block_disk::{Back, World};
 use disk_store::{disk_of, open_store};
 use gate_pages::GatePages;
+use run_ends::codes::DISK_FAULT;
+use run_ends::{End, Status, status_of};
 use series_book::Name;
 use series_load::{LoadEnd, load};
 use series_store::Store;
@@ -37,7 +36,10 @@ pub fn load_series<W: World>(alloc: Global, name: &Name, world: W) -> (Status, W
         Ok(store) => {
             let (answer, world) = load_store(alloc, name, store);
             match answer {
-                Ok(readings) => send_text(loaded_text(alloc, readings), world),
+                Ok(readings) => {
+                    let (end, world) = send_text(loaded_text(alloc, readings), world);
+                    (status_of(end), world)
+                }
                 Err(end) => (end_status(end), world),
             }
         }
@@ -71,15 +73,18 @@ fn end_status(end: LoadEnd) -> Status
     ensures { result ≡ end_status end }
 {
     match end {
-        LoadEnd::UnknownSeries => ended(REFUSED, 8),
-        LoadEnd::BadLine { at } => ended(BAD_INPUT, u64::from(at)),
+        LoadEnd::UnknownSeries => status_of(End::UnknownSeries),
+        LoadEnd::BadLine { at } => status_of(End::BadInput { at: u64::from(at) }),
         LoadEnd::Refused { at, refusal } => {
-            ended(REFUSED, 256 * u64::from(at) + u64::from(refusal.number()))
+            status_of(End::Refused {
+                at,
+                refusal: refusal.number(),
+            })
         }
-        LoadEnd::ReadFault => ended(READ_FAULT, 0),
-        LoadEnd::InputTooLong => ended(TOO_MUCH, MOST_BYTES),
-        LoadEnd::DiskFault => ended(DISK_FAULT, 0),
-        LoadEnd::Damaged { page } => ended(DAMAGED, FIRST_PAGE + u64::from(page)),
-        LoadEnd::NoMemory => ended(NO_MEMORY, 0),
+        LoadEnd::ReadFault => status_of(End::ReadFault),
+        LoadEnd::InputTooLong => status_of(End::InputTooLong),
+        LoadEnd::DiskFault => status_of(End::DiskFault),
+        LoadEnd::Damaged { page } => status_of(End::DamagedPage { page }),
+        LoadEnd::NoMemory => status_of(End::NoMemory),
     }
 }

@@ -2,22 +2,22 @@
 ghost use Rattle.std.specs.Prelude.{◌≡◌};
 ghost use Rattle.chart_world.specs.Faults.{CountsFault};
 ghost use Rattle.store_commands.specs.Sending.{SendsMade};
-ghost use Rattle.store_commands.specs.Status.{code_fault};
+ghost use Rattle.store_commands.specs.Status.{end_fault};
 
-use crate::status::{DONE, NO_MEMORY, SEND_FAULT, Status, ended};
 use block_disk::World;
+use run_ends::End;
 
 /// Sends a text, where there was memory to make it, and says how that ended.
-pub(crate) fn send_text<W: World, E: Drop>(made: Result<Vec<u8>, E>, mut world: W) -> (Status, W)
+pub(crate) fn send_text<W: World, E: Drop>(made: Result<Vec<u8>, E>, mut world: W) -> (End, W)
     ensures sends { SendsMade made (W.view world) (W.view result.1) (W.sent world) (W.sent result.1) (W.send_faults world) (W.send_faults result.1) result.0 }
     ensures left { W.left result.1 ≡ W.left world }
-    ensures faults { CountsFault (code_fault result.0.code) (W.view world) (W.view result.1) }
+    ensures faults { CountsFault (end_fault result.0) (W.view world) (W.view result.1) }
 {
     let Ok(text) = made else {
-        return (ended(NO_MEMORY, 0), world);
+        return (End::NoMemory, world);
     };
     match world.send(text.as_slice()) {
-        Ok(()) => (ended(DONE, 0), world),
-        Err(_) => (ended(SEND_FAULT, 0), world),
+        Ok(()) => (End::Done, world),
+        Err(_) => (End::SendFault, world),
     }
 }

@@ -1,12 +1,15 @@
 use Rattle.std.proofs.Common.{sym, subst}
-use Rattle.store_commands.specs.Faulting.{counts_as}
-use Rattle.store_commands.specs.declared.status.Status.{Status}
+use Rattle.chart_world.specs.Faults.{CountsFault}
+use Rattle.run_ends.specs.Statuses.{code_of, place_of}
+use Rattle.run_ends.specs.declared.ending.End.{End}
+use Rattle.run_ends.specs.declared.status.Status.{Status}
+use Rattle.store_commands.specs.Faulting.{counts_end}
+use Rattle.store_commands.specs.Status.{end_fault}
 use Rattle.program_words.specs.declared.words.Command.TheVariants.{Draw}
-use Rattle.chart_program.specs.CommandStatuses.{drawing_status}
 use Rattle.chart_program.specs.Served.{faults_of}
 use Rattle.chart_program.specs.Ran.{CommandEnds}
 use Rattle.chart_program.proofs.Faults.{counts_drawn}
-use Rattle.chart_program.proofs.Statuses.{drawn}
+use Rattle.chart_program.proofs.Drawings.{drawn}
 use Rattle.chart_program.proofs.commands.draw_status.Goals as goal
 
 pub returns-clause-ends : goal.returns-clause-ends
@@ -18,10 +21,12 @@ returns-clause-ends g c =
     let new = c.draw-answer.new.streams in
     let faults = faults_of (g.W.Streams.read_faults old) (g.W.Streams.read_faults new) (g.W.Streams.send_faults old) (g.W.Streams.send_faults new) in
     let e = c.draw-answer.ensures in
-    let P : Status → Type 0 = λ s. CommandEnds Draw (view old) (view new) (left old) (left new) (sent old) (sent new) faults s.code s.place in
-    subst P (sym c.drawing_status.ensures)
-    (drawn (record { one = c.one_frame_a_spelling.ensures; told = c.length_is_told.ensures; good = c.spellings_are_good.ensures }) c.more_bytes_mend_nothing.ensures.stays
-    c.replies_draw_the_book.ensures c.one_session_draws_the_book.ensures c.replies_are_accepted.ensures c.own_replies_are_accepted.ensures (view old) (view new) (left old) (left new) (sent old) (sent new) faults c.draw-answer.result e.done e.within e.ends e.read e.send e.disk)
+    let S : Status → Type 0 = λ s. CommandEnds Draw (view old) (view new) (left old) (left new) (sent old) (sent new) faults s.code s.place in
+    let E : End → Type 0 = λ x. CommandEnds Draw (view old) (view new) (left old) (left new) (sent old) (sent new) faults (code_of x) (place_of x) in
+    subst S (sym c.status_of.ensures.status)
+    (subst E (sym c.drawing_end.ensures)
+    (drawn (view old) (view new) (left old) (left new) (sent old) (sent new) faults (record { one = c.one_frame_a_spelling.ensures; told = c.length_is_told.ensures; good = c.spellings_are_good.ensures }) c.more_bytes_mend_nothing.ensures.stays
+    c.replies_draw_the_book.ensures c.one_session_draws_the_book.ensures c.replies_are_accepted.ensures c.own_replies_are_accepted.ensures c.draw-answer.result e.done e.within e.ends e.read e.send e.disk))
 
 pub returns-clause-faults : goal.returns-clause-faults
 returns-clause-faults g c =
@@ -31,5 +36,6 @@ returns-clause-faults g c =
     let new = c.draw-answer.new.streams in
     let answer = c.draw-answer.result in
     let e = c.draw-answer.ensures in
-    counts_as c.drawing_status.result (drawing_status answer) (view old) (view new) c.drawing_status.ensures
-    (counts_drawn view g.W.Streams.read_faults g.W.Streams.send_faults w.beside_read_faults w.beside_send_faults old new e.disk.kept answer e.read e.send e.quiet_reads e.quiet_sends)
+    let E : End → Type 0 = λ x. CountsFault (end_fault x) (view old) (view new) in
+    counts_end c.drawing_end.result c.status_of.result (view old) (view new) c.status_of.ensures.status
+    (subst E (sym c.drawing_end.ensures) (counts_drawn view g.W.Streams.read_faults g.W.Streams.send_faults w.beside_read_faults w.beside_send_faults old new e.disk.kept answer e.read e.send e.quiet_reads e.quiet_sends))

@@ -1,15 +1,17 @@
 use Rattle.std.proofs.Common.{sym, subst}
-use Rattle.chart_world.specs.Faults.{fault_in}
-use Rattle.store_commands.specs.Faulting.{counts_as, counts_told}
-use Rattle.store_commands.specs.Status.{code_fault}
-use Rattle.store_commands.specs.declared.status.Status.{Status}
+use Rattle.chart_world.specs.Faults.{CountsFault, fault_in}
+use Rattle.run_ends.specs.Statuses.{code_of, place_of}
+use Rattle.run_ends.specs.declared.ending.End.{End}
+use Rattle.run_ends.specs.declared.status.Status.{Status}
+use Rattle.store_commands.specs.Faulting.{counts_end, counts_told}
+use Rattle.store_commands.specs.Status.{end_fault}
 use Rattle.program_words.specs.declared.words.Command.TheVariants.{Plot}
 use Rattle.chart_program.specs.Faulting.{plot_fault}
-use Rattle.chart_program.specs.Plotted.{plotting_status}
+use Rattle.chart_program.specs.Plotted.{plotting_end}
 use Rattle.chart_program.specs.Served.{faults_of}
 use Rattle.chart_program.specs.Ran.{CommandEnds}
 use Rattle.chart_program.proofs.Faults.{told_plotted}
-use Rattle.chart_program.proofs.Statuses.{plotted}
+use Rattle.chart_program.proofs.Drawings.{plotted}
 use Rattle.chart_program.proofs.commands.plot_status.Goals as goal
 
 pub returns-clause-ends : goal.returns-clause-ends
@@ -21,12 +23,16 @@ returns-clause-ends g c =
     let new = c.plot-answer.new.streams in
     let faults = faults_of (g.W.Streams.read_faults old) (g.W.Streams.read_faults new) (g.W.Streams.send_faults old) (g.W.Streams.send_faults new) in
     let e = c.plot-answer.ensures in
-    let P : Status → Type 0 = λ s. CommandEnds (Plot c.args.w c.args.h) (view old) (view new) (left old) (left new) (sent old) (sent new) faults s.code s.place in
-    subst P (sym c.plotting_status.ensures) (plotted c.args.w c.args.h (view old) (view new) (left old) (left new) (sent old) (sent new) faults c.plot-answer.result e.done e.within e.ends e.unsent e.read e.send e.disk)
+    let S : Status → Type 0 = λ s. CommandEnds (Plot c.args.w c.args.h) (view old) (view new) (left old) (left new) (sent old) (sent new) faults s.code s.place in
+    let E : End → Type 0 = λ x. CommandEnds (Plot c.args.w c.args.h) (view old) (view new) (left old) (left new) (sent old) (sent new) faults (code_of x) (place_of x) in
+    subst S (sym c.status_of.ensures.status)
+    (subst E (sym c.plotting_end.ensures) (plotted (view old) (view new) (left old) (left new) (sent old) (sent new) faults c.args.w c.args.h c.plot-answer.result e.done e.within e.ends e.unsent e.read e.send e.disk))
 
 pub returns-clause-faults : goal.returns-clause-faults
 returns-clause-faults g c =
     let old = g.W.Disk.view c.args.world.now in
     let new = g.W.Disk.view c.plot-answer.new.streams in
     let answer = c.plot-answer.result in
-    counts_as c.plotting_status.result (plotting_status answer) old new c.plotting_status.ensures (counts_told (fault_in plot_fault answer) (code_fault (plotting_status answer).code) old new (told_plotted answer) c.plot-answer.ensures.faults)
+    let E : End → Type 0 = λ x. CountsFault (end_fault x) old new in
+    counts_end c.plotting_end.result c.status_of.result old new c.status_of.ensures.status
+    (subst E (sym c.plotting_end.ensures) (counts_told (fault_in plot_fault answer) (end_fault (plotting_end answer)) old new (told_plotted answer) c.plot-answer.ensures.faults))

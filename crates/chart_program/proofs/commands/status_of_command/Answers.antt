@@ -1,9 +1,13 @@
 use Rattle.std.proofs.Common.{subst, sym}
 use Rattle.program_words.specs.declared.words.Command.{Command}
+use Rattle.run_ends.specs.Statuses.{code_of, place_of}
+use Rattle.run_ends.specs.declared.status.Status.{Status}
+use Rattle.store_commands.specs.Faulting.{counts_end}
 use Rattle.chart_program.specs.Served.{faults_of}
 use Rattle.chart_program.specs.Ran.{CommandEnds}
-use Rattle.chart_program.proofs.CommandsEnd.{load_ends, demo_ends, run_ends, serve_ends, init_ends, check_ends}
-use Rattle.chart_program.proofs.StoreShown.{list_ends, export_ends}
+use Rattle.chart_program.proofs.CommandsEnd.{load_ends, run_ends, serve_ends}
+use Rattle.chart_program.proofs.InitEnds.{init_ends}
+use Rattle.chart_program.proofs.StoreShown.{check_ends, demo_ends, export_ends, list_ends}
 use Rattle.chart_program.proofs.RetainEnds.{retain_ends}
 use Rattle.chart_program.proofs.LiveEnds.{live_ends}
 use Rattle.chart_program.proofs.DeriveEnds.{derive_ends}
@@ -46,12 +50,18 @@ returns-in-Demo-clause-ends g c =
     let reads = g.W.Streams.read_faults in
     let sends = g.W.Streams.send_faults in
     let old = c.args.world in
-    let new = c.run_demo.result.1 in
-    let status = c.run_demo.result.0 in
-    let e = c.run_demo.ensures in
+    let new = c.run_demo-end.result.1 in
+    let end = c.run_demo-end.result.0 in
+    let e = c.run_demo-end.ensures in
     let faults = faults_of (reads old) (reads new) (sends old) (sends new) in
-    let P : Command → Type 0 = λ command. CommandEnds command (view old) (view new) (left old) (left new) (sent old) (sent new) faults status.code status.place in
-    subst P (sym c.in-Demo.is) (demo_ends c.in-Demo.seed c.in-Demo.count (view old) (view new) (left old) (left new) (sent old) (sent new) faults status.code status.place e.ends e.away e.untaken e.holds)
+    let P : Command → Type 0 = λ command. CommandEnds command (view old) (view new) (left old) (left new) (sent old) (sent new) faults (code_of end) (place_of end) in
+    let S : Status → Type 0 = λ s. CommandEnds c.args.command (view old) (view new) (left old) (left new) (sent old) (sent new) faults s.code s.place in
+    subst S (sym c.status_of.ensures.status)
+    (subst P (sym c.in-Demo.is) (demo_ends (view old) (view new) (left old) (left new) (sent old) (sent new) faults c.in-Demo.seed c.in-Demo.count end e.ends e.away e.untaken e.holds))
+
+pub returns-in-Demo-clause-faults : goal.returns-in-Demo-clause-faults
+returns-in-Demo-clause-faults g c =
+    counts_end c.run_demo-end.result.0 c.status_of.result (g.W.Disk.view c.args.world) (g.W.Disk.view c.run_demo-end.result.1) c.status_of.ensures.status c.run_demo-end.ensures.faults
 
 pub returns-in-Run-clause-ends : goal.returns-in-Run-clause-ends
 returns-in-Run-clause-ends g c =
@@ -105,12 +115,18 @@ returns-in-Init-clause-ends g c =
     let reads = g.W.Streams.read_faults in
     let sends = g.W.Streams.send_faults in
     let old = c.args.world in
-    let new = c.init_status.result.1 in
-    let status = c.init_status.result.0 in
-    let e = c.init_status.ensures in
+    let new = c.init-end.result.1 in
+    let end = c.init-end.result.0 in
+    let e = c.init-end.ensures in
     let faults = faults_of (reads old) (reads new) (sends old) (sends new) in
-    let P : Command → Type 0 = λ command. CommandEnds command (view old) (view new) (left old) (left new) (sent old) (sent new) faults status.code status.place in
-    subst P (sym c.in-Init.is) (init_ends (view old) (view new) (left old) (left new) (sent old) (sent new) faults status.code status.place e.codes e.away e.untaken e.fault e.small e.there e.place e.sent e.disk e.made e.ready)
+    let P : Command → Type 0 = λ command. CommandEnds command (view old) (view new) (left old) (left new) (sent old) (sent new) faults (code_of end) (place_of end) in
+    let S : Status → Type 0 = λ s. CommandEnds c.args.command (view old) (view new) (left old) (left new) (sent old) (sent new) faults s.code s.place in
+    subst S (sym c.status_of-in-Init.ensures.status)
+    (subst P (sym c.in-Init.is) (init_ends (view old) (view new) (left old) (left new) (sent old) (sent new) faults end e.ends e.away e.untaken e.sent e.disk e.ready))
+
+pub returns-in-Init-clause-faults : goal.returns-in-Init-clause-faults
+returns-in-Init-clause-faults g c =
+    counts_end c.init-end.result.0 c.status_of-in-Init.result (g.W.Disk.view c.args.world) (g.W.Disk.view c.init-end.result.1) c.status_of-in-Init.ensures.status c.init-end.ensures.faults
 
 pub returns-in-Check-clause-ends : goal.returns-in-Check-clause-ends
 returns-in-Check-clause-ends g c =
@@ -120,12 +136,18 @@ returns-in-Check-clause-ends g c =
     let reads = g.W.Streams.read_faults in
     let sends = g.W.Streams.send_faults in
     let old = c.args.world in
-    let new = c.check_store.result.1 in
-    let status = c.check_store.result.0 in
-    let e = c.check_store.ensures in
+    let new = c.check_store-end.result.1 in
+    let end = c.check_store-end.result.0 in
+    let e = c.check_store-end.ensures in
     let faults = faults_of (reads old) (reads new) (sends old) (sends new) in
-    let P : Command → Type 0 = λ command. CommandEnds command (view old) (view new) (left old) (left new) (sent old) (sent new) faults status.code status.place in
-    subst P (sym c.in-Check.is) (check_ends (view old) (view new) (left old) (left new) (sent old) (sent new) faults status.code status.place e.ends e.away e.untaken)
+    let P : Command → Type 0 = λ command. CommandEnds command (view old) (view new) (left old) (left new) (sent old) (sent new) faults (code_of end) (place_of end) in
+    let S : Status → Type 0 = λ s. CommandEnds c.args.command (view old) (view new) (left old) (left new) (sent old) (sent new) faults s.code s.place in
+    subst S (sym c.status_of-in-Check.ensures.status)
+    (subst P (sym c.in-Check.is) (check_ends (view old) (view new) (left old) (left new) (sent old) (sent new) faults end e.ends e.away e.untaken))
+
+pub returns-in-Check-clause-faults : goal.returns-in-Check-clause-faults
+returns-in-Check-clause-faults g c =
+    counts_end c.check_store-end.result.0 c.status_of-in-Check.result (g.W.Disk.view c.args.world) (g.W.Disk.view c.check_store-end.result.1) c.status_of-in-Check.ensures.status c.check_store-end.ensures.faults
 
 pub returns-in-ListSeries-clause-ends : goal.returns-in-ListSeries-clause-ends
 returns-in-ListSeries-clause-ends g c =
@@ -135,11 +157,18 @@ returns-in-ListSeries-clause-ends g c =
     let reads = g.W.Streams.read_faults in
     let sends = g.W.Streams.send_faults in
     let old = c.args.world in
-    let new = c.list_series.result.1 in
-    let status = c.list_series.result.0 in
+    let new = c.list_series-end.result.1 in
+    let end = c.list_series-end.result.0 in
+    let e = c.list_series-end.ensures in
     let faults = faults_of (reads old) (reads new) (sends old) (sends new) in
-    let P : Command → Type 0 = λ command. CommandEnds command (view old) (view new) (left old) (left new) (sent old) (sent new) faults status.code status.place in
-    subst P (sym c.in-ListSeries.is) (list_ends (view old) (view new) (left old) (left new) (sent old) (sent new) faults status.code status.place c.list_series.ensures.ends c.list_series.ensures.away c.list_series.ensures.untaken)
+    let P : Command → Type 0 = λ command. CommandEnds command (view old) (view new) (left old) (left new) (sent old) (sent new) faults (code_of end) (place_of end) in
+    let S : Status → Type 0 = λ s. CommandEnds c.args.command (view old) (view new) (left old) (left new) (sent old) (sent new) faults s.code s.place in
+    subst S (sym c.status_of-in-ListSeries.ensures.status)
+    (subst P (sym c.in-ListSeries.is) (list_ends (view old) (view new) (left old) (left new) (sent old) (sent new) faults end e.ends e.away e.untaken))
+
+pub returns-in-ListSeries-clause-faults : goal.returns-in-ListSeries-clause-faults
+returns-in-ListSeries-clause-faults g c =
+    counts_end c.list_series-end.result.0 c.status_of-in-ListSeries.result (g.W.Disk.view c.args.world) (g.W.Disk.view c.list_series-end.result.1) c.status_of-in-ListSeries.ensures.status c.list_series-end.ensures.faults
 
 pub returns-in-Export-clause-ends : goal.returns-in-Export-clause-ends
 returns-in-Export-clause-ends g c =
@@ -149,11 +178,18 @@ returns-in-Export-clause-ends g c =
     let reads = g.W.Streams.read_faults in
     let sends = g.W.Streams.send_faults in
     let old = c.args.world in
-    let new = c.export_values.result.1 in
-    let status = c.export_values.result.0 in
+    let new = c.export_values-end.result.1 in
+    let end = c.export_values-end.result.0 in
+    let e = c.export_values-end.ensures in
     let faults = faults_of (reads old) (reads new) (sends old) (sends new) in
-    let P : Command → Type 0 = λ command. CommandEnds command (view old) (view new) (left old) (left new) (sent old) (sent new) faults status.code status.place in
-    subst P (sym c.in-Export.is) (export_ends c.in-Export.name c.in-Export.window (view old) (view new) (left old) (left new) (sent old) (sent new) faults status.code status.place c.export_values.ensures.ends c.export_values.ensures.away c.export_values.ensures.untaken)
+    let P : Command → Type 0 = λ command. CommandEnds command (view old) (view new) (left old) (left new) (sent old) (sent new) faults (code_of end) (place_of end) in
+    let S : Status → Type 0 = λ s. CommandEnds c.args.command (view old) (view new) (left old) (left new) (sent old) (sent new) faults s.code s.place in
+    subst S (sym c.status_of-in-Export.ensures.status)
+    (subst P (sym c.in-Export.is) (export_ends (view old) (view new) (left old) (left new) (sent old) (sent new) faults c.in-Export.name c.in-Export.window end e.ends e.away e.untaken))
+
+pub returns-in-Export-clause-faults : goal.returns-in-Export-clause-faults
+returns-in-Export-clause-faults g c =
+    counts_end c.export_values-end.result.0 c.status_of-in-Export.result (g.W.Disk.view c.args.world) (g.W.Disk.view c.export_values-end.result.1) c.status_of-in-Export.ensures.status c.export_values-end.ensures.faults
 
 pub returns-in-Retain-clause-ends : goal.returns-in-Retain-clause-ends
 returns-in-Retain-clause-ends g c =

@@ -7,8 +7,8 @@ use Rattle.chart_program.proofs.CommandCodes.{serve_codes}
 use Rattle.chart_program.proofs.FirstOpened.{away_served, barred_served}
 use Rattle.chart_program.proofs.serving.serve_status.Goals as goal
 
-pub status_of-requires : goal.status_of-requires
-status_of-requires g c =
+pub lines_status-requires : goal.lines_status-requires
+lines_status-requires g c =
     let old = c.args.world in
     let new = c.serve_world-answer.result.1 in
     let faults = faults_of (g.W.Streams.read_faults old) (g.W.Streams.read_faults new) (g.W.Streams.send_faults old) (g.W.Streams.send_faults new) in
@@ -19,7 +19,7 @@ returns-clause-ends g c =
     let old = c.args.world in
     let new = c.serve_world-answer.result.1 in
     let faults = faults_of (g.W.Streams.read_faults old) (g.W.Streams.read_faults new) (g.W.Streams.send_faults old) (g.W.Streams.send_faults new) in
-    ends_so Spelled ⊥ (g.W.Disk.view old) (g.W.Disk.view new) (g.W.Streams.left old) (g.W.Streams.left new) (g.W.Streams.sent old) (g.W.Streams.sent new) faults c.serve_world-answer.result.0 c.status_of.result c.status_of.ensures c.serve_world-answer.ensures.serves
+    ends_so Spelled ⊥ (g.W.Disk.view old) (g.W.Disk.view new) (g.W.Streams.left old) (g.W.Streams.left new) (g.W.Streams.sent old) (g.W.Streams.sent new) faults c.serve_world-answer.result.0 c.lines_status.result c.lines_status.ensures c.serve_world-answer.ensures.serves
 
 pub returns-clause-away : goal.returns-clause-away
 returns-clause-away g c =
@@ -30,7 +30,7 @@ returns-clause-away g c =
     let faults = faults_of (reads old) (reads new) (sends old) (sends new) in
     let t = traffic g.W.Streams.left g.W.Streams.sent reads sends old new in
     let e = c.serve_world-answer.ensures in
-    away_served ⊥ (g.W.Disk.view old) (g.W.Disk.view new) t faults c.serve_world-answer.result.0 c.status_of.result c.status_of.ensures e.first e.serves.cause
+    away_served ⊥ (g.W.Disk.view old) (g.W.Disk.view new) t faults c.serve_world-answer.result.0 c.lines_status.result c.lines_status.ensures e.first e.serves.cause
 
 pub returns-clause-bars : goal.returns-clause-bars
 returns-clause-bars g c =
@@ -41,17 +41,17 @@ returns-clause-bars g c =
     let faults = faults_of (reads old) (reads new) (sends old) (sends new) in
     let t = traffic g.W.Streams.left g.W.Streams.sent reads sends old new in
     let e = c.serve_world-answer.ensures in
-    barred_served ⊥ (g.W.Disk.view old) (g.W.Disk.view new) t faults c.serve_world-answer.result.0 c.status_of.result c.status_of.ensures e.first e.serves.cause
+    barred_served ⊥ (g.W.Disk.view old) (g.W.Disk.view new) t faults c.serve_world-answer.result.0 c.lines_status.result c.lines_status.ensures e.first e.serves.cause
 
 pub returns-clause-own : goal.returns-clause-own
 returns-clause-own g c =
     let old = c.args.world in
     let new = c.serve_world-answer.result.1 in
     let faults = faults_of (g.W.Streams.read_faults old) (g.W.Streams.read_faults new) (g.W.Streams.send_faults old) (g.W.Streams.send_faults new) in
-    let e = ends_so Spelled ⊥ (g.W.Disk.view old) (g.W.Disk.view new) (g.W.Streams.left old) (g.W.Streams.left new) (g.W.Streams.sent old) (g.W.Streams.sent new) faults c.serve_world-answer.result.0 c.status_of.result c.status_of.ensures c.serve_world-answer.ensures.serves in
-    serve_codes c.status_of.result.code e.codes (λ is. (e.missing is).0) (λ is. (e.misfit is).0) e.opened
+    let e = ends_so Spelled ⊥ (g.W.Disk.view old) (g.W.Disk.view new) (g.W.Streams.left old) (g.W.Streams.left new) (g.W.Streams.sent old) (g.W.Streams.sent new) faults c.serve_world-answer.result.0 c.lines_status.result c.lines_status.ensures c.serve_world-answer.ensures.serves in
+    serve_codes c.lines_status.result.code e.codes (λ is. (e.missing is).0) (λ is. (e.misfit is).0) e.opened
 
 pub returns-clause-faults : goal.returns-clause-faults
 returns-clause-faults g c =
     let view = g.W.Disk.view in
-    counts_as c.status_of.result (status_by c.serve_world-answer.result.0) (view c.args.world) (view c.serve_world-answer.result.1) c.status_of.ensures c.serve_world-answer.ensures.faults
+    counts_as c.lines_status.result (status_by c.serve_world-answer.result.0) (view c.args.world) (view c.serve_world-answer.result.1) c.lines_status.ensures c.serve_world-answer.ensures.faults

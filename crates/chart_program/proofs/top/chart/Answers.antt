@@ -2,7 +2,8 @@ use Rattle.std.proofs.Common.{ℕ, arith, subst, inl, inr, sym, refl, ◌∙◌,
 use Rattle.chart_world.specs.Faults.{CountsFault}
 use Rattle.chart_world.specs.FaultLaws.{counts_none}
 use Rattle.store_commands.specs.Faulting.{counts_as}
-use Rattle.store_commands.specs.Status.{code_fault, status}
+use Rattle.run_ends.specs.Statuses.{status}
+use Rattle.store_commands.specs.Status.{code_fault}
 use Rattle.chart_program.proofs.Apart.{apart}
 use Rattle.chart_program.proofs.CommandCodes.{never}
 use Rattle.chart_program.proofs.LivesLemmas.{lives_told}
@@ -13,7 +14,7 @@ use Rattle.program_words.specs.declared.words.Command.TheVariants.{Draw, Init}
 use Rattle.chart_program.proofs.top.chart.Goals as goal
 
 pub returns-in-Err-NoMemory-clause-codes : goal.returns-in-Err-NoMemory-clause-codes
-returns-in-Err-NoMemory-clause-codes g c = (2, omega arith, sym c.ended-in-Err-NoMemory.ensures.code)
+returns-in-Err-NoMemory-clause-codes g c = (2, omega arith, sym c.status_of-in-Err-NoMemory.ensures.code)
 
 pub returns-in-Err-Wrong-clause-ready : goal.returns-in-Err-Wrong-clause-ready
 returns-in-Err-Wrong-clause-ready g c = λ own free whole. absurd (wrong_never c.in-Err-Wrong.place _ Init own.0 own.1 (wrong_end c.in-Err-Wrong.field-0 c.in-Err-Wrong.place _ c.in-Err-Wrong.field-0-is c.in-Err-Wrong.ensures.wrong))
@@ -182,169 +183,169 @@ returns-in-Ok-clause-complete g c =
     completes c.args.words.now _ c.in-Ok.command _ _ _ c.in-Ok.ensures.command e.complete
 
 pub returns-in-Err-Wrong-clause-codes : goal.returns-in-Err-Wrong-clause-codes
-returns-in-Err-Wrong-clause-codes g c = (1, omega arith, sym c.ended.ensures.code)
+returns-in-Err-Wrong-clause-codes g c = (1, omega arith, sym c.status_of.ensures.code)
 
 pub returns-in-Err-Wrong-clause-command : goal.returns-in-Err-Wrong-clause-command
-returns-in-Err-Wrong-clause-command g c = λ other more. absurd (other c.ended.ensures.code)
+returns-in-Err-Wrong-clause-command g c = λ other more. absurd (other c.status_of.ensures.code)
 
 pub returns-in-Err-Wrong-clause-read : goal.returns-in-Err-Wrong-clause-read
-returns-in-Err-Wrong-clause-read g c = λ is. apart (sym c.ended.ensures.code ∙ is) refl
+returns-in-Err-Wrong-clause-read g c = λ is. apart (sym c.status_of.ensures.code ∙ is) refl
 
 pub returns-in-Err-Wrong-clause-stopped : goal.returns-in-Err-Wrong-clause-stopped
-returns-in-Err-Wrong-clause-stopped g c = λ is. apart (sym c.ended.ensures.code ∙ is) refl
+returns-in-Err-Wrong-clause-stopped g c = λ is. apart (sym c.status_of.ensures.code ∙ is) refl
 
 pub returns-in-Err-Wrong-clause-send : goal.returns-in-Err-Wrong-clause-send
-returns-in-Err-Wrong-clause-send g c = λ is. apart (sym c.ended.ensures.code ∙ is) refl
+returns-in-Err-Wrong-clause-send g c = λ is. apart (sym c.status_of.ensures.code ∙ is) refl
 
 pub returns-in-Err-Wrong-clause-bad : goal.returns-in-Err-Wrong-clause-bad
-returns-in-Err-Wrong-clause-bad g c = λ is. apart (sym c.ended.ensures.code ∙ is) refl
+returns-in-Err-Wrong-clause-bad g c = λ is. apart (sym c.status_of.ensures.code ∙ is) refl
 
 pub returns-in-Err-Wrong-clause-much : goal.returns-in-Err-Wrong-clause-much
-returns-in-Err-Wrong-clause-much g c = λ is. apart (sym c.ended.ensures.code ∙ is) refl
+returns-in-Err-Wrong-clause-much g c = λ is. apart (sym c.status_of.ensures.code ∙ is) refl
 
 pub returns-in-Err-Wrong-clause-missing : goal.returns-in-Err-Wrong-clause-missing
-returns-in-Err-Wrong-clause-missing g c = λ is. apart (sym c.ended.ensures.code ∙ is) refl
+returns-in-Err-Wrong-clause-missing g c = λ is. apart (sym c.status_of.ensures.code ∙ is) refl
 
 pub returns-in-Err-Wrong-clause-misfit : goal.returns-in-Err-Wrong-clause-misfit
-returns-in-Err-Wrong-clause-misfit g c = λ is. apart (sym c.ended.ensures.code ∙ is) refl
+returns-in-Err-Wrong-clause-misfit g c = λ is. apart (sym c.status_of.ensures.code ∙ is) refl
 
 pub returns-in-Err-Wrong-clause-unopened : goal.returns-in-Err-Wrong-clause-unopened
-returns-in-Err-Wrong-clause-unopened g c = λ is. apart (sym c.ended.ensures.code ∙ is) refl
+returns-in-Err-Wrong-clause-unopened g c = λ is. apart (sym c.status_of.ensures.code ∙ is) refl
 
 pub returns-in-Err-Wrong-clause-within : goal.returns-in-Err-Wrong-clause-within
-returns-in-Err-Wrong-clause-within g c = λ is. apart (sym c.ended.ensures.code ∙ is) refl
+returns-in-Err-Wrong-clause-within g c = λ is. apart (sym c.status_of.ensures.code ∙ is) refl
 
 pub returns-in-Err-Wrong-clause-fault : goal.returns-in-Err-Wrong-clause-fault
-returns-in-Err-Wrong-clause-fault g c = λ is. apart (sym c.ended.ensures.code ∙ is) refl
+returns-in-Err-Wrong-clause-fault g c = λ is. apart (sym c.status_of.ensures.code ∙ is) refl
 
 pub returns-in-Err-Wrong-clause-faulted : goal.returns-in-Err-Wrong-clause-faulted
-returns-in-Err-Wrong-clause-faulted g c = λ is. apart (sym c.ended.ensures.code ∙ is) refl
+returns-in-Err-Wrong-clause-faulted g c = λ is. apart (sym c.status_of.ensures.code ∙ is) refl
 
 pub returns-in-Err-Wrong-clause-damaged : goal.returns-in-Err-Wrong-clause-damaged
-returns-in-Err-Wrong-clause-damaged g c = λ is. apart (sym c.ended.ensures.code ∙ is) refl
+returns-in-Err-Wrong-clause-damaged g c = λ is. apart (sym c.status_of.ensures.code ∙ is) refl
 
 pub returns-in-Err-Wrong-clause-undamaged : goal.returns-in-Err-Wrong-clause-undamaged
-returns-in-Err-Wrong-clause-undamaged g c = λ is. apart (sym c.ended.ensures.code ∙ is) refl
+returns-in-Err-Wrong-clause-undamaged g c = λ is. apart (sym c.status_of.ensures.code ∙ is) refl
 
 pub returns-in-Err-Wrong-clause-small : goal.returns-in-Err-Wrong-clause-small
-returns-in-Err-Wrong-clause-small g c = λ is. apart (sym c.ended.ensures.code ∙ is) refl
+returns-in-Err-Wrong-clause-small g c = λ is. apart (sym c.status_of.ensures.code ∙ is) refl
 
 pub returns-in-Err-Wrong-clause-there : goal.returns-in-Err-Wrong-clause-there
-returns-in-Err-Wrong-clause-there g c = λ is. apart (sym c.ended.ensures.code ∙ is) refl
+returns-in-Err-Wrong-clause-there g c = λ is. apart (sym c.status_of.ensures.code ∙ is) refl
 
 pub returns-in-Err-Wrong-clause-refused : goal.returns-in-Err-Wrong-clause-refused
-returns-in-Err-Wrong-clause-refused g c = λ is. apart (sym c.ended.ensures.code ∙ is) refl
+returns-in-Err-Wrong-clause-refused g c = λ is. apart (sym c.status_of.ensures.code ∙ is) refl
 
 pub returns-in-Err-Wrong-clause-done : goal.returns-in-Err-Wrong-clause-done
-returns-in-Err-Wrong-clause-done g c = λ is. apart (sym c.ended.ensures.code ∙ is) refl
+returns-in-Err-Wrong-clause-done g c = λ is. apart (sym c.status_of.ensures.code ∙ is) refl
 
 pub returns-in-Err-Wrong-clause-part : goal.returns-in-Err-Wrong-clause-part
-returns-in-Err-Wrong-clause-part g c = λ is. apart (sym c.ended.ensures.code ∙ is) refl
+returns-in-Err-Wrong-clause-part g c = λ is. apart (sym c.status_of.ensures.code ∙ is) refl
 
 pub returns-in-Err-Wrong-clause-made : goal.returns-in-Err-Wrong-clause-made
-returns-in-Err-Wrong-clause-made g c = λ is. apart (sym c.ended.ensures.code ∙ is) refl
+returns-in-Err-Wrong-clause-made g c = λ is. apart (sym c.status_of.ensures.code ∙ is) refl
 
 pub returns-in-Err-Wrong-clause-memory : goal.returns-in-Err-Wrong-clause-memory
-returns-in-Err-Wrong-clause-memory g c = λ is. apart (sym c.ended.ensures.code ∙ is) refl
+returns-in-Err-Wrong-clause-memory g c = λ is. apart (sym c.status_of.ensures.code ∙ is) refl
 
 pub returns-in-Err-Wrong-clause-unnamed : goal.returns-in-Err-Wrong-clause-unnamed
-returns-in-Err-Wrong-clause-unnamed g c = λ other. absurd (other c.ended.ensures.code)
+returns-in-Err-Wrong-clause-unnamed g c = λ other. absurd (other c.status_of.ensures.code)
 
 pub returns-in-Err-Wrong-clause-reads : goal.returns-in-Err-Wrong-clause-reads
-returns-in-Err-Wrong-clause-reads g c = λ other. absurd (other c.ended.ensures.code)
+returns-in-Err-Wrong-clause-reads g c = λ other. absurd (other c.status_of.ensures.code)
 
 pub returns-in-Err-Wrong-clause-reads_lines : goal.returns-in-Err-Wrong-clause-reads_lines
-returns-in-Err-Wrong-clause-reads_lines g c = λ other. absurd (other c.ended.ensures.code)
+returns-in-Err-Wrong-clause-reads_lines g c = λ other. absurd (other c.status_of.ensures.code)
 
 pub returns-in-Err-Wrong-clause-syncs : goal.returns-in-Err-Wrong-clause-syncs
-returns-in-Err-Wrong-clause-syncs g c = λ other. absurd (other c.ended.ensures.code)
+returns-in-Err-Wrong-clause-syncs g c = λ other. absurd (other c.status_of.ensures.code)
 
 pub returns-in-Err-Wrong-clause-crash : goal.returns-in-Err-Wrong-clause-crash
-returns-in-Err-Wrong-clause-crash g c = λ other. absurd (other c.ended.ensures.code)
+returns-in-Err-Wrong-clause-crash g c = λ other. absurd (other c.status_of.ensures.code)
 
 pub returns-in-Err-Wrong-clause-disk : goal.returns-in-Err-Wrong-clause-disk
-returns-in-Err-Wrong-clause-disk g c = λ other. absurd (other c.ended.ensures.code)
+returns-in-Err-Wrong-clause-disk g c = λ other. absurd (other c.status_of.ensures.code)
 
 pub returns-in-Err-Wrong-clause-place : goal.returns-in-Err-Wrong-clause-place
-returns-in-Err-Wrong-clause-place g c = λ zero. absurd (never (0 ∷ 3 ∷ 4 ∷ 5 ∷ 6 ∷ []) _ 2 zero refl c.ended.ensures.code)
+returns-in-Err-Wrong-clause-place g c = λ zero. absurd (never (0 ∷ 3 ∷ 4 ∷ 5 ∷ 6 ∷ []) _ 2 zero refl c.status_of.ensures.code)
 
 pub returns-in-Err-Wrong-clause-nothing : goal.returns-in-Err-Wrong-clause-nothing
 returns-in-Err-Wrong-clause-nothing g c = λ some unsent quiet. refl
 
 pub returns-in-Err-Wrong-clause-pictures : goal.returns-in-Err-Wrong-clause-pictures
-returns-in-Err-Wrong-clause-pictures g c = λ is drawn. apart (sym c.ended.ensures.code ∙ is) refl
+returns-in-Err-Wrong-clause-pictures g c = λ is drawn. apart (sym c.status_of.ensures.code ∙ is) refl
 
 pub returns-in-Err-Wrong-clause-untouched : goal.returns-in-Err-Wrong-clause-untouched
 returns-in-Err-Wrong-clause-untouched g c = λ is. refl
 
 pub returns-in-Err-NoMemory-clause-wrong : goal.returns-in-Err-NoMemory-clause-wrong
-returns-in-Err-NoMemory-clause-wrong g c = λ is. apart (sym c.ended-in-Err-NoMemory.ensures.code ∙ is) refl
+returns-in-Err-NoMemory-clause-wrong g c = λ is. apart (sym c.status_of-in-Err-NoMemory.ensures.code ∙ is) refl
 
 pub returns-in-Err-NoMemory-clause-command : goal.returns-in-Err-NoMemory-clause-command
-returns-in-Err-NoMemory-clause-command g c = λ other more. absurd (more c.ended-in-Err-NoMemory.ensures.code)
+returns-in-Err-NoMemory-clause-command g c = λ other more. absurd (more c.status_of-in-Err-NoMemory.ensures.code)
 
 pub returns-in-Err-NoMemory-clause-read : goal.returns-in-Err-NoMemory-clause-read
-returns-in-Err-NoMemory-clause-read g c = λ is. apart (sym c.ended-in-Err-NoMemory.ensures.code ∙ is) refl
+returns-in-Err-NoMemory-clause-read g c = λ is. apart (sym c.status_of-in-Err-NoMemory.ensures.code ∙ is) refl
 
 pub returns-in-Err-NoMemory-clause-stopped : goal.returns-in-Err-NoMemory-clause-stopped
-returns-in-Err-NoMemory-clause-stopped g c = λ is. apart (sym c.ended-in-Err-NoMemory.ensures.code ∙ is) refl
+returns-in-Err-NoMemory-clause-stopped g c = λ is. apart (sym c.status_of-in-Err-NoMemory.ensures.code ∙ is) refl
 
 pub returns-in-Err-NoMemory-clause-send : goal.returns-in-Err-NoMemory-clause-send
-returns-in-Err-NoMemory-clause-send g c = λ is. apart (sym c.ended-in-Err-NoMemory.ensures.code ∙ is) refl
+returns-in-Err-NoMemory-clause-send g c = λ is. apart (sym c.status_of-in-Err-NoMemory.ensures.code ∙ is) refl
 
 pub returns-in-Err-NoMemory-clause-bad : goal.returns-in-Err-NoMemory-clause-bad
-returns-in-Err-NoMemory-clause-bad g c = λ is. apart (sym c.ended-in-Err-NoMemory.ensures.code ∙ is) refl
+returns-in-Err-NoMemory-clause-bad g c = λ is. apart (sym c.status_of-in-Err-NoMemory.ensures.code ∙ is) refl
 
 pub returns-in-Err-NoMemory-clause-much : goal.returns-in-Err-NoMemory-clause-much
-returns-in-Err-NoMemory-clause-much g c = λ is. apart (sym c.ended-in-Err-NoMemory.ensures.code ∙ is) refl
+returns-in-Err-NoMemory-clause-much g c = λ is. apart (sym c.status_of-in-Err-NoMemory.ensures.code ∙ is) refl
 
 pub returns-in-Err-NoMemory-clause-missing : goal.returns-in-Err-NoMemory-clause-missing
-returns-in-Err-NoMemory-clause-missing g c = λ is. apart (sym c.ended-in-Err-NoMemory.ensures.code ∙ is) refl
+returns-in-Err-NoMemory-clause-missing g c = λ is. apart (sym c.status_of-in-Err-NoMemory.ensures.code ∙ is) refl
 
 pub returns-in-Err-NoMemory-clause-misfit : goal.returns-in-Err-NoMemory-clause-misfit
-returns-in-Err-NoMemory-clause-misfit g c = λ is. apart (sym c.ended-in-Err-NoMemory.ensures.code ∙ is) refl
+returns-in-Err-NoMemory-clause-misfit g c = λ is. apart (sym c.status_of-in-Err-NoMemory.ensures.code ∙ is) refl
 
 pub returns-in-Err-NoMemory-clause-unopened : goal.returns-in-Err-NoMemory-clause-unopened
-returns-in-Err-NoMemory-clause-unopened g c = λ is. apart (sym c.ended-in-Err-NoMemory.ensures.code ∙ is) refl
+returns-in-Err-NoMemory-clause-unopened g c = λ is. apart (sym c.status_of-in-Err-NoMemory.ensures.code ∙ is) refl
 
 pub returns-in-Err-NoMemory-clause-within : goal.returns-in-Err-NoMemory-clause-within
-returns-in-Err-NoMemory-clause-within g c = λ is. apart (sym c.ended-in-Err-NoMemory.ensures.code ∙ is) refl
+returns-in-Err-NoMemory-clause-within g c = λ is. apart (sym c.status_of-in-Err-NoMemory.ensures.code ∙ is) refl
 
 pub returns-in-Err-NoMemory-clause-fault : goal.returns-in-Err-NoMemory-clause-fault
-returns-in-Err-NoMemory-clause-fault g c = λ is. apart (sym c.ended-in-Err-NoMemory.ensures.code ∙ is) refl
+returns-in-Err-NoMemory-clause-fault g c = λ is. apart (sym c.status_of-in-Err-NoMemory.ensures.code ∙ is) refl
 
 pub returns-in-Err-NoMemory-clause-faulted : goal.returns-in-Err-NoMemory-clause-faulted
-returns-in-Err-NoMemory-clause-faulted g c = λ is. apart (sym c.ended-in-Err-NoMemory.ensures.code ∙ is) refl
+returns-in-Err-NoMemory-clause-faulted g c = λ is. apart (sym c.status_of-in-Err-NoMemory.ensures.code ∙ is) refl
 
 pub returns-in-Err-NoMemory-clause-damaged : goal.returns-in-Err-NoMemory-clause-damaged
-returns-in-Err-NoMemory-clause-damaged g c = λ is. apart (sym c.ended-in-Err-NoMemory.ensures.code ∙ is) refl
+returns-in-Err-NoMemory-clause-damaged g c = λ is. apart (sym c.status_of-in-Err-NoMemory.ensures.code ∙ is) refl
 
 pub returns-in-Err-NoMemory-clause-undamaged : goal.returns-in-Err-NoMemory-clause-undamaged
-returns-in-Err-NoMemory-clause-undamaged g c = λ is. apart (sym c.ended-in-Err-NoMemory.ensures.code ∙ is) refl
+returns-in-Err-NoMemory-clause-undamaged g c = λ is. apart (sym c.status_of-in-Err-NoMemory.ensures.code ∙ is) refl
 
 pub returns-in-Err-NoMemory-clause-small : goal.returns-in-Err-NoMemory-clause-small
-returns-in-Err-NoMemory-clause-small g c = λ is. apart (sym c.ended-in-Err-NoMemory.ensures.code ∙ is) refl
+returns-in-Err-NoMemory-clause-small g c = λ is. apart (sym c.status_of-in-Err-NoMemory.ensures.code ∙ is) refl
 
 pub returns-in-Err-NoMemory-clause-there : goal.returns-in-Err-NoMemory-clause-there
-returns-in-Err-NoMemory-clause-there g c = λ is. apart (sym c.ended-in-Err-NoMemory.ensures.code ∙ is) refl
+returns-in-Err-NoMemory-clause-there g c = λ is. apart (sym c.status_of-in-Err-NoMemory.ensures.code ∙ is) refl
 
 pub returns-in-Err-NoMemory-clause-refused : goal.returns-in-Err-NoMemory-clause-refused
-returns-in-Err-NoMemory-clause-refused g c = λ is. apart (sym c.ended-in-Err-NoMemory.ensures.code ∙ is) refl
+returns-in-Err-NoMemory-clause-refused g c = λ is. apart (sym c.status_of-in-Err-NoMemory.ensures.code ∙ is) refl
 
 pub returns-in-Err-NoMemory-clause-done : goal.returns-in-Err-NoMemory-clause-done
-returns-in-Err-NoMemory-clause-done g c = λ is. apart (sym c.ended-in-Err-NoMemory.ensures.code ∙ is) refl
+returns-in-Err-NoMemory-clause-done g c = λ is. apart (sym c.status_of-in-Err-NoMemory.ensures.code ∙ is) refl
 
 pub returns-in-Err-NoMemory-clause-part : goal.returns-in-Err-NoMemory-clause-part
-returns-in-Err-NoMemory-clause-part g c = λ is. apart (sym c.ended-in-Err-NoMemory.ensures.code ∙ is) refl
+returns-in-Err-NoMemory-clause-part g c = λ is. apart (sym c.status_of-in-Err-NoMemory.ensures.code ∙ is) refl
 
 pub returns-in-Err-NoMemory-clause-made : goal.returns-in-Err-NoMemory-clause-made
-returns-in-Err-NoMemory-clause-made g c = λ is. apart (sym c.ended-in-Err-NoMemory.ensures.code ∙ is) refl
+returns-in-Err-NoMemory-clause-made g c = λ is. apart (sym c.status_of-in-Err-NoMemory.ensures.code ∙ is) refl
 
 pub returns-in-Err-NoMemory-clause-memory : goal.returns-in-Err-NoMemory-clause-memory
 returns-in-Err-NoMemory-clause-memory g c = λ is. inl refl
 
 pub returns-in-Err-NoMemory-clause-unnamed : goal.returns-in-Err-NoMemory-clause-unnamed
-returns-in-Err-NoMemory-clause-unnamed g c = λ other. inl (c.ended-in-Err-NoMemory.ensures.code, refl)
+returns-in-Err-NoMemory-clause-unnamed g c = λ other. inl (c.status_of-in-Err-NoMemory.ensures.code, refl)
 
 pub returns-in-Err-NoMemory-clause-crash : goal.returns-in-Err-NoMemory-clause-crash
 returns-in-Err-NoMemory-clause-crash g c = λ other. inl refl
@@ -359,26 +360,26 @@ pub returns-in-Err-NoMemory-clause-disk : goal.returns-in-Err-NoMemory-clause-di
 returns-in-Err-NoMemory-clause-disk g c = λ other. inl refl
 
 pub returns-in-Err-NoMemory-clause-place : goal.returns-in-Err-NoMemory-clause-place
-returns-in-Err-NoMemory-clause-place g c = λ zero. c.ended-in-Err-NoMemory.ensures.place
+returns-in-Err-NoMemory-clause-place g c = λ zero. c.status_of-in-Err-NoMemory.ensures.place
 
 pub returns-in-Err-NoMemory-clause-nothing : goal.returns-in-Err-NoMemory-clause-nothing
 returns-in-Err-NoMemory-clause-nothing g c = λ some unsent quiet. refl
 
 pub returns-in-Err-NoMemory-clause-pictures : goal.returns-in-Err-NoMemory-clause-pictures
-returns-in-Err-NoMemory-clause-pictures g c = λ is drawn. apart (sym c.ended-in-Err-NoMemory.ensures.code ∙ is) refl
+returns-in-Err-NoMemory-clause-pictures g c = λ is drawn. apart (sym c.status_of-in-Err-NoMemory.ensures.code ∙ is) refl
 
 pub returns-in-Err-NoMemory-clause-untouched : goal.returns-in-Err-NoMemory-clause-untouched
 returns-in-Err-NoMemory-clause-untouched g c = λ is. refl
 
 pub returns-in-Err-NoMemory-clause-ready : goal.returns-in-Err-NoMemory-clause-ready
-returns-in-Err-NoMemory-clause-ready g c = λ own free whole. inr c.ended-in-Err-NoMemory.ensures.code
+returns-in-Err-NoMemory-clause-ready g c = λ own free whole. inr c.status_of-in-Err-NoMemory.ensures.code
 
 pub returns-in-Err-Wrong-clause-complete : goal.returns-in-Err-Wrong-clause-complete
 returns-in-Err-Wrong-clause-complete g c = λ given.
     absurd (wrong_never c.in-Err-Wrong.place _ given.command.1.command given.command.0 given.command.1.spells (wrong_end c.in-Err-Wrong.field-0 c.in-Err-Wrong.place _ c.in-Err-Wrong.field-0-is c.in-Err-Wrong.ensures.wrong))
 
 pub returns-in-Err-NoMemory-clause-complete : goal.returns-in-Err-NoMemory-clause-complete
-returns-in-Err-NoMemory-clause-complete g c = λ given. (1, omega arith, sym c.ended-in-Err-NoMemory.ensures.code)
+returns-in-Err-NoMemory-clause-complete g c = λ given. (1, omega arith, sym c.status_of-in-Err-NoMemory.ensures.code)
 
 pub returns-in-Ok-clause-statuses : goal.returns-in-Ok-clause-statuses
 returns-in-Ok-clause-statuses g c =
@@ -401,28 +402,28 @@ returns-in-Ok-clause-bars g c =
     λ is. of_command _ c.in-Ok.command c.in-Ok.command _ refl c.in-Ok.ensures.command (e.bars is)
 
 pub returns-in-Err-Wrong-clause-statuses : goal.returns-in-Err-Wrong-clause-statuses
-returns-in-Err-Wrong-clause-statuses g c = λ other more. absurd (other c.ended.ensures.code)
+returns-in-Err-Wrong-clause-statuses g c = λ other more. absurd (other c.status_of.ensures.code)
 
 pub returns-in-Err-Wrong-clause-away : goal.returns-in-Err-Wrong-clause-away
-returns-in-Err-Wrong-clause-away g c = λ other. absurd (other c.ended.ensures.code)
+returns-in-Err-Wrong-clause-away g c = λ other. absurd (other c.status_of.ensures.code)
 
 pub returns-in-Err-Wrong-clause-untaken : goal.returns-in-Err-Wrong-clause-untaken
-returns-in-Err-Wrong-clause-untaken g c = λ other. absurd (other c.ended.ensures.code)
+returns-in-Err-Wrong-clause-untaken g c = λ other. absurd (other c.status_of.ensures.code)
 
 pub returns-in-Err-Wrong-clause-bars : goal.returns-in-Err-Wrong-clause-bars
-returns-in-Err-Wrong-clause-bars g c = λ is. apart (sym c.ended.ensures.code ∙ is) refl
+returns-in-Err-Wrong-clause-bars g c = λ is. apart (sym c.status_of.ensures.code ∙ is) refl
 
 pub returns-in-Err-NoMemory-clause-statuses : goal.returns-in-Err-NoMemory-clause-statuses
-returns-in-Err-NoMemory-clause-statuses g c = λ other more. absurd (more c.ended-in-Err-NoMemory.ensures.code)
+returns-in-Err-NoMemory-clause-statuses g c = λ other more. absurd (more c.status_of-in-Err-NoMemory.ensures.code)
 
 pub returns-in-Err-NoMemory-clause-away : goal.returns-in-Err-NoMemory-clause-away
-returns-in-Err-NoMemory-clause-away g c = λ other. inl (c.ended-in-Err-NoMemory.ensures.code, refl)
+returns-in-Err-NoMemory-clause-away g c = λ other. inl (c.status_of-in-Err-NoMemory.ensures.code, refl)
 
 pub returns-in-Err-NoMemory-clause-untaken : goal.returns-in-Err-NoMemory-clause-untaken
-returns-in-Err-NoMemory-clause-untaken g c = λ other. inl (c.ended-in-Err-NoMemory.ensures.code, refl)
+returns-in-Err-NoMemory-clause-untaken g c = λ other. inl (c.status_of-in-Err-NoMemory.ensures.code, refl)
 
 pub returns-in-Err-NoMemory-clause-bars : goal.returns-in-Err-NoMemory-clause-bars
-returns-in-Err-NoMemory-clause-bars g c = λ is. apart (sym c.ended-in-Err-NoMemory.ensures.code ∙ is) refl
+returns-in-Err-NoMemory-clause-bars g c = λ is. apart (sym c.status_of-in-Err-NoMemory.ensures.code ∙ is) refl
 
 pub returns-in-Ok-clause-drawn : goal.returns-in-Ok-clause-drawn
 returns-in-Ok-clause-drawn g c =
@@ -433,7 +434,7 @@ pub returns-in-Err-Wrong-clause-drawn : goal.returns-in-Err-Wrong-clause-drawn
 returns-in-Err-Wrong-clause-drawn g c = λ own. absurd (wrong_never c.in-Err-Wrong.place _ Draw own.0 own.1 (wrong_end c.in-Err-Wrong.field-0 c.in-Err-Wrong.place _ c.in-Err-Wrong.field-0-is c.in-Err-Wrong.ensures.wrong))
 
 pub returns-in-Err-NoMemory-clause-drawn : goal.returns-in-Err-NoMemory-clause-drawn
-returns-in-Err-NoMemory-clause-drawn g c = λ own. told_good _ _ (1, omega arith, sym c.ended-in-Err-NoMemory.ensures.code)
+returns-in-Err-NoMemory-clause-drawn g c = λ own. told_good _ _ (1, omega arith, sym c.status_of-in-Err-NoMemory.ensures.code)
 
 pub returns-in-Ok-clause-holds : goal.returns-in-Ok-clause-holds
 returns-in-Ok-clause-holds g c =
@@ -441,7 +442,7 @@ returns-in-Ok-clause-holds g c =
     λ other more. inr (of_command _ c.in-Ok.command c.in-Ok.command _ refl c.in-Ok.ensures.command (e.holds more))
 
 pub returns-in-Err-Wrong-clause-holds : goal.returns-in-Err-Wrong-clause-holds
-returns-in-Err-Wrong-clause-holds g c = λ other. absurd (other c.ended.ensures.code)
+returns-in-Err-Wrong-clause-holds g c = λ other. absurd (other c.status_of.ensures.code)
 
 pub returns-in-Err-NoMemory-clause-holds : goal.returns-in-Err-NoMemory-clause-holds
 returns-in-Err-NoMemory-clause-holds g c = λ other more. inl refl
@@ -457,10 +458,10 @@ returns-in-Ok-clause-life g c =
     λ other. inr (of_command _ c.in-Ok.command c.in-Ok.command _ refl c.in-Ok.ensures.command (lives_told c.in-Ok.command (view old) (view new) (left old) (sent old) (sent new) e.crash))
 
 pub returns-in-Err-Wrong-clause-life : goal.returns-in-Err-Wrong-clause-life
-returns-in-Err-Wrong-clause-life g c = λ other. absurd (other c.ended.ensures.code)
+returns-in-Err-Wrong-clause-life g c = λ other. absurd (other c.status_of.ensures.code)
 
 pub returns-in-Err-NoMemory-clause-life : goal.returns-in-Err-NoMemory-clause-life
-returns-in-Err-NoMemory-clause-life g c = λ other. inl (c.ended-in-Err-NoMemory.ensures.code, refl)
+returns-in-Err-NoMemory-clause-life g c = λ other. inl (c.status_of-in-Err-NoMemory.ensures.code, refl)
 
 pub returns-in-Ok-clause-unknown : goal.returns-in-Ok-clause-unknown
 returns-in-Ok-clause-unknown g c =
@@ -468,10 +469,10 @@ returns-in-Ok-clause-unknown g c =
     λ is. of_command _ c.in-Ok.command c.in-Ok.command _ refl c.in-Ok.ensures.command (e.unknown is)
 
 pub returns-in-Err-Wrong-clause-unknown : goal.returns-in-Err-Wrong-clause-unknown
-returns-in-Err-Wrong-clause-unknown g c = λ is. apart (sym c.ended.ensures.code ∙ is) refl
+returns-in-Err-Wrong-clause-unknown g c = λ is. apart (sym c.status_of.ensures.code ∙ is) refl
 
 pub returns-in-Err-NoMemory-clause-unknown : goal.returns-in-Err-NoMemory-clause-unknown
-returns-in-Err-NoMemory-clause-unknown g c = λ is. apart (sym c.ended-in-Err-NoMemory.ensures.code ∙ is) refl
+returns-in-Err-NoMemory-clause-unknown g c = λ is. apart (sym c.status_of-in-Err-NoMemory.ensures.code ∙ is) refl
 
 pub returns-in-Ok-clause-covered : goal.returns-in-Ok-clause-covered
 returns-in-Ok-clause-covered g c =
@@ -483,7 +484,7 @@ returns-in-Err-Wrong-clause-covered g c = λ given.
     good_never c.in-Err-Wrong.place c.args.words.now _ _ _ (wrong_end c.in-Err-Wrong.field-0 c.in-Err-Wrong.place _ c.in-Err-Wrong.field-0-is c.in-Err-Wrong.ensures.wrong) given
 
 pub returns-in-Err-NoMemory-clause-covered : goal.returns-in-Err-NoMemory-clause-covered
-returns-in-Err-NoMemory-clause-covered g c = λ given. (1, omega arith, sym c.ended-in-Err-NoMemory.ensures.code)
+returns-in-Err-NoMemory-clause-covered g c = λ given. (1, omega arith, sym c.status_of-in-Err-NoMemory.ensures.code)
 
 pub returns-in-Ok-clause-covers : goal.returns-in-Ok-clause-covers
 returns-in-Ok-clause-covers g c =
@@ -493,10 +494,10 @@ returns-in-Ok-clause-covers g c =
     c.in-Ok.command (g.W.Disk.view c.args.world) (g.W.Disk.view c.status_of_command.result.1) (g.W.Streams.left c.args.world) (g.W.Streams.sent c.args.world) (g.W.Streams.sent c.status_of_command.result.1) (e.done is))
 
 pub returns-in-Err-Wrong-clause-covers : goal.returns-in-Err-Wrong-clause-covers
-returns-in-Err-Wrong-clause-covers g c = λ is. apart (sym c.ended.ensures.code ∙ is) refl
+returns-in-Err-Wrong-clause-covers g c = λ is. apart (sym c.status_of.ensures.code ∙ is) refl
 
 pub returns-in-Err-NoMemory-clause-covers : goal.returns-in-Err-NoMemory-clause-covers
-returns-in-Err-NoMemory-clause-covers g c = λ is. apart (sym c.ended-in-Err-NoMemory.ensures.code ∙ is) refl
+returns-in-Err-NoMemory-clause-covers g c = λ is. apart (sym c.status_of-in-Err-NoMemory.ensures.code ∙ is) refl
 
 pub returns-in-Ok-clause-refused_line : goal.returns-in-Ok-clause-refused_line
 returns-in-Ok-clause-refused_line g c =
@@ -504,10 +505,10 @@ returns-in-Ok-clause-refused_line g c =
     λ is. of_command _ c.in-Ok.command c.in-Ok.command _ refl c.in-Ok.ensures.command (e.refused_line is)
 
 pub returns-in-Err-Wrong-clause-refused_line : goal.returns-in-Err-Wrong-clause-refused_line
-returns-in-Err-Wrong-clause-refused_line g c = λ is. apart (sym c.ended.ensures.code ∙ is) refl
+returns-in-Err-Wrong-clause-refused_line g c = λ is. apart (sym c.status_of.ensures.code ∙ is) refl
 
 pub returns-in-Err-NoMemory-clause-refused_line : goal.returns-in-Err-NoMemory-clause-refused_line
-returns-in-Err-NoMemory-clause-refused_line g c = λ is. apart (sym c.ended-in-Err-NoMemory.ensures.code ∙ is) refl
+returns-in-Err-NoMemory-clause-refused_line g c = λ is. apart (sym c.status_of-in-Err-NoMemory.ensures.code ∙ is) refl
 
 pub returns-in-Ok-clause-faults : goal.returns-in-Ok-clause-faults
 returns-in-Ok-clause-faults g c = c.status_of_command.ensures.faults
@@ -516,9 +517,9 @@ pub returns-in-Err-Wrong-clause-faults : goal.returns-in-Err-Wrong-clause-faults
 returns-in-Err-Wrong-clause-faults g c =
     let view = g.W.Disk.view c.args.world in
     let P : ℕ → Type 0 = λ code. CountsFault (code_fault code) view view in
-    subst P (sym c.ended.ensures.code) (counts_none view view refl refl refl)
+    subst P (sym c.status_of.ensures.code) (counts_none view view refl refl refl)
 
 pub returns-in-Err-NoMemory-clause-faults : goal.returns-in-Err-NoMemory-clause-faults
 returns-in-Err-NoMemory-clause-faults g c =
     let view = g.W.Disk.view c.args.world in
-    counts_as c.ended-in-Err-NoMemory.result (status 3 0) view view c.ended-in-Err-NoMemory.ensures.status (counts_none view view refl refl refl)
+    counts_as c.status_of-in-Err-NoMemory.result (status 3 0) view view c.status_of-in-Err-NoMemory.ensures.status (counts_none view view refl refl refl)

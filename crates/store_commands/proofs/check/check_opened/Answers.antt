@@ -7,9 +7,9 @@ use Rattle.series_store.specs.Counting.{AreSound}
 use Rattle.stored_book.specs.Standing.{AreCatalog}
 use Rattle.store_commands.specs.Checked.{counts_text}
 use Rattle.series_store.specs.Shown as shown
-use Rattle.store_commands.specs.Checking.{ChecksStore, check_status}
-use Rattle.store_commands.specs.Faulting.{counts_as}
-use Rattle.store_commands.specs.Status.{code_fault}
+use Rattle.run_ends.specs.declared.ending.End.{End}
+use Rattle.store_commands.specs.Checking.{ChecksStore}
+use Rattle.store_commands.specs.Status.{end_fault}
 use Rattle.store_commands.proofs.FaultLemmas.{counts_unchecked}
 use Rattle.store_commands.specs.Sending.{SendsText}
 use Rattle.store_commands.proofs.Held.{rests_new, stands_held}
@@ -64,9 +64,9 @@ returns-in-Err-clause-checks g c =
     let beside = e.looks.kept.beside in
     let closed = read.at_rest (e.looks.kept.fit c.requires) in
     let rests = rests_new pages.count (view old) (shown.numbers c.args.store) (pages.at_rest c.requires) (c.args.store.space.spelled c.requires) in
-    let P : g.row.W.Denot → Type 0 = λ d. ChecksStore pages.count (view old) (view d) (sent old) (sent d) (sends old) (sends d) c.check_status.result in
+    let P : g.row.W.Denot → Type 0 = λ d. ChecksStore pages.count (view old) (view d) (sent old) (sent d) (sends old) (sends d) c.check_end.result in
     subst P (sym c.disk_of-world.ensures.disk)
-    (checks_not pages.count read.count pages.sound read.sound (view old) (view mid) e.looks.kept e.looks.over.goes_on rests closed (shown.numbers c.args.store) (sent old) (sent mid) (sends old) (sends mid) c.in-Err.error c.check_status.result c.check_status.ensures
+    (checks_not pages.count read.count pages.sound read.sound (view old) (view mid) e.looks.kept e.looks.over.goes_on rests closed (shown.numbers c.args.store) (sent old) (sent mid) (sends old) (sends mid) c.in-Err.error c.check_end.result c.check_end.ensures
     (sym (w.beside_sent mid) ∙ ap (λ (b : Beside). b.sent) beside ∙ w.beside_sent old)
     (λ honest. record { spelled = c.args.store.space.spelled c.requires honest; rules = c.args.store.space.rules }) c.args.store.space.rules.total_high c.in-Err.ensures.within
     c.in-Err.ensures.cause
@@ -94,7 +94,7 @@ returns-in-Ok-clause-faults g c =
     let old = view (shown.pages c.args.store).disk in
     let mid = (shown.pages c.check-counted.new.self).disk in
     let new = view c.send_text.result.1 in
-    let fault = code_fault c.send_text.result.0.code in
+    let fault = end_fault c.send_text.result.0 in
     let P : g.row.W.Denot → Type 0 = λ d. CountsFault fault (view d) new in
     counts_then fault old (view mid) new (counts_no_disk old (view mid) c.check-counted.ensures.looks.kept.beside c.in-Ok.ensures.quiet) (subst P c.disk_of-world.ensures.disk c.send_text.ensures.faults)
 
@@ -104,7 +104,8 @@ returns-in-Err-clause-faults g c =
     let old = view (shown.pages c.args.store).disk in
     let mid = (shown.pages c.check-counted.new.self).disk in
     let error = c.in-Err.error in
-    let P : g.row.W.Denot → Type 0 = λ d. CountsFault (code_fault c.check_status.result.code) old (view d) in
+    let P : g.row.W.Denot → Type 0 = λ d. CountsFault (end_fault c.check_end.result) old (view d) in
+    let E : End → Type 0 = λ e. CountsFault (end_fault e) old (view mid) in
     subst P (sym c.disk_of-world.ensures.disk)
-    (counts_as c.check_status.result (check_status error) old (view mid) c.check_status.ensures
+    (subst E (sym c.check_end.ensures)
     (counts_unchecked error (shown.IsTold c.args.store) (shown.numbers c.args.store) (shown.view c.args.store) (shown.view c.check-counted.new.self) c.check-counted.ensures.looks.kept.beside c.in-Err.ensures.cause c.in-Err.ensures.quiet_err))

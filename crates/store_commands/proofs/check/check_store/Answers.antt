@@ -2,12 +2,14 @@ use Rattle.std.proofs.Common.{sym, ap, ◌∙◌}
 use Rattle.block_disk.specs.View.{Beside}
 use Rattle.chart_world.specs.FaultLaws.{counts_no_disk, counts_then}
 use Rattle.series_store.specs.Shown as shown
-use Rattle.store_commands.specs.Faulting.{counts_as, counts_unopened}
-use Rattle.store_commands.specs.Status.{code_fault, opening_status}
-use Rattle.store_commands.proofs.CheckEnds.{ends_opened, ends_unopened}
+use Rattle.run_ends.specs.Statuses.{status_of}
+use Rattle.run_ends.specs.declared.ending.End.{End}
+use Rattle.store_commands.specs.Faulting.{counts_unopened_end}
+use Rattle.store_commands.specs.Status.{end_fault}
+use Rattle.store_commands.proofs.CheckEnds.{ends_opened, unchecked}
 use Rattle.store_commands.proofs.Held.{opened_book}
 use Rattle.store_commands.proofs.TurnedAway.{away_never}
-use Rattle.store_commands.proofs.WorldLemmas.{away_over}
+use Rattle.store_commands.proofs.WorldLemmas.{away_over, unopened_over}
 use Rattle.store_commands.proofs.check.check_store.Goals as goal
 
 pub returns-in-Ok-clause-ends : goal.returns-in-Ok-clause-ends
@@ -33,20 +35,19 @@ returns-in-Err-clause-ends g c =
     let view = g.W.Disk.view in
     let sent = g.W.Streams.sent in
     let sends = g.W.Streams.send_faults in
+    let left = g.W.Streams.left in
     let old = c.args.world in
     let new = c.in-Err.field-0.value in
     let e = c.in-Err.ensures in
-    let beside = e.opens.beside_is in
-    let w = g.met.W.World in
-    ends_unopened (view old) (view new) (sent old) (sent new) (sends old) (sends new) c.in-Err.field-0.cause c.opening_status.result e.opens e.cause e.a_store c.opening_status.ensures
-    (sym (w.beside_sent new) ∙ ap (λ (b : Beside). b.sent) beside ∙ w.beside_sent old)
+    unchecked (view old) (view new) (left old) (left new) (sent old) (sent new) (sends old) (sends new) c.in-Err.field-0.cause c.opening_end.result
+    (unopened_over g.W.Disk.view g.W.Streams.left g.W.Streams.sent g.met.W.World.beside_left g.met.W.World.beside_sent old new c.in-Err.field-0.cause e.opens.beside_is e.opens e.cause e.a_store) c.opening_end.ensures
 
 pub returns-in-Ok-clause-away : goal.returns-in-Ok-clause-away
 returns-in-Ok-clause-away g c = away_never _ _ c.in-Ok.ensures.large
 
 pub returns-in-Err-clause-away : goal.returns-in-Err-clause-away
 returns-in-Err-clause-away g c =
-    away_over g.W.Disk.view g.W.Streams.left g.W.Streams.sent g.met.W.World.beside_left g.met.W.World.beside_sent c.args.world c.in-Err.field-0.value c.in-Err.field-0.cause c.in-Err.ensures.opens.beside_is c.opening_status.result c.opening_status.ensures c.in-Err.ensures.cause
+    away_over g.W.Disk.view g.W.Streams.left g.W.Streams.sent g.met.W.World.beside_left g.met.W.World.beside_sent c.args.world c.in-Err.field-0.value c.in-Err.field-0.cause c.in-Err.ensures.opens.beside_is (status_of c.opening_end.result) (ap (λ (e : End). status_of e) c.opening_end.ensures) c.in-Err.ensures.cause
 
 pub returns-in-Err-clause-untaken : goal.returns-in-Err-clause-untaken
 returns-in-Err-clause-untaken g c =
@@ -68,11 +69,11 @@ returns-in-Ok-clause-faults g c =
     let old = view c.args.world in
     let mid = view (shown.pages c.in-Ok.store).disk in
     let e = c.in-Ok.ensures in
-    counts_then (code_fault c.check_opened.result.0.code) old mid (view c.check_opened.result.1) (counts_no_disk old mid e.opens.beside_is e.quiet) c.check_opened.ensures.faults
+    counts_then (end_fault c.check_opened.result.0) old mid (view c.check_opened.result.1) (counts_no_disk old mid e.opens.beside_is e.quiet) c.check_opened.ensures.faults
 
 pub returns-in-Err-clause-faults : goal.returns-in-Err-clause-faults
 returns-in-Err-clause-faults g c =
     let view = g.W.Disk.view in
     let back = c.in-Err.field-0 in
     let e = c.in-Err.ensures in
-    counts_as c.opening_status.result (opening_status back.cause) (view c.args.world) (view back.value) c.opening_status.ensures (counts_unopened back.cause (view c.args.world) (view back.value) e.opens.beside_is e.cause e.quiet_err)
+    counts_unopened_end back.cause c.opening_end.result (view c.args.world) (view back.value) c.opening_end.ensures e.opens.beside_is e.cause e.quiet_err

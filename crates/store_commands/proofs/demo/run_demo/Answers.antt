@@ -4,25 +4,26 @@ use Rattle.chart_world.specs.Faults.{CountsFault, fault_in}
 use Rattle.chart_world.specs.FaultLaws.{counts_no_disk, counts_then}
 use Rattle.demo_workload.specs.Ending.{demo_fault}
 use Rattle.series_store.specs.Shown as shown
-use Rattle.store_commands.specs.Faulting.{counts_as, counts_told, counts_unopened}
-use Rattle.store_commands.specs.Status.{code_fault, opening_status}
+use Rattle.run_ends.specs.Statuses.{status_of}
+use Rattle.run_ends.specs.declared.ending.End.{End}
+use Rattle.store_commands.specs.Faulting.{counts_told, counts_unopened_end}
+use Rattle.store_commands.specs.Status.{end_fault}
 use Rattle.store_commands.proofs.FaultLemmas.{demo_fault_is}
 use Rattle.demo_workload.specs.Summaries.{summary_line}
 use Rattle.demo_workload.specs.Workload.{workload}
 use Rattle.store_commands.proofs.DemoRequests.{answered_opened}
 use Rattle.store_commands.proofs.DemoSent.{sent_ends}
-use Rattle.store_commands.proofs.DemoEnds.{opening_ends_so, stopped_ends_so}
+use Rattle.store_commands.proofs.DemoEnds.{undemonstrated, stopped_ends}
 use Rattle.std.specs.Prelude.{◌≤◌}
 use Rattle.block_disk.specs.View.{sent_now}
 use Rattle.gate_pages.specs.Journal.{page_count}
 use Rattle.demo_workload.specs.declared.demo_end.DemoEnd.{DemoEnd}
 use Rattle.demo_workload.specs.declared.summaries.Summary.{Summary}
-use Rattle.demo_workload.specs.declared.demo_end.DemoEnd.TheVariants as demo_end
-use Rattle.store_commands.specs.declared.status.Status.{Status}
-use Rattle.store_commands.specs.Answering.{end_status}
+use Rattle.demo_workload.specs.declared.demo_end.DemoEnd.TheVariants as why
+use Rattle.store_commands.specs.Answering.{demo_end}
 use Rattle.store_commands.proofs.HoldsAgain.{again_opened, again_sent, again_answered}
 use Rattle.store_commands.proofs.TurnedAway.{away_never}
-use Rattle.store_commands.proofs.WorldLemmas.{away_over}
+use Rattle.store_commands.proofs.WorldLemmas.{away_over, unopened_over}
 use Rattle.store_commands.proofs.demo.run_demo.Goals as goal
 
 pub returns-in-Ok-answer-clause-ends : goal.returns-in-Ok-answer-clause-ends
@@ -53,7 +54,7 @@ returns-in-Err-answer-clause-ends g c =
     let end = c.in-Err-answer.end in
     let w = g.met.W.World in
     let a = answered_opened (workload c.args.seed c.args.rounds) opened.count (view old) (view opened.disk) (view new) c.answer_store-answer.result.0 (Err end) c.in-Ok.ensures.count c.in-Err-answer.is c.in-Ok.ensures.opens c.in-Ok.ensures.quiet c.answer_store-answer.ensures.answered in
-    stopped_ends_so c.args.seed c.args.rounds (view old) (view new) (sent old) (sent new) (sends old) (sends new) end c.end_status.result c.end_status.ensures a
+    stopped_ends c.args.seed c.args.rounds (view old) (view new) (sent old) (sent new) (sends old) (sends new) end c.demo_end.result c.demo_end.ensures a
     (sym (w.beside_sent new) ∙ ap (λ (b : Beside). b.sent) a.beside ∙ w.beside_sent old)
 
 pub returns-in-Err-clause-ends : goal.returns-in-Err-clause-ends
@@ -63,9 +64,10 @@ returns-in-Err-clause-ends g c =
     let sends = g.W.Streams.send_faults in
     let old = c.args.world in
     let new = c.in-Err.field-0.value in
-    let w = g.met.W.World in
-    opening_ends_so c.args.seed c.args.rounds (view old) (view new) (sent old) (sent new) (sends old) (sends new) c.in-Err.field-0.cause c.opening_status.result c.opening_status.ensures c.in-Err.ensures.opens c.in-Err.ensures.cause c.in-Err.ensures.a_store
-    (sym (w.beside_sent new) ∙ ap (λ (b : Beside). b.sent) c.in-Err.ensures.opens.beside_is ∙ w.beside_sent old)
+    let left = g.W.Streams.left in
+    let e = c.in-Err.ensures in
+    undemonstrated c.args.seed c.args.rounds (view old) (view new) (left old) (left new) (sent old) (sent new) (sends old) (sends new) c.in-Err.field-0.cause c.opening_end.result
+    (unopened_over g.W.Disk.view g.W.Streams.left g.W.Streams.sent g.met.W.World.beside_left g.met.W.World.beside_sent old new c.in-Err.field-0.cause e.opens.beside_is e.opens e.cause e.a_store) c.opening_end.ensures
 
 pub returns-in-Ok-answer-clause-away : goal.returns-in-Ok-answer-clause-away
 returns-in-Ok-answer-clause-away g c = away_never _ _ c.in-Ok.ensures.large
@@ -75,7 +77,7 @@ returns-in-Err-answer-clause-away g c = away_never _ _ c.in-Ok.ensures.large
 
 pub returns-in-Err-clause-away : goal.returns-in-Err-clause-away
 returns-in-Err-clause-away g c =
-    away_over g.W.Disk.view g.W.Streams.left g.W.Streams.sent g.met.W.World.beside_left g.met.W.World.beside_sent c.args.world c.in-Err.field-0.value c.in-Err.field-0.cause c.in-Err.ensures.opens.beside_is c.opening_status.result c.opening_status.ensures c.in-Err.ensures.cause
+    away_over g.W.Disk.view g.W.Streams.left g.W.Streams.sent g.met.W.World.beside_left g.met.W.World.beside_sent c.args.world c.in-Err.field-0.value c.in-Err.field-0.cause c.in-Err.ensures.opens.beside_is (status_of c.opening_end.result) (ap (λ (e : End). status_of e) c.opening_end.ensures) c.in-Err.ensures.cause
 
 pub returns-in-Err-clause-untaken : goal.returns-in-Err-clause-untaken
 returns-in-Err-clause-untaken g c =
@@ -121,7 +123,7 @@ returns-in-Err-answer-clause-holds g c = λ other.
     let a = answered_opened requests opened.count (view old) (view opened.disk) (view mid) c.answer_store-answer.result.0 (Err c.in-Err-answer.end) c.in-Ok.ensures.count c.in-Err-answer.is c.in-Ok.ensures.opens c.in-Ok.ensures.quiet c.answer_store-answer.ensures.answered in
     let end = c.in-Err-answer.end in
     again_answered requests (page_count (view old).size) (view old) (view mid) (Err end)
-    (λ is. let same : end ≡ demo_end.DiskFault = cc in other (ap (λ (s : Status). s.code) c.end_status.ensures ∙ ap (λ (e : DemoEnd). (end_status e).code) same)) a
+    (λ is. let same : end ≡ why.DiskFault = cc in other (c.demo_end.ensures ∙ ap (λ (e : DemoEnd). demo_end e) same)) a
 
 pub returns-in-Err-clause-holds : goal.returns-in-Err-clause-holds
 returns-in-Err-clause-holds g c = λ other. again_opened (g.W.Disk.view c.args.world) (g.W.Disk.view c.in-Err.field-0.value) c.in-Err.ensures.opens
@@ -136,7 +138,7 @@ returns-in-Ok-answer-clause-faults g c =
     let e = c.in-Ok.ensures in
     let P : Result Summary DemoEnd → Type 0 = λ r. CountsFault (fault_in demo_fault r) start mid in
     let answered = counts_then None old start mid (counts_no_disk old start e.opens.beside_is e.quiet) (subst P c.in-Ok-answer.is c.answer_store-answer.ensures.faults) in
-    counts_then (code_fault c.send_text.result.0.code) old mid new answered c.send_text.ensures.faults
+    counts_then (end_fault c.send_text.result.0) old mid new answered c.send_text.ensures.faults
 
 pub returns-in-Err-answer-clause-faults : goal.returns-in-Err-answer-clause-faults
 returns-in-Err-answer-clause-faults g c =
@@ -148,11 +150,12 @@ returns-in-Err-answer-clause-faults g c =
     let e = c.in-Ok.ensures in
     let P : Result Summary DemoEnd → Type 0 = λ r. CountsFault (fault_in demo_fault r) start new in
     let answered = counts_then (demo_fault end) old start new (counts_no_disk old start e.opens.beside_is e.quiet) (subst P c.in-Err-answer.is c.answer_store-answer.ensures.faults) in
-    counts_as c.end_status.result (end_status end) old new c.end_status.ensures (counts_told (demo_fault end) (code_fault (end_status end).code) old new (demo_fault_is end) answered)
+    let E : End → Type 0 = λ x. CountsFault (end_fault x) old new in
+    subst E (sym c.demo_end.ensures) (counts_told (demo_fault end) (end_fault (demo_end end)) old new (demo_fault_is end) answered)
 
 pub returns-in-Err-clause-faults : goal.returns-in-Err-clause-faults
 returns-in-Err-clause-faults g c =
     let view = g.W.Disk.view in
     let back = c.in-Err.field-0 in
     let e = c.in-Err.ensures in
-    counts_as c.opening_status.result (opening_status back.cause) (view c.args.world) (view back.value) c.opening_status.ensures (counts_unopened back.cause (view c.args.world) (view back.value) e.opens.beside_is e.cause e.quiet_err)
+    counts_unopened_end back.cause c.opening_end.result (view c.args.world) (view back.value) c.opening_end.ensures e.opens.beside_is e.cause e.quiet_err

@@ -4,11 +4,12 @@ use Rattle.chart_world.specs.FaultLaws.{counts_none}
 use Rattle.gate_pages.specs.GatePages.{IsClosed}
 use Rattle.series_export.specs.Faults.{send_fault}
 use Rattle.series_store.specs.Shown as shown
-use Rattle.store_commands.specs.Exporting.{ExportsStore, export_status}
-use Rattle.store_commands.specs.Faulting.{counts_as, counts_told}
-use Rattle.store_commands.specs.Status.{code_fault, status}
+use Rattle.run_ends.specs.declared.ending.End.{End}
+use Rattle.run_ends.specs.declared.ending.End.TheVariants.{UnknownSeries}
+use Rattle.store_commands.specs.Exporting.{ExportsStore, export_end}
+use Rattle.store_commands.specs.Faulting.{counts_told}
+use Rattle.store_commands.specs.Status.{end_fault}
 use Rattle.store_commands.proofs.FaultLemmas.{send_fault_is}
-use Rattle.store_commands.specs.declared.status.Status.{Status}
 use Rattle.store_commands.proofs.Held.{rests_new}
 use Rattle.store_commands.proofs.ExportEnds.{series_sent, none_found}
 use Rattle.store_commands.proofs.export.export_opened.Goals as goal
@@ -22,11 +23,9 @@ returns-in_default-clause-exports g c =
     let window = c.args.window in
     let pages = shown.pages c.args.store in
     let disk = pages.disk in
-    let D : g.row.W.Denot → Type 0 = λ d. ExportsStore name window pages.count (view disk) (view d) (sent disk) (sent d) (sends disk) (sends d) c.ended.result in
-    let E : Status → Type 0 = λ s. ExportsStore name window pages.count (view disk) (view disk) (sent disk) (sent disk) (sends disk) (sends disk) s in
+    let D : g.row.W.Denot → Type 0 = λ d. ExportsStore name window pages.count (view disk) (view d) (sent disk) (sent d) (sends disk) (sends d) UnknownSeries in
     subst D (sym c.disk_of.ensures.disk)
-    (subst E (sym c.ended.ensures.status)
-    (none_found name window pages.count (view disk) (sent disk) (sends disk) (rests_new pages.count (view disk) (shown.numbers c.args.store) (pages.at_rest c.requires) (c.args.store.space.spelled c.requires)) (λ total book honest stands. c.in_default.ensures.info total book c.requires honest stands)))
+    (none_found name window pages.count (view disk) (sent disk) (sends disk) (rests_new pages.count (view disk) (shown.numbers c.args.store) (pages.at_rest c.requires) (c.args.store.space.spelled c.requires)) (λ total book honest stands. c.in_default.ensures.info total book c.requires honest stands))
 
 pub returns-clause-exports : goal.returns-clause-exports
 returns-clause-exports g c =
@@ -46,10 +45,10 @@ returns-clause-exports g c =
     let w = g.met.W.World in
     let P : g.row.W.Denot → Type 0 = λ d. IsClosed (view d) in
     let closed = subst P c.disk_of-2.ensures.disk (c.disk_of-2.ensures.rests (e.sends.fit c.requires)) in
-    let D : g.row.W.Denot → Type 0 = λ d. ExportsStore name window pages.count (view disk) (view d) (sent disk) (sent d) (sends disk) (sends d) c.export_status.result in
-    let E : Status → Type 0 = λ s. ExportsStore name window pages.count (view disk) (view new) (sent disk) (sent new) (sends disk) (sends new) s in
+    let D : g.row.W.Denot → Type 0 = λ d. ExportsStore name window pages.count (view disk) (view d) (sent disk) (sent d) (sends disk) (sends d) c.export_end.result in
+    let E : End → Type 0 = λ s. ExportsStore name window pages.count (view disk) (view new) (sent disk) (sent new) (sends disk) (sends new) s in
     subst D (sym c.disk_of-2.ensures.disk)
-    (subst E (sym c.export_status.ensures)
+    (subst E (sym c.export_end.ensures)
     (series_sent name window pages.count end_pages.count pages.sound end_pages.sound (view disk) (view new) (shown.numbers before) (shown.numbers after) e.sends (rests_new pages.count (view disk) (shown.numbers before) (pages.at_rest c.requires) (before.space.spelled c.requires)) closed c.in-Some.info.id
     (λ total book honest stands. (c.in-Some.ensures.info total book c.requires honest stands).0)
     (sent disk) (sent new) (sends disk) (sends new) answer (w.beside_send_faults disk) (w.beside_send_faults new)
@@ -75,8 +74,8 @@ pub returns-in_default-clause-faults : goal.returns-in_default-clause-faults
 returns-in_default-clause-faults g c =
     let view = g.W.Disk.view in
     let old = view (shown.pages c.args.store).disk in
-    let D : g.row.W.Denot → Type 0 = λ d. CountsFault (code_fault c.ended.result.code) old (view d) in
-    subst D (sym c.disk_of.ensures.disk) (counts_as c.ended.result (status 14 8) old old c.ended.ensures.status (counts_none old old refl refl refl))
+    let D : g.row.W.Denot → Type 0 = λ d. CountsFault (end_fault UnknownSeries) old (view d) in
+    subst D (sym c.disk_of.ensures.disk) (counts_none old old refl refl refl)
 
 pub returns-clause-faults : goal.returns-clause-faults
 returns-clause-faults g c =
@@ -84,7 +83,8 @@ returns-clause-faults g c =
     let old = view (shown.pages c.args.store).disk in
     let new = (shown.pages c.export_series-answer.new.store).disk in
     let answer = c.export_series-answer.result in
-    let D : g.row.W.Denot → Type 0 = λ d. CountsFault (code_fault c.export_status.result.code) old (view d) in
+    let D : g.row.W.Denot → Type 0 = λ d. CountsFault (end_fault c.export_end.result) old (view d) in
+    let E : End → Type 0 = λ e. CountsFault (end_fault e) old (view new) in
     subst D (sym c.disk_of-2.ensures.disk)
-    (counts_as c.export_status.result (export_status answer) old (view new) c.export_status.ensures
-    (counts_told (fault_in send_fault answer) (code_fault (export_status answer).code) old (view new) (send_fault_is answer) c.export_series-answer.ensures.faults))
+    (subst E (sym c.export_end.ensures)
+    (counts_told (fault_in send_fault answer) (end_fault (export_end answer)) old (view new) (send_fault_is answer) c.export_series-answer.ensures.faults))

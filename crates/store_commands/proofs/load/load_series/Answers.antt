@@ -5,16 +5,16 @@ use Rattle.chart_world.specs.Faults.{CountsFault, fault_in}
 use Rattle.chart_world.specs.FaultLaws.{counts_no_disk, counts_then}
 use Rattle.series_load.specs.Faults.{load_fault}
 use Rattle.series_store.specs.Shown as shown
-use Rattle.store_commands.specs.Faulting.{counts_as, counts_told, counts_unopened}
-use Rattle.store_commands.specs.Status.{code_fault, opening_status}
+use Rattle.store_commands.specs.Faulting.{counts_as, counts_end, counts_told, counts_unopened}
+use Rattle.store_commands.specs.Status.{code_fault, end_fault, opening_status}
 use Rattle.store_commands.proofs.FaultLemmas.{load_fault_is}
-use Rattle.store_commands.specs.Loaded.{loaded_text}
+use Rattle.store_commands.specs.Loaded.{LoadEnds, loaded_text}
 use Rattle.store_commands.proofs.LoadEnds.{opening_ends_so, stopped_ends_so, sent_ends, stores_on}
 use Rattle.block_disk.specs.View.{sent_now}
 use Rattle.gate_pages.specs.Journal.{page_count}
 use Rattle.series_load.specs.declared.load_end.LoadEnd.{LoadEnd}
 use Rattle.series_load.specs.declared.load_end.LoadEnd.TheVariants as load_end
-use Rattle.store_commands.specs.declared.status.Status.{Status}
+use Rattle.run_ends.specs.declared.status.Status.{Status}
 use Rattle.store_commands.specs.Storing.{end_status}
 use Rattle.store_commands.proofs.HoldsAgain.{again_opened, again_sent, again_loaded}
 use Rattle.store_commands.proofs.TurnedAway.{away_never}
@@ -33,7 +33,7 @@ returns-in-Ok-answer-clause-ends g c =
     let opened = shown.pages c.in-Ok.store in
     let start = opened.disk in
     let mid = c.load_store-answer.result.1 in
-    let new = c.send_text.result.1 in
+    let new = c.send_text-end.result.1 in
     let beside = c.in-Ok.ensures.opens.beside_is in
     let w = g.met.W.World in
     let s = stores_on name opened.count (view old) (view start) (view mid) (left start) (left old) (left mid) (sent start) (sent old) (sent mid) (reads start) (reads old) (reads mid) (sends start) (sends old) (sends mid) c.load_store-answer.result.0 (Ok c.in-Ok-answer.readings) c.in-Ok.ensures.count c.in-Ok-answer.is c.in-Ok.ensures.opens c.in-Ok.ensures.quiet
@@ -42,7 +42,9 @@ returns-in-Ok-answer-clause-ends g c =
     (sym (w.beside_read_faults start) ∙ ap (λ (b : Beside). b.read_faults) beside ∙ w.beside_read_faults old)
     (sym (w.beside_send_faults start) ∙ ap (λ (b : Beside). b.send_faults) beside ∙ w.beside_send_faults old)
     c.load_store-answer.ensures.stores in
-    sent_ends name (view old) (view mid) (view new) (left old) (left mid) (left new) (sent old) (sent mid) (sent new) (reads old) (reads mid) (reads new) (sends old) (sends mid) (sends new) c.in-Ok-answer.readings c.send_text.result.0 s (c.send_text.ensures.sends (loaded_text c.in-Ok-answer.readings) c.loaded_text.ensures)
+    let P : Status → Type 0 = λ e. LoadEnds name (view old) (view new) (left old) (left new) (sent old) (sent new) (reads old) (reads new) (sends old) (sends new) e.code e.place in
+    subst P (sym c.status_of.ensures.status)
+    (sent_ends name (view old) (view mid) (view new) (left old) (left mid) (left new) (sent old) (sent mid) (sent new) (reads old) (reads mid) (reads new) (sends old) (sends mid) (sends new) c.in-Ok-answer.readings c.send_text-end.result.0 s (c.send_text-end.ensures.sends (loaded_text c.in-Ok-answer.readings) c.loaded_text.ensures))
 
 pub returns-in-Err-answer-clause-ends : goal.returns-in-Err-answer-clause-ends
 returns-in-Err-answer-clause-ends g c =
@@ -109,8 +111,8 @@ returns-in-Ok-answer-clause-holds g c = λ other.
     (sym (w.beside_read_faults start) ∙ ap (λ (b : Beside). b.read_faults) beside ∙ w.beside_read_faults old)
     (sym (w.beside_send_faults start) ∙ ap (λ (b : Beside). b.send_faults) beside ∙ w.beside_send_faults old)
     c.load_store-answer.ensures.stores in
-    let new = c.send_text.result.1 in
-    let text = c.send_text.ensures.sends (loaded_text c.in-Ok-answer.readings) c.loaded_text.ensures in
+    let new = c.send_text-end.result.1 in
+    let text = c.send_text-end.ensures.sends (loaded_text c.in-Ok-answer.readings) c.loaded_text.ensures in
     again_sent (page_count (view old).size) (view old) (view mid) (view new) (λ count. (sent_now (view mid) ≤ count) × (count ≤ sent_now (view new))) text.kept text.time
     (again_loaded name (page_count (view old).size) (view old) (view mid) (left old) (left mid) (sent old) (sent mid) (reads old) (reads mid) (sends old) (sends mid) (Ok c.in-Ok-answer.readings) (λ is. cc) s)
 
@@ -147,11 +149,12 @@ returns-in-Ok-answer-clause-faults g c =
     let old = view c.args.world in
     let start = view (shown.pages c.in-Ok.store).disk in
     let mid = view c.load_store-answer.result.1 in
-    let new = view c.send_text.result.1 in
+    let new = view c.send_text-end.result.1 in
     let e = c.in-Ok.ensures in
     let P : Result ℕ LoadEnd → Type 0 = λ r. CountsFault (fault_in load_fault r) start mid in
     let answered = counts_then None old start mid (counts_no_disk old start e.opens.beside_is e.quiet) (subst P c.in-Ok-answer.is c.load_store-answer.ensures.faults) in
-    counts_then (code_fault c.send_text.result.0.code) old mid new answered c.send_text.ensures.faults
+    let end = c.send_text-end.result.0 in
+    counts_end end c.status_of.result old new c.status_of.ensures.status (counts_then (end_fault end) old mid new answered c.send_text-end.ensures.faults)
 
 pub returns-in-Err-answer-clause-faults : goal.returns-in-Err-answer-clause-faults
 returns-in-Err-answer-clause-faults g c =

@@ -1,17 +1,4 @@
-ghost use Rattle.std.specs.Prelude.{◌≡◌};
-ghost use Rattle.store_commands.specs.Status.{status, opening_status};
-
-use disk_store::OpeningCause;
-
-/// How a run ended: 0 where it did all that it was asked, else a code that says what came in its way,
-/// with its place.
-#[derive(Clone, Copy)]
-pub struct Status {
-    /// One of the codes of this module.
-    pub code: u8,
-    /// What the code says of the words, of the input or of the disk, else 0.
-    pub place: u64,
-}
+//! The codes of statuses.
 
 /// All input was read to its end, and all output was sent.
 pub const DONE: u8 = 0;
@@ -61,35 +48,11 @@ pub const IS_STORE: u8 = 13;
 /// place is 256 times the offset of the line of its first reading, and the number of the refusal.
 pub const REFUSED: u8 = 14;
 
-/// The place of `REFUSED` where the store has no series of the name.
-pub const UNKNOWN_SERIES: u64 = 8;
-
 /// A frame names a session that isn't open. The place is the session's number.
 pub const UNKNOWN_SESSION: u8 = 15;
 
-/// The first block of a store's pages: page p is block 66 + p.
-pub const FIRST_PAGE: u64 = 66;
+/// A line of `derive` is refused. The place is 256 times the offset of the line, and the number of the refusal.
+pub const REFUSED_LINE: u8 = 16;
 
-/// The most bytes of input that a run takes.
-pub const MOST_BYTES: u64 = 4_294_967_296;
-
-/// The status of this code and place.
-pub fn ended(code: u8, place: u64) -> Status
-    ensures code { result.code ≡ code }
-    ensures place { result.place ≡ place }
-    ensures status { result ≡ status code place }
-{
-    Status { code, place }
-}
-
-/// The status of why the store of a disk wasn't opened.
-pub fn opening_status(cause: OpeningCause) -> Status
-    ensures { result ≡ opening_status cause }
-{
-    match cause {
-        OpeningCause::TooSmall(blocks) => ended(TOO_SMALL, u64::from(blocks)),
-        OpeningCause::Damaged { block } => ended(DAMAGED, block),
-        OpeningCause::DiskFault => ended(DISK_FAULT, 0),
-        OpeningCause::NoMemory => ended(NO_MEMORY, 0),
-    }
-}
+/// A line of `retain` names a series that isn't there. The place is the offset of the line.
+pub const NO_SERIES: u8 = 17;
