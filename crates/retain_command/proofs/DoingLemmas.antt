@@ -1,20 +1,13 @@
 -- One rule is swept and answered, and one line.
-use Rattle.std.proofs.Common.{◌≡◌, ◌≢◌, ◌∙◌, ◌↔◌, ℕ, ◌+◌, ◌<◌, ◌≤◌, List, [], length, take, Option, Some, None, Result, Ok, Err, IfSome, refl, ap, sym, subst, arith, inl, inr}
+use Rattle.std.proofs.Common.{◌≡◌, ◌≢◌, ◌∙◌, ◌↔◌, ℕ, ◌+◌, ◌<◌, ◌≤◌, List, [], length, take, Option, Some, Result, Ok, Err, refl, ap, sym, subst, arith, inl, inr}
 use Rattle.std.specs.Prelude.{OnOk, IfErr}
 use Rattle.std.proofs.lemmas.List.{take_all}
-use Rattle.block_disk.specs.Counts.{HasRisen}
 use Rattle.block_disk.specs.Streams.{sent_after}
 use Rattle.block_disk.specs.View.{Image, View, DiskKept, Now, Only, Passes, sent_now}
-use Rattle.chart_service.specs.MomentLaws.{through_none, through_by, through_so, through_then}
-use Rattle.chart_service.specs.Moments.{Through}
-use Rattle.chart_service.proofs.DiskKept.{risen_since}
-use Rattle.chart_world.specs.FaultLaws.{disk_stays, sends_stay, takes_stay}
-use Rattle.chart_world.specs.Faults.{CountsFault}
-use Rattle.chart_world.specs.declared.line_answer.LineFault.{LineFault}
-use Rattle.chart_world.specs.declared.line_answer.LineFault.TheVariants as fault
+use Rattle.line_runs.specs.MomentLaws.{through_none, through_by, through_so, through_then}
+use Rattle.line_runs.specs.Moments.{Through}
 use Rattle.gate_pages.proofs.Moving.{sent_same}
-use Rattle.gate_pages.specs.GateLaws.{goes_none, goes_then as goes_on_then}
-use Rattle.gate_pages.specs.Pages.{GoesOn, Quiet}
+use Rattle.gate_pages.specs.Pages.{Quiet}
 use Rattle.series_book.specs.declared.one_series.Series.{Series}
 use Rattle.series_book.specs.EditLists.{after_edits}
 use Rattle.stored_book.specs.Standing.{StandsForBook}
@@ -26,9 +19,7 @@ use Rattle.retention.specs.declared.sweep_error.SweepError.{SweepError}
 use Rattle.retention.specs.declared.sweep_error.SweepError.TheVariants as sweep
 use Rattle.retention.specs.declared.swept.Swept.{Swept}
 use Rattle.retain_command.specs.Answers.{answer, swept_text}
-use Rattle.store_commands.specs.Sides.{Side, AreBeside}
-use Rattle.store_commands.proofs.InputLemmas.{told_any}
-use Rattle.retain_command.specs.Doing.{DoesLine, DoesRule, Goes, IsCause, LineMoment, LineStops, RuleMoment, RuleStops, TextStops, Untouched, end_at, end_of}
+use Rattle.retain_command.specs.Doing.{DoesLine, DoesRule, LineMoment, LineStops, RuleMoment, RuleStops, TextStops, Untouched, end_at}
 use Rattle.retain_command.specs.Rules.{Spells, SaysNone}
 use Rattle.retain_command.specs.declared.retain_end.RetainEnd.{RetainEnd}
 use Rattle.retain_command.specs.declared.retain_end.RetainEnd.TheVariants.{BadLine, UnknownSeries, ReadFault, SendFault, InputTooLong, DiskFault, Damaged, NoMemory}
@@ -86,8 +77,7 @@ module _ (total : ℕ) (book : List Series) (rule : Rule) (at : ℕ) (old new : 
       → DoesRule {T = T} total book rule at (Err end) old new before now
   rule_stopped {T} error end is unknown same stands unsent stops passes =
       let P : RetainEnd → Type 0 = λ e. RuleStops total book rule at new.image before now e in
-      let M : (b : Option (List ℕ)) → IfSome b (λ bytes. Through old new (RuleMoment total book rule (sent_now old))) = told_any (stop_moments error unknown same passes) in
-      record { done = tt; stops = subst P (sym is) (stop_so error unknown same stands unsent stops); moments = M before }
+      record { done = tt; stops = subst P (sym is) (stop_so error unknown same stands unsent stops); moments = stop_moments error unknown same passes }
 
 -- ---- the answer
 
@@ -139,14 +129,14 @@ module _ (total : ℕ) (book : List Series) (rule : Rule) (at : ℕ) (swept : Sw
       record {
         done = record { there = there; stands = stands_still; sent = whole ∙ ap (λ t. sent_after t between) is ∙ ap (sent_after (answer total book rule)) unsent };
         stops = tt;
-        moments = told_any (sent_moments (swept_text swept.clears swept.used) is only sends most) before;
+        moments = sent_moments (swept_text swept.clears swept.used) is only sends most;
       }
   rule_answered {T} (Err end) whole stops only sends most =
       let is = said_so total book rule swept mid.image done in
       record {
         done = tt;
         stops = text_stops (swept_text swept.clears swept.used) is end stops;
-        moments = told_any (sent_moments (swept_text swept.clears swept.used) is only sends most) before;
+        moments = sent_moments (swept_text swept.clears swept.used) is only sends most;
       }
 
 -- the same by the clause of the sweep
@@ -167,20 +157,19 @@ module _ (total : ℕ) (book : List Series) (text : List ℕ) (at : ℕ) (old ne
   rule_stops_line rule spells (Damaged page) stops = absurd stops
   rule_stops_line rule spells NoMemory stops = inr (rule, spells, stops)
 
-  line_moments : (rule : Rule) → Spells rule text → (b : Option (List ℕ)) → IfSome b (λ bytes. Through old new (RuleMoment total book rule (sent_now old))) → IfSome b (λ bytes. Through old new (LineMoment total book text (sent_now old)))
-  line_moments rule spells None through = tt
-  line_moments rule spells (Some bytes) through = through_so old new (RuleMoment total book rule (sent_now old)) (LineMoment total book text (sent_now old)) (λ image count is. (rule, spells, is)) through
+  line_moments : (rule : Rule) → Spells rule text → Through old new (RuleMoment total book rule (sent_now old)) → Through old new (LineMoment total book text (sent_now old))
+  line_moments rule spells = through_so old new (RuleMoment total book rule (sent_now old)) (LineMoment total book text (sent_now old)) (λ image count is. (rule, spells, is))
 
   pub line_of_rule : {T : Type 0} (result : Result T RetainEnd) (rule : Rule) → Spells rule text → DoesRule total book rule at result old new before now → DoesLine total book text at result old new before now
-  line_of_rule {T} (Ok v) rule spells does = record { done = inr (rule, spells, does.done); stops = tt; moments = line_moments rule spells before does.moments }
-  line_of_rule {T} (Err end) rule spells does = record { done = tt; stops = rule_stops_line rule spells end does.stops; moments = line_moments rule spells before does.moments }
+  line_of_rule {T} (Ok v) rule spells does = record { done = inr (rule, spells, does.done); stops = tt; moments = line_moments rule spells does.moments }
+  line_of_rule {T} (Err end) rule spells does = record { done = tt; stops = rule_stops_line rule spells end does.stops; moments = line_moments rule spells does.moments }
 
 module _ (total : ℕ) (book : List Series) (text : List ℕ) (at : ℕ) (old : View) (before : Option (List ℕ)) (stands : StandsForBook old.image total book) where
   rests : Untouched total book old.image before before
   rests = record { stands = stands; unsent = refl }
 
-  no_moments : IfSome before (λ bytes. Through old old (LineMoment total book text (sent_now old)))
-  no_moments = told_any (through_none old (LineMoment total book text (sent_now old))) before
+  no_moments : Through old old (LineMoment total book text (sent_now old))
+  no_moments = through_none old (LineMoment total book text (sent_now old))
 
   -- that is empty
   pub line_empty : {T : Type 0} (v : T) → text ≡ [] → DoesLine {T = T} total book text at (Ok v) old old before before
@@ -193,44 +182,3 @@ module _ (total : ℕ) (book : List Series) (text : List ℕ) (at : ℕ) (old : 
   -- for which there was no memory
   pub line_no_memory : {T : Type 0} → DoesLine {T = T} total book text at (Err NoMemory) old old before before
   line_no_memory {T} = record { done = tt; stops = inl rests; moments = no_moments }
-
--- ---- what calls move
-
-pub goes_nowhere : (at : Side) → Goes at at
-goes_nowhere at = record { is_told = λ t. t; was_told = λ t. t; size = refl; faults = omega arith; goes_on = goes_none at.under; total_is = refl; reads = omega arith; sends = omega arith }
-
-pub goes_further : (old mid new : Side) → Goes old mid → Goes mid new → Goes old new
-goes_further old mid new first second = record {
-  is_told = λ t. second.is_told (first.is_told t);
-  was_told = λ t. first.was_told (second.was_told t);
-  size = second.size ∙ first.size;
-  faults = omega (arith, first.faults, second.faults);
-  goes_on = goes_on_then old.under mid.under new.under first.goes_on second.goes_on;
-  total_is = second.total_is ∙ first.total_is;
-  reads = omega (arith, first.reads, second.reads);
-  sends = omega (arith, first.sends, second.sends);
-}
-
--- takes and sends
-pub goes_streams : (old new : Side) → DiskKept old.view new.view → (old.told → new.told) → (new.told → old.told) → GoesOn old.under new.under → new.total ≡ old.total → old.read_faults ≤ new.read_faults → old.send_faults ≤ new.send_faults → Goes old new
-goes_streams old new kept told was_told on total_is reads sends = record { is_told = told; was_told = was_told; size = kept.size; faults = omega (arith, kept.faults); goes_on = on; total_is = total_is; reads = reads; sends = sends }
-
--- why a later call ended is why all ended, where no fault was counted before
-module _ (old mid new : Side) (was : AreBeside old.view old.read_faults old.send_faults) (are : AreBeside mid.view mid.read_faults mid.send_faults) (quiet : CountsFault None old.view mid.view) where
-  pub cause_later : (end : RetainEnd) → Goes old mid → IsCause end mid new → IsCause end old new
-  cause_later (BadLine at) goes is = tt
-  cause_later (UnknownSeries at) goes is = tt
-  cause_later ReadFault goes is = risen_since old.read_faults mid.read_faults new.read_faults (sym are.reads_are ∙ takes_stay old.view mid.view quiet ∙ was.reads_are) is
-  cause_later SendFault goes is = risen_since old.send_faults mid.send_faults new.send_faults (sym are.sends_are ∙ sends_stay old.view mid.view quiet ∙ was.sends_are) is
-  cause_later InputTooLong goes is = tt
-  cause_later DiskFault goes is = risen_since old.view.faults mid.view.faults new.view.faults (disk_stays old.view mid.view quiet) is
-  cause_later (Damaged page) goes is = (omega (arith, is.0, goes.total_is), is.1)
-  cause_later NoMemory goes is = tt
-
--- a fault of the lines
-fault_cause : (old new : Side) (f : LineFault) → (f ≡ fault.ReadFault → HasRisen old.read_faults new.read_faults) → IsCause (end_of f) old new
-fault_cause old new fault.ReadFault risen = risen refl
-fault_cause old new fault.InputTooLong risen = tt
-
-pub line_fault_cause : (old new : Side) (f : LineFault) (end : RetainEnd) → end ≡ end_of f → (f ≡ fault.ReadFault → HasRisen old.read_faults new.read_faults) → IsCause end old new
-line_fault_cause old new f end is risen = let P : RetainEnd → Type 0 = λ e. IsCause e old new in subst P (sym is) (fault_cause old new f risen)

@@ -1,13 +1,13 @@
 -- What is done of one line, and what calls move. Private contracts are stated by these words.
-use Rattle.std.specs.Prelude.{◌≡◌, ℕ, ◌+◌, ◌<◌, ◌≤◌, ◌⊎◌, List, [], length, take, Option, Some, Result, IfErr, IfSome, OnOk, ⊤}
+use Rattle.std.specs.Prelude.{◌≡◌, ℕ, ◌+◌, ◌<◌, ◌≤◌, ◌⊎◌, List, [], length, take, Option, Some, Result, IfErr, OnOk, ⊤}
 use Rattle.block_disk.specs.Counts.{HasRisen}
 use Rattle.block_disk.specs.Streams.{sent_after, PartSent}
 use Rattle.block_disk.specs.View.{Image, View, sent_now}
-use Rattle.chart_service.specs.Moments.{Through}
 use Rattle.chart_world.specs.declared.line_answer.LineFault.{LineFault}
 use Rattle.chart_world.specs.declared.line_answer.LineFault.TheVariants as fault
 use Rattle.gate_pages.specs.Pages.{GoesOn}
 use Rattle.gate_pages.specs.declared.pages.Pages.{Ghosts}
+use Rattle.line_runs.specs.Moments.{Through}
 use Rattle.series_book.specs.declared.one_series.Series.{Series}
 use Rattle.series_book.specs.EditLists.{after_edits}
 use Rattle.series_store.specs.Shown as shown
@@ -100,7 +100,7 @@ pub record RuleMoment (total : ℕ) (book : List Series) (rule : Rule) (from : �
 pub record DoesRule {T : Type 0} (total : ℕ) (book : List Series) (rule : Rule) (at : ℕ) (result : Result T RetainEnd) (old new : View) (before now : Option (List ℕ)) : Type 0 where
   pub done : OnOk result (RuleDone total book rule new.image before now)
   pub stops : IfErr result (RuleStops total book rule at new.image before now)
-  pub moments : IfSome before (λ bytes. Through old new (RuleMoment total book rule (sent_now old)))
+  pub moments : Through old new (RuleMoment total book rule (sent_now old))
 
 -- ---- one line
 
@@ -143,7 +143,7 @@ LineMoment total book text from image sent = (rule : Rule) × Spells rule text �
 pub record DoesLine {T : Type 0} (total : ℕ) (book : List Series) (text : List ℕ) (at : ℕ) (result : Result T RetainEnd) (old new : View) (before now : Option (List ℕ)) : Type 0 where
   pub done : OnOk result (LineDone total book text new.image before now)
   pub stops : IfErr result (LineStops total book text at new.image before now)
-  pub moments : IfSome before (λ bytes. Through old new (LineMoment total book text (sent_now old)))
+  pub moments : Through old new (LineMoment total book text (sent_now old))
 
 -- ---- the same over a store
 

@@ -6,3 +6,5 @@ pub mod Shown
 pub mod Retained
 pub mod Retaining
 pub mod Faults
+pub mod Working
+pub mod WorkLaws

@@ -13,6 +13,7 @@ mod command;
 pub mod laws;
 mod retain_end;
 mod rule_error;
+mod rule_work;
 mod rules;
 mod sweeping;
 

@@ -1,17 +1,18 @@
 //! The lines of a store's streams are swept and answered.
 ghost use Rattle.std.specs.Prelude.{◌≡◌, ◌≢◌, ◌≤◌, ◌<◌, ◌^◌, Err, length, IfErr, IfSome, OnOk};
 ghost use Rattle.chart_world.specs.Faults.{CountsFault, fault_in};
-ghost use Rattle.chart_world.specs.Reading.{unread_input};
 ghost use Rattle.series_store.specs.Shown as shown;
 ghost use Rattle.store_commands.specs.Sides.{side_of};
 ghost use Rattle.retain_command.specs.Doing.{Goes, IsCause, end_of};
 ghost use Rattle.retain_command.specs.Faults.{retain_fault};
 ghost use Rattle.retain_command.specs.Shown.{AreSwept, LastsFor, StopSo};
+ghost use Rattle.retain_command.specs.Working.{end_of_stop};
 
-use crate::answering::answer_line;
 use crate::retain_end::RetainEnd;
-use chart_world::{LineAnswer, LineFault, Lines, offset_of};
+use crate::rule_work::RuleWork;
+use chart_world::{LineFault, Lines};
 use gate_pages::PageWorld;
+use line_runs::{LinesStop, run_lines};
 use series_store::Store;
 use std::alloc::Global;
 
@@ -22,6 +23,16 @@ fn end_of(fault: LineFault) -> RetainEnd
     match fault {
         LineFault::ReadFault => RetainEnd::ReadFault,
         LineFault::InputTooLong => RetainEnd::InputTooLong,
+    }
+}
+
+/// What a stop of the lines is.
+fn end_of_stop(stop: LinesStop<RetainEnd>) -> RetainEnd
+    ensures { result ≡ end_of_stop stop }
+{
+    match stop {
+        LinesStop::Fault(fault) => end_of(fault),
+        LinesStop::Work(end) => end,
     }
 }
 
@@ -44,42 +55,9 @@ pub fn sweep_lines<P: PageWorld>(alloc: Global, store: &mut Store<P>) -> Result<
     let Ok(mut lines) = Lines::new(alloc) else {
         return Err(RetainEnd::NoMemory);
     };
-    answer_lines(alloc, store, &mut lines)
-}
-
-/// The same by a reader of lines that has given none.
-fn answer_lines<P: PageWorld>(
-    alloc: Global,
-    store: &mut Store<P>,
-    lines: &mut Lines,
-) -> Result<(), RetainEnd>
-    requires sound { shown.IsSound store.old }
-    requires fresh { lines.old ≡ unread_input }
-    ensures done { shown.ForBook store.old (λ total book. OnOk result (AreSwept P.Streams total book store.old store.new)) }
-    ensures within { OnOk result (IfSome (P.left (shown.pages store.old)) (λ input. length input ≤ 2 ^ 32)) }
-    ensures stops { shown.ForBook store.old (λ total book. IfErr result (StopSo P.Streams total book store.old store.new)) }
-    ensures crash { shown.ForBook store.old (λ total book. LastsFor P.Streams total book store.old store.new) }
-    ensures goes { Goes (side_of P.Streams store.old) (side_of P.Streams store.new) }
-    ensures cause { IfErr result (λ e. IsCause e (side_of P.Streams store.old) (side_of P.Streams store.new)) }
-    ensures faults { CountsFault (fault_in retain_fault result) (shown.view store.old) (shown.view store.new) }
-    ensures sound { result ≢ Err RetainEnd.DiskFault → shown.IsSound store.new }
-{
-    'lines: loop {
-        let answer = match lines.next(store) {
-            Ok(answer) => answer,
-            Err(fault) => return Err(end_of(fault)),
-        };
-        match answer {
-            LineAnswer::End => return Ok(()),
-            LineAnswer::TooLong => {
-                return Err(RetainEnd::BadLine {
-                    at: offset_of(lines),
-                });
-            }
-            LineAnswer::Line => match answer_line(alloc, store, offset_of(lines), lines.line()) {
-                Ok(()) => {}
-                Err(end) => return Err(end),
-            },
-        }
+    let mut work = RuleWork { alloc };
+    match run_lines(&mut work, store, &mut lines) {
+        Ok(()) => Ok(()),
+        Err(stop) => Err(end_of_stop(stop)),
     }
 }

@@ -8,7 +8,7 @@ use Rattle.gate_pages.specs.GateLaws.{goes_none}
 use Rattle.series_book.specs.declared.one_series.Series.{Series}
 use Rattle.series_store.specs.Results.{Moves}
 use Rattle.series_load.specs.Runs.{Run}
-use Rattle.series_load.specs.Steps.{Took, IsEither, StopsSo, Does, Carries}
+use Rattle.series_load.specs.Steps.{IsEither, StopsSo, Does, Carries}
 use Rattle.series_load.specs.declared.load_end.LoadEnd.{LoadEnd}
 use Rattle.series_load.specs.declared.load_end.LoadEnd.TheVariants.{UnknownSeries, BadLine, Refused, ReadFault, InputTooLong, DiskFault, Damaged, NoMemory}
 use Rattle.series_load.specs.declared.open_run.OpenRun.{OpenRun}
@@ -72,19 +72,6 @@ does_less G H I J B C total name book (Err e) kept old new gives so bad does = r
   stops = refused_more H J total name book B C new.image e so bad does.stops;
   moments = moments_more H J total name book old new so does.moments;
 }
-
--- where it was done
-pub took_of : {T : Type 0} (G H : List Run → Option Run → Type 0) (B : ℕ → Type 0) (total : ℕ) (name : List ℕ) (book : List Series) (result : Result T LoadEnd) (v : T) (kept : OpenRun) (old new : View) → result ≡ Ok v → Does G H B total name book result kept old new → Took G total name book kept new.image
-took_of G H B total name book (Ok t) v kept old new is does = does.done
-took_of G H B total name book (Err e) v kept old new is does = cc
-
--- where it wasn't
-pub stops_of : {T : Type 0} (G H : List Run → Option Run → Type 0) (B : ℕ → Type 0) (total : ℕ) (name : List ℕ) (book : List Series) (result : Result T LoadEnd) (e : LoadEnd) (kept : OpenRun) (old new : View) → result ≡ Err e → Does G H B total name book result kept old new → StopsSo H B total name book new.image e
-stops_of G H B total name book (Ok t) e kept old new is does = cc
-stops_of {T} G H B total name book (Err e) e' kept old new is does =
-    let P : LoadEnd → Type 0 = λ x. StopsSo H B total name book new.image x in
-    let same : e ≡ e' = cc in
-    subst P same does.stops
 
 -- an error that is passed on
 pub err_less : {T U : Type 0} (G H I J : List Run → Option Run → Type 0) (B C : ℕ → Type 0) (total : ℕ) (name : List ℕ) (book : List Series) (e : LoadEnd) (result : Result U LoadEnd) (kept kept' : OpenRun) (old new : View) → IsErrAnd result (λ x. x ≡ e)

@@ -1,18 +1,15 @@
 -- The counts of faults from call to call.
-use Rattle.std.proofs.Common.{◌≡◌, ◌≢◌, ℕ, None, Result, Ok, Err, IfErr, refl, subst, sym, ◌∙◌}
+use Rattle.std.proofs.Common.{◌≡◌, ◌≢◌, ℕ, None, Result, Ok, Err, IfErr, subst, sym}
 use Rattle.std.specs.Prelude.{IsErrAnd}
-use Rattle.block_disk.specs.Counts.{HasRisen}
 use Rattle.block_disk.specs.View.{View}
 use Rattle.chart_world.specs.Faults.{CountsFault, fault_in}
-use Rattle.chart_world.specs.FaultLaws.{counts_none, counts_disk, counts_no_disk}
-use Rattle.chart_world.specs.declared.line_answer.LineFault.{LineFault}
-use Rattle.chart_world.specs.declared.line_answer.LineFault.TheVariants as fault
+use Rattle.chart_world.specs.FaultLaws.{counts_disk, counts_no_disk}
 use Rattle.page_space.specs.declared.superblock.Superblock.{Superblock}
 use Rattle.series_store.specs.Results.{IsEditCause}
 use Rattle.series_store.specs.declared.errors.StoreError.{StoreError}
 use Rattle.series_store.specs.declared.errors.StoreError.TheVariants as store
 use Rattle.series_load.specs.Faults.{load_fault}
-use Rattle.series_load.specs.Steps.{end_at, end_of}
+use Rattle.series_load.specs.Steps.{end_at}
 use Rattle.series_load.specs.declared.load_end.LoadEnd.{LoadEnd}
 use Rattle.series_load.specs.declared.load_end.LoadEnd.TheVariants.{NoMemory}
 
@@ -38,19 +35,3 @@ set_counts at store.NotAStore told s old new beside quiet cause = counts_no_disk
 set_counts at store.DiskFault told s old new beside quiet cause = counts_disk old new beside cause
 set_counts at (store.Damaged page) told s old new beside quiet cause = counts_no_disk old new beside (quiet (λ is. cc))
 set_counts at store.NoMemory told s old new beside quiet cause = counts_no_disk old new beside (quiet (λ is. cc))
-
--- takes that ended in a fault of the lines
-pub takes_fault : (f : LineFault) (old new : View) (reads reads' : ℕ) → old.beside.read_faults ≡ reads → new.beside.read_faults ≡ reads' → new.faults ≡ old.faults → (f ≡ fault.ReadFault → HasRisen reads reads') → (f ≢ fault.ReadFault → reads' ≡ reads) → new.beside.send_faults ≡ old.beside.send_faults
-    → CountsFault (load_fault (end_of f)) old new
-takes_fault fault.ReadFault old new reads reads' was are disk risen same sends =
-    let F : ℕ → Type 0 = λ n. HasRisen n new.beside.read_faults in
-    let N : ℕ → Type 0 = λ n. HasRisen reads n in
-    (disk, subst F (sym was) (subst N (sym are) (risen refl)), sends)
-takes_fault fault.InputTooLong old new reads reads' was are disk risen same sends = counts_none old new disk (are ∙ same (λ is. cc) ∙ sym was) sends
-
--- an outcome that isn't the other
-pub ok_err : {T E : Type 0} (x : T) (e : E) → ◌≡◌ {A = Result T E} (Ok x) (Err e) → ⊥
-ok_err x e never = cc
-
-pub same_err : {T E : Type 0} (e f : E) → ◌≡◌ {A = Result T E} (Err e) (Err f) → e ≡ f
-same_err e f same = cc

@@ -1,24 +1,32 @@
 -- The series of a name.
-use Rattle.std.proofs.Common.{◌≡◌, ◌≢◌, ℕ, true, List, [], Option, None, Some, Result, Ok, Err, subst, inl, sym, ◌∙◌, arith}
+use Rattle.std.proofs.Common.{◌≡◌, ◌≢◌, ℕ, List, [], Option, None, Some, Result, Ok, Err, OnOk, IfErr, IfSome, refl, subst, inl, sym, ◌∙◌, arith}
 use Rattle.std.specs.Prelude.{◌↔◌, IsErrAnd, MatchOption, slice_get}
-use Rattle.block_disk.specs.View.{Image}
-use Rattle.chart_world.specs.Reading.{unread_input, unread}
+use Rattle.block_disk.specs.View.{Image, View}
 use Rattle.series_book.specs.declared.one_series.Series.{Series}
 use Rattle.series_book.specs.Edits.{id_of}
 use Rattle.stored_book.specs.Standing.{StandsForBook}
 use Rattle.series_store.specs.Asking.{IsInfo}
 use Rattle.series_store.specs.declared.series_info.SeriesInfo.{SeriesInfo}
-use Rattle.series_load.specs.Sets.{IsNamed, IsAfterSome}
+use Rattle.block_disk.proofs.Passing.{passes_none}
+use Rattle.gate_pages.specs.Pages.{Quiet}
+use Rattle.series_load.specs.Ends.{EndsLoad, IsLoadCause, Outcome, Stopped}
+use Rattle.series_load.specs.Fronts.{PlacedLine}
+use Rattle.series_load.specs.Rows.{AreTable}
+use Rattle.series_load.specs.Runs.{nothing}
+use Rattle.series_load.specs.Sets.{AreFirstOf, IsAfterSome, IsNamed}
+use Rattle.series_load.specs.Steps.{IsSoundFor}
 use Rattle.series_load.specs.declared.load_end.LoadEnd.{LoadEnd}
 use Rattle.series_load.specs.declared.load_end.LoadEnd.TheVariants.{UnknownSeries, NoMemory}
-use Rattle.series_load.proofs.Progress.{Heard, first_so, heard_none}
+use Rattle.series_load.proofs.Joined.{told_nothing}
 use Rattle.series_load.proofs.SetLemmas.{after_none}
 
 -- what is told of the series that was found
 abbrev pub Tells : List ℕ → List Series → SeriesInfo → Type 0
-Tells name book info = (id_of name book ≡ Some info.id) × ((series : Series) → slice_get book info.id ≡ Some series → IsInfo series info.id info)
+Tells name book info = (id_of name book ≡ Some info.id) ×
+    ((series : Series) → slice_get book info.id ≡ Some series → IsInfo series info.id info)
 
-pub info_of : (name : List ℕ) (book : List Series) (series : Series) (info : SeriesInfo) → Tells name book info → IsNamed book name series → IsInfo series info.id info
+pub info_of : (name : List ℕ) (book : List Series) (series : Series) (info : SeriesInfo) → Tells name book info
+    → IsNamed book name series → IsInfo series info.id info
 info_of name book series info tells named =
     let same : named.id ≡ info.id = id_same name book named.id info.id named.id_is tells.0 in
     let P : ℕ → Type 0 = λ i. slice_get book i ≡ Some series in
@@ -36,25 +44,63 @@ pub not_named : (name : List ℕ) (book : List Series) (series : Series) → id_
 not_named name book series none named = let both : None ≡ Some named.id = sym none ∙ named.id_is in cc
 
 -- where one was, the name isn't unknown
-pub found_so : {T : Type 0} (name : List ℕ) (book : List Series) (info : SeriesInfo) (result : Result T LoadEnd) → Tells name book info → result ≢ Err UnknownSeries → ((result ≡ Err UnknownSeries) ↔ (id_of name book ≡ None))
+pub found_so : {T : Type 0} (name : List ℕ) (book : List Series) (info : SeriesInfo) (result : Result T LoadEnd) → Tells name book info
+    → result ≢ Err UnknownSeries → ((result ≡ Err UnknownSeries) ↔ (id_of name book ≡ None))
 found_so name book info result tells known = (λ is. absurd (known is), λ none. let both : None ≡ Some info.id = sym none ∙ tells.0 in cc)
 
-pub no_memory_known : {T : Type 0} (result : Result T LoadEnd) (e : LoadEnd) → IsErrAnd result (λ x. x ≡ e) → e ≡ NoMemory → result ≢ Err UnknownSeries
+pub no_memory_known : {T : Type 0} (result : Result T LoadEnd) (e : LoadEnd) → IsErrAnd result (λ x. x ≡ e) → e ≡ NoMemory
+    → result ≢ Err UnknownSeries
 no_memory_known (Ok v) e is none same = absurd is
 no_memory_known (Err x) e is none same = let other : x ≡ NoMemory = is ∙ none in cc
 
 -- before anything was read
-pub some_at_first : (total : ℕ) (name : List ℕ) (book : List Series) (series : Series) (o : Option (List ℕ)) (image : Image) → StandsForBook image total book → IsAfterSome total name book series o image
-some_at_first total name book series o image stands = record {
-  runs = [];
-  first = first_so series.scale series.step o [] (λ input. Heard series.scale series.step input (unread unread_input o) 0 [] true None 0)
-      (λ input h. record {
-        front = h.front;
-        rest = h.rest;
-        early = omega (arith, h.early, h.counted);
-        rows = h.read.rows;
-        reads = record { begins = h.begins; table = h.read.table };
-        ended = inl (None, h.read.cut);
-      }) (heard_none series.scale series.step o);
-  after = after_none total name book image stands;
-}
+first_none : (series : Series) (o : Option (List ℕ)) → AreFirstOf series.scale series.step o []
+first_none series None = tt
+first_none series (Some input) =
+    let T : List PlacedLine → Type 0 = λ l. AreTable series.scale l [] in
+    record {
+      front = [];
+      rest = input;
+      early = omega arith;
+      rows = [];
+      reads = record { begins = record { split = refl; whole = inl (inl refl) }; table = subst T (sym told_nothing) (inl tt) };
+      ended = inl (None, nothing);
+    }
+
+pub some_at_first : (total : ℕ) (name : List ℕ) (book : List Series) (series : Series) (o : Option (List ℕ)) (image : Image)
+    → StandsForBook image total book → IsAfterSome total name book series o image
+some_at_first total name book series o image stands =
+    record { runs = []; first = first_none series o; after = after_none total name book image stands }
+
+-- the load ended before a line was taken
+pub unstarted : (total : ℕ) (name : List ℕ) (book : List Series) (series : Series) (o : Option (List ℕ)) (e : LoadEnd)
+    (result : Result ℕ LoadEnd) (at : View) → IsErrAnd result (λ x. x ≡ e) → e ≡ NoMemory → IsAfterSome total name book series o at.image
+    → Outcome total name book series o o result at at
+unstarted total name book series o e (Ok count) at is none some = absurd is
+unstarted total name book series o e (Err x) at is none some =
+    let E : LoadEnd → Type 0 = λ y. Stopped total name book series o o y at at in
+    subst E (sym (is ∙ none))
+    (record { ends = no_ends o; some = some; moments = passes_none at (IsAfterSome total name book series o) (Quiet at) })
+  where
+    no_ends : (i : Option (List ℕ)) → IfSome i (λ input. EndsLoad total name book series input o at.image NoMemory)
+    no_ends None = tt
+    no_ends (Some input) = tt
+
+pub no_value : {T : Type 0} (result : Result T LoadEnd) (e : LoadEnd) (P : Type 0) → IsErrAnd result (λ x. x ≡ e) → OnOk result P
+no_value (Ok v) e P is = absurd is
+no_value (Err x) e P is = tt
+
+-- want of memory
+pub no_memory_cause : {T : Type 0} (told : Type 0) (result : Result T LoadEnd) (e : LoadEnd) (total : ℕ) (old new : View)
+    (reads reads' : ℕ) → IsErrAnd result (λ x. x ≡ e) → e ≡ NoMemory → IfErr result (λ x. IsLoadCause x told total old new reads reads')
+no_memory_cause told (Ok v) e total old new reads reads' is none = tt
+no_memory_cause {T} told (Err x) e total old new reads reads' is none =
+    let P : LoadEnd → Type 0 = λ y. IsLoadCause y told total old new reads reads' in
+    subst P (sym (is ∙ none)) tt
+
+pub no_memory_sound : {T : Type 0} (result : Result T LoadEnd) (e : LoadEnd) (new : View) → IsErrAnd result (λ x. x ≡ e) → e ≡ NoMemory
+    → new.fit → IfErr result (λ x. IsSoundFor x new)
+no_memory_sound (Ok v) e new is none fit = tt
+no_memory_sound (Err x) e new is none fit =
+    let P : LoadEnd → Type 0 = λ y. IsSoundFor y new in
+    subst P (sym (is ∙ none)) fit

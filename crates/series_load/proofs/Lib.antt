@@ -5,11 +5,8 @@ pub mod LineLemmas
 pub mod Joined
 pub mod Carrying
 pub mod ReadingLemmas
-pub mod Passing
-pub mod Progress
-pub mod Endings
-pub mod Going
-pub mod Sides
 pub mod OneCut
 pub mod Knowing
 pub mod Counting
+pub mod WorkLemmas
+pub mod Reached

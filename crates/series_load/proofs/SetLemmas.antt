@@ -22,7 +22,7 @@ use Rattle.series_load.specs.Runs.{Run, readings}
 use Rattle.series_load.specs.Sets.{set_of, Loads, IsAfter}
 use Rattle.series_load.specs.Steps.{KeepsRun, Keeps, Closes, IsEither, StopsSo, NoBad, TooLongDone, Does, IsSetCause, end_at}
 use Rattle.series_load.specs.declared.load_end.LoadEnd.{LoadEnd}
-use Rattle.series_load.specs.declared.load_end.LoadEnd.TheVariants.{BadLine, NoMemory}
+use Rattle.series_load.specs.declared.load_end.LoadEnd.TheVariants.{BadLine}
 use Rattle.series_load.specs.declared.open_run.OpenRun.{OpenRun}
 
 -- sets behind sets
@@ -147,7 +147,3 @@ pub stopped : {T U : Type 0} (at total : ℕ) (name : List ℕ) (book : List Ser
 stopped at total name book old v kept before now does =
     let P : List Run → Type 0 = λ e. IsAfter total name book e now.image in
     record { done = tt; stops = record { at_is = refl; after = subst P does.done.gives.0 does.done.after }; moments = does.moments }
-
--- another value is answered
-pub finished : {T U : Type 0} (total : ℕ) (name : List ℕ) (book : List Series) (old : Option Run) (v : T) (w : U) (kept : OpenRun) (before now : View) → Does (Closes old) (Closes old) NoBad total name book (Ok v) kept before now → Does (Closes old) (Closes old) NoBad total name book (Ok w) kept before now
-finished total name book old v w kept before now does = record { done = does.done; stops = tt; moments = does.moments }

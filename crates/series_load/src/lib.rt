@@ -9,6 +9,7 @@
 
 pub mod laws;
 mod load_end;
+mod load_work;
 mod loader;
 mod loading;
 mod open_run;

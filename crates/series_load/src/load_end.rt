@@ -1,5 +1,4 @@
 //! Why a load ended before the end of the input.
-use chart_world::LineFault;
 use series_book::Refusal;
 use thiserror::Error;
 
@@ -30,18 +29,4 @@ pub enum LoadEnd {
     /// There was no memory.
     #[error("out of memory")]
     NoMemory,
-}
-
-impl From<LineFault> for LoadEnd {
-    ghost use Rattle.std.specs.Prelude.{◌≡◌};
-    ghost use Rattle.series_load.specs.Steps.{end_of};
-
-    ghost from_gives = { λ fault end. end ≡ end_of fault };
-
-    fn from(fault: LineFault) -> LoadEnd {
-        match fault {
-            LineFault::ReadFault => LoadEnd::ReadFault,
-            LineFault::InputTooLong => LoadEnd::InputTooLong,
-        }
-    }
 }

@@ -148,24 +148,6 @@ impl Loader {
         }
     }
 
-    /// Ends the load at the end of the input: the run that stands open is stored. It answers how many rows
-    /// have a value.
-    pub(crate) fn finish<P: Pages>(&mut self, store: &mut Store<P>) -> Result<u64, LoadEnd>
-        requires sound { shown.IsSound store.old }
-        ensures does { loads.ForRun store.old self.old.run (λ total book open_run. loads.EndsRuns (Closes open_run) total self.old.name book result self.new.run store.old store.new) }
-        ensures carries { loads.CarriesOn store.old store.new }
-        ensures cause { IfErr result (λ e. loads.FailsFor e store.old store.new) }
-        ensures faults { CountsFault (fault_in load_fault result) (shown.view store.old) (shown.view store.new) }
-        ensures sound { OnOk result (shown.IsSound store.new) }
-        ensures sound_for { IfErr result (λ e. IsSoundFor e (shown.view store.new)) }
-        ensures points { IfOk result (λ count. count ≡ self.old.points) }
-    {
-        match self.close(store) {
-            Ok(()) => Ok(self.points),
-            Err(end) => Err(end),
-        }
-    }
-
     /// Takes what a line says that isn't empty.
     fn take_said<P: Pages>(
         &mut self,

@@ -7,13 +7,15 @@ ghost use Rattle.series_load.specs.Faults.{load_fault};
 ghost use Rattle.series_load.specs.Sides.{Goes};
 ghost use Rattle.series_load.specs.Shown as loads;
 ghost use Rattle.series_store.specs.Shown as shown;
-ghost use Rattle.series_load.specs.Steps.{IsSoundFor};
+ghost use Rattle.series_load.specs.Loading.{end_of_stop};
+ghost use Rattle.series_load.specs.Steps.{IsSoundFor, end_of};
 ghost use Rattle.series_load.specs.declared.load_end.LoadEnd.TheVariants.{UnknownSeries, NoMemory};
 
 use crate::load_end::LoadEnd;
 use crate::loader::Loader;
-use chart_world::{LineAnswer, Lines, offset_of};
+use chart_world::{LineFault, Lines};
 use gate_pages::PageWorld;
+use line_runs::{LinesStop, run_lines};
 use series_book::Name;
 use series_store::Store;
 use std::alloc::Global;
@@ -59,6 +61,26 @@ pub fn load<P: PageWorld>(alloc: Global, store: &mut Store<P>, name: &Name) -> R
     load_lines(store, &mut loader, &mut lines)
 }
 
+/// What a fault of the lines is.
+fn end_of(fault: LineFault) -> LoadEnd
+    ensures { result ≡ end_of fault }
+{
+    match fault {
+        LineFault::ReadFault => LoadEnd::ReadFault,
+        LineFault::InputTooLong => LoadEnd::InputTooLong,
+    }
+}
+
+/// What a stop of the lines is.
+fn end_of_stop(stop: LinesStop<LoadEnd>) -> LoadEnd
+    ensures { result ≡ end_of_stop stop }
+{
+    match stop {
+        LinesStop::Fault(fault) => end_of(fault),
+        LinesStop::Work(end) => end,
+    }
+}
+
 /// Loads all lines.
 fn load_lines<P: PageWorld>(
     store: &mut Store<P>,
@@ -79,11 +101,8 @@ fn load_lines<P: PageWorld>(
     ensures sound { OnOk result (shown.IsSound store.new) }
     ensures sound_for { IfErr result (λ e. IsSoundFor e (shown.view store.new)) }
 {
-    'lines: loop {
-        match lines.next(store)? {
-            LineAnswer::End => return loader.finish(store),
-            LineAnswer::TooLong => return Err(loader.stop(store, offset_of(lines))),
-            LineAnswer::Line => loader.take_line(store, offset_of(lines), lines.line())?,
-        }
+    match run_lines(loader, store, lines) {
+        Ok(()) => Ok(loader.points),
+        Err(stop) => Err(end_of_stop(stop)),
     }
 }

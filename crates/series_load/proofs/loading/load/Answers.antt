@@ -1,9 +1,8 @@
 use Rattle.std.proofs.Common.{◌∙◌, ℕ, List, refl, subst}
 use Rattle.series_load.specs.Ends.{Outcome}
 use Rattle.series_load.proofs.Counting.{no_memory_on}
-use Rattle.series_load.proofs.Sides.{goes_nowhere}
-use Rattle.series_load.proofs.Going.{unstarted, no_value, no_memory_cause, no_memory_sound}
-use Rattle.series_load.proofs.Knowing.{info_of, none_so, not_named, found_so, no_memory_known, some_at_first}
+use Rattle.series_load.specs.SideLaws.{goes_nowhere}
+use Rattle.series_load.proofs.Knowing.{info_of, none_so, not_named, found_so, no_memory_cause, no_memory_known, no_memory_sound, no_value, some_at_first, unstarted}
 use Rattle.series_load.specs.Shown.{side_of}
 use Rattle.series_store.specs.Shown as shown
 use Rattle.series_load.proofs.loading.load.Goals as goal

@@ -1,0 +1,34 @@
+-- What is said of a work, over a store with its streams.
+use Rattle.std.specs.Prelude.{ℕ, List, Option}
+use Rattle.block_disk.specs.View.{Image, View, sent_now}
+use Rattle.line_runs.specs.Carried.{DoesOne}
+use Rattle.line_runs.specs.Given.{Given}
+use Rattle.line_runs.specs.Moments.{Since, Through}
+use Rattle.line_runs.specs.Runs.{AreAll, IsAhead, Runs, StopsSo}
+use Rattle.line_runs.specs.declared.lines_stop.LinesStop.{LinesStop}
+
+-- what is given was done, and what a crash leaves meanwhile
+abbrev pub DoesOn : {State S W : Type 0} (sent : S → Option (List ℕ)) (stands : State → W → S → Type 0)
+    (does : State → Given → List ℕ → State → Type 0) → State → Given → W → S → S → Type 0
+DoesOn {State} {S} {W} sent stands does state it work old new = DoesOne does (λ s. stands s work new) state it (sent old) (sent new)
+
+abbrev pub LeavesOn : {State S : Type 0} (view : S → View) (leaves : State → Given → ℕ → Image → ℕ → Type 0)
+    → State → Given → S → S → Type 0
+LeavesOn {State} {S} view leaves state it old new = Through (view old) (view new) (leaves state it (sent_now (view old)))
+
+module _ {State S W : Type 0} (left sent : S → Option (List ℕ)) (stands : State → W → S → Type 0)
+    (does : State → Given → List ℕ → State → Type 0) (state : State) (work : W) (old new : S) where
+  -- all lines of the input were done, and then its end
+  abbrev pub RunsAll : Type 0
+  RunsAll = Runs does state AreAll (λ s. stands s work new) (left old) (sent old) (sent new)
+
+  -- not all of it was
+  abbrev pub StopsOn : {E : Type 0} (stops : State → Given → E → S → Option (List ℕ) → Type 0) → LinesStop E → Type 0
+  StopsOn {E} stops stop = StopsSo does stops (λ s. stands s work new) state (left old) (left new) (sent old) (sent new) new stop
+
+-- at each moment a crash leaves what some first lines left, or what comes behind them leaves on its way
+abbrev pub LastsOn : {State S : Type 0} (left sent : S → Option (List ℕ)) (view : S → View)
+    (does : State → Given → List ℕ → State → Type 0) (rests : State → Image → Type 0)
+    (leaves : State → Given → ℕ → Image → ℕ → Type 0) → State → S → S → Type 0
+LastsOn {State} {S} left sent view does rests leaves state old new =
+    Since (view old) (view new) (IsAhead does rests leaves state (left old) (sent old) (sent_now (view old)))

@@ -1,0 +1,54 @@
+//! The lines of an input are given to a work.
+ghost use Rattle.std.specs.Prelude.{◌≡◌, ◌≤◌, ◌^◌, length, IfErr, IfSome, OnOk};
+ghost use Rattle.chart_world.specs.Faults.{CountsFault, fault_in};
+ghost use Rattle.chart_world.specs.Reading.{unread_input};
+ghost use Rattle.line_runs.specs.Runs.{cause_of, fault_of, harms_of};
+ghost use Rattle.line_runs.specs.Shown.{LastsOn, RunsAll, StopsOn};
+
+use crate::line_work::LineWork;
+use crate::lines_stop::LinesStop;
+use block_disk::Streams;
+use chart_world::{LineAnswer, Lines, offset_of};
+
+/// Gives each line of the input to the work, in order, and then the end, by a reader of lines that has given none. After
+/// `Ok` the input was read to its end.
+pub fn run_lines<S: Streams, E, W: LineWork<S, E>>(
+    work: &mut W,
+    from: &mut S,
+    lines: &mut Lines,
+) -> Result<(), LinesStop<E>>
+    requires fit { W.fit work.old from.old 0 }
+    requires fresh { lines.old ≡ unread_input }
+    ensures done { (state : W.State) → W.stands state work.old from.old → OnOk result (RunsAll S.left S.sent W.stands W.does state work.new from.old from.new) }
+    ensures within { OnOk result (IfSome (S.left from.old) (λ input. length input ≤ 2 ^ 32)) }
+    ensures stops { (state : W.State) → W.stands state work.old from.old → IfErr result (StopsOn S.left S.sent W.stands W.does state work.new from.old from.new W.stops) }
+    // at each moment a crash leaves what some first lines left, or what the next one leaves on its way
+    ensures crash { (state : W.State) → W.stands state work.old from.old → LastsOn S.left S.sent W.view W.does W.rests W.leaves state from.old from.new }
+    // whatever the state is
+    ensures fit { OnOk result (W.fit work.new from.new (2 ^ 32)) }
+    ensures fit_on_err { IfErr result (λ stop. (harms_of W.harms stop → ⊥) → W.fit work.new from.new (2 ^ 32)) }
+    ensures goes { W.goes from.old from.new }
+    ensures cause { IfErr result (cause_of W.cause from.old from.new) }
+    ensures faults { CountsFault (fault_in (fault_of W.fault) result) (W.view from.old) (W.view from.new) }
+{
+    'lines: loop {
+        let answer = match lines.next(from) {
+            Ok(answer) => answer,
+            Err(fault) => return Err(LinesStop::Fault(fault)),
+        };
+        match answer {
+            LineAnswer::End => match work.finish(from) {
+                Ok(()) => return Ok(()),
+                Err(end) => return Err(LinesStop::Work(end)),
+            },
+            LineAnswer::TooLong => match work.long_line(from, offset_of(lines)) {
+                Ok(()) => {}
+                Err(end) => return Err(LinesStop::Work(end)),
+            },
+            LineAnswer::Line => match work.line(from, offset_of(lines), lines.line()) {
+                Ok(()) => {}
+                Err(end) => return Err(LinesStop::Work(end)),
+            },
+        }
+    }
+}

@@ -1,0 +1,85 @@
+//! The work of `retain`: each line is a rule.
+ghost use Rattle.series_store.specs.Shown as shown;
+ghost use Rattle.stored_book.specs.Standing.{StandsForBook};
+ghost use Rattle.store_commands.specs.Sides.{side_of};
+ghost use Rattle.retain_command.specs.Doing.{Goes, IsCause};
+ghost use Rattle.retain_command.specs.Faults.{retain_fault};
+ghost use Rattle.retain_command.specs.Working.{Harms, Held, LineDoes, LineLeaves, LineStopsSo};
+ghost use Rattle.retain_command.specs.WorkLaws.{besides, cause_later, goes_further, goes_nowhere, goes_streams, no_less, now_stands, same_total, stands_kept};
+
+use crate::answering::answer_line;
+use crate::retain_end::RetainEnd;
+use gate_pages::PageWorld;
+use line_runs::LineWork;
+use series_store::Store;
+use std::alloc::Global;
+
+/// Sweeps the rule of each line and answers it.
+#[derive(Drop)]
+pub(crate) struct RuleWork {
+    pub(crate) alloc: Global,
+}
+
+impl<P: PageWorld> LineWork<Store<P>, RetainEnd> for RuleWork {
+    ghost State = { Held };
+
+    ghost view = { λ store. shown.view store };
+
+    ghost fit = { λ work store at. shown.IsSound store };
+
+    ghost stands = { λ held work store. shown.IsTold store × StandsForBook (shown.image store) held.total held.book };
+
+    ghost rests = { λ held image. StandsForBook image held.total held.book };
+
+    ghost does = { LineDoes };
+
+    ghost stops = { λ held it end store before. LineStopsSo held it (shown.image store) before (P.sent (shown.pages store)) end };
+
+    ghost leaves = { LineLeaves };
+
+    ghost goes = { λ old new. Goes (side_of P.Streams old) (side_of P.Streams new) };
+
+    ghost cause = { λ end old new. IsCause end (side_of P.Streams old) (side_of P.Streams new) };
+
+    ghost harms = { Harms };
+
+    ghost fault = { retain_fault };
+
+    fn line(&mut self, from: &mut Store<P>, at: u32, line: &[u8]) -> Result<(), RetainEnd> {
+        answer_line(self.alloc, from, at, line)
+    }
+
+    fn long_line(&mut self, from: &mut Store<P>, at: u32) -> Result<(), RetainEnd> {
+        Err(RetainEnd::BadLine { at })
+    }
+
+    fn finish(&mut self, from: &mut Store<P>) -> Result<(), RetainEnd> {
+        Ok(())
+    }
+
+    ghost fit_later = { λ work at first later less sound. sound };
+
+    ghost fit_taken = { λ work old new at takes. (P.take_keeps (shown.pages old) (shown.pages new) takes.pages_are).fit };
+
+    ghost stands_taken = { λ held work old new takes stands. (P.take_told (shown.pages old) (shown.pages new) takes.pages_are stands.0, stands_kept held (shown.view old) (shown.view new) (P.take_keeps (shown.pages old) (shown.pages new) takes.pages_are) stands.1) };
+
+    ghost take_keeps = { λ old new takes. P.take_keeps (shown.pages old) (shown.pages new) takes.pages_are };
+
+    ghost take_passes = { λ old new takes. P.take_passes (shown.pages old) (shown.pages new) takes.pages_are };
+
+    ghost take_goes = { λ old new takes sent reads sends pieces. goes_streams _ _ (P.take_keeps (shown.pages old) (shown.pages new) takes.pages_are) (P.take_told (shown.pages old) (shown.pages new) takes.pages_are) (P.take_was_told (shown.pages old) (shown.pages new) takes.pages_are) (P.take_goes_on (shown.pages old) (shown.pages new) takes.pages_are) (same_total takes.superblock) reads (no_less sends) };
+
+    ghost now_rests = { λ held work from at fit stands. now_stands held (shown.view from) (P.rests (shown.pages from) fit) stands.1 };
+
+    ghost goes_none = { λ at. goes_nowhere _ };
+
+    ghost goes_then = { λ old between new. goes_further _ _ _ };
+
+    ghost cause_later = { λ end old between new quiet. cause_later _ _ _ (besides (P.beside_read_faults (shown.pages old)) (P.beside_send_faults (shown.pages old))) (besides (P.beside_read_faults (shown.pages between)) (P.beside_send_faults (shown.pages between))) quiet end };
+
+    ghost counts_sent = { λ at. P.counts_sent (shown.pages at) };
+
+    ghost beside_read_faults = { λ at. P.beside_read_faults (shown.pages at) };
+
+    ghost beside_send_faults = { λ at. P.beside_send_faults (shown.pages at) };
+}

@@ -1,0 +1,628 @@
+-- What a load has done, by what a run of lines says.
+use Rattle.std.proofs.Common.{◌≡◌, ◌≢◌, ◌∙◌, ℕ, ◌+◌, ◌^◌, ◌<◌, ◌≤◌, Bool, true, IsTrue, List, [], ◌∷◌, ◌++◌, length, Option, None, Some, IfSome, refl, ap, sym, subst, inl, inr, arith, append_assoc, length-append}
+use Rattle.std.specs.List.{filter, after_first}
+use Rattle.std.proofs.lemmas.List.{append-nil}
+use Rattle.std.proofs.lemmas.List.Elements.{filter-append}
+use Rattle.block_disk.specs.View.{Image, View, Passes, sent_now}
+use Rattle.chart_world.specs.FrontLaws.{begins_more, some_left, whole_front}
+use Rattle.chart_world.specs.Fronts.{BeginsWith, IsWhole, first_piece, says}
+use Rattle.chart_world.specs.LineLaws.{lines_first, piece_line, told_so}
+use Rattle.chart_world.specs.Lines.{is_line_feed, lines, split_lines, text_of}
+use Rattle.chart_world.specs.declared.line_answer.LineFault.TheVariants as fault
+use Rattle.gate_pages.specs.Pages.{Quiet}
+use Rattle.line_runs.specs.Carried.{Carries, Done}
+use Rattle.line_runs.specs.CarriedLaws.{carries_both}
+use Rattle.line_runs.specs.Given.{AreBefore, Given, Line, End, given_from, given_lines}
+use Rattle.line_runs.specs.Given as lines_given
+use Rattle.line_runs.specs.Moments.{Since}
+use Rattle.line_runs.specs.Runs as runs
+use Rattle.line_runs.specs.declared.lines_stop.LinesStop.{LinesStop}
+use Rattle.line_runs.specs.declared.lines_stop.LinesStop.TheVariants as stop
+use Rattle.series_book.specs.declared.one_series.Series.{Series}
+use Rattle.stored_book.specs.Standing.{StandsForBook}
+use Rattle.series_load.specs.Ends.{EndsLoad, Finished, IsAtBad, IsLoaded, KeepsSome, Stopped}
+use Rattle.series_load.specs.Fronts.{PlacedLine, placed_from, told}
+use Rattle.series_load.specs.Loading.{BadBy, EndsBy, Held, LoadDoes, LoadLeaves, LoadStops, NoneSent, StandsSo, end_of_stop, moved}
+use Rattle.series_load.specs.Rows.{AreTable, BadEarly}
+use Rattle.series_load.specs.Runs.{AllRuns, AreFirst, Run, nothing}
+use Rattle.series_load.specs.Sets.{AreFirstOf, IsAfter, IsAfterSome, Loads}
+use Rattle.series_load.specs.Steps.{Closes, IsEither, LineEnds, Read, SaysSo, StopsSo, closed, if_told}
+use Rattle.series_load.specs.declared.load_end.LoadEnd.{LoadEnd}
+use Rattle.series_load.specs.declared.load_end.LoadEnd.TheVariants.{UnknownSeries, BadLine, Refused, ReadFault, InputTooLong, DiskFault, Damaged, NoMemory}
+use Rattle.series_load.specs.declared.loader.Loader.{Loader}
+use Rattle.series_load.specs.declared.said.Said.TheVariants.{Bad}
+use Rattle.series_load.proofs.Joined.{told_joined}
+use Rattle.series_load.proofs.LineLemmas.{ends_bad, is_bad}
+use Rattle.series_load.proofs.RunLemmas.{adds_gap}
+use Rattle.series_load.proofs.SetLemmas.{after_then, loads_then}
+
+-- ---- the lines that were given
+
+-- those that say something, at their places
+abbrev told_of : List Given → List PlacedLine
+told_of [] = []
+told_of (Line at line ∷ later) = if_told at line ++ told_of later
+told_of (End ∷ later) = told_of later
+
+abbrev AreLines : List Given → Type 0
+AreLines [] = Unit {0}
+AreLines (Line at line ∷ later) = AreLines later
+AreLines (End ∷ later) = ⊥
+
+told_from : (at : ℕ) (parts : List (List ℕ)) → told_of (given_from at parts) ≡ filter (λ (line : PlacedLine). says line.text)
+    (placed_from at parts)
+told_from at [] = refl
+told_from at (part ∷ parts) =
+    let test = λ (line : PlacedLine). says line.text in
+    let here : PlacedLine = record { at = at; text = text_of part } in
+    let later = placed_from (at + length part + 1) parts in
+    ap (λ l. filter test (here ∷ []) ++ l) (told_from (at + length part + 1) parts) ∙ sym (filter-append test (here ∷ []) later)
+
+lines_from : (at : ℕ) (parts : List (List ℕ)) → AreLines (given_from at parts)
+lines_from at [] = tt
+lines_from at (part ∷ parts) = lines_from (at + length part + 1) parts
+
+told_given : (front : List ℕ) → told_of (given_lines front) ≡ told front
+unfolding told given_lines
+told_given front = told_from 0 (split_lines front)
+
+only_lines : (front : List ℕ) → AreLines (given_lines front)
+unfolding given_lines
+only_lines front = lines_from 0 (split_lines front)
+
+-- ---- what was done of them
+
+pub record Reached (held : Held) (given : List Given) (behind : Held) : Type 0 where
+  pub runs : List Run
+  pub book : List Series
+  pub first : Bool
+  pub open_run : Option Run
+  pub points : ℕ
+  pub loads : Loads held.total held.name held.book runs book
+  pub reads : AreLines given → (before : List PlacedLine) (others : List Run) → Read held.scale held.step before others held.first
+      held.open_run held.points → Read held.scale held.step (before ++ told_of given) (others ++ runs) first open_run points
+  pub behind_is : behind ≡ moved held book first open_run points
+
+reached : (given : List Given) (held : Held) (text : List ℕ) (behind : Held) → Carries LoadDoes held given text behind
+    → Reached held given behind
+reached [] held text behind (none, same) = record {
+  runs = [];
+  book = held.book;
+  first = held.first;
+  open_run = held.open_run;
+  points = held.points;
+  loads = refl;
+  reads = λ only before others read.
+      let P : List PlacedLine → Type 0 = λ l. Read held.scale held.step l (others ++ []) held.first held.open_run held.points in
+      let Q : List Run → Type 0 = λ r. Read held.scale held.step before r held.first held.open_run held.points in
+      subst P (sym (append-nil before)) (subst Q (sym (append-nil others)) read);
+  behind_is = same;
+}
+reached (Line at None ∷ later) held text behind follows = absurd follows.does
+reached (Line at (Some line) ∷ later) held text behind follows =
+    let did = follows.does in
+    let P : Held → Type 0 = λ h. Reached h later behind in
+    let rest : Reached (moved held did.book did.first did.open_run did.points) later behind = subst P did.behind_is
+    (reached later follows.between follows.more behind follows.others) in
+    record {
+      runs = did.ends ++ rest.runs;
+      book = rest.book;
+      first = rest.first;
+      open_run = rest.open_run;
+      points = rest.points;
+      loads = loads_then held.total held.name held.book did.book rest.book did.ends rest.runs did.loads rest.loads;
+      reads = λ only before others read.
+          let L : List PlacedLine → Type 0 = λ l. Read held.scale held.step l (others ++ (did.ends ++ rest.runs)) rest.first
+          rest.open_run rest.points in
+          let R : List Run → Type 0 = λ r. Read held.scale held.step ((before ++ if_told at (Some line)) ++ told_of later) r rest.first
+          rest.open_run rest.points in
+          subst L (append_assoc before (if_told at (Some line)) (told_of later)) (subst R (append_assoc others did.ends rest.runs)
+          (rest.reads only (before ++ if_told at (Some line)) (others ++ did.ends) (did.adds before others read)));
+      behind_is = rest.behind_is;
+    }
+reached (End ∷ later) held text behind follows =
+    let did = follows.does in
+    let P : Held → Type 0 = λ h. Reached h later behind in
+    let rest : Reached (moved held did.book held.first None held.points) later behind = subst P did.behind_is
+    (reached later follows.between follows.more behind follows.others) in
+    record {
+      runs = closed held.open_run ++ rest.runs;
+      book = rest.book;
+      first = rest.first;
+      open_run = rest.open_run;
+      points = rest.points;
+      loads = loads_then held.total held.name held.book did.book rest.book (closed held.open_run) rest.runs did.loads rest.loads;
+      reads = λ only. absurd only;
+      behind_is = rest.behind_is;
+    }
+
+-- ---- the first lines of an input
+
+some_text : (text : List ℕ) → 0 < length text → IsTrue (says (Some text))
+some_text [] some = absurd (omega (arith, some))
+some_text (byte ∷ bytes) some = refl
+
+-- what was read of the input
+pub record Heard (scale step : ℕ) (input : List ℕ) (ended : List Run) (first : Bool) (open_run : Option Run) (points : ℕ) : Type 0 where
+  pub front : List ℕ
+  pub rest : List ℕ
+  pub begins : BeginsWith input front rest
+  pub early : length front ≤ 2 ^ 32
+  pub read : Read scale step (told front) ended first open_run points
+
+-- the next line of it
+record NextOf (front rest : List ℕ) (line : Option (List ℕ)) : Type 0 where
+  pub whole : IsWhole front
+  pub some : rest ≢ []
+  pub lines_are : lines rest ≡ line ∷ lines (after_first is_line_feed rest)
+  pub early : length (front ++ first_piece rest) ≤ 2 ^ 32
+
+next_of : (input front rest : List ℕ) (line : Option (List ℕ)) → BeginsWith input front rest
+    → lines_given.NextLine (length front) rest line → NextOf front rest line
+next_of input front rest line begins next =
+    let some = some_left rest line next.later next.lines_are in
+    let all = lines_first rest some in
+    let both : text_of (Rattle.std.specs.List.before_first is_line_feed rest) ∷ lines (after_first is_line_feed rest) ≡ line
+    ∷ next.later = sym all ∙ next.lines_are in
+    let same : text_of (Rattle.std.specs.List.before_first is_line_feed rest) ≡ line = cc in
+    record {
+      whole = whole_front front rest begins.whole some;
+      some = some;
+      lines_are = all ∙ ap (λ l. l ∷ lines (after_first is_line_feed rest)) same;
+      early = omega (arith, next.early, length-append front (first_piece rest));
+    }
+
+module _ (scale step : ℕ) (input : List ℕ) (ended : List Run) (first : Bool) (open_run : Option Run) (points : ℕ)
+    (h : Heard scale step input ended first open_run points) where
+  all_runs : AllRuns step h.read.rows (ended ++ closed open_run)
+  all_runs = (None, adds_gap step open_run h.read.rows ended h.read.cut)
+
+  -- the runs that have ended are the first of the input
+  heard_first : AreFirst scale step input ended
+  heard_first = record {
+    front = h.front;
+    rest = h.rest;
+    early = h.early;
+    rows = h.read.rows;
+    reads = record { begins = h.begins; table = h.read.table };
+    ended = inl (open_run, h.read.cut);
+  }
+
+  -- and so are those that end where the input stops
+  stop_first : (Rattle.series_load.specs.Rows.Stops scale h.front h.rest) → (ends : List Run) (new : Option Run)
+      → Closes open_run ends new → AreFirst scale step input (ended ++ ends)
+  stop_first stops ends new closes =
+      let A : List Run → Type 0 = λ e. AreFirst scale step input (ended ++ e) in
+      subst A (sym closes.0) (record {
+        front = h.front;
+        rest = h.rest;
+        early = h.early;
+        rows = h.read.rows;
+        reads = record { begins = h.begins; table = h.read.table };
+        ended = inr (stops, all_runs);
+      })
+
+  bad_long : NextOf h.front h.rest None → BadEarly scale h.front h.rest
+  bad_long next = record {
+    bad = record { line = None; later = lines (after_first is_line_feed h.rest); lines_are = next.lines_are; some = refl; bad = tt };
+    early = next.early;
+  }
+
+  bad_text : (text : List ℕ) → NextOf h.front h.rest (Some text) → 0 < length text → SaysSo scale first text Bad
+      → BadEarly scale h.front h.rest
+  bad_text text next some says = record {
+    bad = record {
+      line = Some text;
+      later = lines (after_first is_line_feed h.rest);
+      lines_are = next.lines_are;
+      some = some_text text some;
+      bad = is_bad scale text first (told h.front) h.read.some_yet says;
+    };
+    early = next.early;
+  }
+
+  line_first : (at : ℕ) (text : List ℕ) (ends : List Run) → at ≡ length h.front → NextOf h.front h.rest (Some text)
+      → LineEnds scale step at text first open_run points ends → AreFirst scale step input (ended ++ ends)
+  line_first at text ends at_is next so =
+      let A : ℕ → Type 0 = λ a. LineEnds scale step a text first open_run points ends in
+      let e = (subst A at_is so) (told h.front) ended h.read in
+      let P : List PlacedLine → Type 0 = λ l. AreTable scale l e.rows in
+      elim e.ended [
+        | inl t ↦ record {
+          front = h.front ++ first_piece h.rest;
+          rest = after_first is_line_feed h.rest;
+          early = next.early;
+          rows = e.rows;
+          reads = record {
+            begins = begins_more input h.front h.rest h.begins next.some;
+            table = subst P (sym
+                (told_joined h.front (first_piece h.rest) (Some text) next.whole (piece_line h.rest (Some text) next.lines_are))) t.0;
+          };
+          ended = inl t.1;
+        }
+        | inr b ↦ record {
+          front = h.front;
+          rest = h.rest;
+          early = h.early;
+          rows = e.rows;
+          reads = record { begins = h.begins; table = b.2 };
+          ended = inr (
+            inr (record {
+              bad = record {
+                line = Some text;
+                later = lines (after_first is_line_feed h.rest);
+                lines_are = next.lines_are;
+                some = some_text text b.0;
+                bad = b.1;
+              };
+              early = next.early;
+            }),
+            b.3,
+          );
+        }
+      ]
+
+-- ---- a load
+
+module _ (total : ℕ) (name : List ℕ) (book : List Series) (series : Series) (since count : ℕ) where
+  abbrev pub start : Held
+  start = record {
+    total = total;
+    name = name;
+    scale = series.scale;
+    step = series.step;
+    book = book;
+    first = true;
+    open_run = None;
+    points = 0;
+    since = since;
+    count = count;
+  }
+
+  module _ (done : Done LoadDoes start) where
+    abbrev r : Reached start done.given done.behind
+    r = reached done.given start done.text done.behind done.carries
+
+    abbrev there : Held
+    there = moved start r.book r.first r.open_run r.points
+
+    abbrev HeardOf : List ℕ → Type 0
+    HeardOf input = Heard series.scale series.step input r.runs r.first r.open_run r.points
+
+    read_start : Read series.scale series.step [] [] true None 0
+    read_start = record { rows = []; table = inl tt; cut = nothing; counted = refl; none_yet = λ is. refl; some_yet = λ is. cc }
+
+    read_of : (input : List ℕ) → (f : lines_given.AreFirst input done.given) → Read series.scale series.step (told f.front) r.runs
+        r.first r.open_run r.points
+    read_of input f =
+        let only = subst AreLines (sym f.given_are) (only_lines f.front) in
+        let P : List PlacedLine → Type 0 = λ l. Read series.scale series.step l r.runs r.first r.open_run r.points in
+        subst P (ap told_of f.given_are ∙ told_given f.front) (r.reads only [] [] read_start)
+
+    abbrev heard : (input : List ℕ) → lines_given.AreFirst input done.given → HeardOf input
+    heard input f = record { front = f.front; rest = f.rest; begins = f.begins; early = f.early; read = read_of input f }
+
+    firsts_of : (o : Option (List ℕ)) → IfSome o (λ input. lines_given.AreFirst input done.given)
+        → AreFirstOf series.scale series.step o r.runs
+    firsts_of None are = tt
+    firsts_of (Some input) are = heard_first series.scale series.step input r.runs r.first r.open_run r.points (heard input are)
+
+    next_first : (it : Given) (input : List ℕ) → AreBefore input done.given it → (ends : List Run) (new : Option Run)
+        → EndsBy there it ends new → AreFirst series.scale series.step input (r.runs ++ ends)
+    next_first (Line at None) input b ends new closes =
+        let h = heard input b.first in
+        let next = next_of input h.front h.rest None h.begins b.next_is.1 in
+        stop_first series.scale series.step input r.runs r.first r.open_run r.points h
+        (inr (bad_long series.scale series.step input r.runs r.first r.open_run r.points h next)) ends new closes
+    next_first (Line at (Some text)) input b ends new so =
+        let h = heard input b.first in
+        let next = next_of input h.front h.rest (Some text) h.begins b.next_is.1 in
+        line_first series.scale series.step input r.runs r.first r.open_run r.points h at text ends b.next_is.0 next so
+    next_first End input b ends new closes =
+        let h = heard input b.first in
+        stop_first series.scale series.step input r.runs r.first r.open_run r.points h (inl b.next_is) ends new closes
+
+    next_firsts : (it : Given) (o : Option (List ℕ)) → IfSome o (λ input. AreBefore input done.given it)
+        → (ends : List Run) (new : Option Run) → EndsBy there it ends new → AreFirstOf series.scale series.step o (r.runs ++ ends)
+    next_firsts it None are ends new so = tt
+    next_firsts it (Some input) are ends new so = next_first it input are ends new so
+
+    -- what stands behind the lines
+    some_so : (o : Option (List ℕ)) (image : Image) → AreFirstOf series.scale series.step o r.runs → StandsForBook image total r.book
+        → IsAfterSome total name book series o image
+    some_so o image first stands = record
+        { runs = r.runs; first = first; after = record { new = r.book; loads = r.loads; stands = stands } }
+
+    ended_so : (o : Option (List ℕ)) (image : Image) (ends : List Run) → AreFirstOf series.scale series.step o (r.runs ++ ends)
+        → IsAfter total name r.book ends image → IsAfterSome total name book series o image
+    ended_so o image ends first after = record
+        { runs = r.runs ++ ends; first = first; after = after_then total name book r.book r.runs ends image r.loads after }
+
+    either_so : (it : Given) (o : Option (List ℕ)) (image : Image) → IfSome o (λ input. AreBefore input done.given it)
+        → AreFirstOf series.scale series.step o r.runs → IsEither (EndsBy there it) total name r.book image
+        → IsAfterSome total name book series o image
+    either_so it o image are first (inl stands) = some_so o image first stands
+    either_so it o image are first (inr after) = ended_so o image after.ends (next_firsts it o are after.ends after.new after.gives)
+        after.after
+
+    before_first : (it : Given) (o : Option (List ℕ)) → IfSome o (λ input. AreBefore input done.given it)
+        → AreFirstOf series.scale series.step o r.runs
+    before_first it None are = tt
+    before_first it (Some input) are = firsts_of (Some input) are.first
+
+    -- a bad line
+    bad_at : (input : List ℕ) (place : ℕ) (image : Image) (h : HeardOf input) → place ≡ length h.front
+        → BadEarly series.scale h.front h.rest → IsAfter total name r.book (closed r.open_run) image
+        → IsAtBad total name book series input place image
+    bad_at input place image h at_is bad after = record {
+      front = h.front;
+      rest = h.rest;
+      rows = h.read.rows;
+      reads = record { begins = h.begins; table = h.read.table };
+      bad = bad.bad;
+      early = bad.early;
+      at_is = at_is;
+      runs = r.runs ++ closed r.open_run;
+      all = all_runs series.scale series.step input r.runs r.first r.open_run r.points h;
+      after = after_then total name book r.book r.runs (closed r.open_run) image r.loads after;
+    }
+
+    next_bad : (it : Given) (input : List ℕ) (place : ℕ) (image : Image) → AreBefore input done.given it → BadBy there it image place
+        → IsAtBad total name book series input place image
+    next_bad (Line at None) input place image b bad =
+        let h = heard input b.first in
+        let next = next_of input h.front h.rest None h.begins b.next_is.1 in
+        bad_at input place image h (bad.at_is ∙ b.next_is.0)
+        (bad_long series.scale series.step input r.runs r.first r.open_run r.points h next) bad.after
+    next_bad (Line at (Some text)) input place image b bad =
+        let h = heard input b.first in
+        let next = next_of input h.front h.rest (Some text) h.begins b.next_is.1 in
+        bad_at input place image h (bad.at_is ∙ b.next_is.0)
+        (bad_text series.scale series.step input r.runs r.first r.open_run r.points h text next bad.some bad.bad) bad.after
+    next_bad End input place image b bad = absurd bad
+
+    bad_some : (it : Given) (o : Option (List ℕ)) (place : ℕ) (image : Image) → IfSome o (λ input. AreBefore input done.given it)
+        → BadBy there it image place → IsAfterSome total name book series o image
+    bad_some (Line at None) o place image are bad = ended_so o image (closed r.open_run)
+        (next_firsts (Line at None) o are (closed r.open_run) None (refl, refl)) bad.after
+    bad_some (Line at (Some text)) o place image are bad =
+        ended_so o image (closed r.open_run) (next_firsts (Line at (Some text)) o are (closed r.open_run) None
+        (ends_bad series.scale series.step at text r.first r.open_run r.points (closed r.open_run) None bad.some bad.bad (refl, refl)))
+        bad.after
+    bad_some End o place image are bad = absurd bad
+
+    -- where the work stopped
+    keeps_so : (it : Given) (o : Option (List ℕ)) (image : Image) (end : LoadEnd) → IfSome o (λ input. AreBefore input done.given it)
+        → StopsSo (EndsBy there it) (BadBy there it image) total name r.book image end → KeepsSome total name book series o image end
+    keeps_so it o image UnknownSeries are why = absurd why
+    keeps_so it o image (BadLine at) are why = bad_some it o at image are why
+    keeps_so it o image (Refused at refusal) are why = some_so o image (before_first it o are) why.stands
+    keeps_so it o image ReadFault are why = absurd why
+    keeps_so it o image InputTooLong are why = absurd why
+    keeps_so it o image DiskFault are why = tt
+    keeps_so it o image (Damaged page) are why = absurd why
+    keeps_so it o image NoMemory are why = either_so it o image are (before_first it o are) why
+
+    ends_so : (it : Given) (input : List ℕ) (left : Option (List ℕ)) (image : Image) (end : LoadEnd) → AreBefore input done.given it
+        → StopsSo (EndsBy there it) (BadBy there it image) total name r.book image end → EndsLoad total name book series input left image
+        end
+    ends_so it input left image UnknownSeries are why = absurd why
+    ends_so it input left image (BadLine at) are why = next_bad it input at image are why
+    ends_so it input left image (Refused at refusal) are why = record {
+      runs = r.runs;
+      run = why.run;
+      first = next_first it input are (why.run ∷ []) why.new why.gives;
+      at_is = why.at_is;
+      new = r.book;
+      loads = r.loads;
+      refused = why.refused;
+      stands = why.stands;
+    }
+    ends_so it input left image ReadFault are why = absurd why
+    ends_so it input left image InputTooLong are why = absurd why
+    ends_so it input left image DiskFault are why = tt
+    ends_so it input left image (Damaged page) are why = absurd why
+    ends_so it input left image NoMemory are why = tt
+
+    -- at a fault of the input
+    taken_so : (input : List ℕ) (left : Option (List ℕ)) (image : Image) → StandsForBook image total r.book
+        → runs.AreTaken left input done.given → EndsLoad total name book series input left image ReadFault
+    taken_so input None image stands t = tt
+    taken_so input (Some l) image stands t =
+        let h = heard input t.first in
+        let R : List ℕ → Type 0 = λ rest. Rattle.series_load.specs.Rows.ReadsRows series.scale input h.front rest h.read.rows in
+        record {
+          front = h.front;
+          partial = t.behind.partial;
+          rows = h.read.rows;
+          reads = subst R t.behind.taken (record { begins = h.begins; table = h.read.table });
+          whole = t.whole;
+          unended = t.behind.unended;
+          runs = r.runs;
+          ended = (r.open_run, h.read.cut);
+          after = record { new = r.book; loads = r.loads; stands = stands };
+        }
+
+    within_so : (input : List ℕ) (left : Option (List ℕ)) (image : Image) → StandsForBook image total r.book
+        → runs.AreWithin input done.given → EndsLoad total name book series input left image InputTooLong
+    within_so input left image stands w =
+        let h = heard input w.first in
+        record {
+          front = h.front;
+          rest = h.rest;
+          rows = h.read.rows;
+          reads = record { begins = h.begins; table = h.read.table };
+          within = h.early;
+          unended = w.unended;
+          past = w.past;
+          runs = r.runs;
+          ended = (r.open_run, h.read.cut);
+          after = record { new = r.book; loads = r.loads; stands = stands };
+        }
+
+  -- ---- by what a run of lines says
+
+  -- what stands behind lines, in the words of what was reached
+  transport : (done : Done LoadDoes start) (P : Held → Type 0) → P done.behind → P (there done)
+  transport done P is = subst P (r done).behind_is is
+
+  ahead_so : (o before : Option (List ℕ)) (image : Image) (sent : ℕ)
+      → runs.IsAhead LoadDoes (λ held i. StandsForBook i held.total held.book) LoadLeaves start o before count image sent
+      → IsAfterSome total name book series o image
+  ahead_so o before image sent ahead = elim ahead.is [
+    | inl rests ↦ some_so ahead.done o image (firsts_of ahead.done o rests.are)
+        (transport ahead.done (λ h. StandsForBook image h.total h.book) rests.rests_so)
+    | inr amid ↦ either_so ahead.done amid.next o image amid.are (before_first ahead.done amid.next o amid.are)
+        (transport ahead.done (λ h. LoadLeaves h amid.next amid.begun image sent) amid.leaves_so)
+  ]
+
+  moments_so : (o before : Option (List ℕ)) (old new : View) → since ≡ old.clock → count ≡ sent_now old → NoneSent since count new
+      → Since old new (runs.IsAhead LoadDoes (λ held i. StandsForBook i held.total held.book) LoadLeaves start o before (sent_now old))
+      → Passes old new (IsAfterSome total name book series o) (Quiet old)
+  moments_so o before old new since_is count_is quiet lasts =
+      let A : ℕ → Type 0 = λ n. Since old new
+      (runs.IsAhead LoadDoes (λ held i. StandsForBook i held.total held.book) LoadLeaves start o before n) in
+      let all = subst A (sym count_is) lasts in
+      record {
+        later = all.goes.later;
+        past = all.goes.past;
+        kept = all.goes.kept;
+        here = λ at image low high left. ahead_so o before image (new.sent_by at) (all.here at image (omega (arith, low)) high left);
+        sent_past = all.goes.sent_past;
+        sent_here = λ at low high. quiet.here at (omega (arith, low, since_is)) high ∙ count_is;
+      }
+
+  -- the input was read to its end
+  module _ (IsNow : Held → Type 0) (image : Image) (points : ℕ)
+      (stands : (held : Held) → IsNow held → StandsForBook image held.total held.book × (held.points ≡ points))
+      (before now : Option (List ℕ)) where
+    abbrev All : Option (List ℕ) → Type 0
+    All o = runs.Runs LoadDoes start runs.AreAll IsNow o before now
+
+    loaded_both : (input : List ℕ) → length input ≤ 2 ^ 32 → All (Some input) → IsLoaded total name book series input points image ×
+        IsAfterSome total name book series (Some input) image
+    loaded_both input within all =
+        let P : List Given → Type 0 = λ l. Carries LoadDoes start l all.done.text all.done.behind in
+        let both = carries_both LoadDoes (given_lines input) (End ∷ []) start all.done.text all.done.behind
+        (subst P all.are all.done.carries) in
+        let done : Done LoadDoes start = record
+        { given = given_lines input; text = both.begin; behind = both.between; carries = both.begins } in
+        let f : lines_given.AreFirst input (given_lines input) = record {
+          front = input;
+          rest = [];
+          begins = record { split = sym (append-nil input); whole = inr refl };
+          early = within;
+          given_are = refl;
+        } in
+        let h = heard done input f in
+        let at = r done in
+        let E : Held → Type 0 = λ b. Carries LoadDoes b (End ∷ []) both.more all.done.behind in
+        let last = subst E at.behind_is both.others in
+        let did = last.does in
+        let S : Held → Type 0 = λ b. StandsForBook image b.total b.book × (b.points ≡ points) in
+        let is = subst S (last.others.1 ∙ did.behind_is) (stands all.done.behind all.stands) in
+        let after : IsAfter total name at.book (closed at.open_run) image = record { new = did.book; loads = did.loads; stands = is.0 } in (
+          record {
+            rows = h.read.rows;
+            reads = record { begins = f.begins; table = h.read.table };
+            runs = at.runs ++ closed at.open_run;
+            all = all_runs series.scale series.step input at.runs at.first at.open_run at.points h;
+            after = after_then total name book at.book at.runs (closed at.open_run) image at.loads after;
+            counted = sym is.1 ∙ h.read.counted;
+          },
+          ended_so done (Some input) image (closed at.open_run)
+              (stop_first series.scale series.step input at.runs at.first at.open_run at.points h (inl refl) (closed at.open_run) None
+              (refl, refl)) after,
+        )
+
+    pub loaded_so : (o : Option (List ℕ)) → IfSome o (λ input. length input ≤ 2 ^ 32) → All o
+        → IfSome o (λ input. IsLoaded total name book series input points image) × IsAfterSome total name book series o image
+    loaded_so None within all = (
+      tt,
+      some_so all.done None image tt
+          (transport all.done (λ h. StandsForBook image h.total h.book) (stands all.done.behind all.stands).0),
+    )
+    loaded_so (Some input) within all = loaded_both input within all
+
+  pub finished_so : (told : Type 0) (loader : Loader) (o before now : Option (List ℕ)) (old new : View) → since ≡ old.clock
+      → count ≡ sent_now old → IfSome o (λ input. length input ≤ 2 ^ 32) → runs.Runs LoadDoes start runs.AreAll
+      (StandsSo told new loader) o before now
+      → Since old new (runs.IsAhead LoadDoes (λ held i. StandsForBook i held.total held.book) LoadLeaves start o before (sent_now old))
+      → Finished total name book series o loader.points old new
+  finished_so told loader o before now old new since_is count_is within all lasts =
+      let quiet = transport all.done (λ h. NoneSent h.since h.count new) all.stands.quiet in
+      let both = loaded_so (StandsSo told new loader) new.image loader.points
+      (λ held s. (s.stands, ap (λ (h : Held). h.points) s.seen_is)) before now o within all in
+      record { done = both.0; some = both.1; moments = moments_so o before old new since_is count_is quiet lasts }
+
+  -- not all of it was
+  pub stopped_so : (told : Type 0) (loader : Loader) (o left before now : Option (List ℕ)) (old : View) {S : Type 0} (view : S → View)
+      (new : S) (stop : LinesStop LoadEnd) → since ≡ old.clock → count ≡ sent_now old
+      → runs.StopsSo LoadDoes (λ held it end store was. LoadStops held it (view store) end) (StandsSo told (view new) loader) start o
+      left before now new stop
+      → Since old (view new)
+      (runs.IsAhead LoadDoes (λ held i. StandsForBook i held.total held.book) LoadLeaves start o before (sent_now old))
+      → Stopped total name book series o left (end_of_stop stop) old (view new)
+  stopped_so told loader o left before now old {S} view new (stop.Fault fault.ReadFault) since_is count_is is lasts =
+      let stands = transport is.done (λ h. StandsForBook (view new).image h.total h.book) is.stands.stands in
+      let quiet = transport is.done (λ h. NoneSent h.since h.count (view new)) is.stands.quiet in
+      record {
+        ends = told_so (λ input. runs.AreTaken left input is.done.given)
+            (λ input. EndsLoad total name book series input left (view new).image ReadFault) o
+            (λ input t. taken_so is.done input left (view new).image stands t) is.are;
+        some = some_so is.done o (view new).image
+            (firsts_of is.done o
+            (told_so (λ input. runs.AreTaken left input is.done.given) (λ input. lines_given.AreFirst input is.done.given) o
+            (λ input t. t.first) is.are)) stands;
+        moments = moments_so o before old (view new) since_is count_is quiet lasts;
+      }
+  stopped_so told loader o left before now old {S} view new (stop.Fault fault.InputTooLong) since_is count_is is lasts =
+      let stands = transport is.done (λ h. StandsForBook (view new).image h.total h.book) is.stands.stands in
+      let quiet = transport is.done (λ h. NoneSent h.since h.count (view new)) is.stands.quiet in
+      record {
+        ends = told_so (λ input. runs.AreWithin input is.done.given)
+            (λ input. EndsLoad total name book series input left (view new).image InputTooLong) o
+            (λ input t. within_so is.done input left (view new).image stands t) is.are;
+        some = some_so is.done o (view new).image
+            (firsts_of is.done o
+            (told_so (λ input. runs.AreWithin input is.done.given) (λ input. lines_given.AreFirst input is.done.given) o
+            (λ input t. t.first) is.are)) stands;
+        moments = moments_so o before old (view new) since_is count_is quiet lasts;
+      }
+  stopped_so told loader o left before now old {S} view new (stop.Work end) since_is count_is is lasts =
+      let stops = transport is.done (λ h. LoadStops h is.next (view new) end) is.why in
+      record {
+        ends = told_so (λ input. AreBefore input is.done.given is.next)
+            (λ input. EndsLoad total name book series input left (view new).image end) o
+            (λ input b. ends_so is.done is.next input left (view new).image end b stops.why) is.are;
+        some = keeps_so is.done is.next o (view new).image end is.are stops.why;
+        moments = moments_so o before old (view new) since_is count_is stops.quiet lasts;
+      }
+
+-- before the first line
+pub start_stands : (told : Type 0) (total : ℕ) (book : List Series) (series : Series) (loader : Loader) (at : View) → told
+    → StandsForBook at.image total book → loader.run.values.items ≡ [] → loader.first ≡ true → loader.points ≡ 0
+    → loader.step ≡ series.step → loader.scale ≡ series.scale
+    → StandsSo told at loader (start total loader.name book series at.clock (sent_now at))
+start_stands told total book series loader at is stands none first points step scale = record {
+  is_told = is;
+  stands = stands;
+  keeps = none;
+  quiet = record {
+    later = omega arith;
+    here = λ time low high. let same : time ≡ at.clock = omega (arith, low, high)
+        in ap at.sent_by same;
+  };
+  seen_is = (λ i. record {
+    total = total;
+    name = loader.name;
+    scale = sym scale i;
+    step = sym step i;
+    book = book;
+    first = sym first i;
+    open_run = None;
+    points = sym points i;
+    since = at.clock;
+    count = sent_now at;
+  });
+}

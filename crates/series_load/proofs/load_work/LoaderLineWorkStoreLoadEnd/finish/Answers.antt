@@ -1,0 +1,49 @@
+use Rattle.std.proofs.Common.{◌∙◌, ap, sym}
+use Rattle.block_disk.specs.View.{Beside}
+use Rattle.line_runs.specs.Given.{End}
+use Rattle.series_load.specs.Steps.{Closes, NoBad}
+use Rattle.series_store.specs.Shown as shown
+use Rattle.series_load.proofs.WorkLemmas.{end_done, line_leaves, line_stops}
+use Rattle.series_load.proofs.load_work.LoaderLineWorkStoreLoadEnd.finish.Goals as goal
+
+pub returns-clause-does : goal.returns-clause-does
+returns-clause-does g c = λ held stands.
+    let sent = g.P.Streams.sent in
+    let w = g.met.P.PageWorld in
+    let loader = c.args.self.now in
+    let old = c.args.from.now in
+    let new = c.close.new.store in
+    let loader' = c.close.new.self in
+    let e = c.close.ensures in
+    end_done (shown.IsTold old) (shown.IsTold new) held loader loader' (shown.view old) (shown.view new) stands
+    (e.carries.is_told stands.is_told)
+    (sent (shown.pages old)) (sent (shown.pages new)) c.close.result (record { name_is = e.name; scale_is = e.scale; step_is = e.step })
+    e.first e.points
+    (sym (w.beside_sent (shown.pages new)) ∙ ap (λ (b : Beside). b.sent) e.carries.beside ∙ w.beside_sent (shown.pages old))
+    (e.does held.total held.book held.open_run stands.is_told stands.stands stands.keeps)
+
+pub returns-clause-stops : goal.returns-clause-stops
+returns-clause-stops g c = λ held stands.
+    let sent = g.P.Streams.sent in
+    let w = g.met.P.PageWorld in
+    let loader = c.args.self.now in
+    let old = c.args.from.now in
+    let new = c.close.new.store in
+    let loader' = c.close.new.self in
+    let e = c.close.ensures in
+    line_stops (shown.IsTold old) (shown.IsTold new) held loader loader' (shown.view old) (shown.view new) stands
+    (e.carries.is_told stands.is_told) End
+    (Closes held.open_run) c.close.result (e.does held.total held.book held.open_run stands.is_told stands.stands stands.keeps)
+
+pub returns-clause-leaves : goal.returns-clause-leaves
+returns-clause-leaves g c = λ held stands.
+    let sent = g.P.Streams.sent in
+    let w = g.met.P.PageWorld in
+    let loader = c.args.self.now in
+    let old = c.args.from.now in
+    let new = c.close.new.store in
+    let loader' = c.close.new.self in
+    let e = c.close.ensures in
+    line_leaves (shown.IsTold old) (shown.IsTold new) held loader loader' (shown.view old) (shown.view new) stands
+    (e.carries.is_told stands.is_told) End
+    (Closes held.open_run) NoBad c.close.result (e.does held.total held.book held.open_run stands.is_told stands.stands stands.keeps)

@@ -1,0 +1,123 @@
+-- What a load holds on its way, and what is done of a line.
+use Rattle.std.specs.Prelude.{◌≡◌, ℕ, ◌≤◌, Bool, List, [], Option, None, Some}
+use Rattle.block_disk.specs.View.{Image, View}
+use Rattle.line_runs.specs.Given.{Given, Line, End}
+use Rattle.line_runs.specs.declared.lines_stop.LinesStop.{LinesStop}
+use Rattle.line_runs.specs.declared.lines_stop.LinesStop.TheVariants as stop
+use Rattle.series_book.specs.declared.one_series.Series.{Series}
+use Rattle.stored_book.specs.Standing.{StandsForBook}
+use Rattle.series_load.specs.Runs.{Run}
+use Rattle.series_load.specs.Sets.{Loads}
+use Rattle.series_load.specs.Steps.{BadDone, Closes, IsEither, Keeps, LineAdds, LineEnds, NoBad, StopsSo, TooLongDone, closed, end_of}
+use Rattle.series_load.specs.declared.load_end.LoadEnd.{LoadEnd}
+use Rattle.series_load.specs.declared.load_end.LoadEnd.TheVariants.{DiskFault}
+use Rattle.series_load.specs.declared.loader.Loader.{Loader}
+
+-- the series and the book that the pages stand for, how far the lines were read, and since when how many bytes were sent
+pub record Held : Type 0 where
+  pub total : ℕ
+  pub name : List ℕ
+  pub scale : ℕ
+  pub step : ℕ
+  pub book : List Series
+  pub first : Bool
+  pub open_run : Option Run
+  pub points : ℕ
+  pub since : ℕ
+  pub count : ℕ
+
+-- the same of a load whose loader is this one
+abbrev pub seen : Held → Loader → Held
+seen held loader = record {
+  total = held.total;
+  name = loader.name;
+  scale = loader.scale;
+  step = loader.step;
+  book = held.book;
+  first = loader.first;
+  open_run = held.open_run;
+  points = loader.points;
+  since = held.since;
+  count = held.count;
+}
+
+-- and with another book, and further lines read
+abbrev pub moved : Held → List Series → Bool → Option Run → ℕ → Held
+moved held book first open_run points = record {
+  total = held.total;
+  name = held.name;
+  scale = held.scale;
+  step = held.step;
+  book = book;
+  first = first;
+  open_run = open_run;
+  points = points;
+  since = held.since;
+  count = held.count;
+}
+
+-- no byte was sent since this moment
+pub record NoneSent (since count : ℕ) (at : View) : Type 0 where
+  pub later : since ≤ at.clock
+  pub here : (time : ℕ) → since ≤ time → time ≤ at.clock → at.sent_by time ≡ count
+
+-- the loader and the pages are those of such a load
+pub record StandsSo (told : Type 0) (at : View) (loader : Loader) (held : Held) : Type 0 where
+  pub is_told : told
+  pub stands : StandsForBook at.image held.total held.book
+  pub keeps : Keeps held.open_run loader.run
+  pub quiet : NoneSent held.since held.count at
+  pub seen_is : held ≡ seen held loader
+
+-- a line was taken: runs ended, and their sets were done
+pub record LineTaken (held : Held) (at : ℕ) (line text : List ℕ) (behind : Held) : Type 0 where
+  pub ends : List Run
+  pub book : List Series
+  pub first : Bool
+  pub open_run : Option Run
+  pub points : ℕ
+  pub adds : LineAdds held.scale held.step at line held.first held.open_run held.points ends first open_run points
+  pub loads : Loads held.total held.name held.book ends book
+  pub behind_is : behind ≡ moved held book first open_run points
+  pub unsent : text ≡ []
+
+-- at the end the set of the run that stands open is done
+pub record EndTaken (held : Held) (text : List ℕ) (behind : Held) : Type 0 where
+  pub book : List Series
+  pub loads : Loads held.total held.name held.book (closed held.open_run) book
+  pub behind_is : behind ≡ moved held book held.first None held.points
+  pub unsent : text ≡ []
+
+abbrev pub LoadDoes : Held → Given → List ℕ → Held → Type 0
+LoadDoes held (Line at None) text behind = ⊥
+LoadDoes held (Line at (Some line)) text behind = LineTaken held at line text behind
+LoadDoes held End text behind = EndTaken held text behind
+
+-- the runs that may end, and what is done of a bad line
+abbrev pub EndsBy : Held → Given → List Run → Option Run → Type 0
+EndsBy held (Line at None) ends new = Closes held.open_run ends new
+EndsBy held (Line at (Some line)) ends new = LineEnds held.scale held.step at line held.first held.open_run held.points ends
+EndsBy held End ends new = Closes held.open_run ends new
+
+abbrev pub BadBy : Held → Given → Image → ℕ → Type 0
+BadBy held (Line at None) image place = TooLongDone at held.total held.name held.book held.open_run image place
+BadBy held (Line at (Some line)) image place =
+    BadDone held.scale at held.first line held.total held.name held.book held.open_run image place
+BadBy held End image place = NoBad place
+
+-- why it stopped the load, and what a crash leaves meanwhile
+pub record LoadStops (held : Held) (it : Given) (new : View) (end : LoadEnd) : Type 0 where
+  pub why : StopsSo (EndsBy held it) (BadBy held it new.image) held.total held.name held.book new.image end
+  pub quiet : NoneSent held.since held.count new
+
+abbrev pub LoadLeaves : Held → Given → ℕ → Image → ℕ → Type 0
+LoadLeaves held it from image sent = IsEither (EndsBy held it) held.total held.name held.book image
+
+-- after it no line may be given
+abbrev pub Harms : LoadEnd → Type 0
+Harms end = end ≡ DiskFault
+
+-- what a stop of the lines is
+abbrev pub end_of_stop : LinesStop LoadEnd → LoadEnd
+end_of_stop (stop.Fault why) = end_of why
+end_of_stop (stop.Work end) = end

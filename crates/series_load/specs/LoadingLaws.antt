@@ -1,0 +1,65 @@
+-- What takes leave of a load, and what calls move.
+use Rattle.std.proofs.Common.{◌≡◌, ◌∙◌, ℕ, ◌≤◌, None, inl, inr, sym, subst, arith}
+use Rattle.std.proofs.lemmas.Bool.{cases_lt}
+use Rattle.block_disk.specs.Counts.{HasRisen}
+use Rattle.block_disk.specs.View.{Image, View, DiskKept, Now, Only, Passes, sent_now}
+use Rattle.chart_world.specs.FaultLaws.{disk_stays, takes_stay}
+use Rattle.chart_world.specs.Faults.{CountsFault}
+use Rattle.stored_book.specs.Standing.{StandsForBook}
+use Rattle.series_load.specs.Ends.{IsLoadCause}
+use Rattle.series_load.specs.Loading.{Held, NoneSent, StandsSo}
+use Rattle.series_load.specs.declared.load_end.LoadEnd.{LoadEnd}
+use Rattle.series_load.specs.declared.load_end.LoadEnd.TheVariants.{UnknownSeries, BadLine, Refused, ReadFault, InputTooLong, DiskFault, Damaged, NoMemory}
+use Rattle.series_load.specs.declared.loader.Loader.{Loader}
+
+-- quiet calls
+pub none_sent : (since count : ℕ) (old new : View) (images : Image → Type 0) → Passes old new images (λ n. n ≡ sent_now old)
+    → NoneSent since count old → NoneSent since count new
+none_sent since count old new images time quiet = record {
+  later = omega (arith, quiet.later, time.later);
+  here = λ at low high. elim (cases_lt old.clock at) [
+    | inl late ↦ time.sent_here at late high ∙ quiet.here old.clock quiet.later (omega arith)
+    | inr early ↦ time.sent_past at early ∙ quiet.here at low early
+  ];
+}
+
+pub stands_taken : (told told' : Type 0) (old new : View) (loader : Loader) (held : Held) → (told → told') → DiskKept old new
+    → Passes old new (Now old) (λ n. n ≡ sent_now old) → StandsSo told old loader held → StandsSo told' new loader held
+stands_taken told told' old new loader held more kept time s =
+    let P : Image → Type 0 = λ i. StandsForBook i held.total held.book in
+    record {
+      is_told = more s.is_told;
+      stands = subst P (sym kept.image) s.stands;
+      keeps = s.keeps;
+      quiet = none_sent held.since held.count old new (Now old) time s.quiet;
+      seen_is = s.seen_is;
+    }
+
+pub now_stands : (held : Held) (at : View) → Only at.image (Now at) → StandsForBook at.image held.total held.book → (image : Image)
+    → Now at image → StandsForBook image held.total held.book
+now_stands held at only stands image left =
+    let P : Image → Type 0 = λ i. StandsForBook i held.total held.book in
+    subst P (sym (only image left)) stands
+
+pub fewer : (points first later : ℕ) → first ≤ later → points ≤ first → points ≤ later
+fewer points first later less few = omega (arith, less, few)
+
+risen_more : (old mid new : ℕ) → mid ≡ old → HasRisen mid new → HasRisen old new
+risen_more old mid new same (inl risen) = inl (omega (arith, same, risen))
+risen_more old mid new same (inr last) = inr (omega (arith, same, last.0), last.1 ∙ same)
+
+-- why a later call ended is why all ended, where no fault was counted before
+pub cause_later : (told : Type 0) (total total' : ℕ) (old mid new : View) (reads reads' reads'' : ℕ)
+    → old.beside.read_faults ≡ reads → mid.beside.read_faults ≡ reads' → CountsFault None old mid → total' ≡ total → (end : LoadEnd)
+    → IsLoadCause end told total' mid new reads' reads'' → IsLoadCause end told total old new reads reads''
+cause_later told total total' old mid new reads reads' reads'' was are quiet same UnknownSeries is = tt
+cause_later told total total' old mid new reads reads' reads'' was are quiet same (BadLine at) is = tt
+cause_later told total total' old mid new reads reads' reads'' was are quiet same (Refused at refusal) is = tt
+cause_later told total total' old mid new reads reads' reads'' was are quiet same ReadFault is =
+    risen_more reads reads' reads'' (sym are ∙ takes_stay old mid quiet ∙ was) is
+cause_later told total total' old mid new reads reads' reads'' was are quiet same InputTooLong is = tt
+cause_later told total total' old mid new reads reads' reads'' was are quiet same DiskFault is =
+    risen_more old.faults mid.faults new.faults (disk_stays old mid quiet) is
+cause_later told total total' old mid new reads reads' reads'' was are quiet same (Damaged page) is =
+    (omega (arith, is.0, same), is.1)
+cause_later told total total' old mid new reads reads' reads'' was are quiet same NoMemory is = tt

@@ -1,0 +1,81 @@
+//! The lines of a load, as a work.
+ghost use Rattle.std.specs.Prelude.{◌≤◌, ◌≢◌};
+ghost use Rattle.series_load.specs.Faults.{load_fault};
+ghost use Rattle.series_load.specs.Loading.{Harms, Held, LoadDoes, LoadLeaves, LoadStops, StandsSo};
+ghost use Rattle.series_load.specs.LoadingLaws.{cause_later, fewer, now_stands, stands_taken};
+ghost use Rattle.series_load.specs.Shown as loads;
+ghost use Rattle.series_load.specs.declared.load_end.LoadEnd.TheVariants.{UnknownSeries};
+ghost use Rattle.series_load.specs.SideLaws.{goes_further, goes_nowhere, goes_take, same_count, same_total};
+ghost use Rattle.series_load.specs.Sides.{Goes};
+ghost use Rattle.series_store.specs.Shown as shown;
+ghost use Rattle.stored_book.specs.Standing.{StandsForBook};
+
+use crate::load_end::LoadEnd;
+use crate::loader::Loader;
+use gate_pages::PageWorld;
+use line_runs::LineWork;
+use series_store::Store;
+
+impl<P: PageWorld> LineWork<Store<P>, LoadEnd> for Loader {
+    ghost State = { Held };
+
+    ghost view = { λ store. shown.view store };
+
+    ghost fit = { λ loader store at. shown.IsSound store × (loader.points ≤ at) };
+
+    ghost stands = { λ held loader store. StandsSo (shown.IsTold store) (shown.view store) loader held };
+
+    ghost rests = { λ held image. StandsForBook image held.total held.book };
+
+    ghost does = { LoadDoes };
+
+    ghost stops = { λ held it end store before. LoadStops held it (shown.view store) end };
+
+    ghost leaves = { LoadLeaves };
+
+    ghost goes = { λ old new. Goes (loads.side_of P.Streams old) (loads.side_of P.Streams new) };
+
+    ghost cause = { λ end old new. loads.EndsFor P.Streams end old new × (end ≢ UnknownSeries) };
+
+    ghost harms = { Harms };
+
+    ghost fault = { load_fault };
+
+    fn line(&mut self, from: &mut Store<P>, at: u32, line: &[u8]) -> Result<(), LoadEnd> {
+        self.take_line(from, at, line)
+    }
+
+    fn long_line(&mut self, from: &mut Store<P>, at: u32) -> Result<(), LoadEnd> {
+        Err(self.stop(from, at))
+    }
+
+    fn finish(&mut self, from: &mut Store<P>) -> Result<(), LoadEnd> {
+        self.close(from)
+    }
+
+    ghost fit_later = { λ loader at first later less fit. (fit.0, fewer loader.points first later less fit.1) };
+
+    ghost fit_taken = { λ loader old new at takes fit. ((P.take_keeps (shown.pages old) (shown.pages new) takes.pages_are).fit fit.0, fit.1) };
+
+    ghost stands_taken = { λ held loader old new takes. stands_taken (shown.IsTold old) (shown.IsTold new) (shown.view old) (shown.view new) loader held (P.take_told (shown.pages old) (shown.pages new) takes.pages_are) (P.take_keeps (shown.pages old) (shown.pages new) takes.pages_are) (P.take_passes (shown.pages old) (shown.pages new) takes.pages_are) };
+
+    ghost take_keeps = { λ old new takes. P.take_keeps (shown.pages old) (shown.pages new) takes.pages_are };
+
+    ghost take_passes = { λ old new takes. P.take_passes (shown.pages old) (shown.pages new) takes.pages_are };
+
+    ghost take_goes = { λ old new takes sent reads sends pieces. goes_take _ _ (P.take_keeps (shown.pages old) (shown.pages new) takes.pages_are) (P.take_told (shown.pages old) (shown.pages new) takes.pages_are) (P.take_was_told (shown.pages old) (shown.pages new) takes.pages_are) (P.take_goes_on (shown.pages old) (shown.pages new) takes.pages_are) (same_total takes.superblock) (same_count takes.catalog) sent reads sends pieces };
+
+    ghost now_rests = { λ held loader from at fit stands. now_stands held (shown.view from) (P.rests (shown.pages from) fit.0) stands.stands };
+
+    ghost goes_none = { λ at. goes_nowhere _ };
+
+    ghost goes_then = { λ old between new. goes_further _ _ _ };
+
+    ghost cause_later = { λ end old between new quiet goes cause. (cause_later _ _ _ _ _ _ _ _ _ (P.beside_read_faults (shown.pages old)) (P.beside_read_faults (shown.pages between)) quiet goes.total_is end cause.0, cause.1) };
+
+    ghost counts_sent = { λ at. P.counts_sent (shown.pages at) };
+
+    ghost beside_read_faults = { λ at. P.beside_read_faults (shown.pages at) };
+
+    ghost beside_send_faults = { λ at. P.beside_send_faults (shown.pages at) };
+}
