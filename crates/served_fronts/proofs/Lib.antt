@@ -1,0 +1,5 @@
+pub mod Fronts
+pub mod Books
+pub mod Stopped
+pub mod Agreeing
+pub mod Pictures

@@ -1,0 +1,63 @@
+//! What follows from the definitions. The functions do nothing: their contracts are the laws.
+
+ghost use Rattle.served_fronts.specs.Laws.{FrontsDrawTheBook, OwnFrontsDrawTheBook, DrawnFrontsAreTheBook, BooksFollowTheLines};
+ghost use Rattle.served_fronts.specs.Laws.{FirstBytesAgree, ChartsHaveOnePicture};
+
+use chart_frames::laws::{
+    length_is_told, more_bytes_mend_nothing, one_frame_a_spelling, spellings_are_good,
+};
+use chart_service::laws::replies_are_one;
+use drawn_replies::laws::{
+    one_session_draws_the_book, replies_are_accepted, replies_draw_the_book,
+};
+
+/// The frames that a client draws of a front of those that answer lines, from the first one on and until no frame stands
+/// whole in what is left, are those that stand whole in the front; each picture is that of the book as it is at its line.
+pub fn fronts_draw_the_book()
+    ensures { FrontsDrawTheBook }
+{
+    one_frame_a_spelling();
+    length_is_told();
+    replies_draw_the_book();
+}
+
+/// The same of the frames of one session alone, from any state in which it isn't open.
+pub fn own_fronts_draw_the_book()
+    ensures { OwnFrontsDrawTheBook }
+{
+    one_frame_a_spelling();
+    length_is_told();
+    one_session_draws_the_book();
+}
+
+/// A front of at most 2^32 bytes of what answers lines, cut anywhere, also within a frame, and given to `draw`: it sends the
+/// pictures of all views that stand whole in it, each of the book as it is at its line. Whatever end it had, where that
+/// wasn't want of memory or a fault of a stream.
+pub fn drawn_fronts_are_the_book()
+    ensures { DrawnFrontsAreTheBook }
+{
+    one_frame_a_spelling();
+    length_is_told();
+    spellings_are_good();
+    more_bytes_mend_nothing();
+    replies_draw_the_book();
+    replies_are_accepted();
+}
+
+/// The book after the replies to lines is the one after the edits among the lines, each as it is applied or refused.
+pub fn books_follow_the_lines()
+    ensures { BooksFollowTheLines }
+{}
+
+/// What was sent is determined by its length: the first so many bytes of what answers some first lines are those of what
+/// answers any other number of first lines of the same ones.
+pub fn first_bytes_agree()
+    ensures { FirstBytesAgree }
+{
+    replies_are_one();
+}
+
+/// Two canvases that are the chart of the same samples have the same picture, whatever their cells are.
+pub fn charts_have_one_picture()
+    ensures { ChartsHaveOnePicture }
+{}
