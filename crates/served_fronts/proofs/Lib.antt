@@ -3,3 +3,4 @@ pub mod Books
 pub mod Stopped
 pub mod Agreeing
 pub mod Pictures
+pub mod Starts

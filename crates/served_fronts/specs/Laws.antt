@@ -1,6 +1,9 @@
 -- The laws of fronts of what answers lines.
 use Rattle.std.specs.Prelude.{◌≡◌, ℕ, ◌≤◌, ◌^◌, List, [], ◌++◌, length, take, flat_map, Option, None}
 use Rattle.std.specs.List.{filter}
+use Rattle.block_disk.specs.View.{Image}
+use Rattle.series_book.specs.declared.one_series.Series.{Series}
+use Rattle.stored_book.specs.Standing.{RecoversTo}
 use Rattle.chart_grid.specs.declared.grid.Grid.{Grid}
 use Rattle.line_raster.specs.Canvas.{Canvas}
 use Rattle.plain_chart.specs.declared.sample.Sample.{Sample}
@@ -13,6 +16,7 @@ use Rattle.chart_frames.specs.Pending.{Pending}
 use Rattle.chart_client.specs.declared.holding.Holding.{Holding}
 use Rattle.chart_service.specs.State.{State, IsSound}
 use Rattle.chart_service.specs.Serving.{RepliesToAll}
+use Rattle.chart_service.specs.Stepping.{state_of}
 use Rattle.chart_service.specs.Alone.{only}
 use Rattle.drawn_replies.specs.Pictures.{names}
 use Rattle.draw_command.specs.Draws.{DrawsFirst, IsFront}
@@ -63,3 +67,8 @@ abbrev pub ChartsHaveOnePicture : Type 0
 ChartsHaveOnePicture =
     (grid : Grid) (range : ValueRange) (samples : List Sample) (first second : Canvas)
     → IsChart grid range samples first → IsChart grid range samples second → picture first ≡ picture second
+
+-- A store that recovers to a book begins a sound state, with no session open.
+abbrev pub StoresBeginSound : Type 0
+StoresBeginSound =
+    (count total : ℕ) (image : Image) (book : List Series) → RecoversTo count image total book → IsSound (state_of book total [])

@@ -1,7 +1,7 @@
 //! What follows from the definitions. The functions do nothing: their contracts are the laws.
 
 ghost use Rattle.served_fronts.specs.Laws.{FrontsDrawTheBook, OwnFrontsDrawTheBook, DrawnFrontsAreTheBook, BooksFollowTheLines};
-ghost use Rattle.served_fronts.specs.Laws.{FirstBytesAgree, ChartsHaveOnePicture};
+ghost use Rattle.served_fronts.specs.Laws.{FirstBytesAgree, ChartsHaveOnePicture, StoresBeginSound};
 
 use chart_frames::laws::{
     length_is_told, more_bytes_mend_nothing, one_frame_a_spelling, spellings_are_good,
@@ -60,4 +60,10 @@ pub fn first_bytes_agree()
 /// Two canvases that are the chart of the same samples have the same picture, whatever their cells are.
 pub fn charts_have_one_picture()
     ensures { ChartsHaveOnePicture }
+{}
+
+/// A store that recovers to a book begins a sound state, with no session open. So does a disk that holds a book: what its
+/// reads give recovers to it.
+pub fn stores_begin_sound()
+    ensures { StoresBeginSound }
 {}
