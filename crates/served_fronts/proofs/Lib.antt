@@ -1,6 +1,10 @@
 pub mod Fronts
 pub mod Books
-pub mod Stopped
 pub mod Agreeing
 pub mod Pictures
+pub mod Saying
+pub mod Accepting
+pub mod Stopped
+pub mod Showing
+pub mod Owning
 pub mod Starts

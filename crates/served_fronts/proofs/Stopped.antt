@@ -1,9 +1,9 @@
 -- A front of good frames stops at none of them.
 use Rattle.std.proofs.Common.{◌≡◌, ℕ, ◌-◌, ◌^◌, ◌≤◌, inl, inr, true, false, List, [], ◌∷◌, ◌++◌, length}
 use Rattle.std.proofs.Common.{take, drop, map, Option, None, refl, ap, sym, subst, ◌∙◌, arith, append_assoc, append-nil}
-use Rattle.std.specs.Prelude.{flat_map, All, nat_le}
+use Rattle.std.specs.Prelude.{flat_map, filter, All, nat_le}
 use Rattle.std.proofs.lemmas.List.{length-take, take-append-drop, take_all}
-use Rattle.std.proofs.lemmas.List.Elements.{All-nil, All-cons, All-head, All-tail}
+use Rattle.std.proofs.lemmas.List.Elements.{All-nil, All-cons, All-head, All-tail, All-filter}
 use Rattle.block_disk.specs.Streams.{sent_after}
 use Rattle.chart_frames.specs.declared.frame.Frame.{Frame}
 use Rattle.chart_frames.specs.declared.frame.Frame.TheVariants.{Done}
@@ -19,17 +19,18 @@ use Rattle.chart_service.specs.State.{State, IsSound}
 use Rattle.chart_service.specs.Serving.{RepliesToAll}
 use Rattle.line_raster.specs.Canvas.{Canvas}
 use Rattle.drawn_replies.specs.Mirrors.{mirrored}
-use Rattle.drawn_replies.specs.Laws.{RepliesDrawTheBook}
-use Rattle.drawn_replies.specs.Pictures.{NoneRejected}
+use Rattle.drawn_replies.specs.Laws.{RepliesDrawTheBook, OwnRepliesDrawTheBook}
+use Rattle.drawn_replies.specs.Pictures.{NoneRejected, names}
 use Rattle.draw_command.specs.Covers.{SendsFrames}
 use Rattle.draw_command.specs.declared.draw_end.DrawEnd.{DrawEnd}
 use Rattle.draw_command.specs.declared.draw_end.DrawEnd.TheVariants as draw_end
 use Rattle.draw_command.specs.Draws.{DrawsFirst, FramesStop, StopsAtFrame, NextStops, EndsDraw}
 use Rattle.served_fronts.specs.Books.{Line}
 use Rattle.served_fronts.specs.Fronts.{whole_frames, IsOfInput, Draws}
-use Rattle.served_fronts.specs.Laws.{DrawnFrontsAreTheBook}
+use Rattle.served_fronts.specs.Laws.{DrawnFrontsAreTheBook, DrawnOwnFrontsAreTheBook}
+use Rattle.served_fronts.proofs.Accepting.{OwnAccepted}
 use Rattle.served_fronts.proofs.Fronts.{OneFrame, Told, NoneWhole, some_bytes, none_whole, cut_frame, take_behind, low_of, high_of}
-use Rattle.served_fronts.proofs.Fronts.{take_none, whole, replies_fit, first_lines, accepted_by, pictured_by}
+use Rattle.served_fronts.proofs.Fronts.{take_none, whole, replies_fit, first_lines, own_first, accepted_by, pictured_by}
 
 abbrev pub Stay : Type 0
 Stay = (bytes more : List ℕ) (at : ℕ) → Breaks frame_fields bytes at → Breaks frame_fields (bytes ++ more) at
@@ -195,4 +196,28 @@ drawn_fronts one told stay good draws accepted lines frames old new n left befor
       drawings = d.drawings;
       pictured = (draws first.front own d.drawings old first.state [] d.holdings sound first.replied mirrors accepts).0;
       sent = d.sent ∙ ap (λ l. sent_after l before) (pictured_by own d.drawings [] d.holdings d.bytes d.sends);
+    }
+
+pub drawn_own_fronts : OneFrame → Told → Stay → Good → OwnRepliesDrawTheBook → OwnAccepted → DrawnOwnFrontsAreTheBook
+drawn_own_fronts one told stay good draws accepted m lines frames old new n left before now sound closed replied few drew =
+    let all = filter (names m) frames in
+    let fit = All-filter (names m) Fits frames (replies_fit lines frames old new replied) in
+    let none_rejected = accepted m lines frames old new sound closed replied in
+    let d = drawn_by one told stay good all n before now fit none_rejected few left drew in
+    let first = own_first m n lines frames old new replied in
+    let own = filter (names m) first.frames in
+    let S : List Frame → Type 0 = λ fs. SendsFrames None fs d.drawings [] d.holdings d.bytes in
+    let sends = subst S (sym first.own_is) d.sends in
+    let mirrors = ap (λ ss. map mirrored ss) (sym closed) in
+    let accepts = accepted_by own d.drawings [] d.holdings d.bytes sends in
+    record {
+      front = first.front;
+      behind = first.behind;
+      split = first.split;
+      frames = first.frames;
+      own_is = first.own_is;
+      state = first.state;
+      drawings = d.drawings;
+      pictured = (draws m first.front first.frames d.drawings old first.state [] d.holdings sound first.replied mirrors accepts).0;
+      sent = d.sent ∙ ap (λ l. sent_after l before) (pictured_by own d.drawings [] d.holdings d.bytes sends);
     }

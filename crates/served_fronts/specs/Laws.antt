@@ -22,6 +22,7 @@ use Rattle.drawn_replies.specs.Pictures.{names}
 use Rattle.draw_command.specs.Draws.{DrawsFirst, IsFront}
 use Rattle.served_fronts.specs.Books.{Line, after_lines}
 use Rattle.served_fronts.specs.Fronts.{whole_frames, SendsFirstPictures, SendsFirstOwn, Draws}
+use Rattle.served_fronts.specs.Answers.{HasAnswers}
 
 -- Where some first frames of a front were drawn, and no frame stands whole behind them, they are those that stand whole in it.
 abbrev pub FrontsDrawTheBook : Type 0
@@ -47,6 +48,20 @@ DrawnFrontsAreTheBook =
     (lines : List Line) (frames : List Frame) (old new : State) (n : ℕ) (left before now : Option (List ℕ))
     → IsSound old → old.sessions ≡ [] → RepliesToAll old lines frames new → n ≤ 2 ^ 32
     → Draws (take n (flat_map spelling frames)) left before now → SendsFirstPictures old lines (whole_frames n frames) before now
+
+-- The same of a front of one session's frames, from any state in which it isn't open.
+abbrev pub DrawnOwnFrontsAreTheBook : Type 0
+DrawnOwnFrontsAreTheBook =
+    (m : ℕ) (lines : List Line) (frames : List Frame) (old new : State) (n : ℕ) (left before now : Option (List ℕ))
+    → IsSound old → only m old.sessions ≡ [] → RepliesToAll old lines frames new → n ≤ 2 ^ 32
+    → Draws (take n (flat_map spelling (filter (names m) frames))) left before now
+    → SendsFirstOwn m old lines (whole_frames n (filter (names m) frames)) before now
+
+-- Lines have their answers, and of a front of these their pictures are drawn.
+abbrev pub LinesAreAnswered : Type 0
+LinesAreAnswered =
+    (lines : List Line) (frames : List Frame) (old new : State)
+    → IsSound old → old.sessions ≡ [] → RepliesToAll old lines frames new → HasAnswers old lines frames
 
 -- The book after the replies to lines is the one after the lines.
 abbrev pub BooksFollowTheLines : Type 0

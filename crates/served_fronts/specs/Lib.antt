@@ -1,3 +1,4 @@
 pub mod Books
 pub mod Fronts
+pub mod Answers
 pub mod Laws

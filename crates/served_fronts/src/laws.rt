@@ -1,15 +1,18 @@
 //! What follows from the definitions. The functions do nothing: their contracts are the laws.
 
 ghost use Rattle.served_fronts.specs.Laws.{FrontsDrawTheBook, OwnFrontsDrawTheBook, DrawnFrontsAreTheBook, BooksFollowTheLines};
+ghost use Rattle.served_fronts.specs.Laws.{DrawnOwnFrontsAreTheBook, LinesAreAnswered};
 ghost use Rattle.served_fronts.specs.Laws.{FirstBytesAgree, ChartsHaveOnePicture, StoresBeginSound};
 
 use chart_frames::laws::{
     length_is_told, more_bytes_mend_nothing, one_frame_a_spelling, spellings_are_good,
 };
-use chart_service::laws::replies_are_one;
+use chart_service::laws::{replies_are_one, sessions_stand_alone};
 use drawn_replies::laws::{
-    one_session_draws_the_book, replies_are_accepted, replies_draw_the_book,
+    clients_draw_the_book, one_session_draws_the_book, replies_are_accepted, replies_draw_the_book,
 };
+use value_filter::laws::a_text_is_read_in_one_way;
+use view_keys::laws::keys_of_a_view_are_few;
 
 /// The frames that a client draws of a front of those that answer lines, from the first one on and until no frame stands
 /// whole in what is left, are those that stand whole in the front; each picture is that of the book as it is at its line.
@@ -42,6 +45,36 @@ pub fn drawn_fronts_are_the_book()
     more_bytes_mend_nothing();
     replies_draw_the_book();
     replies_are_accepted();
+}
+
+/// The same of a front of one session's frames, from any state in which it isn't open.
+pub fn drawn_own_fronts_are_the_book()
+    ensures { DrawnOwnFrontsAreTheBook }
+{
+    one_frame_a_spelling();
+    length_is_told();
+    spellings_are_good();
+    more_bytes_mend_nothing();
+    a_text_is_read_in_one_way();
+    keys_of_a_view_are_few();
+    sessions_stand_alone();
+    one_session_draws_the_book();
+    clients_draw_the_book();
+}
+
+/// What is said to lines, in the words of books, sessions and views: a session is opened or closed, a view is shown with the
+/// samples that it keeps of the book as it is at its line, or there is no picture; for a view in an open session that has
+/// one of the causes of `CantShow` and `CantMove`. Of any front of the bytes of these answers, or of those of one session
+/// from one of its openings on, `draw` sends the pictures of the views that stand whole in it.
+pub fn lines_have_their_answers()
+    ensures { LinesAreAnswered }
+{
+    a_text_is_read_in_one_way();
+    keys_of_a_view_are_few();
+    length_is_told();
+    replies_are_one();
+    drawn_fronts_are_the_book();
+    drawn_own_fronts_are_the_book();
 }
 
 /// The book after the replies to lines is the one after the edits among the lines, each as it is applied or refused.
