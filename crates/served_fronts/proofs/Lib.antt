@@ -7,4 +7,5 @@ pub mod Accepting
 pub mod Stopped
 pub mod Showing
 pub mod Owning
+pub mod Keeping
 pub mod Starts

@@ -1,5 +1,5 @@
 -- The laws of fronts of what answers lines.
-use Rattle.std.specs.Prelude.{◌≡◌, ℕ, ◌≤◌, ◌^◌, List, [], ◌++◌, length, take, flat_map, Option, None}
+use Rattle.std.specs.Prelude.{◌≡◌, ℕ, ◌-◌, ◌≤◌, ◌^◌, List, [], ◌++◌, length, take, flat_map, Option, None}
 use Rattle.std.specs.List.{filter}
 use Rattle.block_disk.specs.View.{Image}
 use Rattle.series_book.specs.declared.one_series.Series.{Series}
@@ -15,7 +15,8 @@ use Rattle.chart_frames.specs.Frames.{spelling}
 use Rattle.chart_frames.specs.Pending.{Pending}
 use Rattle.chart_client.specs.declared.holding.Holding.{Holding}
 use Rattle.chart_service.specs.State.{State, IsSound}
-use Rattle.chart_service.specs.Serving.{RepliesToAll}
+use Rattle.chart_service.specs.Serving.{RepliesToAll, AreSpelled}
+use Rattle.chart_service.specs.Moments.{IsAhead}
 use Rattle.chart_service.specs.Stepping.{state_of}
 use Rattle.chart_service.specs.Alone.{only}
 use Rattle.drawn_replies.specs.Pictures.{names}
@@ -23,6 +24,7 @@ use Rattle.draw_command.specs.Draws.{DrawsFirst, IsFront}
 use Rattle.served_fronts.specs.Books.{Line, after_lines}
 use Rattle.served_fronts.specs.Fronts.{whole_frames, SendsFirstPictures, SendsFirstOwn, Draws}
 use Rattle.served_fronts.specs.Answers.{HasAnswers}
+use Rattle.served_fronts.specs.Crashes.{KeepsLines}
 
 -- Where some first frames of a front were drawn, and no frame stands whole behind them, they are those that stand whole in it.
 abbrev pub FrontsDrawTheBook : Type 0
@@ -62,6 +64,13 @@ abbrev pub LinesAreAnswered : Type 0
 LinesAreAnswered =
     (lines : List Line) (frames : List Frame) (old new : State)
     → IsSound old → old.sessions ≡ [] → RepliesToAll old lines frames new → HasAnswers old lines frames
+
+-- An image that a crash left while lines were answered, from a state in which no session is open, keeps the lines.
+abbrev pub CrashesKeepTheLines : Type 0
+CrashesKeepTheLines =
+    (image : Image) (total : ℕ) (old : State) (input : List ℕ) (from count : ℕ)
+    → IsSound old → old.sessions ≡ [] → old.total ≡ total → IsAhead AreSpelled input total old from image count
+    → (from ≤ count) × KeepsLines image total old input (count - from)
 
 -- The book after the replies to lines is the one after the lines.
 abbrev pub BooksFollowTheLines : Type 0

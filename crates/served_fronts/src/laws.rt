@@ -1,7 +1,7 @@
 //! What follows from the definitions. The functions do nothing: their contracts are the laws.
 
 ghost use Rattle.served_fronts.specs.Laws.{FrontsDrawTheBook, OwnFrontsDrawTheBook, DrawnFrontsAreTheBook, BooksFollowTheLines};
-ghost use Rattle.served_fronts.specs.Laws.{DrawnOwnFrontsAreTheBook, LinesAreAnswered};
+ghost use Rattle.served_fronts.specs.Laws.{DrawnOwnFrontsAreTheBook, LinesAreAnswered, CrashesKeepTheLines};
 ghost use Rattle.served_fronts.specs.Laws.{FirstBytesAgree, ChartsHaveOnePicture, StoresBeginSound};
 
 use chart_frames::laws::{
@@ -75,6 +75,14 @@ pub fn lines_have_their_answers()
     replies_are_one();
     drawn_fronts_are_the_book();
     drawn_own_fronts_are_the_book();
+}
+
+/// What a crash leaves while lines are answered, in these words: the book after some first lines, among them all whose
+/// answers stand whole in the bytes sent by then, and at most 64 more.
+pub fn crashes_keep_the_lines()
+    ensures { CrashesKeepTheLines }
+{
+    lines_have_their_answers();
 }
 
 /// The book after the replies to lines is the one after the edits among the lines, each as it is applied or refused.
