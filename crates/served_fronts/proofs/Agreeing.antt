@@ -49,3 +49,17 @@ agree one (l ∷ ls) (m ∷ ms) behind more (f ∷ fs) (g ∷ gs) old new state 
     (omega (arith, few, low', length-append x (flat_map spelling fs)))
     (omega (arith, low, low', same_size, length-append (spelling g) (flat_map spelling gs))))
     ∙ ap (λ h. take n (spelling h ++ flat_map spelling gs)) is.0
+
+-- the frames that answer some first lines are the first frames
+pub first_frames : OneReply → (lines more : List Line) (frames first : List Frame) (old new state : State)
+    → RepliesToAll old (lines ++ more) frames new
+    → RepliesToAll old lines first state → (rest : List Frame) × (frames ≡ first ++ rest)
+first_frames one [] more frames [] old new state replied again = (frames, refl)
+first_frames one [] more frames (g ∷ gs) old new state replied again = absurd again
+first_frames one (l ∷ ls) more [] first old new state replied again = absurd replied
+first_frames one (l ∷ ls) more (f ∷ fs) [] old new state replied again = absurd again
+first_frames one (l ∷ ls) more (f ∷ fs) (g ∷ gs) old new state replied again =
+    let is = one l f g old replied.0 again.0 replied.1.0 again.1.0 in
+    let S : State → Type 0 = λ s. RepliesToAll s ls gs state in
+    let later = first_frames one ls more fs gs replied.0 new state replied.2 (subst S (sym is.1) again.2) in
+    (later.0, ap (λ h. h ∷ fs) is.0 ∙ ap (λ l. g ∷ l) later.1)

@@ -20,6 +20,7 @@ use Rattle.served_fronts.specs.Fronts.{whole_frames}
 use Rattle.served_fronts.specs.Answers.{Answer, AreAnswers, bytes_of, whole_in}
 use Rattle.served_fronts.specs.Crashes.{KeepsLines}
 use Rattle.served_fronts.specs.Laws.{LinesAreAnswered, CrashesKeepTheLines}
+use Rattle.served_fronts.proofs.Agreeing.{OneReply, first_frames}
 use Rattle.served_fronts.proofs.Books.{books_follow}
 use Rattle.served_fronts.proofs.Fronts.{high_of}
 
@@ -115,23 +116,31 @@ pub record Done (image : Image) (total : ℕ) (old : State) (input : List ℕ) (
   few : length ahead ≤ 64
   stands : StandsForBook image total new.book
 
-keeps : LinesAreAnswered → (image : Image) (total : ℕ) (old : State) (input : List ℕ) (n : ℕ) → IsSound old → old.sessions ≡ []
+keeps : OneReply → LinesAreAnswered → (image : Image) (total : ℕ) (old : State) (input : List ℕ) (n : ℕ) → IsSound old → old.sessions ≡ []
     → old.total ≡ total
     → Done image total old input n → KeepsLines image total old input n
-keeps answered image total old input n sound alone same d =
+keeps one answered image total old input n sound alone same d =
     let frames = d.acknowledged ++ d.ahead in
     let has = answered d.first frames old d.new sound alone d.replied in
     let A : ℕ → Type 0 = λ t. AreAnswers t old.book [] d.first has.answers in
     let book = (books_follow d.first frames old d.new d.replied).0 in
     let B : List Series → Type 0 = λ b. StandsForBook image total b in
     let most = all_whole n d.acknowledged d.ahead d.sent in
+    let bytes = all_bytes has.answers frames has.spelled in
     record {
       first = d.first;
       later = d.later;
       lines = d.lines;
       answers = has.answers;
       fit = subst A same has.fit;
-      within = omega (arith, d.within, ap length (all_bytes has.answers frames has.spelled));
+      within = omega (arith, d.within, ap length bytes);
+      begins = λ all after replied.
+          let R : List Line → Type 0 = λ l. RepliesToAll old l all after in
+          let rest = first_frames one d.first d.later all frames old after d.new (subst R d.lines replied) d.replied in (
+            flat_map spelling rest.0,
+            ap (λ fs. flat_map spelling fs) rest.1 ∙ flat_map-append spelling frames rest.0
+                ∙ ap (λ l. l ++ flat_map spelling rest.0) (sym bytes),
+          );
       few = omega (
         arith,
         most,
@@ -211,15 +220,15 @@ done_ahead image total old input from count a d =
       stands = d.stands;
     }
 
-pub crashes_keep : LinesAreAnswered → CrashesKeepTheLines
-crashes_keep answered image total old input from count sound alone same a =
+pub crashes_keep : OneReply → LinesAreAnswered → CrashesKeepTheLines
+crashes_keep one answered image total old input from count sound alone same a =
     (elim a.state as (λ _. (from ≤ count) × KeepsLines image total old input (count - from)) [
       | inl is ↦ (
         omega (arith, is.1),
-        keeps answered image total old input (count - from) sound alone same (done_all image total old input from count a is.0 is.1),
+        keeps one answered image total old input (count - from) sound alone same (done_all image total old input from count a is.0 is.1),
       )
       | inr next ↦ (
         (elim next.sent as (λ _. from ≤ count) [ inl is ↦ omega (arith, is) | inr reply ↦ omega (arith, reply.low) ]),
-        keeps answered image total old input (count - from) sound alone same (done_ahead image total old input from count a next),
+        keeps one answered image total old input (count - from) sound alone same (done_ahead image total old input from count a next),
       )
     ])

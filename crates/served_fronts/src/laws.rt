@@ -78,10 +78,12 @@ pub fn lines_have_their_answers()
 }
 
 /// What a crash leaves while lines are answered, in these words: the book after some first lines, among them all whose
-/// answers stand whole in the bytes sent by then, and at most 64 more.
+/// answers stand whole in the bytes sent by then, and at most 64 more. What answers the whole input begins with the bytes of
+/// their answers.
 pub fn crashes_keep_the_lines()
     ensures { CrashesKeepTheLines }
 {
+    replies_are_one();
     lines_have_their_answers();
 }
 
