@@ -1,0 +1,11 @@
+pub mod Fronts
+pub mod Books
+pub mod Agreeing
+pub mod Pictures
+pub mod Saying
+pub mod Accepting
+pub mod Stopped
+pub mod Showing
+pub mod Owning
+pub mod Keeping
+pub mod Starts

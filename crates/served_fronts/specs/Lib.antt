@@ -1,0 +1,5 @@
+pub mod Books
+pub mod Fronts
+pub mod Answers
+pub mod Crashes
+pub mod Laws

@@ -1,0 +1,112 @@
+//! What follows from the definitions. The functions do nothing: their contracts are the laws.
+
+ghost use Rattle.served_fronts.specs.Laws.{FrontsDrawTheBook, OwnFrontsDrawTheBook, DrawnFrontsAreTheBook, BooksFollowTheLines};
+ghost use Rattle.served_fronts.specs.Laws.{DrawnOwnFrontsAreTheBook, LinesAreAnswered, CrashesKeepTheLines};
+ghost use Rattle.served_fronts.specs.Laws.{FirstBytesAgree, ChartsHaveOnePicture, StoresBeginSound};
+
+use chart_frames::laws::{
+    length_is_told, more_bytes_mend_nothing, one_frame_a_spelling, spellings_are_good,
+};
+use chart_service::laws::{replies_are_one, sessions_stand_alone};
+use drawn_replies::laws::{
+    clients_draw_the_book, one_session_draws_the_book, replies_are_accepted, replies_draw_the_book,
+};
+use value_filter::laws::a_text_is_read_in_one_way;
+use view_keys::laws::keys_of_a_view_are_few;
+
+/// The frames that a client draws of a front of those that answer lines, from the first one on and until no frame stands
+/// whole in what is left, are those that stand whole in the front; each picture is that of the book as it is at its line.
+pub fn fronts_draw_the_book()
+    ensures { FrontsDrawTheBook }
+{
+    one_frame_a_spelling();
+    length_is_told();
+    replies_draw_the_book();
+}
+
+/// The same of the frames of one session alone, from any state in which it isn't open.
+pub fn own_fronts_draw_the_book()
+    ensures { OwnFrontsDrawTheBook }
+{
+    one_frame_a_spelling();
+    length_is_told();
+    one_session_draws_the_book();
+}
+
+/// A front of at most 2^32 bytes of what answers lines, cut anywhere, also within a frame, and given to `draw`: it sends the
+/// pictures of all views that stand whole in it, each of the book as it is at its line. Whatever end it had, where that
+/// wasn't want of memory or a fault of a stream.
+pub fn drawn_fronts_are_the_book()
+    ensures { DrawnFrontsAreTheBook }
+{
+    one_frame_a_spelling();
+    length_is_told();
+    spellings_are_good();
+    more_bytes_mend_nothing();
+    replies_draw_the_book();
+    replies_are_accepted();
+}
+
+/// The same of a front of one session's frames, from any state in which it isn't open.
+pub fn drawn_own_fronts_are_the_book()
+    ensures { DrawnOwnFrontsAreTheBook }
+{
+    one_frame_a_spelling();
+    length_is_told();
+    spellings_are_good();
+    more_bytes_mend_nothing();
+    a_text_is_read_in_one_way();
+    keys_of_a_view_are_few();
+    sessions_stand_alone();
+    one_session_draws_the_book();
+    clients_draw_the_book();
+}
+
+/// What is said to lines, in the words of books, sessions and views: a session is opened or closed, a view is shown with the
+/// samples that it keeps of the book as it is at its line, or there is no picture; for a view in an open session that has
+/// one of the causes of `CantShow` and `CantMove`. Of any front of the bytes of these answers, or of those of one session
+/// from one of its openings on, `draw` sends the pictures of the views that stand whole in it.
+pub fn lines_have_their_answers()
+    ensures { LinesAreAnswered }
+{
+    a_text_is_read_in_one_way();
+    keys_of_a_view_are_few();
+    length_is_told();
+    replies_are_one();
+    drawn_fronts_are_the_book();
+    drawn_own_fronts_are_the_book();
+}
+
+/// What a crash leaves while lines are answered, in these words: the book after some first lines, among them all whose
+/// answers stand whole in the bytes sent by then, and at most 64 more. What answers the whole input begins with the bytes of
+/// their answers.
+pub fn crashes_keep_the_lines()
+    ensures { CrashesKeepTheLines }
+{
+    replies_are_one();
+    lines_have_their_answers();
+}
+
+/// The book after the replies to lines is the one after the edits among the lines, each as it is applied or refused.
+pub fn books_follow_the_lines()
+    ensures { BooksFollowTheLines }
+{}
+
+/// What was sent is determined by its length: the first so many bytes of what answers some first lines are those of what
+/// answers any other number of first lines of the same ones.
+pub fn first_bytes_agree()
+    ensures { FirstBytesAgree }
+{
+    replies_are_one();
+}
+
+/// Two canvases that are the chart of the same samples have the same picture, whatever their cells are.
+pub fn charts_have_one_picture()
+    ensures { ChartsHaveOnePicture }
+{}
+
+/// A store that recovers to a book begins a sound state, with no session open. So does a disk that holds a book: what its
+/// reads give recovers to it.
+pub fn stores_begin_sound()
+    ensures { StoresBeginSound }
+{}
