@@ -20,7 +20,7 @@ def require_program():
 def make_chart(folder, program=PROGRAM):
     """Makes a `chart` in a folder, over a copy of a program. It finds no sources there, so it takes that as up to date."""
     os.makedirs(os.path.join(folder, OUT))
-    for name in ("chart", "crates.txt"):
+    for name in ("chart", "crates.txt", "VERSION"):
         shutil.copy(os.path.join(ROOT, name), folder)
     os.utime(os.path.join(folder, "crates.txt"), (0, 0))
     if program:
