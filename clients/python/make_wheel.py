@@ -38,7 +38,7 @@ def build_wheel(wheel_directory, config_settings=None, metadata_directory=None):
     """The hook that pip calls; gives the name of the wheel."""
     files = {}
     for name in sorted(os.listdir(os.path.join(HERE, PACKAGE))):
-        if name.endswith(".py"):
+        if name.endswith((".py", ".txt")):
             with open(os.path.join(HERE, PACKAGE, name), "rb") as file:
                 files[f"{PACKAGE}/{name}"] = file.read()
     release = f"{PACKAGE}-{stated('version')}"
