@@ -45,6 +45,7 @@ def build_wheel(wheel_directory, config_settings=None, metadata_directory=None):
     info = f"{release}.dist-info"
     files[f"{info}/METADATA"] = metadata().encode()
     files[f"{info}/WHEEL"] = b"Wheel-Version: 1.0\nGenerator: make_wheel\nRoot-Is-Purelib: true\nTag: py3-none-any\n"
+    files[f"{info}/entry_points.txt"] = f"[console_scripts]\nzurtkvani = {stated('zurtkvani')}\n".encode()
     wheel = f"{release}-py3-none-any.whl"
     write_wheel(os.path.join(wheel_directory, wheel), info, files)
     return wheel

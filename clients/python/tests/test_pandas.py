@@ -1,6 +1,8 @@
 """numpy and pandas in and out of a store, and a notebook; passed over where they aren't installed."""
 import base64
+import contextlib
 import importlib.util
+import io
 import json
 import os
 import subprocess
@@ -12,7 +14,7 @@ ROOT = os.path.dirname(os.path.dirname(os.path.dirname(os.path.dirname(os.path.r
 PROGRAM = os.path.join(ROOT, "crates/chart_program/out/chart_program")
 sys.path.insert(0, os.path.join(ROOT, "clients/python"))
 
-from zurtkvani_client import Store  # noqa: E402
+from zurtkvani_client import Store, command  # noqa: E402
 
 HAS_PANDAS = importlib.util.find_spec("pandas") is not None
 HAS_NOTEBOOK = all(importlib.util.find_spec(name) for name in ("nbconvert", "nbformat", "ipykernel", "pandas"))
@@ -112,6 +114,21 @@ class Pandas(unittest.TestCase):
         self.assertIn(base64.b64encode(everything.to_png()).decode(), svg)
         self.assertIn(">00:05<", svg)
         self.assertIn(">0.5<", svg)
+
+    def test_an_import_rounds_as_pandas_does(self):
+        random = numpy.random.default_rng(7)
+        times = pandas.date_range("2026-11-01", periods=2000, freq="s")
+        jitter = pandas.to_timedelta(random.normal(0, 80, 2000).clip(-400, 400), unit="ms")
+        frame = pandas.DataFrame(random.normal([20, 1, -300], [3, 0.1, 80], (2000, 3)), index=times + jitter, columns=["a", "b", "c"])
+        path = os.path.join(self.folder, "a.csv")
+        frame.to_csv(path, index_label="time")
+        with contextlib.redirect_stdout(io.StringIO()):
+            status = command.main(["import", path, "--store", self.path, "--program", PROGRAM, "--scale", "2"])
+        self.assertEqual(status, 0)
+        for name in frame:
+            stored = Store(self.path, program=PROGRAM).to_series(name)
+            self.assertTrue((stored.index == times.tz_localize("UTC")).all())
+            self.assertTrue((stored.to_numpy() == frame[name].round(2).to_numpy()).all())
 
     @unittest.skipUnless(HAS_NOTEBOOK, "nbconvert or ipykernel isn't installed")
     def test_a_notebook(self):

@@ -100,7 +100,7 @@ class Readme(unittest.TestCase):
         with open(os.path.join(ROOT, "clients/python/README.md"), encoding="utf-8") as file:
             text = file.read()
         examples = re.findall(r"^```\n(.*?)^```\n\n((?:    [^\n]*\n)+)", text, re.MULTILINE | re.DOTALL)
-        self.assertEqual(len(examples), 2)
+        self.assertEqual(len(examples), 3)
         with tempfile.TemporaryDirectory() as folder:
             os.symlink(PROGRAM, os.path.join(folder, "chart"))
             subprocess.run([sys.executable, "-m", "venv", os.path.join(folder, "env")], check=True)
