@@ -15,7 +15,7 @@ def decimal_of(text):
         value = Decimal(text)
     except InvalidOperation:
         raise Unfit(f"{text!r} is no value") from None
-    if not value.is_finite() or "_" in text or not text.isascii():
+    if not value.is_finite() or "_" in text:
         raise Unfit(f"{text!r} is no value")
     return value
 
@@ -25,13 +25,16 @@ def whole_number(text, scale):
 
     Raises Unfit where the text is no value, or the number is more than 10^18 in size.
     """
-    shifted = decimal_of(text).scaleb(scale, EXACT)
-    if shifted and shifted.adjusted() > 18:
-        raise Unfit(f"{text!r} is too large")
-    rounded = shifted.to_integral_value(context=EXACT)
-    number = int(rounded)
+    try:
+        shifted = Decimal(text).scaleb(scale, EXACT)
+        rounded = shifted.to_integral_value(context=EXACT)
+        number = int(rounded) if rounded.adjusted() < 20 or not rounded else 10**20
+    except (InvalidOperation, OverflowError, ValueError):
+        raise Unfit(f"{text!r} is no value") from None
     if not -MOST <= number <= MOST:
         raise Unfit(f"{text!r} is too large")
+    if "_" in text:
+        raise Unfit(f"{text!r} is no value")
     return number, rounded != shifted
 
 

@@ -22,7 +22,7 @@ SAMPLE = 20_000  # rows
 BATCH = 4096  # lines between two looks at how much the program has read
 MOST_SENT = 2**31  # bytes to one run of the program, which takes 2^32
 ROUNDED, SNAPPED = "rounded, half to even", "moved to a slot"
-NO_ROOM, NO_TIME, NO_VALUE, NO_SLOT = "left out, no such column", "left out, no time", "left out, no value", "left out, no slot"
+NO_COLUMN, NO_TIME, NO_VALUE, NO_SLOT = "left out, no such column", "left out, no time", "left out, no value", "left out, no slot"
 TOO_FINE, REPLACED, PASSED = "left out, more decimals than the series", "takes the slot of the row before", "column passed over"
 
 
@@ -214,7 +214,7 @@ class Import:
         """The `set` lines of all rows."""
         self.read_time.before = None  # the rows begin anew
         for source in sources:
-            yield from self.lines_of(source, source.rows)
+            yield from self.lines_of(source)
         for _, targets in self.groups:
             for target in targets:
                 line = target.lines.line()
@@ -230,57 +230,65 @@ class Import:
             raise Unfit(f"the columns of {source.name} have other names than those of {self.given.files[0]}: import it by itself")
         return source.rows
 
-    def lines_of(self, source, rows):
-        report, read_time, time_index = self.report, self.read_time, self.time_index
-        for line, fields in rows:
+    def lines_of(self, source):
+        """The `set` lines that the rows of a file end."""
+        report = self.report
+        for line, fields in source.rows:
             if not any(fields):
                 continue
             report.rows += 1
             if not report.rows & 1023:
                 self.progress.show(report.rows, source.done())
-            try:
-                time = read_time(fields[time_index].strip())
-            except IndexError:
-                report.leave_out(NO_ROOM, (source.name, line), f"it has {len(fields)} fields")
-                continue
-            except Unfit as why:
-                report.leave_out(NO_TIME, (source.name, line), why)
+            place = source.name, line
+            time = self.time_of(fields, place)
+            if time is None:
                 continue
             for grid, targets in self.groups:
                 try:
                     slot_time, rest = grid.place(time)
                 except Unfit as why:
-                    report.leave_out(NO_SLOT, (source.name, line), why)
+                    report.leave_out(NO_SLOT, place, why)
                     continue
                 if rest:
-                    report.note(SNAPPED, (source.name, line), time, date_text)
-                yield from self.values_of((source.name, line), fields, slot_time, targets)
+                    report.note(SNAPPED, place, time, date_text)
+                for target in targets:
+                    ended = self.take(target, fields, slot_time, place)
+                    if ended:
+                        yield ended
 
-    def values_of(self, place, fields, time, targets):
-        """The lines that a row's values end."""
-        for target in targets:
-            try:
-                text = fields[target.index].strip()
-                if text.lower() in MISSING:
-                    target.missing += 1
-                    continue
-                number, is_rounded = whole_number(self.spelled(text), target.scale)
-            except IndexError:
-                self.report.leave_out(NO_ROOM, place, f"it has {len(fields)} fields")
-                continue
-            except Unfit as why:
+    def time_of(self, fields, place):
+        """The time of a row in nanoseconds, or None where it has none."""
+        try:
+            return self.read_time(fields[self.time_index].strip())
+        except IndexError:
+            self.report.leave_out(NO_COLUMN, place, f"it has {len(fields)} fields")
+        except Unfit as why:
+            self.report.leave_out(NO_TIME, place, why)
+        return None
+
+    def take(self, target, fields, time, place):
+        """Takes what a row has for a series; gives the `set` line that it ends, or None."""
+        if target.index >= len(fields):
+            self.report.leave_out(NO_COLUMN, place, f"it has {len(fields)} fields")
+            return None
+        text = fields[target.index]
+        try:
+            number, is_rounded = whole_number(text.replace(",", ".") if self.has_commas else text, target.scale)
+        except Unfit as why:
+            if text.strip().lower() in MISSING:
+                target.missing += 1
+            else:
                 self.report.leave_out(NO_VALUE, place, why)
-                continue
-            if is_rounded:
-                if self.given.exact:
-                    self.report.leave_out(TOO_FINE, place, f"{text!r} has more than {target.scale} decimals")
-                    continue
-                self.report.note(ROUNDED, place, text)
-            target.taken += 1
-            line = target.lines.add(time, number)
-            if line:
-                yield line
-            if target.lines.replaced > target.replaced:
-                target.replaced = target.lines.replaced
-                note = self.report.note if self.given.replace else self.report.leave_out
-                note(REPLACED, place, f"{target.series}, {text}")
+            return None
+        if is_rounded:
+            if self.given.exact:
+                self.report.leave_out(TOO_FINE, place, f"{text!r} has more than {target.scale} decimals")
+                return None
+            self.report.note(ROUNDED, place, text)
+        target.taken += 1
+        line = target.lines.add(time, number)
+        if target.lines.replaced > target.replaced:
+            target.replaced += 1
+            note = self.report.note if self.given.replace else self.report.leave_out
+            note(REPLACED, place, f"{target.series}, {text}")
+        return line
