@@ -16,9 +16,10 @@ class Picture:
     Where a session drew it `series` is the record of its series, `window` the two ends of its times, and `unit` what they count since 1970.
     """
 
+    series = window = unit = None
+
     def __init__(self, w, h, lo, hi, rows):
-        self.w, self.h, self.lo, self.hi, self.rows = w, h, lo, hi, rows
-        self.series = self.window = self.unit = None
+        self.w, self.h, self.lo, self.hi = w, h, lo, hi
         self.pixels = bytearray(b"0") * (w * h)  # a byte each, "1" where it is black
         before = None
         for column, first, least, greatest, last in rows:

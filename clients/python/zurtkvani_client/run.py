@@ -51,10 +51,19 @@ class Run:
         """Sends a request line, and gives its frame and picture, None where it has none. Raises Refused and Ended."""
         with self._watched():
             self._send(line + b"\n")
-            frame, picture = frames.accept(self.fields, self.sessions)
+            frame, picture = self._accept()
         if isinstance(frame, frames.Refused):
             raise Refused(*frame)
         return frame, picture
+
+    def answer_rows(self, line, session):
+        """Sends a session's view with a condition, and gives the rows of its frame, of which no client keeps anything."""
+        with self._watched():
+            self._send(line + b"\n")
+            frame, _ = frames.accept(frames.Fields(self.child.stdout), {session: frames.Session(1)})
+        if isinstance(frame, frames.Refused):
+            raise Refused(*frame)
+        return frame.rows
 
     def answer_edits(self, lines):
         """Sends edits, up to 64 ahead of their answers, and gives the last answer, None where there are no lines.
@@ -69,7 +78,7 @@ class Run:
                     self._send(b"\n".join(part) + b"\n")
                 # The program works on this part while the answers to the one before are read and the next one is made.
                 for _ in range(waiting):
-                    last, _ = frames.accept(self.fields, self.sessions)
+                    last, _ = self._accept()
                     refused = refused or (last if isinstance(last, frames.Refused) else None)
                 waiting = len(part)
                 if not part:
@@ -90,6 +99,10 @@ class Run:
             if isinstance(why, (BrokenPipeError, frames.Cut)):
                 raise self.end from None
             raise
+
+    def _accept(self):
+        """The next frame, and its picture."""
+        return frames.accept(self.fields, self.sessions)
 
     def _send(self, data):
         self.sent += len(data)

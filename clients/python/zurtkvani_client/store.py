@@ -173,8 +173,9 @@ class Store:
         t0, t1 = self.window(record, t0, t1)
         with self.session() as session:
             # Each value meets the condition, and a view that has one is answered by the values of its columns.
-            rows = session.view(name, columns, 1, t0, t1, where=f"v >= {-MOST}").rows
-        scale = 10**record.scale
+            line = line_of("view", session.number, name, columns, 1, t0, t1, "auto", "where", f"v >= {-MOST}")
+            rows = self.run.answer_rows(line, session.number)
+        scale = 10**record.scale if record else 1
         return [Point(t0 + column * (t1 - t0) / columns, *(value / scale for value in values)) for column, *values in rows]
 
     def record(self, name, fresh=False):
@@ -199,9 +200,7 @@ class Store:
 
     def answer(self, *words):
         """Sends a request of words and whole numbers, and gives its frame and its picture, None where it has none."""
-        line = " ".join(word if isinstance(word, str) else str(operator.index(word)) for word in words).encode()
-        if b"\n" in line:
-            raise ValueError("a request is one line")
+        line = line_of(*words)
         self._require_run()
         return self.run.answer(line)
 
@@ -250,6 +249,14 @@ class Store:
             said = [end_of(line, words[0], self.path) for line in child.stderr]
         if child.returncode:
             raise next(filter(None, said), Ended(child.returncode, None))
+
+
+def line_of(*words):
+    """A request line of words and whole numbers."""
+    line = " ".join(word if isinstance(word, str) else str(operator.index(word)) for word in words).encode()
+    if b"\n" in line:
+        raise ValueError("a request is one line")
+    return line
 
 
 def lines_of(lines, readings):
