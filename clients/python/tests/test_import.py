@@ -16,6 +16,7 @@ PROGRAM = os.path.join(ROOT, "crates/chart_program/out/chart_program")
 sys.path.insert(0, os.path.join(ROOT, "clients/python"))
 
 from zurtkvani_client import Store, command  # noqa: E402
+from zurtkvani_client.progress import bar  # noqa: E402
 
 LOGGER = (
     "when,temp_C,pressure bar,state\n"
@@ -62,7 +63,8 @@ class Imports(unittest.TestCase):
         self.assertEqual(self.series(), [("temp_C", START, 1, 2, 4), ("pressure_bar", START, 1, 3, 4)])
         self.assertEqual(self.stored("temp_C"), [(START, 2150), (START + 1, 2160), (START + 3, 2175)])
         self.assertEqual(self.stored("pressure_bar"), [(START, 1010), (START + 1, 1020), (START + 2, 1030), (START + 3, 1035)])
-        for line in ("rounded, half to even: 1", "moved to a slot: 4", "column passed over: 1", "temp_C: 3 taken, 1 without a value", "line 2: 21.499999999999996"):
+        kinds = ("rounded, half to even: 1", "moved to a slot: 4", "column passed over: 1")
+        for line in (*kinds, "temp_C: 3 taken, 1 without a value", "line 2: 21.499999999999996"):
             self.assertIn(line, told)
 
     def test_exact_refuses_what_would_be_moved_or_rounded(self):
@@ -108,14 +110,16 @@ class Imports(unittest.TestCase):
         text = "time,v\n" + "".join(f"2026-10-25 {hour},{at}\n" for at, hour in enumerate(hours))
         self.assertEqual(self.taken(text, "--zone", "Europe/Zurich")[0], 0)
         self.assertEqual(self.stored("v"), [(1792890000 + 1800 * (at - 3), at) for at in range(6)])
-        status, told = self.taken("time,v\n2026-03-29 02:30,1\n2026-03-29 03:30,1\n", "--zone", "Europe/Zurich", "--series", "w", "--step", "30min")
+        text = "time,w\n2026-03-29 02:30,1\n2026-03-29 03:30,1\n"
+        status, told = self.taken(text, "--zone", "Europe/Zurich", "--step", "30min")
         self.assertEqual(status, 1)
         self.assertIn("left out by the clocks of Europe/Zurich", told)
 
     def test_units(self):
         self.assertEqual(self.taken("t,v\n1793491200000,1\n1793491200500,2\n")[0], 0)
         self.assertEqual(self.series()[0], ("v", START * 1000, 500, 0, 2))
-        self.assertEqual(self.taken("t,u\n2026-11-01T00:00:00.000001,1\n2026-11-01T00:00:00.000003,2\n2026-11-01T00:00:00.000004,2\n")[0], 0)
+        text = "t,u\n" + "".join(f"2026-11-01T00:00:00.00000{at},1\n" for at in (1, 3, 4))
+        self.assertEqual(self.taken(text)[0], 0)
         self.assertEqual(self.series()[1], ("u", START * 10**6 + 1, 1, 0, 4))
 
     def test_nothing_is_lost_in_silence(self):
@@ -164,6 +168,10 @@ class Imports(unittest.TestCase):
         self.assertEqual(self.stored("v"), [(0, 1), (1, 2), (2, 3)])
         self.assertEqual(self.taken("", files=["t,v\n0,1\n1,2\n", "t,w\n2,3\n"])[0], 2)
 
+    def test_a_bar_on_a_terminal(self):
+        self.assertEqual(bar(1500, 0.5, 3), f"[{'#' * 15}{'.' * 15}]  50%  1,500 rows, 500 a second, 0:03 left")
+        self.assertEqual(bar(1500, None, 3), "1,500 rows, 500 a second")
+
     def test_no_rows(self):
         for text in ("", "\n\n", "t,v\n"):
             self.assertEqual(self.taken(text)[0], 2)
@@ -192,7 +200,8 @@ class Imports(unittest.TestCase):
         text = "t,v,w\n" + "".join(f"{1793491200 + at},{at / 4},{-at}\n" for at in range(120_000))
         once, again = self.path, os.path.join(self.folder, "b.store")
         self.assertEqual(self.taken(text)[0], 0)
-        words = [sys.executable, "-m", "zurtkvani_client", "import", os.path.join(self.folder, "a.csv"), "--store", again, "--program", PROGRAM]
+        words = [sys.executable, "-m", "zurtkvani_client", "import", os.path.join(self.folder, "a.csv")]
+        words += ["--store", again, "--program", PROGRAM]
         how = {"cwd": os.path.join(ROOT, "clients/python"), "stdout": subprocess.DEVNULL, "stderr": subprocess.DEVNULL}
         for end in (signal.SIGINT, signal.SIGTERM, signal.SIGKILL):
             child = subprocess.Popen(words, **how)
@@ -216,8 +225,10 @@ class Imports(unittest.TestCase):
 
     @unittest.skipUnless(shutil.which("sqlite3"), "sqlite3 isn't installed")
     def test_what_sqlite_exports(self):
-        lines = "create table a(at text, level real, flow real); insert into a values ('2026-11-01 00:00:00', 1.5, null), ('2026-11-01 00:01:00', 2.25, 7);\n"
-        exported = subprocess.run(["sqlite3", "-csv", "-header"], input=lines + "select * from a;\n", stdout=subprocess.PIPE, check=True, text=True).stdout
+        rows = "('2026-11-01 00:00:00', 1.5, null), ('2026-11-01 00:01:00', 2.25, 7)"
+        lines = f"create table a(at text, level real, flow real);\ninsert into a values {rows};\nselect * from a;\n"
+        done = subprocess.run(["sqlite3", "-csv", "-header"], input=lines, stdout=subprocess.PIPE, check=True, text=True)
+        exported = done.stdout
         self.assertEqual(self.taken(exported)[0], 0)
         self.assertEqual(self.stored("level"), [(START, 150), (START + 60, 225)])
         self.assertEqual(self.stored("flow"), [(START + 60, 70)])

@@ -63,7 +63,8 @@ class Pandas(unittest.TestCase):
         values = dict(store.values("a"))
         start = min(values) - 1
         self.assertEqual(start, 1793491200)
-        self.assertEqual({time - start: value for time, value in values.items()}, {1: 450, 2: 268, 3: 900, 4: 7, 5: 8, 6: 3, 8: 25, 11: 200, 12: 125})
+        stored = {1: 450, 2: 268, 3: 900, 4: 7, 5: 8, 6: 3, 8: 25, 11: 200, 12: 125}
+        self.assertEqual({time - start: value for time, value in values.items()}, stored)
         self.assertEqual([series.slots for series in store.series()], [15])
 
     def test_many_values_go_in_bulk_and_come_back(self):

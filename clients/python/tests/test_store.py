@@ -150,6 +150,32 @@ class OverAStore(unittest.TestCase):
             store.append("a", values)
         self.assertEqual(list(store.values("a")), [(at, value) for at, value in enumerate(values) if value is not None])
 
+    def test_of_a_bulk_that_is_refused_no_value_stands_elsewhere(self):
+        path = self.path + ".small"
+        with Store.make(path, 2**19, program=PROGRAM) as store:
+            store.create("a", 0, 1)
+            with self.assertRaises(Refused) as met:
+                store.append("a", range(40_000))
+            self.assertEqual(met.exception.name, "Full")
+        values = list(Store(path, program=PROGRAM).values("a"))
+        self.assertGreater(len(values), 0)
+        self.assertTrue(all(time == value for time, value in values))
+
+    def test_a_store_is_made_once_and_counted(self):
+        with self.assertRaises(FileExistsError):
+            Store.make(self.path, program=PROGRAM)
+        with self.assertRaises(ValueError):
+            Store.make(self.path + ".b", 100, program=PROGRAM)
+        with self.assertRaises(ValueError):
+            Store.make(self.path + ".b", program=PROGRAM, series=[("a b", 0, 1, 0)])
+        self.assertEqual(os.listdir(os.path.dirname(self.path)), ["a.store"])
+        with self.store() as store:
+            store.create("a", 0, 1)
+            store.append("a", range(600))
+        self.assertEqual(self.store().check()[:2], (1, 600))
+        self.assertEqual([swept.clears for swept in self.store().retain("last a 100", "free 1")], [1, 0])
+        self.assertEqual(self.store().check().values, 100)
+
     def test_a_second_run_over_the_store(self):
         with self.store() as store:
             store.create("a", 0, 1)

@@ -5,7 +5,7 @@ from xml.sax.saxutils import escape
 
 from .timestamps import DAY, EPOCH, UNITS, nanoseconds_of
 
-LEFT, RIGHT, TOP, BOTTOM = 90, 20, 24, 34  # pixels around the picture
+LEFT, RIGHT, TOP, BOTTOM = 90, 40, 24, 34  # pixels around the picture
 SECOND, MINUTE, HOUR = 10**9, 60 * 10**9, 3600 * 10**9
 TIME_STEPS = [
     *(digit * 10**power for power in range(3, 9) for digit in (1, 2, 5)),

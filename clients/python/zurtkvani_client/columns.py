@@ -7,6 +7,7 @@ from .unfit import Unfit
 
 TIME_NAMES = ("time", "timestamp", "datetime", "date", "when", "ts", "t", "zeit", "datum", "zeitstempel")
 NAME_LENGTH = 31
+TO_NAME_TIMES = "name the column of the times, as --time 1, and the form of its dates, as --form '%d.%m.%Y %H:%M'"
 
 
 class Column:
@@ -43,7 +44,7 @@ def time_column(names, rows, read):
     dated = [index for index in range(max(map(len, rows))) if share(rows, index, read) > 0.5]
     told = [index for index in dated if not share(rows, index, read_number) > 0.5]
     if not dated:
-        raise Unfit("no column has dates in ISO 8601 or numbers: name the column, as --time 1, and the form of its dates, as --form '%d.%m.%Y %H:%M'")
+        raise Unfit(f"no column has dates in ISO 8601 or numbers: {TO_NAME_TIMES}")
     return (told or dated)[0]
 
 

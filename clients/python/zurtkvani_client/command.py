@@ -60,8 +60,8 @@ def default_program():
 
 def words():
     parser = argparse.ArgumentParser(prog="zurtkvani", description=__doc__, formatter_class=argparse.RawDescriptionHelpFormatter)
-    taken = parser.add_subparsers(dest="command", required=True, metavar="import").add_parser("import", help="take files of readings into a store")
-    add = taken.add_argument
+    commands = parser.add_subparsers(dest="command", required=True, metavar="import")
+    add = commands.add_parser("import", help="take files of readings into a store").add_argument
     add("files", nargs="+", metavar="FILE", help="a file of readings; - is standard input")
     add("--store", required=True, help="the store's file; made where it isn't there")
     add("--program", default=default_program(), help="the chart program")
@@ -78,7 +78,8 @@ def words():
     add("--step", type=length, help="the step of new series, as 60s or 250ms; else found")
     add("--scale", type=int, choices=range(10), help="the number of decimals of new series; else found")
     add("--unit", choices=list(UNITS)[:3], help="what the series' times count since 1970; else seconds where these are enough")
-    add("--snap", choices=("nearest", "floor", "none"), default="nearest", help="which slot takes a time between two: the nearest, the one before, or none")
+    snaps = ("nearest", "floor", "none")
+    add("--snap", choices=snaps, default="nearest", help="which slot takes a time between two: the nearest, the one before, or none")
     add("--tolerance", type=length, help="how far from its slot a time may be, as 200ms; else any")
     add("--exact", action="store_true", help="leave out what would have to be moved or rounded")
     add("--replace", action="store_true", help="that a row replaces the one before where both have one slot is no fault")
@@ -121,9 +122,10 @@ def run(given):
 
 def stopped(done, why, status):
     """Tells why an import didn't come to its end, and gives the status."""
-    read = done.report.rows
-    went = f", behind {read:,} rows; those before are stored as far as they came, and the same command goes through all of them again" if read else ""
-    print(f"zurtkvani: {why}{went}", file=sys.stderr)
+    print(f"zurtkvani: {why}", file=sys.stderr)
+    if done.report.rows:
+        read = f"{done.report.rows:,} rows were read, and what was stored of them stays"
+        print(f"zurtkvani: {read}; the same command reads all of them again", file=sys.stderr)
     return status
 
 

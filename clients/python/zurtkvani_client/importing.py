@@ -1,7 +1,8 @@
 """Takes files of readings into a store: finds their columns, makes the store and the series where they aren't there, and stores row by row.
 
 The first rows, at most 20,000, tell the columns, the step and the scales; then each row is done as it comes, so memory doesn't grow with
-the file. A reading goes to its slot whatever was stored before, so an import that was cut short is run again and ends as if it had run once.
+the file. A reading goes to its slot whatever was stored before, so an import that was cut short is run again and ends as if it
+had run once.
 """
 import os
 from itertools import chain, islice
@@ -91,14 +92,16 @@ class Import:
         asked = columns.index_of(given.time, self.names, count) if given.time else columns.time_column(self.names, rows, self.read_time)
         self.time_index = asked
         if given.numbers is None:
-            numbers = [int(float(fields[asked])) for fields in rows if asked < len(fields) and timestamps.NUMBER.fullmatch(fields[asked].strip())]
-            self.read_time = TimeReader(timestamps.unit_of(max(numbers, key=abs)) if numbers else "seconds", form, zone)
+            texts = [fields[asked].strip() for fields in rows if asked < len(fields)]
+            numbers = [int(float(text)) for text in texts if timestamps.NUMBER.fullmatch(text)]
+            self.read_time = TimeReader(timestamps.unit_of(max(numbers, key=abs, default=0)), form, zone)
         words = given.columns or [str(index + 1) for index in range(count) if index != asked]
         indices = [columns.index_of(word, self.names, count) for word in words]
         self.has_commas = given.decimal_comma or columns.has_decimal_commas(rows, indices)
         kept = [index for index in indices if given.columns or columns.has_values(rows, index, self.spelled)]
         for index in set(indices) - set(kept):
-            self.report.note(PASSED, (given.files[0], self.line_of_first), f"{self.names[index] if self.names else index + 1}: no field of it is a number")
+            name = self.names[index] if self.names else index + 1
+            self.report.note(PASSED, (given.files[0], self.line_of_first), f"{name}: no field of it is a number")
         self.columns = [columns.Column(index, name) for index, name in zip(kept, self.series_names(kept))]
 
     def series_names(self, indices):
@@ -110,7 +113,8 @@ class Import:
         if len(names) != len(indices):
             raise Unfit(f"{len(indices)} columns want as many names: --series names {len(names)}")
         if len(set(names)) < len(names) or not all(name == columns.series_name(name) != "" for name in names):
-            raise Unfit(f"the series' names, {', '.join(names)}, have to differ, of 1 to 31 letters, digits, `_`, `-` and `.`: --series names them")
+            rule = "have to differ, and be of 1 to 31 letters, digits, `_`, `-` and `.`"
+            raise Unfit(f"the series' names, {', '.join(names)}, {rule}: --series names others")
         return names
 
     def spelled(self, text):
@@ -125,7 +129,7 @@ class Import:
             except (Unfit, IndexError) as why:
                 unread = why
         if not times:
-            raise Unfit(f"{unread}: name the column of the times, as --time 1, and the form of its dates, as --form '%d.%m.%Y %H:%M'")
+            raise Unfit(f"{unread}: {columns.TO_NAME_TIMES}")
         return times
 
     def rows_in(self, sources, source, sampled):

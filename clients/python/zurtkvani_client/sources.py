@@ -63,7 +63,8 @@ class Source:
 
 
 def delimiter_of(head):
-    """What stands between two fields, by some first lines: of tab, semicolon, bar and comma the one that gives each of them the most fields."""
+    """What stands between two fields, by some first lines: of tab, semicolon, bar and comma the one that gives each of them the
+    most fields."""
     lines = head.splitlines()
     lines = [line for line in (lines[:-1] or lines)[:20] if line.strip()]
     fewest = {mark: min(map(len, csv.reader(lines, delimiter=mark)), default=1) for mark in DELIMITERS}

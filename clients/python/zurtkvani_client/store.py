@@ -22,8 +22,8 @@ class Store:
     """The store in a file. From entering a `with` to leaving it there is one `PROGRAM PATH serve`, which edits and draws; outside of it
     `values`, `check` and `retain` run commands of their own, since a store has one run at a time.
 
-    `unit` is what the series' times count since 1970: "seconds", "milliseconds" or "microseconds"; where none is named it is told by the size of
-    a series' start.
+    `unit` is what the series' times count since 1970: "seconds", "milliseconds" or "microseconds"; where none is named it is told
+    by the size of a series' start.
     """
 
     def __init__(self, path, program="chart", unit=None):
@@ -32,8 +32,8 @@ class Store:
 
     @classmethod
     def make(cls, path, size=4 * 2**20, program="chart", unit=None, series=()):
-        """Makes a new file a store of so many bytes, 512 KiB to 4 GiB, with some series, each a name, a start, a step and a scale, and gives it.
-        A value takes about 32 bytes. Raises FileExistsError where the file is there."""
+        """Makes a new file a store of so many bytes, 512 KiB to 4 GiB, with some series, each a name, a start, a step and a
+        scale, and gives it. A value takes about 32 bytes. Raises FileExistsError where the file is there."""
         make_store(str(path), size, str(program), series)
         return cls(path, program, unit)
 
@@ -66,13 +66,14 @@ class Store:
         return [self.record(name, fresh=True) for name in self.records] if self.is_running() else self._listed()
 
     def values(self, name, t0=None, t1=None):
-        """The stored values of a series in rising time, one after the other: pairs of a time and a whole number. With two times those from t0
-        on and before t1."""
+        """The stored values of a series in rising time, one after the other: pairs of a time and a whole number. With two times
+        those from t0 on and before t1."""
         window = () if t0 is None and t1 is None else (str(operator.index(t0)), str(operator.index(t1)))
         return self._values(self._shown("export", str(name), *window))
 
     def to_series(self, name, t0=None, t1=None):
-        """The stored values as a Series of pandas: floats, by dates in UTC. With two times, whole numbers or dates, those from t0 on and before t1."""
+        """The stored values as a Series of pandas: floats, by dates in UTC. With two times, whole numbers or dates, those from t0
+        on and before t1."""
         import pandas
 
         series = next((series for series in self.series() if series.name == name), None)
@@ -86,14 +87,15 @@ class Store:
         return pandas.Series(numbers, index=index, name=name, dtype="float64")
 
     def check(self):
-        """Reads the whole store, and counts its series, its values, the pages in use and all pages. Raises Ended, with the status 7, over a damaged one."""
+        """Reads the whole store, and counts its series, its values, the pages in use and all pages. Raises Ended, with the status
+        7, over a damaged one."""
         told = dict(line.split(None, 1) for line in self._shown("check"))
         used, _, pages = told["pages"].split()
         return Checked(int(told["series"]), int(told["values"]), int(used), int(pages))
 
     def retain(self, *rules):
-        """Drops old slots by rules, in turn: "before NAME T", "last NAME COUNT" and "free PAGES", as of the command `retain`. Gives for each how many
-        clears it made, and how many pages are in use behind them."""
+        """Drops old slots by rules, in turn: "before NAME T", "last NAME COUNT" and "free PAGES", as of the command `retain`.
+        Gives for each how many clears it made, and how many pages are in use behind them."""
         self._require_rest()
         told = run_once(self.program, self.path, "retain", "".join(f"{rule}\n" for rule in rules).encode())
         return [Swept(*map(int, line.split()[1:])) for line in told.decode().splitlines()]
@@ -105,8 +107,8 @@ class Store:
         self.records[name] = Series(name, start, operator.index(step), operator.index(scale), 0)
 
     def create_from(self, name, values, scale=None, step=None):
-        """Makes a series of a Series of pandas whose index has dates, and stores its values, as `put` does. Start and step, in the series' unit, are found
-        from the dates, and the scale from the values, where none is named."""
+        """Makes a series of a Series of pandas whose index has dates, and stores its values, as `put` does. Start and step, in
+        the series' unit, are found from the dates, and the scale from the values, where none is named."""
         from .pandas_series import grid_and_scale
 
         grid, scale = grid_and_scale(values, scale, step, self.unit)
@@ -114,8 +116,9 @@ class Store:
         self.put(name, values)
 
     def put(self, name, values):
-        """Stores a Series of pandas, whose index has dates, at its times: each value goes to the slot that is nearest. Its numbers are real values,
-        whole ones too; NaN leaves a slot as it is. Raises ValueError where two values go to one slot, or a date lies before the start."""
+        """Stores a Series of pandas, whose index has dates, at its times: each value goes to the slot that is nearest. Its
+        numbers are real values, whole ones too; NaN leaves a slot as it is. Raises ValueError where two values go to one slot, or
+        a date lies before the start."""
         from .pandas_series import readings
 
         record = self.record(name, fresh=True)
@@ -125,11 +128,11 @@ class Store:
         self.send_edits(lines_of(lines, readings(values, record, self.unit_of(record))))
 
     def append(self, name, values):
-        """Puts values behind the last slot: whole numbers, which count the series' last decimal, or floats, which are real values; None and NaN are
-        missing ones. Arrays of numpy and Series of pandas are taken, without their index.
+        """Puts values behind the last slot: whole numbers, which count the series' last decimal, or floats, which are real
+        values; None and NaN are missing ones. Arrays of numpy and Series of pandas are taken, without their index.
 
-        Up to 256 are one edit. Of more each 256 are an edit of their own, and 64 edits are on their way at once: where one is refused, as by a full
-        store, some of those behind it may be stored, each at its own time.
+        Up to 256 are one edit. Of more each 256 are an edit of their own, and 64 edits are on their way at once: where one is
+        refused, as by a full store, some of those behind it may be stored, each at its own time.
         """
         record = self.record(name)
         numbers = whole_numbers(values, record.scale if record else 0)
@@ -142,7 +145,8 @@ class Store:
         self.send_edits(f"append {name}{' -' * min(MOST_VALUES, missing - at)}".encode() for at in range(0, missing, MOST_VALUES))
 
     def set(self, name, time, values):
-        """Puts values, as those of `append`, at a time, a whole number or a date, and the slots behind it; None and NaN leave a slot as it is."""
+        """Puts values, as those of `append`, at a time, a whole number or a date, and the slots behind it; None and NaN leave a
+        slot as it is."""
         record = self.record(name)
         numbers = whole_numbers(values, record.scale if record else 0)
         time = whole_time(time, self.unit_of(record))
@@ -167,8 +171,9 @@ class Store:
             return session.view(name, *words, **named)
 
     def points(self, name, columns=WIDTH, t0=None, t1=None):
-        """What a series has in each of so many columns of a window, 1 to 4,096: the first, the least, the greatest and the last value, exact, as
-        real values, behind the time at which the column begins, a float in the series' unit. A column without a value has no point."""
+        """What a series has in each of so many columns of a window, 1 to 4,096: the first, the least, the greatest and the last
+        value, exact, as real values, behind the time at which the column begins, a float in the series' unit. A column without a
+        value has no point."""
         record = self.record(name, fresh=True)
         t0, t1 = self.window(record, t0, t1)
         with self.session() as session:
@@ -205,12 +210,14 @@ class Store:
         return self.run.answer(line)
 
     def send_edits(self, lines):
-        """Sends lines of edits, 64 of them ahead of their answers, and gives the last answer. Raises Refused for the first that is refused."""
+        """Sends lines of edits, 64 of them ahead of their answers, and gives the last answer. Raises Refused for the first that
+        is refused."""
         self._require_run()
         return self.run.answer_edits(lines)
 
     def _put_numbers(self, record, time, numbers):
-        self.send_edits(lines_of(SetLines(record.name, record.step), zip(range(time, time + len(numbers) * record.step, record.step), numbers)))
+        times = range(time, time + len(numbers) * record.step, record.step)
+        self.send_edits(lines_of(SetLines(record.name, record.step), zip(times, numbers)))
 
     def _listed(self):
         lines = map(str.split, self._shown("list"))
@@ -243,7 +250,8 @@ class Store:
 
     def _lines(self, *words):
         # Behind two hyphens a time below 0 is no option.
-        with subprocess.Popen([self.program, self.path, "--", *words], stdin=subprocess.DEVNULL, stdout=subprocess.PIPE, stderr=subprocess.PIPE) as child:
+        pipes = {"stdin": subprocess.DEVNULL, "stdout": subprocess.PIPE, "stderr": subprocess.PIPE}
+        with subprocess.Popen([self.program, self.path, "--", *words], **pipes) as child:
             for line in child.stdout:
                 yield line.decode()
             said = [end_of(line, words[0], self.path) for line in child.stderr]

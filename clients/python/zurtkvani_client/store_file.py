@@ -12,8 +12,9 @@ UNKNOWN = 2**30  # bytes for a file of rows whose number isn't known
 
 
 def size_for(pages_per_row, rows, columns):
-    """The bytes of a store for so many rows, None where that isn't known, which need so many pages of 128 slots for each of so many columns:
-    twice what they take, and at least 4 MiB. The file has holes where nothing is stored, so it takes no more of the disk than it holds."""
+    """The bytes of a store for so many rows, None where that isn't known, which need so many pages of 128 slots for each of so
+    many columns: twice what they take, and at least 4 MiB. The file has holes where nothing is stored, so it takes no more of the
+    disk than it holds."""
     if rows is None:
         return UNKNOWN
     pages = int(2.1 * pages_per_row * rows * columns) + 64 * columns
@@ -21,7 +22,8 @@ def size_for(pages_per_row, rows, columns):
 
 
 def make_store(path, size, program, series=()):
-    """Makes a new file, of so many bytes, a store with some series, each a name, a start, a step and a scale. The file is there once all of it is.
+    """Makes a new file, of so many bytes, a store with some series, each a name, a start, a step and a scale. The file is there
+    once all of it is.
 
     Raises FileExistsError where the file is there, ValueError where the size isn't one of a store, and Ended where the program can't do it.
     """

@@ -6,7 +6,8 @@ from .timestamps import UNITS, UTC_EPOCH, TimeReader, nanoseconds_of
 
 
 def whole_time(time, unit):
-    """A time as a whole number of a unit since 1970. A whole number stays as it is; a date without a zone, or one as text in ISO 8601, is in UTC.
+    """A time as a whole number of a unit since 1970. A whole number stays as it is; a date without a zone, or one as text in ISO
+    8601, is in UTC.
 
     Raises ValueError where a date is no whole number of the unit.
     """

@@ -31,7 +31,7 @@ def is_missing(value):
 def of_list(listed, scale):
     are_real = {isinstance(value, (float, Decimal)) for value in listed if value is not None}
     if are_real == {True, False}:
-        raise TypeError("whole numbers, which count the series' last decimal, and real values stand in one list: give all of them as floats")
+        raise TypeError("whole numbers, which count the last decimal, and real values stand in one list: give all of them as floats")
     if are_real == {True}:
         return [None if value is None else of_real(value, scale) for value in listed]
     return [None if value is None else operator.index(value) for value in listed]

@@ -5,9 +5,9 @@ import stat
 TABLE = os.path.join(os.path.dirname(os.path.realpath(__file__)), "statuses.txt")
 # The name of each refusal, from number 1 on.
 NAMES = (
-    "LineTooLong", "BadLine", "BadFilter", "UnknownSession", "SessionOpen", "TooManySessions", "BadCache", "UnknownSeries", "SeriesExists",
-    "TooManySeries", "OffGrid", "BeforeStart", "ValueTooLarge", "RangeTooLong", "SeriesFull", "NoView", "BadWindow", "BadCanvas", "BadRange",
-    "ViewTooLarge", "Full", "LiveTooLarge", "OtherGrid", "SumTooLarge",
+    "LineTooLong", "BadLine", "BadFilter", "UnknownSession", "SessionOpen", "TooManySessions", "BadCache", "UnknownSeries",
+    "SeriesExists", "TooManySeries", "OffGrid", "BeforeStart", "ValueTooLarge", "RangeTooLong", "SeriesFull", "NoView",
+    "BadWindow", "BadCanvas", "BadRange", "ViewTooLarge", "Full", "LiveTooLarge", "OtherGrid", "SumTooLarge",
 )
 # Which numbers a refusal tells.
 TOLD = {2: "at byte {a}", 3: "at byte {a}", 20: "{a} of {b}", 21: "{a} of {b}", 22: "{a} of {b}"}
