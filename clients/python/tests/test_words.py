@@ -42,6 +42,7 @@ class Words(unittest.TestCase):
             self.assertIn(f"{path}: No such file or directory", self.end(path))
             self.assertIn(f"{folder} is a folder", self.end(folder))
             with Store.make(path, program=PROGRAM) as store:
+                store.create("a", 0, 1)  # once it is answered the run holds the store
                 self.assertIn(f"another run holds {path}, process {store.run.child.pid}", self.end(path))
             fifo = os.path.join(folder, "fifo")
             os.mkfifo(fifo)

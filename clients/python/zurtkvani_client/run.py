@@ -34,17 +34,40 @@ def end_of(line, command="serve", path=None):
     return Ended(int(said[1]), int(said[2]), command, path) if said else None
 
 
+class Listener:
+    """Reads what a run says on its standard error: keeps how it says that it ended, and hands on all else at once, as that the program is
+    being built."""
+
+    def __init__(self, child, command, path):
+        self.child, self.command, self.path, self.said = child, command, path, None
+        self.thread = threading.Thread(target=self._listen, daemon=True)
+        self.thread.start()
+
+    def _listen(self):
+        for line in self.child.stderr:
+            said = end_of(line, self.command, self.path)
+            if said:
+                self.said = said
+            else:
+                sys.stderr.write(line.decode(errors="replace"))
+
+    def end(self):
+        """How the run ended, once it has."""
+        status = self.child.wait()
+        self.thread.join()
+        self.child.stderr.close()
+        return self.said or Ended(status, None)
+
+
 class Run:
     """A `PROGRAM PATH serve`. `end` is how it ended, None while it works; `sent` counts the bytes that it was sent."""
 
     def __init__(self, program, path):
-        self.path, self.sent = path, 0
-        self.end, self.said = None, None
+        self.sent, self.end = 0, None
         pipes = {"stdin": subprocess.PIPE, "stdout": subprocess.PIPE, "stderr": subprocess.PIPE}
         # A session of its own, so that Control-C reaches Python alone.
         self.child = subprocess.Popen([program, path, "serve"], start_new_session=True, **pipes)
-        self.listener = threading.Thread(target=self._listen, daemon=True)
-        self.listener.start()
+        self.listener = Listener(self.child, "serve", path)
         self.fields, self.sessions = frames.Fields(self.child.stdout), {}
 
     def answer(self, line):
@@ -109,15 +132,6 @@ class Run:
         self.child.stdin.write(data)
         self.child.stdin.flush()
 
-    def _listen(self):
-        """Keeps how the program says that it ended, and hands on what else it says."""
-        for line in self.child.stderr:
-            said = end_of(line, "serve", self.path)
-            if said:
-                self.said = said
-            else:
-                sys.stderr.write(line.decode(errors="replace"))
-
     def stop(self):
         """Ends the program as the end of its input does."""
         if self.end is None:
@@ -126,7 +140,4 @@ class Run:
                     stream.close()
                 except OSError:
                     pass
-            status = self.child.wait()
-            self.listener.join()
-            self.child.stderr.close()
-            self.end = self.said or Ended(status, None)
+            self.end = self.listener.end()

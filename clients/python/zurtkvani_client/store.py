@@ -5,7 +5,7 @@ import subprocess
 
 from . import timestamps
 from .decimals import MOST
-from .run import Ended, Refused, Run, end_of
+from .run import Ended, Listener, Refused, Run
 from .session import WIDTH, Session
 from .set_lines import MOST_VALUES, SetLines
 from .store_file import make_store, run_once
@@ -252,11 +252,12 @@ class Store:
         # Behind two hyphens a time below 0 is no option.
         pipes = {"stdin": subprocess.DEVNULL, "stdout": subprocess.PIPE, "stderr": subprocess.PIPE}
         with subprocess.Popen([self.program, self.path, "--", *words], **pipes) as child:
+            listener = Listener(child, words[0], self.path)
             for line in child.stdout:
                 yield line.decode()
-            said = [end_of(line, words[0], self.path) for line in child.stderr]
-        if child.returncode:
-            raise next(filter(None, said), Ended(child.returncode, None))
+            end = listener.end()
+        if end.status:
+            raise end
 
 
 def line_of(*words):

@@ -3,7 +3,7 @@ import os
 import subprocess
 import tempfile
 
-from .run import Ended, end_of
+from .run import Listener
 
 BLOCK = 4096  # bytes
 LEAST_BLOCKS, MOST_BLOCKS = 128, 2**20
@@ -44,8 +44,14 @@ def make_store(path, size, program, series=()):
 
 def run_once(program, path, command, text):
     """Runs a command of the program over some input, and gives its output. Raises Ended."""
-    done = subprocess.run([program, path, command], input=text, stdout=subprocess.PIPE, stderr=subprocess.PIPE, check=False)
-    if done.returncode:
-        said = (end for line in done.stderr.splitlines(keepends=True) if (end := end_of(line, command, path)))
-        raise next(said, Ended(done.returncode, None))
-    return done.stdout
+    with tempfile.TemporaryFile() as given:
+        given.write(text)
+        given.seek(0)
+        pipes = {"stdin": given, "stdout": subprocess.PIPE, "stderr": subprocess.PIPE}
+        with subprocess.Popen([program, path, command], **pipes) as child:
+            listener = Listener(child, command, path)
+            sent = child.stdout.read()
+            end = listener.end()
+    if end.status:
+        raise end
+    return sent
