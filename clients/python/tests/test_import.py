@@ -132,6 +132,13 @@ class Imports(unittest.TestCase):
         self.assertEqual((status, self.stored("v")), (1, [(0, 4), (1, 3)]))
         self.assertIn("before the start", told)
 
+    def test_more_fields_than_the_header_names(self):
+        self.assertEqual(self.taken("t,v\n0,1,\n1,2,\n")[0], 0)
+        status, told = self.taken("t,v\n2,3,\n3,4,5\n")
+        self.assertEqual((status, self.stored("v")), (1, [(at, at + 1) for at in range(4)]))
+        self.assertIn("left out, fields behind the last column: 1", told)
+        self.assertEqual(self.taken("t,v\n0,a\n1,b\n", "--series", "w")[0], 2)
+
     def test_no_header(self):
         self.assertEqual(self.taken("0;1;2\n1;3;4\n")[0], 2)
         self.assertEqual(self.taken("0;1;2\n1;3;4\n", "--time", "2", "--columns", "3,1", "--series", "a,b")[0], 0)

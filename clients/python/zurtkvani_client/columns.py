@@ -41,7 +41,7 @@ def time_column(names, rows, read):
     named = next((lowered.index(name) for name in TIME_NAMES if name in lowered), None)
     if named is not None:
         return named
-    dated = [index for index in range(max(map(len, rows))) if share(rows, index, read) > 0.5]
+    dated = [index for index in range(len(names or max(rows, key=len))) if share(rows, index, read) > 0.5]
     told = [index for index in dated if not share(rows, index, read_number) > 0.5]
     if not dated:
         raise Unfit(f"no column has dates in ISO 8601 or numbers: {TO_NAME_TIMES}")

@@ -24,6 +24,7 @@ BATCH = 4096  # lines between two looks at how much the program has read
 MOST_SENT = 2**31  # bytes to one run of the program, which takes 2^32
 ROUNDED, SNAPPED = "rounded, half to even", "moved to a slot"
 NO_COLUMN, NO_TIME, NO_VALUE, NO_SLOT = "left out, no such column", "left out, no time", "left out, no value", "left out, no slot"
+NO_NAME = "left out, fields behind the last column"
 TOO_FINE, REPLACED, PASSED = "left out, more decimals than the series", "takes the slot of the row before", "column passed over"
 
 
@@ -86,7 +87,8 @@ class Import:
         return not all(word.isdigit() for word in asked)
 
     def find_columns(self, rows):
-        given, count = self.given, max(map(len, rows))
+        given = self.given
+        self.width = count = len(self.names) if self.names else max(map(len, rows))
         zone, form = given.zone, given.form
         self.read_time = TimeReader(given.numbers or "seconds", form, zone)
         asked = columns.index_of(given.time, self.names, count) if given.time else columns.time_column(self.names, rows, self.read_time)
@@ -99,6 +101,8 @@ class Import:
         indices = [columns.index_of(word, self.names, count) for word in words]
         self.has_commas = given.decimal_comma or columns.has_decimal_commas(rows, indices)
         kept = [index for index in indices if given.columns or columns.has_values(rows, index, self.spelled)]
+        if not kept:
+            raise Unfit("no column but that of the times has a number")
         for index in set(indices) - set(kept):
             name = self.names[index] if self.names else index + 1
             self.report.note(PASSED, (given.files[0], self.line_of_first), f"{name}: no field of it is a number")
@@ -244,6 +248,8 @@ class Import:
             if not report.rows & 1023:
                 self.progress.show(report.rows, source.done())
             place = source.name, line
+            if len(fields) > self.width and any(map(str.strip, fields[self.width :])):
+                report.leave_out(NO_NAME, place, f"it has {len(fields)} fields")
             time = self.time_of(fields, place)
             if time is None:
                 continue
