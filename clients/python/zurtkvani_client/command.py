@@ -90,7 +90,7 @@ def words():
 
 def told(done):
     """What an import found and did, line by line."""
-    for grid, targets in done.groups:
+    for grid, targets in done.plan.groups:
         for target in targets:
             yield (
                 f"{target.series}: {target.taken:,} taken, {target.missing:,} without a value; start {grid.start} "
@@ -113,8 +113,8 @@ def run(given):
         return stopped(done, str(why), 1)
     except KeyboardInterrupt:
         return stopped(done, "interrupted", 130)
-    if done.made:
-        print(f"made {given.store}, {done.made / 2**20:,.0f} MiB, with room for about {done.made // 32:,} values")
+    if done.plan.made:
+        print(f"made {given.store}, {done.plan.made / 2**20:,.0f} MiB, with room for about {done.plan.made // 32:,} values")
     for line in told(done):
         print(line)
     return 1 if done.report.left_out else 0
